@@ -1,0 +1,40 @@
+use crate::attributes::Pair;
+use crate::lists::List;
+use thiserror::Error;
+
+/// What an edit does to a list. The signs are those of unlang(5); what each does to several instances
+/// of an id is this project's own definition.
+#[derive(Clone, Copy, Debug, PartialEq, Eq)]
+pub enum Op {
+    /// `=` adds the pair at the tail, unless its id has an instance.
+    AddNew,
+    /// `:=` puts the pair in the place of the first instance and drops the later ones; without an
+    /// instance it goes to the tail.
+    Replace,
+    /// `+=` adds the pair at the tail.
+    Append,
+    /// `-=` drops each pair that is equal to this one.
+    RemoveEqual,
+    /// `==` drops each instance of the id that is not equal to this pair.
+    KeepEqual,
+    /// `!*` drops each instance of the id, whatever the value.
+    RemoveAll,
+}
+
+/// A change of one list by one pair.
+#[derive(Debug, Drop)]
+pub struct Edit {
+    pub list: List,
+    pub op: Op,
+    pub pair: Pair,
+}
+
+/// Why an edit was refused.
+#[derive(Clone, Copy, Debug, PartialEq, Eq, Error)]
+pub enum EditFault {
+    /// The list would have more than [`MOST_PAIRS`](crate::MOST_PAIRS) pairs.
+    #[error("the list is full")]
+    Full,
+    #[error("out of memory")]
+    Memory,
+}

@@ -1,0 +1,24 @@
+//! Ordered lists of attribute-value pairs, the edits of an `update` section, and a history of edited
+//! states with undo, redo and rollback.
+//!
+//! [`Store`] is the contract that the layers above use; [`SnapshotStore`] meets it with whole states.
+#![tactic(auto)]
+
+mod attributes;
+mod bytes;
+mod edits;
+mod history;
+mod lists;
+mod operators;
+mod snapshots;
+#[cfg(test)]
+mod tests;
+mod undoing;
+
+pub use attributes::{AttrId, Pair, Value, copy_pair};
+pub use bytes::Octets;
+pub use edits::{Edit, EditFault, Op};
+pub use history::Store;
+pub use lists::{List, MOST_PAIRS, Pairs, State};
+pub use snapshots::{ListsRefused, SnapshotStore};
+pub use undoing::{edit_and_undo, undo_by};

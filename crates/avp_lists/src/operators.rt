@@ -1,0 +1,147 @@
+//! What an edit makes of a list, as a new list.
+ghost use Rattle.std.specs.Prelude.{◌≡◌, ◌++◌, ◌<◌, ◌↔◌, IfOk, OnOk, IsTrue, filter, length, ◌∷◌, [], ◌≤◌, ◌+◌};
+ghost use Rattle.std.specs.List.{list_any, position};
+ghost use Rattle.avp_lists.specs.States.{edited, IsFull, IsLimited};
+ghost use Rattle.avp_lists.specs.Operators.{has_id, is_other, differs, agrees, replace, apply, adds_one};
+
+use crate::attributes::{AttrId, Pair, copy_pair};
+use crate::edits::{Edit, Op};
+use crate::lists::{List, MOST_PAIRS, Pairs, State, push_copies};
+use std::alloc::{AllocError, Global};
+
+// Whether the id has an instance.
+fn has_instance(pairs: &[Pair], id: AttrId) -> bool
+    ensures { result ≡ list_any (has_id id) pairs.now }
+{
+    pairs.iter().any(|pair| pair.id.equals(id))
+}
+
+// The place of the first instance, if there is one.
+fn first_place(pairs: &[Pair], id: AttrId) -> Option<usize>
+    ensures { result ≡ position (has_id id) pairs.now }
+{
+    pairs.iter().position(|pair| pair.id.equals(id))
+}
+
+// The pairs of another id.
+fn push_others(made: &mut Vec<Pair>, pairs: &[Pair], id: AttrId) -> Result<(), AllocError>
+    ensures { OnOk result (made.new.items ≡ made.old.items ++ filter (is_other id) pairs.now) }
+{
+    for pair in pairs {
+        if !pair.id.equals(id) {
+            made.push(copy_pair(*made.allocator(), pair)?)?;
+        }
+    }
+    Ok(())
+}
+
+// The pairs that are not equal to this one.
+fn push_unequal(made: &mut Vec<Pair>, pairs: &[Pair], than: &Pair) -> Result<(), AllocError>
+    ensures { OnOk result (made.new.items ≡ made.old.items ++ filter (differs than.now) pairs.now) }
+{
+    for pair in pairs {
+        if !pair.equals(than) {
+            made.push(copy_pair(*made.allocator(), pair)?)?;
+        }
+    }
+    Ok(())
+}
+
+// The pairs of another id, and those that are equal to this one.
+fn push_agreeing(made: &mut Vec<Pair>, pairs: &[Pair], with: &Pair) -> Result<(), AllocError>
+    ensures { OnOk result (made.new.items ≡ made.old.items ++ filter (agrees with.now) pairs.now) }
+{
+    for pair in pairs {
+        if !pair.id.equals(with.id) || pair.equals(with) {
+            made.push(copy_pair(*made.allocator(), pair)?)?;
+        }
+    }
+    Ok(())
+}
+
+fn replace(made: &mut Vec<Pair>, pairs: &[Pair], pair: Pair) -> Result<(), AllocError>
+    ensures { OnOk result (made.new.items ≡ made.old.items ++ replace pair pairs.now) }
+{
+    let id = pair.id;
+    match first_place(pairs, id) {
+        None => {
+            push_copies(made, pairs)?;
+            made.push(pair)?;
+        }
+        Some(first) => {
+            push_copies(made, &pairs[..first])?;
+            made.push(pair)?;
+            push_others(made, &pairs[first + 1..], id)?;
+        }
+    }
+    Ok(())
+}
+
+// The list that the operator makes.
+fn apply(alloc: Global, op: Op, pair: Pair, pairs: &[Pair]) -> Result<Vec<Pair>, AllocError>
+    ensures { IfOk result (λ made. made.items ≡ apply op pair pairs.now) }
+{
+    let mut made = Vec::new(alloc);
+    match op {
+        Op::AddNew => {
+            push_copies(&mut made, pairs)?;
+            if !has_instance(pairs, pair.id) {
+                made.push(pair)?;
+            }
+        }
+        Op::Replace => replace(&mut made, pairs, pair)?,
+        Op::Append => {
+            push_copies(&mut made, pairs)?;
+            made.push(pair)?;
+        }
+        Op::RemoveEqual => push_unequal(&mut made, pairs, &pair)?,
+        Op::KeepEqual => push_agreeing(&mut made, pairs, &pair)?,
+        Op::RemoveAll => push_others(&mut made, pairs, pair.id)?,
+    }
+    Ok(made)
+}
+
+// Whether the operator makes the list longer.
+fn adds_one(op: Op, id: AttrId, pairs: &[Pair]) -> bool
+    ensures { result ≡ adds_one op id pairs.now }
+{
+    match op {
+        Op::Append => true,
+        Op::AddNew | Op::Replace => !has_instance(pairs, id),
+        Op::RemoveEqual | Op::KeepEqual | Op::RemoveAll => false,
+    }
+}
+
+// Whether the edit would make its list too long.
+pub(crate) fn is_full(state: &State, edit: &Edit) -> bool
+    requires { IsLimited state.now }
+    ensures { IsTrue result ↔ IsFull edit.now state.now }
+{
+    let pairs = state.list(edit.list);
+    pairs.len() == MOST_PAIRS && adds_one(edit.op, edit.pair.id, pairs)
+}
+
+// The state after the edit, as a new one.
+pub(crate) fn edited(alloc: Global, state: &State, edit: Edit) -> Result<State, AllocError>
+    ensures { IfOk result (λ made. made ≡ edited edit state.now) }
+{
+    let Edit { list, op, pair } = edit;
+    let pairs = Pairs::from_vec(apply(alloc, op, pair, state.list(list))?);
+    match list {
+        List::Request => Ok(State {
+            request: pairs,
+            reply: state.reply.clone()?,
+            control: state.control.clone()?,
+        }),
+        List::Reply => Ok(State {
+            request: state.request.clone()?,
+            reply: pairs,
+            control: state.control.clone()?,
+        }),
+        List::Control => Ok(State {
+            request: state.request.clone()?,
+            reply: state.reply.clone()?,
+            control: pairs,
+        }),
+    }
+}
