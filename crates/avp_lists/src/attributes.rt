@@ -57,7 +57,7 @@ impl Pair {
         ensures test { result ≡ pair_eq self.now other.now }
         ensures equal { IsTrue result ↔ (self.now ≡ other.now) }
     {
-        self == other
+        self.eq(other)
     }
 }
 

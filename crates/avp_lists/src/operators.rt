@@ -1,8 +1,11 @@
 //! What an edit makes of a list, as a new list.
 ghost use Rattle.std.specs.Prelude.{◌≡◌, ◌++◌, ◌<◌, ◌↔◌, IfOk, OnOk, IsTrue, filter, length, ◌∷◌, [], ◌≤◌, ◌+◌};
-ghost use Rattle.std.specs.List.{list_any, position};
+ghost use Rattle.std.specs.List.{find, position};
+ghost use Rattle.std.specs.Option.{option_copied};
 ghost use Rattle.avp_lists.specs.States.{edited, IsFull, IsLimited};
-ghost use Rattle.avp_lists.specs.Operators.{has_id, is_other, differs, agrees, replace, apply, adds_one};
+ghost use Rattle.avp_lists.specs.Growth.{adds_one};
+ghost use Rattle.avp_lists.specs.Instances.{has_id, has_instance, is_other};
+ghost use Rattle.avp_lists.specs.Operators.{differs, agrees, replace, apply};
 
 use crate::attributes::{AttrId, Pair, copy_pair};
 use crate::edits::{Edit, Op};
@@ -11,9 +14,16 @@ use std::alloc::{AllocError, Global};
 
 // Whether the id has an instance.
 fn has_instance(pairs: &[Pair], id: AttrId) -> bool
-    ensures { result ≡ list_any (has_id id) pairs.now }
+    ensures { result ≡ has_instance id pairs.now }
 {
     pairs.iter().any(|pair| pair.id.equals(id))
+}
+
+// The first instance, if there is one.
+pub(crate) fn find_instance(pairs: &[Pair], id: AttrId) -> Option<&Pair>
+    ensures { option_copied result ≡ find (has_id id) pairs.now }
+{
+    pairs.iter().find(|pair| pair.id.equals(id))
 }
 
 // The place of the first instance, if there is one.

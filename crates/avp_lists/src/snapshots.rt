@@ -7,7 +7,7 @@ use crate::attributes::{AttrId, Pair};
 use crate::edits::{Edit, EditFault};
 use crate::history::Store;
 use crate::lists::{List, MOST_PAIRS, Pairs, State, copies};
-use crate::operators::{edited, is_full};
+use crate::operators::{edited, find_instance, is_full};
 use std::alloc::{AllocError, Global};
 
 // A state of the history.
@@ -153,10 +153,7 @@ impl Store for SnapshotStore {
     }
 
     fn first(&self, list: List, id: AttrId) -> Option<&Pair> {
-        self.present()
-            .list(list)
-            .iter()
-            .find(|pair| pair.id.equals(id))
+        find_instance(self.present().list(list), id)
     }
 
     fn list(&self, list: List) -> Result<Vec<Pair>, AllocError> {

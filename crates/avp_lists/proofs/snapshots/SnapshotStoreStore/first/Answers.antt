@@ -1,0 +1,14 @@
+use Rattle.std.proofs.Common.{◌∙◌, ap, List, filter}
+use Rattle.avp_lists.specs.declared.attributes.Pair.{Pair}
+use Rattle.avp_lists.specs.Instances.{front, has_id}
+use Rattle.avp_lists.specs.States.{list_of}
+use Rattle.avp_lists.proofs.Fronts.{find-front}
+use Rattle.avp_lists.proofs.snapshots.SnapshotStoreStore.first.Goals as goal
+
+-- the first that has the id is the front of the instances
+pub returns : goal.returns
+returns c =
+    let front_of = λ (pairs : List Pair). front (filter (has_id c.args.id) pairs) in
+    c.find_instance.ensures
+    ∙ find-front (has_id c.args.id) c.list.result.now
+    ∙ ap front_of (c.list.ensures ∙ ap (list_of c.args.list) c.present.ensures)

@@ -1,0 +1,16 @@
+-- Which operators make a list longer: a test that the code makes before an edit.
+use Rattle.std.specs.Prelude.{Bool, true, false, not, List}
+use Rattle.avp_lists.specs.declared.attributes.AttrId.{AttrId}
+use Rattle.avp_lists.specs.declared.attributes.Pair.{Pair}
+use Rattle.avp_lists.specs.declared.edits.Op.{Op}
+use Rattle.avp_lists.specs.declared.edits.Op.TheVariants.{AddNew, Replace, Append, RemoveEqual, KeepEqual, RemoveAll}
+use Rattle.avp_lists.specs.Instances.{has_instance}
+
+-- an operator with a pair of this id makes the list longer
+abbrev pub adds_one : Op → AttrId → List Pair → Bool
+adds_one AddNew id pairs = not (has_instance id pairs)
+adds_one Replace id pairs = not (has_instance id pairs)
+adds_one Append id pairs = true
+adds_one RemoveEqual id pairs = false
+adds_one KeepEqual id pairs = false
+adds_one RemoveAll id pairs = false
