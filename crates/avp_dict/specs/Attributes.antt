@@ -1,0 +1,81 @@
+-- ATTRIBUTE lines: a name, a number, a type and flags.
+use Rattle.std.specs.Prelude.{ℕ, Bool, not, ◌&&◌, ◌==◌, nat_le, if◌then◌else◌, List, [], ◌∷◌, length, Option, Some, None, is_some, is_none, Result, Ok, Err}
+use Rattle.std.specs.List.{list_any, list_all, slice_split}
+use Rattle.avp_lists.specs.declared.attributes.AttrId.{AttrId}
+use Rattle.avp_lists.specs.declared.attributes.AttrId.TheVariants as ids
+use Rattle.avp_dict.specs.declared.faults.DictKind.{DictKind}
+use Rattle.avp_dict.specs.declared.faults.DictKind.TheVariants.{Unreadable, OutOfRange, OtherNumber}
+use Rattle.avp_dict.specs.declared.readings.VendorFormat.{VendorFormat}
+use Rattle.avp_dict.specs.declared.readings.Meaning.{Meaning}
+use Rattle.avp_dict.specs.declared.readings.Meaning.TheVariants.{Attribute, SkippedAttribute}
+use Rattle.avp_dict.specs.declared.readings.Reading.{Reading}
+use Rattle.avp_dict.specs.Words.{number_of}
+use Rattle.avp_dict.specs.Letters.{is_dot, is_comma, is_name_octet, begins_as_attr}
+use Rattle.avp_dict.specs.Steps.{◌>>=◌}
+use Rattle.avp_dict.specs.Definitions.{format_of, names_other_id}
+use Rattle.avp_dict.specs.Types.{are_flags, typing_of}
+
+-- ---- the id of a number
+
+-- the types of extended attributes, which have a number of their own from this one on
+abbrev pub is_extended : ℕ → ℕ → ℕ → Bool
+is_extended least t x = nat_le 241 t && nat_le t 246 && nat_le least x && nat_le x 255
+
+-- the greatest number that 1, 2 or 4 octets hold
+abbrev pub most_in : ℕ → ℕ
+most_in t = if t == 1 then 255 else (if t == 2 then 65535 else 4294967295)
+
+abbrev pub is_held : ℕ → VendorFormat → Bool
+is_held n f = nat_le n (most_in f.t)
+
+-- the id of a number in a block of this vendor, where the vendor's octets hold it
+abbrev pub vendor_id : ℕ → ℕ → Option VendorFormat → Option AttrId
+vendor_id vendor n None = None
+vendor_id vendor n (Some f) = if is_held n f then Some (ids.Vendor vendor n) else None
+
+unfoldable pub number_id : List Reading → Option ℕ → ℕ → Option AttrId
+number_id before None n = Some (ids.Plain n)
+number_id before (Some vendor) n = vendor_id vendor n (format_of vendor before)
+
+-- the id of a number; none where the line is skipped
+unfoldable pub number_word : List Reading → Option ℕ → Option ℕ → Result (Option AttrId) DictKind
+number_word before block None = Err Unreadable
+number_word before block (Some n) = if nat_le n 4294967295 then Ok (number_id before block n) else Err OutOfRange
+
+-- the id of two numbers with a dot between, outside a vendor block
+abbrev pub dotted_word : Option ℕ → Option ℕ → Option ℕ → Result (Option AttrId) DictKind
+dotted_word block (Some t) (Some x) = Ok (if is_none block && is_extended 1 t x then Some (ids.Extended t x) else None)
+dotted_word block _ _ = Err Unreadable
+
+abbrev pub is_number : List ℕ → Bool
+is_number word = is_some (number_of word)
+
+-- other dotted numbers skip the line
+abbrev pub many_words : List (List ℕ) → Result (Option AttrId) DictKind
+many_words parts = if list_all is_number parts then Ok None else Err Unreadable
+
+-- the id of the parts between the dots
+unfoldable pub id_word : List Reading → Option ℕ → List (List ℕ) → Result (Option AttrId) DictKind
+id_word before block (n ∷ []) = number_word before block (number_of n)
+id_word before block (t ∷ x ∷ []) = dotted_word block (number_of t) (number_of x)
+id_word before block parts = many_words parts
+
+-- ---- the line
+
+unfoldable pub is_attribute_name : List ℕ → Bool
+is_attribute_name name = list_all is_name_octet name && nat_le (length name) 128 && not (begins_as_attr name)
+
+-- a line whose number is read
+unfoldable pub attribute_of : List Reading → List ℕ → List ℕ → List (List ℕ) → Option AttrId → Result Meaning DictKind
+attribute_of before name kind flags None = Ok (SkippedAttribute name)
+attribute_of before name kind flags (Some id) = if is_attribute_name name && are_flags flags
+    then (if list_any (names_other_id name id) before then Err OtherNumber else Ok (Attribute name id (typing_of id kind flags)))
+    else Ok (SkippedAttribute name)
+
+unfoldable pub attribute_line : List Reading → Option ℕ → List ℕ → List ℕ → List ℕ → List (List ℕ) → Result Meaning DictKind
+attribute_line before block name number kind flags = id_word before block (slice_split is_dot number) >>= attribute_of before name kind flags
+
+unfoldable pub attribute : List Reading → Option ℕ → List (List ℕ) → Result Meaning DictKind
+attribute before block (name ∷ number ∷ kind ∷ []) = attribute_line before block name number kind []
+attribute before block (name ∷ number ∷ kind ∷ flags ∷ []) = attribute_line before block name number kind (slice_split is_comma flags)
+attribute before block _ = Err Unreadable

@@ -1,0 +1,80 @@
+-- Which blocks the lines leave open, and the lines that begin and end blocks.
+use Rattle.std.specs.Prelude.{ℕ, ◌-◌, Bool, true, false, if◌then◌else◌, List, [], ◌∷◌, ◌++◌, length, take, slice_get, Option, Some, None, is_none, Result, Ok, Err}
+use Rattle.std.specs.Option.{option_and_then, option_map_or}
+use Rattle.std.specs.List.{fold, list_any}
+use Rattle.avp_dict.specs.declared.faults.DictKind.{DictKind}
+use Rattle.avp_dict.specs.declared.faults.DictKind.TheVariants.{Unreadable, UnknownVendor, Unmatched}
+use Rattle.avp_dict.specs.declared.readings.VendorFormat.{VendorFormat}
+use Rattle.avp_dict.specs.declared.readings.Meaning.{Meaning}
+use Rattle.avp_dict.specs.declared.readings.Meaning.TheVariants.{BeginVendor, BeginTlv, End}
+use Rattle.avp_dict.specs.declared.readings.Reading.{Reading}
+use Rattle.avp_dict.specs.Words.{same_name}
+use Rattle.avp_dict.specs.Definitions.{vendor_named, format_of}
+
+-- a BEGIN line opens a block, and an END line closes the last open one
+abbrev pub after_line : List Reading → Reading → List Reading
+after_line opened r = elim r.meaning [ BeginVendor n v ↦ opened ++ r ∷ [] | BeginTlv n ↦ opened ++ r ∷ [] | End noted ↦ take (length opened - 1) opened | _ ↦ opened ]
+
+-- the lines that opened the blocks that are open after these lines, the innermost last
+unfoldable pub open_blocks : List Reading → List Reading
+open_blocks lines = fold after_line [] lines
+
+abbrev pub innermost : List Reading → Option Reading
+innermost opened = slice_get opened (length opened - 1)
+
+-- a block of a vendor whose attributes are not read, or of TLVs
+abbrev pub opens_skipped : Reading → Bool
+opens_skipped r = elim r.meaning [ BeginVendor n v ↦ is_none v | BeginTlv n ↦ true | _ ↦ false ]
+
+unfoldable pub is_skipping : List Reading → Bool
+is_skipping opened = list_any opens_skipped opened
+
+abbrev pub opened_vendor : Reading → Option ℕ
+opened_vendor r = elim r.meaning [ BeginVendor n v ↦ v | _ ↦ None ]
+
+-- the vendor of the innermost open block
+unfoldable pub block_vendor : List Reading → Option ℕ
+block_vendor opened = option_and_then opened_vendor (innermost opened)
+
+-- ---- END lines
+
+abbrev pub opens_vendor_named : List ℕ → Reading → Bool
+opens_vendor_named name r = elim r.meaning [ BeginVendor n v ↦ same_name n name | _ ↦ false ]
+
+abbrev pub opens_tlv_named : List ℕ → Reading → Bool
+opens_tlv_named name r = elim r.meaning [ BeginTlv n ↦ same_name n name | _ ↦ false ]
+
+-- the end of the last open block, where the test says that it is the right one; in a skipped block it gives a note
+abbrev pub ended : Bool → List Reading → Result Meaning DictKind
+ended fits opened = if fits then Ok (End (is_skipping opened)) else Err Unmatched
+
+unfoldable pub end_vendor : List Reading → List (List ℕ) → Result Meaning DictKind
+end_vendor opened (name ∷ []) = ended (option_map_or (opens_vendor_named name) (innermost opened) false) opened
+end_vendor opened _ = Err Unreadable
+
+unfoldable pub end_tlv : List Reading → List (List ℕ) → Result Meaning DictKind
+end_tlv opened (name ∷ []) = ended (option_map_or (opens_tlv_named name) (innermost opened) false) opened
+end_tlv opened _ = Err Unreadable
+
+-- ---- BEGIN lines
+
+unfoldable pub begin_tlv : List (List ℕ) → Result Meaning DictKind
+begin_tlv (name ∷ []) = Ok (BeginTlv name)
+begin_tlv _ = Err Unreadable
+
+-- the vendor where its format has two parts, and none where the block is skipped
+abbrev pub unless_third : ℕ → Option VendorFormat → Option ℕ
+unless_third vendor None = Some vendor
+unless_third vendor (Some f) = if f.third then None else Some vendor
+
+-- a block with a name alone, outside skipped blocks
+unfoldable pub begin_known : List Reading → List ℕ → Result Meaning DictKind
+begin_known before name = elim (vendor_named name before) [
+  | None ↦ Err UnknownVendor
+  | Some vendor ↦ Ok (BeginVendor name (unless_third vendor (format_of vendor before)))
+]
+
+unfoldable pub begin_vendor : List Reading → List Reading → List (List ℕ) → Result Meaning DictKind
+begin_vendor before opened (name ∷ []) = if is_skipping opened then Ok (BeginVendor name None) else begin_known before name
+begin_vendor before opened (name ∷ word ∷ []) = Ok (BeginVendor name None)
+begin_vendor before opened _ = Err Unreadable

@@ -1,0 +1,35 @@
+-- Which octets names are made of.
+use Rattle.std.specs.Prelude.{codes, ℕ, ◌-◌, Bool, ◌&&◌, ◌||◌, ◌==◌, nat_le, if◌then◌else◌, List, take, length, slice_index}
+use Rattle.std.specs.List.{before_first}
+use Rattle.avp_dict.specs.Words.{lower, same_name}
+
+abbrev pub is_dot : ℕ → Bool
+is_dot o = o == 46
+
+abbrev pub is_comma : ℕ → Bool
+is_comma o = o == 44
+
+abbrev pub is_visible : ℕ → Bool
+is_visible o = nat_le 33 o && nat_le o 126
+
+abbrev pub is_decimal : ℕ → Bool
+is_decimal o = nat_le 48 o && nat_le o 57
+
+abbrev pub is_letter : ℕ → Bool
+is_letter o = nat_le 97 (lower o) && nat_le (lower o) 122
+
+-- letters, digits, '-', '_', '.', '/'
+abbrev pub is_name_octet : ℕ → Bool
+is_name_octet o = is_letter o || is_decimal o || (o == 45) || (o == 95) || (o == 46) || (o == 47)
+
+-- and ':', '@'
+abbrev pub is_word_octet : ℕ → Bool
+is_word_octet o = is_name_octet o || (o == 58) || (o == 64)
+
+-- attr- and a digit
+abbrev pub begins_as_attr : List ℕ → Bool
+begins_as_attr name = same_name (take 5 name) (codes "attr-") && is_decimal (slice_index name 5)
+
+-- a type word without a part in square brackets at its end
+abbrev pub word_before_bracket : List ℕ → List ℕ
+word_before_bracket word = if slice_index word (length word - 1) == 93 then before_first (λ o. o == 91) word else word

@@ -1,0 +1,17 @@
+pub mod Attributes
+pub mod Blocks
+pub mod Counts
+pub mod Definitions
+pub mod Dictionary
+pub mod Letters
+pub mod Lines
+pub mod Names
+pub mod Outcomes
+pub mod Readings
+pub mod Settled
+pub mod Steps
+pub mod Types
+pub mod Values
+pub mod Vendors
+pub mod Words
+pub mod code

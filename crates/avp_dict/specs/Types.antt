@@ -1,0 +1,60 @@
+-- Type words and flags, and how the values of an attribute with them are read.
+use Rattle.std.specs.Prelude.{codes, ℕ, Bool, true, false, not, ◌&&◌, ◌||◌, ◌==◌, nat_le, if◌then◌else◌, List, Option, Some, None}
+use Rattle.std.specs.Option.{unwrap_or}
+use Rattle.std.specs.List.{list_any, list_all}
+use Rattle.avp_lists.specs.declared.attributes.AttrId.{AttrId}
+use Rattle.avp_lists.specs.declared.attributes.AttrId.TheVariants as ids
+use Rattle.avp_dict.specs.declared.readings.Kind.{Kind}
+use Rattle.avp_dict.specs.declared.readings.Kind.TheVariants as kinds
+use Rattle.avp_dict.specs.declared.readings.Typing.{Typing}
+use Rattle.avp_dict.specs.Words.{same_name}
+use Rattle.avp_dict.specs.Letters.{word_before_bracket}
+
+abbrev pub is_flag : List ℕ → Bool
+is_flag w = same_name w (codes "has_tag") || same_name w (codes "encrypt=1") || same_name w (codes "encrypt=2") || same_name w (codes "encrypt=3") || same_name w (codes "concat") || same_name w (codes "array") || same_name w (codes "secret") || same_name w (codes "virtual")
+
+abbrev pub are_flags : List (List ℕ) → Bool
+are_flags flags = list_all is_flag flags
+
+-- a flag that makes the type octets
+abbrev pub is_opaque : List ℕ → Bool
+is_opaque w = same_name w (codes "has_tag") || same_name w (codes "encrypt=2") || same_name w (codes "encrypt=3")
+
+abbrev pub is_hiding : List ℕ → Bool
+is_hiding w = same_name w (codes "encrypt=1")
+
+-- the type of a word, if it is one of the ten
+abbrev pub kind_word : List ℕ → Option Kind
+kind_word w =
+    if same_name w (codes "string") then Some kinds.Text
+    else (if same_name w (codes "octets") then Some kinds.Bytes
+    else (if same_name w (codes "ipaddr") then Some kinds.Addr
+    else (if same_name w (codes "integer") then Some kinds.Integer
+    else (if same_name w (codes "date") then Some kinds.Date
+    else (if same_name w (codes "byte") then Some kinds.Byte
+    else (if same_name w (codes "short") then Some kinds.Short
+    else (if same_name w (codes "signed") then Some kinds.Signed
+    else (if same_name w (codes "integer64") then Some kinds.Integer64
+    else (if same_name w (codes "ether") then Some kinds.Ether
+    else None)))))))))
+
+abbrev pub is_text_kind : Option Kind → Bool
+is_text_kind (Some kinds.Text) = true
+is_text_kind (Some kinds.Bytes) = true
+is_text_kind _ = false
+
+-- Plain 26, 33, 80 and 241 to 246, whose line's type and flags are not looked at
+abbrev pub is_fixed : AttrId → Bool
+is_fixed (ids.Plain n) = (n == 26) || (n == 33) || (n == 80) || (nat_le 241 n && nat_le n 246)
+is_fixed _ = false
+
+abbrev pub typing_by : Option Kind → Bool → Bool → Typing
+typing_by own opaque hiding = record {
+  kind = if opaque || (hiding && not (is_text_kind own)) then kinds.Bytes else unwrap_or own kinds.Bytes;
+  hidden = hiding && is_text_kind own;
+  by_text = is_text_kind own;
+}
+
+abbrev pub typing_of : AttrId → List ℕ → List (List ℕ) → Typing
+typing_of id word flags = if is_fixed id then record { kind = kinds.Bytes; hidden = false; by_text = true }
+    else typing_by (kind_word (word_before_bracket word)) (list_any is_opaque flags) (list_any is_hiding flags)

@@ -1,0 +1,288 @@
+//! ATTRIBUTE lines.
+
+ghost use Rattle.std.specs.Prelude.{◌≡◌, ◌≤◌, ℕ, Option, Some, None, if◌then◌else◌, IsTrue};
+ghost use Rattle.std.specs.List.{list_all};
+ghost use Rattle.avp_lists.specs.declared.attributes.AttrId.TheVariants.{Extended};
+ghost use Rattle.avp_dict.specs.Attributes.{attribute, attribute_line, attribute_of, dotted_word, id_word, is_attribute_name, is_extended, is_held, is_number, many_words, most_in, number_id, number_word, vendor_id};
+ghost use Rattle.avp_dict.specs.Letters.{begins_as_attr, is_decimal, is_letter, is_name_octet};
+ghost use Rattle.avp_dict.specs.code.Numbers.{Reads};
+ghost use Rattle.avp_dict.specs.code.Outcomes.{Gives};
+ghost use Rattle.avp_dict.specs.code.Views.{views};
+
+use crate::faults::{DictKind, LineError};
+use crate::lookups::{any_other_id, find_format};
+use crate::numbers::{MOST_NUMBER, Number, read_number};
+use crate::octets::copy_of;
+use crate::parts::parts_between;
+use crate::readings::{Meaning, Reading, VendorFormat};
+use crate::shapes::{Shape, shape_of};
+use crate::types::{are_known, typing_for};
+use crate::words::is_same_name;
+use avp_lists::AttrId;
+use std::alloc::Global;
+
+fn most_held(octets: u8) -> u64
+    ensures most { result ≡ most_in octets }
+    ensures within { result ≤ MOST_NUMBER }
+{
+    match octets {
+        1 => 255,
+        2 => 65_535,
+        _ => MOST_NUMBER,
+    }
+}
+
+/// Whether the octets of a vendor's numbers hold this one.
+pub fn is_held_in(number: u64, format: VendorFormat) -> bool
+    ensures test { result ≡ is_held number format }
+    ensures within { IsTrue result → number ≤ MOST_NUMBER }
+{
+    number <= most_held(format.t)
+}
+
+fn id_in_format(vendor: u32, number: u32, format: Option<VendorFormat>) -> Option<AttrId>
+    ensures { result ≡ vendor_id vendor number format }
+{
+    match format {
+        None => None,
+        Some(format) => {
+            if is_held_in(u64::from(number), format) {
+                Some(AttrId::Vendor(vendor, number))
+            } else {
+                None
+            }
+        }
+    }
+}
+
+#[tactic(auto, unfolding(crate::specs::Attributes::number_id))]
+fn id_by_number(before: &[Reading], block: Option<u32>, number: u32) -> Option<AttrId>
+    ensures { result ≡ number_id before.now block number }
+{
+    match block {
+        None => Some(AttrId::Plain(number)),
+        Some(vendor) => id_in_format(vendor, number, find_format(before, u64::from(vendor))),
+    }
+}
+
+#[tactic(auto, unfolding(crate::specs::Attributes::number_word))]
+fn read_plain_id(
+    before: &[Reading],
+    block: Option<u32>,
+    number: Number,
+) -> Result<Option<AttrId>, LineError>
+    ensures { (n : Option ℕ) → Reads number n → Gives result (number_word before.now block n) }
+{
+    match number {
+        Number::Unreadable => Err(LineError::Refused(DictKind::Unreadable)),
+        Number::TooGreat => Err(LineError::Refused(DictKind::OutOfRange)),
+        Number::Is(number) => {
+            if number <= MOST_NUMBER {
+                Ok(id_by_number(before, block, number as u32))
+            } else {
+                Err(LineError::Refused(DictKind::OutOfRange))
+            }
+        }
+    }
+}
+
+/// The id of an extended attribute, whose own number is at least this.
+pub fn extended_id(least: u64, t: u64, x: u64) -> Option<AttrId>
+    ensures { result ≡ if is_extended least t x then Some (Extended t x) else None }
+{
+    if t >= 241 && t <= 246 && x >= least && x <= 255 {
+        Some(AttrId::Extended(t as u8, x as u8))
+    } else {
+        None
+    }
+}
+
+fn read_dotted_id(block: Option<u32>, t: Number, x: Number) -> Result<Option<AttrId>, LineError>
+    ensures { (m n : Option ℕ) → Reads t m → Reads x n → Gives result (dotted_word block m n) }
+{
+    match t {
+        Number::Unreadable => Err(LineError::Refused(DictKind::Unreadable)),
+        Number::TooGreat => match x {
+            Number::Unreadable => Err(LineError::Refused(DictKind::Unreadable)),
+            Number::TooGreat => Ok(None),
+            Number::Is(_) => Ok(None),
+        },
+        Number::Is(t) => match x {
+            Number::Unreadable => Err(LineError::Refused(DictKind::Unreadable)),
+            Number::TooGreat => Ok(None),
+            Number::Is(x) => {
+                if block.is_none() {
+                    Ok(extended_id(1, t, x))
+                } else {
+                    Ok(None)
+                }
+            }
+        },
+    }
+}
+
+fn is_readable(word: &[u8]) -> bool
+    ensures { result ≡ is_number word.now }
+{
+    match read_number(word) {
+        Number::Unreadable => false,
+        Number::TooGreat => true,
+        Number::Is(_) => true,
+    }
+}
+
+fn are_readable(parts: &[&[u8]]) -> bool
+    ensures { result ≡ list_all is_number (views parts.now) }
+{
+    let mut rest = parts;
+    while let [part, after @ ..] = rest {
+        if !is_readable(part) {
+            return false;
+        }
+        rest = after;
+    }
+    true
+}
+
+fn read_many(parts: &[&[u8]]) -> Result<Option<AttrId>, LineError>
+    ensures { Gives result (many_words (views parts.now)) }
+{
+    if are_readable(parts) {
+        Ok(None)
+    } else {
+        Err(LineError::Refused(DictKind::Unreadable))
+    }
+}
+
+#[tactic(auto, unfolding(crate::specs::Attributes::id_word))]
+fn read_id(
+    before: &[Reading],
+    block: Option<u32>,
+    parts: &[&[u8]],
+) -> Result<Option<AttrId>, LineError>
+    ensures { Gives result (id_word before.now block (views parts.now)) }
+{
+    match shape_of(parts) {
+        Shape::One(number) => read_plain_id(before, block, read_number(number)),
+        Shape::Two(t, x) => read_dotted_id(block, read_number(t), read_number(x)),
+        Shape::Zero => read_many(parts),
+        Shape::Three(_, _, _) => read_many(parts),
+        Shape::Four(_, _, _, _) => read_many(parts),
+        Shape::More(_, _, _, _, _, _) => read_many(parts),
+    }
+}
+
+fn is_letter_octet(octet: u8) -> bool
+    ensures { result ≡ is_letter octet }
+{
+    (octet >= b'a' && octet <= b'z') || (octet >= b'A' && octet <= b'Z')
+}
+
+fn is_decimal_octet(octet: u8) -> bool
+    ensures { result ≡ is_decimal octet }
+{
+    octet >= b'0' && octet <= b'9'
+}
+
+pub fn is_octet_of_name(octet: u8) -> bool
+    ensures { result ≡ is_name_octet octet }
+{
+    is_letter_octet(octet)
+        || is_decimal_octet(octet)
+        || octet == b'-'
+        || octet == b'_'
+        || octet == b'.'
+        || octet == b'/'
+}
+
+fn are_octets_of_name(name: &[u8]) -> bool
+    ensures { result ≡ list_all is_name_octet name.now }
+{
+    name.iter().all(|octet| is_octet_of_name(*octet))
+}
+
+/// Whether a name begins with `Attr-` and a digit.
+pub fn has_attr_front(name: &[u8]) -> bool
+    ensures { result ≡ begins_as_attr name.now }
+{
+    name.len() >= 6 && is_same_name(&name[..5], b"attr-") && is_decimal_octet(name[5])
+}
+
+#[tactic(auto, unfolding(crate::specs::Attributes::is_attribute_name))]
+fn names_attribute(name: &[u8]) -> bool
+    ensures { result ≡ is_attribute_name name.now }
+{
+    are_octets_of_name(name) && name.len() <= 128 && !has_attr_front(name)
+}
+
+#[tactic(auto, unfolding(crate::specs::Attributes::attribute_of))]
+fn read_attribute_of(
+    alloc: Global,
+    before: &[Reading],
+    name: &[u8],
+    kind: &[u8],
+    flags: &[&[u8]],
+    id: Option<AttrId>,
+) -> Result<Meaning, LineError>
+    ensures { Gives result (attribute_of before.now name.now kind.now (views flags.now) id) }
+{
+    match id {
+        None => Ok(Meaning::SkippedAttribute(copy_of(alloc, name)?)),
+        Some(id) => {
+            if !names_attribute(name) || !are_known(flags) {
+                return Ok(Meaning::SkippedAttribute(copy_of(alloc, name)?));
+            }
+            if any_other_id(before, name, id) {
+                return Err(LineError::Refused(DictKind::OtherNumber));
+            }
+            Ok(Meaning::Attribute(copy_of(alloc, name)?, id, typing_for(id, kind, flags)))
+        }
+    }
+}
+
+#[tactic(auto, unfolding(crate::specs::Attributes::attribute_line))]
+fn read_attribute_line(
+    alloc: Global,
+    before: &[Reading],
+    block: Option<u32>,
+    name: &[u8],
+    number: &[u8],
+    kind: &[u8],
+    flags: &[&[u8]],
+) -> Result<Meaning, LineError>
+    ensures { Gives result (attribute_line before.now block name.now number.now kind.now (views flags.now)) }
+{
+    let parts = parts_between(alloc, b'.', number)?;
+    let id = read_id(before, block, &parts)?;
+    read_attribute_of(alloc, before, name, kind, flags, id)
+}
+
+#[tactic(auto, unfolding(crate::specs::Attributes::attribute))]
+pub fn read_attribute(
+    alloc: Global,
+    before: &[Reading],
+    block: Option<u32>,
+    words: &[&[u8]],
+) -> Result<Meaning, LineError>
+    ensures { Gives result (attribute before.now block (views words.now)) }
+{
+    match shape_of(words) {
+        Shape::Three(name, number, kind) => read_attribute_line(
+            alloc,
+            before,
+            block,
+            name,
+            number,
+            kind,
+            &[],
+        ),
+        Shape::Four(name, number, kind, flags) => {
+            let flags = parts_between(alloc, b',', flags)?;
+            read_attribute_line(alloc, before, block, name, number, kind, &flags)
+        }
+        Shape::Zero => Err(LineError::Refused(DictKind::Unreadable)),
+        Shape::One(_) => Err(LineError::Refused(DictKind::Unreadable)),
+        Shape::Two(_, _) => Err(LineError::Refused(DictKind::Unreadable)),
+        Shape::More(_, _, _, _, _, _) => Err(LineError::Refused(DictKind::Unreadable)),
+    }
+}

@@ -1,0 +1,130 @@
+ghost use Rattle.std.specs.Prelude.{◌≡◌, Result};
+ghost use Rattle.avp_dict.specs.declared.readings.Meaning.{Meaning};
+ghost use Rattle.avp_dict.specs.declared.faults.DictKind.{DictKind};
+ghost use Rattle.avp_dict.specs.declared.faults.LineError.TheVariants.{Memory};
+ghost use Rattle.avp_dict.specs.Outcomes.{Refuses, is_memory, want_of_memory};
+ghost use Rattle.avp_dict.specs.Steps.{refused_at};
+ghost use Rattle.avp_dict.specs.code.Outcomes.{Fails};
+
+use std::alloc::{AllocError, AllocFailed};
+use thiserror::Error;
+
+/// Why a file set is refused.
+#[derive(Clone, Copy, Debug, PartialEq, Eq, Error)]
+pub enum DictKind {
+    /// A wrong number of words, an unknown keyword, an unreadable number, or a bad vendor name or format.
+    #[error("unreadable line")]
+    Unreadable,
+    /// A number above 4294967295, or that of a VALUE line above its type's greatest one.
+    #[error("number out of range")]
+    OutOfRange,
+    /// An earlier line gave the name to another vendor or attribute.
+    #[error("name has another number")]
+    OtherNumber,
+    /// BEGIN-VENDOR of a vendor without an earlier VENDOR line.
+    #[error("unknown vendor")]
+    UnknownVendor,
+    /// An END line that doesn't end the last open block, or a block that is left open.
+    #[error("BEGIN and END differ")]
+    Unmatched,
+    #[error("file not handed in")]
+    NoFile,
+    #[error("includes too deep")]
+    TooDeep,
+    /// More than [`MOST_LINES`](crate::MOST_LINES) lines in all, counted as often as they are read.
+    #[error("too many lines")]
+    TooLong,
+    #[error("VALUE of no ATTRIBUTE")]
+    NoAttribute,
+    /// An earlier VALUE line gave the attribute's name to another number.
+    #[error("VALUE has another number")]
+    OtherValue,
+    #[error("out of memory")]
+    Memory,
+}
+
+/// Where and why a file set is refused. Want of memory has file 0 and line 0.
+#[derive(Clone, Copy, Debug, PartialEq, Eq, Error)]
+#[error("{kind}")]
+pub struct DictFault {
+    /// The file's place in the set.
+    pub file: usize,
+    /// The line's number in the file, from 1 on.
+    pub line: usize,
+    pub kind: DictKind,
+}
+
+/// Why one line is not read: the line's own fault stands apart from want of memory.
+#[derive(Clone, Copy, Debug)]
+pub(crate) enum LineError {
+    Memory,
+    Refused(DictKind),
+}
+
+impl From<AllocError> for LineError {
+    ghost from_gives = { λ _ e. e ≡ Memory };
+
+    fn from(_error: AllocError) -> LineError {
+        LineError::Memory
+    }
+}
+
+impl<T: Drop> From<AllocFailed<T>> for LineError {
+    ghost from_gives = { λ _ e. e ≡ Memory };
+
+    fn from(_error: AllocFailed<T>) -> LineError {
+        LineError::Memory
+    }
+}
+
+impl From<AllocError> for DictFault {
+    ghost from_gives = { λ _ fault. fault ≡ want_of_memory };
+
+    fn from(_error: AllocError) -> DictFault {
+        OUT_OF_MEMORY
+    }
+}
+
+impl<T: Drop> From<AllocFailed<T>> for DictFault {
+    ghost from_gives = { λ _ fault. fault ≡ want_of_memory };
+
+    fn from(_error: AllocFailed<T>) -> DictFault {
+        OUT_OF_MEMORY
+    }
+}
+
+// Want of memory, which has no place.
+const OUT_OF_MEMORY: DictFault = DictFault {
+    file: 0,
+    line: 0,
+    kind: DictKind::Memory,
+};
+
+impl DictKind {
+    fn is_memory(self) -> bool
+        ensures { result ≡ is_memory self }
+    {
+        match self {
+            DictKind::Memory => true,
+            _ => false,
+        }
+    }
+}
+
+impl LineError {
+    /// The refusal of the file set at that line.
+    pub(crate) fn at(self, file: usize, line: usize) -> DictFault
+        ensures { (read : Result Meaning DictKind) → Fails self read → Refuses result (refused_at file line read) }
+    {
+        match self {
+            LineError::Memory => OUT_OF_MEMORY,
+            LineError::Refused(kind) => {
+                if kind.is_memory() {
+                    OUT_OF_MEMORY
+                } else {
+                    DictFault { file, line, kind }
+                }
+            }
+        }
+    }
+}

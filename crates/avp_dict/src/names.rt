@@ -1,0 +1,106 @@
+//! Names by number: `Attr-N`, `Attr-T.N` and `Attr-26.V.N`.
+
+ghost use Rattle.std.specs.Prelude.{◌≡◌, ◌∷◌, ℕ, Option, Some};
+ghost use Rattle.std.specs.List.{slice_split};
+ghost use Rattle.avp_dict.specs.Letters.{is_dot};
+ghost use Rattle.avp_dict.specs.Names.{extended_numbered, id_numbered, is_vendor_specific, plain_numbered, vendor_id_numbered};
+ghost use Rattle.avp_dict.specs.code.Numbers.{Reads};
+
+use crate::attributes::extended_id;
+use crate::numbers::{MOST_NUMBER, Number, digits_of};
+use crate::parts::first_between;
+use crate::readings::Reading;
+use crate::settling::is_in_last_format;
+use avp_lists::AttrId;
+
+fn plain_by_number(n: Number) -> Option<AttrId>
+    ensures { (number : Option ℕ) → Reads n number → result ≡ plain_numbered number }
+{
+    match n {
+        Number::Unreadable => None,
+        Number::TooGreat => None,
+        Number::Is(n) => {
+            if n <= 255 {
+                Some(AttrId::Plain(n as u32))
+            } else {
+                None
+            }
+        }
+    }
+}
+
+fn extended_by_number(t: Number, n: Number) -> Option<AttrId>
+    ensures { (first second : Option ℕ) → Reads t first → Reads n second → result ≡ extended_numbered first second }
+{
+    match (t, n) {
+        (Number::Is(t), Number::Is(n)) => extended_id(0, t, n),
+        _ => None,
+    }
+}
+
+#[tactic(auto, using(crate::proofs::Numbered::number_past))]
+fn id_of_vendor(lines: &[Reading], v: u64, n: Number) -> Option<AttrId>
+    ensures { (number : Option ℕ) → Reads n number → result ≡ vendor_id_numbered lines.now (Some v) number }
+{
+    match n {
+        Number::Unreadable => None,
+        Number::TooGreat => None,
+        Number::Is(n) => {
+            if v <= MOST_NUMBER && is_in_last_format(lines, v, n) {
+                Some(AttrId::Vendor(v as u32, n as u32))
+            } else {
+                None
+            }
+        }
+    }
+}
+
+#[tactic(auto, using(crate::proofs::Numbered::vendor_past))]
+fn vendor_by_number(lines: &[Reading], v: Number, n: Number) -> Option<AttrId>
+    ensures { (vendor number : Option ℕ) → Reads v vendor → Reads n number → result ≡ vendor_id_numbered lines.now vendor number }
+{
+    match v {
+        Number::Unreadable => None,
+        Number::TooGreat => None,
+        Number::Is(v) => id_of_vendor(lines, v, n),
+    }
+}
+
+fn is_vendor_type(t: Number) -> bool
+    ensures { (number : Option ℕ) → Reads t number → result ≡ is_vendor_specific number }
+{
+    match t {
+        Number::Unreadable => false,
+        Number::TooGreat => false,
+        Number::Is(t) => t == 26,
+    }
+}
+
+// The id of three parts or more, after the first two.
+fn id_by_parts(lines: &[Reading], t: &[u8], v: &[u8], rest: &[u8]) -> Option<AttrId>
+    ensures { result ≡ id_numbered lines.now (t.now ∷ (v.now ∷ slice_split is_dot rest.now)) }
+{
+    match first_between(b'.', rest) {
+        None => {
+            if is_vendor_type(digits_of(10, t)) {
+                vendor_by_number(lines, digits_of(10, v), digits_of(10, rest))
+            } else {
+                None
+            }
+        }
+        Some(_) => None,
+    }
+}
+
+/// The id of the numbers after `Attr-`.
+pub fn id_by_numbers(lines: &[Reading], numbers: &[u8]) -> Option<AttrId>
+    ensures { result ≡ id_numbered lines.now (slice_split is_dot numbers.now) }
+{
+    match first_between(b'.', numbers) {
+        None => plain_by_number(digits_of(10, numbers)),
+        Some((t, rest)) => match first_between(b'.', rest) {
+            None => extended_by_number(digits_of(10, t), digits_of(10, rest)),
+            Some((v, rest)) => id_by_parts(lines, t, v, rest),
+        },
+    }
+}

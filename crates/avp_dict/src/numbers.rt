@@ -1,0 +1,98 @@
+//! Numbers of a line.
+
+ghost use Rattle.std.specs.Prelude.{◌≡◌, ◌≤◌, ◌+◌, ◌*◌, ℕ};
+ghost use Rattle.std.specs.Char.{digit_value};
+ghost use Rattle.avp_dict.specs.Vendors.{bounded};
+ghost use Rattle.avp_dict.specs.Words.{digits, number_of};
+ghost use Rattle.avp_dict.specs.code.Numbers.{Holds, Reads};
+ghost use Rattle.avp_dict.specs.code.Outcomes.{Gives};
+
+use crate::faults::{DictKind, LineError};
+
+/// The greatest number of an attribute and of a vendor.
+pub const MOST_NUMBER: u64 = 4_294_967_295;
+/// The greatest number of a VALUE line.
+pub const MOST_VALUE: u64 = 18_446_744_073_709_551_615;
+
+/// What a word is, read as a number.
+#[derive(Clone, Copy, Debug, PartialEq, Eq)]
+pub enum Number {
+    Unreadable,
+    /// 2 ^ 64 or more.
+    TooGreat,
+    Is(u64),
+}
+
+fn digit(octet: u8) -> u64
+    ensures { result ≡ digit_value octet }
+{
+    match octet {
+        b'0'..=b'9' => (octet - b'0') as u64,
+        b'A'..=b'Z' => (octet - b'A') as u64 + 10,
+        b'a'..=b'z' => (octet - b'a') as u64 + 10,
+        _ => 36,
+    }
+}
+
+/// The number that the digits of a word are.
+pub fn digits_of(base: u64, word: &[u8]) -> Number
+    requires { 2 ≤ base }
+    ensures { Reads result (digits base word.now) }
+{
+    if word.is_empty() {
+        return Number::Unreadable;
+    }
+    let mut number = Number::Is(0);
+    for octet in word {
+        let next = digit(*octet);
+        if next >= base {
+            return Number::Unreadable;
+        }
+        number = extended(base, number, next);
+    }
+    number
+}
+
+// One more digit.
+fn extended(base: u64, number: Number, next: u64) -> Number
+    requires { 2 ≤ base }
+    ensures { (n : ℕ) → Holds number n → Holds result (n * base + next) }
+{
+    match number {
+        Number::Is(value) => match value.checked_mul(base) {
+            None => Number::TooGreat,
+            Some(shifted) => match shifted.checked_add(next) {
+                None => Number::TooGreat,
+                Some(sum) => Number::Is(sum),
+            },
+        },
+        other => other,
+    }
+}
+
+/// The number that a word is: decimal digits, or `0x` and hexadecimal ones.
+pub fn read_number(word: &[u8]) -> Number
+    ensures { Reads result (number_of word.now) }
+{
+    match word {
+        [b'0', b'x', rest @ ..] => digits_of(16, rest),
+        _ => digits_of(10, word),
+    }
+}
+
+/// A number of a line, within its bound.
+pub fn number_up_to(most: u64, word: &[u8]) -> Result<u64, LineError>
+    ensures { Gives result (bounded most word.now) }
+{
+    match read_number(word) {
+        Number::Unreadable => Err(LineError::Refused(DictKind::Unreadable)),
+        Number::TooGreat => Err(LineError::Refused(DictKind::OutOfRange)),
+        Number::Is(number) => {
+            if number <= most {
+                Ok(number)
+            } else {
+                Err(LineError::Refused(DictKind::OutOfRange))
+            }
+        }
+    }
+}

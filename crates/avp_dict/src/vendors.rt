@@ -1,0 +1,163 @@
+//! VENDOR lines.
+
+ghost use Rattle.std.specs.Prelude.{◌≡◌, ◌≤◌, ℕ, Option, IfOk};
+ghost use Rattle.std.specs.List.{list_all, slice_split};
+ghost use Rattle.avp_dict.specs.Letters.{is_comma, is_visible};
+ghost use Rattle.avp_dict.specs.Vendors.{format_parts, format_word, is_vendor_name, two_parts, vendor, vendor_line, vendor_numbered};
+ghost use Rattle.avp_dict.specs.code.Numbers.{Reads};
+ghost use Rattle.avp_dict.specs.code.Outcomes.{Gives};
+ghost use Rattle.avp_dict.specs.code.Views.{views};
+
+use crate::faults::{DictKind, LineError};
+use crate::keywords::FORMAT_KEY;
+use crate::lookups::any_other_vendor;
+use crate::numbers::{MOST_NUMBER, Number, number_up_to, read_number};
+use crate::octets::copy_of;
+use crate::parts::parts_between;
+use crate::readings::{Meaning, Reading, VendorFormat};
+use crate::shapes::{Shape, shape_of};
+use crate::words::is_same_name;
+use std::alloc::{AllocError, Global};
+
+// The format of a VENDOR line that gives none.
+const STANDARD_FORMAT: VendorFormat = VendorFormat {
+    t: 1,
+    l: 1,
+    third: false,
+};
+
+fn is_visible_octet(octet: u8) -> bool
+    ensures { result ≡ is_visible octet }
+{
+    octet >= 33 && octet <= 126
+}
+
+fn are_visible(name: &[u8]) -> bool
+    ensures { result ≡ list_all is_visible name.now }
+{
+    name.iter().all(|octet| is_visible_octet(*octet))
+}
+
+#[tactic(auto, unfolding(crate::specs::Vendors::is_vendor_name))]
+fn names_vendor(name: &[u8]) -> bool
+    ensures { result ≡ is_vendor_name name.now }
+{
+    are_visible(name) && name.len() <= 128
+}
+
+#[tactic(auto, unfolding(crate::specs::Vendors::vendor_numbered))]
+fn define_vendor(
+    alloc: Global,
+    before: &[Reading],
+    name: &[u8],
+    format: VendorFormat,
+    number: u64,
+) -> Result<Meaning, LineError>
+    requires { number ≤ MOST_NUMBER }
+    ensures { Gives result (vendor_numbered before.now name.now format number) }
+{
+    let number = number as u32;
+    if any_other_vendor(before, name, number) {
+        return Err(LineError::Refused(DictKind::OtherNumber));
+    }
+    Ok(Meaning::Vendor(copy_of(alloc, name)?, number, format))
+}
+
+#[tactic(auto, unfolding(crate::specs::Vendors::vendor_line))]
+fn read_vendor_line(
+    alloc: Global,
+    before: &[Reading],
+    name: &[u8],
+    number: &[u8],
+    format: Option<VendorFormat>,
+) -> Result<Meaning, LineError>
+    ensures { Gives result (vendor_line before.now name.now number.now format) }
+{
+    match format {
+        None => Err(LineError::Refused(DictKind::Unreadable)),
+        Some(format) => {
+            if !names_vendor(name) {
+                return Err(LineError::Refused(DictKind::Unreadable));
+            }
+            let number = number_up_to(MOST_NUMBER, number)?;
+            define_vendor(alloc, before, name, format, number)
+        }
+    }
+}
+
+fn format_of_numbers(third: bool, t: Number, l: Number) -> Option<VendorFormat>
+    ensures { (m n : Option ℕ) → Reads t m → Reads l n → result ≡ two_parts third m n }
+{
+    match (t, l) {
+        (Number::Is(t), Number::Is(l)) => {
+            if (t == 1 || t == 2 || t == 4) && l <= 2 {
+                Some(VendorFormat {
+                    t: t as u8,
+                    l: l as u8,
+                    third,
+                })
+            } else {
+                None
+            }
+        }
+        _ => None,
+    }
+}
+
+fn format_of_parts(parts: &[&[u8]]) -> Option<VendorFormat>
+    ensures { result ≡ format_parts (views parts.now) }
+{
+    match shape_of(parts) {
+        Shape::Two(t, l) => format_of_numbers(false, read_number(t), read_number(l)),
+        Shape::Three(t, l, _) => format_of_numbers(true, read_number(t), read_number(l)),
+        Shape::Zero => None,
+        Shape::One(_) => None,
+        Shape::Four(_, _, _, _) => None,
+        Shape::More(_, _, _, _, _, _) => None,
+    }
+}
+
+fn format_after_key(alloc: Global, rest: &[u8]) -> Result<Option<VendorFormat>, AllocError>
+    ensures { IfOk result (λ format. format ≡ format_parts (slice_split is_comma rest.now)) }
+{
+    let parts = parts_between(alloc, b',', rest)?;
+    Ok(format_of_parts(&parts))
+}
+
+#[tactic(auto, unfolding(crate::specs::Vendors::format_word))]
+fn read_format(alloc: Global, word: &[u8]) -> Result<Option<VendorFormat>, AllocError>
+    ensures { IfOk result (λ format. format ≡ format_word word.now) }
+{
+    if word.len() < 7 {
+        return Ok(None);
+    }
+    let (key, rest) = word.split_at(7);
+    if !is_same_name(key, FORMAT_KEY) {
+        return Ok(None);
+    }
+    format_after_key(alloc, rest)
+}
+
+/// A VENDOR line after its keyword.
+#[tactic(auto, unfolding(crate::specs::Vendors::vendor))]
+pub fn read_vendor(alloc: Global, before: &[Reading], words: &[&[u8]]) -> Result<Meaning, LineError>
+    ensures { Gives result (vendor before.now (views words.now)) }
+{
+    match shape_of(words) {
+        Shape::Two(name, number) => read_vendor_line(
+            alloc,
+            before,
+            name,
+            number,
+            Some(STANDARD_FORMAT),
+        ),
+        Shape::Three(name, number, format) => {
+            let format = read_format(alloc, format)?;
+            read_vendor_line(alloc, before, name, number, format)
+        }
+        Shape::Zero => Err(LineError::Refused(DictKind::Unreadable)),
+        Shape::One(_) => Err(LineError::Refused(DictKind::Unreadable)),
+        Shape::Four(_, _, _, _) => Err(LineError::Refused(DictKind::Unreadable)),
+        Shape::More(_, _, _, _, _, _) => Err(LineError::Refused(DictKind::Unreadable)),
+    }
+}

@@ -1,0 +1,106 @@
+//! Words of a line.
+
+ghost use Rattle.std.specs.Prelude.{◌≡◌, ◌<◌, ◌++◌, ◌∷◌, [], length, IfOk, OnOk, IfSome, IfNone};
+ghost use Rattle.std.specs.List.{before_first, position, filter, slice_split};
+ghost use Rattle.avp_dict.specs.Words.{is_blank, is_hash, is_word, lower, same_name, words_of};
+ghost use Rattle.avp_dict.specs.code.Views.{views};
+
+use std::alloc::{AllocError, Global};
+
+fn comment_start(text: &[u8]) -> Option<usize>
+    ensures { result ≡ position is_hash text.now }
+{
+    text.iter().position(|octet| *octet == b'#')
+}
+
+fn without_comment(text: &[u8]) -> &[u8]
+    ensures { result.now ≡ before_first is_hash text.now }
+{
+    match comment_start(text) {
+        Some(end) => &text[..end],
+        None => text,
+    }
+}
+
+fn blank_at(text: &[u8]) -> Option<usize>
+    ensures place { result ≡ position is_blank text.now }
+    ensures within { IfSome result (λ end. end < length text.now) }
+{
+    text.iter().position(|octet| *octet == b' ' || *octet == b'\t' || *octet == b'\r')
+}
+
+// What stands before the first blank, and after it.
+fn first_part(text: &[u8]) -> Option<(&[u8], &[u8])>
+    ensures cut { IfSome result (λ x. slice_split is_blank text.now ≡ x.0.now ∷ slice_split is_blank x.1.now) }
+    ensures shorter { IfSome result (λ x. length x.1.now < length text.now) }
+    ensures whole { IfNone result (slice_split is_blank text.now ≡ text.now ∷ []) }
+{
+    match blank_at(text) {
+        Some(end) => Some((&text[..end], &text[end + 1..])),
+        None => None,
+    }
+}
+
+// Adds a part, if it is a word.
+fn push_part<'a>(words: &mut Vec<&'a [u8]>, part: &'a [u8]) -> Result<(), AllocError>
+    ensures { OnOk result (views words.new.items ≡ views words.old.items ++ filter is_word (part.now ∷ [])) }
+{
+    if !part.is_empty() {
+        words.push(part)?;
+    }
+    Ok(())
+}
+
+fn parts(alloc: Global, plain: &[u8]) -> Result<Vec<&[u8]>, AllocError>
+    ensures { IfOk result (λ words. views words.items ≡ filter is_word (slice_split is_blank plain.now)) }
+{
+    let mut words = Vec::new(alloc);
+    let mut rest = plain;
+    while let Some((part, after)) = first_part(rest) {
+        push_part(&mut words, part)?;
+        rest = after;
+    }
+    push_part(&mut words, rest)?;
+    Ok(words)
+}
+
+/// The words of a line.
+pub fn words(alloc: Global, text: &[u8]) -> Result<Vec<&[u8]>, AllocError>
+    ensures { IfOk result (λ words. views words.items ≡ words_of text.now) }
+{
+    parts(alloc, without_comment(text))
+}
+
+fn to_lower(octet: u8) -> u8
+    ensures { result ≡ lower octet }
+{
+    if octet >= b'A' && octet <= b'Z' {
+        octet + 32
+    } else {
+        octet
+    }
+}
+
+/// Whether two words are the same, without regard to ASCII case.
+#[tactic(auto, using(crate::proofs::Sameness::other_length))]
+pub fn is_same_name(a: &[u8], b: &[u8]) -> bool
+    ensures { result ≡ same_name a.now b.now }
+{
+    // Most names differ in length, and many begin alike.
+    if a.len() != b.len() {
+        return false;
+    }
+    let mut a = a;
+    let mut b = b;
+    while let [x, xs @ ..] = a {
+        let [y, ys @ ..] = b else {
+            return false;
+        };
+        if to_lower(*x) != to_lower(*y) {
+            return false;
+        }
+        a = xs;
+        b = ys;
+    }
+    b.is_empty()
+}
