@@ -1,0 +1,20 @@
+use Rattle.radpolicy.proofs.OneReport.{not_both, one_report}
+use Rattle.radpolicy.proofs.answers.answer.Goals as goal
+
+pub returns-in_err-text-clause-one : goal.returns-in_err-text-clause-one
+returns-in_err-text-clause-one g c = one_report c.args.job.now
+
+pub returns-in_err-text-clause-either : goal.returns-in_err-text-clause-either
+returns-in_err-text-clause-either g c = not_both c.args.job.now
+
+pub returns-in-Ok-clause-one : goal.returns-in-Ok-clause-one
+returns-in-Ok-clause-one g c = one_report c.args.job.now
+
+pub returns-in-Ok-clause-either : goal.returns-in-Ok-clause-either
+returns-in-Ok-clause-either g c = not_both c.args.job.now
+
+pub returns-clause-one : goal.returns-clause-one
+returns-clause-one g c = one_report c.args.job.now
+
+pub returns-clause-either : goal.returns-clause-either
+returns-clause-either g c = not_both c.args.job.now

@@ -1,0 +1,97 @@
+-- The texts of reports: lists and results of runs, counts and notes of dictionaries.
+use Rattle.std.specs.Prelude.{ℕ, Bool, false, ◌++◌, List, [], None, Some, length, codes, decimal, if◌then◌else◌}
+use Rattle.std.specs.List.{flat_map}
+use Rattle.hex.specs.Hex.{encode_lower}
+use Rattle.avp_lists.specs.declared.attributes.AttrId.{AttrId}
+use Rattle.avp_lists.specs.declared.attributes.AttrId.TheVariants.{Extended, Plain, Vendor}
+use Rattle.avp_lists.specs.declared.attributes.Pair.{Pair}
+use Rattle.avp_lists.specs.declared.attributes.Value.{Value}
+use Rattle.avp_lists.specs.declared.attributes.Value.TheVariants.{Addr, Bytes, Ether, Int, Raw, Signed, Text}
+use Rattle.avp_lists.specs.declared.lists.State.{State}
+use Rattle.avp_dict.specs.declared.entries.Note.{Note}
+use Rattle.avp_dict.specs.declared.files.NamedFile.{NamedFile}
+use Rattle.avp_dict.specs.declared.readings.Reading.{Reading}
+use Rattle.avp_dict.specs.Counts.{counts_of, notes_of}
+use Rattle.radpolicy.specs.declared.jobs.Code.{Code}
+use Rattle.radpolicy.specs.declared.jobs.Code.TheVariants as code
+use Rattle.radpolicy.specs.declared.jobs.Outcome.{Outcome}
+use Rattle.radpolicy.specs.Faults.{name_at}
+use Rattle.radpolicy.specs.Updates.{End}
+
+-- the name of an attribute that has no entry in the dictionary
+abbrev pub name_text : AttrId → List ℕ
+name_text (Plain number) = codes "Attr-" ++ decimal number
+name_text (Vendor vendor number) = codes "Attr-26." ++ decimal vendor ++ codes "." ++ decimal number
+name_text (Extended type_ number) = codes "Attr-" ++ decimal type_ ++ codes "." ++ decimal number
+
+-- the octets of a value; without a type there are no numbers, which have none of their own
+abbrev pub octets_shown : Value → List ℕ
+octets_shown (Raw octets) = octets
+octets_shown (Text octets) = octets
+octets_shown (Bytes octets) = octets
+octets_shown (Addr octets) = octets
+octets_shown (Ether octets) = octets
+octets_shown (Int number) = []
+octets_shown (Signed number) = []
+
+-- the line of a pair
+abbrev pub pair_line : Pair → List ℕ
+pair_line pair = codes "  " ++ name_text pair.id ++ codes " = 0x" ++ encode_lower (octets_shown pair.value) ++ codes "\n"
+
+-- a list: its name on a line, then a line for each pair
+abbrev pub list_text : List ℕ → List Pair → List ℕ
+list_text name pairs = name ++ codes "\n" ++ flat_map pair_line pairs
+
+-- the three lists
+abbrev pub state_text : State → List ℕ
+state_text state = list_text (codes "request") state.request ++ list_text (codes "reply") state.reply ++ list_text (codes "control") state.control
+
+abbrev pub code_text : Code → List ℕ
+code_text code.Ok = codes "ok"
+code_text code.Noop = codes "noop"
+code_text code.Updated = codes "updated"
+code_text code.Fail = codes "fail"
+code_text code.Reject = codes "reject"
+
+-- the line of the result
+abbrev pub result_line : Code → Bool → List ℕ
+result_line last stopped = codes "result " ++ code_text last ++ (if stopped then codes " stopped" else []) ++ codes "\n"
+
+-- a report: its text, and what the job came to
+pub record Report : Type 0 where
+  pub text : List ℕ
+  pub outcome : Outcome
+
+-- the report of a run that ended so
+abbrev pub run_report : End → Report
+run_report end = record {
+  text = state_text end.state ++ result_line end.code end.stopped;
+  outcome = record { code = Some end.code; stopped = end.stopped };
+}
+
+-- ---- what a dictionary holds
+
+-- a count after its name
+abbrev pub count_line : List ℕ → ℕ → List ℕ
+count_line name count = name ++ codes " " ++ decimal count ++ codes "\n"
+
+-- the line of a note: its file and its line
+abbrev pub note_line : List NamedFile → Note → List ℕ
+note_line files note = codes "note " ++ name_at files note.file ++ codes ":" ++ decimal note.line ++ codes "\n"
+
+-- the files handed in, the names that they define, and the notes in the order of their lines
+abbrev pub dictionary_text : List NamedFile → List Reading → List ℕ
+dictionary_text files dictionary =
+    count_line (codes "files") (length files)
+    ++ count_line (codes "attributes") (counts_of dictionary).attributes
+    ++ count_line (codes "values") (counts_of dictionary).values
+    ++ count_line (codes "vendors") (counts_of dictionary).vendors
+    ++ count_line (codes "notes") (length (notes_of dictionary))
+    ++ flat_map (note_line files) (notes_of dictionary)
+
+-- the report of a check, which comes to nothing more
+abbrev pub check_report : List NamedFile → List Reading → Report
+check_report files dictionary = record {
+  text = dictionary_text files dictionary;
+  outcome = record { code = None; stopped = false };
+}

@@ -1,0 +1,103 @@
+//! The line that shows a fault.
+
+ghost use Rattle.std.specs.Prelude.{◌≡◌, true, false, OnOk, OnErr};
+ghost use Rattle.std.specs.List.{flat_map};
+ghost use Rattle.std.specs.Io.KnownBytes.{Appends};
+ghost use Rattle.radpolicy.specs.Faults.{IsPrintedWith, NamesFileOf, fault_line, place_of, place_text};
+
+use crate::faults::{Fault, PacketFault};
+use crate::outputs::{Output, OutputError, put_all};
+use avp_dict::{FileSet, NamedFile};
+use itoa::Buffer;
+
+// The octets of all parts, in order.
+fn put_parts<O: Output>(out: &mut O, parts: &[&[u8]]) -> Result<(), OutputError>
+    ensures takes { OnOk result (Appends (O.taken out.old) (O.taken out.new) (flat_map (λ part. part.now) parts.now)) }
+    ensures stays { OnOk result (O.has_failed out.new ≡ O.has_failed out.old) }
+    ensures fails { OnErr result (O.has_failed out.new ≡ true) }
+{
+    for part in parts {
+        put_all(out, part)?;
+    }
+    Ok(())
+}
+
+// The place of a fault that has one.
+fn put_place_of<O: Output>(
+    fault: Fault,
+    files: &[NamedFile],
+    out: &mut O,
+) -> Result<(), OutputError>
+    requires { NamesFileOf files.now fault }
+    ensures takes { OnOk result (Appends (O.taken out.old) (O.taken out.new) (place_of files.now fault)) }
+    ensures stays { OnOk result (O.has_failed out.new ≡ O.has_failed out.old) }
+    ensures fails { OnErr result (O.has_failed out.new ≡ true) }
+{
+    let mut digits = Buffer::new();
+    match fault {
+        Fault::Dictionary(fault) => {
+            let name = files[fault.file].name.as_slice();
+            let line = digits.format(fault.line).as_bytes();
+            put_parts(out, &[b" ", name, b":", line])
+        }
+        Fault::Request(fault) => {
+            put_parts(out, &[b" request:", digits.format(fault.line).as_bytes()])
+        }
+        Fault::Policy(fault) => {
+            put_parts(out, &[b" policy:", digits.format(fault.line).as_bytes()])
+        }
+        Fault::ScriptWord { line } => {
+            put_parts(out, &[b" script:", digits.format(line).as_bytes()])
+        }
+        Fault::Packet(PacketFault::BadAttribute { offset }) => {
+            put_parts(out, &[b" offset ", digits.format(offset).as_bytes()])
+        }
+        _ => Ok(()),
+    }
+}
+
+// Where a fault is, after a blank; want of memory is nowhere.
+fn put_place<O: Output>(fault: Fault, files: &[NamedFile], out: &mut O) -> Result<(), OutputError>
+    requires { NamesFileOf files.now fault }
+    ensures takes { OnOk result (Appends (O.taken out.old) (O.taken out.new) (place_text files.now fault)) }
+    ensures stays { OnOk result (O.has_failed out.new ≡ O.has_failed out.old) }
+    ensures fails { OnErr result (O.has_failed out.new ≡ true) }
+{
+    if !fault.is_memory() {
+        put_place_of(fault, files, out)?;
+    }
+    Ok(())
+}
+
+// The line of a fault.
+fn put_line<O: Output>(fault: Fault, files: &[NamedFile], out: &mut O) -> Result<(), OutputError>
+    requires { NamesFileOf files.now fault }
+    ensures takes { OnOk result (Appends (O.taken out.old) (O.taken out.new) (fault_line files.now fault)) }
+    ensures stays { OnOk result (O.has_failed out.new ≡ O.has_failed out.old) }
+    ensures fails { OnErr result (O.has_failed out.new ≡ true) }
+{
+    let number = fault.number();
+    let code = [b'E', b'0' + number / 10, b'0' + number % 10];
+    put_parts(out, &[b"radpolicy: ", &code])?;
+    put_place(fault, files, out)?;
+    put_parts(out, &[b": ", fault.text().as_bytes(), b"\n"])?;
+    Ok(())
+}
+
+/// Puts the line of a fault, its line feed included, and says whether all of it was taken. It takes
+/// no memory.
+pub fn print_fault<O: Output>(fault: &Fault, files: &FileSet, out: &mut O) -> bool
+    requires printed { IsPrintedWith files.now fault.now }
+    requires works { O.has_failed out.old ≡ false }
+    ensures line { result ≡ true → Appends (O.taken out.old) (O.taken out.new) (fault_line files.now fault.now) }
+    ensures stays { result ≡ true → O.has_failed out.new ≡ false }
+    ensures fails { result ≡ false → O.has_failed out.new ≡ true }
+{
+    match put_line(*fault, files.as_slice(), out) {
+        Ok(()) => true,
+        Err(_) => false,
+    }
+}
+
+#[cfg(test)]
+mod tests;

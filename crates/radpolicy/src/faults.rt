@@ -1,0 +1,340 @@
+//! Why a job was refused, and the exit status that says so.
+
+ghost use Rattle.std.specs.Prelude.{◌≡◌};
+ghost use Rattle.radpolicy.specs.declared.faults.Fault.TheVariants.{Memory};
+ghost use Rattle.radpolicy.specs.Faults.{dict_number, dict_text, fault_number, fault_of_dict, fault_of_line, fault_of_policy, fault_text, is_memory, line_number, line_text, packet_number, packet_text, policy_number, policy_text, status_of};
+
+use avp_dict::{DictFault, DictKind};
+use std::alloc::{AllocError, AllocFailed};
+use thiserror::Error;
+
+/// Why request lines, or a value that is written in a policy, were refused.
+#[derive(Clone, Copy, Debug, PartialEq, Eq, Error)]
+#[error("{}", self.text())]
+pub enum LineKind {
+    NotValue,
+    TooLong,
+    Unknown,
+    NotWritable,
+    SecondPacket,
+    TooMany,
+    Unreadable,
+    Memory,
+}
+
+/// Why request lines were refused, and at which line, from 1.
+#[derive(Clone, Copy, Debug, PartialEq, Eq, Error)]
+#[error("{}", self.kind.text())]
+pub struct LineFault {
+    pub line: usize,
+    pub kind: LineKind,
+}
+
+/// Why a packet was refused (RFC 2865, section 3).
+#[derive(Clone, Copy, Debug, PartialEq, Eq, Error)]
+#[error("{}", self.text())]
+pub enum PacketFault {
+    Short,
+    BadLength,
+    Cut,
+    /// The offset of the attribute's first octet, from the packet's first one.
+    BadAttribute { offset: usize },
+    OtherCode,
+    WrongAuthenticator,
+}
+
+/// Why a policy text was refused.
+#[derive(Clone, Copy, Debug, PartialEq, Eq, Error)]
+#[error("{}", self.text())]
+pub enum PolicyKind {
+    /// A name or a value, as it would be refused in a request line.
+    NotValue,
+    TooLong,
+    Unknown,
+    NotWritable,
+    Unreadable,
+    Misplaced,
+    TooDeep,
+    TooLarge,
+    OtherType,
+    Memory,
+}
+
+/// Why a policy text was refused, and at which line, from 1.
+#[derive(Clone, Copy, Debug, PartialEq, Eq, Error)]
+#[error("{}", self.kind.text())]
+pub struct PolicyFault {
+    pub line: usize,
+    pub kind: PolicyKind,
+}
+
+/// Why a job was refused. `Help` asks for the help and is no refusal.
+#[derive(Clone, Copy, Debug, PartialEq, Eq, Error)]
+#[error("{}", self.text())]
+pub enum Fault {
+    Help,
+    Usage,
+    OptionValue,
+    EmptySecret,
+    FileNotReadable,
+    NotHex,
+    ScriptWord { line: usize },
+    Write,
+    Memory,
+    Dictionary(DictFault),
+    Request(LineFault),
+    Packet(PacketFault),
+    PacketTooLong,
+    Policy(PolicyFault),
+}
+
+impl From<DictFault> for Fault {
+    ghost from_gives = { λ fault f. f ≡ fault_of_dict fault };
+
+    fn from(fault: DictFault) -> Fault {
+        match fault.kind {
+            DictKind::Memory => Fault::Memory,
+            _ => Fault::Dictionary(fault),
+        }
+    }
+}
+
+impl From<LineFault> for Fault {
+    ghost from_gives = { λ fault f. f ≡ fault_of_line fault };
+
+    fn from(fault: LineFault) -> Fault {
+        match fault.kind {
+            LineKind::Memory => Fault::Memory,
+            _ => Fault::Request(fault),
+        }
+    }
+}
+
+impl From<PolicyFault> for Fault {
+    ghost from_gives = { λ fault f. f ≡ fault_of_policy fault };
+
+    fn from(fault: PolicyFault) -> Fault {
+        match fault.kind {
+            PolicyKind::Memory => Fault::Memory,
+            _ => Fault::Policy(fault),
+        }
+    }
+}
+
+impl From<AllocError> for Fault {
+    ghost from_gives = { λ _ f. f ≡ Memory };
+
+    fn from(_error: AllocError) -> Fault {
+        Fault::Memory
+    }
+}
+
+impl<T: Drop> From<AllocFailed<T>> for Fault {
+    ghost from_gives = { λ _ f. f ≡ Memory };
+
+    fn from(_error: AllocFailed<T>) -> Fault {
+        Fault::Memory
+    }
+}
+
+// The number of want of memory, in whatever part of a job.
+const MEMORY: u8 = 9;
+
+// The number of a dictionary's fault.
+fn dict_number(kind: DictKind) -> u8
+    ensures { result ≡ dict_number kind }
+{
+    match kind {
+        DictKind::Unreadable => 10,
+        DictKind::OutOfRange => 11,
+        DictKind::OtherNumber => 12,
+        DictKind::UnknownVendor => 13,
+        DictKind::Unmatched => 14,
+        DictKind::NoFile => 15,
+        DictKind::TooDeep => 16,
+        DictKind::TooLong => 17,
+        DictKind::NoAttribute => 18,
+        DictKind::OtherValue => 19,
+        DictKind::Memory => MEMORY,
+    }
+}
+
+// What the line of a dictionary's fault says.
+fn dict_text(kind: DictKind) -> &'static str
+    ensures { result.now ≡ dict_text kind }
+{
+    match kind {
+        DictKind::Unreadable => "unreadable line",
+        DictKind::OutOfRange => "number out of range",
+        DictKind::OtherNumber => "name has another number",
+        DictKind::UnknownVendor => "unknown vendor",
+        DictKind::Unmatched => "BEGIN and END differ",
+        DictKind::NoFile => "file not handed in",
+        DictKind::TooDeep => "includes too deep",
+        DictKind::TooLong => "too many lines",
+        DictKind::NoAttribute => "VALUE of no ATTRIBUTE",
+        DictKind::OtherValue => "VALUE has another number",
+        DictKind::Memory => "out of memory",
+    }
+}
+
+impl LineKind {
+    fn number(self) -> u8
+        ensures { result ≡ line_number self }
+    {
+        match self {
+            LineKind::NotValue => 30,
+            LineKind::TooLong => 31,
+            LineKind::Unknown => 32,
+            LineKind::NotWritable => 33,
+            LineKind::SecondPacket => 34,
+            LineKind::TooMany => 35,
+            LineKind::Unreadable => 36,
+            LineKind::Memory => MEMORY,
+        }
+    }
+
+    fn text(self) -> &'static str
+        ensures { result.now ≡ line_text self }
+    {
+        match self {
+            LineKind::NotValue => "not a value",
+            LineKind::TooLong => "too long",
+            LineKind::Unknown => "unknown attribute",
+            LineKind::NotWritable => "not writable",
+            LineKind::SecondPacket => "second packet",
+            LineKind::TooMany => "too many pairs",
+            LineKind::Unreadable => "unreadable line",
+            LineKind::Memory => "out of memory",
+        }
+    }
+}
+
+impl PacketFault {
+    fn number(self) -> u8
+        ensures { result ≡ packet_number self }
+    {
+        match self {
+            PacketFault::Short => 40,
+            PacketFault::BadLength => 41,
+            PacketFault::Cut => 42,
+            PacketFault::BadAttribute { .. } => 43,
+            PacketFault::OtherCode => 44,
+            PacketFault::WrongAuthenticator => 45,
+        }
+    }
+
+    fn text(self) -> &'static str
+        ensures { result.now ≡ packet_text self }
+    {
+        match self {
+            PacketFault::Short => "fewer than 20 octets",
+            PacketFault::BadLength => "bad packet length",
+            PacketFault::Cut => "packet cut short",
+            PacketFault::BadAttribute { .. } => "bad attribute length",
+            PacketFault::OtherCode => "code not taken",
+            PacketFault::WrongAuthenticator => "wrong authenticator",
+        }
+    }
+}
+
+impl PolicyKind {
+    fn number(self) -> u8
+        ensures { result ≡ policy_number self }
+    {
+        match self {
+            PolicyKind::NotValue => 30,
+            PolicyKind::TooLong => 31,
+            PolicyKind::Unknown => 32,
+            PolicyKind::NotWritable => 33,
+            PolicyKind::Unreadable => 50,
+            PolicyKind::Misplaced => 51,
+            PolicyKind::TooDeep => 53,
+            PolicyKind::TooLarge => 54,
+            PolicyKind::OtherType => 55,
+            PolicyKind::Memory => MEMORY,
+        }
+    }
+
+    fn text(self) -> &'static str
+        ensures { result.now ≡ policy_text self }
+    {
+        match self {
+            PolicyKind::NotValue => "not a value",
+            PolicyKind::TooLong => "too long",
+            PolicyKind::Unknown => "unknown attribute",
+            PolicyKind::NotWritable => "not writable",
+            PolicyKind::Unreadable => "unreadable token",
+            PolicyKind::Misplaced => "token does not fit",
+            PolicyKind::TooDeep => "nested too deep",
+            PolicyKind::TooLarge => "policy too large",
+            PolicyKind::OtherType => "types differ",
+            PolicyKind::Memory => "out of memory",
+        }
+    }
+}
+
+impl Fault {
+    // The number that its line shows after the letter E; 0 for the help.
+    pub(crate) fn number(self) -> u8
+        ensures { result ≡ fault_number self }
+    {
+        match self {
+            Fault::Help => 0,
+            Fault::Usage => 1,
+            Fault::OptionValue => 2,
+            Fault::EmptySecret => 3,
+            Fault::FileNotReadable => 4,
+            Fault::NotHex => 5,
+            Fault::ScriptWord { .. } => 6,
+            Fault::Write => 7,
+            Fault::Memory => MEMORY,
+            Fault::Dictionary(fault) => dict_number(fault.kind),
+            Fault::Request(fault) => fault.kind.number(),
+            Fault::Packet(fault) => fault.number(),
+            Fault::PacketTooLong => 46,
+            Fault::Policy(fault) => fault.kind.number(),
+        }
+    }
+
+    // What its line says.
+    pub(crate) fn text(self) -> &'static str
+        ensures { result.now ≡ fault_text self }
+    {
+        match self {
+            Fault::Help => "help",
+            Fault::Usage => "usage",
+            Fault::OptionValue => "option value",
+            Fault::EmptySecret => "empty secret",
+            Fault::FileNotReadable => "file not readable",
+            Fault::NotHex => "not hex",
+            Fault::ScriptWord { .. } => "unknown script word",
+            Fault::Write => "write fault",
+            Fault::Memory => "out of memory",
+            Fault::Dictionary(fault) => dict_text(fault.kind),
+            Fault::Request(fault) => fault.kind.text(),
+            Fault::Packet(fault) => fault.text(),
+            Fault::PacketTooLong => "packet too long",
+            Fault::Policy(fault) => fault.kind.text(),
+        }
+    }
+
+    // Whether it is want of memory, in whatever part of the job.
+    pub(crate) fn is_memory(self) -> bool
+        ensures { result ≡ is_memory self }
+    {
+        self.number() == MEMORY
+    }
+}
+
+/// The exit status for a fault, 0 for the help.
+pub fn status(fault: &Fault) -> u8
+    ensures { result ≡ status_of fault.now }
+{
+    match fault {
+        Fault::Help => 0,
+        Fault::FileNotReadable | Fault::Write => 3,
+        fault if fault.is_memory() => 4,
+        _ => 2,
+    }
+}

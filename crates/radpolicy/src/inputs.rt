@@ -1,0 +1,43 @@
+//! The reading of a whole input.
+
+ghost use Rattle.std.specs.Prelude.{◌≡◌, ◌≤◌, ◌<◌, length, IfOk, IfSome, MatchOption};
+
+use avp_lists::Octets;
+use std::alloc::Global;
+use std::io;
+use std::io::Read;
+
+/// The most octets that an input file may have.
+pub const MOST_OCTETS: usize = 16_777_216;
+
+/// All that a reader has left, or `None` where that is more than an input file may have.
+pub fn read_input<R: Read + Drop>(alloc: Global, reader: R) -> io::Result<Option<Octets>>
+    ensures within { IfOk result (λ input. IfSome input (λ octets. length octets ≤ MOST_OCTETS)) }
+    // Where the reader tells its octets, these are all of them, or they are too many.
+    ensures all { IfOk result (λ input. IfSome (R.remaining reader) (λ octets.
+        MatchOption input (MOST_OCTETS < length octets) (λ read. read ≡ octets))) }
+{
+    let mut octets = Vec::new(alloc);
+    let count = reader
+        .take(MOST_OCTETS as u64 + 1)
+        .read_to_end(&mut octets)?;
+    if count <= MOST_OCTETS {
+        Ok(Some(Octets::from_vec(octets)))
+    } else {
+        Ok(None)
+    }
+}
+
+#[cfg(test)]
+mod tests {
+    use super::*;
+    use std::test::Fail;
+
+    #[test]
+    fn reads_all_of_an_input(rt: HostRuntime) -> Result<(), Fail> {
+        let octets = b"abc".as_slice();
+        let input = read_input(rt.alloc(), octets)?.ok_or("short enough")?;
+        assert!(rt; input.as_slice() == octets);
+        Ok(())
+    }
+}
