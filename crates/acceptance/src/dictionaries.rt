@@ -1,0 +1,141 @@
+//! Checks of dictionary files.
+
+use crate::program::{Source, expect_fault, expect_output};
+use std::alloc::Global;
+use std::process::Abort;
+use std::test::Fail;
+
+const CHECK: [&str; 3] = ["radpolicy", "check", "d"];
+
+// The lines of `d` are refused with this line.
+fn expect_refusal(rt: &impl Abort, alloc: Global, lines: &[u8], wanted: &[u8]) -> Result<(), Fail> {
+    expect_fault(rt, alloc, &CHECK, &[("d", lines)], wanted, 2)
+}
+
+#[test]
+fn counts_and_notes_what_files_hold(rt: HostRuntime) -> Result<(), Fail> {
+    let main = b"$INCLUDE sub/x
+$INCLUDE- gone
+VENDOR V 100 format=2,1
+BEGIN-VENDOR V
+ATTRIBUTE V-A 65536 integer
+ATTRIBUTE V-B 0x0101 integer
+END-VENDOR V
+VALUE V-A One 1
+VALUE X-A One 1
+VALUE V-B One 1
+";
+    let included = b"ATTRIBUTE X-A 200 integer # c\nATTRIBUTE X-B 200 string\n";
+    let sources: [Source; 2] = [("d", main), ("x", included)];
+    let wanted = b"files 2
+attributes 3
+values 1
+vendors 1
+notes 4
+note d:2
+note d:5
+note d:8
+note d:9
+";
+    let words = ["radpolicy", "check", "d", "x"];
+    expect_output(&rt, rt.alloc(), &words, &sources, wanted)
+}
+
+#[test]
+fn skips_a_vendor_with_a_continuation_octet(rt: HostRuntime) -> Result<(), Fail> {
+    let lines = b"VENDOR U 60 format=1,1,c\nBEGIN-VENDOR U\nATTRIBUTE U-A 1 string\nEND-VENDOR U\n";
+    let wanted =
+        b"files 1\nattributes 0\nvalues 0\nvendors 1\nnotes 3\nnote d:2\nnote d:3\nnote d:4\n";
+    expect_output(&rt, rt.alloc(), &CHECK, &[("d", lines)], wanted)
+}
+
+#[test]
+fn takes_a_value_before_its_attribute(rt: HostRuntime) -> Result<(), Fail> {
+    let lines = b"VALUE X Y 1\nATTRIBUTE X 200 integer\n";
+    let wanted = b"files 1\nattributes 1\nvalues 1\nvendors 0\nnotes 0\n";
+    expect_output(&rt, rt.alloc(), &CHECK, &[("d", lines)], wanted)
+}
+
+#[test]
+fn notes_a_value_of_a_tagged_attribute(rt: HostRuntime) -> Result<(), Fail> {
+    let lines = b"ATTRIBUTE Tunnel-Type 64 integer has_tag\nVALUE Tunnel-Type PPTP 1\n";
+    let wanted = b"files 1\nattributes 1\nvalues 0\nvendors 0\nnotes 1\nnote d:2\n";
+    expect_output(&rt, rt.alloc(), &CHECK, &[("d", lines)], wanted)
+}
+
+#[test]
+fn counts_the_test_dictionary(rt: HostRuntime) -> Result<(), Fail> {
+    let wanted = b"files 1\nattributes 18\nvalues 4\nvendors 1\nnotes 0\n";
+    expect_output(&rt, rt.alloc(), &CHECK, &[("d", TEST_DICTIONARY)], wanted)
+}
+
+const TEST_DICTIONARY: &[u8] = b"ATTRIBUTE User-Name 1 string
+ATTRIBUTE User-Password 2 string encrypt=1
+ATTRIBUTE NAS-IP-Address 4 ipaddr
+ATTRIBUTE NAS-Port 5 integer
+ATTRIBUTE Service-Type 6 integer
+ATTRIBUTE Login-IP-Host 14 ipaddr
+ATTRIBUTE Login-Service 15 integer
+ATTRIBUTE Reply-Message 18 string
+ATTRIBUTE Class 25 octets
+ATTRIBUTE Vendor-Specific 26 octets
+ATTRIBUTE Session-Timeout 27 integer
+ATTRIBUTE Proxy-State 33 octets
+ATTRIBUTE Acct-Status-Type 40 integer
+ATTRIBUTE Acct-Session-Id 44 string
+ATTRIBUTE Test-Ext 241.1 integer
+ATTRIBUTE Test-Long 245.1 octets
+ATTRIBUTE Tmp-Number 1000 integer
+VALUE Service-Type Login-User 1
+VALUE Login-Service Telnet 0
+VALUE Acct-Status-Type Start 1
+VALUE Acct-Status-Type Stop 2
+VENDOR Cisco 9
+BEGIN-VENDOR Cisco
+ATTRIBUTE Cisco-AVPair 1 string
+END-VENDOR Cisco
+";
+
+#[test]
+fn refuses_lines_with_their_place(rt: HostRuntime) -> Result<(), Fail> {
+    let alloc = rt.alloc();
+    let cases: [(&[u8], &[u8]); 9] = [
+        (
+            b"ATTRIBUTE A x integer",
+            b"radpolicy: E10 d:1: unreadable line\n",
+        ),
+        (
+            b"ATTRIBUTE A 4294967296 integer",
+            b"radpolicy: E11 d:1: number out of range\n",
+        ),
+        (
+            b"BEGIN-VENDOR Nope",
+            b"radpolicy: E13 d:1: unknown vendor\n",
+        ),
+        (
+            b"$INCLUDE gone",
+            b"radpolicy: E15 d:1: file not handed in\n",
+        ),
+        (
+            b"ATTRIBUTE A 200 integer\nVALUE A One 1\nVALUE A one 2\n",
+            b"radpolicy: E19 d:3: VALUE has another number\n",
+        ),
+        (b"$INCLUDE d", b"radpolicy: E16 d:1: includes too deep\n"),
+        (
+            b"ATTRIBUTE X 200 integer\nATTRIBUTE x 201 integer",
+            b"radpolicy: E12 d:2: name has another number\n",
+        ),
+        (
+            b"END-VENDOR Cisco",
+            b"radpolicy: E14 d:1: BEGIN and END differ\n",
+        ),
+        (
+            b"VALUE X Y 1",
+            b"radpolicy: E18 d:1: VALUE of no ATTRIBUTE\n",
+        ),
+    ];
+    for (lines, wanted) in cases.iter() {
+        expect_refusal(&rt, alloc, lines, wanted)?;
+    }
+    Ok(())
+}

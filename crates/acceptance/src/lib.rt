@@ -1,0 +1,9 @@
+//! The worked examples of the program, as calls of its library over bytes and a writer in memory.
+#![tactic(auto)]
+
+#[cfg(test)]
+mod dictionaries;
+#[cfg(test)]
+mod first_path;
+#[cfg(test)]
+mod program;

@@ -1,0 +1,167 @@
+//! The program without its files and streams: words, named bytes and writers in memory.
+
+ghost use Rattle.std.specs.Prelude.{◌≡◌, IfOk, Some, is_some};
+ghost use Rattle.radpolicy.specs.Plans.{IsSound, asked_by_job, asked_by_plan, names_of_files, names_of_paths};
+
+use avp_dict::{FileSet, NamedFile};
+use avp_lists::Octets;
+use radpolicy::{Fault, Job, Plan, WriteOutput, answer, print_fault, read_words, status};
+use std::alloc::{AllocError, Global};
+use std::io;
+use std::io::Write;
+use std::process::Abort;
+use std::test::Fail;
+
+/// A path and what stands there.
+pub type Source<'a> = (&'a str, &'a [u8]);
+
+/// What the program left: its status, its standard output and its standard error.
+#[derive(Drop)]
+pub struct Finished {
+    pub status: u8,
+    pub output: Vec<u8>,
+    pub errors: Vec<u8>,
+}
+
+/// A writer that takes some octets, and then fails.
+#[derive(Drop)]
+pub struct Narrow {
+    pub held: Vec<u8>,
+    pub room: usize,
+}
+
+impl Write for Narrow {
+    ghost contents = { λ w. Some w.held.items };
+
+    fn write(&mut self, buf: &[u8]) -> io::Result<usize> {
+        let count = buf.len().min(self.room);
+        self.held.extend_from_slice(&buf[..count])?;
+        self.room -= count;
+        Ok(count)
+    }
+
+    fn flush(&mut self) -> io::Result<()> {
+        Ok(())
+    }
+}
+
+// What stands at a path, nothing where there is no such path.
+fn octets_at(alloc: Global, sources: &[Source], path: &str) -> Result<Octets, AllocError> {
+    let octets = match sources.iter().find(|source| source.0 == path) {
+        Some(source) => Vec::from_slice(alloc, source.1)?,
+        None => Vec::new(alloc),
+    };
+    Ok(Octets::from_vec(octets))
+}
+
+fn optional_at(
+    alloc: Global,
+    sources: &[Source],
+    path: Option<&str>,
+) -> Result<Option<Octets>, AllocError>
+    ensures { IfOk result (λ octets. is_some octets ≡ is_some path.entry) }
+{
+    match path {
+        Some(path) => Ok(Some(octets_at(alloc, sources, path)?)),
+        None => Ok(None),
+    }
+}
+
+fn files_at(alloc: Global, sources: &[Source], paths: &[&str]) -> Result<FileSet, AllocError>
+    ensures { IfOk result (λ files. names_of_files files ≡ names_of_paths paths.now) }
+{
+    let mut files = Vec::new(alloc);
+    for path in paths {
+        let octets = octets_at(alloc, sources, path)?;
+        files.push(NamedFile::at(alloc, path, octets)?)?;
+    }
+    Ok(FileSet::from_vec(files))
+}
+
+/// The job of a plan, `-` being the path of standard input.
+pub fn job_of(alloc: Global, sources: &[Source], plan: &Plan) -> Result<Job, AllocError>
+    ensures { IfOk result (λ job. asked_by_job job ≡ asked_by_plan plan.now) }
+{
+    Ok(Job {
+        command: plan.command,
+        files: files_at(alloc, sources, plan.dictionaries.as_slice())?,
+        request: octets_at(alloc, sources, plan.request.unwrap_or("-"))?,
+        form: plan.form,
+        identifier: plan.identifier,
+        authenticator: plan.authenticator,
+        policy: optional_at(alloc, sources, plan.policy)?,
+        secret: optional_at(alloc, sources, plan.secret)?,
+        script: optional_at(alloc, sources, plan.script)?,
+    })
+}
+
+// Does a job, and prints its fault if there is one.
+fn finish(alloc: Global, job: &Job) -> Finished
+    requires { IsSound (asked_by_job job.now) }
+{
+    let mut output = Vec::new(alloc);
+    let mut errors = Vec::new(alloc);
+    let status = match answer(alloc, job, &mut WriteOutput::new(&mut output)) {
+        Ok(_) => 0,
+        Err(fault) => {
+            let _ = print_fault(&fault, &job.files, &mut WriteOutput::new(&mut errors));
+            status(&fault)
+        }
+    };
+    Finished {
+        status,
+        output,
+        errors,
+    }
+}
+
+// The fault of the words.
+fn refuse(alloc: Global, fault: &Fault) -> Finished {
+    Finished {
+        status: status(fault),
+        output: Vec::new(alloc),
+        errors: Vec::new(alloc),
+    }
+}
+
+/// The program on these words.
+pub fn program(alloc: Global, words: &[&str], sources: &[Source]) -> Result<Finished, AllocError> {
+    match read_words(alloc, words) {
+        Ok(plan) => {
+            let job = job_of(alloc, sources, &plan)?;
+            Ok(finish(alloc, &job))
+        }
+        Err(fault) => Ok(refuse(alloc, &fault)),
+    }
+}
+
+/// The program on these words is done, and printed this.
+pub fn expect_output(
+    rt: &impl Abort,
+    alloc: Global,
+    words: &[&str],
+    sources: &[Source],
+    wanted: &[u8],
+) -> Result<(), Fail> {
+    let finished = program(alloc, words, sources)?;
+    assert_eq!(rt; finished.errors.as_slice(), b"".as_slice());
+    assert_eq!(rt; finished.status, 0);
+    assert_eq!(rt; finished.output.as_slice(), wanted);
+    Ok(())
+}
+
+/// The program on these words is refused with this line and this status, and printed nothing else.
+pub fn expect_fault(
+    rt: &impl Abort,
+    alloc: Global,
+    words: &[&str],
+    sources: &[Source],
+    wanted: &[u8],
+    status: u8,
+) -> Result<(), Fail> {
+    let finished = program(alloc, words, sources)?;
+    assert_eq!(rt; finished.errors.as_slice(), wanted);
+    assert_eq!(rt; finished.status, status);
+    assert!(rt; finished.output.is_empty());
+    Ok(())
+}
