@@ -1,0 +1,22 @@
+# make run      builds the program and shows the README's example
+# make test     the gate, then the examples through the built program
+# make install  puts the program into PREFIX/bin
+
+RT ?= $(shell command -v rt || echo /opt/rattle/bin/rt)
+PREFIX ?= /usr/local
+PROGRAM = crates/radpolicy_cli/out/radpolicy_cli
+
+.PHONY: run build test install
+
+run: build
+	@scripts/show-example $(PROGRAM) examples/session-limit
+
+# The kit proves a program, links it and runs it; here it shows its help.
+build:
+	@cd crates/radpolicy_cli && $(RT) run -- --help > out.log 2>&1 || { cat out.log; exit 1; }
+
+test:
+	@RT=$(RT) scripts/test $(PROGRAM)
+
+install: build
+	install -D $(PROGRAM) $(PREFIX)/bin/radpolicy
