@@ -21,6 +21,10 @@ abbrev pub unless_open : {A : Type 0} → Option Reading → A → Result A Dict
 unless_open None x = Ok x
 unless_open (Some r) x = Err (record { file = r.file; line = r.line; kind = Unmatched })
 
+-- so many lines are read
+abbrev pub most_lines : ℕ
+most_lines = 200000
+
 -- first the lines, so many at most, one after the other; then one line too many, a block left open, and the VALUE lines
 unfoldable pub dictionary_of : ℕ → List NamedFile → Result (List Reading) DictFault
 dictionary_of limit files = do

@@ -1,7 +1,7 @@
 ghost use Rattle.std.specs.Prelude.{◌≡◌, ◌<◌, length, All, IfOk, IfErr};
 ghost use Rattle.std.specs.Option.{option_map, option_copied};
 ghost use Rattle.avp_dict.specs.Counts.{counts_of, notes_of};
-ghost use Rattle.avp_dict.specs.Dictionary.{dictionary_of};
+ghost use Rattle.avp_dict.specs.Dictionary.{dictionary_of, most_lines};
 ghost use Rattle.avp_dict.specs.Lines.{HasDistinctNames};
 ghost use Rattle.avp_dict.specs.Names.{described, described_by, name_numbered, named, number_named, unless_three, vendor_format};
 ghost use Rattle.avp_dict.specs.Outcomes.{Answers};
@@ -76,7 +76,7 @@ impl Dictionary {
     pub fn read(alloc: Global, files: &FileSet) -> Result<Dictionary, DictFault>
         requires first { 0 < length files.now }
         requires names { HasDistinctNames files.now }
-        ensures read { Answers (λ dictionary. dictionary) result (dictionary_of MOST_LINES files.now) }
+        ensures read { Answers (λ dictionary. dictionary) result (dictionary_of most_lines files.now) }
         ensures placed { IfErr result (λ fault. fault.file < length files.now) }
         ensures noted { IfOk result (λ dictionary. All (λ note. note.file < length files.now) (notes_of dictionary)) }
     {

@@ -15,10 +15,11 @@ pub enum DictKind {
     /// A wrong number of words, an unknown keyword, an unreadable number, or a bad vendor name or format.
     #[error("unreadable line")]
     Unreadable,
-    /// A number above 4294967295, or that of a VALUE line above its type's greatest one.
+    /// An attribute's or vendor's number above 4294967295, or a VALUE number above 18446744073709551615 or above its
+    /// type's greatest one.
     #[error("number out of range")]
     OutOfRange,
-    /// An earlier line gave the name to another vendor or attribute.
+    /// An earlier line that was not skipped gave the name to another vendor or attribute.
     #[error("name has another number")]
     OtherNumber,
     /// BEGIN-VENDOR of a vendor without an earlier VENDOR line.

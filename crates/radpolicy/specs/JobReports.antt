@@ -10,7 +10,7 @@ use Rattle.radpolicy.specs.declared.faults.LineKind.TheVariants as line
 use Rattle.radpolicy.specs.declared.faults.PolicyKind.TheVariants as policy
 use Rattle.avp_dict.specs.declared.files.NamedFile.{NamedFile}
 use Rattle.avp_dict.specs.declared.readings.Reading.{Reading}
-use Rattle.avp_dict.specs.Dictionary.{dictionary_of}
+use Rattle.avp_dict.specs.Dictionary.{dictionary_of, most_lines}
 use Rattle.radpolicy.specs.declared.jobs.Command.{Command}
 use Rattle.radpolicy.specs.declared.jobs.Command.TheVariants.{Check, Run}
 use Rattle.radpolicy.specs.declared.jobs.Job.{Job}
@@ -54,7 +54,7 @@ pub record IsRunReport (job : Job) (report : Report) : Type 0 where
 -- the report of a check: what the dictionary holds
 pub record IsCheckReport (job : Job) (report : Report) : Type 0 where
   pub dictionary : List Reading
-  pub read : dictionary_of 200000 job.files ≡ Ok dictionary
+  pub read : dictionary_of most_lines job.files ≡ Ok dictionary
   pub text : report ≡ check_report job.files dictionary
 
 -- the report of a job, by its command
@@ -77,7 +77,7 @@ IsRunRefusal job _ = ⊥
 
 -- a check is refused for its dictionary alone
 abbrev pub IsCheckRefusal : Job → Fault → Type 0
-IsCheckRefusal job (Dictionary fault) = dictionary_of 200000 job.files ≡ Err fault
+IsCheckRefusal job (Dictionary fault) = dictionary_of most_lines job.files ≡ Err fault
 IsCheckRefusal job _ = ⊥
 
 -- the faults for which a job is refused, by its command

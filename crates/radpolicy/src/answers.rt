@@ -4,7 +4,7 @@ ghost use Rattle.std.specs.Prelude.{All, ◌≡◌, ◌≢◌, ◌≤◌, ◌⊎
 ghost use Rattle.std.specs.Io.KnownBytes.{Appends};
 ghost use Rattle.avp_lists.specs.declared.edits.Edit.{Edit as ListEdit};
 ghost use Rattle.avp_dict.specs.Counts.{notes_of};
-ghost use Rattle.avp_dict.specs.Dictionary.{dictionary_of};
+ghost use Rattle.avp_dict.specs.Dictionary.{dictionary_of, most_lines};
 ghost use Rattle.radpolicy.specs.Faults.{IsPrintedWith};
 ghost use Rattle.radpolicy.specs.declared.faults.Fault.{Fault};
 ghost use Rattle.radpolicy.specs.JobReports.{HasNoPolicy, IsCheckRefusal, IsCheckReport, IsRefused, IsReport, IsRunRefusal, IsRunReport, dictionary_refusal, entry_state, main_file, policy_of};
@@ -123,7 +123,7 @@ fn run_report_of(alloc: Global, job: &Job) -> Result<(Vec<u8>, Outcome), Fault>
 // Reads the dictionary.
 fn dictionary_of(alloc: Global, job: &Job) -> Result<Dictionary, Fault>
     requires sound { IsSound (asked_by_job job.now) }
-    ensures ok { IfOk result (λ dictionary. dictionary_of 200000 job.now.files ≡ Ok dictionary) }
+    ensures ok { IfOk result (λ dictionary. dictionary_of most_lines job.now.files ≡ Ok dictionary) }
     ensures noted { IfOk result (λ dictionary. All (λ note. note.file < length job.now.files) (notes_of dictionary)) }
     ensures refused { IfErr result (λ fault. (fault ≡ Fault.Memory) ⊎ IsCheckRefusal job.now fault) }
     ensures printed { IfErr result (λ fault. IsPrintedWith job.now.files fault) }
