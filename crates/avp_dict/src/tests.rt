@@ -63,7 +63,7 @@ fn chain(alloc: Global, last: u8) -> Result<FileSet, Fail> {
     Ok(FileSet::from_vec(files))
 }
 
-// What the set is read as, and not whether it may be.
+// What a set is read as, if it has a file and its names differ.
 fn read(alloc: Global, files: &FileSet) -> Result<Result<Dictionary, DictFault>, Fail> {
     if files.is_empty() || !files.has_distinct_names() {
         return Err(Fail::new("no set of files"));
@@ -236,14 +236,77 @@ fn follows_includes_eight_deep(rt: HostRuntime) -> Result<(), Fail> {
     let alloc = rt.alloc();
     let dictionary = read(alloc, &chain(alloc, 8)?)??;
     expect_notes(&rt, &dictionary, &[]);
-    let refused = read(alloc, &chain(alloc, 9)?)?;
     let fault = DictFault {
         file: 8,
         line: 1,
         kind: DictKind::TooDeep,
     };
+    expect_refusal_at(&rt, alloc, &chain(alloc, 9)?, fault)
+}
+
+fn expect_refusal_at(
+    rt: &impl Abort,
+    alloc: Global,
+    files: &FileSet,
+    fault: DictFault,
+) -> Result<(), Fail> {
+    let refused = read(alloc, files)?;
     assert_eq!(rt; refused.err(), Some(fault));
     Ok(())
+}
+
+#[test]
+fn refuses_a_missing_last_file(rt: HostRuntime) -> Result<(), Fail> {
+    let alloc = rt.alloc();
+    let mut files = Vec::new(alloc);
+    for place in 0..9 {
+        let text = format!(in alloc; "$INCLUDE f{}\n", place + 1)?;
+        let name = format!(in alloc; "f{place}")?;
+        files.push(file(alloc, name.as_bytes(), text.as_bytes())?)?;
+    }
+    let fault = DictFault {
+        file: 8,
+        line: 1,
+        kind: DictKind::NoFile,
+    };
+    expect_refusal_at(&rt, alloc, &FileSet::from_vec(files), fault)
+}
+
+#[test]
+fn refuses_files_that_include_each_other(rt: HostRuntime) -> Result<(), Fail> {
+    let alloc = rt.alloc();
+    let mut files = Vec::new(alloc);
+    files.push(file(alloc, b"a", b"$INCLUDE b\n")?)?;
+    files.push(file(alloc, b"b", b"$INCLUDE a\n")?)?;
+    let fault = DictFault {
+        file: 0,
+        line: 1,
+        kind: DictKind::TooDeep,
+    };
+    expect_refusal_at(&rt, alloc, &FileSet::from_vec(files), fault)
+}
+
+// Eight files of ten includes each would be more than eleven million lines.
+#[test]
+fn stops_at_so_many_lines(rt: HostRuntime) -> Result<(), Fail> {
+    let alloc = rt.alloc();
+    let mut files = Vec::new(alloc);
+    for place in 0..8 {
+        let line = format!(in alloc; "$INCLUDE f{}\n", place + 1)?;
+        let mut text = Vec::new(alloc);
+        for _ in 0..10 {
+            text.extend_from_slice(line.as_bytes())?;
+        }
+        let name = format!(in alloc; "f{place}")?;
+        files.push(file(alloc, name.as_bytes(), &text)?)?;
+    }
+    files.push(file(alloc, b"f8", b"\n\n\n\n\n\n\n\n\n\n")?)?;
+    let fault = DictFault {
+        file: 8,
+        line: 8,
+        kind: DictKind::TooLong,
+    };
+    expect_refusal_at(&rt, alloc, &FileSet::from_vec(files), fault)
 }
 
 #[test]

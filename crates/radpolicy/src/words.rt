@@ -232,7 +232,7 @@ mod tests {
 
     #[test]
     fn numbers_of_faults(rt: HostRuntime) {
-        let cases: [(&[&str], u8); 33] = [
+        let cases: [(&[&str], u8); 39] = [
             (&[], 1),
             (&[""], 1),
             (&["--policy", "p", "d"], 1),
@@ -240,7 +240,13 @@ mod tests {
             (&["step", "--policy", "p", "--script", "s", "d"], 1),
             (&["encode", "-S", "s", "d"], 1),
             (&["decode", "-S", "s", "d"], 1),
-            (&["check", "d"], 1),
+            (&["check", "d"], 100),
+            (&["check", "d", "x/e"], 100),
+            (&["check"], 1),
+            (&["check", "--policy", "p", "d"], 1),
+            (&["check", "-f", "r", "d"], 1),
+            (&["check", "x/d", "d"], 2),
+            (&["check", "--help"], 0),
             (&["help"], 1),
             (&["--version"], 1),
             (&["--help"], 0),
