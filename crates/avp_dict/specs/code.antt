@@ -1,6 +1,9 @@
 pub mod Entries
 pub mod Gathered
+pub mod LineReading
 pub mod Numbers
 pub mod Outcomes
+pub mod Ranges
+pub mod RequestTokens
 pub mod Shapes
 pub mod Views

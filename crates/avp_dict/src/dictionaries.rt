@@ -5,6 +5,7 @@ ghost use Rattle.avp_dict.specs.Dictionary.{dictionary_of, most_lines};
 ghost use Rattle.avp_dict.specs.Lines.{HasDistinctNames};
 ghost use Rattle.avp_dict.specs.Names.{described, described_by, name_numbered, named, number_named, unless_three, vendor_format};
 ghost use Rattle.avp_dict.specs.Outcomes.{Answers};
+ghost use Rattle.avp_dict.specs.Soundness.{IsSound};
 ghost use Rattle.avp_dict.specs.code.Entries.{entry_view};
 
 use crate::attributes::has_attr_front;
@@ -36,12 +37,13 @@ impl Model for Dictionary {
     ghost use Rattle.std.specs.Prelude.{List, ◌≡◌};
     ghost use Rattle.avp_dict.specs.declared.readings.Reading.{Reading};
     ghost use Rattle.avp_dict.specs.Counts.{notes_of};
+    ghost use Rattle.avp_dict.specs.Soundness.{IsSound};
 
     ghost Value = { List Reading };
 
     ghost view = { λ d. d.readings.items };
 
-    ghost invariant = { λ d. d.notes.items ≡ notes_of d.readings.items };
+    ghost invariant = { λ d. (d.notes.items ≡ notes_of d.readings.items) × IsSound d.readings.items };
 }
 
 fn entry_of(reading: &Reading) -> Option<Entry<'_>>
@@ -83,6 +85,14 @@ impl Dictionary {
         let readings = final_readings(alloc, files.as_slice(), MOST_LINES)?;
         let notes = gather_notes(alloc, &readings)?;
         Ok(Dictionary { readings, notes })
+    }
+
+    /// What each line was read as.
+    pub(crate) fn readings(&self) -> &[Reading]
+        ensures lines { result.now ≡ self.now }
+        ensures sound { IsSound self.now }
+    {
+        self.readings.as_slice()
     }
 
     /// What a name stands for, its letters in either case.

@@ -33,7 +33,7 @@ fn line_end(text: &[u8]) -> Option<usize>
 }
 
 /// The first line of a text, and what follows it.
-fn split_line(text: &[u8]) -> (&[u8], &[u8])
+pub fn split_line(text: &[u8]) -> (&[u8], &[u8])
     ensures line { result.0.now ≡ before_first is_line_end text.now }
     ensures rest { result.1.now ≡ after_first is_line_end text.now }
 {

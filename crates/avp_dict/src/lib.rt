@@ -1,6 +1,6 @@
 //! Dictionary files: names and ids of attributes, their types, and the names of their values.
 //!
-//! [`Dictionary::read`] reads a [`FileSet`] in the profile of FreeRADIUS 3's dictionary(5) that `docs/DICTIONARY_FILES.md` states.
+//! [`Dictionary::read`] reads a [`FileSet`] in the profile of FreeRADIUS 3's dictionary(5) that `docs/FORMATS.md` states.
 #![tactic(auto)]
 
 mod attributes;
@@ -12,6 +12,9 @@ mod faults;
 mod files;
 mod gather;
 mod keywords;
+mod laws;
+mod limits;
+mod line_faults;
 mod lines;
 mod lookups;
 mod names;
@@ -20,13 +23,24 @@ mod numbers;
 mod octets;
 mod parts;
 mod passes;
+mod printing;
+mod quotes;
 mod reader;
 mod readings;
+#[cfg(test)]
+mod request_tests;
+mod request_tokens;
+mod requests;
 mod settling;
 mod shapes;
 #[cfg(test)]
 mod tests;
 mod types;
+mod value_faults;
+mod value_octets;
+#[cfg(test)]
+mod value_tests;
+mod value_texts;
 mod values;
 mod vendors;
 mod words;
@@ -36,4 +50,8 @@ pub use entries::{Counts, Entry, Format, Named, Note};
 pub use faults::{DictFault, DictKind};
 pub use files::{FileSet, NamedFile, last_component};
 pub use gather::MOST_LINES;
+pub use line_faults::{LineFault, LineKind};
+pub use quotes::{QuoteMark, octets_between, quote};
 pub use readings::{Kind, Meaning, Reading, Typing, VendorFormat};
+pub use value_faults::ValueFault;
+pub use value_texts::is_container;

@@ -59,7 +59,7 @@ fn names_value(name: &[u8]) -> bool
     are_octets_of_word(name) && name.len() <= 128 && !is_like_number(name)
 }
 
-fn most_of_kind(kind: Kind) -> Option<u64>
+pub fn most_of_kind(kind: Kind) -> Option<u64>
     ensures { result ≡ most_of kind }
 {
     match kind {

@@ -13,7 +13,7 @@ fn comment_start(text: &[u8]) -> Option<usize>
     text.iter().position(|octet| *octet == b'#')
 }
 
-fn without_comment(text: &[u8]) -> &[u8]
+pub fn without_comment(text: &[u8]) -> &[u8]
     ensures { result.now ≡ before_first is_hash text.now }
 {
     match comment_start(text) {

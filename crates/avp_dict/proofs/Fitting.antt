@@ -1,0 +1,300 @@
+-- The pairs of a request fit the dictionary.
+use Rattle.std.proofs.Common.{◌≡◌, ℕ, ◌+◌, ◌-◌, ◌^◌, ◌<◌, ◌≤◌, suc, Bool, true, false, not, ◌&&◌, cond, List, [], ◌∷◌, Option, None, Some, Result, Ok, Err, length, get_or, refl, ◌∙◌, subst, arith, lit≤}
+use Rattle.std.specs.Prelude.{◌==◌, nat_le, IfSome, All, drop, reverse}
+use Rattle.std.specs.Int.Digits.{AllBelowBase, number_from_digits}
+use Rattle.std.specs.List.{find, list_all, slice_split}
+use Rattle.std.specs.Option.{option_and_then, option_map, option_or, unwrap_or}
+use Rattle.std.specs.Result.{result_ok}
+use Rattle.std.proofs.lemmas.Grind.{common_steps}
+use Rattle.std.proofs.lemmas.Int.Digits.{number_lt}
+use Rattle.std.proofs.lemmas.List.{get_or-reverse, length-reverse}
+use Rattle.std.proofs.lemmas.List.Sums.{AllPass-from_list_all}
+use Rattle.hex.specs.Hex.{IsBytes, decode_of}
+use Rattle.hex.specs.declared.error.FromHexError.{FromHexError}
+use Rattle.hex.proofs.HexLemmas.{decode_of-ok}
+use Rattle.avp_lists.specs.declared.attributes.AttrId.{AttrId}
+use Rattle.avp_lists.specs.declared.attributes.AttrId.TheVariants as ids
+use Rattle.avp_lists.specs.declared.attributes.Pair.{Pair}
+use Rattle.avp_lists.specs.declared.attributes.Value.{Value}
+use Rattle.avp_lists.specs.declared.attributes.Value.TheVariants as values
+use Rattle.avp_lists.specs.States.{most_pairs}
+use Rattle.avp_dict.specs.declared.entries.Named.{Named}
+use Rattle.avp_dict.specs.declared.readings.Kind.{Kind}
+use Rattle.avp_dict.specs.declared.readings.Kind.TheVariants as kinds
+use Rattle.avp_dict.specs.declared.readings.Meaning.{Meaning}
+use Rattle.avp_dict.specs.declared.readings.Meaning.TheVariants as meanings
+use Rattle.avp_dict.specs.declared.readings.Reading.{Reading}
+use Rattle.avp_dict.specs.declared.readings.Typing.{Typing}
+use Rattle.avp_dict.specs.declared.value_faults.ValueFault.TheVariants.{NotWritable, TooLong}
+use Rattle.avp_dict.specs.Attributes.{is_extended}
+use Rattle.avp_dict.specs.Definitions.{is_attribute_named, is_attribute_of, last_where}
+use Rattle.avp_dict.specs.Letters.{begins_as_attr, is_dot}
+use Rattle.avp_dict.specs.Limits.{fits, is_known, is_typed, is_within}
+use Rattle.avp_dict.specs.Names.{Described, number_named, described, described_by, extended_numbered, id_numbered, is_vendor_specific, named, named_by, plain_numbered, vendor_id_numbered}
+use Rattle.avp_dict.specs.Octets.{is_hideable, kind_described, kind_of, number_value, read_by, read_value, signed_value, value_of_octets, value_read}
+use Rattle.avp_dict.specs.RequestLines.{Assignment, assignments_of, joined}
+use Rattle.avp_dict.specs.Requests.{few_enough, pair_named, pair_spelled, pair_with, pairs_spelled, request_spelled}
+use Rattle.avp_dict.specs.Settled.{is_in_format}
+use Rattle.avp_dict.specs.Soundness.{IsSound, IsSoundLine}
+use Rattle.avp_dict.specs.Spellings.{address_spelled, bytes_spelled, ether_spelled, is_barred, number_spelled, signed_spelled, octets_spelled, octets_value, spelled, spelled_as, spelled_by, unless_long, up_to, value_spelled}
+use Rattle.avp_dict.specs.Words.{digits, is_hexadecimal, number_of}
+use Rattle.avp_dict.specs.Values.{id_named, id_of_line, typing_of_id, typing_of_line}
+
+-- ---- what a test keeps
+
+kept_by : {X : Type 0} (P : X → Type 0) (x : X) (b : Bool) → (b ≡ true → P x) → IfSome (cond b (Some x) None) P
+kept_by P x true h = h refl
+kept_by P x false h = tt
+
+then_holds : {X Y : Type 0} (P : Y → Type 0) (f : X → Option Y) → ((x : X) → IfSome (f x) P) → (o : Option X) → IfSome (option_and_then f o) P
+then_holds P f h None = tt
+then_holds P f h (Some x) = h x
+
+mapped_holds : {X Y : Type 0} (P : Y → Type 0) (f : X → Y) (o : Option X) → IfSome o (λ x. P (f x)) → IfSome (option_map f o) P
+mapped_holds P f None h = tt
+mapped_holds P f (Some x) h = h
+
+and_left : (a b : Bool) → (a && b) ≡ true → a ≡ true
+and_left true b h = refl
+and_left false b h = h
+
+and_right : (a b : Bool) → (a && b) ≡ true → b ≡ true
+and_right true b h = h
+and_right false b h = cc
+
+always : {X : Type 0} (P : X → Type 0) → ((x : X) → P x) → (o : Option X) → IfSome o P
+always P h None = tt
+always P h (Some x) = h x
+
+weaker : {X : Type 0} (P Q : X → Type 0) → ((x : X) → P x → Q x) → (o : Option X) → IfSome o P → IfSome o Q
+weaker P Q f None h = tt
+weaker P Q f (Some x) h = f x h
+
+-- ---- lines
+
+found_by : {X : Type 0} (P : X → Type 0) (x : X) (rest : Option X) (b : Bool) → P x → IfSome rest P → IfSome (cond b (Some x) rest) P
+found_by P x rest true h others = h
+found_by P x rest false h others = others
+
+found_holds : {X : Type 0} (P : X → Type 0) (test : X → Bool) (xs : List X) → ((k : ℕ) (d : X) → k < length xs → P (get_or xs k d)) → IfSome (find test xs) P
+found_holds P test [] h = tt
+found_holds P test (x ∷ xs) h = found_by P x (find test xs) (test x) (h 0 x (omega arith)) (found_holds P test xs (λ k d lt. h (suc k) d (omega arith)))
+
+last_holds : (P : Reading → Type 0) (test : Reading → Bool) (lines : List Reading) → All P lines → IfSome (last_where test lines) P
+last_holds P test lines h =
+    found_holds P test (reverse lines) (λ k d lt.
+    let within : k < length lines = omega (arith, length-reverse lines) in
+    rw (get_or-reverse lines k d within) (h (length lines - 1 - k) d (omega arith)))
+
+module _ (d : List Reading) where
+  known_line : (m : Meaning) (file line : ℕ) → IsSoundLine d (record { file = file; line = line; meaning = m }) → IfSome (id_of_line (record { file = file; line = line; meaning = m })) (λ id. is_known id d ≡ true)
+  known_line (meanings.Attribute n i t) file line h = h.known
+  known_line _ file line h = tt
+
+  known_plain : (n : Option ℕ) → IfSome (plain_numbered n) (λ id. is_known id d ≡ true)
+  unfolding is_known
+  known_plain None = tt
+  known_plain (Some n) = kept_by (λ id. is_known id d ≡ true) (ids.Plain n) (nat_le n 255) (λ _. refl)
+
+  known_extended : (t n : Option ℕ) → IfSome (extended_numbered t n) (λ id. is_known id d ≡ true)
+  unfolding is_known
+  known_extended None n = tt
+  known_extended (Some t) None = tt
+  known_extended (Some t) (Some n) =
+      kept_by (λ id. is_known id d ≡ true) (ids.Extended t n) (is_extended 0 t n) (λ h. and_left (nat_le 241 t && nat_le t 246) (nat_le 0 n) (and_left (nat_le 241 t && nat_le t 246 && nat_le 0 n) (nat_le n 255) h))
+
+  known_vendor : (v n : Option ℕ) → IfSome (vendor_id_numbered d v n) (λ id. is_known id d ≡ true)
+  unfolding is_known
+  known_vendor None n = tt
+  known_vendor (Some v) None = tt
+  known_vendor (Some v) (Some n) =
+      kept_by (λ id. is_known id d ≡ true) (ids.Vendor v n) (nat_le v 4294967295 && is_in_format v n d) (λ h. and_right (nat_le v 4294967295) (is_in_format v n d) h)
+
+  none_by : (b : Bool) (o : Option AttrId) → IfSome o (λ id. is_known id d ≡ true) → IfSome (cond b o None) (λ id. is_known id d ≡ true)
+  none_by true o h = h
+  none_by false o h = tt
+
+  known_numbered : (parts : List (List ℕ)) → IfSome (id_numbered d parts) (λ id. is_known id d ≡ true)
+  known_numbered [] = tt
+  known_numbered (n ∷ []) = known_plain (digits 10 n)
+  known_numbered (t ∷ n ∷ []) = known_extended (digits 10 t) (digits 10 n)
+  known_numbered (t ∷ v ∷ n ∷ []) = none_by (is_vendor_specific (digits 10 t)) (vendor_id_numbered d (digits 10 v) (digits 10 n)) (known_vendor (digits 10 v) (digits 10 n))
+  known_numbered (t ∷ v ∷ n ∷ m ∷ more) = tt
+
+  known_named : IsSound d → (name : List ℕ) → IfSome (named name d) (λ n. is_known n.id d ≡ true)
+  unfolding named id_named
+  known_named sound name =
+      elim (begins_as_attr name) as (λ b. IfSome (cond b (option_map (named_by true) (id_numbered d (slice_split is_dot (drop 5 name)))) (option_map (named_by false) (id_named name d))) (λ n. is_known n.id d ≡ true)) [
+        | true ↦ mapped_holds (λ n. is_known n.id d ≡ true) (named_by true) (id_numbered d (slice_split is_dot (drop 5 name))) (known_numbered (slice_split is_dot (drop 5 name)))
+        | false ↦ mapped_holds (λ n. is_known n.id d ≡ true) (named_by false) (id_named name d)
+            (lines_known (last_where (is_attribute_named name) d) (last_holds (IsSoundLine d) (is_attribute_named name) d sound))
+      ]
+    where
+      lines_known : (o : Option Reading) → IfSome o (IsSoundLine d) → IfSome (option_and_then id_of_line o) (λ id. is_known id d ≡ true)
+      lines_known None h = tt
+      lines_known (Some r) h = known_line r.meaning r.file r.line h
+
+  -- ---- values
+
+  typed_line : (r : Option Reading) → option_map kind_described (option_and_then described_by r) ≡ option_map (λ (t : Typing). t.kind) (option_and_then typing_of_line r)
+  typed_line None = refl
+  typed_line (Some r) = go r.meaning
+    where
+      go : (m : Meaning) → let line : Reading = record { file = r.file; line = r.line; meaning = m } in option_map kind_described (described_by line) ≡ option_map (λ (t : Typing). t.kind) (typing_of_line line)
+      go (meanings.Attribute n i t) = refl
+      go _ = refl
+
+  kind_of_typing : (id : AttrId) → kind_of id d ≡ option_map (λ (t : Typing). t.kind) (typing_of_id id d)
+  unfolding described typing_of_id
+  kind_of_typing id = typed_line (last_where (is_attribute_of id) d)
+
+  up_to_holds : (most : ℕ) (o : Option ℕ) → IfSome (up_to most o) (λ n. nat_le n most ≡ true)
+  up_to_holds most None = tt
+  up_to_holds most (Some n) = kept_by (λ k. nat_le k most ≡ true) n (nat_le n most) (λ h. h)
+
+  number_typed : (id : AttrId) (most : ℕ) (o : Option ℕ) → ((n : ℕ) → nat_le n most ≡ true → is_typed id (values.Int n) d ≡ true) → IfSome (option_map values.Int (up_to most o)) (λ v. is_typed id v d ≡ true)
+  number_typed id most o f =
+      mapped_holds (λ v. is_typed id v d ≡ true) values.Int (up_to most o) (weaker (λ n. nat_le n most ≡ true) (λ n. is_typed id (values.Int n) d ≡ true) f (up_to most o) (up_to_holds most o))
+
+  typed_as : (kind : Kind) (by_text : Bool) (id : AttrId) (text : List ℕ) → kind_of id d ≡ Some kind → IfSome (spelled_as kind by_text id text d) (λ v. is_typed id v d ≡ true)
+  unfolding number_spelled
+  typed_as kinds.Text by_text id text k = rw k
+  typed_as kinds.Bytes by_text id text k = mapped_holds (λ v. is_typed id v d ≡ true) values.Bytes (bytes_spelled by_text text) (always (λ os. is_typed id (values.Bytes os) d ≡ true) (λ os. rw k) (bytes_spelled by_text text))
+  typed_as kinds.Addr by_text id text k = mapped_holds (λ v. is_typed id v d ≡ true) values.Addr (address_spelled text) (always (λ os. is_typed id (values.Addr os) d ≡ true) (λ os. rw k) (address_spelled text))
+  typed_as kinds.Ether by_text id text k = mapped_holds (λ v. is_typed id v d ≡ true) values.Ether (ether_spelled text) (always (λ os. is_typed id (values.Ether os) d ≡ true) (λ os. rw k) (ether_spelled text))
+  typed_as kinds.Byte by_text id text k = number_typed id 255 (option_or (number_of text) (number_named id text d)) (λ n h. rw (k, h))
+  typed_as kinds.Short by_text id text k = number_typed id 65535 (option_or (number_of text) (number_named id text d)) (λ n h. rw (k, h))
+  typed_as kinds.Integer by_text id text k = number_typed id 4294967295 (option_or (number_of text) (number_named id text d)) (λ n h. rw (k, h))
+  typed_as kinds.Integer64 by_text id text k = number_typed id 18446744073709551615 (option_or (number_of text) (number_named id text d)) (λ n h. rw (k, h))
+  typed_as kinds.Date by_text id text k = number_typed id 4294967295 (number_of text) (λ n h. rw (k, h))
+  typed_as kinds.Signed by_text id text k = mapped_holds (λ v. is_typed id v d ≡ true) values.Signed (signed_spelled text) (always (λ z. is_typed id (values.Signed z) d ≡ true) (λ z. rw k) (signed_spelled text))
+
+  -- ---- octets
+
+  octets_below : (os : List ℕ) → IsBytes os → AllBelowBase 256 os
+  octets_below [] h = tt
+  octets_below (o ∷ os) h = (h 0, octets_below os (λ i. h (suc i)))
+
+  number_within : (os : List ℕ) (n most : ℕ) → IsBytes os → (length os == n) ≡ true → 256 ^ n ≤ most + 1 → nat_le (number_from_digits 256 os) most ≡ true
+  number_within os n most bytes long room =
+      let below = number_lt 256 os (octets_below os bytes) in
+      let same : length os ≡ n = grind (arith, common_steps) in
+      let small : number_from_digits 256 os < 256 ^ n = rw (← same) below in
+      let le : number_from_digits 256 os ≤ most = omega arith in
+      grind (arith, common_steps)
+
+  typed_read : (kind : Kind) (id : AttrId) (os : List ℕ) → kind_of id d ≡ Some kind → IsBytes os → IfSome (value_read kind os) (λ v. is_typed id v d ≡ true)
+  typed_read kinds.Text id os k bytes = rw k
+  typed_read kinds.Bytes id os k bytes = rw k
+  typed_read kinds.Addr id os k bytes = kept_by (λ v. is_typed id v d ≡ true) (values.Addr os) (length os == 4) (λ _. rw k)
+  typed_read kinds.Ether id os k bytes = kept_by (λ v. is_typed id v d ≡ true) (values.Ether os) (length os == 6) (λ _. rw k)
+  typed_read kinds.Byte id os k bytes = kept_by (λ v. is_typed id v d ≡ true) (number_value os) (length os == 1) (λ long. rw (k, number_within os 1 255 bytes long (lit≤ tt)))
+  typed_read kinds.Short id os k bytes = kept_by (λ v. is_typed id v d ≡ true) (number_value os) (length os == 2) (λ long. rw (k, number_within os 2 65535 bytes long (lit≤ tt)))
+  typed_read kinds.Integer id os k bytes = kept_by (λ v. is_typed id v d ≡ true) (number_value os) (length os == 4) (λ long. rw (k, number_within os 4 4294967295 bytes long (lit≤ tt)))
+  typed_read kinds.Date id os k bytes = kept_by (λ v. is_typed id v d ≡ true) (number_value os) (length os == 4) (λ long. rw (k, number_within os 4 4294967295 bytes long (lit≤ tt)))
+  typed_read kinds.Integer64 id os k bytes = kept_by (λ v. is_typed id v d ≡ true) (number_value os) (length os == 8) (λ long. rw (k, number_within os 8 18446744073709551615 bytes long (lit≤ tt)))
+  typed_read kinds.Signed id os k bytes = kept_by (λ v. is_typed id v d ≡ true) (signed_value os) (length os == 4) (λ _. rw k)
+
+  read_by_typed : (id : AttrId) (os : List ℕ) → IsBytes os → (o : Option Described) → described id d ≡ o → IfSome (option_and_then (read_by os) o) (λ v. is_typed id v d ≡ true)
+  read_by_typed id os bytes None e = tt
+  read_by_typed id os bytes (Some known) e =
+      elim (known.hidden && not (is_hideable os)) as (λ b. IfSome (cond b None (value_read known.kind os)) (λ v. is_typed id v d ≡ true)) [
+        | true ↦ tt
+        | false ↦ typed_read known.kind id os (rw e) bytes
+      ]
+
+  octets_typed : (id : AttrId) (os : List ℕ) → IsBytes os → is_typed id (value_of_octets id os d) d ≡ true
+  unfolding value_of_octets read_value
+  octets_typed id os bytes = go (option_and_then (read_by os) (described id d)) (read_by_typed id os bytes (described id d) refl)
+    where
+      go : (o : Option Value) → IfSome o (λ v. is_typed id v d ≡ true) → is_typed id (unwrap_or o (values.Raw os)) d ≡ true
+      go None h = refl
+      go (Some v) h = h
+
+  octets_are_bytes : (text : List ℕ) → IfSome (octets_spelled text) IsBytes
+  unfolding octets_spelled
+  octets_are_bytes text = elim (is_hexadecimal text) as (λ b. IfSome (cond b (result_ok (decode_of (drop 2 text))) None) IsBytes) [ true ↦ go (decode_of (drop 2 text)) refl | false ↦ tt ]
+    where
+      go : (r : Result (List ℕ) FromHexError) → decode_of (drop 2 text) ≡ r → IfSome (result_ok r) IsBytes
+      go (Ok os) e = (decode_of-ok (drop 2 text) os e).3
+      go (Err fault) e = tt
+
+  -- ---- texts
+
+  named_typed : (id : AttrId) (text : List ℕ) (typing : Option Typing) → typing_of_id id d ≡ typing → IfSome (option_and_then (spelled_by id text d) typing) (λ v. is_typed id v d ≡ true)
+  named_typed id text None e = tt
+  named_typed id text (Some typing) e = typed_as typing.kind typing.by_text id text (kind_of_typing id ∙ rw e)
+
+  spelled_typed : (n : Named) (text : List ℕ) → IfSome (spelled n text d) (λ v. is_typed n.id v d ≡ true)
+  unfolding spelled
+  spelled_typed n text = elim n.raw as (λ b. IfSome (cond b (option_map (octets_value n.id d) (octets_spelled text)) (option_and_then (spelled_by n.id text d) (typing_of_id n.id d))) (λ v. is_typed n.id v d ≡ true)) [
+    | true ↦ mapped_holds (λ v. is_typed n.id v d ≡ true) (octets_value n.id d) (octets_spelled text) (weaker IsBytes (λ os. is_typed n.id (value_of_octets n.id os d) d ≡ true) (octets_typed n.id) (octets_spelled text) (octets_are_bytes text))
+    | false ↦ named_typed n.id text (typing_of_id n.id d) refl
+  ]
+
+  within_by : (id : AttrId) (v : Value) (b : Bool) → is_within id v d ≡ b → is_typed id v d ≡ true → IfSome (result_ok (cond b (Ok v) (Err TooLong))) (λ x. (is_typed id x d && is_within id x d) ≡ true)
+  within_by id v true e h = rw (h, e)
+  within_by id v false e h = tt
+
+  unless_long_holds : (id : AttrId) (o : Option Value) → IfSome o (λ v. is_typed id v d ≡ true) → IfSome (result_ok (unless_long id d o)) (λ v. (is_typed id v d && is_within id v d) ≡ true)
+  unless_long_holds id None h = tt
+  unless_long_holds id (Some v) h = within_by id v (is_within id v d) refl h
+
+  value_holds : (n : Named) (text : List ℕ) → IfSome (result_ok (value_spelled n text d)) (λ v. (is_typed n.id v d && is_within n.id v d) ≡ true)
+  unfolding value_spelled
+  value_holds n text = elim (is_barred n d) as (λ b. IfSome (result_ok (cond b (Err NotWritable) (unless_long n.id d (spelled n text d)))) (λ v. (is_typed n.id v d && is_within n.id v d) ≡ true)) [
+    | true ↦ tt
+    | false ↦ unless_long_holds n.id (spelled n text d) (spelled_typed n text)
+  ]
+
+  -- ---- pairs
+
+  fits_by : (n : Named) (v : Value) → is_known n.id d ≡ true → (is_typed n.id v d && is_within n.id v d) ≡ true → fits (pair_with n v) d ≡ true
+  unfolding fits
+  fits_by n v known h =
+      let typed = and_left (is_typed n.id v d) (is_within n.id v d) h in
+      let within = and_right (is_typed n.id v d) (is_within n.id v d) h in
+      rw (known, typed, within)
+
+  named_fits : (text : List ℕ) (n : Option Named) → IfSome n (λ x. is_known x.id d ≡ true) → IfSome (option_and_then (pair_named d text) n) (λ p. fits p d ≡ true)
+  named_fits text None h = tt
+  named_fits text (Some n) h =
+      mapped_holds (λ p. fits p d ≡ true) (pair_with n) (result_ok (value_spelled n text d))
+      (weaker (λ v. (is_typed n.id v d && is_within n.id v d) ≡ true) (λ v. fits (pair_with n v) d ≡ true) (λ v. fits_by n v h) (result_ok (value_spelled n text d)) (value_holds n text))
+
+  pair_fits : IsSound d → (a : Assignment) → IfSome (pair_spelled d a) (λ p. fits p d ≡ true)
+  unfolding pair_spelled
+  pair_fits sound a = named_fits a.text (named a.name d) (known_named sound a.name)
+
+  of_found : {X : Type 0} (P : X → Type 0) (o : Option X) (x : X) → o ≡ Some x → IfSome o P → P x
+  of_found P o x e h = subst (λ found. IfSome found P) e h
+
+  -- what a text spells under a name fits
+  pub spelled_fits : IsSound d → (name text : List ℕ) (pair : Pair) → option_and_then (pair_named d text) (named name d) ≡ Some pair → fits pair d ≡ true
+  spelled_fits sound name text pair e =
+      of_found (λ p. fits p d ≡ true) (option_and_then (pair_named d text) (named name d)) pair e (named_fits text (named name d) (known_named sound name))
+
+  abbrev AreFitting : List Pair → Type 0
+  AreFitting pairs = list_all (λ pair. fits pair d) pairs ≡ true
+
+  first_fits : (pair : Option Pair) (pairs : Option (List Pair)) → IfSome pair (λ p. fits p d ≡ true) → IfSome pairs AreFitting → IfSome (joined (option_map (λ p. p ∷ []) pair) pairs) AreFitting
+  first_fits None pairs h rest = tt
+  first_fits (Some pair) None h rest = tt
+  first_fits (Some pair) (Some pairs) h rest = rw (h, rest)
+
+  pairs_fit : IsSound d → (as_ : List Assignment) → IfSome (pairs_spelled d as_) AreFitting
+  unfolding pairs_spelled
+  pairs_fit sound [] = refl
+  pairs_fit sound (a ∷ as_) = first_fits (pair_spelled d a) (pairs_spelled d as_) (pair_fits sound a) (pairs_fit sound as_)
+
+  few_fit : (pairs : Option (List Pair)) → IfSome pairs AreFitting → IfSome (option_and_then few_enough pairs) AreFitting
+  few_fit None h = tt
+  few_fit (Some pairs) h = elim (nat_le (length pairs) most_pairs) as (λ b. IfSome (cond b (Some pairs) None) AreFitting) [ true ↦ h | false ↦ tt ]
+
+  -- the pairs of a request fit
+  pub request_fits : IsSound d → (text : List ℕ) (pairs : List Pair) → request_spelled text d ≡ Some pairs → All (λ pair. fits pair d ≡ true) pairs
+  unfolding request_spelled
+  request_fits sound text pairs e =
+      let P : Option (List Pair) → Type 0 = λ o. IfSome o AreFitting in
+      let assigned = then_holds AreFitting (pairs_spelled d) (pairs_fit sound) (assignments_of text) in
+      AllPass-from_list_all (λ pair. fits pair d) pairs (subst P e (few_fit (option_and_then (pairs_spelled d) (assignments_of text)) assigned))

@@ -1,0 +1,31 @@
+use Rattle.std.proofs.Common.{◌∙◌, ap}
+use Rattle.std.proofs.lemmas.Result.{err_from_is_err_and}
+use Rattle.avp_dict.specs.declared.request_tokens.Side.TheVariants.{Name, Value}
+use Rattle.avp_dict.specs.RequestLines.{tokens_at}
+use Rattle.avp_dict.specs.code.LineReading.{pairs_at}
+use Rattle.avp_dict.proofs.PairSteps.{line_ends, many_refused, none_refused, pair_more, refuses_all, rest_refused}
+use Rattle.avp_dict.proofs.dictionaries.Dictionary.read_line.Goals as goal
+
+pub returns-in_err-pair-clause-refused : goal.returns-in_err-pair-clause-refused
+returns-in_err-pair-clause-refused c =
+    let p = err_from_is_err_and c.from_residual.result c.from_residual.ensures.1 in
+    rw (p.1, p.2) (λ other. none_refused c.args.pairs.now.items c.loop-first.pairs.items _ _ c.loop-first.invariant.read (ap (pairs_at c.args.self.now) c.in-Some.ensures.token ∙ refuses_all c.in_err-pair.field-0.0 _ c.in_err-pair.ensures.refused other))
+
+pub returns-in_err-push_pair-clause-refused : goal.returns-in_err-push_pair-clause-refused
+returns-in_err-push_pair-clause-refused c =
+    let p = err_from_is_err_and c.from_residual-in_err-push_pair.result c.from_residual-in_err-push_pair.ensures.1 in
+    rw (p.1, p.2) (λ other. many_refused c.args.pairs.now.items c.loop-first.pairs.items _ _ _ c.in_ok-pair.pair c.loop-first.invariant.read (ap (pairs_at c.args.self.now) c.in-Some.ensures.token ∙ c.in_ok-pair.ensures.read) (c.in_err-push_pair.ensures.refused other))
+
+pub returns-in_err-rest-clause-refused : goal.returns-in_err-rest-clause-refused
+returns-in_err-rest-clause-refused c =
+    let p = err_from_is_err_and c.from_residual-in_err-rest.result c.from_residual-in_err-rest.ensures.1 in
+    rw p.1 (λ other. none_refused c.args.pairs.now.items c.loop-first.pairs.items _ _ c.loop-first.invariant.read (rest_refused c.args.self.now (tokens_at Name c.loop-first.rest.now) (tokens_at Value c.in_ok-pair.after.now) c.in_ok-pair.pair (ap (pairs_at c.args.self.now) c.in-Some.ensures.token ∙ c.in_ok-pair.ensures.read) c.in_err-rest.ensures.refused))
+
+pub loop-first-preserved : goal.loop-first-preserved
+loop-first-preserved c = record {
+  read = pair_more c.args.self.now c.args.pairs.now.items c.loop-first.pairs.items _ _ (tokens_at Name c.loop-first.rest.now) (tokens_at Value c.in_ok-pair.after.now) (tokens_at Name c.in_ok-rest.rest.now) c.in_ok-pair.pair c.loop-first.invariant.read (ap (pairs_at c.args.self.now) c.in-Some.ensures.token ∙ c.in_ok-pair.ensures.read) c.in_ok-rest.ensures.read c.in_ok-push_pair.ensures.pushed;
+  few = c.in_ok-push_pair.ensures.few;
+}
+
+pub returns-clause-read : goal.returns-clause-read
+returns-clause-read c = line_ends c.args.self.now c.loop-first.pairs.items (tokens_at Name c.loop-first.rest.now) _ c.loop-first.invariant.read c.in_default.ensures.token

@@ -1,0 +1,15 @@
+use Rattle.std.proofs.Common.{◌≡◌, ◌≤◌, length}
+use Rattle.avp_lists.specs.States.{most_pairs}
+use Rattle.avp_dict.specs.declared.request_tokens.Side.TheVariants.{Name}
+use Rattle.avp_dict.specs.RequestLines.{tokens_at}
+use Rattle.avp_dict.specs.code.LineReading.{after_pairs, pairs_at}
+use Rattle.avp_dict.proofs.dictionaries.Dictionary.read_line.Given as goal
+
+abbrev pub invariant-loop-first : goal.invariant-loop-first
+invariant-loop-first l = record {
+  read : after_pairs l.pairs.items (pairs_at l.self (tokens_at Name l.rest)) ≡ after_pairs l.fn.pairs.items (pairs_at l.self (tokens_at Name l.line));
+  few : length l.pairs.items ≤ most_pairs;
+}
+
+abbrev pub decreases-loop-first : goal.decreases-loop-first
+decreases-loop-first l = length l.rest

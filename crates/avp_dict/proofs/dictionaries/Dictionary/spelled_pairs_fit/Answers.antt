@@ -1,0 +1,5 @@
+use Rattle.avp_dict.proofs.Fitting.{spelled_fits}
+use Rattle.avp_dict.proofs.dictionaries.Dictionary.spelled_pairs_fit.Goals as goal
+
+pub returns : goal.returns
+returns c = λ name text pair spelled. spelled_fits c.args.self.now c.readings-lines.ensures.sound name text pair spelled

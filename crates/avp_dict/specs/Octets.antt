@@ -1,0 +1,96 @@
+-- Which octets a value has, and which value octets stand for.
+use Rattle.std.specs.Prelude.{ℕ, ◌-◌, Bool, false, not, ◌&&◌, ◌==◌, nat_le, if◌then◌else◌, List, length, slice_get, Option, Some, None}
+use Rattle.std.specs.Option.{option_and_then, option_map, option_map_or, unwrap_or}
+use Rattle.std.specs.Int.{to_be_bytes, cast_signed, cast_unsigned, w8, w16, w32, w64}
+use Rattle.std.specs.Int.Digits.{number_from_digits}
+use Rattle.avp_lists.specs.declared.attributes.AttrId.{AttrId}
+use Rattle.avp_lists.specs.declared.attributes.Value.{Value}
+use Rattle.avp_lists.specs.declared.attributes.Value.TheVariants.{Int, Signed, Addr, Ether, Raw}
+use Rattle.avp_lists.specs.declared.attributes.Value.TheVariants as values
+use Rattle.avp_dict.specs.declared.readings.Kind.{Kind}
+use Rattle.avp_dict.specs.declared.readings.Kind.TheVariants as kinds
+use Rattle.avp_dict.specs.declared.readings.Reading.{Reading}
+use Rattle.avp_dict.specs.Names.{Described, described}
+
+abbrev pub kind_described : Described → Kind
+kind_described d = d.kind
+
+abbrev pub hidden_described : Described → Bool
+hidden_described d = d.hidden
+
+-- the type of an id's values, if a line gives one
+abbrev pub kind_of : AttrId → List Reading → Option Kind
+kind_of id lines = option_map kind_described (described id lines)
+
+-- whether an id's values are hidden (RFC 2865, section 5.2)
+abbrev pub is_hidden : AttrId → List Reading → Bool
+is_hidden id lines = option_map_or hidden_described (described id lines) false
+
+-- ---- the octets of a value
+
+-- a number's octets, in network order
+abbrev pub number_octets : Option Kind → ℕ → List ℕ
+number_octets (Some kinds.Byte) n = to_be_bytes w8 n
+number_octets (Some kinds.Short) n = to_be_bytes w16 n
+number_octets (Some kinds.Integer64) n = to_be_bytes w64 n
+number_octets _ n = to_be_bytes w32 n
+
+-- a value's octets, by the type of its id: a signed number's are those of its two's complement
+abbrev pub octets_of : Option Kind → Value → List ℕ
+octets_of kind (values.Text os) = os
+octets_of kind (values.Bytes os) = os
+octets_of kind (Int n) = number_octets kind n
+octets_of kind (Signed z) = to_be_bytes w32 (cast_unsigned w32 z)
+octets_of kind (Addr os) = os
+octets_of kind (Ether os) = os
+octets_of kind (Raw os) = os
+
+unfoldable pub octets : AttrId → Value → List Reading → List ℕ
+octets id value lines = octets_of (kind_of id lines) value
+
+-- ---- the value of octets
+
+-- the number whose digits in base 256 are the octets
+abbrev pub number_value : List ℕ → Value
+number_value os = Int (number_from_digits 256 os)
+
+abbrev pub signed_value : List ℕ → Value
+signed_value os = Signed (cast_signed w32 (number_from_digits 256 os))
+
+-- so many octets, and no other number of them
+abbrev pub of_length : ℕ → (List ℕ → Value) → List ℕ → Option Value
+of_length n value os = if length os == n then Some (value os) else None
+
+-- the value of a type with these octets
+abbrev pub value_read : Kind → List ℕ → Option Value
+value_read kinds.Text os = Some (values.Text os)
+value_read kinds.Bytes os = Some (values.Bytes os)
+value_read kinds.Addr os = of_length 4 Addr os
+value_read kinds.Ether os = of_length 6 Ether os
+value_read kinds.Byte os = of_length 1 number_value os
+value_read kinds.Short os = of_length 2 number_value os
+value_read kinds.Integer os = of_length 4 number_value os
+value_read kinds.Date os = of_length 4 number_value os
+value_read kinds.Integer64 os = of_length 8 number_value os
+value_read kinds.Signed os = of_length 4 signed_value os
+
+abbrev pub is_nul : ℕ → Bool
+is_nul o = o == 0
+
+abbrev pub ends_in_nul : List ℕ → Bool
+ends_in_nul os = option_map_or is_nul (slice_get os (length os - 1)) false
+
+-- octets that can be hidden and shown again (RFC 2865, section 5.2)
+abbrev pub is_hideable : List ℕ → Bool
+is_hideable os = nat_le (length os) 128 && not (ends_in_nul os)
+
+abbrev pub read_by : List ℕ → Described → Option Value
+read_by os d = if d.hidden && not (is_hideable os) then None else value_read d.kind os
+
+-- the value of an id's type with these octets
+unfoldable pub read_value : AttrId → List ℕ → List Reading → Option Value
+read_value id os lines = option_and_then (read_by os) (described id lines)
+
+-- the value of an id's type, and the octets as they are where the type does not read them
+unfoldable pub value_of_octets : AttrId → List ℕ → List Reading → Value
+value_of_octets id os lines = unwrap_or (read_value id os lines) (Raw os)

@@ -1,0 +1,84 @@
+-- Quoted texts: how octets are printed between double quotes, and which octets a text between quotes stands for.
+use Rattle.std.specs.Prelude.{ℕ, zero, suc, ◌+◌, ◌*◌, ◌-◌, ◌/◌, ◌%◌, Bool, ◌&&◌, ◌||◌, ◌==◌, nat_le, if◌then◌else◌, List, [], ◌∷◌, ◌++◌, length, take, drop, slice_index}
+use Rattle.std.specs.List.{flat_map}
+use Rattle.avp_dict.specs.declared.quotes.Escape.{Escape}
+use Rattle.avp_dict.specs.declared.quotes.QuoteMark.{QuoteMark}
+use Rattle.avp_dict.specs.declared.quotes.QuoteMark.TheVariants.{Double, Single}
+
+-- ---- printing
+
+-- `\` and three octal digits
+abbrev pub octal_escape : ℕ → List ℕ
+octal_escape o = 92 ∷ (48 + o / 64) ∷ (48 + o / 8 % 8) ∷ (48 + o % 8) ∷ []
+
+-- an octet between double quotes: `\"`, `\\`, `\n`, `\r`, `\t`, itself from 0x20 to 0x7e, else in octal digits
+abbrev pub quoted_octet : ℕ → List ℕ
+quoted_octet o =
+    if o == 34 then (92 ∷ 34 ∷ [])
+    else (if o == 92 then (92 ∷ 92 ∷ [])
+    else (if o == 10 then (92 ∷ 110 ∷ [])
+    else (if o == 13 then (92 ∷ 114 ∷ [])
+    else (if o == 9 then (92 ∷ 116 ∷ [])
+    else (if nat_le 32 o && nat_le o 126 then o ∷ [] else octal_escape o)))))
+
+-- octets between double quotes, with these
+unfoldable pub quoted : List ℕ → List ℕ
+quoted octets = 34 ∷ flat_map quoted_octet octets ++ 34 ∷ []
+
+-- what stands between the quotes of a quoted text
+abbrev pub between_quotes : List ℕ → List ℕ
+between_quotes text = take (length text - 2) (drop 1 text)
+
+-- ---- reading
+
+abbrev pub is_octal : ℕ → Bool
+is_octal o = nat_le 48 o && nat_le o 55
+
+-- three octal digits of at most 377
+abbrev pub begins_octal : List ℕ → Bool
+begins_octal text = is_octal (slice_index text 0) && nat_le (slice_index text 0) 51 && is_octal (slice_index text 1) && is_octal (slice_index text 2)
+
+abbrev pub octal_value : ℕ → ℕ → ℕ → ℕ
+octal_value a b c = (a - 48) * 64 + (b - 48) * 8 + (c - 48)
+
+-- the octet of `\` and a letter: `\n`, `\r`, `\t`, and `\c` is c for any other c
+abbrev pub escaped_letter : ℕ → ℕ
+escaped_letter c = if c == 110 then 10 else (if c == 114 then 13 else (if c == 116 then 9 else c))
+
+-- an octet, and how many octets after a `\` stand for it
+abbrev pub escape_by : ℕ → ℕ → Escape
+escape_by octet taken = record { octet = octet; taken = taken }
+
+-- what follows a `\` between double quotes
+abbrev pub double_escape : List ℕ → Escape
+double_escape [] = escape_by 92 0
+double_escape (c ∷ cs) =
+    if begins_octal (c ∷ cs) then escape_by (octal_value c (slice_index cs 0) (slice_index cs 1)) 3
+    else escape_by (escaped_letter c) 1
+
+-- what follows a `\` between single quotes: `\\` and `\'` alone are escapes
+abbrev pub single_escape : List ℕ → Escape
+single_escape [] = escape_by 92 0
+single_escape (c ∷ cs) = if (c == 92) || (c == 39) then escape_by c 1 else escape_by 92 0
+
+abbrev pub escape_in : QuoteMark → List ℕ → Escape
+escape_in Double text = double_escape text
+escape_in Single text = single_escape text
+
+-- the octets that a text stands for, but for so many at its front that an escape has taken
+abbrev pub unescaped : QuoteMark → ℕ → List ℕ → List ℕ
+unescaped quote taken [] = []
+unescaped quote (suc taken) (o ∷ os) = unescaped quote taken os
+unescaped quote zero (o ∷ os) =
+    if o == 92 then (escape_in quote os).octet ∷ unescaped quote (escape_in quote os).taken os
+    else o ∷ unescaped quote 0 os
+
+-- the octets that a text between quotes stands for
+unfoldable pub octets_between : QuoteMark → List ℕ → List ℕ
+octets_between quote text = unescaped quote 0 text
+
+abbrev pub double_quoted_octets : List ℕ → List ℕ
+double_quoted_octets text = octets_between Double text
+
+abbrev pub single_quoted_octets : List ℕ → List ℕ
+single_quoted_octets text = octets_between Single text

@@ -1,0 +1,56 @@
+-- Which pairs are read back as they were written, and which pairs are sent.
+use Rattle.std.specs.Prelude.{ℕ, ◌%◌, Bool, true, false, not, ◌&&◌, ◌||◌, ◌==◌, nat_le, nat_lt, if◌then◌else◌, List, length, filter}
+use Rattle.std.specs.List.{list_all}
+use Rattle.avp_lists.specs.declared.attributes.AttrId.{AttrId}
+use Rattle.avp_lists.specs.declared.attributes.AttrId.TheVariants as ids
+use Rattle.avp_lists.specs.declared.attributes.Value.{Value}
+use Rattle.avp_lists.specs.declared.attributes.Value.TheVariants.{Raw}
+use Rattle.avp_lists.specs.declared.attributes.Pair.{Pair}
+use Rattle.avp_lists.specs.Pairs.{value_eq}
+use Rattle.avp_dict.specs.declared.readings.Reading.{Reading}
+use Rattle.avp_dict.specs.Octets.{is_hidden, octets, value_of_octets}
+use Rattle.avp_dict.specs.Limits.{fits}
+
+abbrev pub is_raw : Value → Bool
+is_raw (Raw os) = true
+is_raw _ = false
+
+-- an attribute that only holds others (RFC 2865, section 5.26; RFC 6929, section 2)
+abbrev pub is_container : AttrId → Bool
+is_container (ids.Plain n) = (n == 26) || (nat_le 241 n && nat_le n 246)
+is_container _ = false
+
+-- an attribute that is never sent
+abbrev pub is_internal : AttrId → Bool
+is_internal (ids.Plain n) = nat_lt 255 n
+is_internal _ = false
+
+-- a length of hidden octets: 16, 32, .. 128 (RFC 2865, section 5.2)
+abbrev pub is_block_length : ℕ → Bool
+is_block_length n = (n % 16 == 0) && nat_le 16 n && nat_le n 128
+
+-- not what hidden octets are shown as
+abbrev pub is_shown : Value → Bool
+is_shown (Raw os) = not (is_block_length (length os))
+is_shown _ = true
+
+-- a pair that its own octets stand for
+unfoldable pub is_canonical : Pair → List Reading → Bool
+is_canonical pair lines = fits pair lines
+    && (if is_hidden pair.id lines then is_shown pair.value else value_eq pair.value (value_of_octets pair.id (octets pair.id pair.value lines) lines))
+
+abbrev pub is_clean_pair : List Reading → Pair → Bool
+is_clean_pair lines pair = is_canonical pair lines && not (is_container pair.id)
+
+-- a list that is read back as it was written
+unfoldable pub is_clean : List Pair → List Reading → Bool
+is_clean pairs lines = list_all (is_clean_pair lines) pairs
+
+-- a pair that is not internal, and has octets or hides that it has none
+abbrev pub is_sent : List Reading → Pair → Bool
+is_sent lines pair = not (is_internal pair.id)
+    && (not (length (octets pair.id pair.value lines) == 0) || (is_hidden pair.id lines && not (is_raw pair.value)))
+
+-- the pairs that are sent
+unfoldable pub sent : List Pair → List Reading → List Pair
+sent pairs lines = filter (is_sent lines) pairs

@@ -1,0 +1,12 @@
+-- What texts spell under the names of a dictionary fits it.
+use Rattle.std.specs.Prelude.{◌≡◌, ℕ, IsTrue, List, Some}
+use Rattle.std.specs.Option.{option_and_then}
+use Rattle.avp_lists.specs.declared.attributes.Pair.{Pair}
+use Rattle.avp_dict.specs.declared.readings.Reading.{Reading}
+use Rattle.avp_dict.specs.Limits.{fits}
+use Rattle.avp_dict.specs.Names.{named}
+use Rattle.avp_dict.specs.Requests.{pair_named}
+
+-- the pair of a name and a text that stands for a value under it fits
+abbrev pub SpelledPairsFit : List Reading → Type 0
+SpelledPairsFit lines = (name text : List ℕ) (pair : Pair) → option_and_then (pair_named lines text) (named name lines) ≡ Some pair → IsTrue (fits pair lines)

@@ -1,0 +1,134 @@
+-- Which value a text stands for under a name.
+use Rattle.std.specs.Prelude.{◌≡◌, ℕ, pos, neg_ℤ, ℤ, Bool, not, ◌&&◌, ◌||◌, ◌==◌, nat_le, if◌then◌else◌, List, [], ◌∷◌, drop, length, slice_index, Option, Some, None, Result, Ok, Err}
+use Rattle.std.specs.Option.{option_and_then, option_map, option_or}
+use Rattle.std.specs.Result.{result_ok}
+use Rattle.std.specs.List.{slice_split}
+use Rattle.hex.specs.Hex.{decode_of}
+use Rattle.avp_lists.specs.declared.attributes.AttrId.{AttrId}
+use Rattle.avp_lists.specs.declared.attributes.Value.{Value}
+use Rattle.avp_lists.specs.declared.attributes.Value.TheVariants.{Int, Signed, Addr, Ether}
+use Rattle.avp_lists.specs.declared.attributes.Value.TheVariants as values
+use Rattle.avp_dict.specs.declared.entries.Named.{Named}
+use Rattle.avp_dict.specs.declared.readings.Kind.{Kind}
+use Rattle.avp_dict.specs.declared.readings.Kind.TheVariants as kinds
+use Rattle.avp_dict.specs.declared.readings.Reading.{Reading}
+use Rattle.avp_dict.specs.declared.readings.Typing.{Typing}
+use Rattle.avp_dict.specs.declared.value_faults.ValueFault.{ValueFault}
+use Rattle.avp_dict.specs.declared.value_faults.ValueFault.TheVariants.{NotWritable, NotValue, TooLong, Memory}
+use Rattle.avp_dict.specs.Letters.{is_dot}
+use Rattle.avp_dict.specs.Limits.{is_within}
+use Rattle.avp_dict.specs.Names.{number_named}
+use Rattle.avp_dict.specs.Octets.{is_hidden, value_of_octets}
+use Rattle.avp_dict.specs.Sent.{is_container}
+use Rattle.avp_dict.specs.Values.{typing_of_id}
+use Rattle.avp_dict.specs.Words.{digits, is_hexadecimal, number_of}
+
+-- ---- octets
+
+-- 0x and pairs of hexadecimal digits
+unfoldable pub octets_spelled : List ℕ → Option (List ℕ)
+octets_spelled text = if is_hexadecimal text then result_ok (decode_of (drop 2 text)) else None
+
+-- a text that does not begin with 0x stands for its own octets, where the type word allows it
+unfoldable pub bytes_spelled : Bool → List ℕ → Option (List ℕ)
+bytes_spelled by_text text = if by_text && not (is_hexadecimal text) then Some text else octets_spelled text
+
+-- ---- numbers
+
+-- a number that is not above the greatest one
+abbrev pub up_to : ℕ → Option ℕ → Option ℕ
+up_to most None = None
+up_to most (Some n) = if nat_le n most then Some n else None
+
+-- a number, or a name that VALUE lines give to one
+unfoldable pub number_spelled : ℕ → AttrId → List ℕ → List Reading → Option ℕ
+number_spelled most id text lines = up_to most (option_or (number_of text) (number_named id text lines))
+
+abbrev pub negated : ℕ → ℤ
+negated n = neg_ℤ (pos n)
+
+-- '-'
+abbrev pub is_negative : List ℕ → Bool
+is_negative text = slice_index text 0 == 45
+
+-- decimal digits, or '-' and decimal digits, of a number of 32 bits
+unfoldable pub signed_spelled : List ℕ → Option ℤ
+signed_spelled text = if is_negative text then option_map negated (up_to 2147483648 (digits 10 (drop 1 text)))
+    else option_map pos (up_to 2147483647 (digits 10 text))
+
+-- ---- addresses
+
+-- the numbers of the parts, where each has one
+unfoldable pub each_number : (List ℕ → Option ℕ) → List (List ℕ) → Option (List ℕ)
+each_number number [] = Some []
+each_number number (part ∷ parts) = option_and_then (λ n. option_map (λ ns. n ∷ ns) (each_number number parts)) (number part)
+
+-- so many parts
+abbrev pub in_parts : ℕ → (List ℕ → Option ℕ) → List (List ℕ) → Option (List ℕ)
+in_parts n number parts = if length parts == n then each_number number parts else None
+
+-- one to three decimal digits of a number up to 255
+unfoldable pub decimal_octet : List ℕ → Option ℕ
+decimal_octet part = if nat_le (length part) 3 then up_to 255 (digits 10 part) else None
+
+-- two hexadecimal digits
+unfoldable pub digit_pair : List ℕ → Option ℕ
+digit_pair part = if length part == 2 then digits 16 part else None
+
+abbrev pub is_colon : ℕ → Bool
+is_colon o = o == 58
+
+-- four decimal octets, with dots between
+abbrev pub address_spelled : List ℕ → Option (List ℕ)
+address_spelled text = in_parts 4 decimal_octet (slice_split is_dot text)
+
+-- six pairs of hexadecimal digits, with colons between
+abbrev pub ether_spelled : List ℕ → Option (List ℕ)
+ether_spelled text = in_parts 6 digit_pair (slice_split is_colon text)
+
+-- ---- values
+
+-- a text under a name of an ATTRIBUTE line, by the type; by_text says whether the line's own type word is string or octets
+abbrev pub spelled_as : Kind → Bool → AttrId → List ℕ → List Reading → Option Value
+spelled_as kinds.Text by_text id text lines = Some (values.Text text)
+spelled_as kinds.Bytes by_text id text lines = option_map values.Bytes (bytes_spelled by_text text)
+spelled_as kinds.Addr by_text id text lines = option_map Addr (address_spelled text)
+spelled_as kinds.Ether by_text id text lines = option_map Ether (ether_spelled text)
+spelled_as kinds.Byte by_text id text lines = option_map Int (number_spelled 255 id text lines)
+spelled_as kinds.Short by_text id text lines = option_map Int (number_spelled 65535 id text lines)
+spelled_as kinds.Integer by_text id text lines = option_map Int (number_spelled 4294967295 id text lines)
+spelled_as kinds.Integer64 by_text id text lines = option_map Int (number_spelled 18446744073709551615 id text lines)
+spelled_as kinds.Date by_text id text lines = option_map Int (up_to 4294967295 (number_of text))
+spelled_as kinds.Signed by_text id text lines = option_map Signed (signed_spelled text)
+
+abbrev pub spelled_by : AttrId → List ℕ → List Reading → Typing → Option Value
+spelled_by id text lines typing = spelled_as typing.kind typing.by_text id text lines
+
+-- under a name by number the octets alone are written, and read by the type of the id
+abbrev pub octets_value : AttrId → List Reading → List ℕ → Value
+octets_value id lines os = value_of_octets id os lines
+
+-- the value that a text stands for, its length aside
+unfoldable pub spelled : Named → List ℕ → List Reading → Option Value
+spelled name text lines = if name.raw then option_map (octets_value name.id lines) (octets_spelled text)
+    else option_and_then (spelled_by name.id text lines) (typing_of_id name.id lines)
+
+-- ---- refusals
+
+-- no value is written under this name: the attribute only holds others, or it is hidden and named by number
+abbrev pub is_barred : Named → List Reading → Bool
+is_barred name lines = is_container name.id || (name.raw && is_hidden name.id lines)
+
+abbrev pub unless_long : AttrId → List Reading → Option Value → Result Value ValueFault
+unless_long id lines None = Err NotValue
+unless_long id lines (Some value) = if is_within id value lines then Ok value else Err TooLong
+
+-- the value of a text under a name, or the first reason that there is none
+unfoldable pub value_spelled : Named → List ℕ → List Reading → Result Value ValueFault
+value_spelled name text lines = if is_barred name lines then Err NotWritable else unless_long name.id lines (spelled name text lines)
+
+-- a value, and a fault other than want of memory, is the one that the definition gives
+abbrev pub AnswersValue : Result Value ValueFault → Result Value ValueFault → Type 0
+AnswersValue (Ok value) spelling = spelling ≡ Ok value
+AnswersValue (Err Memory) spelling = Unit {0}
+AnswersValue (Err fault) spelling = spelling ≡ Err fault

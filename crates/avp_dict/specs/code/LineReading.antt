@@ -1,0 +1,57 @@
+-- What the readers of request lines answer with, and what they are to find.
+use Rattle.std.specs.Prelude.{◌≡◌, ℕ, List, [], ◌∷◌, Option, Some, None, Result, Ok, Err}
+use Rattle.std.specs.Option.{option_and_then}
+use Rattle.avp_lists.specs.declared.attributes.Pair.{Pair}
+use Rattle.avp_dict.specs.declared.entries.Named.{Named}
+use Rattle.avp_dict.specs.declared.line_faults.LineKind.{LineKind}
+use Rattle.avp_dict.specs.declared.line_faults.LineKind.TheVariants as kinds
+use Rattle.avp_dict.specs.declared.readings.Reading.{Reading}
+use Rattle.avp_dict.specs.declared.value_faults.ValueFault.{ValueFault}
+use Rattle.avp_dict.specs.declared.value_faults.ValueFault.TheVariants as faults
+use Rattle.avp_dict.specs.RequestLines.{Assignment, Token, Comma, joined, packet_assignments, pairs_of, value_text}
+use Rattle.avp_dict.specs.Requests.{few_enough, pair_named, pairs_spelled}
+
+-- the fault of a line whose value has this one
+abbrev pub line_kind : ValueFault → LineKind
+line_kind faults.NotWritable = kinds.NotWritable
+line_kind faults.NotValue = kinds.NotValue
+line_kind faults.TooLong = kinds.TooLong
+line_kind faults.Memory = kinds.Memory
+
+-- a fault other than want of memory stands only where nothing is spelled
+abbrev pub RefusesLine : {A : Type 0} → LineKind → Option A → Type 0
+RefusesLine kinds.Memory read = Unit {0}
+RefusesLine _ read = read ≡ None
+
+abbrev pub ReadsLine : {A : Type 0} → Result A LineKind → Option A → Type 0
+ReadsLine (Ok x) read = read ≡ Some x
+ReadsLine (Err kind) read = RefusesLine kind read
+
+-- the pair of a name and the token of its value
+abbrev pub pair_of_token : List Reading → Named → Token → Option Pair
+pair_of_token lines name token = option_and_then (λ text. pair_named lines text name) (value_text token)
+
+-- what is assigned after a pair
+abbrev pub assigned_after : List Token → Option (List Assignment)
+assigned_after [] = Some []
+assigned_after (Comma ∷ tokens) = pairs_of tokens
+assigned_after _ = None
+
+-- the pairs that tokens spell, and those that tokens after a pair do
+unfoldable pub pairs_at : List Reading → List Token → Option (List Pair)
+pairs_at lines tokens = option_and_then (pairs_spelled lines) (pairs_of tokens)
+
+unfoldable pub pairs_after : List Reading → List Token → Option (List Pair)
+pairs_after lines tokens = option_and_then (pairs_spelled lines) (assigned_after tokens)
+
+-- the pairs that the lines of a packet spell
+unfoldable pub packet_pairs : List Reading → List (List ℕ) → Option (List Pair)
+packet_pairs lines texts = option_and_then (pairs_spelled lines) (packet_assignments texts)
+
+-- pairs that were read, before others
+unfoldable pub after_pairs : List Pair → Option (List Pair) → Option (List Pair)
+after_pairs front others = joined (Some front) others
+
+-- these pairs and those here are no request, whatever follows
+unfoldable pub IsRefused : List Pair → Option (List Pair) → Type 0
+IsRefused pairs here = (more : Option (List Pair)) → option_and_then few_enough (joined (after_pairs pairs here) more) ≡ None

@@ -1,0 +1,31 @@
+-- What the code's tokens stand for.
+use Rattle.std.specs.Prelude.{ℕ, Bool, false, ◌||◌, ◌==◌, List, [], ◌∷◌}
+use Rattle.avp_dict.specs.declared.request_tokens.Side.{Side}
+use Rattle.avp_dict.specs.declared.request_tokens.Side.TheVariants.{Name, Value}
+use Rattle.avp_dict.specs.declared.request_tokens.Token.{Token as CodeToken}
+use Rattle.avp_dict.specs.declared.request_tokens.Token.TheVariants as code
+use Rattle.avp_dict.specs.Letters.{is_comma}
+use Rattle.avp_dict.specs.RequestLines.{Token, Comma, Sign, Run, Quoted, Unended, is_sign}
+use Rattle.avp_dict.specs.Words.{is_blank, is_hash}
+
+-- a token without where it lies in memory
+abbrev pub token_view : CodeToken → Token
+token_view code.Comma = Comma
+token_view code.Sign = Sign
+token_view (code.Run octets) = Run octets.now
+token_view (code.Quoted mark text) = Quoted mark text.now
+token_view code.Unended = Unended
+
+-- the side on which the next token stands
+abbrev pub side_after : Side → CodeToken → Side
+side_after side code.Comma = Name
+side_after side (code.Run octets) = side
+side_after side _ = Value
+
+abbrev pub begins_blank : List ℕ → Bool
+begins_blank [] = false
+begins_blank (o ∷ os) = is_blank o
+
+-- what ends a run
+abbrev pub ends_run : Side → ℕ → Bool
+ends_run side o = is_hash o || is_blank o || is_comma o || (o == 34) || (o == 39) || is_sign side o

@@ -1,0 +1,70 @@
+//! Laws of every dictionary, as calls that do nothing: their contracts are what they are for.
+
+ghost use Rattle.std.specs.Prelude.{◌≡◌, length, IfOk, IfErr, IsTrue};
+ghost use Rattle.avp_dict.specs.Limits.{fits};
+ghost use Rattle.avp_dict.specs.Quotes.{between_quotes, double_quoted_octets};
+ghost use Rattle.avp_dict.specs.ReadingBack.{ReadsBack, is_writable, unquoted};
+ghost use Rattle.avp_dict.specs.Soundness.{IsSound};
+ghost use Rattle.avp_dict.specs.SpelledPairs.{SpelledPairsFit};
+ghost use Rattle.avp_dict.specs.code.Ranges.{AreOctets, IsIdInRange, IsValueInRange};
+
+use crate::dictionaries::Dictionary;
+use avp_lists::{AttrId, Pair, Value};
+
+// What the type of an id keeps its numbers within.
+fn id_in_range(id: AttrId)
+    ensures { IsIdInRange id }
+{
+    match id {
+        AttrId::Plain(_) => {}
+        AttrId::Vendor(_, _) => {}
+        AttrId::Extended(_, _) => {}
+    }
+}
+
+fn octets_in_range(octets: &[u8])
+    ensures { AreOctets octets.now }
+{}
+
+fn four(address: &[u8; 4])
+    ensures { length address.now ≡ 4 }
+{}
+
+// What the type of a value keeps its numbers within.
+fn value_in_range(value: &Value)
+    ensures { IsValueInRange value.now }
+{
+    match value {
+        Value::Text(octets) => octets_in_range(octets.as_slice()),
+        Value::Bytes(octets) => octets_in_range(octets.as_slice()),
+        Value::Int(number) => {
+            let _number = *number;
+        }
+        Value::Signed(number) => {
+            let _number = *number;
+        }
+        Value::Addr(address) => octets_in_range(address),
+        Value::Ether(address) => octets_in_range(address),
+        Value::Raw(octets) => octets_in_range(octets.as_slice()),
+    }
+}
+
+impl Dictionary {
+    /// What is printed for a pair is read back: the printed name names the attribute, and the printed text, a string's
+    /// between its quotes, stands for the value.
+    pub fn printed_back(&self, pair: &Pair)
+        requires { IsTrue (is_writable pair.now self.now) }
+        ensures { ReadsBack pair.now self.now }
+    {
+        let _lines = self.readings();
+        id_in_range(pair.id);
+        value_in_range(&pair.value);
+    }
+
+    /// The pair of a name and a text that stands for a value under it fits.
+    pub fn spelled_pairs_fit(&self)
+        ensures { SpelledPairsFit self.now }
+    {
+        let _lines = self.readings();
+    }
+}

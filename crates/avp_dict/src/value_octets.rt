@@ -1,0 +1,218 @@
+//! Octets of values.
+
+ghost use Rattle.std.specs.Prelude.{◌≡◌, IfOk, IsTrue};
+ghost use Rattle.std.specs.Option.{option_map};
+ghost use Rattle.avp_dict.specs.Limits.{fits};
+ghost use Rattle.avp_dict.specs.Octets.{ends_in_nul, is_hidden, is_hideable, kind_of, number_octets, number_value, octets, octets_of, of_length, read_by, read_value, signed_value, value_of_octets, value_read};
+
+use crate::dictionaries::Dictionary;
+use crate::octets::copy_of;
+use crate::readings::Kind;
+use avp_lists::{AttrId, Value};
+use std::alloc::{AllocError, Global};
+
+/// The most octets of a hidden value (RFC 2865, section 5.2).
+pub(crate) const MOST_HIDDEN_OCTETS: usize = 128;
+
+// A number's octets, the highest first: those of 64 bits without the first ones.
+fn octets_of_number(alloc: Global, kind: Option<Kind>, number: u64) -> Result<Vec<u8>, AllocError>
+    ensures { IfOk result (λ octets. octets.items ≡ number_octets kind number) }
+{
+    let octets = number.to_be_bytes();
+    match kind {
+        Some(Kind::Byte) => Vec::from_slice(alloc, &octets[7..]),
+        Some(Kind::Short) => Vec::from_slice(alloc, &octets[6..]),
+        Some(Kind::Integer64) => Vec::from_slice(alloc, &octets),
+        _ => Vec::from_slice(alloc, &octets[4..]),
+    }
+}
+
+pub(crate) fn octets_by_kind(
+    alloc: Global,
+    kind: Option<Kind>,
+    value: &Value,
+) -> Result<Vec<u8>, AllocError>
+    ensures { IfOk result (λ octets. octets.items ≡ octets_of kind value.now) }
+{
+    match value {
+        Value::Text(octets) => Vec::from_slice(alloc, octets.as_slice()),
+        Value::Bytes(octets) => Vec::from_slice(alloc, octets.as_slice()),
+        Value::Int(number) => octets_of_number(alloc, kind, *number),
+        Value::Signed(number) => Vec::from_slice(alloc, &number.cast_unsigned().to_be_bytes()),
+        Value::Addr(address) => Vec::from_slice(alloc, address),
+        Value::Ether(address) => Vec::from_slice(alloc, address),
+        Value::Raw(octets) => Vec::from_slice(alloc, octets.as_slice()),
+    }
+}
+
+fn read_address(octets: &[u8]) -> Option<Value>
+    ensures { result ≡ of_length 4 Value.Addr octets.now }
+{
+    match octets {
+        [a, b, c, d] => Some(Value::Addr([*a, *b, *c, *d])),
+        _ => None,
+    }
+}
+
+fn read_ether(octets: &[u8]) -> Option<Value>
+    ensures { result ≡ of_length 6 Value.Ether octets.now }
+{
+    match octets {
+        [a, b, c, d, e, f] => Some(Value::Ether([*a, *b, *c, *d, *e, *f])),
+        _ => None,
+    }
+}
+
+fn read_byte(octets: &[u8]) -> Option<Value>
+    ensures { result ≡ of_length 1 number_value octets.now }
+{
+    match octets {
+        [a] => Some(Value::Int(u64::from(*a))),
+        _ => None,
+    }
+}
+
+fn read_short(octets: &[u8]) -> Option<Value>
+    ensures { result ≡ of_length 2 number_value octets.now }
+{
+    match octets {
+        [a, b] => Some(Value::Int(u64::from(u16::from_be_bytes([*a, *b])))),
+        _ => None,
+    }
+}
+
+fn read_integer(octets: &[u8]) -> Option<Value>
+    ensures { result ≡ of_length 4 number_value octets.now }
+{
+    match octets {
+        [a, b, c, d] => Some(Value::Int(u64::from(u32::from_be_bytes([*a, *b, *c, *d])))),
+        _ => None,
+    }
+}
+
+fn read_integer64(octets: &[u8]) -> Option<Value>
+    ensures { result ≡ of_length 8 number_value octets.now }
+{
+    match octets {
+        [a, b, c, d, e, f, g, h] => Some(Value::Int(u64::from_be_bytes([
+            *a, *b, *c, *d, *e, *f, *g, *h,
+        ]))),
+        _ => None,
+    }
+}
+
+fn read_signed(octets: &[u8]) -> Option<Value>
+    ensures { result ≡ of_length 4 signed_value octets.now }
+{
+    match octets {
+        [a, b, c, d] => Some(Value::Signed(u32::from_be_bytes([*a, *b, *c, *d]).cast_signed())),
+        _ => None,
+    }
+}
+
+fn read_by_kind(alloc: Global, kind: Kind, octets: &[u8]) -> Result<Option<Value>, AllocError>
+    ensures { IfOk result (λ value. value ≡ value_read kind octets.now) }
+{
+    match kind {
+        Kind::Text => Ok(Some(Value::Text(copy_of(alloc, octets)?))),
+        Kind::Bytes => Ok(Some(Value::Bytes(copy_of(alloc, octets)?))),
+        Kind::Addr => Ok(read_address(octets)),
+        Kind::Ether => Ok(read_ether(octets)),
+        Kind::Byte => Ok(read_byte(octets)),
+        Kind::Short => Ok(read_short(octets)),
+        Kind::Integer => Ok(read_integer(octets)),
+        Kind::Date => Ok(read_integer(octets)),
+        Kind::Integer64 => Ok(read_integer64(octets)),
+        Kind::Signed => Ok(read_signed(octets)),
+    }
+}
+
+pub(crate) fn is_last_nul(octets: &[u8]) -> bool
+    ensures { result ≡ ends_in_nul octets.now }
+{
+    match octets.last() {
+        Some(octet) => *octet == 0,
+        None => false,
+    }
+}
+
+fn can_be_hidden(octets: &[u8]) -> bool
+    ensures { result ≡ is_hideable octets.now }
+{
+    octets.len() <= MOST_HIDDEN_OCTETS && !is_last_nul(octets)
+}
+
+impl Dictionary {
+    /// The type of an id's values, by its last ATTRIBUTE line.
+    pub(crate) fn kind(&self, id: AttrId) -> Option<Kind>
+        ensures { result ≡ kind_of id self.now }
+    {
+        match self.by_id(id) {
+            Some(entry) => Some(entry.kind),
+            None => None,
+        }
+    }
+
+    /// Whether an id's values are hidden.
+    pub(crate) fn is_hidden(&self, id: AttrId) -> bool
+        ensures { result ≡ is_hidden id self.now }
+    {
+        match self.by_id(id) {
+            Some(entry) => entry.hidden,
+            None => false,
+        }
+    }
+
+    /// The octets of a value, numbers in network order.
+    #[tactic(auto, unfolding(crate::specs::Octets::octets))]
+    pub fn bytes_of_value(
+        &self,
+        alloc: Global,
+        id: AttrId,
+        value: &Value,
+    ) -> Result<Vec<u8>, AllocError>
+        requires { IsTrue (fits (record { id = id; value = value.now }) self.now) }
+        ensures { IfOk result (λ bytes. bytes.items ≡ octets id value.now self.now) }
+    {
+        octets_by_kind(alloc, self.kind(id), value)
+    }
+
+    // The value of the id's type with these octets.
+    #[tactic(auto, unfolding(crate::specs::Octets::read_value))]
+    fn read_octets(
+        &self,
+        alloc: Global,
+        id: AttrId,
+        octets: &[u8],
+    ) -> Result<Option<Value>, AllocError>
+        ensures { IfOk result (λ value. value ≡ read_value id octets.now self.now) }
+    {
+        match self.by_id(id) {
+            Some(entry) => {
+                if entry.hidden && !can_be_hidden(octets) {
+                    Ok(None)
+                } else {
+                    read_by_kind(alloc, entry.kind, octets)
+                }
+            }
+            None => Ok(None),
+        }
+    }
+
+    /// The value of the id's type with these octets, numbers in network order; [`Value::Raw`] where the type doesn't
+    /// read them, and where the id has no ATTRIBUTE line.
+    #[tactic(auto, unfolding(crate::specs::Octets::value_of_octets))]
+    pub fn value_of_bytes(
+        &self,
+        alloc: Global,
+        id: AttrId,
+        octets: &[u8],
+    ) -> Result<Value, AllocError>
+        ensures { IfOk result (λ value. value ≡ value_of_octets id octets.now self.now) }
+    {
+        match self.read_octets(alloc, id, octets)? {
+            Some(value) => Ok(value),
+            None => Ok(Value::Raw(copy_of(alloc, octets)?)),
+        }
+    }
+}
