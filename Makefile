@@ -9,7 +9,7 @@ PROGRAM = crates/radpolicy_cli/out/radpolicy_cli
 .PHONY: run build test install
 
 run: build
-	@scripts/show-example $(PROGRAM) examples/session-limit
+	@scripts/show-example $(PROGRAM) examples/access-request
 
 # The kit proves a program, links it and runs it; here it shows its help.
 build:

@@ -1,5 +1,6 @@
 //! Checks of dictionary files.
 
+use crate::data::TEST_DICTIONARY;
 use crate::program::{Source, expect_fault, expect_output};
 use std::alloc::Global;
 use std::process::Abort;
@@ -68,33 +69,6 @@ fn counts_the_test_dictionary(rt: HostRuntime) -> Result<(), Fail> {
     let wanted = b"files 1\nattributes 18\nvalues 4\nvendors 1\nnotes 0\n";
     expect_output(&rt, rt.alloc(), &CHECK, &[("d", TEST_DICTIONARY)], wanted)
 }
-
-const TEST_DICTIONARY: &[u8] = b"ATTRIBUTE User-Name 1 string
-ATTRIBUTE User-Password 2 string encrypt=1
-ATTRIBUTE NAS-IP-Address 4 ipaddr
-ATTRIBUTE NAS-Port 5 integer
-ATTRIBUTE Service-Type 6 integer
-ATTRIBUTE Login-IP-Host 14 ipaddr
-ATTRIBUTE Login-Service 15 integer
-ATTRIBUTE Reply-Message 18 string
-ATTRIBUTE Class 25 octets
-ATTRIBUTE Vendor-Specific 26 octets
-ATTRIBUTE Session-Timeout 27 integer
-ATTRIBUTE Proxy-State 33 octets
-ATTRIBUTE Acct-Status-Type 40 integer
-ATTRIBUTE Acct-Session-Id 44 string
-ATTRIBUTE Test-Ext 241.1 integer
-ATTRIBUTE Test-Long 245.1 octets
-ATTRIBUTE Tmp-Number 1000 integer
-VALUE Service-Type Login-User 1
-VALUE Login-Service Telnet 0
-VALUE Acct-Status-Type Start 1
-VALUE Acct-Status-Type Stop 2
-VENDOR Cisco 9
-BEGIN-VENDOR Cisco
-ATTRIBUTE Cisco-AVPair 1 string
-END-VENDOR Cisco
-";
 
 #[test]
 fn refuses_lines_with_their_place(rt: HostRuntime) -> Result<(), Fail> {

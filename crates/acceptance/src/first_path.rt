@@ -149,7 +149,7 @@ fn refuses_in_order_with_its_place(rt: HostRuntime) -> Result<(), Fail> {
         expect_refusal(&rt, alloc, request, policy, wanted)?;
     }
     let sources = [
-        ("x/d", b"# only this\n\nATTRIBUTE A 1 string".as_slice()),
+        ("x/d", b"# only this\n\nATTRIBUTE A x string".as_slice()),
         ("p", b"nonsense".as_slice()),
     ];
     let words = ["radpolicy", "run", "--policy", "p", "x/d"];

@@ -2,8 +2,12 @@
 #![tactic(auto)]
 
 #[cfg(test)]
+mod data;
+#[cfg(test)]
 mod dictionaries;
 #[cfg(test)]
 mod first_path;
 #[cfg(test)]
 mod program;
+#[cfg(test)]
+mod values;

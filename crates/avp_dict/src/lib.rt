@@ -1,6 +1,9 @@
-//! Dictionary files: names and ids of attributes, their types, and the names of their values.
+//! Dictionary files: names and ids of attributes, their types, and the names of their values; values and their texts;
+//! request lines.
 //!
-//! [`Dictionary::read`] reads a [`FileSet`] in the profile of FreeRADIUS 3's dictionary(5) that `docs/FORMATS.md` states.
+//! [`Dictionary::read`] reads a [`FileSet`] in the profile of FreeRADIUS 3's dictionary(5) that `docs/FORMATS.md` states,
+//! and a [`Dictionary`] reads and prints values ([`value_of_text`](Dictionary::value_of_text),
+//! [`text_of_value`](Dictionary::text_of_value)) and reads requests ([`read_request`](Dictionary::read_request)).
 #![tactic(auto)]
 
 mod attributes;

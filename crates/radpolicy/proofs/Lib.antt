@@ -1,11 +1,11 @@
 pub mod Determined
-pub mod Digits
 pub mod DistinctFiles
-pub mod FirstLines
+pub mod FittingLines
+pub mod FittingRuns
 pub mod Names
+pub mod NoValues
 pub mod OneReport
 pub mod Refusals
-pub mod RequestSteps
 pub mod Room
 pub mod Runs
 pub mod Single

@@ -4,9 +4,9 @@ use Rattle.avp_dict.specs.declared.files.NamedFile.{NamedFile}
 use Rattle.avp_dict.specs.declared.faults.DictKind.{DictKind}
 use Rattle.avp_dict.specs.declared.faults.DictKind.TheVariants as dict
 use Rattle.avp_dict.specs.declared.faults.DictFault.{DictFault}
-use Rattle.radpolicy.specs.declared.faults.LineKind.{LineKind}
-use Rattle.radpolicy.specs.declared.faults.LineKind.TheVariants as line
-use Rattle.radpolicy.specs.declared.faults.LineFault.{LineFault}
+use Rattle.avp_dict.specs.declared.line_faults.LineKind.{LineKind}
+use Rattle.avp_dict.specs.declared.line_faults.LineKind.TheVariants as line
+use Rattle.avp_dict.specs.declared.line_faults.LineFault.{LineFault}
 use Rattle.radpolicy.specs.declared.faults.PacketFault.{PacketFault}
 use Rattle.radpolicy.specs.declared.faults.PacketFault.TheVariants as packet
 use Rattle.radpolicy.specs.declared.faults.PolicyKind.{PolicyKind}

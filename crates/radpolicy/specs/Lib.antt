@@ -1,14 +1,11 @@
-pub mod EmptyDictionaries
 pub mod Faults
+pub mod Fitting
 pub mod Forms
 pub mod JobReports
-pub mod Lines
-pub mod Literals
 pub mod Places
 pub mod Plans
 pub mod PolicyTexts
 pub mod Reports
-pub mod RequestTexts
 pub mod Tokens
 pub mod Updates
 pub mod Writing

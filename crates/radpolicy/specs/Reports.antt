@@ -1,50 +1,31 @@
 -- The texts of reports: lists and results of runs, counts and notes of dictionaries.
 use Rattle.std.specs.Prelude.{ℕ, Bool, false, ◌++◌, List, [], None, Some, length, codes, decimal, if◌then◌else◌}
 use Rattle.std.specs.List.{flat_map}
-use Rattle.hex.specs.Hex.{encode_lower}
-use Rattle.avp_lists.specs.declared.attributes.AttrId.{AttrId}
-use Rattle.avp_lists.specs.declared.attributes.AttrId.TheVariants.{Extended, Plain, Vendor}
 use Rattle.avp_lists.specs.declared.attributes.Pair.{Pair}
-use Rattle.avp_lists.specs.declared.attributes.Value.{Value}
-use Rattle.avp_lists.specs.declared.attributes.Value.TheVariants.{Addr, Bytes, Ether, Int, Raw, Signed, Text}
 use Rattle.avp_lists.specs.declared.lists.State.{State}
 use Rattle.avp_dict.specs.declared.entries.Note.{Note}
 use Rattle.avp_dict.specs.declared.files.NamedFile.{NamedFile}
 use Rattle.avp_dict.specs.declared.readings.Reading.{Reading}
 use Rattle.avp_dict.specs.Counts.{counts_of, notes_of}
+use Rattle.avp_dict.specs.Printing.{printed_name, printed_text}
 use Rattle.radpolicy.specs.declared.jobs.Code.{Code}
 use Rattle.radpolicy.specs.declared.jobs.Code.TheVariants as code
 use Rattle.radpolicy.specs.declared.jobs.Outcome.{Outcome}
 use Rattle.radpolicy.specs.Faults.{name_at}
 use Rattle.radpolicy.specs.Updates.{End}
 
--- the name of an attribute that has no entry in the dictionary
-abbrev pub name_text : AttrId → List ℕ
-name_text (Plain number) = codes "Attr-" ++ decimal number
-name_text (Vendor vendor number) = codes "Attr-26." ++ decimal vendor ++ codes "." ++ decimal number
-name_text (Extended type_ number) = codes "Attr-" ++ decimal type_ ++ codes "." ++ decimal number
-
--- the octets of a value; without a type there are no numbers, which have none of their own
-abbrev pub octets_shown : Value → List ℕ
-octets_shown (Raw octets) = octets
-octets_shown (Text octets) = octets
-octets_shown (Bytes octets) = octets
-octets_shown (Addr octets) = octets
-octets_shown (Ether octets) = octets
-octets_shown (Int number) = []
-octets_shown (Signed number) = []
-
--- the line of a pair
-abbrev pub pair_line : Pair → List ℕ
-pair_line pair = codes "  " ++ name_text pair.id ++ codes " = 0x" ++ encode_lower (octets_shown pair.value) ++ codes "\n"
+-- the line of a pair, by a dictionary
+abbrev pub pair_line : List Reading → Pair → List ℕ
+pair_line dictionary pair = codes "  " ++ printed_name pair.id pair.value dictionary ++ codes " = " ++ printed_text pair.id pair.value dictionary ++ codes "\n"
 
 -- a list: its name on a line, then a line for each pair
-abbrev pub list_text : List ℕ → List Pair → List ℕ
-list_text name pairs = name ++ codes "\n" ++ flat_map pair_line pairs
+abbrev pub list_text : List Reading → List ℕ → List Pair → List ℕ
+list_text dictionary name pairs = name ++ codes "\n" ++ flat_map (pair_line dictionary) pairs
 
 -- the three lists
-abbrev pub state_text : State → List ℕ
-state_text state = list_text (codes "request") state.request ++ list_text (codes "reply") state.reply ++ list_text (codes "control") state.control
+abbrev pub state_text : List Reading → State → List ℕ
+state_text dictionary state =
+    list_text dictionary (codes "request") state.request ++ list_text dictionary (codes "reply") state.reply ++ list_text dictionary (codes "control") state.control
 
 abbrev pub code_text : Code → List ℕ
 code_text code.Ok = codes "ok"
@@ -63,9 +44,9 @@ pub record Report : Type 0 where
   pub outcome : Outcome
 
 -- the report of a run that ended so
-abbrev pub run_report : End → Report
-run_report end = record {
-  text = state_text end.state ++ result_line end.code end.stopped;
+abbrev pub run_report : List Reading → End → Report
+run_report dictionary end = record {
+  text = state_text dictionary end.state ++ result_line end.code end.stopped;
   outcome = record { code = Some end.code; stopped = end.stopped };
 }
 

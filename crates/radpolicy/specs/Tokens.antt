@@ -6,8 +6,8 @@ use Rattle.radpolicy.specs.declared.tokens.Token.{Token}
 use Rattle.radpolicy.specs.declared.tokens.Token.TheVariants.{Operator, Word, Quoted, Unreadable, End}
 use Rattle.radpolicy.specs.declared.tokens.Sign.{Sign}
 use Rattle.radpolicy.specs.declared.tokens.Sign.TheVariants as sign
-use Rattle.radpolicy.specs.declared.tokens.Quote.{Quote}
-use Rattle.radpolicy.specs.declared.tokens.Quote.TheVariants as quote
+use Rattle.avp_dict.specs.declared.quotes.QuoteMark.{QuoteMark}
+use Rattle.avp_dict.specs.declared.quotes.QuoteMark.TheVariants as quote
 
 -- Between tokens: spaces, tabs, CR and LF, and comments from `#` to the end of the line. After one such octet,
 -- the line, and whether a comment goes on.
@@ -90,11 +90,11 @@ abbrev pub word_at : List ℕ → ℕ → Token × List ℕ
 word_at text zero = (Unreadable, [])
 word_at text (suc n) = (Word (take (suc n) text), drop (suc n) text)
 
-abbrev pub quoted_at : Quote → List ℕ → Option ℕ → Token × List ℕ
+abbrev pub quoted_at : QuoteMark → List ℕ → Option ℕ → Token × List ℕ
 quoted_at q text None = (Unreadable, [])
 quoted_at q text (Some n) = (Quoted q (take n text), drop (n + 1) text)
 
-unfoldable pub quote_of : ℕ → Option Quote
+unfoldable pub quote_of : ℕ → Option QuoteMark
 quote_of c = if c == 34 then Some quote.Double else if c == 39 then Some quote.Single else None
 
 unfoldable pub text_at : List ℕ → Token × List ℕ

@@ -4,40 +4,28 @@ ghost use Rattle.std.specs.Prelude.{All, ◌≡◌, ◌≢◌, ◌≤◌, ◌⊎
 ghost use Rattle.std.specs.Io.KnownBytes.{Appends};
 ghost use Rattle.avp_lists.specs.declared.edits.Edit.{Edit as ListEdit};
 ghost use Rattle.avp_dict.specs.Counts.{notes_of};
-ghost use Rattle.avp_dict.specs.Dictionary.{dictionary_of, most_lines};
+ghost use Rattle.avp_dict.specs.Requests.{request_spelled};
 ghost use Rattle.radpolicy.specs.Faults.{IsPrintedWith};
+ghost use Rattle.radpolicy.specs.Fitting.{AllFit, SectionsFit};
 ghost use Rattle.radpolicy.specs.declared.faults.Fault.{Fault};
-ghost use Rattle.radpolicy.specs.JobReports.{HasNoPolicy, IsCheckRefusal, IsCheckReport, IsRefused, IsReport, IsRunRefusal, IsRunReport, dictionary_refusal, entry_state, main_file, policy_of};
+ghost use Rattle.radpolicy.specs.JobReports.{IsDictionaryRefusal, IsRefused, IsReport, IsRunRefusal, IsRunReport, dictionary_for, entry_state, policy_of};
 ghost use Rattle.radpolicy.specs.Plans.{IsSound, asked_by_job};
 ghost use Rattle.radpolicy.specs.PolicyTexts.{SpellsPolicy};
 ghost use Rattle.radpolicy.specs.Reports.{Report, run_report};
-ghost use Rattle.radpolicy.specs.RequestTexts.{request_of};
 ghost use Rattle.radpolicy.specs.Updates.{run_end};
 ghost use Rattle.radpolicy.specs.Writing.{AppendsFrontOf};
 
 use crate::checks::report_of_check;
 use crate::cursors::MOST_UPDATE_LINES;
-use crate::dictionaries::check_dictionary;
 use crate::faults::Fault;
 use crate::jobs::{Command, Job, Outcome};
 use crate::outputs::{Output, put_all};
 use crate::policies::read_policy;
 use crate::reports::report_of_run;
-use crate::requests::read_request;
 use crate::sections::Section;
-use avp_dict::{Dictionary, FileSet};
+use avp_dict::Dictionary;
 use avp_lists::{MOST_PAIRS, Pair, SnapshotStore};
 use std::alloc::{AllocError, Global};
-
-// What the main file holds.
-fn main_file(files: &FileSet) -> &[u8]
-    ensures { result.now ≡ main_file files.now }
-{
-    match files.as_slice() {
-        [file, ..] => file.octets.as_slice(),
-        [] => &[],
-    }
-}
 
 // The policy's text.
 fn policy_of(job: &Job) -> &[u8]
@@ -49,83 +37,12 @@ fn policy_of(job: &Job) -> &[u8]
     }
 }
 
-// Checks that the dictionary defines nothing.
-fn check_files(job: &Job) -> Result<(), Fault>
-    ensures ok { OnOk result (dictionary_refusal job.now ≡ None) }
-    ensures refused { IfErr result (λ fault. IsRunRefusal job.now fault) }
-    ensures printed { IfErr result (λ fault. 0 < length job.now.files → IsPrintedWith job.now.files fault) }
-{
-    match check_dictionary(main_file(&job.files)) {
-        Ok(()) => Ok(()),
-        Err(fault) => Err(Fault::Dictionary(fault)),
-    }
-}
-
-// Reads the policy.
-fn sections_of(alloc: Global, job: &Job) -> Result<Vec<Section>, Fault>
-    requires { dictionary_refusal job.now ≡ None }
-    ensures ok { IfOk result (λ sections. SpellsPolicy (policy_of job.now) sections.items) }
-    ensures short { IfOk result (λ sections. sum_by length sections.items ≤ MOST_UPDATE_LINES) }
-    ensures refused { IfErr result (λ fault. (fault ≡ Fault.Memory) ⊎ IsRunRefusal job.now fault) }
-    ensures printed { IfErr result (λ fault. IsPrintedWith job.now.files fault) }
-{
-    match read_policy(alloc, policy_of(job)) {
-        Ok(sections) => Ok(sections),
-        Err(fault) => Err(Fault::from(fault)),
-    }
-}
-
-// Reads the request.
-fn pairs_of(alloc: Global, job: &Job) -> Result<Vec<Pair>, Fault>
-    requires dictionary { dictionary_refusal job.now ≡ None }
-    requires policy { (sections : List (List ListEdit)) × SpellsPolicy (policy_of job.now) sections }
-    ensures ok { IfOk result (λ pairs. request_of job.now.request ≡ Some pairs.items) }
-    ensures few { IfOk result (λ pairs. length pairs.items ≤ MOST_PAIRS) }
-    ensures refused { IfErr result (λ fault. (fault ≡ Fault.Memory) ⊎ IsRunRefusal job.now fault) }
-    ensures printed { IfErr result (λ fault. IsPrintedWith job.now.files fault) }
-{
-    match read_request(alloc, job.request.as_slice()) {
-        Ok(pairs) => Ok(pairs),
-        Err(fault) => Err(Fault::from(fault)),
-    }
-}
-
-// The report of the sections over the pairs.
-fn report_of_sections(
-    alloc: Global,
-    sections: Vec<Section>,
-    pairs: Vec<Pair>,
-) -> Result<(Vec<u8>, Outcome), AllocError>
-    requires short { sum_by length sections.items ≤ MOST_UPDATE_LINES }
-    requires few { length pairs.items ≤ MOST_PAIRS }
-    ensures { IfOk result (λ report. run_report (run_end sections.items (entry_state pairs.items)) ≡ record { text = report.0.items; outcome = report.1 }) }
-{
-    match SnapshotStore::new(alloc, pairs, Vec::new(alloc), Vec::new(alloc)) {
-        Ok(store) => report_of_run(alloc, store, sections),
-        Err(_) => Err(AllocError),
-    }
-}
-
-// The report of a run, in the order in which it is refused.
-fn run_report_of(alloc: Global, job: &Job) -> Result<(Vec<u8>, Outcome), Fault>
-    requires { 0 < length job.now.files }
-    ensures ok { IfOk result (λ report. IsRunReport job.now (record { text = report.0.items; outcome = report.1 })) }
-    ensures refused { IfErr result (λ fault. (fault ≡ Fault.Memory) ⊎ IsRunRefusal job.now fault) }
-    ensures printed { IfErr result (λ fault. IsPrintedWith job.now.files fault) }
-{
-    check_files(job)?;
-    let sections = sections_of(alloc, job)?;
-    let pairs = pairs_of(alloc, job)?;
-    let report = report_of_sections(alloc, sections, pairs)?;
-    Ok(report)
-}
-
 // Reads the dictionary.
 fn dictionary_of(alloc: Global, job: &Job) -> Result<Dictionary, Fault>
     requires sound { IsSound (asked_by_job job.now) }
-    ensures ok { IfOk result (λ dictionary. dictionary_of most_lines job.now.files ≡ Ok dictionary) }
+    ensures ok { IfOk result (λ dictionary. dictionary_for job.now ≡ Ok dictionary) }
     ensures noted { IfOk result (λ dictionary. All (λ note. note.file < length job.now.files) (notes_of dictionary)) }
-    ensures refused { IfErr result (λ fault. (fault ≡ Fault.Memory) ⊎ IsCheckRefusal job.now fault) }
+    ensures refused { IfErr result (λ fault. (fault ≡ Fault.Memory) ⊎ IsDictionaryRefusal job.now fault) }
     ensures printed { IfErr result (λ fault. IsPrintedWith job.now.files fault) }
 {
     match Dictionary::read(alloc, &job.files) {
@@ -134,15 +51,70 @@ fn dictionary_of(alloc: Global, job: &Job) -> Result<Dictionary, Fault>
     }
 }
 
-// The report of a check.
-fn check_report_of(alloc: Global, job: &Job) -> Result<(Vec<u8>, Outcome), Fault>
-    requires sound { IsSound (asked_by_job job.now) }
-    ensures ok { IfOk result (λ report. IsCheckReport job.now (record { text = report.0.items; outcome = report.1 })) }
-    ensures refused { IfErr result (λ fault. (fault ≡ Fault.Memory) ⊎ IsCheckRefusal job.now fault) }
+// Reads the policy.
+fn sections_of(alloc: Global, dictionary: &Dictionary, job: &Job) -> Result<Vec<Section>, Fault>
+    requires { dictionary_for job.now ≡ Ok dictionary.now }
+    ensures ok { IfOk result (λ sections. SpellsPolicy dictionary.now (policy_of job.now) sections.items) }
+    ensures short { IfOk result (λ sections. sum_by length sections.items ≤ MOST_UPDATE_LINES) }
+    ensures fit { IfOk result (λ sections. SectionsFit dictionary.now sections.items) }
+    ensures refused { IfErr result (λ fault. (fault ≡ Fault.Memory) ⊎ IsRunRefusal job.now fault) }
     ensures printed { IfErr result (λ fault. IsPrintedWith job.now.files fault) }
 {
-    let dictionary = dictionary_of(alloc, job)?;
-    let report = report_of_check(alloc, &job.files, &dictionary)?;
+    match read_policy(alloc, dictionary, policy_of(job)) {
+        Ok(sections) => Ok(sections),
+        Err(fault) => Err(Fault::from(fault)),
+    }
+}
+
+// Reads the request.
+fn pairs_of(alloc: Global, dictionary: &Dictionary, job: &Job) -> Result<Vec<Pair>, Fault>
+    requires dictionary { dictionary_for job.now ≡ Ok dictionary.now }
+    requires policy { (sections : List (List ListEdit)) × SpellsPolicy dictionary.now (policy_of job.now) sections }
+    ensures ok { IfOk result (λ pairs. request_spelled job.now.request dictionary.now ≡ Some pairs.items) }
+    ensures few { IfOk result (λ pairs. length pairs.items ≤ MOST_PAIRS) }
+    ensures fit { IfOk result (λ pairs. AllFit dictionary.now pairs.items) }
+    ensures refused { IfErr result (λ fault. (fault ≡ Fault.Memory) ⊎ IsRunRefusal job.now fault) }
+    ensures printed { IfErr result (λ fault. IsPrintedWith job.now.files fault) }
+{
+    match dictionary.read_request(alloc, job.request.as_slice()) {
+        Ok(pairs) => Ok(pairs),
+        Err(fault) => Err(Fault::from(fault)),
+    }
+}
+
+// The report of the sections over the pairs.
+fn report_of_sections(
+    alloc: Global,
+    dictionary: &Dictionary,
+    sections: Vec<Section>,
+    pairs: Vec<Pair>,
+) -> Result<(Vec<u8>, Outcome), AllocError>
+    requires short { sum_by length sections.items ≤ MOST_UPDATE_LINES }
+    requires lines { SectionsFit dictionary.now sections.items }
+    requires few { length pairs.items ≤ MOST_PAIRS }
+    requires fit { AllFit dictionary.now pairs.items }
+    ensures { IfOk result (λ report. run_report dictionary.now (run_end sections.items (entry_state pairs.items)) ≡ record { text = report.0.items; outcome = report.1 }) }
+{
+    match SnapshotStore::new(alloc, pairs, Vec::new(alloc), Vec::new(alloc)) {
+        Ok(store) => report_of_run(alloc, dictionary, store, sections),
+        Err(_) => Err(AllocError),
+    }
+}
+
+// The report of a run, in the order in which it is refused.
+fn run_report_of(
+    alloc: Global,
+    dictionary: &Dictionary,
+    job: &Job,
+) -> Result<(Vec<u8>, Outcome), Fault>
+    requires { dictionary_for job.now ≡ Ok dictionary.now }
+    ensures ok { IfOk result (λ report. IsRunReport job.now (record { text = report.0.items; outcome = report.1 })) }
+    ensures refused { IfErr result (λ fault. (fault ≡ Fault.Memory) ⊎ IsRunRefusal job.now fault) }
+    ensures printed { IfErr result (λ fault. IsPrintedWith job.now.files fault) }
+{
+    let sections = sections_of(alloc, dictionary, job)?;
+    let pairs = pairs_of(alloc, dictionary, job)?;
+    let report = report_of_sections(alloc, dictionary, sections, pairs)?;
     Ok(report)
 }
 
@@ -153,9 +125,10 @@ fn report_of(alloc: Global, job: &Job) -> Result<(Vec<u8>, Outcome), Fault>
     ensures refused { IfErr result (λ fault. (fault ≡ Fault.Memory) ⊎ IsRefused job.now fault) }
     ensures printed { IfErr result (λ fault. IsPrintedWith job.now.files fault) }
 {
+    let dictionary = dictionary_of(alloc, job)?;
     match job.command {
-        Command::Run => run_report_of(alloc, job),
-        Command::Check => check_report_of(alloc, job),
+        Command::Run => run_report_of(alloc, &dictionary, job),
+        Command::Check => Ok(report_of_check(alloc, &job.files, &dictionary)?),
         Command::Step | Command::Encode | Command::Decode => unreachable!(),
     }
 }

@@ -4,31 +4,9 @@ ghost use Rattle.std.specs.Prelude.{◌≡◌};
 ghost use Rattle.radpolicy.specs.declared.faults.Fault.TheVariants.{Memory};
 ghost use Rattle.radpolicy.specs.Faults.{dict_number, dict_text, fault_number, fault_of_dict, fault_of_line, fault_of_policy, fault_text, is_memory, line_number, line_text, packet_number, packet_text, policy_number, policy_text, status_of};
 
-use avp_dict::{DictFault, DictKind};
+use avp_dict::{DictFault, DictKind, LineFault, LineKind};
 use std::alloc::{AllocError, AllocFailed};
 use thiserror::Error;
-
-/// Why request lines, or a value that is written in a policy, were refused.
-#[derive(Clone, Copy, Debug, PartialEq, Eq, Error)]
-#[error("{}", self.text())]
-pub enum LineKind {
-    NotValue,
-    TooLong,
-    Unknown,
-    NotWritable,
-    SecondPacket,
-    TooMany,
-    Unreadable,
-    Memory,
-}
-
-/// Why request lines were refused, and at which line, from 1.
-#[derive(Clone, Copy, Debug, PartialEq, Eq, Error)]
-#[error("{}", self.kind.text())]
-pub struct LineFault {
-    pub line: usize,
-    pub kind: LineKind,
-}
 
 /// Why a packet was refused (RFC 2865, section 3).
 #[derive(Clone, Copy, Debug, PartialEq, Eq, Error)]
@@ -178,35 +156,35 @@ fn dict_text(kind: DictKind) -> &'static str
     }
 }
 
-impl LineKind {
-    fn number(self) -> u8
-        ensures { result ≡ line_number self }
-    {
-        match self {
-            LineKind::NotValue => 30,
-            LineKind::TooLong => 31,
-            LineKind::Unknown => 32,
-            LineKind::NotWritable => 33,
-            LineKind::SecondPacket => 34,
-            LineKind::TooMany => 35,
-            LineKind::Unreadable => 36,
-            LineKind::Memory => MEMORY,
-        }
+// The number of a request line's fault.
+fn line_number(kind: LineKind) -> u8
+    ensures { result ≡ line_number kind }
+{
+    match kind {
+        LineKind::NotValue => 30,
+        LineKind::TooLong => 31,
+        LineKind::Unknown => 32,
+        LineKind::NotWritable => 33,
+        LineKind::SecondPacket => 34,
+        LineKind::TooMany => 35,
+        LineKind::Unreadable => 36,
+        LineKind::Memory => MEMORY,
     }
+}
 
-    fn text(self) -> &'static str
-        ensures { result.now ≡ line_text self }
-    {
-        match self {
-            LineKind::NotValue => "not a value",
-            LineKind::TooLong => "too long",
-            LineKind::Unknown => "unknown attribute",
-            LineKind::NotWritable => "not writable",
-            LineKind::SecondPacket => "second packet",
-            LineKind::TooMany => "too many pairs",
-            LineKind::Unreadable => "unreadable line",
-            LineKind::Memory => "out of memory",
-        }
+// What the line of a request line's fault says.
+fn line_text(kind: LineKind) -> &'static str
+    ensures { result.now ≡ line_text kind }
+{
+    match kind {
+        LineKind::NotValue => "not a value",
+        LineKind::TooLong => "too long",
+        LineKind::Unknown => "unknown attribute",
+        LineKind::NotWritable => "not writable",
+        LineKind::SecondPacket => "second packet",
+        LineKind::TooMany => "too many pairs",
+        LineKind::Unreadable => "unreadable line",
+        LineKind::Memory => "out of memory",
     }
 }
 
@@ -290,7 +268,7 @@ impl Fault {
             Fault::Write => 7,
             Fault::Memory => MEMORY,
             Fault::Dictionary(fault) => dict_number(fault.kind),
-            Fault::Request(fault) => fault.kind.number(),
+            Fault::Request(fault) => line_number(fault.kind),
             Fault::Packet(fault) => fault.number(),
             Fault::PacketTooLong => 46,
             Fault::Policy(fault) => fault.kind.number(),
@@ -312,7 +290,7 @@ impl Fault {
             Fault::Write => "write fault",
             Fault::Memory => "out of memory",
             Fault::Dictionary(fault) => dict_text(fault.kind),
-            Fault::Request(fault) => fault.kind.text(),
+            Fault::Request(fault) => line_text(fault.kind),
             Fault::Packet(fault) => fault.text(),
             Fault::PacketTooLong => "packet too long",
             Fault::Policy(fault) => fault.kind.text(),

@@ -5,29 +5,23 @@
 mod answers;
 mod checks;
 mod cursors;
-mod dictionaries;
 mod fault_lines;
 mod faults;
 mod inputs;
 mod jobs;
-mod literals;
 mod outputs;
 mod policies;
 #[cfg(test)]
 mod policy_tests;
 mod reports;
-#[cfg(test)]
-mod request_tests;
-mod requests;
 mod sections;
-mod texts;
 mod tokens;
 mod updates;
 mod words;
 
 pub use answers::answer;
 pub use fault_lines::print_fault;
-pub use faults::{Fault, LineFault, LineKind, PacketFault, PolicyFault, PolicyKind, status};
+pub use faults::{Fault, PacketFault, PolicyFault, PolicyKind, status};
 pub use inputs::{MOST_OCTETS, read_input};
 pub use jobs::{Code, Command, Form, Job, Outcome};
 pub use outputs::{Output, OutputError, WriteOutput};

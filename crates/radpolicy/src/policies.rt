@@ -1,11 +1,13 @@
-//! The first reader of policies: `update` sections whose values are hexadecimal digits.
+//! The first reader of policies: `update` sections whose values are written out.
 
-ghost use Rattle.std.specs.Prelude.{◌≡◌, ◌≢◌, ◌≤◌, ◌<◌, List as TheList, length, codes, sum_by, IfOk, IfErr, Option, MatchOption};
+ghost use Rattle.std.specs.Prelude.{◌≡◌, ◌≢◌, ◌≤◌, ◌<◌, List as TheList, length, codes, sum_by, false, Some, None, IfOk, IfErr};
+ghost use Rattle.std.specs.Option.{option_and_then};
 ghost use Rattle.avp_lists.specs.declared.edits.Edit.{Edit as TheEdit};
-ghost use Rattle.radpolicy.specs.Forms.{Reads};
-ghost use Rattle.radpolicy.specs.PolicyTexts.{list_named, target_in, op_of, is_removal, octets_for, after_reference, TargetIs, OpIs, SourceIs, LineIs, begins_line, list_at, is_allowed, SectionIs, goes_on, SpellsPolicy};
+ghost use Rattle.avp_dict.specs.Requests.{pair_named};
+ghost use Rattle.radpolicy.specs.Fitting.{SectionsFit};
+ghost use Rattle.radpolicy.specs.Forms.{Reads, While};
+ghost use Rattle.radpolicy.specs.PolicyTexts.{LineIs, OpIs, SectionIs, SourceIs, SpellsPolicy, TargetIs, after_reference, begins_line, goes_on, has_bare_percent, is_removal, list_at, list_named, op_of, source_pair, source_text, target_in};
 ghost use Rattle.radpolicy.specs.Places.{Place, counted};
-ghost use Rattle.radpolicy.specs.Forms.{While};
 ghost use Rattle.radpolicy.specs.Tokens.{next_token};
 ghost use Rattle.radpolicy.specs.declared.tokens.Token.TheVariants.{Operator, Word};
 ghost use Rattle.radpolicy.specs.declared.tokens.Sign.TheVariants.{BlockStart, BlockEnd};
@@ -13,10 +15,10 @@ ghost use Rattle.radpolicy.specs.declared.faults.PolicyKind.TheVariants.{Memory}
 
 use crate::cursors::{Cursor, MOST_UPDATE_LINES};
 use crate::faults::{PolicyFault, PolicyKind};
-use crate::literals::{MOST_PLAIN_OCTETS, attribute_number, is_writable, octets_of_text};
 use crate::sections::Section;
-use crate::tokens::{Sign, Token};
-use avp_lists::{AttrId, Edit, List, Octets, Op, Pair, Value};
+use crate::tokens::{Sign, Token, front};
+use avp_dict::{Dictionary, Named, QuoteMark, ValueFault, is_container, octets_between};
+use avp_lists::{Edit, List, Octets, Op, Pair, Value};
 use std::alloc::{AllocError, AllocFailed, Global};
 
 // Want of memory belongs to no line.
@@ -54,7 +56,9 @@ fn misplaced(token: &Token, after: &Cursor) -> PolicyFault {
     }
 }
 
-fn value_fault(at: &Cursor, kind: PolicyKind) -> PolicyFault {
+fn fault_at(at: &Cursor, kind: PolicyKind) -> PolicyFault
+    ensures { result.kind ≡ kind }
+{
     PolicyFault {
         line: at.line(),
         kind,
@@ -119,18 +123,22 @@ fn after_reference<'a>(at: Cursor<'a>) -> Cursor<'a>
     }
 }
 
-// A target: its list and its attribute's number.
-fn target<'a>(own: List, at: Cursor<'a>) -> Result<((List, u8), Cursor<'a>), PolicyFault>
-    ensures read { Reads (TargetIs own at.entry) result }
+// A target: its list and what its name stands for.
+fn target<'a>(
+    dictionary: &Dictionary,
+    own: List,
+    at: Cursor<'a>,
+) -> Result<((List, Named), Cursor<'a>), PolicyFault>
+    ensures read { Reads (TargetIs dictionary.now own at.entry) result }
     ensures shorter { IfOk result (λ x. length x.1.text < length at.entry.text) }
 {
     let (token, after) = after_reference(at).next();
     match &token {
         Token::Word(word) => {
             let (list, name) = target_in(own, word.as_slice());
-            match attribute_number(name) {
-                None => Err(value_fault(&after, PolicyKind::Unknown)),
-                Some(number) => Ok(((list, number), after)),
+            match dictionary.by_name(name) {
+                None => Err(fault_at(&after, PolicyKind::Unknown)),
+                Some(named) => Ok(((list, named), after)),
             }
         }
         _ => Err(misplaced(&token, &after)),
@@ -154,46 +162,112 @@ fn is_removal(operation: Op) -> bool
     matches!(operation, Op::RemoveAll)
 }
 
-// The octets that the word of a source stands for.
-#[tactic(auto, unfolding(crate::specs::PolicyTexts::octets_for))]
-fn octets_for(
-    alloc: Global,
-    operation: Op,
-    word: &[u8],
-    after: &Cursor,
-) -> Result<Octets, PolicyFault>
-    ensures ok { IfOk result (λ octets. octets_for operation word.now ≡ Some octets) }
-    ensures err { IfErr result (λ fault. fault.kind ≢ Memory → octets_for operation word.now ≡ None) }
-{
-    if is_removal(operation) {
-        return Ok(Octets::from_vec(Vec::new(alloc)));
-    }
-    match octets_of_text(alloc, word)? {
-        None => Err(value_fault(after, PolicyKind::NotValue)),
-        Some(octets) if octets.len() > MOST_PLAIN_OCTETS => Err(value_fault(
-            after,
-            PolicyKind::TooLong,
-        )),
-        Some(octets) => Ok(Octets::from_vec(octets)),
-    }
-}
-
-fn source<'a>(
-    alloc: Global,
-    operation: Op,
-    at: &Cursor<'a>,
-) -> Result<(Octets, Cursor<'a>), PolicyFault>
-    ensures read { Reads (SourceIs operation at.now) result }
+// A word or a quoted text.
+fn source<'a>(at: &Cursor<'a>) -> Result<(Token<'a>, Cursor<'a>), PolicyFault>
+    ensures read { Reads (SourceIs at.now) result }
     ensures shorter { IfOk result (λ x. length x.1.text ≤ length at.now.text) }
 {
     let (token, after) = at.next();
     match &token {
-        Token::Word(word) => {
-            let octets = octets_for(alloc, operation, word.as_slice(), &after)?;
-            Ok((octets, after))
-        }
+        Token::Word(_) | Token::Quoted(_, _) => Ok((token, after)),
         _ => Err(misplaced(&token, &after)),
     }
+}
+
+// Whether a `%` stands there with no `\` of its own before it.
+fn has_bare_percent(text: &[u8]) -> bool
+    ensures { result ≡ has_bare_percent false text.now }
+{
+    let mut escaped = false;
+    let mut rest = text;
+    while let Some((octet, after)) = front(rest) {
+        if !escaped && octet == b'%' {
+            return true;
+        }
+        escaped = !escaped && octet == b'\\';
+        rest = after;
+    }
+    false
+}
+
+// The fault of a source's text, at the source's line; want of memory belongs to no line.
+fn value_fault(fault: ValueFault, after: &Cursor) -> PolicyFault
+    ensures { fault ≡ ValueFault.Memory → result.kind ≡ Memory }
+{
+    match fault {
+        ValueFault::NotWritable => fault_at(after, PolicyKind::NotWritable),
+        ValueFault::NotValue => fault_at(after, PolicyKind::NotValue),
+        ValueFault::TooLong => fault_at(after, PolicyKind::TooLong),
+        ValueFault::Memory => PolicyFault::from(AllocError),
+    }
+}
+
+// The pair of a text under a name.
+fn pair_named(
+    alloc: Global,
+    dictionary: &Dictionary,
+    named: Named,
+    text: &[u8],
+    after: &Cursor,
+) -> Result<Pair, PolicyFault>
+    ensures ok { IfOk result (λ pair. pair_named dictionary.now text.now named ≡ Some pair) }
+    ensures err { IfErr result (λ fault. fault.kind ≢ Memory → pair_named dictionary.now text.now named ≡ None) }
+{
+    match dictionary.value_of_text(alloc, named, text) {
+        Ok(value) => Ok(Pair {
+            id: named.id,
+            value,
+        }),
+        Err(fault) => Err(value_fault(fault, after)),
+    }
+}
+
+// The pair of a name and a source before whose text no `!*` stands.
+#[tactic(auto, unfolding(crate::specs::PolicyTexts::source_text))]
+fn pair_of_source(
+    alloc: Global,
+    dictionary: &Dictionary,
+    named: Named,
+    source: &Token,
+    after: &Cursor,
+) -> Result<Pair, PolicyFault>
+    ensures ok { IfOk result (λ pair. option_and_then (λ text. pair_named dictionary.now text named) (source_text source.now) ≡ Some pair) }
+    ensures err { IfErr result (λ fault. fault.kind ≢ Memory → option_and_then (λ text. pair_named dictionary.now text named) (source_text source.now) ≡ None) }
+{
+    match source {
+        Token::Word(text) => pair_named(alloc, dictionary, named, text.as_slice(), after),
+        Token::Quoted(QuoteMark::Double, text) if has_bare_percent(text.as_slice()) => {
+            Err(fault_at(after, PolicyKind::Unreadable))
+        }
+        Token::Quoted(mark, text) => {
+            let octets = octets_between(alloc, *mark, text.as_slice())?;
+            pair_named(alloc, dictionary, named, &octets, after)
+        }
+        _ => Err(misplaced(source, after)),
+    }
+}
+
+// The pair of an update line.
+#[tactic(auto, unfolding(crate::specs::PolicyTexts::source_pair))]
+fn source_pair(
+    alloc: Global,
+    dictionary: &Dictionary,
+    named: Named,
+    operation: Op,
+    source: &Token,
+    after: &Cursor,
+) -> Result<Pair, PolicyFault>
+    ensures ok { IfOk result (λ pair. source_pair dictionary.now named operation source.now ≡ Some pair) }
+    ensures err { IfErr result (λ fault. fault.kind ≢ Memory → source_pair dictionary.now named operation source.now ≡ None) }
+{
+    if is_removal(operation) {
+        let value = Value::Raw(Octets::from_vec(Vec::new(alloc)));
+        return Ok(Pair {
+            id: named.id,
+            value,
+        });
+    }
+    pair_of_source(alloc, dictionary, named, source, after)
 }
 
 fn count_line<'a>(at: &Cursor<'a>) -> Result<Cursor<'a>, PolicyFault>
@@ -210,28 +284,28 @@ fn count_line<'a>(at: &Cursor<'a>) -> Result<Cursor<'a>, PolicyFault>
     }
 }
 
-fn is_allowed(operation: Op, number: u8) -> bool
-    ensures { result ≡ is_allowed operation number }
-{
-    is_removal(operation) || is_writable(number)
-}
-
 // An update line of a section of this list.
-fn line<'a>(alloc: Global, own: List, at: Cursor<'a>) -> Result<(Edit, Cursor<'a>), PolicyFault>
-    ensures read { Reads (LineIs own at.entry) result }
+fn line<'a>(
+    alloc: Global,
+    dictionary: &Dictionary,
+    own: List,
+    at: Cursor<'a>,
+) -> Result<(Edit, Cursor<'a>), PolicyFault>
+    ensures read { Reads (LineIs dictionary.now own at.entry) result }
     ensures shorter { IfOk result (λ x. length x.1.text < length at.entry.text) }
 {
     let start = count_line(&at)?;
-    let ((list, number), mid) = target(own, start)?;
+    let ((list, named), mid) = target(dictionary, own, start)?;
     let (op, end) = operator(&mid)?;
-    if !is_allowed(op, number) {
-        return Err(value_fault(&mid, PolicyKind::NotWritable));
+    let is_barred = !is_removal(op) && dictionary.is_barred(named);
+    if is_barred && is_container(named.id) {
+        return Err(fault_at(&mid, PolicyKind::NotWritable));
     }
-    let (octets, rest) = source(alloc, op, &end)?;
-    let pair = Pair {
-        id: AttrId::Plain(u32::from(number)),
-        value: Value::Raw(octets),
-    };
+    let (source, rest) = source(&end)?;
+    if is_barred {
+        return Err(fault_at(&mid, PolicyKind::NotWritable));
+    }
+    let pair = source_pair(alloc, dictionary, named, op, &source, &rest)?;
     Ok((Edit { list, op, pair }, rest))
 }
 
@@ -245,14 +319,19 @@ fn begins_line(at: &Cursor) -> bool
 }
 
 // The lines of a section of this list.
-fn lines<'a>(alloc: Global, own: List, at: Cursor<'a>) -> Result<(Section, Cursor<'a>), PolicyFault>
-    ensures read { Reads (While begins_line (LineIs own) at.entry) result }
+fn lines<'a>(
+    alloc: Global,
+    dictionary: &Dictionary,
+    own: List,
+    at: Cursor<'a>,
+) -> Result<(Section, Cursor<'a>), PolicyFault>
+    ensures read { Reads (While begins_line (LineIs dictionary.now own) at.entry) result }
     ensures shorter { IfOk result (λ x. length x.1.text ≤ length at.entry.text) }
 {
     let mut edits = Vec::new(alloc);
     let mut rest = at;
     'lines: while begins_line(&rest) {
-        let (edit, end) = line(alloc, own, rest)?;
+        let (edit, end) = line(alloc, dictionary, own, rest)?;
         edits.push(edit)?;
         rest = end;
     }
@@ -310,14 +389,18 @@ fn list_at<'a>(at: Cursor<'a>) -> (List, Cursor<'a>)
     (List::Request, at)
 }
 
-fn section<'a>(alloc: Global, at: Cursor<'a>) -> Result<(Section, Cursor<'a>), PolicyFault>
-    ensures read { Reads (SectionIs at.entry) result }
+fn section<'a>(
+    alloc: Global,
+    dictionary: &Dictionary,
+    at: Cursor<'a>,
+) -> Result<(Section, Cursor<'a>), PolicyFault>
+    ensures read { Reads (SectionIs dictionary.now at.entry) result }
     ensures shorter { IfOk result (λ x. length x.1.text < length at.entry.text) }
 {
     let mid = update_word(&at)?;
     let (own, begin) = list_at(mid);
     let start = block_start(&begin)?;
-    let (section, end) = lines(alloc, own, start)?;
+    let (section, end) = lines(alloc, dictionary, own, start)?;
     let rest = block_end(&end)?;
     Ok((section, rest))
 }
@@ -331,16 +414,23 @@ fn goes_on(at: &Cursor) -> bool
     }
 }
 
-/// The sections that a text spells. A fault's line is that of the token that was refused, from 1; want of memory has line 0.
-pub(crate) fn read_policy(alloc: Global, text: &[u8]) -> Result<Vec<Section>, PolicyFault>
-    ensures read { IfOk result (λ sections. SpellsPolicy text.now sections.items) }
-    ensures refused { IfErr result (λ fault. (fault.kind ≢ Memory) → (sections : TheList (TheList TheEdit)) → SpellsPolicy text.now sections → ⊥) }
+/// The sections that a text spells. A fault's line is that of the token that was refused, from 1; that of the target's name
+/// where no value may be written under it. Want of memory has line 0.
+pub(crate) fn read_policy(
+    alloc: Global,
+    dictionary: &Dictionary,
+    text: &[u8],
+) -> Result<Vec<Section>, PolicyFault>
+    ensures read { IfOk result (λ sections. SpellsPolicy dictionary.now text.now sections.items) }
+    ensures refused { IfErr result (λ fault. (fault.kind ≢ Memory) → (sections : TheList (TheList TheEdit)) → SpellsPolicy dictionary.now text.now sections → ⊥) }
     ensures short { IfOk result (λ sections. sum_by length sections.items ≤ MOST_UPDATE_LINES) }
+    ensures fit { IfOk result (λ sections. SectionsFit dictionary.now sections.items) }
 {
+    dictionary.spelled_pairs_fit();
     let mut sections = Vec::new(alloc);
     let mut rest = Cursor::new(text);
     'sections: while goes_on(&rest) {
-        let (found, end) = section(alloc, rest)?;
+        let (found, end) = section(alloc, dictionary, rest)?;
         sections.push(found)?;
         rest = end;
     }

@@ -1,90 +1,80 @@
 //! The report of a run.
 
-ghost use Rattle.std.specs.Prelude.{◌≡◌, ◌≤◌, ◌++◌, codes, decimal, length, sum_by, IfOk, OnOk};
+ghost use Rattle.std.specs.Prelude.{◌≡◌, ◌≤◌, ◌++◌, codes, length, sum_by, IfOk, IsTrue, OnOk};
 ghost use Rattle.avp_lists.specs.History.{present};
 ghost use Rattle.avp_lists.specs.declared.lists.State.{State};
-ghost use Rattle.radpolicy.specs.Reports.{code_text, list_text, name_text, octets_shown, pair_line, result_line, run_report, state_text};
+ghost use Rattle.avp_dict.specs.Limits.{fits};
+ghost use Rattle.radpolicy.specs.Fitting.{AllFit, SectionsFit, StateFits};
+ghost use Rattle.radpolicy.specs.Reports.{code_text, list_text, pair_line, result_line, run_report, state_text};
 ghost use Rattle.radpolicy.specs.Updates.{end_of, run_end};
 
 use crate::cursors::MOST_UPDATE_LINES;
 use crate::jobs::{Code, Outcome};
 use crate::sections::Section;
 use crate::updates::{Ending, run_sections};
-use avp_lists::{AttrId, List, Pair, Store, Value};
-use itoa::Buffer;
+use avp_dict::Dictionary;
+use avp_lists::{List, Pair, Store};
 use std::alloc::{AllocError, Global};
 
-// A number in decimal digits.
-fn push_number(text: &mut Vec<u8>, number: u32) -> Result<(), AllocError>
-    ensures { OnOk result (text.new.items ≡ text.old.items ++ decimal number) }
+fn push_pair(text: &mut Vec<u8>, dictionary: &Dictionary, pair: &Pair) -> Result<(), AllocError>
+    requires { IsTrue (fits pair.now dictionary.now) }
+    ensures { OnOk result (text.new.items ≡ text.old.items ++ pair_line dictionary.now pair.now) }
 {
-    let mut digits = Buffer::new();
-    text.extend_from_slice(digits.format(number).as_bytes())?;
-    Ok(())
-}
-
-fn push_name(text: &mut Vec<u8>, id: AttrId) -> Result<(), AllocError>
-    ensures { OnOk result (text.new.items ≡ text.old.items ++ name_text id) }
-{
-    text.extend_from_slice(b"Attr-")?;
-    match id {
-        AttrId::Plain(number) => push_number(text, number)?,
-        AttrId::Vendor(vendor, number) => {
-            text.extend_from_slice(b"26.")?;
-            push_number(text, vendor)?;
-            text.extend_from_slice(b".")?;
-            push_number(text, number)?;
-        }
-        AttrId::Extended(attribute_type, number) => {
-            push_number(text, u32::from(attribute_type))?;
-            text.extend_from_slice(b".")?;
-            push_number(text, u32::from(number))?;
-        }
-    }
-    Ok(())
-}
-
-fn octets_shown(value: &Value) -> &[u8]
-    ensures { result.now ≡ octets_shown value.now }
-{
-    match value {
-        Value::Raw(octets) | Value::Text(octets) | Value::Bytes(octets) => octets.as_slice(),
-        Value::Addr(octets) => octets,
-        Value::Ether(octets) => octets,
-        Value::Int(_) | Value::Signed(_) => &[],
-    }
-}
-
-fn push_pair(text: &mut Vec<u8>, pair: &Pair) -> Result<(), AllocError>
-    ensures { OnOk result (text.new.items ≡ text.old.items ++ pair_line pair.now) }
-{
+    let alloc = *text.allocator();
+    let name = dictionary.printed_name(alloc, pair.id, &pair.value)?;
+    let value = dictionary.text_of_value(alloc, pair.id, &pair.value)?;
     text.extend_from_slice(b"  ")?;
-    push_name(text, pair.id)?;
-    text.extend_from_slice(b" = 0x")?;
-    let digits = hex::encode(*text.allocator(), octets_shown(&pair.value))?;
-    text.extend_from_slice(digits.as_bytes())?;
+    text.extend_from_slice(name.as_slice())?;
+    text.extend_from_slice(b" = ")?;
+    text.extend_from_slice(value.as_slice())?;
     text.extend_from_slice(b"\n")?;
     Ok(())
 }
 
-fn push_list(text: &mut Vec<u8>, name: &str, pairs: &[Pair]) -> Result<(), AllocError>
-    ensures { OnOk result (text.new.items ≡ text.old.items ++ list_text name.now pairs.now) }
+fn push_list(
+    text: &mut Vec<u8>,
+    dictionary: &Dictionary,
+    name: &str,
+    pairs: &[Pair],
+) -> Result<(), AllocError>
+    requires { AllFit dictionary.now pairs.now }
+    ensures { OnOk result (text.new.items ≡ text.old.items ++ list_text dictionary.now name.now pairs.now) }
 {
     text.extend_from_slice(name.as_bytes())?;
     text.extend_from_slice(b"\n")?;
     for pair in pairs {
-        push_pair(text, pair)?;
+        push_pair(text, dictionary, pair)?;
     }
     Ok(())
 }
 
 // The three present lists.
-fn push_lists<S: Store>(text: &mut Vec<u8>, store: &S) -> Result<(), AllocError>
-    ensures { OnOk result (text.new.items ≡ text.old.items ++ state_text (present (S.history store.now))) }
+fn push_lists<S: Store>(
+    text: &mut Vec<u8>,
+    dictionary: &Dictionary,
+    store: &S,
+) -> Result<(), AllocError>
+    requires { StateFits dictionary.now (present (S.history store.now)) }
+    ensures { OnOk result (text.new.items ≡ text.old.items ++ state_text dictionary.now (present (S.history store.now))) }
 {
-    push_list(text, "request", store.list(List::Request)?.as_slice())?;
-    push_list(text, "reply", store.list(List::Reply)?.as_slice())?;
-    push_list(text, "control", store.list(List::Control)?.as_slice())?;
+    push_list(
+        text,
+        dictionary,
+        "request",
+        store.list(List::Request)?.as_slice(),
+    )?;
+    push_list(
+        text,
+        dictionary,
+        "reply",
+        store.list(List::Reply)?.as_slice(),
+    )?;
+    push_list(
+        text,
+        dictionary,
+        "control",
+        store.list(List::Control)?.as_slice(),
+    )?;
     Ok(())
 }
 
@@ -139,17 +129,20 @@ impl Ending {
 /// Runs the sections over a store, and writes the report of the run.
 pub(crate) fn report_of_run<S: Store>(
     alloc: Global,
+    dictionary: &Dictionary,
     store: S,
     sections: Vec<Section>,
 ) -> Result<(Vec<u8>, Outcome), AllocError>
-    requires { sum_by length sections.items ≤ MOST_UPDATE_LINES }
-    ensures { IfOk result (λ report. run_report (run_end sections.items (present (S.history store))) ≡ record { text = report.0.items; outcome = report.1 }) }
+    requires short { sum_by length sections.items ≤ MOST_UPDATE_LINES }
+    requires lines { SectionsFit dictionary.now sections.items }
+    requires pairs { StateFits dictionary.now (present (S.history store)) }
+    ensures { IfOk result (λ report. run_report dictionary.now (run_end sections.items (present (S.history store))) ≡ record { text = report.0.items; outcome = report.1 }) }
 {
     let mut store = store;
     store.reserve(1 + line_count(sections.as_slice()))?;
     let (code, stopped) = run_sections(&mut store, sections)?.result();
     let mut text = Vec::new(alloc);
-    push_lists(&mut text, &store)?;
+    push_lists(&mut text, dictionary, &store)?;
     push_result(&mut text, code, stopped)?;
     let outcome = Outcome {
         code: Some(code),

@@ -4,6 +4,7 @@ ghost use Rattle.std.specs.Prelude.{◌≡◌, ◌≢◌, ◌≤◌, ◌<◌, []
 ghost use Rattle.radpolicy.specs.declared.tokens.Token.TheVariants.{End};
 ghost use Rattle.radpolicy.specs.Tokens.{is_in_word, word_length, quoted_length, quoted_at, word_at, double, single, operator_at, quote_of, text_at, token_at};
 
+use avp_dict::QuoteMark;
 use std::marker::Model;
 
 /// A run of octets of the text, seen by contracts as their list.
@@ -63,20 +64,13 @@ pub(crate) enum Sign {
     AtLeast,
 }
 
-/// What stands round a quoted text.
-#[derive(Clone, Copy, Debug, PartialEq, Eq)]
-pub(crate) enum Quote {
-    Single,
-    Double,
-}
-
 /// What a text begins with, after blanks and comments.
 #[derive(Debug, Drop)]
 pub(crate) enum Token<'a> {
     Operator(Sign),
     Word(Excerpt<'a>),
     /// The octets between the quotes, as they stand in the text.
-    Quoted(Quote, Excerpt<'a>),
+    Quoted(QuoteMark, Excerpt<'a>),
     /// No token begins here.
     Unreadable,
     /// The end of the text.
@@ -201,15 +195,15 @@ fn operator(text: &[u8]) -> Option<(Sign, &[u8])>
     Some((sign, rest))
 }
 
-fn quoted<'a>(quote: Quote, closing: u8, text: &'a [u8]) -> (Token<'a>, &'a [u8])
-    ensures same { (result.0, result.1.now) ≡ quoted_at quote text.now (quoted_length closing false text.now) }
+fn quoted<'a>(mark: QuoteMark, closing: u8, text: &'a [u8]) -> (Token<'a>, &'a [u8])
+    ensures same { (result.0, result.1.now) ≡ quoted_at mark text.now (quoted_length closing false text.now) }
     ensures shorter { length result.1.now ≤ length text.now }
 {
     match quoted_length(closing, text) {
         None => (Token::Unreadable, &text[text.len()..]),
         Some(count) => {
             let octets = &text[..count];
-            (Token::Quoted(quote, Excerpt { octets }), &text[count + 1..])
+            (Token::Quoted(mark, Excerpt { octets }), &text[count + 1..])
         }
     }
 }
@@ -229,12 +223,12 @@ fn word<'a>(text: &'a [u8]) -> (Token<'a>, &'a [u8])
 }
 
 #[tactic(auto, unfolding(crate::specs::Tokens::quote_of))]
-fn quote_of(octet: u8) -> Option<Quote>
+fn quote_of(octet: u8) -> Option<QuoteMark>
     ensures { result ≡ quote_of octet }
 {
     match octet {
-        b'"' => Some(Quote::Double),
-        b'\'' => Some(Quote::Single),
+        b'"' => Some(QuoteMark::Double),
+        b'\'' => Some(QuoteMark::Single),
         _ => None,
     }
 }

@@ -2,10 +2,10 @@ ghost use Rattle.std.specs.Prelude.{◌≡◌, true};
 ghost use Rattle.radpolicy.specs.Faults.{IsPrintedWith};
 
 use super::*;
-use crate::faults::{LineFault, LineKind, PolicyFault, PolicyKind, status};
+use crate::faults::{PolicyFault, PolicyKind, status};
 use crate::outputs::WriteOutput;
 use crate::outputs::tests::Narrow;
-use avp_dict::{DictFault, DictKind};
+use avp_dict::{DictFault, DictKind, LineFault, LineKind};
 use avp_lists::Octets;
 use std::alloc::{AllocError, Global};
 use std::test::Fail;

@@ -5,7 +5,7 @@ use Rattle.radpolicy.proofs.policies.lines.Given as goal
 
 abbrev pub invariant-lines : goal.invariant-lines
 invariant-lines l = record {
-  run : IsRun begins_line (LineIs l.own) l.initial.rest l.edits.items l.rest;
+  run : IsRun begins_line (LineIs l.dictionary l.own) l.initial.rest l.edits.items l.rest;
   within : length l.rest.text ≤ length l.initial.rest.text;
 }
 

@@ -5,7 +5,7 @@ use Rattle.radpolicy.proofs.Runs.{IsRun}
 use Rattle.radpolicy.proofs.policies.read_policy.Given as goal
 
 abbrev pub invariant-sections : goal.invariant-sections
-invariant-sections l = IsRun goes_on SectionIs (start_of l.text) l.sections.items l.rest
+invariant-sections l = IsRun goes_on (SectionIs l.dictionary) (start_of l.text) l.sections.items l.rest
 
 abbrev pub decreases-sections : goal.decreases-sections
 decreases-sections l = length l.rest.text
