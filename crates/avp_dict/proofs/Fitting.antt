@@ -27,10 +27,13 @@ use Rattle.avp_dict.specs.declared.readings.Reading.{Reading}
 use Rattle.avp_dict.specs.declared.readings.Typing.{Typing}
 use Rattle.avp_dict.specs.declared.value_faults.ValueFault.TheVariants.{NotWritable, TooLong}
 use Rattle.avp_dict.specs.Attributes.{is_extended}
-use Rattle.avp_dict.specs.Definitions.{is_attribute_named, is_attribute_of, last_where}
+use Rattle.avp_dict.specs.declared.entries.Format.{Format}
+use Rattle.avp_dict.specs.declared.readings.VendorFormat.{VendorFormat}
+use Rattle.avp_dict.specs.Definitions.{format_of, format_of_line, is_attribute_named, is_attribute_of, is_vendor_numbered, last_where}
+use Rattle.avp_dict.specs.Vendors.{is_format}
 use Rattle.avp_dict.specs.Letters.{begins_as_attr, is_dot}
 use Rattle.avp_dict.specs.Limits.{fits, is_known, is_typed, is_within}
-use Rattle.avp_dict.specs.Names.{Described, number_named, described, described_by, extended_numbered, id_numbered, is_vendor_specific, named, named_by, plain_numbered, vendor_id_numbered}
+use Rattle.avp_dict.specs.Names.{Described, number_named, described, described_by, extended_numbered, id_numbered, is_vendor_specific, named, named_by, plain_numbered, unless_three, vendor_format, vendor_id_numbered}
 use Rattle.avp_dict.specs.Octets.{is_hideable, kind_described, kind_of, number_value, read_by, read_value, signed_value, value_of_octets, value_read}
 use Rattle.avp_dict.specs.RequestLines.{Assignment, assignments_of, joined}
 use Rattle.avp_dict.specs.Requests.{few_enough, pair_named, pair_spelled, pair_with, pairs_spelled, request_spelled}
@@ -85,6 +88,33 @@ last_holds P test lines h =
     found_holds P test (reverse lines) (λ k d lt.
     let within : k < length lines = omega (arith, length-reverse lines) in
     rw (get_or-reverse lines k d within) (h (length lines - 1 - k) d (omega arith)))
+
+-- the formats of vendors that are read are those that there are
+module _ (d : List Reading) where
+  formatted_line : (m : Meaning) (file line : ℕ) → IsSoundLine d (record { file = file; line = line; meaning = m }) → IfSome (format_of_line (record { file = file; line = line; meaning = m })) (λ f. is_format f.t f.l ≡ true)
+  formatted_line (meanings.Vendor n v f) file line h = h
+  formatted_line _ file line h = tt
+
+  two_parts_of : (f : VendorFormat) → is_format f.t f.l ≡ true → IfSome (unless_three f) (λ g. is_format g.t g.l ≡ true)
+  two_parts_of f h = by_third f.third
+    where
+      by_third : (b : Bool) → IfSome (cond b None (Some (record { t = f.t; l = f.l }))) (λ (g : Format). is_format g.t g.l ≡ true)
+      by_third true = tt
+      by_third false = h
+
+  then_two : (o : Option VendorFormat) → IfSome o (λ f. is_format f.t f.l ≡ true) → IfSome (option_and_then unless_three o) (λ f. is_format f.t f.l ≡ true)
+  then_two None h = tt
+  then_two (Some f) h = two_parts_of f h
+
+  found_format : (o : Option Reading) → IfSome o (IsSoundLine d) → IfSome (option_and_then format_of_line o) (λ f. is_format f.t f.l ≡ true)
+  found_format None h = tt
+  found_format (Some r) h = formatted_line r.meaning r.file r.line h
+
+  pub formats_known : IsSound d → (vendor : ℕ) → IfSome (vendor_format vendor d) (λ f. is_format f.t f.l ≡ true)
+  unfolding vendor_format format_of
+  formats_known sound vendor =
+      then_two (option_and_then format_of_line (last_where (is_vendor_numbered vendor) d))
+      (found_format (last_where (is_vendor_numbered vendor) d) (last_holds (IsSoundLine d) (is_vendor_numbered vendor) d sound))
 
 module _ (d : List Reading) where
   known_line : (m : Meaning) (file line : ℕ) → IsSoundLine d (record { file = file; line = line; meaning = m }) → IfSome (id_of_line (record { file = file; line = line; meaning = m })) (λ id. is_known id d ≡ true)
@@ -273,6 +303,10 @@ module _ (d : List Reading) where
   pub spelled_fits : IsSound d → (name text : List ℕ) (pair : Pair) → option_and_then (pair_named d text) (named name d) ≡ Some pair → fits pair d ≡ true
   spelled_fits sound name text pair e =
       of_found (λ p. fits p d ≡ true) (option_and_then (pair_named d text) (named name d)) pair e (named_fits text (named name d) (known_named sound name))
+
+  -- a name stands for a known attribute
+  pub names_known : IsSound d → (name : List ℕ) (found : Named) → named name d ≡ Some found → is_known found.id d ≡ true
+  names_known sound name found e = of_found (λ n. is_known n.id d ≡ true) (named name d) found e (known_named sound name)
 
   abbrev AreFitting : List Pair → Type 0
   AreFitting pairs = list_all (λ pair. fits pair d) pairs ≡ true

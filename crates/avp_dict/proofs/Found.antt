@@ -9,12 +9,13 @@ use Rattle.avp_lists.specs.declared.attributes.AttrId.{AttrId}
 use Rattle.avp_lists.specs.Pairs.{id_eq}
 use Rattle.avp_lists.proofs.Equality.{id_eq-same, same_id}
 use Rattle.avp_dict.specs.declared.readings.Meaning.{Meaning}
-use Rattle.avp_dict.specs.declared.readings.Meaning.TheVariants.{Attribute, Value}
+use Rattle.avp_dict.specs.declared.readings.Meaning.TheVariants.{Attribute, Value, Vendor}
 use Rattle.avp_dict.specs.declared.readings.Reading.{Reading}
 use Rattle.avp_dict.specs.declared.readings.Typing.{Typing}
 use Rattle.avp_dict.proofs.Agreement.{same_name_refl}
 use Rattle.avp_dict.specs.Definitions.{is_attribute_named, is_attribute_of, names_other_id}
 use Rattle.avp_dict.specs.Names.{Described, described, described_by, is_value_named, is_value_numbered, name_numbered, name_of_line, named, named_by, number_named, number_of_line}
+use Rattle.avp_dict.specs.Vendors.{is_format}
 use Rattle.avp_dict.specs.Soundness.{IsSound, IsSoundAttribute, IsSoundLine, IsSoundValue}
 use Rattle.avp_dict.specs.Values.{id_named, id_of_line, names_other_value, reads_as_number, typing_of_id, typing_of_line}
 use Rattle.avp_dict.specs.Words.{digits, is_hexadecimal, number_of, same_name}
@@ -66,7 +67,7 @@ abbrev description : Meaning → Option Described
 description m = elim m [ Attribute n i t ↦ Some (record { name = n; kind = t.kind; hidden = t.hidden }) | _ ↦ None ]
 
 abbrev IsSoundMeaning : List Reading → Meaning → Type 0
-IsSoundMeaning lines m = elim m [ Attribute n i t ↦ IsSoundAttribute lines n i t | Value i n v ↦ IsSoundValue lines i n v | _ ↦ Unit {0} ]
+IsSoundMeaning lines m = elim m [ Attribute n i t ↦ IsSoundAttribute lines n i t | Value i n v ↦ IsSoundValue lines i n v | Vendor n v f ↦ is_format f.t f.l ≡ true | _ ↦ Unit {0} ]
 
 record AttributeIs (lines : List Reading) (id : AttrId) (m : Meaning) : Type 0 where
   name : List ℕ

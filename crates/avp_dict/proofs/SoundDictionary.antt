@@ -29,6 +29,7 @@ use Rattle.avp_dict.specs.Settled.{holds, is_in_format, is_kept, settled, settle
 use Rattle.avp_dict.specs.Soundness.{IsSound, IsSoundAttribute, IsSoundValue}
 use Rattle.avp_dict.specs.Steps.{refused_at, ◌>>=◌}
 use Rattle.avp_dict.specs.Values.{id_named, is_value_name, most_of_typing, names_other_value, reads_as_number, resolve, resolved_meaning, typing_of_id, value_of, value_up_to}
+use Rattle.avp_dict.specs.Vendors.{is_format}
 use Rattle.avp_dict.specs.Words.{same_name}
 
 -- ---- formats of vendors, where no VENDOR line changes
@@ -80,7 +81,7 @@ is_known-formats (ids.Extended t n) xs ys h = refl
 
 -- of a settled line; VALUE lines are not resolved yet
 abbrev IsSettled : List Reading → Meaning → Type 0
-IsSettled lines m = elim m [ Attribute n i t ↦ IsSoundAttribute lines n i t | Value i n v ↦ ⊥ | _ ↦ Unit {0} ]
+IsSettled lines m = elim m [ Attribute n i t ↦ IsSoundAttribute lines n i t | Value i n v ↦ ⊥ | Vendor n v f ↦ is_format f.t f.l ≡ true | _ ↦ Unit {0} ]
 
 abbrev IsSettledLine : List Reading → Reading → Type 0
 IsSettledLine lines r = IsSettled lines r.meaning
@@ -131,6 +132,7 @@ module _ (lines : List Reading) where
     hides = h.hides;
   })
   settles (Value i n v) h = h
+  settles (Vendor n v f) h = h
   settles _ h = tt
 
   are_settled : AreRead lines → All (IsSettledLine (settled lines)) (settled lines)
@@ -140,7 +142,7 @@ module _ (lines : List Reading) where
 -- ---- resolved lines
 
 abbrev IsSoundMeaning : List Reading → Meaning → Type 0
-IsSoundMeaning lines m = elim m [ Attribute n i t ↦ IsSoundAttribute lines n i t | Value i n v ↦ IsSoundValue lines i n v | _ ↦ Unit {0} ]
+IsSoundMeaning lines m = elim m [ Attribute n i t ↦ IsSoundAttribute lines n i t | Value i n v ↦ IsSoundValue lines i n v | Vendor n v f ↦ is_format f.t f.l ≡ true | _ ↦ Unit {0} ]
 
 -- the line, whatever it says of values
 abbrev outline_meaning : Meaning → Meaning
@@ -184,7 +186,7 @@ agrees_itself i n v = let e : (v == v) ≡ true = grind arith in rw e (last_fals
 
 -- of a line, by the lines that are resolved, and of an ATTRIBUTE line by all
 abbrev IsResolved : List Reading → List Reading → Meaning → Type 0
-IsResolved all lines m = elim m [ Attribute n i t ↦ IsSoundAttribute all n i t | Value i n v ↦ IsSoundValue lines i n v | _ ↦ Unit {0} ]
+IsResolved all lines m = elim m [ Attribute n i t ↦ IsSoundAttribute all n i t | Value i n v ↦ IsSoundValue lines i n v | Vendor n v f ↦ is_format f.t f.l ≡ true | _ ↦ Unit {0} ]
 
 abbrev IsResolvedLine : List Reading → List Reading → Reading → Type 0
 IsResolvedLine all lines r = IsResolved all lines r.meaning
@@ -218,6 +220,7 @@ module _ (all before : List Reading) where
     alone = All-push (λ r. names_other_value i n v r ≡ false) before new h.alone (agrees_back i n v new.meaning agrees);
   }
   widened new (Attribute n i t) h agrees = h
+  widened new (Vendor n v f) h agrees = h
   widened new _ h agrees = tt
 
   itself : (file line : ℕ) (m : Meaning) → IsResolved all before m → IsResolved all (before ++ record { file = file; line = line; meaning = m } ∷ []) m
@@ -226,6 +229,7 @@ module _ (all before : List Reading) where
     alone = All-push (λ r. names_other_value i n v r ≡ false) before (record { file = file; line = line; meaning = Value i n v }) h.alone (agrees_itself i n v);
   }
   itself file line (Attribute n i t) h = h
+  itself file line (Vendor n v f) h = h
   itself file line _ h = tt
 
   one_more : (new : Reading) → All (IsResolvedLine all before) before → IsResolved all before new.meaning → All (IsResolvedLine all (before ++ new ∷ [])) (before ++ new ∷ [])
@@ -252,6 +256,7 @@ module _ (all before : List Reading) where
   resolved_resolves (Unresolved attribute name number) h = value_of_resolves attribute name number (id_named attribute all)
   resolved_resolves (Attribute n i t) h = (h, refl)
   resolved_resolves (Value i n v) h = absurd h
+  resolved_resolves (Vendor n v f) h = (h, refl)
   resolved_resolves _ h = (tt, refl)
 
 -- ---- what is resolved is sound
@@ -280,6 +285,7 @@ module _ (all lines : List Reading) (same : map outline lines ≡ map outline al
     hides = h.hides;
   }
   sound_meaning (Value i n v) h = h
+  sound_meaning (Vendor n v f) h = h
   sound_meaning _ h = tt
 
   sound_lines : All (IsResolvedLine all lines) lines → IsSound lines

@@ -1,6 +1,7 @@
 -- What each line is read as keeps to what holds of every dictionary.
 use Rattle.std.proofs.Common.{◌≡◌, ℕ, Bool, true, false, not, cond, ◌&&◌, ◌<◌, nat_lt, nat_le, codes, List, [], ◌∷◌, ◌++◌, length, get_or, Option, Some, None, Result, Ok, Err, refl}
 use Rattle.std.specs.List.{All, list_all, list_any, slice_split}
+use Rattle.std.specs.Prelude.{IfSome, drop, take}
 use Rattle.std.specs.Option.{is_none}
 use Rattle.std.proofs.lemmas.List.Elements.{All-nil, All-push}
 use Rattle.avp_lists.specs.declared.attributes.AttrId.{AttrId}
@@ -14,7 +15,7 @@ use Rattle.avp_dict.specs.declared.files.NamedFile.{NamedFile}
 use Rattle.avp_dict.specs.declared.readings.Kind.{Kind}
 use Rattle.avp_dict.specs.declared.readings.Kind.TheVariants.{Text, Bytes}
 use Rattle.avp_dict.specs.declared.readings.Meaning.{Meaning}
-use Rattle.avp_dict.specs.declared.readings.Meaning.TheVariants.{Skipped, SkippedAttribute, Attribute, Unresolved, Value, BeginVendor}
+use Rattle.avp_dict.specs.declared.readings.Meaning.TheVariants.{Skipped, SkippedAttribute, Attribute, Unresolved, Value, Vendor, BeginVendor}
 use Rattle.avp_dict.specs.declared.readings.Reading.{Reading}
 use Rattle.avp_dict.specs.declared.readings.Typing.{Typing}
 use Rattle.avp_dict.specs.declared.readings.VendorFormat.{VendorFormat}
@@ -22,12 +23,12 @@ use Rattle.avp_dict.proofs.Agreement.{All-from_none, other_id_sym, same_name_ref
 use Rattle.avp_dict.specs.Attributes.{attribute, attribute_line, attribute_of, dotted_word, id_word, is_attribute_name, is_extended, is_held, is_number, number_id, number_word, vendor_id}
 use Rattle.avp_dict.specs.Blocks.{begin_known, begin_tlv, begin_vendor, block_vendor, end_tlv, end_vendor, ended, is_skipping, open_blocks, unless_third}
 use Rattle.avp_dict.specs.Definitions.{format_of, names_other_id, names_other_vendor, vendor_named}
-use Rattle.avp_dict.specs.Letters.{begins_as_attr, is_comma, is_dot, is_name_octet, word_before_bracket}
+use Rattle.avp_dict.specs.Letters.{begins_as_attr, is_comma, is_comma, is_dot, is_name_octet, word_before_bracket}
 use Rattle.avp_dict.specs.Lines.{Line, file_included, is_include}
 use Rattle.avp_dict.specs.Readings.{include, plain_line, read_head, read_line, read_lines, read_words, skipped, value}
 use Rattle.avp_dict.specs.Steps.{refused_at, ◌>>=◌}
 use Rattle.avp_dict.specs.Types.{are_flags, is_fixed, is_hiding, is_opaque, is_text_kind, kind_word, typing_by, typing_of}
-use Rattle.avp_dict.specs.Vendors.{bounded, format_word, is_vendor_name, standard_format, vendor, vendor_line, vendor_numbered}
+use Rattle.avp_dict.specs.Vendors.{bounded, format_parts, format_word, is_format, is_vendor_name, standard_format, two_parts, vendor, vendor_line, vendor_numbered}
 use Rattle.avp_dict.specs.Words.{number_of, same_name, words_of}
 
 -- ---- what is kept
@@ -45,7 +46,7 @@ pub record IsReadAttribute (lines : List Reading) (name : List ℕ) (id : AttrId
 
 -- VALUE lines are not resolved yet
 abbrev pub IsRead : List Reading → Meaning → Type 0
-IsRead lines m = elim m [ Attribute n i t ↦ IsReadAttribute lines n i t | Value i n v ↦ ⊥ | _ ↦ Unit {0} ]
+IsRead lines m = elim m [ Attribute n i t ↦ IsReadAttribute lines n i t | Value i n v ↦ ⊥ | Vendor n v f ↦ is_format f.t f.l ≡ true | _ ↦ Unit {0} ]
 
 abbrev pub IsReadLine : List Reading → Reading → Type 0
 IsReadLine lines r = IsRead lines r.meaning
@@ -82,6 +83,7 @@ widened before new (Attribute n i t) h agrees = record {
   hides = h.hides;
 }
 widened before new (Value i n v) h agrees = h
+widened before new (Vendor n v f) h agrees = h
 widened before new _ h agrees = tt
 
 itself : (before : List Reading) (file line : ℕ) (m : Meaning) → IsRead before m → IsRead (before ++ record { file = file; line = line; meaning = m } ∷ []) m
@@ -92,6 +94,7 @@ itself before file line (Attribute n i t) h = record {
   hides = h.hides;
 }
 itself before file line (Value i n v) h = h
+itself before file line (Vendor n v f) h = h
 itself before file line _ h = tt
 
 one_more : (before : List Reading) (new : Reading) → AreRead before → IsRead before new.meaning → AreRead (before ++ new ∷ [])
@@ -228,21 +231,50 @@ module _ (before : List Reading) where
   value_reads (attribute ∷ name ∷ number ∷ []) = then_read (bounded 18446744073709551615 number) (λ n. Ok (Unresolved attribute name n)) (λ n. tt)
   value_reads (attribute ∷ name ∷ number ∷ other ∷ rest) = tt
 
-  vendor_numbered_reads : (name : List ℕ) (f : VendorFormat) (n : ℕ) → Reads before (vendor_numbered before name f n)
-  unfolding vendor_numbered
-  vendor_numbered_reads name f n = either before (list_any (names_other_vendor name n) before) _ _ tt tt
+  -- the format, if there is one, is one of those that there are
+  abbrev IsKnownFormat : Option VendorFormat → Type 0
+  IsKnownFormat f = IfSome f (λ (g : VendorFormat). is_format g.t g.l ≡ true)
 
-  vendor_line_reads : (name number : List ℕ) (f : Option VendorFormat) → Reads before (vendor_line before name number f)
+  two_parts_known : (third : Bool) (t l : Option ℕ) → IsKnownFormat (two_parts third t l)
+  two_parts_known third None l = tt
+  two_parts_known third (Some t) None = tt
+  two_parts_known third (Some t) (Some l) = kept (is_format t l) refl
+    where
+      kept : (b : Bool) → is_format t l ≡ b → IsKnownFormat (cond b (Some (record { t = t; l = l; third = third })) None)
+      kept true e = e
+      kept false e = tt
+
+  format_parts_known : (parts : List (List ℕ)) → IsKnownFormat (format_parts parts)
+  format_parts_known (t ∷ l ∷ []) = two_parts_known false (number_of t) (number_of l)
+  format_parts_known (t ∷ l ∷ c ∷ []) = two_parts_known true (number_of t) (number_of l)
+  format_parts_known [] = tt
+  format_parts_known (t ∷ []) = tt
+  format_parts_known (t ∷ l ∷ c ∷ d ∷ more) = tt
+
+  known_or_none : (b c : Bool) (f : Option VendorFormat) → IsKnownFormat f → IsKnownFormat (cond b None (cond c f None))
+  known_or_none true c f h = tt
+  known_or_none false true f h = h
+  known_or_none false false f h = tt
+
+  format_word_known : (word : List ℕ) → IsKnownFormat (format_word word)
+  unfolding format_word
+  format_word_known word = known_or_none (nat_lt (length word) 7) (same_name (take 7 word) (codes "format=")) (format_parts (slice_split is_comma (drop 7 word))) (format_parts_known (slice_split is_comma (drop 7 word)))
+
+  vendor_numbered_reads : (name : List ℕ) (f : VendorFormat) → is_format f.t f.l ≡ true → (n : ℕ) → Reads before (vendor_numbered before name f n)
+  unfolding vendor_numbered
+  vendor_numbered_reads name f known n = either before (list_any (names_other_vendor name n) before) _ _ tt known
+
+  vendor_line_reads : (name number : List ℕ) (f : Option VendorFormat) → IsKnownFormat f → Reads before (vendor_line before name number f)
   unfolding vendor_line
-  vendor_line_reads name number None = tt
-  vendor_line_reads name number (Some f) = either before (is_vendor_name name) _ _ (then_read (bounded 4294967295 number) (vendor_numbered before name f) (vendor_numbered_reads name f)) tt
+  vendor_line_reads name number None known = tt
+  vendor_line_reads name number (Some f) known = either before (is_vendor_name name) _ _ (then_read (bounded 4294967295 number) (vendor_numbered before name f) (vendor_numbered_reads name f known)) tt
 
   vendor_reads : (rest : List (List ℕ)) → Reads before (vendor before rest)
   unfolding vendor
   vendor_reads [] = tt
   vendor_reads (name ∷ []) = tt
-  vendor_reads (name ∷ number ∷ []) = vendor_line_reads name number (Some standard_format)
-  vendor_reads (name ∷ number ∷ format ∷ []) = vendor_line_reads name number (format_word format)
+  vendor_reads (name ∷ number ∷ []) = vendor_line_reads name number (Some standard_format) refl
+  vendor_reads (name ∷ number ∷ format ∷ []) = vendor_line_reads name number (format_word format) (format_word_known format)
   vendor_reads (name ∷ number ∷ format ∷ other ∷ rest) = tt
 
   -- ---- ATTRIBUTE lines

@@ -1,11 +1,14 @@
 //! Laws of every dictionary, as calls that do nothing: their contracts are what they are for.
 
-ghost use Rattle.std.specs.Prelude.{◌≡◌, length, IfOk, IfErr, IsTrue};
-ghost use Rattle.avp_dict.specs.Limits.{fits};
+ghost use Rattle.std.specs.Prelude.{◌≡◌, ℕ, List, Some, true, length, IfSome, IsTrue};
+ghost use Rattle.avp_dict.specs.Limits.{fits, is_known};
 ghost use Rattle.avp_dict.specs.Quotes.{between_quotes, double_quoted_octets};
 ghost use Rattle.avp_dict.specs.ReadingBack.{ReadsBack, is_writable, unquoted};
 ghost use Rattle.avp_dict.specs.Soundness.{IsSound};
+ghost use Rattle.avp_dict.specs.Names.{named, vendor_format};
+ghost use Rattle.avp_dict.specs.declared.entries.Named.{Named};
 ghost use Rattle.avp_dict.specs.SpelledPairs.{SpelledPairsFit};
+ghost use Rattle.avp_dict.specs.Vendors.{is_format};
 ghost use Rattle.avp_dict.specs.code.Ranges.{AreOctets, IsIdInRange, IsValueInRange};
 
 use crate::dictionaries::Dictionary;
@@ -50,6 +53,16 @@ fn value_in_range(value: &Value)
 }
 
 impl Dictionary {
+    /// What holds of the lines of every dictionary that was read: a name stands for a known attribute, and a vendor has
+    /// one of the formats that there are.
+    pub fn is_sound(&self)
+        ensures sound { IsSound self.now }
+        ensures names { (name : List ℕ) (found : Named) → named name self.now ≡ Some found → is_known found.id self.now ≡ true }
+        ensures formats { (vendor : ℕ) → IfSome (vendor_format vendor self.now) (λ f. is_format f.t f.l ≡ true) }
+    {
+        let _lines = self.readings();
+    }
+
     /// What is printed for a pair is read back: the printed name names the attribute, and the printed text, a string's
     /// between its quotes, stands for the value.
     pub fn printed_back(&self, pair: &Pair)

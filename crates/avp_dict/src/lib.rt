@@ -56,5 +56,7 @@ pub use gather::MOST_LINES;
 pub use line_faults::{LineFault, LineKind};
 pub use quotes::{QuoteMark, octets_between, quote};
 pub use readings::{Kind, Meaning, Reading, Typing, VendorFormat};
+pub use requests::next_line;
 pub use value_faults::ValueFault;
 pub use value_texts::is_container;
+pub use words::words_between_blanks;

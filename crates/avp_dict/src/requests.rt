@@ -22,8 +22,8 @@ use crate::words::without_comment;
 use avp_lists::{MOST_PAIRS, Pair};
 use std::alloc::Global;
 
-// The first line of a text without its end, and what follows it; none where nothing is left.
-fn next_line(text: &[u8]) -> Option<(&[u8], &[u8])>
+/// The first line of a text without its end, and what follows it; none where nothing is left.
+pub fn next_line(text: &[u8]) -> Option<(&[u8], &[u8])>
     ensures cut { MatchOption result (texts_of text.now ≡ []) (λ x. texts_of text.now ≡ x.0.now ∷ texts_of x.1.now) }
     ensures shorter { IfSome result (λ x. length x.1.now < length text.now) }
 {

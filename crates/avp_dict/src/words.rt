@@ -51,7 +51,8 @@ fn push_part<'a>(words: &mut Vec<&'a [u8]>, part: &'a [u8]) -> Result<(), AllocE
     Ok(())
 }
 
-fn parts(alloc: Global, plain: &[u8]) -> Result<Vec<&[u8]>, AllocError>
+/// What stands between spaces, tabs and CRs.
+pub fn words_between_blanks(alloc: Global, plain: &[u8]) -> Result<Vec<&[u8]>, AllocError>
     ensures { IfOk result (λ words. views words.items ≡ filter is_word (slice_split is_blank plain.now)) }
 {
     let mut words = Vec::new(alloc);
@@ -68,7 +69,7 @@ fn parts(alloc: Global, plain: &[u8]) -> Result<Vec<&[u8]>, AllocError>
 pub fn words(alloc: Global, text: &[u8]) -> Result<Vec<&[u8]>, AllocError>
     ensures { IfOk result (λ words. views words.items ≡ words_of text.now) }
 {
-    parts(alloc, without_comment(text))
+    words_between_blanks(alloc, without_comment(text))
 }
 
 fn to_lower(octet: u8) -> u8

@@ -1,6 +1,6 @@
 use Rattle.std.proofs.Common.{◌≡◌, ◌++◌, length}
 use Rattle.std.specs.List.{filter, slice_split}
-use Rattle.avp_dict.proofs.words.parts.Given as goal
+use Rattle.avp_dict.proofs.words.words_between_blanks.Given as goal
 use Rattle.avp_dict.specs.Words.{is_blank, is_word}
 use Rattle.avp_dict.specs.code.Views.{views}
 

@@ -1,0 +1,17 @@
+pub mod Assembled
+pub mod Fitted
+pub mod FittedLists
+pub mod Masks
+pub mod Means
+pub mod Nuls
+pub mod Octets
+pub mod OneMeaning
+pub mod PairCounts
+pub mod ReadBack
+pub mod Refused
+pub mod Rooms
+pub mod Runs
+pub mod Splits
+pub mod Subs
+pub mod Values
+pub mod Written

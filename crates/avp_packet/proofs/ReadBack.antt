@@ -1,0 +1,310 @@
+-- What is written of clean lists means the pairs that were sent.
+use Rattle.std.proofs.Common.{◌≡◌, ◌∙◌, ℕ, zero, suc, ◌+◌, ◌-◌, ◌*◌, ◌/◌, ◌^◌, ◌<◌, ◌≤◌, Bool, true, false, not, ◌&&◌, ◌||◌, ◌==◌, nat_le, cond, List, [], ◌∷◌, ◌++◌, length, take, drop, Option, Some, None, refl, sym, ap, arith, append-nil, append_assoc, ◌⊎◌, inl, inr}
+use Rattle.std.specs.Prelude.{IfSome}
+use Rattle.std.specs.Int.{bytes_high_first}
+use Rattle.std.specs.Int.Digits.{number_from_digits}
+use Rattle.std.specs.List.{All, AllByRecursion, flat_map, list_all}
+use Rattle.std.proofs.lemmas.List.Elements.{recursion_from_All}
+use Rattle.std.specs.Option.{option_and_then}
+use Rattle.std.proofs.lemmas.Bool.{false≢true}
+use Rattle.std.proofs.lemmas.Grind.{common_steps}
+use Rattle.std.proofs.lemmas.List.{drop_all, drop_at, length-append, length-drop, length-take-le, take_at, take_all, take-append-drop}
+use Rattle.avp_lists.specs.declared.attributes.AttrId.{AttrId}
+use Rattle.avp_lists.specs.declared.attributes.AttrId.TheVariants.{Plain, Vendor, Extended}
+use Rattle.avp_lists.specs.declared.attributes.Pair.{Pair}
+use Rattle.avp_lists.specs.declared.attributes.Value.{Value}
+use Rattle.avp_dict.specs.declared.entries.Format.{Format}
+use Rattle.avp_dict.specs.declared.readings.Reading.{Reading}
+use Rattle.avp_dict.specs.declared.readings.VendorFormat.{VendorFormat}
+use Rattle.avp_dict.specs.Definitions.{format_of}
+use Rattle.avp_dict.specs.Limits.{fits, is_known}
+use Rattle.avp_dict.specs.Names.{unless_three, vendor_format}
+use Rattle.avp_dict.specs.Sent.{is_canonical, is_clean, is_clean_pair, is_container, is_internal, is_sent, sent}
+use Rattle.avp_dict.specs.Settled.{holds, is_in_format}
+use Rattle.avp_dict.specs.Soundness.{IsSound}
+use Rattle.avp_dict.specs.Vendors.{is_format}
+use Rattle.avp_packet.specs.AttributeOctets.{attribute_octets, fragments, is_long, part, parts_holding, parts_of, parts_of_pair, sent_octets, vendor_value}
+use Rattle.avp_packet.specs.Meanings.{Run, are_subs, are_subs_behind, begins_sub, extended_type, first_run, first_sub, meaning, others, pair_of, piece_of, run, sub_length, subs, subs_behind, vendor_of, vendor_subs}
+use Rattle.avp_packet.specs.Splitting.{Part, part_octets, parts}
+use Rattle.avp_packet.specs.VendorFormats.{HasKnownFormats, known_format, usable}
+use Rattle.avp_packet.specs.code.Holding.{CanHold, FitsFormat}
+use Rattle.avp_packet.specs.code.Ranges.{IsVendorInRange}
+use Rattle.avp_packet.proofs.Means.{meaning-cons, meaning-nil}
+use Rattle.avp_packet.proofs.Rooms.{and_left, and_right, by_test, fits_known, format_of_size, sent_by, sent_held}
+use Rattle.avp_packet.proofs.Runs.{run-some, run_rest}
+use Rattle.avp_packet.proofs.Splits.{parts-all, parts-none}
+use Rattle.avp_packet.proofs.Subs.{are_subs_more, subs_more}
+use Rattle.avp_packet.proofs.Values.{value_back}
+use Rattle.avp_packet.proofs.Written.{length-bytes_high_first, length-vendor_value}
+
+-- ---- numbers
+
+number_back : (k n : ℕ) → k ≤ 4 → n < 256 ^ k → number_from_digits 256 (bytes_high_first k n) ≡ n
+number_back zero n h lt = omega arith
+number_back (suc zero) n h lt = omega arith
+number_back (suc (suc zero)) n h lt = omega arith
+number_back (suc (suc (suc zero))) n h lt = omega arith
+number_back (suc (suc (suc (suc zero)))) n h lt = omega arith
+number_back (suc (suc (suc (suc (suc k))))) n h lt = absurd (omega arith)
+
+test_same : (n : ℕ) → (n == n) ≡ true
+test_same n = grind (arith, common_steps)
+
+-- ---- a vendor's attribute
+
+format_small : (f : Format) → is_format f.t f.l ≡ true → (1 ≤ f.t) × (f.t ≤ 4) × (f.l ≤ 2)
+format_small f h = go (format_of_size f.t f.l h).0 (format_of_size f.t f.l h).1
+  where
+    go : ((f.t ≡ 1) ⊎ ((f.t ≡ 2) ⊎ (f.t ≡ 4))) → f.l ≤ 2 → (1 ≤ f.t) × (f.t ≤ 4) × (f.l ≤ 2)
+    go (inl e) l = (omega arith, omega arith, l)
+    go (inr (inl e)) l = (omega arith, omega arith, l)
+    go (inr (inr e)) l = (omega arith, omega arith, l)
+
+module _ (f : Format) (good : is_format f.t f.l ≡ true) (number : ℕ) (os : List ℕ) (held : FitsFormat number os f) where
+  abbrev size : ℕ
+  size = f.t + f.l + length os
+
+  abbrev sub_octets : List ℕ
+  sub_octets = bytes_high_first f.t number ++ bytes_high_first f.l size ++ os
+
+  length-sub_octets : length sub_octets ≡ size
+  length-sub_octets =
+      let a = length-append (bytes_high_first f.t number ++ bytes_high_first f.l size) os in
+      let b = length-append (bytes_high_first f.t number) (bytes_high_first f.l size) in
+      let d = length-bytes_high_first f.t number in
+      let e = length-bytes_high_first f.l size in
+      omega arith
+
+  size_fits : 1 ≤ f.l → size < 256 ^ f.l
+  size_fits some = go f.l refl (format_small f good).2
+    where
+      go : (l : ℕ) → f.l ≡ l → l ≤ 2 → size < 256 ^ l
+      go zero e h = absurd (omega arith)
+      go (suc zero) e h = omega (arith, held.1)
+      go (suc (suc zero)) e h = omega (arith, held.1)
+      go (suc (suc (suc l))) e h = absurd (omega arith)
+
+  type_first : take f.t sub_octets ≡ bytes_high_first f.t number
+  type_first = rw append_assoc (take_at (bytes_high_first f.t number) (bytes_high_first f.l size ++ os) f.t (length-bytes_high_first f.t number))
+
+  length_behind : drop f.t sub_octets ≡ bytes_high_first f.l size ++ os
+  length_behind = rw append_assoc (drop_at (bytes_high_first f.t number) (bytes_high_first f.l size ++ os) f.t (length-bytes_high_first f.t number))
+
+  value_behind : drop (f.t + f.l) sub_octets ≡ os
+  value_behind =
+      let a = length-append (bytes_high_first f.t number) (bytes_high_first f.l size) in
+      let d = length-bytes_high_first f.t number in
+      let e = length-bytes_high_first f.l size in
+      drop_at (bytes_high_first f.t number ++ bytes_high_first f.l size) os (f.t + f.l) (omega arith)
+
+  sub_length_is : sub_length f sub_octets ≡ size
+  sub_length_is =
+      by_test (sub_length f sub_octets ≡ size) (f.l == 0)
+      (λ e. rw e length-sub_octets)
+      (λ e. let some : 1 ≤ f.l = grind (arith, common_steps) in
+      let small = format_small f good in
+      rw (e, length_behind, take_at (bytes_high_first f.l size) os f.l (length-bytes_high_first f.l size)) (number_back f.l size (omega (arith, small.2)) (size_fits some)))
+
+  begins : begins_sub f sub_octets ≡ true
+  begins =
+      let long = length-sub_octets in
+      let told = sub_length_is in
+      let a : nat_le (f.t + f.l) (length sub_octets) ≡ true = grind (arith, common_steps) in
+      let b : nat_le (f.t + f.l) (sub_length f sub_octets) ≡ true = grind (arith, common_steps) in
+      let d : nat_le (sub_length f sub_octets) (length sub_octets) ≡ true = grind (arith, common_steps) in
+      rw (a, b, d)
+
+  first_is : first_sub f sub_octets ≡ record { number = number; value = os }
+  first_is =
+      let small = format_small f good in
+      let n : number_from_digits 256 (take f.t sub_octets) ≡ number = rw type_first (number_back f.t number (omega (arith, small.1)) held.0) in
+      let told = sub_length_is in
+      let rest : sub_length f sub_octets - (f.t + f.l) ≡ length os = omega arith in
+      rw (n, rest, value_behind, take_all (length os) os (omega arith))
+
+  none_behind : drop (sub_length f sub_octets) sub_octets ≡ []
+  none_behind = drop_all (sub_length f sub_octets) sub_octets (omega (arith, sub_length_is, length-sub_octets))
+
+  some_octets : 0 < length sub_octets
+  some_octets = let small = format_small f good in omega (arith, length-sub_octets, small.0)
+
+  subs_is : subs f sub_octets ≡ record { number = number; value = os } ∷ []
+  unfolding subs_behind
+  subs_is = subs_more f sub_octets good some_octets begins ∙ rw (first_is, none_behind)
+
+  are_subs_is : are_subs f sub_octets ≡ true
+  unfolding are_subs_behind
+  are_subs_is =
+      let some = some_octets in
+      let there : (length sub_octets == 0) ≡ false = grind (arith, common_steps) in
+      rw there (are_subs_more f sub_octets good some_octets begins ∙ rw none_behind)
+
+-- ---- the format of a known vendor
+
+known_by : (n : ℕ) (o : Option VendorFormat) → holds n o ≡ true → IfSome (option_and_then unless_three o) (λ f. is_format f.t f.l ≡ true) → (f : Format) × (option_and_then usable (option_and_then unless_three o) ≡ Some f) × (is_format f.t f.l ≡ true)
+known_by n None h formats = absurd (false≢true h)
+known_by n (Some f) h formats =
+    let two : f.third ≡ false = not_false f.third (and_left (not f.third) _ h) in
+    let good : is_format f.t f.l ≡ true = rw two at formats in
+    (record { t = f.t; l = f.l }, rw (two, good), good)
+  where
+    not_false : (b : Bool) → not b ≡ true → b ≡ false
+    not_false true e = sym e
+    not_false false e = refl
+
+-- ---- the attributes of an id
+
+module _ (lines : List Reading) (sound : IsSound lines) (formats : HasKnownFormats lines) (secret authenticator : List ℕ) where
+  abbrev means : List Part → List Pair
+  means ps = meaning lines secret authenticator ps
+
+  abbrev pair_from : AttrId → List ℕ → Pair
+  pair_from id os = pair_of lines secret authenticator id os
+
+  known_format_of : (v n : ℕ) → is_in_format v n lines ≡ true → (f : Format) × (known_format v lines ≡ Some f) × (is_format f.t f.l ≡ true)
+  unfolding is_in_format known_format vendor_format
+  known_format_of v n h = known_by n (format_of v lines) h (formats v)
+
+  -- a plain attribute
+  plain_read : (n : ℕ) (os : List ℕ) (rest : List Part) → is_container (Plain n) ≡ false → means (part n os ∷ rest) ≡ pair_from (Plain n) os ∷ means rest
+  plain_read n os rest h =
+      let a : (n == 26) ≡ false = grind (arith, common_steps) in
+      let b : (nat_le 241 n && nat_le n 244) ≡ false = grind (arith, common_steps) in
+      let d : ((n == 245) || (n == 246)) ≡ false = grind (arith, common_steps) in
+      meaning-cons lines secret authenticator (part n os) rest ∙ rw (a, b, d)
+
+  -- an extended attribute
+  extended_read : (t n o : ℕ) (os : List ℕ) (rest : List Part) → 241 ≤ t → t ≤ 244 → means (part t (n ∷ o ∷ os) ∷ rest) ≡ pair_from (Extended t n) (o ∷ os) ∷ means rest
+  extended_read t n o os rest low high =
+      let a : (t == 26) ≡ false = grind (arith, common_steps) in
+      let b : (nat_le 241 t && nat_le t 244) ≡ true = grind (arith, common_steps) in
+      let d : ((t == 245) || (t == 246)) ≡ false = grind (arith, common_steps) in
+      meaning-cons lines secret authenticator (part t (n ∷ o ∷ os)) rest ∙ rw (a, b, d)
+
+  -- a long one
+  long_read : (p : Part) (ps : List Part) (r : Run) → 245 ≤ p.number → p.number ≤ 246 → first_run p ps ≡ Some r → means (p ∷ ps) ≡ pair_from (Extended p.number (extended_type p)) r.os ∷ means r.rest
+  long_read p ps r low high h =
+      let t : ℕ = p.number in
+      let a : (t == 26) ≡ false = grind (arith, common_steps) in
+      let b : (nat_le 241 t && nat_le t 244) ≡ false = grind (arith, common_steps) in
+      let d : ((t == 245) || (t == 246)) ≡ true = grind (arith, common_steps) in
+      let rest = run_rest p.number (extended_type p) p ps r h in
+      meaning-cons lines secret authenticator p ps ∙ rw (a, b, d, h) (ap (λ (qs : List Part). pair_from (Extended p.number (extended_type p)) r.os ∷ means qs) (sym rest))
+
+  -- a vendor's
+  vendor_subs_is : (v n : ℕ) (os : List ℕ) (f : Format) → v < 2 ^ 32 → known_format v lines ≡ Some f → is_format f.t f.l ≡ true → FitsFormat n os f → vendor_subs lines (vendor_value v n os f) ≡ Some (record { number = n; value = os } ∷ [])
+  unfolding vendor_subs
+  vendor_subs_is v n os f small known good held =
+      let long = length-vendor_value v n os f in
+      let four : nat_le 4 (length (vendor_value v n os f)) ≡ true = grind (arith, common_steps) in
+      let vendor : vendor_of (vendor_value v n os f) ≡ v = number_back 4 v (omega arith) (omega arith) in
+      rw (four, vendor, known, are_subs_is f good n os held, subs_is f good n os held)
+
+  vendor_read : (v n : ℕ) (os : List ℕ) (f : Format) (rest : List Part) → v < 2 ^ 32 → known_format v lines ≡ Some f → is_format f.t f.l ≡ true → FitsFormat n os f → means (part 26 (vendor_value v n os f) ∷ rest) ≡ pair_from (Vendor v n) os ∷ means rest
+  vendor_read v n os f rest small known good held =
+      let vendor : vendor_of (vendor_value v n os f) ≡ v = number_back 4 v (omega arith) (omega arith) in
+      meaning-cons lines secret authenticator (part 26 (vendor_value v n os f)) rest ∙ rw (vendor_subs_is v n os f small known good held, vendor)
+
+  -- ---- pieces
+
+  run_fragments : (k t n : ℕ) (os : List ℕ) (rest : List Part) → 251 * k < length os → run t n (fragments k t n os ++ rest) ≡ Some (record { os = os; rest = rest })
+  unfolding fragments
+  run_fragments zero t n [] rest h = absurd (omega arith)
+  run_fragments zero t n (o ∷ os) rest h =
+      let piece : piece_of t n (part t (n ∷ 0 ∷ o ∷ os)) ≡ Some (record { more = false; os = o ∷ os }) = rw (test_same t, test_same n) in
+      run-some t n (part t (n ∷ 0 ∷ o ∷ os)) rest (record { more = false; os = o ∷ os }) piece
+  run_fragments (suc k) t n [] rest h = absurd (omega arith)
+  run_fragments (suc k) t n (o ∷ os) rest h =
+      let all : List ℕ = o ∷ os in
+      let first : List ℕ = take 251 all in
+      let full : length first ≡ 251 = length-take-le 251 all (omega arith) in
+      let whole : (length first == 251) ≡ true = grind (arith, common_steps) in
+      let e = length-drop 251 all in
+      let piece : piece_of t n (part t (n ∷ 128 ∷ first)) ≡ Some (record { more = true; os = first }) = rw (test_same t, test_same n) in
+      let others = run_fragments k t n (drop 251 all) rest (omega arith) in
+      run-some t n (part t (n ∷ 128 ∷ first)) (fragments k t n (drop 251 all) ++ rest) (record { more = true; os = first }) piece
+      ∙ rw (whole, others) (ap (λ (xs : List ℕ). Some (record { os = xs; rest = rest })) (take-append-drop 251 all))
+
+  fragments_read : (k t n : ℕ) (os : List ℕ) (rest : List Part) → 245 ≤ t → t ≤ 246 → 251 * k < length os → means (fragments k t n os ++ rest) ≡ pair_from (Extended t n) os ∷ means rest
+  unfolding fragments
+  fragments_read zero t n os rest low high h = long_read (part t (n ∷ 0 ∷ os)) rest (record { os = os; rest = rest }) low high (run_fragments zero t n os rest h)
+  fragments_read (suc k) t n os rest low high h = long_read (part t (n ∷ 128 ∷ take 251 os)) (fragments k t n (drop 251 os) ++ rest) (record { os = os; rest = rest }) low high (run_fragments (suc k) t n os rest h)
+
+  -- ---- the attributes of any id
+
+  id_read : (id : AttrId) (os : List ℕ) (rest : List Part) → is_known id lines ≡ true → is_container id ≡ false → IsVendorInRange id → CanHold lines id os → 0 < length os → means (parts_holding lines id os ++ rest) ≡ pair_from id os ∷ means rest
+  unfolding parts_holding is_known
+  id_read (Plain n) os rest known plain ranged held some = plain_read n os rest plain
+  id_read (Vendor v n) os rest known plain ranged held some =
+      let f = known_format_of v n known in
+      let fitting : FitsFormat n os f.0 = rw f.1 at held in
+      rw f.1 (vendor_read v n os f.0 rest ranged f.1 f.2 fitting)
+  id_read (Extended t n) os rest known plain ranged held some =
+      let low : 241 ≤ t = grind (arith, common_steps) in
+      let high : t ≤ 246 = grind (arith, common_steps) in
+      by_test (means (cond (is_long t) (fragments ((length os - 1) / 251) t n os) (part t (n ∷ os) ∷ []) ++ rest) ≡ pair_from (Extended t n) os ∷ means rest) (is_long t)
+      (λ e. let long : 245 ≤ t = grind (arith, common_steps) in rw e (fragments_read ((length os - 1) / 251) t n os rest long high (omega arith)))
+      (λ e. let short : t ≤ 244 = grind (arith, common_steps) in rw e (one os some low short))
+    where
+      one : (xs : List ℕ) → 0 < length xs → 241 ≤ t → t ≤ 244 → means (part t (n ∷ xs) ∷ rest) ≡ pair_from (Extended t n) xs ∷ means rest
+      one [] h low short = absurd (omega arith)
+      one (o ∷ xs) h low short = extended_read t n o xs rest low short
+
+  -- ---- pairs and lists
+
+  canonical_fits : (p : Pair) → is_canonical p lines ≡ true → fits p lines ≡ true
+  unfolding is_canonical
+  canonical_fits p h = and_left (fits p lines) _ h
+
+  not_false : (b : Bool) → not b ≡ true → b ≡ false
+  not_false true e = sym e
+  not_false false e = refl
+
+  pair_read : (p : Pair) (rest : List Part) → is_clean_pair lines p ≡ true → IsVendorInRange p.id → is_sent lines p ≡ true → means (parts_of_pair lines secret authenticator p ++ rest) ≡ p ∷ means rest
+  pair_read p rest clean ranged is =
+      let canonical : is_canonical p lines ≡ true = and_left (is_canonical p lines) (not (is_container p.id)) clean in
+      let plain : is_container p.id ≡ false = not_false (is_container p.id) (and_right (is_canonical p lines) (not (is_container p.id)) clean) in
+      let fitting = canonical_fits p canonical in
+      let outside : is_internal p.id ≡ false = not_false (is_internal p.id) (and_left (not (is_internal p.id)) _ is) in
+      let os : List ℕ = sent_octets lines secret authenticator p in
+      let there : not (length os == 0) ≡ true = sym (sent_by lines secret authenticator p outside) ∙ is in
+      let some : 0 < length os = grind (arith, common_steps) in
+      id_read p.id os rest (fits_known lines p fitting) plain ranged (sent_held lines secret authenticator p fitting outside) some
+      ∙ ap (λ (v : Value). record { id = p.id; value = v } ∷ means rest) (value_back lines sound secret authenticator p canonical)
+
+  abbrev AreInRange : List Pair → Type 0
+  AreInRange pairs = AllByRecursion (λ p. IsVendorInRange p.id) pairs
+
+  -- what is written of a clean list means the pairs that are sent, whatever follows
+  list_read : (pairs : List Pair) (rest : List Part) → list_all (is_clean_pair lines) pairs ≡ true → AreInRange pairs → means (parts_of lines secret authenticator pairs ++ rest) ≡ sent pairs lines ++ means rest
+  unfolding parts_of sent
+  list_read [] rest clean ranged = refl
+  list_read (p ∷ ps) rest clean ranged =
+      let others = list_read ps rest (and_right (is_clean_pair lines p) (list_all (is_clean_pair lines) ps) clean) ranged.1 in
+      let this : is_clean_pair lines p ≡ true = and_left (is_clean_pair lines p) (list_all (is_clean_pair lines) ps) clean in
+      by_test (means (parts_of lines secret authenticator (p ∷ ps) ++ rest) ≡ sent (p ∷ ps) lines ++ means rest) (is_sent lines p)
+      (λ e. rw (e, append_assoc (parts_of_pair lines secret authenticator p) (parts_of lines secret authenticator ps) rest)
+      (pair_read p (parts_of lines secret authenticator ps ++ rest) this ranged.0 e ∙ ap (λ (xs : List Pair). p ∷ xs) others))
+      (λ e. rw e others)
+
+  pub clean_read : (pairs : List Pair) (rest : List Part) → is_clean pairs lines ≡ true → All (λ p. IsVendorInRange p.id) pairs → means (parts_of lines secret authenticator pairs ++ rest) ≡ sent pairs lines ++ means rest
+  unfolding is_clean
+  clean_read pairs rest clean ranged = list_read pairs rest clean (recursion_from_All (λ (p : Pair). IsVendorInRange p.id) pairs ranged)
+
+  pub nothing_read : means [] ≡ []
+  nothing_read = meaning-nil lines secret authenticator
+
+  -- ---- octets
+
+  pub written_means : (pairs : List Pair) → is_clean pairs lines ≡ true → All (λ p. IsVendorInRange p.id) pairs → means (parts (attribute_octets lines secret authenticator pairs)) ≡ sent pairs lines
+  written_means pairs clean ranged =
+      let ps : List Part = parts_of lines secret authenticator pairs in
+      ap (λ (os : List ℕ). means (parts os)) (sym (append-nil (flat_map part_octets ps)))
+      ∙ ap means (parts-all ps []) ∙ clean_read pairs (parts []) clean ranged ∙ ap (λ (xs : List Pair). sent pairs lines ++ xs) (ap means (parts-none [] refl) ∙ nothing_read) ∙ append-nil (sent pairs lines)
+
+  pub both_mean : (pairs others : List Pair) → is_clean pairs lines ≡ true → is_clean others lines ≡ true → All (λ p. IsVendorInRange p.id) pairs → All (λ p. IsVendorInRange p.id) others
+      → means (parts (attribute_octets lines secret authenticator pairs ++ attribute_octets lines secret authenticator others)) ≡ sent pairs lines ++ sent others lines
+  both_mean pairs others clean too ranged also =
+      let ps : List Part = parts_of lines secret authenticator pairs in
+      let os : List ℕ = attribute_octets lines secret authenticator others in
+      ap means (parts-all ps os) ∙ clean_read pairs (parts os) clean ranged ∙ ap (λ (xs : List Pair). sent pairs lines ++ xs) (written_means others too also)

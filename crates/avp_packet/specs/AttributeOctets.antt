@@ -1,0 +1,59 @@
+-- The attributes that pairs are sent in, and their octets (RFC 2865, sections 5 and 5.26; RFC 6929, sections 2.1 and 2.2).
+use Rattle.std.specs.Prelude.{ℕ, zero, suc, ◌+◌, ◌-◌, ◌/◌, Bool, ◌&&◌, not, nat_le, if◌then◌else◌, List, [], ◌∷◌, ◌++◌, length, take, drop}
+use Rattle.std.specs.Int.{bytes_high_first}
+use Rattle.std.specs.List.{flat_map}
+use Rattle.std.specs.Option.{option_map_or}
+use Rattle.avp_lists.specs.declared.attributes.AttrId.{AttrId}
+use Rattle.avp_lists.specs.declared.attributes.AttrId.TheVariants.{Plain, Vendor, Extended}
+use Rattle.avp_lists.specs.declared.attributes.Pair.{Pair}
+use Rattle.avp_dict.specs.declared.entries.Format.{Format}
+use Rattle.avp_dict.specs.declared.readings.Reading.{Reading}
+use Rattle.avp_dict.specs.Octets.{is_hidden, octets}
+use Rattle.avp_dict.specs.Sent.{is_raw, sent}
+use Rattle.avp_packet.specs.Hiding.{hidden}
+use Rattle.avp_packet.specs.Splitting.{Part, part_octets}
+use Rattle.avp_packet.specs.VendorFormats.{known_format}
+
+-- the octets of a pair's value: hidden where the attribute is, but for raw ones
+unfoldable pub sent_octets : List Reading → List ℕ → List ℕ → Pair → List ℕ
+sent_octets lines secret authenticator pair =
+    if is_hidden pair.id lines && not (is_raw pair.value)
+    then hidden secret authenticator (octets pair.id pair.value lines)
+    else octets pair.id pair.value lines
+
+abbrev pub part : ℕ → List ℕ → Part
+part number value = record { number = number; value = value }
+
+-- Vendor-Id, then the vendor's type, length, which counts both of them, and value
+abbrev pub vendor_value : ℕ → ℕ → List ℕ → Format → List ℕ
+vendor_value vendor number os f = bytes_high_first 4 vendor ++ bytes_high_first f.t number ++ bytes_high_first f.l (f.t + f.l + length os) ++ os
+
+abbrev pub vendor_part : ℕ → ℕ → List ℕ → Format → List Part
+vendor_part vendor number os f = part 26 (vendor_value vendor number os f) ∷ []
+
+-- a long value in so many pieces of 251 octets and a last one; the flag says that another piece follows
+unfoldable pub fragments : ℕ → ℕ → ℕ → List ℕ → List Part
+fragments zero t number os = part t (number ∷ 0 ∷ os) ∷ []
+fragments (suc n) t number os = part t (number ∷ 128 ∷ take 251 os) ∷ fragments n t number (drop 251 os)
+
+-- types 245 and 246 hold long values
+abbrev pub is_long : ℕ → Bool
+is_long t = nat_le 245 t
+
+-- the attributes of an id that hold these octets
+unfoldable pub parts_holding : List Reading → AttrId → List ℕ → List Part
+parts_holding lines (Plain number) os = part number os ∷ []
+parts_holding lines (Vendor vendor number) os = option_map_or (vendor_part vendor number os) (known_format vendor lines) []
+parts_holding lines (Extended t number) os = if is_long t then fragments ((length os - 1) / 251) t number os else (part t (number ∷ os) ∷ [])
+
+-- the attributes that a pair is sent in
+abbrev pub parts_of_pair : List Reading → List ℕ → List ℕ → Pair → List Part
+parts_of_pair lines secret authenticator pair = parts_holding lines pair.id (sent_octets lines secret authenticator pair)
+
+-- the attributes that a list is sent in
+unfoldable pub parts_of : List Reading → List ℕ → List ℕ → List Pair → List Part
+parts_of lines secret authenticator pairs = flat_map (parts_of_pair lines secret authenticator) (sent pairs lines)
+
+-- the octets of a list
+abbrev pub attribute_octets : List Reading → List ℕ → List ℕ → List Pair → List ℕ
+attribute_octets lines secret authenticator pairs = flat_map part_octets (parts_of lines secret authenticator pairs)

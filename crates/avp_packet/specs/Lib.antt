@@ -1,0 +1,9 @@
+pub mod AttributeOctets
+pub mod Hiding
+pub mod Meanings
+pub mod Means
+pub mod Outcomes
+pub mod Packets
+pub mod Splitting
+pub mod VendorFormats
+pub mod code

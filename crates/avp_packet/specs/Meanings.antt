@@ -1,0 +1,167 @@
+-- What pairs a list of attributes means (RFC 2865, section 5.26; RFC 6929, sections 2.1 and 2.2).
+use Rattle.std.specs.Prelude.{ℕ, zero, suc, ◌+◌, ◌-◌, Bool, true, not, ◌&&◌, ◌||◌, ◌==◌, nat_le, if◌then◌else◌, List, [], ◌∷◌, ◌++◌, length, take, drop, map, slice_index, Option, Some, None}
+use Rattle.std.specs.Int.Digits.{number_from_digits}
+use Rattle.std.specs.Option.{option_and_then, option_map}
+use Rattle.avp_lists.specs.declared.attributes.AttrId.{AttrId}
+use Rattle.avp_lists.specs.declared.attributes.AttrId.TheVariants.{Plain, Vendor, Extended}
+use Rattle.avp_lists.specs.declared.attributes.Pair.{Pair}
+use Rattle.avp_lists.specs.declared.attributes.Value.{Value}
+use Rattle.avp_lists.specs.declared.attributes.Value.TheVariants.{Raw}
+use Rattle.avp_dict.specs.declared.entries.Format.{Format}
+use Rattle.avp_dict.specs.declared.readings.Reading.{Reading}
+use Rattle.avp_dict.specs.Octets.{is_hidden, value_of_octets}
+use Rattle.avp_packet.specs.Hiding.{shown}
+use Rattle.avp_packet.specs.Splitting.{Part}
+use Rattle.avp_packet.specs.VendorFormats.{known_format}
+
+-- ---- values
+
+abbrev pub value_shown : List Reading → AttrId → List ℕ → Option (List ℕ) → Value
+value_shown lines id os (Some password) = value_of_octets id password lines
+value_shown lines id os None = Raw os
+
+-- the value of an attribute's octets, shown first where they are hidden
+unfoldable pub value_of : List Reading → List ℕ → List ℕ → AttrId → List ℕ → Value
+value_of lines secret authenticator id os =
+    if is_hidden id lines then value_shown lines id os (shown secret authenticator os) else value_of_octets id os lines
+
+abbrev pub pair_of : List Reading → List ℕ → List ℕ → AttrId → List ℕ → Pair
+pair_of lines secret authenticator id os = record { id = id; value = value_of lines secret authenticator id os }
+
+-- an attribute whose octets are not looked into
+abbrev pub raw_pair : Part → Pair
+raw_pair part = record { id = Plain part.number; value = Raw part.value }
+
+-- ---- vendors (RFC 2865, section 5.26)
+
+-- one of a vendor's own attributes
+pub record Sub : Type 0 where
+  pub number : ℕ
+  pub value : List ℕ
+
+-- what the vendor's length counts: the octets themselves where the format has no octets of length
+abbrev pub sub_length : Format → List ℕ → ℕ
+sub_length f os = if f.l == 0 then length os else number_from_digits 256 (take f.l (drop f.t os))
+
+-- a vendor's attribute stands first: its length counts type and length, and runs not past the end
+abbrev pub begins_sub : Format → List ℕ → Bool
+begins_sub f os = nat_le (f.t + f.l) (length os) && nat_le (f.t + f.l) (sub_length f os) && nat_le (sub_length f os) (length os)
+
+abbrev pub first_sub : Format → List ℕ → Sub
+first_sub f os = record { number = number_from_digits 256 (take f.t os); value = take (sub_length f os - (f.t + f.l)) (drop (f.t + f.l) os) }
+
+-- the vendor's attributes in the octets behind the first so many
+unfoldable pub subs_behind : Format → ℕ → List ℕ → List Sub
+subs_behind f k [] = []
+subs_behind f (suc k) (o ∷ os) = subs_behind f k os
+subs_behind f zero (o ∷ os) = if begins_sub f (o ∷ os) then (first_sub f (o ∷ os) ∷ subs_behind f (sub_length f (o ∷ os) - 1) os) else []
+
+-- the octets behind the first so many are whole attributes of the vendor
+unfoldable pub are_subs_behind : Format → ℕ → List ℕ → Bool
+are_subs_behind f k [] = true
+are_subs_behind f (suc k) (o ∷ os) = are_subs_behind f k os
+are_subs_behind f zero (o ∷ os) = begins_sub f (o ∷ os) && are_subs_behind f (sub_length f (o ∷ os) - 1) os
+
+abbrev pub subs : Format → List ℕ → List Sub
+subs f os = subs_behind f 0 os
+
+-- one or more whole attributes of the vendor
+abbrev pub are_subs : Format → List ℕ → Bool
+are_subs f os = not (length os == 0) && are_subs_behind f 0 os
+
+abbrev pub vendor_of : List ℕ → ℕ
+vendor_of os = number_from_digits 256 (take 4 os)
+
+abbrev pub subs_by : List ℕ → Format → Option (List Sub)
+subs_by os f = if are_subs f (drop 4 os) then Some (subs f (drop 4 os)) else None
+
+-- what stands behind the Vendor-Id, by the format of the vendor
+unfoldable pub vendor_subs : List Reading → List ℕ → Option (List Sub)
+vendor_subs lines os = if nat_le 4 (length os) then option_and_then (subs_by os) (known_format (vendor_of os) lines) else None
+
+abbrev pub sub_pair : List Reading → List ℕ → List ℕ → ℕ → Sub → Pair
+sub_pair lines secret authenticator vendor sub = pair_of lines secret authenticator (Vendor vendor sub.number) sub.value
+
+-- a pair for each of the vendor's attributes, else the attribute as it is
+abbrev pub vendor_pairs : List Reading → List ℕ → List ℕ → Part → Option (List Sub) → List Pair
+vendor_pairs lines secret authenticator part (Some subs) = map (sub_pair lines secret authenticator (vendor_of part.value)) subs
+vendor_pairs lines secret authenticator part None = raw_pair part ∷ []
+
+-- ---- extended attributes (RFC 6929, section 2.1)
+
+abbrev pub extended_pair : List Reading → List ℕ → List ℕ → Part → Pair
+extended_pair lines secret authenticator part = elim part.value [ n ∷ o ∷ os ↦ pair_of lines secret authenticator (Extended part.number n) (o ∷ os) | _ ↦ raw_pair part ]
+
+-- ---- long extended attributes (RFC 6929, section 2.2)
+
+-- a piece of a long value, and whether another one follows
+pub record Piece : Type 0 where
+  pub more : Bool
+  pub os : List ℕ
+
+abbrev pub piece_in : ℕ → List ℕ → Option Piece
+piece_in number (n ∷ flags ∷ o ∷ os) = if n == number then Some (record { more = nat_le 128 flags; os = o ∷ os }) else None
+piece_in number _ = None
+
+-- the piece in an attribute of this type and Extended-Type
+abbrev pub piece_of : ℕ → ℕ → Part → Option Piece
+piece_of t number part = if part.number == t then piece_in number part.value else None
+
+-- pieces joined, and the attributes behind them
+pub record Run : Type 0 where
+  pub os : List ℕ
+  pub rest : List Part
+
+abbrev pub joined : List ℕ → Run → Run
+joined os run = record { os = os ++ run.os; rest = run.rest }
+
+-- the last piece ends a run; any other one is full, and what follows it goes on
+abbrev pub run_with : Piece → List Part → Option Run → Option Run
+run_with piece parts following =
+    if piece.more then (if length piece.os == 251 then option_map (joined piece.os) following else None)
+    else Some (record { os = piece.os; rest = parts })
+
+-- the run of a type and an Extended-Type that attributes begin with
+unfoldable pub run : ℕ → ℕ → List Part → Option Run
+run t number [] = None
+run t number (part ∷ parts) = option_and_then (λ piece. run_with piece parts (run t number parts)) (piece_of t number part)
+
+abbrev pub extended_type : Part → ℕ
+extended_type part = slice_index part.value 0
+
+-- the run that attributes begin with
+abbrev pub first_run : Part → List Part → Option Run
+first_run part parts = run part.number (extended_type part) (part ∷ parts)
+
+abbrev pub long_pair : List Reading → List ℕ → List ℕ → Part → Option Run → Pair
+long_pair lines secret authenticator part (Some run) = pair_of lines secret authenticator (Extended part.number (extended_type part)) run.os
+long_pair lines secret authenticator part None = raw_pair part
+
+-- ---- attributes
+
+-- the pairs of the first attribute, with those that its value goes on in
+abbrev pub first_pairs : List Reading → List ℕ → List ℕ → Part → List Part → List Pair
+first_pairs lines secret authenticator part parts =
+    if part.number == 26 then vendor_pairs lines secret authenticator part (vendor_subs lines part.value)
+    else (if nat_le 241 part.number && nat_le part.number 244 then extended_pair lines secret authenticator part ∷ []
+    else (if (part.number == 245) || (part.number == 246) then long_pair lines secret authenticator part (first_run part parts) ∷ []
+    else (pair_of lines secret authenticator (Plain part.number) part.value ∷ [])))
+
+-- how many of the attributes behind the first its value goes on in
+abbrev pub others_in : List Part → Option Run → ℕ
+others_in parts (Some run) = length parts - length run.rest
+others_in parts None = 0
+
+abbrev pub others : Part → List Part → ℕ
+others part parts = if (part.number == 245) || (part.number == 246) then others_in parts (first_run part parts) else 0
+
+-- the pairs of the attributes behind the first so many
+unfoldable pub meaning_behind : List Reading → List ℕ → List ℕ → ℕ → List Part → List Pair
+meaning_behind lines secret authenticator k [] = []
+meaning_behind lines secret authenticator (suc k) (part ∷ parts) = meaning_behind lines secret authenticator k parts
+meaning_behind lines secret authenticator zero (part ∷ parts) =
+    first_pairs lines secret authenticator part parts ++ meaning_behind lines secret authenticator (others part parts) parts
+
+-- the pairs that attributes mean
+abbrev pub meaning : List Reading → List ℕ → List ℕ → List Part → List Pair
+meaning lines secret authenticator attributes = meaning_behind lines secret authenticator 0 attributes

@@ -1,0 +1,15 @@
+-- Which octets an id's attributes can hold.
+use Rattle.std.specs.Prelude.{ℕ, ◌+◌, ◌^◌, ◌<◌, ◌≤◌, List, length, IfSome}
+use Rattle.avp_lists.specs.declared.attributes.AttrId.{AttrId}
+use Rattle.avp_lists.specs.declared.attributes.AttrId.TheVariants.{Plain, Vendor, Extended}
+use Rattle.avp_dict.specs.declared.entries.Format.{Format}
+use Rattle.avp_dict.specs.declared.readings.Reading.{Reading}
+use Rattle.avp_packet.specs.VendorFormats.{known_format}
+
+abbrev pub FitsFormat : ℕ → List ℕ → Format → Type 0
+FitsFormat number os f = (number < 256 ^ f.t) × (6 + f.t + f.l + length os ≤ 255)
+
+abbrev pub CanHold : List Reading → AttrId → List ℕ → Type 0
+CanHold lines (Plain number) os = (number ≤ 255) × (length os ≤ 253)
+CanHold lines (Vendor vendor number) os = IfSome (known_format vendor lines) (FitsFormat number os)
+CanHold lines (Extended t number) os = (t ≤ 244 → length os ≤ 252)

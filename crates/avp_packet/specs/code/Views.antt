@@ -1,0 +1,26 @@
+-- Attributes without where they lie in memory, and what an iterator has left.
+use Rattle.std.specs.Prelude.{List, drop, Result, Ok, Err}
+use Rattle.avp_packet.specs.declared.splitting.Attribute.{Attribute}
+use Rattle.avp_packet.specs.declared.splitting.Attributes.{Attributes}
+use Rattle.avp_packet.specs.declared.splitting.BadLength.{BadLength}
+use Rattle.avp_packet.specs.declared.fragments.Joined.{Joined}
+use Rattle.avp_packet.specs.declared.fragments.Piece.{Piece}
+use Rattle.avp_packet.specs.declared.subattributes.Sub.{Sub}
+use Rattle.avp_packet.specs.Meanings as meanings
+use Rattle.avp_packet.specs.Splitting.{Placed, items_from, parts}
+
+abbrev pub item_view : Result Attribute BadLength → Result Placed BadLength
+item_view (Ok a) = Ok (record { number = a.number; value = a.value.now; offset = a.offset })
+item_view (Err bad) = Err bad
+
+abbrev pub items_left : Attributes → List (Result Placed BadLength)
+items_left s = items_from s.offset (drop s.offset s.octets.now)
+
+abbrev pub sub_view : Sub → meanings.Sub
+sub_view sub = record { number = sub.number; value = sub.value.now }
+
+abbrev pub piece_view : Piece → meanings.Piece
+piece_view piece = record { more = piece.more; os = piece.octets.now }
+
+abbrev pub run_view : Joined → meanings.Run
+run_view joined = record { os = joined.octets.items; rest = parts joined.rest.now }

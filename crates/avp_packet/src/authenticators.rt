@@ -1,0 +1,132 @@
+//! The digests that stand in authenticators (RFC 2865, section 3; RFC 2866, section 3).
+
+ghost use Rattle.std.specs.Prelude.{◌≡◌, ◌≤◌, ◌<◌, ◌++◌, length, take, drop};
+ghost use Rattle.std.specs.Str.{bytes_eq};
+ghost use Rattle.md5.specs.Md5.{md5};
+ghost use Rattle.avp_packet.specs.Packets.{authenticator_of, digest_over, is_accounting, is_length, is_reply, length_of, zeros};
+
+use crate::hiding::BLOCK_OCTETS;
+use md5::{Digest, Md5};
+
+/// Octets before the attributes: Code, Identifier, Length and Authenticator (RFC 2865, section 3).
+pub const HEAD_OCTETS: usize = 20;
+
+/// The most octets of a packet, of every code.
+pub const MOST_OCTETS: usize = 4096;
+
+/// Where the authenticator begins.
+const AUTHENTICATOR_PLACE: usize = 4;
+
+/// Octets of zero, in an authenticator's place.
+pub(crate) const ZEROS: [u8; BLOCK_OCTETS] = [0; BLOCK_OCTETS];
+
+pub(crate) fn is_packet_length(length: usize) -> bool
+    ensures { result ≡ is_length length }
+{
+    length >= HEAD_OCTETS && length <= MOST_OCTETS
+}
+
+/// The Length that stands in a packet.
+pub(crate) fn length_in(octets: &[u8]) -> usize
+    requires { HEAD_OCTETS ≤ length octets.now }
+    ensures { result ≡ length_of octets.now }
+{
+    usize::from(u16::from_be_bytes([octets[2], octets[3]]))
+}
+
+fn digest_of_four(first: &[u8], second: &[u8], third: &[u8], fourth: &[u8]) -> [u8; 16]
+    ensures { result ≡ md5 (first.now ++ second.now ++ third.now ++ fourth.now) }
+{
+    let mut hasher = Md5::new();
+    hasher.update(first);
+    hasher.update(second);
+    hasher.update(third);
+    hasher.update(fourth);
+    hasher.finalize()
+}
+
+/// The authenticator that stands in a packet.
+pub(crate) fn authenticator_in(octets: &[u8]) -> &[u8]
+    requires { HEAD_OCTETS ≤ length octets.now }
+    ensures { result.now ≡ authenticator_of octets.now }
+{
+    &octets[AUTHENTICATOR_PLACE..HEAD_OCTETS]
+}
+
+/// What stands behind the authenticator, up to the end.
+pub(crate) fn attributes_in(octets: &[u8], end: usize) -> &[u8]
+    requires head { HEAD_OCTETS ≤ end }
+    requires whole { end ≤ length octets.now }
+    ensures { result.now ≡ drop 20 (take end octets.now) }
+{
+    let whole = &octets[..end];
+    &whole[HEAD_OCTETS..]
+}
+
+fn are_equal(octets: &[u8], others: &[u8]) -> bool
+    ensures { result ≡ bytes_eq octets.now others.now }
+{
+    octets == others
+}
+
+// Whether the authenticator is the digest with these octets in its place.
+fn has_digest(octets: &[u8], end: usize, authenticator: &[u8; 16], secret: &[u8]) -> bool
+    requires head { HEAD_OCTETS ≤ end }
+    requires whole { end ≤ length octets.now }
+    ensures { result ≡ bytes_eq (authenticator_of octets.now) (md5 (take 4 octets.now ++ authenticator.now ++ drop 20 (take end octets.now) ++ secret.now)) }
+{
+    let digest = digest_of_four(
+        &octets[..AUTHENTICATOR_PLACE],
+        authenticator,
+        attributes_in(octets, end),
+        secret,
+    );
+    are_equal(authenticator_in(octets), &digest)
+}
+
+/// Whether the authenticator of an Accounting-Request is the digest over zeros.
+pub(crate) fn is_accounting_request(octets: &[u8], secret: &[u8]) -> bool
+    requires head { HEAD_OCTETS ≤ length_of octets.now }
+    requires whole { length_of octets.now ≤ length octets.now }
+    ensures { result ≡ is_accounting octets.now secret.now }
+{
+    has_digest(octets, length_in(octets), &ZEROS, secret)
+}
+
+/// Whether octets are a reply to the request with this authenticator, by the Response Authenticator (RFC 2865, section
+/// 3). Octets past Length are not looked at.
+#[tactic(auto, unfolding(crate::specs::Packets::is_reply))]
+pub fn check_reply(reply: &[u8], request_authenticator: &[u8; 16], secret: &[u8]) -> bool
+    requires { 0 < length secret.now }
+    ensures { result ≡ is_reply reply.now request_authenticator.now secret.now }
+{
+    if reply.len() < HEAD_OCTETS {
+        return false;
+    }
+    let length = length_in(reply);
+    if !is_packet_length(length) || length > reply.len() {
+        return false;
+    }
+    has_digest(reply, length, request_authenticator, secret)
+}
+
+/// The digest over a packet with these octets as its authenticator, and over the secret.
+#[tactic(auto, unfolding(crate::specs::Packets::digest_over, crate::specs::Packets::packet))]
+pub(crate) fn digest_of_packet(
+    code: u8,
+    id: u8,
+    authenticator: &[u8; 16],
+    attributes: &[u8],
+    secret: &[u8],
+) -> [u8; 16]
+    requires { length attributes.now ≤ MOST_OCTETS }
+    ensures { result ≡ digest_over code id authenticator.now attributes.now secret.now }
+{
+    let length = ((HEAD_OCTETS + attributes.len()) as u16).to_be_bytes();
+    digest_of_four(
+        &[code, id, length[0], length[1]],
+        authenticator,
+        attributes,
+        secret,
+    )
+}

@@ -1,0 +1,142 @@
+//! Requests read (RFC 2865, section 3; RFC 2866, section 3).
+
+ghost use Rattle.std.specs.Prelude.{◌≡◌, ◌≤◌, ◌<◌, ◌-◌, [], true, List, length, All, IfOk, IfSome, IfNone};
+ghost use Rattle.avp_lists.specs.declared.attributes.Pair.{Pair};
+ghost use Rattle.avp_lists.specs.States.{most_pairs};
+ghost use Rattle.avp_dict.specs.Limits.{fits};
+ghost use Rattle.avp_packet.specs.Meanings.{meaning};
+ghost use Rattle.avp_packet.specs.Means.{Means};
+ghost use Rattle.avp_packet.specs.Outcomes.{Gives};
+ghost use Rattle.avp_packet.specs.Packets.{IsRequestCode, attributes_of, authenticator_of, decoded, hiding_authenticator, length_of, packet_read, request_read};
+ghost use Rattle.avp_packet.specs.Splitting.{left, parts};
+
+use crate::authenticators::{
+    HEAD_OCTETS, MOST_OCTETS, ZEROS, attributes_in, authenticator_in, is_accounting_request,
+    is_packet_length, length_in,
+};
+use crate::encoding::authenticator_to_hide_by;
+use crate::faults::PacketFault;
+use crate::packets::{ACCESS_REQUEST, ACCOUNTING_REQUEST, Packet};
+use crate::pairs::read_pairs;
+use crate::splitting::first_attribute;
+use avp_dict::Dictionary;
+use avp_lists::Pairs;
+use std::alloc::{AllocError, Global};
+
+// Where the first attribute begins that is not whole.
+fn bad_attribute(octets: &[u8]) -> Option<usize>
+    ensures bad { IfSome result (λ offset. offset ≡ length octets.now - length (left octets.now)) }
+    ensures some { IfSome result (λ offset. 0 < length (left octets.now)) }
+    ensures none { IfNone result (left octets.now ≡ []) }
+{
+    let mut rest = octets;
+    while let Some(front) = first_attribute(rest) {
+        rest = front.rest;
+    }
+    if rest.is_empty() {
+        None
+    } else {
+        Some(octets.len() - rest.len())
+    }
+}
+
+fn copy_authenticator(octets: &[u8]) -> [u8; 16]
+    requires { HEAD_OCTETS ≤ length octets.now }
+    ensures { result ≡ authenticator_of octets.now }
+{
+    let mut authenticator = ZEROS;
+    authenticator.copy_from_slice(authenticator_in(octets));
+    authenticator
+}
+
+fn read_packet(
+    alloc: Global,
+    dictionary: &Dictionary,
+    secret: &[u8],
+    octets: &[u8],
+) -> Result<Packet, AllocError>
+    requires secret { 0 < length secret.now }
+    requires head { HEAD_OCTETS ≤ length_of octets.now }
+    requires whole { length_of octets.now ≤ length octets.now }
+    requires short { length_of octets.now ≤ MOST_OCTETS }
+    ensures fits { IfOk result (λ packet. All (λ pair. fits pair dictionary.now ≡ true) packet.list) }
+    ensures means { IfOk result (λ packet. packet.list ≡ meaning dictionary.now secret.now (hiding_authenticator packet.code packet.authenticator) (parts (attributes_of octets.now))) }
+    ensures packet { IfOk result (λ packet. packet ≡ packet_read dictionary.now secret.now octets.now) }
+    ensures few { IfOk result (λ packet. length packet.list ≤ length_of octets.now) }
+{
+    let code = octets[0];
+    let authenticator = copy_authenticator(octets);
+    let hidden_by = authenticator_to_hide_by(code, &authenticator);
+    let attributes = attributes_in(octets, length_in(octets));
+    let pairs = read_pairs(alloc, dictionary, secret, &hidden_by, attributes)?;
+    Ok(Packet {
+        code,
+        id: octets[1],
+        authenticator,
+        list: Pairs::from_vec(pairs),
+    })
+}
+
+fn read_request(
+    alloc: Global,
+    dictionary: &Dictionary,
+    secret: &[u8],
+    octets: &[u8],
+) -> Result<Packet, PacketFault>
+    requires secret { 0 < length secret.now }
+    requires head { HEAD_OCTETS ≤ length_of octets.now }
+    requires whole { length_of octets.now ≤ length octets.now }
+    requires short { length_of octets.now ≤ MOST_OCTETS }
+    ensures fits { IfOk result (λ packet. All (λ pair. fits pair dictionary.now ≡ true) packet.list) }
+    ensures means { IfOk result (λ packet. packet.list ≡ meaning dictionary.now secret.now (hiding_authenticator packet.code packet.authenticator) (parts (attributes_of octets.now))) }
+    ensures read { Gives result (request_read dictionary.now secret.now octets.now) }
+    ensures code { IfOk result (λ packet. IsRequestCode packet.code) }
+    ensures few { IfOk result (λ packet. length packet.list ≤ length_of octets.now) }
+{
+    let code = octets[0];
+    if code != ACCESS_REQUEST && code != ACCOUNTING_REQUEST {
+        return Err(PacketFault::CodeNotTaken);
+    }
+    if code == ACCOUNTING_REQUEST && !is_accounting_request(octets, secret) {
+        return Err(PacketFault::WrongAuthenticator);
+    }
+    match read_packet(alloc, dictionary, secret, octets) {
+        Ok(packet) => Ok(packet),
+        Err(_) => Err(PacketFault::Memory),
+    }
+}
+
+/// Reads an Access-Request, or an Accounting-Request whose authenticator is right; octets past Length are not looked at.
+/// The faults are tried in the order in which [`PacketFault`] has them.
+#[tactic(auto, unfolding(crate::specs::Packets::decoded))]
+pub fn decode(
+    alloc: Global,
+    dictionary: &Dictionary,
+    secret: &[u8],
+    octets: &[u8],
+) -> Result<Packet, PacketFault>
+    requires { 0 < length secret.now }
+    ensures fits { IfOk result (λ packet. All (λ pair. fits pair dictionary.now ≡ true) packet.list) }
+
+    // The list is the one that the attributes mean.
+    ensures means { IfOk result (λ packet. Means dictionary.now secret.now (hiding_authenticator packet.code packet.authenticator) (parts (attributes_of octets.now)) packet.list) }
+    ensures only { IfOk result (λ packet. (pairs : List Pair) → Means dictionary.now secret.now (hiding_authenticator packet.code packet.authenticator) (parts (attributes_of octets.now)) pairs → pairs ≡ packet.list) }
+    ensures read { Gives result (decoded dictionary.now secret.now octets.now) }
+    ensures code { IfOk result (λ packet. IsRequestCode packet.code) }
+    ensures few { IfOk result (λ packet. length packet.list ≤ most_pairs) }
+{
+    if octets.len() < HEAD_OCTETS {
+        return Err(PacketFault::TooShort);
+    }
+    let length = length_in(octets);
+    if !is_packet_length(length) {
+        return Err(PacketFault::LengthOutOfRange);
+    }
+    if octets.len() < length {
+        return Err(PacketFault::CutShort);
+    }
+    match bad_attribute(attributes_in(octets, length)) {
+        Some(offset) => Err(PacketFault::BadAttribute(HEAD_OCTETS + offset)),
+        None => read_request(alloc, dictionary, secret, octets),
+    }
+}

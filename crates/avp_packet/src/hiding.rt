@@ -1,0 +1,178 @@
+//! Hiding of passwords (RFC 2865, section 5.2).
+
+ghost use Rattle.std.specs.Prelude.{◌≡◌, ◌++◌, ◌*◌, ◌/◌, ◌<◌, ◌≤◌, ◌↔◌, true, false, length, IfOk, OnOk, IsTrue, Some, Err};
+ghost use Rattle.std.specs.Option.{option_map};
+ghost use Rattle.md5.specs.Md5.{md5};
+ghost use Rattle.avp_dict.specs.Octets.{ends_in_nul, is_hideable};
+ghost use Rattle.avp_dict.specs.Sent.{is_block_length};
+ghost use Rattle.avp_packet.specs.Hiding.{block_count, hidden, hidden_blocks, masked, padded, shown, shown_blocks, without_last_nuls};
+
+use crate::faults::HideFault;
+use md5::{Digest, Md5};
+use std::alloc::{AllocError, Global};
+
+/// The octets of an authenticator, of a digest and of a block.
+pub const BLOCK_OCTETS: usize = 16;
+
+/// The most octets of a password.
+pub const MOST_PASSWORD_OCTETS: usize = 128;
+
+fn mask_of(secret: &[u8], before: &[u8; 16]) -> [u8; 16]
+    ensures { result ≡ md5 (secret.now ++ before.now) }
+{
+    let mut hasher = Md5::new();
+    hasher.update(secret);
+    hasher.update(before);
+    hasher.finalize()
+}
+
+fn masked_block(mask: &[u8; 16], block: &[u8; 16]) -> [u8; 16]
+    ensures { result ≡ masked mask.now block.now }
+{
+    let mut octets = *mask;
+    for place in 0..BLOCK_OCTETS {
+        octets[place] ^= block[place];
+    }
+    octets
+}
+
+fn count_of_blocks(length: usize) -> usize
+    requires { length ≤ MOST_PASSWORD_OCTETS }
+    ensures { result ≡ block_count length }
+{
+    1 + length.saturating_sub(1) / BLOCK_OCTETS
+}
+
+// The password, with NULs up to whole blocks.
+fn pad(alloc: Global, password: &[u8]) -> Result<Vec<u8>, AllocError>
+    requires { length password.now ≤ MOST_PASSWORD_OCTETS }
+    ensures { IfOk result (λ octets. octets.items ≡ padded password.now) }
+{
+    let mut octets = Vec::from_slice(alloc, password)?;
+    octets.resize(BLOCK_OCTETS * count_of_blocks(password.len()), 0)?;
+    Ok(octets)
+}
+
+fn hide_blocks(
+    alloc: Global,
+    secret: &[u8],
+    authenticator: &[u8; 16],
+    padded: &[u8],
+) -> Result<Vec<u8>, AllocError>
+    ensures { IfOk result (λ octets. octets.items ≡ hidden_blocks (length padded.now / 16) secret.now authenticator.now padded.now) }
+{
+    let mut octets = Vec::with_capacity(alloc, padded.len())?;
+    let mut before = *authenticator;
+    let mut rest = padded;
+    while let Some((block, after)) = rest.split_first_chunk::<16>() {
+        before = masked_block(&mask_of(secret, &before), block);
+        octets.extend_from_slice(&before)?;
+        rest = after;
+    }
+    Ok(octets)
+}
+
+fn show_blocks(
+    alloc: Global,
+    secret: &[u8],
+    authenticator: &[u8; 16],
+    hidden: &[u8],
+) -> Result<Vec<u8>, AllocError>
+    ensures { IfOk result (λ octets. octets.items ≡ shown_blocks (length hidden.now / 16) secret.now authenticator.now hidden.now) }
+{
+    let mut octets = Vec::with_capacity(alloc, hidden.len())?;
+    let mut before = *authenticator;
+    let mut rest = hidden;
+    while let Some((block, after)) = rest.split_first_chunk::<16>() {
+        octets.extend_from_slice(&masked_block(&mask_of(secret, &before), block))?;
+        before = *block;
+        rest = after;
+    }
+    Ok(octets)
+}
+
+fn is_last_nul(octets: &[u8]) -> bool
+    ensures { result ≡ ends_in_nul octets.now }
+{
+    match octets.last() {
+        Some(octet) => *octet == 0,
+        None => false,
+    }
+}
+
+fn drop_last_nuls(octets: &mut Vec<u8>)
+    ensures { octets.new.items ≡ without_last_nuls octets.old.items }
+{
+    while is_last_nul(octets) {
+        octets.pop();
+    }
+}
+
+fn can_be_hidden(password: &[u8]) -> bool
+    ensures test { result ≡ is_hideable password.now }
+    ensures short { IsTrue result → length password.now ≤ MOST_PASSWORD_OCTETS }
+{
+    password.len() <= MOST_PASSWORD_OCTETS && !is_last_nul(password)
+}
+
+fn is_of_blocks(length: usize) -> bool
+    ensures { result ≡ is_block_length length }
+{
+    length % BLOCK_OCTETS == 0 && length >= BLOCK_OCTETS && length <= MOST_PASSWORD_OCTETS
+}
+
+/// A short password's octets hidden.
+#[tactic(auto, unfolding(crate::specs::Hiding::hidden))]
+pub(crate) fn hide_short(
+    alloc: Global,
+    secret: &[u8],
+    authenticator: &[u8; 16],
+    password: &[u8],
+) -> Result<Vec<u8>, AllocError>
+    requires { length password.now ≤ MOST_PASSWORD_OCTETS }
+    ensures { IfOk result (λ octets. octets.items ≡ hidden secret.now authenticator.now password.now) }
+{
+    let padded = pad(alloc, password)?;
+    let octets = hide_blocks(alloc, secret, authenticator, &padded)?;
+    Ok(octets)
+}
+
+/// A password's octets hidden, in whole blocks of 16 octets (RFC 2865, section 5.2).
+pub fn hide(
+    alloc: Global,
+    secret: &[u8],
+    authenticator: &[u8; 16],
+    password: &[u8],
+) -> Result<Vec<u8>, HideFault>
+    requires { 0 < length secret.now }
+    ensures hidden { IfOk result (λ octets. octets.items ≡ hidden secret.now authenticator.now password.now) }
+    ensures hideable { OnOk result (is_hideable password.now ≡ true) }
+    ensures too_long { (result ≡ Err HideFault.TooLong) ↔ (is_hideable password.now ≡ false) }
+
+    // What is hidden is shown again.
+    ensures shown { IfOk result (λ octets. shown secret.now authenticator.now octets.items ≡ Some password.now) }
+{
+    if !can_be_hidden(password) {
+        return Err(HideFault::TooLong);
+    }
+    Ok(hide_short(alloc, secret, authenticator, password)?)
+}
+
+/// Hidden octets shown, without the NULs at their end; `None` where their number is not 16, 32, .. 128.
+#[tactic(auto, unfolding(crate::specs::Hiding::shown))]
+pub fn unhide(
+    alloc: Global,
+    secret: &[u8],
+    authenticator: &[u8; 16],
+    hidden: &[u8],
+) -> Result<Option<Vec<u8>>, AllocError>
+    requires { 0 < length secret.now }
+    ensures { IfOk result (λ password. option_map (λ octets. octets.items) password ≡ shown secret.now authenticator.now hidden.now) }
+{
+    if !is_of_blocks(hidden.len()) {
+        return Ok(None);
+    }
+    let mut octets = show_blocks(alloc, secret, authenticator, hidden)?;
+    drop_last_nuls(&mut octets);
+    Ok(Some(octets))
+}

@@ -1,0 +1,36 @@
+//! RADIUS packets: attribute lists read and written, hidden passwords, and authenticators.
+//!
+//! [`decode`] reads a request, and [`encode_request`] and [`encode_reply`] write packets, by RFC 2865, RFC 2866 and
+//! RFC 6929.
+#![tactic(auto)]
+
+#[cfg(test)]
+mod attribute_tests;
+mod authenticators;
+mod decoding;
+mod encoding;
+mod faults;
+mod formats;
+mod fragments;
+mod hiding;
+mod packets;
+mod pairs;
+mod reading;
+mod sending;
+mod splitting;
+mod subattributes;
+#[cfg(test)]
+mod tests;
+mod walking;
+mod writing;
+
+pub use authenticators::check_reply;
+pub use decoding::decode;
+pub use encoding::{encode_reply, encode_request};
+pub use faults::{EncodeFault, HideFault, PacketFault};
+pub use hiding::{hide, unhide};
+pub use packets::{
+    ACCESS_ACCEPT, ACCESS_REJECT, ACCESS_REQUEST, ACCOUNTING_REQUEST, ACCOUNTING_RESPONSE, Packet,
+};
+pub use splitting::{Attribute, Attributes, BadLength};
+pub use walking::attributes;

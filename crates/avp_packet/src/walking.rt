@@ -1,0 +1,17 @@
+//! Walks over attributes.
+
+ghost use Rattle.std.specs.Prelude.{◌≡◌, ℕ, List};
+ghost use Rattle.avp_packet.specs.Splitting.{IsSplit, Part, items, left, parts};
+ghost use Rattle.avp_packet.specs.code.Views.{items_left};
+
+use crate::splitting::Attributes;
+
+/// The attributes in a slice, one after the other; as the last item the first one that is not whole (RFC 2865,
+/// section 5).
+pub fn attributes(octets: &[u8]) -> Attributes<'_>
+    ensures items { items_left result ≡ items octets.now }
+    ensures split { IsSplit octets.now (parts octets.now) (left octets.now) }
+    ensures only { (found : List Part) (rest : List ℕ) → IsSplit octets.now found rest → (found ≡ parts octets.now) × (rest ≡ left octets.now) }
+{
+    Attributes::new(octets)
+}
