@@ -1,0 +1,124 @@
+-- A place spells at most one condition, and how refusals inside one are refusals of it.
+use Rattle.std.proofs.Common.{◌≡◌, ℕ, zero, suc, List, Option, Some, None, Result, refl, sym, ap, subst, ◌∙◌}
+use Rattle.std.specs.Option.{option_and_then, option_map}
+use Rattle.avp_lists.specs.declared.lists.List.{List as Name}
+use Rattle.avp_dict.specs.declared.entries.Named.{Named}
+use Rattle.avp_dict.specs.declared.readings.Reading.{Reading}
+use Rattle.avp_dict.specs.declared.quotes.QuoteMark.TheVariants.{Double, Single}
+use Rattle.avp_dict.specs.Quotes.{single_quoted_octets}
+use Rattle.avp_unlang.specs.declared.codes.Code.{Code}
+use Rattle.avp_unlang.specs.declared.faults.PolicyFault.{PolicyFault}
+use Rattle.avp_unlang.specs.declared.tokens.Sign.TheVariants as sign
+use Rattle.avp_unlang.specs.declared.tokens.Token.{Token}
+use Rattle.avp_unlang.specs.declared.tokens.Token.TheVariants.{Operator, Word, Quoted}
+use Rattle.avp_unlang.specs.declared.tree.Comparand.TheVariants.{Literal, Instance}
+use Rattle.avp_unlang.specs.declared.tree.Cond.{Cond}
+use Rattle.avp_unlang.specs.declared.tree.Cond.TheVariants.{Not, Last, Present, Compare}
+use Rattle.avp_unlang.specs.declared.tree.Relation.{Relation}
+use Rattle.avp_unlang.specs.Conditions.{relation_of, plain_octets, ComparandFrom, ComparandIs, comparison_of, ComparedFrom, ComparedIs, WordFrom, any_of, all_of, Both, Either, Negated, Closed, OperandFrom, OperandIs, Within}
+use Rattle.avp_unlang.specs.Forms.{Form, After, Chain, Gives, Refuses, Reads}
+use Rattle.avp_unlang.specs.Places.{Place}
+use Rattle.avp_unlang.specs.References.{AlikeIs, ReadableIs}
+use Rattle.avp_unlang.specs.Sources.{literal}
+use Rattle.avp_unlang.specs.Steps.{Follows}
+use Rattle.avp_unlang.specs.Tokens.{next_token}
+use Rattle.avp_unlang.specs.Words.{code_named}
+use Rattle.avp_unlang.proofs.Chains.{chain_one}
+use Rattle.avp_unlang.proofs.Determined.{IsOne, some_is, gives_one, becomes_one, after_one, then_one, then_stops, then_on, after_stops}
+use Rattle.avp_unlang.proofs.LinesOne.{follows_sure, alike_one, readable_one}
+
+-- ---- operands with a sign between them
+
+pub both_one : (form : Form Place Cond) → IsOne form → IsOne (Both form)
+both_one form one =
+    then_one (Chain (Follows (Operator sign.And)) form) (λ cs. Gives (all_of cs)) (chain_one (Follows (Operator sign.And)) form (follows_sure (Operator sign.And)) one) (λ cs. gives_one (all_of cs))
+
+pub either_one : (form : Form Place Cond) → IsOne form → IsOne (Either form)
+either_one form one =
+    then_one (Chain (Follows (Operator sign.Or)) (Both form)) (λ cs. Gives (any_of cs)) (chain_one (Follows (Operator sign.Or)) (Both form) (follows_sure (Operator sign.Or)) (both_one form one)) (λ cs. gives_one (any_of cs))
+
+pub negated_one : (form : Form Place Cond) → IsOne form → IsOne (Negated form)
+negated_one form one = then_one form (λ c. Gives (Not c)) one (λ c. gives_one (Not c))
+
+abbrev pub Closing : Cond → Form Place Cond
+Closing c = After (Follows (Operator sign.Close)) (Gives c)
+
+pub closing_one : (c : Cond) → IsOne (Closing c)
+closing_one c = after_one (Follows (Operator sign.Close)) (Gives c) (follows_sure (Operator sign.Close)) (gives_one c)
+
+pub closed_one : (form : Form Place Cond) → IsOne form → IsOne (Closed form)
+closed_one form one = then_one (Either form) Closing (either_one form one) closing_one
+
+module _ (lines : List Reading) where
+  -- ---- comparisons
+
+  comparand_from_one : (name : Named) (token : Token) → IsOne (ComparandFrom lines name token)
+  comparand_from_one name (Word text) p x y r s h g = becomes_one (option_map Literal (literal lines name text)) p x y r s h g
+  comparand_from_one name (Quoted Single text) p x y r s h g = becomes_one (option_map Literal (literal lines name (single_quoted_octets text))) p x y r s h g
+  comparand_from_one name (Quoted Double text) p x y r s h g = becomes_one (option_map Literal (option_and_then (literal lines name) (plain_octets text))) p x y r s h g
+  comparand_from_one name (Operator sign.Reference) p x y r s h g =
+      let at = alike_one lines name.id p h.0 g.0 r s h.1 g.1 in
+      (h.2 ∙ ap (λ (n : Name × Named). Instance n.0 n.1.id) at.0 ∙ sym g.2, at.1)
+  comparand_from_one name _ p x y r s h g = absurd h
+
+  comparand_one : (name : Named) → IsOne (ComparandIs lines name)
+  comparand_one name p x y r s h g = comparand_from_one name (next_token p).0 (next_token p).1 x y r s h g
+
+  compared_from_one : (found : Name × Named) (o : Option Relation) (p : Place) → IsOne (ComparedFrom lines found o p)
+  compared_from_one found None p after x y r s h g = gives_one (Present found.0 found.1.id) p x y r s h g
+  compared_from_one found (Some relation) p after x y r s h g =
+      then_one (ComparandIs lines found.1) (λ c. Gives (Compare (comparison_of lines found relation c))) (comparand_one found.1) (λ c. gives_one (Compare (comparison_of lines found relation c))) after x y r s h g
+
+  pub compared_one : (found : Name × Named) → IsOne (ComparedIs lines found)
+  compared_one found p x y r s h g = compared_from_one found (relation_of (next_token p).0) p (next_token p).1 x y r s h g
+
+  word_one : (o : Option Code) (word : List ℕ) → IsOne (WordFrom lines o word)
+  word_one (Some code) word p x y r s h g = gives_one (Last code) p x y r s h g
+  word_one None word p x y r s h g =
+      compared_one g.0 p x y r s (subst (λ (n : Name × Named). ComparedIs lines n p x r) (some_is h.0 g.0 (sym h.1 ∙ g.1)) h.2) g.2
+
+  -- a refusal of the reference that something is compared with
+  pub alike_refused : (name : Named) (p : Place) (q : Token × Place) (e : PolicyFault) → q ≡ next_token p → q.0 ≡ Operator sign.Reference
+      → Refuses (AlikeIs lines name.id q.1) e → Refuses (ComparandIs lines name p) e
+  alike_refused name p q e is first refused =
+      let at : Refuses (ComparandFrom lines name (Operator sign.Reference) q.1) e = λ some x rest h. refused some h.0 rest h.1 in
+      subst (λ (k : Token × Place). Refuses (ComparandFrom lines name k.0 k.1) e) is (subst (λ k. Refuses (ComparandFrom lines name k q.1) e) (sym first) at)
+
+  -- ---- operands
+
+  from_one : (inner : Form Place Cond) → IsOne inner → (token : Token) → IsOne (OperandFrom lines inner token)
+  from_one inner one (Operator sign.Not) p x y r s h g = negated_one inner one p x y r s h g
+  from_one inner one (Operator sign.Open) p x y r s h g = closed_one inner one p x y r s h g
+  from_one inner one (Operator sign.Reference) p x y r s h g =
+      then_one (ReadableIs lines) (ComparedIs lines) (readable_one lines) compared_one p x y r s h g
+  from_one inner one (Word word) p x y r s h g = word_one (code_named word) word p x y r s h g
+  from_one inner one _ p x y r s h g = absurd h
+
+  pub within_one : (n : ℕ) → IsOne (Within lines n)
+  within_one zero p x y r s h g = absurd h
+  within_one (suc n) p x y r s h g = from_one (Within lines n) (within_one n) (next_token p).0 (next_token p).1 x y r s h g
+
+  -- an operand is read by what stands behind its first token
+  pub operand_reads : (inner : Form Place Cond) (p : Place) (q : Token × Place) (token : Token) (r : Result (Cond × Place) PolicyFault) → q ≡ next_token p → q.0 ≡ token
+      → Reads (OperandFrom lines inner token q.1) r → Reads (OperandIs lines inner p) r
+  operand_reads inner p q token r is first reads =
+      subst (λ (k : Token × Place). Reads (OperandFrom lines inner k.0 k.1) r) is (subst (λ k. Reads (OperandFrom lines inner k q.1) r) (sym first) reads)
+
+  -- ---- refusals inside brackets and after `!`, where one sign fewer may be nested
+
+  pub negated_refused : (n m : ℕ) (p : Place) (e : PolicyFault) → m ≡ n → Refuses (Within lines m p) e → Refuses (Negated (Within lines n) p) e
+  negated_refused n m p e same refused =
+      then_stops (Within lines n) (λ c. Gives (Not c)) p e (subst (λ k. Refuses (Within lines k p) e) same refused)
+
+  pub closed_refused : (n m : ℕ) (p : Place) (e : PolicyFault) → m ≡ n → Refuses (Either (Within lines m) p) e → Refuses (Closed (Within lines n) p) e
+  closed_refused n m p e same refused =
+      then_stops (Either (Within lines n)) Closing p e (subst (λ k. Refuses (Either (Within lines k) p) e) same refused)
+
+  pub unclosed_refused : (n m : ℕ) (p : Place) (c : Cond) (end : Place) (e : PolicyFault) → m ≡ n → Either (Within lines m) p c end
+      → ((rest : Place) → Follows (Operator sign.Close) end rest → ⊥) → Refuses (Closed (Within lines n) p) e
+  unclosed_refused n m p c end e same read open_end =
+      then_on (Either (Within lines n)) Closing (either_one (Within lines n) (within_one n)) p c end (subst (λ k. Either (Within lines k) p c end) same read) e
+      (after_stops (Follows (Operator sign.Close)) (Gives c) end e open_end)
+
+  pub closed_reads : (n m : ℕ) (p : Place) (c : Cond) (end rest : Place) → m ≡ n → Either (Within lines m) p c end → Follows (Operator sign.Close) end rest → Closed (Within lines n) p c rest
+  closed_reads n m p c end rest same read close = (c, end, subst (λ k. Either (Within lines k) p c end) same read, (rest, close, (refl, refl)))

@@ -1,0 +1,15 @@
+pub mod Chains
+pub mod Comparing
+pub mod ConditionsOne
+pub mod Determined
+pub mod Firsts
+pub mod LinesOne
+pub mod LiteralsFit
+pub mod PartsOne
+pub mod Room
+pub mod Runs
+pub mod Shallow
+pub mod SpelledSuits
+pub mod StatementsOne
+pub mod Truths
+pub mod Typed

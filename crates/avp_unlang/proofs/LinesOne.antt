@@ -1,0 +1,155 @@
+-- An update line is one line, and ends at one place.
+use Rattle.std.proofs.Common.{◌≡◌, ◌≢◌, ℕ, Bool, true, false, List, Option, Some, None, Result, Ok, Err, sym, ap, subst, ◌∙◌}
+use Rattle.std.specs.Prelude.{IfOk, IfErr}
+use Rattle.std.specs.Option.{option_map}
+use Rattle.avp_lists.specs.declared.edits.Op.{Op}
+use Rattle.avp_lists.specs.declared.lists.List.{List as Name}
+use Rattle.avp_lists.specs.declared.attributes.AttrId.{AttrId}
+use Rattle.avp_dict.specs.declared.entries.Named.{Named}
+use Rattle.avp_dict.specs.declared.readings.Reading.{Reading}
+use Rattle.avp_dict.specs.declared.quotes.QuoteMark.TheVariants.{Double, Single}
+use Rattle.avp_dict.specs.Quotes.{single_quoted_octets}
+use Rattle.avp_dict.specs.Spellings.{is_barred}
+use Rattle.avp_unlang.specs.declared.faults.PolicyFault.{PolicyFault}
+use Rattle.avp_unlang.specs.declared.faults.PolicyKind.TheVariants.{Memory}
+use Rattle.avp_unlang.specs.declared.tokens.Sign.TheVariants as sign
+use Rattle.avp_unlang.specs.declared.tokens.Token.{Token}
+use Rattle.avp_unlang.specs.declared.tokens.Token.TheVariants.{Operator, Word, Quoted}
+use Rattle.avp_unlang.specs.declared.tree.Line.{Line}
+use Rattle.avp_unlang.specs.declared.tree.Part.{Part}
+use Rattle.avp_unlang.specs.declared.tree.Source.{Source}
+use Rattle.avp_unlang.specs.declared.tree.Source.TheVariants.{Literal, Instance}
+use Rattle.avp_unlang.specs.Forms.{Form, Then, Gives, Refuses, ReadsAll}
+use Rattle.avp_unlang.specs.Lines.{TargetIs, OpIs, LineIs, after_reference, op_of, line_of}
+use Rattle.avp_unlang.specs.Parts.{PartsAre}
+use Rattle.avp_unlang.specs.Places.{Place}
+use Rattle.avp_unlang.specs.References.{ReadableIs, AlikeIs, readable, reference}
+use Rattle.avp_unlang.specs.Sources.{literal, filled, FilledIs, ValueFrom, ValueIs, IgnoredFrom, IgnoredIs, SourceBy, SourceIs, is_removal}
+use Rattle.avp_unlang.specs.Steps.{Counts, Follows}
+use Rattle.avp_unlang.specs.Tokens.{next_token}
+use Rattle.avp_unlang.proofs.Determined.{IsOne, IsSure, some_is, pair_one, gives_one, becomes_one, after_one, then_one}
+use Rattle.avp_unlang.proofs.PartsOne.{parts_one}
+
+-- ---- steps
+
+pub counts_sure : (n : ℕ) → IsSure (Counts n)
+counts_sure n p r s h g = some_is r s (sym h ∙ g)
+
+pub follows_sure : (token : Token) → IsSure (Follows token)
+follows_sure token p r s h g = (pair_one (next_token p) token token r s h g).1
+
+word_is : (w v : List ℕ) → Word w ≡ Word v → w ≡ v
+word_is w v e = cc
+
+-- two words that come next
+pub words_one : (p : Place) (w v : List ℕ) (r s : Place) → Follows (Word w) p r → Follows (Word v) p s → (w ≡ v) × (r ≡ s)
+words_one p w v r s h g = let at = pair_one (next_token p) (Word w) (Word v) r s h g in (word_is w v at.0, at.1)
+
+none_some : {A : Type 0} (x : A) (o : Option A) → o ≡ None → o ≡ Some x → ⊥
+none_some x o e f = cc
+
+module _ (lines : List Reading) where
+  -- ---- references
+
+  pub readable_one : IsOne (ReadableIs lines)
+  readable_one p x y r s h g =
+      let at = words_one p h.0 g.0 r s h.1 g.1 in
+      (some_is x y (sym (subst (λ w. readable lines w ≡ Some x) at.0 h.2) ∙ g.2), at.1)
+
+  pub alike_one : (id : AttrId) → IsOne (AlikeIs lines id)
+  alike_one id p x y r s h g = readable_one p x y r s h.0 g.0
+
+  pub target_one : (own : Name) → IsOne (TargetIs lines own)
+  target_one own p x y r s h g =
+      let at = words_one (after_reference p) h.0 g.0 r s h.1 g.1 in
+      (some_is x y (sym (subst (λ w. reference lines own w ≡ Some x) at.0 h.2) ∙ g.2), at.1)
+
+  -- ---- sources
+
+  pub filled_reads : (name : Named) (text : List ℕ) (parts : List Part) → is_barred name lines ≡ false → PartsAre lines text parts → (r : Result Source PolicyFault)
+      → IfOk r (λ source. filled lines name parts ≡ Some source) → IfErr r (λ fault. fault.kind ≢ Memory → filled lines name parts ≡ None)
+      → ReadsAll (FilledIs lines name text) r
+  filled_reads name text parts free are (Ok source) ok err = (free, parts, are, ok)
+  filled_reads name text parts free are (Err fault) ok err = λ some source h.
+      let same = parts_one lines text h.1 parts h.2 are in
+      none_some source (filled lines name parts) (err some) (subst (λ ps. filled lines name ps ≡ Some source) same h.3)
+
+  filled_one : (name : Named) (text : List ℕ) (x y : Source) → FilledIs lines name text x → FilledIs lines name text y → x ≡ y
+  filled_one name text x y h g =
+      let same = parts_one lines text h.1 g.1 h.2 g.2 in
+      some_is x y (sym (subst (λ ps. filled lines name ps ≡ Some x) same h.3) ∙ g.3)
+
+  value_from_one : (name : Named) (token : Token) → IsOne (ValueFrom lines name token)
+  value_from_one name (Word text) p x y r s h g = becomes_one (option_map Literal (literal lines name text)) p x y r s h g
+  value_from_one name (Quoted Single text) p x y r s h g = becomes_one (option_map Literal (literal lines name (single_quoted_octets text))) p x y r s h g
+  value_from_one name (Quoted Double text) p x y r s h g = (filled_one name text x y h.0 g.0, h.1 ∙ sym g.1)
+  value_from_one name (Operator sign.Reference) p x y r s h g =
+      let at = alike_one name.id p h.0 g.0 r s h.1 g.1 in
+      (h.2 ∙ ap (λ (n : Name × Named). Instance n.0 n.1.id) at.0 ∙ sym g.2, at.1)
+  value_from_one name _ p x y r s h g = absurd h
+
+  pub value_one : (name : Named) → IsOne (ValueIs lines name)
+  value_one name p x y r s h g = value_from_one name (next_token p).0 (next_token p).1 x y r s h g
+
+  -- a refusal of what stands behind the first token of a source
+  value_refused : (name : Named) (p : Place) (q : Token × Place) (token : Token) (e : PolicyFault) → q ≡ next_token p → q.0 ≡ token
+      → Refuses (ValueFrom lines name token q.1) e → Refuses (ValueIs lines name p) e
+  value_refused name p q token e is first refused =
+      subst (λ (k : Token × Place). Refuses (ValueFrom lines name k.0 k.1) e) is (subst (λ k. Refuses (ValueFrom lines name k q.1) e) (sym first) refused)
+
+  pub double_refused : (name : Named) (p : Place) (q : Token × Place) (text : List ℕ) (e : PolicyFault) → q ≡ next_token p → q.0 ≡ Quoted Double text
+      → (e.kind ≢ Memory → (source : Source) → FilledIs lines name text source → ⊥) → Refuses (ValueIs lines name p) e
+  double_refused name p q text e is first refused = value_refused name p q (Quoted Double text) e is first (λ some source rest h. refused some source h.0)
+
+  pub reference_refused : (name : Named) (p : Place) (q : Token × Place) (e : PolicyFault) → q ≡ next_token p → q.0 ≡ Operator sign.Reference
+      → Refuses (AlikeIs lines name.id q.1) e → Refuses (ValueIs lines name p) e
+  reference_refused name p q e is first refused = value_refused name p q (Operator sign.Reference) e is first (λ some source rest h. refused some h.0 rest h.1)
+
+  ignored_from_sure : (token : Token) → IsSure (IgnoredFrom token)
+  ignored_from_sure (Word text) p r s h g = h ∙ sym g
+  ignored_from_sure (Quoted mark text) p r s h g = h ∙ sym g
+  ignored_from_sure (Operator sign.Reference) p r s h g = (words_one p h.0 g.0 r s h.1 g.1).1
+  ignored_from_sure _ p r s h g = absurd h
+
+  pub ignored_sure : IsSure IgnoredIs
+  ignored_sure p r s h g = ignored_from_sure (next_token p).0 (next_token p).1 r s h g
+
+  source_by_one : (b : Bool) (name : Named) → IsOne (SourceBy b lines name)
+  source_by_one true name p x y r s h g = (h.1 ∙ sym g.1, ignored_sure p r s h.0 g.0)
+  source_by_one false name p x y r s h g = value_one name p x y r s h.1 g.1
+
+  pub source_one : (operation : Op) (name : Named) → IsOne (SourceIs lines operation name)
+  source_one operation name = source_by_one (is_removal operation) name
+
+  -- ---- lines
+
+  pub op_one : IsOne OpIs
+  op_one p x y r s h g =
+      let at = pair_one (next_token p) h.0 g.0 r s h.1 g.1 in
+      (some_is x y (sym h.2 ∙ ap op_of at.0 ∙ g.2), at.1)
+
+  -- what follows each part of a line
+  abbrev pub Ending : ℕ → Name × Named → Op → Source → Form Place Line
+  Ending first target operation source = Gives (line_of first target operation source)
+
+  abbrev pub Sourced : ℕ → Name × Named → Op → Form Place Line
+  Sourced first target operation = Then (SourceIs lines operation target.1) (Ending first target operation)
+
+  abbrev pub Operated : ℕ → Name × Named → Form Place Line
+  Operated first target = Then OpIs (Sourced first target)
+
+  abbrev pub Targeted : ℕ → Name → Form Place Line
+  Targeted first own = Then (TargetIs lines own) (Operated first)
+
+  sourced_one : (first : ℕ) (target : Name × Named) (operation : Op) → IsOne (Sourced first target operation)
+  sourced_one first target operation =
+      then_one (SourceIs lines operation target.1) (Ending first target operation) (source_one operation target.1) (λ source. gives_one (line_of first target operation source))
+
+  operated_one : (first : ℕ) (target : Name × Named) → IsOne (Operated first target)
+  operated_one first target = then_one OpIs (Sourced first target) op_one (sourced_one first target)
+
+  targeted_one : (first : ℕ) (own : Name) → IsOne (Targeted first own)
+  targeted_one first own = then_one (TargetIs lines own) (Operated first) (target_one own) (operated_one first)
+
+  pub line_one : (own : Name) → IsOne (LineIs lines own)
+  line_one own p = after_one (Counts 1) (Targeted (next_token p).1.line own) (counts_sure 1) (targeted_one (next_token p).1.line own) p

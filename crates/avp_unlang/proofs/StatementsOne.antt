@@ -1,0 +1,191 @@
+-- A place spells at most one statement, and how refusals inside one are refusals of it.
+use Rattle.std.proofs.Common.{◌≡◌, ◌≢◌, ℕ, ◌<◌, zero, suc, Bool, List, Option, Some, None, Result, refl, sym, ap, subst, ◌∙◌}
+use Rattle.std.specs.Prelude.{codes}
+use Rattle.avp_dict.specs.declared.readings.Reading.{Reading}
+use Rattle.avp_unlang.specs.declared.faults.PolicyFault.{PolicyFault}
+use Rattle.avp_unlang.specs.declared.faults.PolicyKind.TheVariants.{Memory}
+use Rattle.avp_unlang.specs.declared.statements.Keyword.{Keyword}
+use Rattle.avp_unlang.specs.declared.statements.Keyword.TheVariants as keyword
+use Rattle.avp_unlang.specs.declared.tokens.Sign.TheVariants as sign
+use Rattle.avp_unlang.specs.declared.tokens.Token.{Token}
+use Rattle.avp_unlang.specs.declared.tokens.Token.TheVariants as token
+use Rattle.avp_unlang.specs.declared.tree.Branch.{Branch}
+use Rattle.avp_unlang.specs.declared.tree.Cond.{Cond}
+use Rattle.avp_unlang.specs.declared.tree.Line.{Line}
+use Rattle.avp_unlang.specs.declared.tree.Statement.{Statement}
+use Rattle.avp_unlang.specs.declared.tree.Statement.TheVariants.{Update, If, Transaction, Word}
+use Rattle.avp_unlang.specs.Conditions.{Closed, Within}
+use Rattle.avp_unlang.specs.Forms.{Form, After, Chain, Gives, Then, While, Refuses, Reads}
+use Rattle.avp_unlang.specs.Lines.{LineIs, begins_line}
+use Rattle.avp_unlang.specs.Places.{Place, start_of}
+use Rattle.avp_unlang.specs.Policies.{SpellsPolicy}
+use Rattle.avp_unlang.specs.Statements.{keyword_in, begins_word, list_at, BlockIs, branch_of, BranchIs, Otherwise, StatementFrom, StatementIs, Nested}
+use Rattle.avp_unlang.specs.Steps.{Counts, Follows}
+use Rattle.avp_unlang.specs.Tokens.{next_token}
+use Rattle.avp_unlang.proofs.Chains.{chain_one}
+use Rattle.avp_unlang.proofs.ConditionsOne.{closed_one, within_one}
+use Rattle.avp_unlang.proofs.Determined.{IsOne, gives_one, after_one, then_one, then_stops, then_on, after_stops, after_on}
+use Rattle.avp_unlang.proofs.LinesOne.{counts_sure, follows_sure, line_one}
+use Rattle.avp_unlang.proofs.Runs.{while_one}
+
+-- ---- blocks
+
+abbrev pub start_sign : Token
+start_sign = token.Operator sign.BlockStart
+
+abbrev pub end_sign : Token
+end_sign = token.Operator sign.BlockEnd
+
+abbrev pub open_sign : Token
+open_sign = token.Operator sign.Open
+
+abbrev pub else_word : Token
+else_word = token.Word (codes "else")
+
+abbrev pub elsif_word : Token
+elsif_word = token.Word (codes "elsif")
+
+abbrev pub Ended : {A : Type 0} → List A → Form Place (List A)
+Ended xs = After (Follows end_sign) (Gives xs)
+
+ended_one : {A : Type 0} (xs : List A) → IsOne (Ended xs)
+ended_one xs = after_one (Follows end_sign) (Gives xs) (follows_sure end_sign) (gives_one xs)
+
+abbrev pub Inside : {A : Type 0} → (Place → Bool) → Form Place A → Form Place (List A)
+Inside begins inner = Then (While begins inner) Ended
+
+inside_one : {A : Type 0} (begins : Place → Bool) (inner : Form Place A) → IsOne inner → IsOne (Inside begins inner)
+inside_one begins inner one = then_one (While begins inner) Ended (while_one begins inner one) ended_one
+
+pub block_one : {A : Type 0} (n : ℕ) (begins : Place → Bool) (inner : Form Place A) → IsOne inner → IsOne (BlockIs n begins inner)
+block_one n begins inner one p x y r s h g = after_one (Follows start_sign) (Inside begins inner) (follows_sure start_sign) (inside_one begins inner one) p x y r s h.1 g.1
+
+-- what a block wants is wanted of all of it
+block_refused : {A : Type 0} (n : ℕ) (begins : Place → Bool) (inner : Form Place A) (p : Place) (e : PolicyFault)
+    → Refuses (After (Follows start_sign) (Inside begins inner) p) e → Refuses (BlockIs n begins inner p) e
+block_refused n begins inner p e refused = λ some xs rest h. refused some xs rest h.1
+
+pub unopened : {A : Type 0} (n : ℕ) (begins : Place → Bool) (inner : Form Place A) (p : Place) (e : PolicyFault)
+    → ((rest : Place) → Follows start_sign p rest → ⊥) → Refuses (BlockIs n begins inner p) e
+unopened n begins inner p e none = block_refused n begins inner p e (after_stops (Follows start_sign) (Inside begins inner) p e none)
+
+pub inside_refused : {A : Type 0} (n : ℕ) (begins : Place → Bool) (inner : Form Place A) (p start : Place) (e : PolicyFault)
+    → Follows start_sign p start → Refuses (While begins inner start) e → Refuses (BlockIs n begins inner p) e
+inside_refused n begins inner p start e opened refused =
+    block_refused n begins inner p e (after_on (Follows start_sign) (Inside begins inner) (follows_sure start_sign) p start opened e
+    (then_stops (While begins inner) Ended start e refused))
+
+pub unended : {A : Type 0} (n : ℕ) (begins : Place → Bool) (inner : Form Place A) → IsOne inner → (p start : Place) (xs : List A) (end : Place) (e : PolicyFault)
+    → Follows start_sign p start → While begins inner start xs end → ((rest : Place) → Follows end_sign end rest → ⊥) → Refuses (BlockIs n begins inner p) e
+unended n begins inner one p start xs end e opened read none =
+    block_refused n begins inner p e (after_on (Follows start_sign) (Inside begins inner) (follows_sure start_sign) p start opened e
+    (then_on (While begins inner) Ended (while_one begins inner one) start xs end read e (after_stops (Follows end_sign) (Gives xs) end e none)))
+
+pub block_reads : {A : Type 0} (n : ℕ) (begins : Place → Bool) (inner : Form Place A) (p start : Place) (xs : List A) (end rest : Place)
+    → 0 < n → Follows start_sign p start → While begins inner start xs end → Follows end_sign end rest → BlockIs n begins inner p xs rest
+block_reads n begins inner p start xs end rest some opened read ended = (some, (start, opened, (xs, end, read, (rest, ended, (refl, refl)))))
+
+module _ (lines : List Reading) (n : ℕ) (inner : Form Place Statement) (one : IsOne inner) where
+  -- ---- branches
+
+  abbrev pub Blocked : ℕ → Cond → Form Place Branch
+  Blocked line cond = Then (BlockIs n begins_word inner) (λ block. Gives (branch_of line cond block))
+
+  abbrev pub Asked : ℕ → Form Place Branch
+  Asked line = Then (Closed (Within lines n)) (Blocked line)
+
+  abbrev pub Opened : ℕ → Form Place Branch
+  Opened line = After (Follows open_sign) (Asked line)
+
+  blocked_one : (line : ℕ) (cond : Cond) → IsOne (Blocked line cond)
+  blocked_one line cond = then_one (BlockIs n begins_word inner) (λ block. Gives (branch_of line cond block)) (block_one n begins_word inner one) (λ block. gives_one (branch_of line cond block))
+
+  pub condition_one : IsOne (Closed (Within lines n))
+  condition_one = closed_one (Within lines n) (within_one lines n)
+
+  asked_one : (line : ℕ) → IsOne (Asked line)
+  asked_one line = then_one (Closed (Within lines n)) (Blocked line) condition_one (blocked_one line)
+
+  opened_one : (line : ℕ) → IsOne (Opened line)
+  opened_one line = after_one (Follows open_sign) (Asked line) (follows_sure open_sign) (asked_one line)
+
+  pub branch_one : IsOne (BranchIs lines n inner)
+  branch_one p = after_one (Counts 1) (Opened p.line) (counts_sure 1) (opened_one p.line) p
+
+  pub chained_one : IsOne (Chain (Follows elsif_word) (BranchIs lines n inner))
+  chained_one = chain_one (Follows elsif_word) (BranchIs lines n inner) (follows_sure elsif_word) branch_one
+
+  -- ---- statements
+
+  otherwise_one : IsOne (Otherwise n inner)
+  otherwise_one p None None r s h g = (refl, h.1 ∙ sym g.1)
+  otherwise_one p None (Some ys) r s h g = absurd (h.0 g.0 g.1)
+  otherwise_one p (Some xs) None r s h g = absurd (g.0 h.0 h.1)
+  otherwise_one p (Some xs) (Some ys) r s h g =
+      let at = after_one (Follows else_word) (BlockIs n begins_word inner) (follows_sure else_word) (block_one n begins_word inner one) p xs ys r s h g in
+      (ap (λ (l : List Statement). Some l) at.0, at.1)
+
+  -- a block that has to follow an `else`
+  pub otherwise_refused : (p next : Place) (e : PolicyFault) → Follows else_word p next → Refuses (BlockIs n begins_word inner next) e → Refuses (Otherwise n inner p) e
+  otherwise_refused p next e follows refused = λ some o rest h. none_of some o rest h where
+    none_of : e.kind ≢ Memory → (o : Option (List Statement)) (rest : Place) → Otherwise n inner p o rest → ⊥
+    none_of some None rest h = h.0 next follows
+    none_of some (Some block) rest h = after_on (Follows else_word) (BlockIs n begins_word inner) (follows_sure else_word) p next follows e refused some block rest h
+
+  abbrev pub Ending : List Branch → Form Place Statement
+  Ending bs = Then (Otherwise n inner) (λ o. Gives (If bs o))
+
+  ending_one : (bs : List Branch) → IsOne (Ending bs)
+  ending_one bs = then_one (Otherwise n inner) (λ o. Gives (If bs o)) otherwise_one (λ o. gives_one (If bs o))
+
+  abbrev pub Updating : ℕ → List Line → Form Place Statement
+  Updating line ls = Gives (Update line ls)
+
+  abbrev pub Enclosed : ℕ → Form Place Statement
+  Enclosed line = Then (BlockIs n begins_word inner) (λ block. Gives (Transaction line block))
+
+  enclosed_one : (line : ℕ) → IsOne (Enclosed line)
+  enclosed_one line = then_one (BlockIs n begins_word inner) (λ block. Gives (Transaction line block)) (block_one n begins_word inner one) (λ block. gives_one (Transaction line block))
+
+  from_one : (k : Keyword) → IsOne (StatementFrom lines n inner k)
+  from_one keyword.Update p x y r s h g =
+      then_one (BlockIs n begins_line (LineIs lines (list_at p).0)) (Updating p.line) (block_one n begins_line (LineIs lines (list_at p).0) (line_one lines (list_at p).0))
+      (λ ls. gives_one (Update p.line ls)) (list_at p).1 x y r s h g
+  from_one keyword.If p x y r s h g = then_one (Chain (Follows elsif_word) (BranchIs lines n inner)) Ending chained_one ending_one p x y r s h g
+  from_one keyword.Transaction p x y r s h g = after_one (Counts 2) (Enclosed p.line) (counts_sure 2) (enclosed_one p.line) p x y r s h g
+  from_one (keyword.Code code) p x y r s h g = after_one (Counts 1) (Gives (Word p.line code)) (counts_sure 1) (gives_one (Word p.line code)) p x y r s h g
+  from_one keyword.Other p x y r s h g = absurd h
+
+  statement_one : IsOne (StatementIs lines n inner)
+  statement_one p x y r s h g = from_one (keyword_in (next_token p).0) (next_token p).1 x y r s h g
+
+module _ (lines : List Reading) where
+  pub nested_one : (n : ℕ) → IsOne (Nested lines n)
+  nested_one zero p x y r s h g = absurd h
+  nested_one (suc n) p x y r s h g = statement_one lines n (Nested lines n) (nested_one n) p x y r s h g
+
+  -- a statement is read by what stands behind its first word
+  pub statement_reads : (n : ℕ) (inner : Form Place Statement) (p : Place) (q : Token × Place) (k : Keyword) (r : Result (Statement × Place) PolicyFault)
+      → q ≡ next_token p → keyword_in q.0 ≡ k → Reads (StatementFrom lines n inner k q.1) r → Reads (StatementIs lines n inner p) r
+  statement_reads n inner p q k r is first reads =
+      subst (λ (t : Token × Place). Reads (StatementFrom lines n inner (keyword_in t.0) t.1) r) is (subst (λ j. Reads (StatementFrom lines n inner j q.1) r) (sym first) reads)
+
+  pub one_policy : (text : List ℕ) (xs ys : List Statement) → SpellsPolicy lines text xs → SpellsPolicy lines text ys → xs ≡ ys
+  one_policy text xs ys h g = (while_one begins_word (Nested lines 65) (nested_one 65) (start_of text) xs ys h.0 g.0 h.2 g.2).0
+
+  -- statements up to the end of a text, and up to another token
+  pub policy_ends : (text : List ℕ) (p : Place) (statements : List Statement) (end : Place) (q : Token × Place) → p ≡ start_of text → While begins_word (Nested lines 65) p statements end
+      → q ≡ next_token end → q.0 ≡ token.End → SpellsPolicy lines text statements
+  policy_ends text p statements end q start read is last =
+      (end, q.1, subst (λ k. While begins_word (Nested lines 65) k statements end) start read, sym is ∙ ap (λ (t : Token). (t, q.1)) last)
+
+  pub policy_goes_on : (text : List ℕ) (p : Place) (statements : List Statement) (end : Place) (q : Token × Place) → p ≡ start_of text → While begins_word (Nested lines 65) p statements end
+      → q ≡ next_token end → (q.0 ≡ token.End → ⊥) → (others : List Statement) → SpellsPolicy lines text others → ⊥
+  policy_goes_on text p statements end q start read is last others h =
+      let mine = subst (λ k. While begins_word (Nested lines 65) k statements end) start read in
+      let at = while_one begins_word (Nested lines 65) (nested_one 65) (start_of text) others statements h.0 end h.2 mine in
+      last (ap (λ (t : Token × Place). t.0) (is ∙ subst (λ k. next_token k ≡ (token.End, h.1)) at.1 h.3))
+
+  pub policy_refused : (text : List ℕ) (p : Place) (e : PolicyFault) → p ≡ start_of text → Refuses (While begins_word (Nested lines 65) p) e
+      → e.kind ≢ Memory → (statements : List Statement) → SpellsPolicy lines text statements → ⊥
+  policy_refused text p e start refused some statements h = refused some statements h.0 (subst (λ k. While begins_word (Nested lines 65) k statements h.0) (sym start) h.2)

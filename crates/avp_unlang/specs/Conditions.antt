@@ -1,0 +1,121 @@
+-- Conditions: how they are spelled. Each case is chosen by the next token.
+use Rattle.std.specs.Prelude.{◌≡◌, ℕ, zero, suc, Bool, false, not, ◌&&◌, ◌||◌, ◌==◌, List, [], ◌∷◌, Option, Some, None, if◌then◌else◌}
+use Rattle.std.specs.Option.{option_and_then, option_map}
+use Rattle.avp_lists.specs.declared.lists.List.{List as Name}
+use Rattle.avp_dict.specs.declared.entries.Named.{Named}
+use Rattle.avp_dict.specs.declared.quotes.QuoteMark.TheVariants.{Double, Single}
+use Rattle.avp_dict.specs.declared.readings.Reading.{Reading}
+use Rattle.avp_dict.specs.Quotes.{double_quoted_octets, single_quoted_octets}
+use Rattle.avp_unlang.specs.declared.codes.Code.{Code}
+use Rattle.avp_unlang.specs.declared.tokens.Sign.TheVariants as sign
+use Rattle.avp_unlang.specs.declared.tokens.Token.{Token}
+use Rattle.avp_unlang.specs.declared.tokens.Token.TheVariants.{Operator, Word, Quoted}
+use Rattle.avp_unlang.specs.declared.tree.Comparand.{Comparand}
+use Rattle.avp_unlang.specs.declared.tree.Comparand.TheVariants.{Literal, Instance}
+use Rattle.avp_unlang.specs.declared.tree.Comparison.{Comparison}
+use Rattle.avp_unlang.specs.declared.tree.Cond.{Cond}
+use Rattle.avp_unlang.specs.declared.tree.Cond.TheVariants.{Any, All, Not, Last, Present, Compare}
+use Rattle.avp_unlang.specs.declared.tree.Relation.{Relation}
+use Rattle.avp_unlang.specs.declared.tree.Relation.TheVariants as relation
+use Rattle.avp_unlang.specs.Forms.{Form, After, Becomes, Chain, Gives, Then}
+use Rattle.avp_unlang.specs.Places.{Place}
+use Rattle.avp_unlang.specs.References.{AlikeIs, ReadableIs, readable, type_of}
+use Rattle.avp_unlang.specs.Sources.{literal}
+use Rattle.avp_unlang.specs.Steps.{Follows}
+use Rattle.avp_unlang.specs.Tokens.{next_token}
+use Rattle.avp_unlang.specs.Words.{code_named}
+
+-- ---- comparisons
+
+-- how an operator compares
+unfoldable pub relation_of : Token → Option Relation
+relation_of (Operator sign.Equal) = Some relation.Equal
+relation_of (Operator sign.Differs) = Some relation.Differs
+relation_of (Operator sign.Less) = Some relation.Less
+relation_of (Operator sign.AtMost) = Some relation.AtMost
+relation_of (Operator sign.Greater) = Some relation.Greater
+relation_of (Operator sign.AtLeast) = Some relation.AtLeast
+relation_of _ = None
+
+abbrev pub begins_brace : List ℕ → Bool
+begins_brace [] = false
+begins_brace (c ∷ cs) = c == 123
+
+-- `%{` with neither octet escaped by a `\`
+abbrev pub has_expansion : Bool → List ℕ → Bool
+has_expansion escaped [] = false
+has_expansion escaped (c ∷ cs) = (not escaped && c == 37 && begins_brace cs) || has_expansion (not escaped && c == 92) cs
+
+-- what a text between double quotes stands for in a condition, where no value is put in
+abbrev pub plain_octets : List ℕ → Option (List ℕ)
+plain_octets text = if has_expansion false text then None else Some (double_quoted_octets text)
+
+-- what an attribute is compared with: a literal by its type, or after `&` a reference to values of its type
+abbrev pub ComparandFrom : List Reading → Named → Token → Form Place Comparand
+ComparandFrom lines name (Word text) after x rest = Becomes (option_map Literal (literal lines name text)) after x rest
+ComparandFrom lines name (Quoted Single text) after x rest = Becomes (option_map Literal (literal lines name (single_quoted_octets text))) after x rest
+ComparandFrom lines name (Quoted Double text) after x rest = Becomes (option_map Literal (option_and_then (literal lines name) (plain_octets text))) after x rest
+ComparandFrom lines name (Operator sign.Reference) after x rest =
+    (found : Name × Named) × AlikeIs lines name.id after found rest × (x ≡ Instance found.0 found.1.id)
+ComparandFrom lines name _ after x rest = ⊥
+
+abbrev pub ComparandIs : List Reading → Named → Form Place Comparand
+ComparandIs lines name p x rest = ComparandFrom lines name (next_token p).0 (next_token p).1 x rest
+
+abbrev pub comparison_of : List Reading → Name × Named → Relation → Comparand → Comparison
+comparison_of lines found relation x =
+    record { list = found.0; id = found.1.id; kind = type_of lines found.1.id; relation = relation; comparand = x }
+
+-- after a reference: nothing more, or an operator that compares and what it compares with
+abbrev pub ComparedFrom : List Reading → Name × Named → Option Relation → Place → Form Place Cond
+ComparedFrom lines found None p after c rest = Gives (Present found.0 found.1.id) p c rest
+ComparedFrom lines found (Some relation) p after c rest =
+    Then (ComparandIs lines found.1) (λ x. Gives (Compare (comparison_of lines found relation x))) after c rest
+
+abbrev pub ComparedIs : List Reading → Name × Named → Form Place Cond
+ComparedIs lines found p c rest = ComparedFrom lines found (relation_of (next_token p).0) p (next_token p).1 c rest
+
+-- a word that is a code stands for it, and any other for a reference
+abbrev pub WordFrom : List Reading → Option Code → List ℕ → Form Place Cond
+WordFrom lines (Some code) word p c rest = Gives (Last code) p c rest
+WordFrom lines None word p c rest = (found : Name × Named) × (readable lines word ≡ Some found) × ComparedIs lines found p c rest
+
+-- ---- operands
+
+-- one operand is itself
+abbrev pub any_of : List Cond → Cond
+any_of (c ∷ []) = c
+any_of cs = Any cs
+
+abbrev pub all_of : List Cond → Cond
+all_of (c ∷ []) = c
+all_of cs = All cs
+
+-- operands with `&&` between them, and these with `||` between them
+abbrev pub Both : Form Place Cond → Form Place Cond
+Both operand = Then (Chain (Follows (Operator sign.And)) operand) (λ cs. Gives (all_of cs))
+
+abbrev pub Either : Form Place Cond → Form Place Cond
+Either operand = Then (Chain (Follows (Operator sign.Or)) (Both operand)) (λ cs. Gives (any_of cs))
+
+abbrev pub Negated : Form Place Cond → Form Place Cond
+Negated inner = Then inner (λ c. Gives (Not c))
+
+abbrev pub Closed : Form Place Cond → Form Place Cond
+Closed inner = Then (Either inner) (λ c. After (Follows (Operator sign.Close)) (Gives c))
+
+-- an operand by its first token; inner spells the operands inside a `!` or brackets
+abbrev pub OperandFrom : List Reading → Form Place Cond → Token → Form Place Cond
+OperandFrom lines inner (Operator sign.Not) after c rest = Negated inner after c rest
+OperandFrom lines inner (Operator sign.Open) after c rest = Closed inner after c rest
+OperandFrom lines inner (Operator sign.Reference) after c rest = Then (ReadableIs lines) (ComparedIs lines) after c rest
+OperandFrom lines inner (Word word) after c rest = WordFrom lines (code_named word) word after c rest
+OperandFrom lines inner _ after c rest = ⊥
+
+abbrev pub OperandIs : List Reading → Form Place Cond → Form Place Cond
+OperandIs lines inner p c rest = OperandFrom lines inner (next_token p).0 (next_token p).1 c rest
+
+-- an operand inside which fewer than n signs `!` and `(` are open at once
+abbrev pub Within : List Reading → ℕ → Form Place Cond
+Within lines zero p c rest = ⊥
+Within lines (suc n) p c rest = OperandIs lines (Within lines n) p c rest

@@ -1,0 +1,61 @@
+-- The lines of an `update`: a target, an operator and a source.
+use Rattle.std.specs.Prelude.{◌≡◌, ℕ, Bool, true, false, List, Option, Some, None}
+use Rattle.avp_lists.specs.declared.edits.Op.{Op}
+use Rattle.avp_lists.specs.declared.edits.Op.TheVariants as op
+use Rattle.avp_lists.specs.declared.lists.List.{List as Name}
+use Rattle.avp_dict.specs.declared.entries.Named.{Named}
+use Rattle.avp_dict.specs.declared.readings.Reading.{Reading}
+use Rattle.avp_unlang.specs.declared.tokens.Sign.TheVariants as sign
+use Rattle.avp_unlang.specs.declared.tokens.Token.{Token}
+use Rattle.avp_unlang.specs.declared.tokens.Token.TheVariants.{Operator, Word}
+use Rattle.avp_unlang.specs.declared.tree.Line.{Line}
+use Rattle.avp_unlang.specs.declared.tree.Source.{Source}
+use Rattle.avp_unlang.specs.Forms.{Form, After, Then, Gives}
+use Rattle.avp_unlang.specs.Places.{Place}
+use Rattle.avp_unlang.specs.References.{reference}
+use Rattle.avp_unlang.specs.Sources.{SourceIs}
+use Rattle.avp_unlang.specs.Steps.{Counts, Follows}
+use Rattle.avp_unlang.specs.Tokens.{next_token}
+
+-- the place after an `&`, where one stands
+abbrev pub after_reference_from : Place → Token × Place → Place
+after_reference_from p (Operator sign.Reference, rest) = rest
+after_reference_from p _ = p
+
+unfoldable pub after_reference : Place → Place
+after_reference p = after_reference_from p (next_token p)
+
+-- a target, with `&` or without: its list and what its name stands for
+abbrev pub TargetIs : List Reading → Name → Form Place (Name × Named)
+TargetIs lines own p target rest = (word : List ℕ) × Follows (Word word) (after_reference p) rest × (reference lines own word ≡ Some target)
+
+-- the edit that an operator stands for
+unfoldable pub op_of : Token → Option Op
+op_of (Operator sign.AddNew) = Some op.AddNew
+op_of (Operator sign.Replace) = Some op.Replace
+op_of (Operator sign.Append) = Some op.Append
+op_of (Operator sign.RemoveEqual) = Some op.RemoveEqual
+op_of (Operator sign.Equal) = Some op.KeepEqual
+op_of (Operator sign.RemoveAll) = Some op.RemoveAll
+op_of _ = None
+
+abbrev pub OpIs : Form Place Op
+OpIs p operation rest = (token : Token) × Follows token p rest × (op_of token ≡ Some operation)
+
+abbrev pub line_of : ℕ → Name × Named → Op → Source → Line
+line_of line target operation source = record { line = line; list = target.0; id = target.1.id; op = operation; source = source }
+
+-- an update line, on the line of its first token; it adds one to the size
+abbrev pub LineIs : List Reading → Name → Form Place Line
+LineIs lines own p line rest =
+    After (Counts 1) (Then (TargetIs lines own) (λ target. Then OpIs (λ operation. Then (SourceIs lines operation target.1)
+    (λ source. Gives (line_of (next_token p).1.line target operation source))))) p line rest
+
+-- an update line begins with `&` or a word
+abbrev pub is_line_start : Token → Bool
+is_line_start (Operator sign.Reference) = true
+is_line_start (Word word) = true
+is_line_start _ = false
+
+abbrev pub begins_line : Place → Bool
+begins_line p = is_line_start (next_token p).0

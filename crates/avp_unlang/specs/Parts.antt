@@ -1,0 +1,64 @@
+-- Texts between double quotes into which values are put: `%{name}` and `%{list:name}`, with `%%` for a plain `%`.
+use Rattle.std.specs.Prelude.{◌≡◌, ℕ, zero, Bool, true, false, ◌==◌, if◌then◌else◌, List, [], ◌∷◌, drop, take, Option, Some, None, is_some}
+use Rattle.avp_lists.specs.declared.lists.List.{List as Name}
+use Rattle.avp_dict.specs.declared.entries.Named.{Named}
+use Rattle.avp_dict.specs.declared.readings.Reading.{Reading}
+use Rattle.avp_dict.specs.Quotes.{double_escape}
+use Rattle.avp_unlang.specs.declared.tree.Part.{Part}
+use Rattle.avp_unlang.specs.declared.tree.Part.TheVariants.{Text, Instance}
+use Rattle.avp_unlang.specs.Forms.{Form, While}
+use Rattle.avp_unlang.specs.References.{readable}
+use Rattle.avp_unlang.specs.Tokens.{word_length}
+
+-- after a `%`: a second one
+abbrev pub percent_at : List ℕ → Option (ℕ × List ℕ)
+percent_at [] = None
+percent_at (c ∷ cs) = if c == 37 then Some (37, cs) else None
+
+-- The octet that a text begins with, and the text after it: `\` and what it escapes, `%%`, or any octet but `%`.
+unfoldable pub octet_at : List ℕ → Option (ℕ × List ℕ)
+octet_at [] = None
+octet_at (c ∷ cs) =
+    if c == 92 then Some ((double_escape cs).octet, drop (double_escape cs).taken cs)
+    else if c == 37 then percent_at cs
+    else Some (c, cs)
+
+abbrev pub begins_octet : List ℕ → Bool
+begins_octet text = is_some (octet_at text)
+
+abbrev pub OctetIs : Form (List ℕ) ℕ
+OctetIs text octet rest = octet_at text ≡ Some (octet, rest)
+
+-- `%{`
+abbrev pub after_opening : List ℕ → Option (List ℕ)
+after_opening (a ∷ b ∷ cs) = if a == 37 then (if b == 123 then Some cs else None) else None
+after_opening _ = None
+
+-- a word of one octet or more, and the text after it and a `}`
+abbrev pub closed_after : ℕ → List ℕ → List ℕ → Option (List ℕ × List ℕ)
+closed_after zero text rest = None
+closed_after n text [] = None
+closed_after n text (c ∷ cs) = if c == 125 then Some (take n text, cs) else None
+
+abbrev pub braced : List ℕ → Option (List ℕ × List ℕ)
+braced text = closed_after (word_length text) text (drop (word_length text) text)
+
+-- `%{`, a word that refers to values, and `}`
+abbrev pub InstanceIs : List Reading → Form (List ℕ) (Name × Named)
+InstanceIs lines text found rest =
+    (inner : List ℕ) × (after_opening text ≡ Some inner)
+    × (word : List ℕ) × (braced inner ≡ Some (word, rest)) × (readable lines word ≡ Some found)
+
+-- as many octets as follow one another, or a value that is put in
+abbrev pub PartIs : List Reading → Form (List ℕ) Part
+PartIs lines text (Text octets) rest = (begins_octet text ≡ true) × While begins_octet OctetIs text octets rest
+PartIs lines text (Instance list id) rest =
+    (begins_octet text ≡ false) × (found : Name × Named) × InstanceIs lines text found rest × (list ≡ found.0) × (id ≡ found.1.id)
+
+abbrev pub is_left : List ℕ → Bool
+is_left [] = false
+is_left (c ∷ cs) = true
+
+-- the parts of a whole text
+abbrev pub PartsAre : List Reading → List ℕ → List Part → Type 0
+PartsAre lines text parts = (end : List ℕ) × While is_left (PartIs lines) text parts end

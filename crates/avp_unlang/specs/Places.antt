@@ -1,0 +1,16 @@
+-- Where the reading of a policy text stands.
+use Rattle.std.specs.Prelude.{ℕ, ◌-◌, nat_le, if◌then◌else◌, List, Option, Some, None}
+
+-- the octets still to be read, the line that they begin on, and how much may still be added to the policy's size
+pub record Place : Type 0 where
+  pub text : List ℕ
+  pub line : ℕ
+  pub room : ℕ
+
+-- the beginning of a text; a policy has a size of at most 65535
+abbrev pub start_of : List ℕ → Place
+start_of text = record { text = text; line = 1; room = 65535 }
+
+-- the same place after so much is added to the size
+unfoldable pub counted : ℕ → Place → Option Place
+counted n p = if nat_le n p.room then Some (record p { room = p.room - n }) else None

@@ -1,0 +1,65 @@
+-- Names of lists and attributes in a policy text: what a word refers to, by a dictionary.
+use Rattle.std.specs.Prelude.{◌≡◌, ℕ, List, length, drop, take, bytes_eq, codes, Option, Some, None, unwrap_or, if◌then◌else◌}
+use Rattle.std.specs.Option.{option_and_then, option_map}
+use Rattle.avp_lists.specs.declared.attributes.AttrId.{AttrId}
+use Rattle.avp_lists.specs.declared.lists.List.{List as Name}
+use Rattle.avp_lists.specs.declared.lists.List.TheVariants as lists
+use Rattle.avp_dict.specs.declared.entries.Named.{Named}
+use Rattle.avp_dict.specs.declared.readings.Kind.{Kind}
+use Rattle.avp_dict.specs.declared.readings.Kind.TheVariants.{Bytes}
+use Rattle.avp_dict.specs.declared.readings.Reading.{Reading}
+use Rattle.avp_dict.specs.Names.{named}
+use Rattle.avp_dict.specs.Octets.{kind_of}
+use Rattle.avp_dict.specs.Sent.{is_container}
+use Rattle.avp_unlang.specs.declared.tokens.Token.TheVariants.{Word}
+use Rattle.avp_unlang.specs.Forms.{Form}
+use Rattle.avp_unlang.specs.Places.{Place}
+use Rattle.avp_unlang.specs.Steps.{Follows}
+
+-- the list that a word names
+unfoldable pub list_named : List ℕ → Option Name
+list_named word =
+    if bytes_eq word (codes "request") then Some lists.Request
+    else if bytes_eq word (codes "reply") then Some lists.Reply
+    else if bytes_eq word (codes "control") then Some lists.Control
+    else None
+
+-- what a word has after these first octets
+abbrev pub after_front : List ℕ → List ℕ → Option (List ℕ)
+after_front front word = if bytes_eq (take (length front) word) front then Some (drop (length front) word) else None
+
+-- The list and the name of a word: `list:name`, or a name alone, which is of the list at hand. A `:` that does not
+-- follow a list stays in the name, and no attribute has such a name.
+unfoldable pub target_in : Name → List ℕ → Name × List ℕ
+target_in own word =
+    elim (after_front (codes "request:") word) [
+      | Some name ↦ (lists.Request, name)
+      | None ↦ elim (after_front (codes "reply:") word) [
+        | Some name ↦ (lists.Reply, name)
+        | None ↦ elim (after_front (codes "control:") word) [ Some name ↦ (lists.Control, name) | None ↦ (own, word) ]
+      ]
+    ]
+
+-- the list, and what the name stands for
+unfoldable pub reference : List Reading → Name → List ℕ → Option (Name × Named)
+reference lines own word = option_map (λ name. ((target_in own word).0, name)) (named (target_in own word).1 lines)
+
+-- attributes that only hold others have no values to look at (RFC 2865, section 5.26; RFC 6929, section 2)
+abbrev pub unless_container : Name × Named → Option (Name × Named)
+unless_container r = if is_container r.1.id then None else Some r
+
+-- a reference to values; without a list it is of the request
+unfoldable pub readable : List Reading → List ℕ → Option (Name × Named)
+readable lines word = option_and_then unless_container (reference lines lists.Request word)
+
+-- a word that refers to values
+abbrev pub ReadableIs : List Reading → Form Place (Name × Named)
+ReadableIs lines p found rest = (word : List ℕ) × Follows (Word word) p rest × (readable lines word ≡ Some found)
+
+-- the type of an id's values: octets where no line gives one
+abbrev pub type_of : List Reading → AttrId → Kind
+type_of lines id = unwrap_or (kind_of id lines) Bytes
+
+-- a reference to values of the same type as this attribute's
+abbrev pub AlikeIs : List Reading → AttrId → Form Place (Name × Named)
+AlikeIs lines id p found rest = ReadableIs lines p found rest × (type_of lines id ≡ type_of lines found.1.id)

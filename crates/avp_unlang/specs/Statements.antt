@@ -1,0 +1,89 @@
+-- Statements: how they are spelled. Each case is chosen by the next token.
+use Rattle.std.specs.Prelude.{◌≡◌, ℕ, zero, suc, ◌<◌, Bool, true, false, List, Option, Some, None, codes, bytes_eq, if◌then◌else◌}
+use Rattle.avp_lists.specs.declared.lists.List.{List as Name}
+use Rattle.avp_lists.specs.declared.lists.List.TheVariants.{Request}
+use Rattle.avp_dict.specs.declared.readings.Reading.{Reading}
+use Rattle.avp_unlang.specs.declared.statements.Keyword.{Keyword}
+use Rattle.avp_unlang.specs.declared.statements.Keyword.TheVariants as keyword
+use Rattle.avp_unlang.specs.declared.tokens.Sign.TheVariants as sign
+use Rattle.avp_unlang.specs.declared.tokens.Token.{Token}
+use Rattle.avp_unlang.specs.declared.tokens.Token.TheVariants as token
+use Rattle.avp_unlang.specs.declared.tree.Branch.{Branch}
+use Rattle.avp_unlang.specs.declared.tree.Cond.{Cond}
+use Rattle.avp_unlang.specs.declared.tree.Statement.{Statement}
+use Rattle.avp_unlang.specs.declared.tree.Statement.TheVariants.{Update, If, Transaction, Word}
+use Rattle.avp_unlang.specs.declared.tree.Statement.TheViews.{roll-Branch}
+use Rattle.avp_unlang.specs.Conditions.{Closed, Within}
+use Rattle.avp_unlang.specs.Forms.{Form, After, Chain, Gives, Then, While}
+use Rattle.avp_unlang.specs.Lines.{LineIs, begins_line}
+use Rattle.avp_unlang.specs.Places.{Place}
+use Rattle.avp_unlang.specs.References.{list_named}
+use Rattle.avp_unlang.specs.Steps.{Counts, Follows}
+use Rattle.avp_unlang.specs.Tokens.{next_token}
+use Rattle.avp_unlang.specs.Words.{code_named}
+
+-- what a word begins
+unfoldable pub keyword_named : List ℕ → Keyword
+keyword_named word =
+    if bytes_eq word (codes "update") then keyword.Update
+    else if bytes_eq word (codes "if") then keyword.If
+    else if bytes_eq word (codes "transaction") then keyword.Transaction
+    else elim (code_named word) [ None ↦ keyword.Other | Some code ↦ keyword.Code code ]
+
+abbrev pub keyword_in : Token → Keyword
+keyword_in (token.Word word) = keyword_named word
+keyword_in _ = keyword.Other
+
+abbrev pub is_word : Token → Bool
+is_word (token.Word word) = true
+is_word _ = false
+
+-- a statement begins with a word
+abbrev pub begins_word : Place → Bool
+begins_word p = is_word (next_token p).0
+
+-- the list that is named next, and the place after it; else the request
+abbrev pub list_from : Place → Token × Place → Name × Place
+list_from p (token.Word word, rest) = elim (list_named word) [ None ↦ (Request, p) | Some list ↦ (list, rest) ]
+list_from p _ = (Request, p)
+
+unfoldable pub list_at : Place → Name × Place
+list_at p = list_from p (next_token p)
+
+-- `{`, what inner spells one after the other, and `}`, where n more signs may be nested
+abbrev pub BlockIs : {A : Type 0} → ℕ → (Place → Bool) → Form Place A → Form Place (List A)
+BlockIs n begins inner p xs rest =
+    (0 < n) × After (Follows (token.Operator sign.BlockStart)) (Then (While begins inner) (λ ys. After (Follows (token.Operator sign.BlockEnd)) (Gives ys))) p xs rest
+
+abbrev pub branch_of : ℕ → Cond → List Statement → Branch
+branch_of line cond block = roll-Branch (record { line = line; cond = cond; block = block })
+
+-- after `if` or `elsif`: a condition in brackets, and a block; it adds one to the size
+abbrev pub BranchIs : List Reading → ℕ → Form Place Statement → Form Place Branch
+BranchIs lines n inner p branch rest =
+    After (Counts 1) (After (Follows (token.Operator sign.Open)) (Then (Closed (Within lines n)) (λ cond. Then (BlockIs n begins_word inner)
+    (λ block. Gives (branch_of p.line cond block))))) p branch rest
+
+-- `else` and a block, or nothing
+abbrev pub Otherwise : ℕ → Form Place Statement → Form Place (Option (List Statement))
+Otherwise n inner p None rest = ((next : Place) → Follows (token.Word (codes "else")) p next → ⊥) × (rest ≡ p)
+Otherwise n inner p (Some block) rest = After (Follows (token.Word (codes "else"))) (BlockIs n begins_word inner) p block rest
+
+-- a statement after its first word, on whose line p is; a transaction adds two to the size, and a code one
+abbrev pub StatementFrom : List Reading → ℕ → Form Place Statement → Keyword → Form Place Statement
+StatementFrom lines n inner keyword.Update p s rest =
+    Then (BlockIs n begins_line (LineIs lines (list_at p).0)) (λ ls. Gives (Update p.line ls)) (list_at p).1 s rest
+StatementFrom lines n inner keyword.If p s rest =
+    Then (Chain (Follows (token.Word (codes "elsif"))) (BranchIs lines n inner)) (λ bs. Then (Otherwise n inner) (λ o. Gives (If bs o))) p s rest
+StatementFrom lines n inner keyword.Transaction p s rest =
+    After (Counts 2) (Then (BlockIs n begins_word inner) (λ block. Gives (Transaction p.line block))) p s rest
+StatementFrom lines n inner (keyword.Code code) p s rest = After (Counts 1) (Gives (Word p.line code)) p s rest
+StatementFrom lines n inner keyword.Other p s rest = ⊥
+
+abbrev pub StatementIs : List Reading → ℕ → Form Place Statement → Form Place Statement
+StatementIs lines n inner p s rest = StatementFrom lines n inner (keyword_in (next_token p).0) (next_token p).1 s rest
+
+-- a statement inside which fewer than n signs `{`, `(` and `!` are open at once
+abbrev pub Nested : List Reading → ℕ → Form Place Statement
+Nested lines zero p s rest = ⊥
+Nested lines (suc n) p s rest = StatementIs lines n (Nested lines n) p s rest

@@ -1,0 +1,140 @@
+-- Whether a condition is true in a state, after a code.
+use Rattle.std.specs.Prelude.{Bool, true, false, not, ◌&&◌, ◌||◌, if◌then◌else◌, Option, Some, None}
+use Rattle.std.specs.Cmp.Lexicographic.{slice_cmp}
+use Rattle.std.specs.List.{list_any, list_all}
+use Rattle.std.specs.Option.{option_map, option_map_or}
+use Rattle.std.specs.Ordering.{is_eq, is_ne, is_lt, is_le, is_gt, is_ge, nat_cmp, int_cmp}
+use Rattle.std.specs.declared.cmp.Ordering.{Ordering}
+use Rattle.avp_lists.specs.Instances.{first_instance, has_instance}
+use Rattle.avp_lists.specs.States.{list_of}
+use Rattle.avp_lists.specs.declared.attributes.AttrId.{AttrId}
+use Rattle.avp_lists.specs.declared.attributes.Pair.{Pair}
+use Rattle.avp_lists.specs.declared.attributes.Value.{Value}
+use Rattle.avp_lists.specs.declared.attributes.Value.TheVariants.{Int, Signed}
+use Rattle.avp_lists.specs.declared.lists.List.{List as Name}
+use Rattle.avp_lists.specs.declared.lists.State.{State}
+use Rattle.avp_dict.specs.Limits.{is_of_kind}
+use Rattle.avp_dict.specs.Octets.{octets_of}
+use Rattle.avp_dict.specs.Sent.{is_raw}
+use Rattle.avp_dict.specs.declared.readings.Kind.{Kind}
+use Rattle.avp_dict.specs.declared.readings.Kind.TheVariants as kinds
+use Rattle.avp_unlang.specs.declared.codes.Code.{Code}
+use Rattle.avp_unlang.specs.declared.codes.Code.TheVariants as code
+use Rattle.avp_unlang.specs.declared.tree.Comparand.{Comparand}
+use Rattle.avp_unlang.specs.declared.tree.Comparand.TheVariants.{Literal, Instance}
+use Rattle.avp_unlang.specs.declared.tree.Comparison.{Comparison}
+use Rattle.avp_unlang.specs.declared.tree.Cond.{Cond}
+use Rattle.avp_unlang.specs.declared.tree.Cond.TheFolds.{fold-Cond}
+use Rattle.avp_unlang.specs.declared.tree.Cond.TheOpen.{Cond-F, Any, All, Not, Last, Present, Compare}
+use Rattle.avp_unlang.specs.declared.tree.Relation.{Relation}
+use Rattle.avp_unlang.specs.declared.tree.Relation.TheVariants.{Equal, Differs, Less, AtMost, Greater, AtLeast}
+
+-- ---- two values
+
+-- values of these types are compared as numbers
+abbrev pub is_numeric : Kind → Bool
+is_numeric kinds.Text = false
+is_numeric kinds.Bytes = false
+is_numeric kinds.Addr = false
+is_numeric kinds.Ether = false
+is_numeric kinds.Integer = true
+is_numeric kinds.Date = true
+is_numeric kinds.Byte = true
+is_numeric kinds.Short = true
+is_numeric kinds.Signed = true
+is_numeric kinds.Integer64 = true
+
+abbrev pub is_number : Value → Bool
+is_number (Int n) = true
+is_number (Signed z) = true
+is_number _ = false
+
+-- the order of two numbers; raw octets are none
+abbrev pub number_order : Value → Value → Option Ordering
+number_order (Int m) (Int n) = Some (nat_cmp m n)
+number_order (Signed y) (Signed z) = Some (int_cmp y z)
+number_order _ _ = None
+
+-- the order of two values of a type: of numbers, or else of octets, one after the other, a proper prefix first
+abbrev pub order : Kind → Value → Value → Option Ordering
+order kind v w = if is_numeric kind then number_order v w else Some (slice_cmp nat_cmp (octets_of (Some kind) v) (octets_of (Some kind) w))
+
+abbrev pub meets : Relation → Ordering → Bool
+meets Equal o = is_eq o
+meets Differs o = is_ne o
+meets Less o = is_lt o
+meets AtMost o = is_le o
+meets Greater o = is_gt o
+meets AtLeast o = is_ge o
+
+-- values without an order are in no relation, also not different
+abbrev pub relates : Kind → Relation → Value → Value → Bool
+relates kind relation v w = option_map_or (meets relation) (order kind v w) false
+
+-- ---- comparisons
+
+abbrev pub value_in : Pair → Value
+value_in p = p.value
+
+-- the value of the first instance, if there is one
+abbrev pub first_value : Name → AttrId → State → Option Value
+first_value list id s = option_map value_in (first_instance id (list_of list s))
+
+abbrev pub compared_with : Comparand → State → Option Value
+compared_with (Literal v) s = Some v
+compared_with (Instance list id) s = first_value list id s
+
+-- two values that are there, in the relation
+abbrev pub are_related : Kind → Relation → Option Value → Option Value → Bool
+are_related kind relation (Some v) (Some w) = relates kind relation v w
+are_related kind relation _ _ = false
+
+abbrev pub is_met : Comparison → State → Bool
+is_met c s = are_related c.kind c.relation (first_value c.list c.id s) (compared_with c.comparand s)
+
+-- ---- conditions
+
+abbrev pub same_code : Code → Code → Bool
+same_code code.Ok code.Ok = true
+same_code code.Noop code.Noop = true
+same_code code.Updated code.Updated = true
+same_code code.Fail code.Fail = true
+same_code code.Reject code.Reject = true
+same_code _ _ = false
+
+-- what a state and a code decide
+abbrev pub Test : Type 0
+Test = State → Code → Bool
+
+abbrev pub cond_truth : Cond-F Test → Test
+cond_truth (Any tests) s c = list_any (λ (test : Test). test s c) tests
+cond_truth (All tests) s c = list_all (λ (test : Test). test s c) tests
+cond_truth (Not test) s c = not (test s c)
+cond_truth (Last word) s c = same_code c word
+cond_truth (Present list id) s c = has_instance id (list_of list s)
+cond_truth (Compare comparison) s c = is_met comparison s
+
+-- a code is true if it is the last one, and a reference if it has an instance
+unfoldable pub truth : Cond → Test
+truth = fold-Cond Test cond_truth
+
+-- ---- what can be compared
+
+-- raw octets, or a value of the type
+abbrev pub is_alike : Kind → Value → Bool
+is_alike kind v = is_raw v || is_of_kind v kind
+
+abbrev pub is_comparable : Comparison → State → Bool
+is_comparable c s = option_map_or (is_alike c.kind) (first_value c.list c.id s) true && option_map_or (is_alike c.kind) (compared_with c.comparand s) true
+
+abbrev pub cond_comparable : Cond-F (State → Bool) → State → Bool
+cond_comparable (Any tests) s = list_all (λ (test : State → Bool). test s) tests
+cond_comparable (All tests) s = list_all (λ (test : State → Bool). test s) tests
+cond_comparable (Not test) s = test s
+cond_comparable (Last word) s = true
+cond_comparable (Present list id) s = true
+cond_comparable (Compare comparison) s = is_comparable comparison s
+
+-- what a condition compares in a state is raw, or of the type that the condition keeps for it
+unfoldable pub comparable : Cond → State → Bool
+comparable = fold-Cond (State → Bool) cond_comparable

@@ -1,0 +1,39 @@
+//! Policy texts: statements that set attributes, in the form of unlang(5), read into a tree.
+//!
+//! [`read_policy`] reads a text by a dictionary, and [`Policy::statements`] lends what it spells.
+#![tactic(auto)]
+
+mod boxed;
+mod codes;
+mod conditions;
+mod cursors;
+mod faults;
+mod items;
+mod lines;
+#[cfg(test)]
+mod meaning_tests;
+mod parts;
+mod policies;
+mod references;
+mod resolving;
+mod sources;
+mod statements;
+#[cfg(test)]
+mod tests;
+mod tokens;
+mod tree;
+#[cfg(test)]
+mod tree_tests;
+mod truth;
+
+pub use boxed::Boxed;
+pub use codes::Code;
+pub use faults::{PolicyFault, PolicyKind};
+pub use items::Items;
+pub use policies::{Policy, one_policy, read_policy, size};
+pub use resolving::{Unresolved, resolve};
+pub use tree::{
+    Block, Branch, Branches, Comparand, Comparison, Cond, Line, Lines, Part, Parts, Relation,
+    Source, Statement,
+};
+pub use truth::holds;

@@ -1,0 +1,115 @@
+//! What sources give, and how values compare.
+ghost use Rattle.std.specs.Prelude.{IfOk};
+ghost use Rattle.avp_lists.specs.History.{present};
+ghost use Rattle.avp_unlang.specs.Resolutions.{StateFits};
+
+use crate::items::Items;
+use crate::resolving::{Unresolved, resolve};
+use crate::tests::{octets_of, small_dictionary};
+use crate::tree::{Line, Part, Relation, Source};
+use crate::truth::relates;
+use avp_dict::{Dictionary, Kind};
+use avp_lists::{AttrId, List, Op, Pair, SnapshotStore, Store, Value};
+use std::alloc::Global;
+use std::test::Fail;
+
+// A store whose request list the text spells.
+fn store_of(alloc: Global, dictionary: &Dictionary, request: &[u8]) -> Result<SnapshotStore, Fail>
+    ensures { IfOk result (λ store. StateFits dictionary.now (present (⟦<SnapshotStore as Store>⟧.history store))) }
+{
+    let pairs = dictionary.read_request(alloc, request)?;
+    match SnapshotStore::new(alloc, pairs, Vec::new(alloc), Vec::new(alloc)) {
+        Ok(store) => Ok(store),
+        Err(_) => Err(Fail::new("out of memory")),
+    }
+}
+
+// What a text gives an attribute: the user's name, and then these octets.
+#[tactic(auto, unfolding(crate::specs::Resolutions::line_suits, avp_dict::specs::Limits::is_known))]
+fn filled(
+    alloc: Global,
+    request: &[u8],
+    number: u32,
+    after: &[u8],
+) -> Result<Result<Pair, Unresolved>, Fail> {
+    let dictionary = small_dictionary(alloc)?;
+    let store = store_of(alloc, &dictionary, request)?;
+    let mut parts = Vec::new(alloc);
+    parts.push(Part::Instance(List::Request, AttrId::Plain(1)))?;
+    parts.push(Part::Text(octets_of(alloc, after)?))?;
+    let line = Line {
+        line: 1,
+        list: List::Control,
+        id: AttrId::Plain(number),
+        op: Op::Replace,
+        source: Source::Text(false, Items::from_vec(parts)),
+    };
+    Ok(resolve(alloc, &dictionary, &line, &store))
+}
+
+// What the user's name gives an attribute.
+#[tactic(auto, unfolding(crate::specs::Resolutions::line_suits, avp_dict::specs::Limits::is_known))]
+fn copied(alloc: Global, request: &[u8], number: u32) -> Result<Result<Pair, Unresolved>, Fail> {
+    let dictionary = small_dictionary(alloc)?;
+    let store = store_of(alloc, &dictionary, request)?;
+    let line = Line {
+        line: 1,
+        list: List::Control,
+        id: AttrId::Plain(number),
+        op: Op::Replace,
+        source: Source::Instance(List::Request, AttrId::Plain(1)),
+    };
+    Ok(resolve(alloc, &dictionary, &line, &store))
+}
+
+fn number_of(given: Result<Pair, Unresolved>) -> Option<u64> {
+    match given {
+        Ok(pair) => match pair.value {
+            Value::Int(number) => Some(number),
+            _ => None,
+        },
+        Err(_) => None,
+    }
+}
+
+#[test]
+fn texts_with_values(rt: HostRuntime) -> Result<(), Fail> {
+    let name = b"User-Name = \"300\"";
+    assert_eq!(rt; number_of(filled(rt.alloc(), name, 27, b"")?), Some(300));
+    assert_eq!(rt; number_of(filled(rt.alloc(), name, 27, b"0")?), Some(3000));
+    assert!(rt; filled(rt.alloc(), name, 27, b"x")? == Err(Unresolved::NotValue));
+    assert_eq!(rt; number_of(filled(rt.alloc(), b"", 27, b"7")?), Some(7));
+    Ok(())
+}
+
+#[test]
+fn references(rt: HostRuntime) -> Result<(), Fail> {
+    assert!(rt; copied(rt.alloc(), b"", 18)? == Err(Unresolved::Absent));
+    assert!(rt; copied(rt.alloc(), b"User-Name = abc", 5)? == Err(Unresolved::NotValue));
+    assert_eq!(rt;
+        number_of(copied(rt.alloc(), b"User-Name = abcd", 5)?),
+        Some(1633837924)
+    );
+    let long = [b'a'; 253];
+    let mut request = Vec::from_slice(rt.alloc(), b"User-Name = ")?;
+    request.extend_from_slice(&long)?;
+    assert!(rt; copied(rt.alloc(), &request, 18)?.is_ok());
+    assert!(rt; copied(rt.alloc(), &request, 2)? == Err(Unresolved::TooLong));
+    assert!(rt; filled(rt.alloc(), &request, 18, b"x")? == Err(Unresolved::TooLong));
+    Ok(())
+}
+
+#[test]
+fn comparisons(rt: HostRuntime) -> Result<(), Fail> {
+    let seven = Value::Int(7);
+    let ten = Value::Int(10);
+    let raw = Value::Raw(octets_of(rt.alloc(), b"x")?);
+    assert!(rt; relates(Kind::Integer, Relation::Less, &seven, &ten));
+    assert!(rt; relates(Kind::Integer, Relation::AtLeast, &ten, &ten));
+    assert!(rt; !relates(Kind::Integer, Relation::Differs, &raw, &ten));
+    let front = Value::Text(octets_of(rt.alloc(), b"a")?);
+    let whole = Value::Text(octets_of(rt.alloc(), b"ab")?);
+    assert!(rt; relates(Kind::Text, Relation::Less, &front, &whole));
+    assert!(rt; relates(Kind::Text, Relation::Greater, &raw, &whole));
+    Ok(())
+}

@@ -1,0 +1,120 @@
+//! A policy as a tree. The numbers of statements, branches and lines are lines of the text, from 1.
+
+use crate::boxed::Boxed;
+use crate::codes::Code;
+use crate::items::Items;
+use avp_dict::Kind;
+use avp_lists::{AttrId, List, Octets, Op, Value};
+
+/// A part of a text in which values are put.
+#[derive(Debug, Drop)]
+pub enum Part {
+    /// Octets as they stand.
+    Text(Octets),
+    /// `%{list:name}`: the first instance of the attribute.
+    Instance(List, AttrId),
+}
+
+pub type Parts = Items<Part>;
+
+/// What an update line sets its attribute to.
+#[derive(Debug, Drop)]
+pub enum Source {
+    /// A value that is written out, by the type of the line's attribute.
+    Literal(Value),
+    /// A text with values put in, and whether the line's attribute stood under a name by number, as `Attr-26.9.1`.
+    Text(bool, Parts),
+    /// `&list:name`: the first instance of the attribute.
+    Instance(List, AttrId),
+    /// What follows `!*`.
+    Any,
+}
+
+/// A line of an `update`.
+#[derive(Debug, Drop)]
+pub struct Line {
+    pub line: usize,
+    pub list: List,
+    pub id: AttrId,
+    pub op: Op,
+    pub source: Source,
+}
+
+pub type Lines = Items<Line>;
+
+/// How two values are compared.
+#[derive(Clone, Copy, Debug, PartialEq, Eq)]
+pub enum Relation {
+    /// `==`
+    Equal,
+    /// `!=`
+    Differs,
+    /// `<`
+    Less,
+    /// `<=`
+    AtMost,
+    /// `>`
+    Greater,
+    /// `>=`
+    AtLeast,
+}
+
+/// What an instance is compared with.
+#[derive(Debug, Drop)]
+pub enum Comparand {
+    /// A value that is written out, by the type of the compared attribute.
+    Literal(Value),
+    /// `&list:name`: the first instance of the attribute.
+    Instance(List, AttrId),
+}
+
+/// A comparison of the first instance of an attribute.
+#[derive(Debug, Drop)]
+pub struct Comparison {
+    pub list: List,
+    pub id: AttrId,
+    /// The type of the attribute's values; octets where the dictionary has none.
+    pub kind: Kind,
+    pub relation: Relation,
+    pub comparand: Comparand,
+}
+
+/// What an `if` or `elsif` asks for.
+#[derive(Debug, Drop)]
+pub enum Cond {
+    /// Two or more with `||` between them.
+    Any(Items<Cond>),
+    /// Two or more with `&&` between them.
+    All(Items<Cond>),
+    Not(Boxed<Cond>),
+    /// Whether this is the last code.
+    Last(Code),
+    /// Whether the attribute has an instance.
+    Present(List, AttrId),
+    Compare(Comparison),
+}
+
+/// A condition, and what is done where it is the first that holds.
+#[cycle(statements)]
+#[derive(Debug, Drop)]
+pub struct Branch {
+    /// The line of its `if` or `elsif`.
+    pub line: usize,
+    pub cond: Cond,
+    pub block: Items<Statement>,
+}
+
+/// A statement, with the line of its first token; an `if` has those of its branches.
+#[cycle(statements)]
+#[derive(Debug, Drop)]
+pub enum Statement {
+    Update(usize, Lines),
+    /// Branches, the first for `if` and the others for `elsif`, and the block of `else`.
+    If(Items<Branch>, Option<Items<Statement>>),
+    Transaction(usize, Items<Statement>),
+    Word(usize, Code),
+}
+
+pub type Block = Items<Statement>;
+
+pub type Branches = Items<Branch>;

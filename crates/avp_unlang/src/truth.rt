@@ -1,0 +1,164 @@
+//! Whether conditions are true.
+
+ghost use Rattle.std.specs.Prelude.{◌≡◌, IsTrue, Option, false};
+ghost use Rattle.std.specs.List.{list_all, list_any};
+ghost use Rattle.std.specs.Option.{option_copied};
+ghost use Rattle.avp_lists.specs.History.{present};
+ghost use Rattle.avp_dict.specs.Octets.{octets_of};
+ghost use Rattle.avp_dict.specs.declared.readings.Kind.{Kind};
+ghost use Rattle.avp_unlang.specs.Truth.{are_related, comparable, compared_with, first_value, is_alike, is_comparable, is_met, is_number, is_numeric, meets, number_order, order, relates, same_code, truth};
+
+use crate::codes::Code;
+use crate::tree::{Comparand, Comparison, Cond, Relation};
+use avp_dict::Kind;
+use avp_lists::{AttrId, List, Store, Value};
+use std::cmp::Ordering;
+
+fn is_numeric(kind: Kind) -> bool
+    ensures { result ≡ is_numeric kind }
+{
+    match kind {
+        Kind::Text | Kind::Bytes | Kind::Addr | Kind::Ether => false,
+        Kind::Byte | Kind::Short | Kind::Integer | Kind::Integer64 | Kind::Date | Kind::Signed =>
+            true,
+    }
+}
+
+fn number_order(value: &Value, other: &Value) -> Option<Ordering>
+    ensures { result ≡ number_order value.now other.now }
+{
+    match (value, other) {
+        (Value::Int(number), Value::Int(other)) => Some(number.cmp(other)),
+        (Value::Signed(number), Value::Signed(other)) => Some(number.cmp(other)),
+        _ => None,
+    }
+}
+
+fn is_same(code: Code, word: Code) -> bool
+    ensures { result ≡ same_code code word }
+{
+    code == word
+}
+
+fn is_met(relation: Relation, order: Ordering) -> bool
+    ensures { result ≡ meets relation order }
+{
+    match relation {
+        Relation::Equal => order.is_eq(),
+        Relation::Differs => order.is_ne(),
+        Relation::Less => order.is_lt(),
+        Relation::AtMost => order.is_le(),
+        Relation::Greater => order.is_gt(),
+        Relation::AtLeast => order.is_ge(),
+    }
+}
+
+// The octets of a value that is no number.
+fn octets(value: &Value) -> &[u8]
+    requires { is_number value.now ≡ false }
+    ensures { (kind : Option Kind) → result.now ≡ octets_of kind value.now }
+{
+    match value {
+        Value::Text(octets) | Value::Bytes(octets) | Value::Raw(octets) => octets.as_slice(),
+        Value::Addr(address) => address.as_slice(),
+        Value::Ether(address) => address.as_slice(),
+        Value::Int(_) | Value::Signed(_) => unreachable!(),
+    }
+}
+
+fn order(kind: Kind, value: &Value, other: &Value) -> Option<Ordering>
+    requires value { IsTrue (is_alike kind value.now) }
+    requires other { IsTrue (is_alike kind other.now) }
+    ensures { result ≡ order kind value.now other.now }
+{
+    if is_numeric(kind) {
+        number_order(value, other)
+    } else {
+        Some(octets(value).cmp(&octets(other)))
+    }
+}
+
+pub(crate) fn relates(kind: Kind, relation: Relation, value: &Value, other: &Value) -> bool
+    requires value { IsTrue (is_alike kind value.now) }
+    requires other { IsTrue (is_alike kind other.now) }
+    ensures { result ≡ relates kind relation value.now other.now }
+{
+    match order(kind, value, other) {
+        Some(order) => is_met(relation, order),
+        None => false,
+    }
+}
+
+fn first_value<S: Store>(store: &S, list: List, id: AttrId) -> Option<&Value>
+    ensures { option_copied result ≡ first_value list id (present (S.history store.now)) }
+{
+    match store.first(list, id) {
+        Some(pair) => Some(&pair.value),
+        None => None,
+    }
+}
+
+fn compared_with<'a, S: Store>(comparand: &'a Comparand, store: &'a S) -> Option<&'a Value>
+    ensures { option_copied result ≡ compared_with comparand.now (present (S.history store.now)) }
+{
+    match comparand {
+        Comparand::Literal(value) => Some(value),
+        Comparand::Instance(list, id) => first_value(store, *list, *id),
+    }
+}
+
+fn compares<S: Store>(comparison: &Comparison, store: &S) -> bool
+    requires { IsTrue (is_comparable comparison.now (present (S.history store.now))) }
+    ensures { result ≡ is_met comparison.now (present (S.history store.now)) }
+{
+    match (
+        first_value(store, comparison.list, comparison.id),
+        compared_with(&comparison.comparand, store),
+    ) {
+        (Some(value), Some(other)) => relates(comparison.kind, comparison.relation, value, other),
+        _ => false,
+    }
+}
+
+#[cycle(conditions)]
+fn any_holds<S: Store>(conds: &[Cond], store: &S, code: Code) -> bool
+    requires comparable { IsTrue (list_all (λ cond. comparable cond (present (S.history store.now))) conds.now) }
+    ensures { result ≡ list_any (λ cond. truth cond (present (S.history store.now)) code) conds.now }
+{
+    for cond in conds {
+        if holds(cond, store, code) {
+            return true;
+        }
+    }
+    false
+}
+
+#[cycle(conditions)]
+fn all_hold<S: Store>(conds: &[Cond], store: &S, code: Code) -> bool
+    requires comparable { IsTrue (list_all (λ cond. comparable cond (present (S.history store.now))) conds.now) }
+    ensures { result ≡ list_all (λ cond. truth cond (present (S.history store.now)) code) conds.now }
+{
+    for cond in conds {
+        if !holds(cond, store, code) {
+            return false;
+        }
+    }
+    true
+}
+
+/// Whether a condition is true of a store's present lists, `code` being the last code. It takes no memory.
+#[cycle(conditions)]
+#[tactic(auto, using(crate::proofs::Truths::truth_any, crate::proofs::Truths::truth_all, crate::proofs::Truths::truth_not, crate::proofs::Truths::truth_last, crate::proofs::Truths::truth_present, crate::proofs::Truths::truth_compare, crate::proofs::Truths::comparable_any, crate::proofs::Truths::comparable_all, crate::proofs::Truths::comparable_not, crate::proofs::Truths::comparable_compare))]
+pub fn holds<S: Store>(cond: &Cond, store: &S, code: Code) -> bool
+    requires comparable { IsTrue (comparable cond.now (present (S.history store.now))) }
+    ensures { result ≡ truth cond.now (present (S.history store.now)) code }
+{
+    match cond {
+        Cond::Any(conds) => any_holds(conds.as_slice(), store, code),
+        Cond::All(conds) => all_hold(conds.as_slice(), store, code),
+        Cond::Not(cond) => !holds(cond.get(), store, code),
+        Cond::Last(word) => is_same(code, *word),
+        Cond::Present(list, id) => store.first(*list, *id).is_some(),
+        Cond::Compare(comparison) => compares(comparison, store),
+    }
+}
