@@ -1,0 +1,9 @@
+pub mod Ends
+pub mod Equations
+pub mod Sizes
+pub mod Rests
+pub mod Opens
+pub mod Steppings
+pub mod Fitting
+pub mod Holding
+pub mod Walks

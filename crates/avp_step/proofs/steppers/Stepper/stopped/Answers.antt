@@ -1,0 +1,10 @@
+use Rattle.std.proofs.Common.{ap, ◌∙◌}
+use Rattle.avp_step.specs.Trace.{Entry}
+use Rattle.avp_step.specs.Walk.{entry}
+use Rattle.avp_step.proofs.Holding.{held_mark}
+use Rattle.avp_step.proofs.steppers.Stepper.stopped.Goals as goal
+
+pub returns : goal.returns
+returns g c =
+    ap (λ (e : Entry). e.outcome.stopped) (held_mark _ _ (g.S.Store.history c.self.inside.store) _ _ _ _ _ _ c.self.invariant _ c.index.ensures)
+    ∙ ap (λ w. (entry w).outcome.stopped) c.self.view_is

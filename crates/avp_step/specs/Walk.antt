@@ -1,0 +1,79 @@
+-- Walks: the trace of a run with a position in it, and the moves that change the position.
+use Rattle.std.specs.Prelude.{◌≡◌, ◌≤◌, ◌<◌, ◌⊎◌, ℕ, ◌+◌, ◌-◌, Bool, if◌then◌else◌, nat_lt, List, [], ◌∷◌, length, slice_index_or}
+use Rattle.avp_lists.specs.States.{empty_state}
+use Rattle.avp_dict.specs.declared.readings.Reading.{Reading}
+use Rattle.avp_step.specs.Trace.{Entry, start}
+use Rattle.avp_step.specs.declared.labels.Label.{Label}
+use Rattle.avp_step.specs.declared.labels.Label.TheVariants as label
+use Rattle.avp_step.specs.declared.labels.Move.{Move}
+use Rattle.avp_step.specs.declared.labels.Move.TheVariants.{Forward, Back, Start, End}
+use Rattle.avp_step.specs.declared.labels.Moved.{Moved}
+use Rattle.avp_step.specs.declared.labels.Moved.TheVariants.{To, AtEnd}
+
+-- the dictionary and the trace are fixed; the position moves
+pub record Walk : Type 0 where
+  pub dictionary : List Reading
+  pub trace : List Entry
+  pub position : ℕ
+
+-- the trace's entry at a position
+abbrev pub entry_at : Walk → ℕ → Entry
+entry_at w k = slice_index_or w.trace k (start empty_state)
+
+-- the entry at which a walk stands
+abbrev pub entry : Walk → Entry
+entry w = entry_at w w.position
+
+abbrev pub last_position : Walk → ℕ
+last_position w = length w.trace - 1
+
+abbrev pub is_before_end : Walk → Bool
+is_before_end w = nat_lt (w.position + 1) (length w.trace)
+
+-- ---- the moves
+
+abbrev pub moved_forward : Walk → Walk
+moved_forward w = if is_before_end w then record w { position = w.position + 1 } else w
+
+abbrev pub answer_of_forward : Walk → Moved
+answer_of_forward w = if is_before_end w then To (entry_at w (w.position + 1)).label else AtEnd
+
+abbrev pub moved_back : Walk → Walk
+moved_back w = record w { position = w.position - 1 }
+
+abbrev pub moved_to_start : Walk → Walk
+moved_to_start w = record w { position = 0 }
+
+abbrev pub moved_to_end : Walk → Walk
+moved_to_end w = record w { position = last_position w }
+
+-- the position is one of the trace's
+abbrev pub IsWithin : Walk → Type 0
+IsWithin w = w.position < length w.trace
+
+-- ---- refusals
+
+-- a step of an update line
+abbrev pub IsLineLabel : Label → Type 0
+IsLineLabel (label.Line n) = Unit {0}
+IsLineLabel (label.Failed n k) = Unit {0}
+IsLineLabel _ = ⊥
+
+-- a walk to the end that was refused stands before the step of an update line
+pub record IsHeldUp (old new : Walk) : Type 0 where
+  pub dictionary : new.dictionary ≡ old.dictionary
+  pub trace : new.trace ≡ old.trace
+  pub onward : old.position ≤ new.position
+  pub line : IsLineLabel (entry_at new (new.position + 1)).label
+
+-- a move may lead from one walk to another: a step of an update line may be refused
+abbrev pub MoveMay : Walk → Move → Walk → Type 0
+MoveMay w Forward v = (v ≡ moved_forward w) ⊎ ((v ≡ w) × IsLineLabel (entry_at w (w.position + 1)).label)
+MoveMay w Back v = v ≡ moved_back w
+MoveMay w Start v = v ≡ moved_to_start w
+MoveMay w End v = (v ≡ moved_to_end w) ⊎ IsHeldUp w v
+
+-- one move after another
+abbrev pub MovesMay : Walk → List Move → Walk → Type 0
+MovesMay w [] v = v ≡ w
+MovesMay w (m ∷ ms) v = (u : Walk) × MoveMay w m u × MovesMay u ms v

@@ -1,0 +1,4 @@
+pub mod Frames
+pub mod Held
+pub mod Skips
+pub mod Stepping

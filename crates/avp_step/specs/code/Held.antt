@@ -1,0 +1,50 @@
+-- What a stepper keeps, and what it means.
+use Rattle.std.specs.Prelude.{◌≡◌, ◌≤◌, ◌<◌, ℕ, ◌+◌, ◌-◌, IsTrue, List, [], ◌∷◌, ◌++◌, length}
+use Rattle.avp_lists.specs.History.{History, state_at}
+use Rattle.avp_lists.specs.States.{empty_state}
+use Rattle.avp_lists.specs.declared.lists.State.{State}
+use Rattle.avp_dict.specs.declared.readings.Reading.{Reading}
+use Rattle.avp_unlang.specs.Meaning.{Outcome, running}
+use Rattle.avp_unlang.specs.declared.codes.Code.TheVariants as code
+use Rattle.avp_unlang.specs.declared.tree.Statement.{Statement}
+use Rattle.avp_step.specs.Trace.{Entry, end_of, trace_of}
+use Rattle.avp_step.specs.Walk.{Walk, entry_at}
+use Rattle.avp_step.specs.code.Frames.{Sit, States, frames_suit, rest}
+use Rattle.avp_step.specs.code.Stepping.{StatesFit, entry_of}
+use Rattle.avp_step.specs.declared.frames.Frame.{Frame}
+use Rattle.avp_step.specs.declared.frames.TheConstants.{MOST_FRAMES}
+use Rattle.avp_step.specs.declared.marks.Mark.{Mark}
+
+-- the trace from the store's first state
+abbrev pub trace_from : List Reading → List Statement → History → List Entry
+trace_from d statements h = trace_of d statements (state_at h 0)
+
+abbrev pub walk_of : List Reading → List Statement → History → ℕ → Walk
+walk_of d statements h position = record { dictionary = d; trace = trace_from d statements h; position = position }
+
+-- the steps that were made, by the marks and the store's states
+abbrev pub made : List Mark → List State → List Entry
+made [] states = []
+made (m ∷ ms) [] = []
+made (m ∷ ms) (s ∷ states) = entry_of m s ∷ made ms states
+
+-- the states of a trace
+abbrev pub states_of : Walk → States
+states_of w k = (entry_at w k).outcome.state
+
+-- where a run begins that has made no step
+abbrev pub nowhere : Outcome
+nowhere = running empty_state code.Ok
+
+-- the store has a state for each mark, one for each step; the frames have the steps that were never made
+pub record IsHeld (d : List Reading) (statements : List Statement) (h : History) (left : ℕ) (marks : List Mark) (position : ℕ) (frames : List Frame) (marks_room frames_room : ℕ) : Type 0 where
+  pub trace : made marks h.states ++ rest d (states_of (walk_of d statements h position)) frames (end_of nowhere (made marks h.states)) ≡ trace_from d statements h
+  pub each : length h.states ≡ length marks
+  pub place : h.place ≡ position
+  pub within : position < length marks
+  pub sit : Sit (length marks - 1) 0 frames
+  pub fit : IsTrue (frames_suit d frames)
+  pub states : StatesFit d h
+  pub room_of_frames : MOST_FRAMES ≤ frames_room
+  pub room_of_marks : length (trace_from d statements h) ≤ marks_room
+  pub room_of_store : length (trace_from d statements h) ≤ h.place + left + 1

@@ -1,0 +1,13 @@
+//! A policy run as steps, forward and back over any store.
+#![tactic(auto)]
+
+mod frames;
+mod labels;
+mod marks;
+mod steppers;
+mod stepping;
+#[cfg(test)]
+mod tests;
+
+pub use labels::{Label, Move, Moved};
+pub use steppers::{Stepper, run};

@@ -1,0 +1,274 @@
+//! A run that goes forward and back.
+
+ghost use Rattle.std.specs.Prelude.{◌≡◌, ◌+◌, ◌<◌, ◌≤◌, ◌↔◌, ◌∷◌, ◌++◌, [], length, vec_len, vec_capacity, IfOk, IfErr, OnOk, OnErr, IsTrue};
+ghost use Rattle.avp_lists.specs.History.{present};
+ghost use Rattle.avp_unlang.specs.Meaning.{meaning_of};
+ghost use Rattle.avp_unlang.specs.Suiting.{IsSpelled};
+ghost use Rattle.avp_unlang.specs.Resolutions.{StateFits};
+ghost use Rattle.avp_unlang.specs.Sizes.{size_of};
+ghost use Rattle.avp_step.specs.Trace.{trace_of};
+ghost use Rattle.avp_step.specs.Walk.{IsHeldUp, IsLineLabel, IsWithin, MoveMay, MovesMay, Walk, answer_of_forward, entry, entry_at, last_position, moved_back, moved_forward, moved_to_end, moved_to_start};
+
+use crate::frames::{Frame, MOST_FRAMES, put};
+use crate::labels::{Label, Move, Moved};
+use crate::marks::{Mark, START};
+use crate::stepping::step;
+use avp_dict::Dictionary;
+use avp_lists::Store;
+use avp_unlang::{Code, Policy, Statement, size};
+use std::alloc::{AllocError, Global};
+use std::marker::Model;
+
+/// A run of a policy over a store, at one of its positions. Contracts see it as a walk: a trace that is fixed when the
+/// stepper is made, and the position.
+#[derive(Drop)]
+pub struct Stepper<'a, S: Store> {
+    alloc: Global,
+    dictionary: &'a Dictionary,
+    statements: &'a [Statement],
+    // It has one state for each mark.
+    store: S,
+    // One for each step that was made so far.
+    marks: Vec<Mark>,
+    position: usize,
+    // What follows the last mark.
+    frames: Vec<Frame<'a>>,
+}
+
+impl<'a, S: Store> Model for Stepper<'a, S> {
+    ghost use Rattle.std.specs.Prelude.{vec_capacity};
+    ghost use Rattle.avp_step.specs.Walk.{Walk};
+
+    ghost Value = { Walk };
+
+    ghost use Rattle.avp_step.specs.code.Held.{walk_of, IsHeld};
+
+    ghost view = { λ x. walk_of x.dictionary.now x.statements.now (S.history x.store) x.position };
+
+    ghost invariant = { λ x. IsHeld x.dictionary.now x.statements.now (S.history x.store) (S.room x.store) x.marks.items x.position x.frames.items (vec_capacity x.marks) (vec_capacity x.frames) };
+}
+
+// One more mark.
+fn put_mark(marks: &mut Vec<Mark>, mark: Mark)
+    requires { vec_len marks.old < vec_capacity marks.old }
+    ensures items { marks.new.items ≡ marks.old.items ++ mark ∷ [] }
+    ensures capacity { vec_capacity marks.old ≤ vec_capacity marks.new }
+{
+    match marks.push(mark) {
+        Ok(()) => (),
+        Err(_) => unreachable!(),
+    }
+}
+
+impl<'a, S: Store> Stepper<'a, S> {
+    /// A run at its start, with room for all of its steps. `dictionary` is the one by which the policy was read. A
+    /// refusal gives the store back.
+    pub fn new(
+        alloc: Global,
+        dictionary: &'a Dictionary,
+        policy: &'a Policy,
+        mut store: S,
+    ) -> Result<Stepper<'a, S>, (S, AllocError)>
+        requires policy { IsSpelled dictionary.now policy.now }
+        requires store { StateFits dictionary.now (present (S.history store)) }
+        ensures start { IfOk result (λ stepper. stepper ≡ record { dictionary = dictionary.entry.now; trace = trace_of dictionary.entry.now policy.entry.now (present (S.history store)); position = 0 }) }
+        ensures last { IfOk result (λ stepper. (entry_at stepper (last_position stepper)).outcome ≡ meaning_of dictionary.entry.now policy.entry.now (present (S.history store)) Code.Ok) }
+        ensures length { IfOk result (λ stepper. last_position stepper ≤ size_of policy.entry.now) }
+        ensures refused { IfErr result (λ e. S.history e.0 ≡ S.history store) }
+    {
+        dictionary.is_sound();
+        let statements = policy.statements().as_slice();
+        let size = size(policy);
+        let Ok(mut marks) = Vec::with_capacity(alloc, size + 1) else {
+            return Err((store, AllocError));
+        };
+        let Ok(mut frames) = Vec::with_capacity(alloc, MOST_FRAMES) else {
+            return Err((store, AllocError));
+        };
+        match store.reserve(size) {
+            Err(refused) => Err((store, refused)),
+            Ok(()) => {
+                store.settle();
+                put_mark(&mut marks, START);
+                put(&mut frames, Frame::Statements(statements));
+                Ok(Stepper {
+                    alloc,
+                    dictionary,
+                    statements,
+                    store,
+                    marks,
+                    position: 0,
+                    frames,
+                })
+            }
+        }
+    }
+
+    /// The number of steps before this position.
+    pub fn position(&self) -> usize
+        ensures position { result ≡ self.now.position }
+        ensures within { IsWithin self.now }
+    {
+        self.position
+    }
+
+    /// What the last step did.
+    pub fn label(&self) -> Label
+        ensures { result ≡ (entry self.now).label }
+    {
+        self.marks[self.position].label
+    }
+
+    /// The last code.
+    pub fn code(&self) -> Code
+        ensures { result ≡ (entry self.now).outcome.code }
+    {
+        self.marks[self.position].code
+    }
+
+    /// Whether the last step was a stop.
+    pub fn stopped(&self) -> bool
+        ensures { result ≡ (entry self.now).outcome.stopped }
+    {
+        self.marks[self.position].stopped
+    }
+
+    /// The store, whose present lists are those of this position.
+    pub fn store(&self) -> &S
+        ensures lists { present (S.history result.now) ≡ (entry self.now).outcome.state }
+        ensures fits { StateFits self.now.dictionary (present (S.history result.now)) }
+    {
+        &self.store
+    }
+
+    /// One step back, if this is not the start.
+    pub fn back(&mut self) -> bool
+        ensures moved { IsTrue result ↔ (0 < self.old.position) }
+        ensures after { self.new ≡ moved_back self.old }
+    {
+        if self.position == 0 {
+            return false;
+        }
+        let _ = self.store.undo();
+        self.position -= 1;
+        true
+    }
+
+    /// One step forward, if this is not the end. Only the step of an update line may be refused.
+    pub fn forward(&mut self) -> Result<Moved, AllocError>
+        ensures after { IfOk result (λ moved. (self.new ≡ moved_forward self.old) × (moved ≡ answer_of_forward self.old)) }
+        ensures refused { OnErr result (self.new ≡ self.old) }
+        ensures line { OnErr result (IsLineLabel (entry_at self.old (self.old.position + 1)).label) }
+    {
+        if self.position + 1 < self.marks.len() {
+            let _ = self.store.redo();
+            self.position += 1;
+            return Ok(Moved::To(self.marks[self.position].label));
+        }
+        let last = self.marks[self.position];
+        match step(
+            self.alloc,
+            self.dictionary,
+            &mut self.frames,
+            &mut self.store,
+            last,
+        ) {
+            Ok(None) => Ok(Moved::AtEnd),
+            Ok(Some(mark)) => {
+                put_mark(&mut self.marks, mark);
+                self.position += 1;
+                Ok(Moved::To(mark.label))
+            }
+            Err(refused) => Err(refused),
+        }
+    }
+
+    /// Back to the start.
+    pub fn to_start(&mut self)
+        ensures { self.new ≡ moved_to_start self.old }
+    {
+        while self.back() {}
+    }
+
+    /// Forward to the end. After a refusal it stands where the refused step began.
+    pub fn run_to_end(&mut self) -> Result<(), AllocError>
+        ensures end { OnOk result (self.new ≡ moved_to_end self.old) }
+        ensures refused { OnErr result (IsHeldUp self.old self.new) }
+    {
+        let _within = self.position();
+        'steps: loop {
+            match self.forward() {
+                Ok(Moved::To(_)) => {}
+                Ok(Moved::AtEnd) => return Ok(()),
+                Err(refused) => return Err(refused),
+            }
+        }
+    }
+
+    /// One move.
+    pub fn make(&mut self, step: Move)
+        ensures { MoveMay self.old step self.new }
+    {
+        match step {
+            Move::Forward => {
+                let _ = self.forward();
+            }
+            Move::Back => {
+                let _ = self.back();
+            }
+            Move::Start => self.to_start(),
+            Move::End => {
+                let _ = self.run_to_end();
+            }
+        }
+    }
+
+    /// Moves one after another, whether or not their steps are refused.
+    pub fn follow(&mut self, moves: &[Move])
+        ensures { MovesMay self.old moves.now self.new }
+    {
+        for step in moves {
+            self.make(*step);
+        }
+    }
+
+    /// The store, whose present lists are those of this position.
+    pub fn into_store(self) -> S
+        ensures lists { present (S.history result) ≡ (entry self.entry).outcome.state }
+        ensures fits { StateFits self.entry.dictionary (present (S.history result)) }
+    {
+        let Stepper {
+            alloc: _,
+            dictionary: _,
+            statements: _,
+            store,
+            marks: _,
+            position: _,
+            frames: _,
+        } = self;
+        store
+    }
+}
+
+/// Runs a policy to its end: the store's present lists, the code and the stop are those that the policy means.
+pub fn run<S: Store>(
+    alloc: Global,
+    dictionary: &Dictionary,
+    policy: &Policy,
+    store: S,
+) -> Result<(S, Code, bool), (S, AllocError)>
+    requires policy { IsSpelled dictionary.now policy.now }
+    requires store { StateFits dictionary.now (present (S.history store)) }
+    ensures ends { IfOk result (λ r. record { state = present (S.history r.0); code = r.1; stopped = r.2 } ≡ meaning_of dictionary.now policy.now (present (S.history store)) Code.Ok) }
+    ensures fits { IfOk result (λ r. StateFits dictionary.now (present (S.history r.0))) }
+{
+    let mut stepper = Stepper::new(alloc, dictionary, policy, store)?;
+    match stepper.run_to_end() {
+        Ok(()) => {
+            let code = stepper.code();
+            let stopped = stepper.stopped();
+            Ok((stepper.into_store(), code, stopped))
+        }
+        Err(refused) => Err((stepper.into_store(), refused)),
+    }
+}

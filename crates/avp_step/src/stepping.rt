@@ -1,0 +1,332 @@
+//! One step of a run over a store.
+
+ghost use Rattle.std.specs.Prelude.{◌≡◌, ◌+◌, ◌<◌, ◌≤◌, ◌∷◌, ◌++◌, ◌&&◌, [], ℕ, false, true, length, max, vec_capacity, vec_len, IfOk, IfSome, IsTrue, OnErr, List, Some, None, Ok};
+ghost use Rattle.std.specs.List.{list_all};
+ghost use Rattle.avp_lists.specs.History.{after_rollback, continued, present, state_at};
+ghost use Rattle.avp_dict.specs.declared.readings.Reading.{Reading};
+ghost use Rattle.avp_unlang.specs.Meaning.{stops};
+ghost use Rattle.avp_unlang.specs.Suiting.{branches_suit, else_suits, policy_suits};
+ghost use Rattle.avp_unlang.specs.Resolutions.{StateFits, line_suits};
+ghost use Rattle.avp_unlang.specs.Depth.{depth_of};
+ghost use Rattle.avp_step.specs.Trace.{then_steps};
+ghost use Rattle.avp_step.specs.code.Frames.{IsNext, NextSit, Sit, StaysSuited, frames_suit, next_suits, next_steps, rest};
+ghost use Rattle.avp_unlang.specs.Depth.{depth_of_branches, else_depth};
+ghost use Rattle.avp_step.specs.code.Stepping.{HasRoom, IsLineDone, IsOver, IsRefused, IsStep, KeepsFit, StatesFit};
+ghost use Rattle.avp_step.specs.declared.frames.Frame.{Frame};
+ghost use Rattle.avp_step.specs.declared.marks.Mark.{Mark};
+
+use crate::frames::{Frame, MOST_FRAMES, Next, next_of, put};
+use crate::labels::Label;
+use crate::marks::Mark;
+use avp_dict::Dictionary;
+use avp_lists::{Edit, EditFault, Store};
+use avp_unlang::{Block, Branch, Code, Line, Statement, Unresolved, holds, resolve};
+use std::alloc::{AllocError, Global};
+
+fn is_stop(code: Code) -> bool
+    ensures { result ≡ stops code }
+{
+    match code {
+        Code::Ok | Code::Noop | Code::Updated => false,
+        Code::Fail | Code::Reject => true,
+    }
+}
+
+// One more state, which equals an earlier one.
+fn go_back<S: Store>(store: &mut S, to: usize)
+    requires earlier { to ≤ (S.history store.old).place }
+    requires room { 0 < S.room store.old }
+    ensures added { S.history store.new ≡ continued (state_at (S.history store.old) to) (S.history store.old) }
+    ensures fit { KeepsFit (S.history store.old) (S.history store.new) }
+    ensures kept { (S.history store.old).place + S.room store.old ≤ (S.history store.new).place + S.room store.new }
+{
+    match store.rollback(to) {
+        Ok(()) => (),
+        Err(_) => unreachable!(),
+    }
+}
+
+// One more state, which equals the present one.
+fn stay<S: Store>(store: &mut S)
+    requires { 0 < S.room store.old }
+    ensures added { S.history store.new ≡ continued (present (S.history store.old)) (S.history store.old) }
+    ensures fit { KeepsFit (S.history store.old) (S.history store.new) }
+    ensures kept { (S.history store.old).place + S.room store.old ≤ (S.history store.new).place + S.room store.new }
+{
+    let place = store.place();
+    go_back(store, place);
+}
+
+// A word's step.
+fn step_word<S: Store>(store: &mut S, line: usize, word: Code) -> Mark
+    requires { 0 < S.room store.old }
+    ensures made { (d : List Reading) (last : Mark) (frames : List Frame) → IsStep d (λ at. then_steps (next_steps d at (Next.Word line word)) (rest d at frames)) last (S.history store.old) (S.history store.new) result frames }
+    ensures fit { KeepsFit (S.history store.old) (S.history store.new) }
+    ensures kept { (S.history store.old).place + S.room store.old ≤ (S.history store.new).place + S.room store.new }
+{
+    stay(store);
+    Mark {
+        label: Label::Word(line),
+        code: word,
+        stopped: is_stop(word),
+    }
+}
+
+// The step at the end of a transaction: it commits, or goes back to its entry after a stop.
+fn step_close<S: Store>(store: &mut S, last: Mark, line: usize, to: usize) -> Mark
+    requires earlier { to ≤ (S.history store.old).place }
+    requires room { 0 < S.room store.old }
+    ensures made { (d : List Reading) (frames : List Frame) → IsStep d (λ at. then_steps (next_steps d at (Next.Close line to)) (rest d at frames)) last (S.history store.old) (S.history store.new) result frames }
+    ensures fit { KeepsFit (S.history store.old) (S.history store.new) }
+    ensures kept { (S.history store.old).place + S.room store.old ≤ (S.history store.new).place + S.room store.new }
+{
+    if last.stopped {
+        go_back(store, to);
+        return Mark {
+            label: Label::Rollback(line),
+            code: last.code,
+            stopped: false,
+        };
+    }
+    stay(store);
+    Mark {
+        label: Label::Commit(line),
+        code: last.code,
+        stopped: false,
+    }
+}
+
+// Edits by a line, or gives the number of the reason why it fails.
+fn edit_by<S: Store>(
+    alloc: Global,
+    dictionary: &Dictionary,
+    store: &mut S,
+    line: &Line,
+) -> Result<Option<u8>, AllocError>
+    requires line { IsTrue (line_suits dictionary.now line.now) }
+    requires states { StatesFit dictionary.now (S.history store.old) }
+    ensures done { IfOk result (λ failed. IsLineDone dictionary.now line.now (S.history store.old) (S.history store.new) failed) }
+    ensures fit { StatesFit dictionary.now (S.history store.new) }
+    ensures refused { OnErr result (S.history store.new ≡ S.history store.old) }
+    ensures kept { (S.history store.old).place + S.room store.old ≤ (S.history store.new).place + S.room store.new }
+{
+    match resolve(alloc, dictionary, line, store) {
+        Ok(pair) => {
+            let edit = Edit {
+                list: line.list,
+                op: line.op,
+                pair,
+            };
+            match store.edit(edit) {
+                Ok(()) => Ok(None),
+                Err(EditFault::Full) => Ok(Some(4)),
+                Err(EditFault::Memory) => Err(AllocError),
+            }
+        }
+        Err(Unresolved::Absent) => Ok(Some(1)),
+        Err(Unresolved::NotValue) => Ok(Some(2)),
+        Err(Unresolved::TooLong) => Ok(Some(3)),
+        Err(Unresolved::Memory) => Err(AllocError),
+    }
+}
+
+// The step into a transaction.
+fn step_enter<'a, S: Store>(
+    frames: &mut Vec<Frame<'a>>,
+    store: &mut S,
+    last: Mark,
+    line: usize,
+    block: &'a [Statement],
+) -> Mark
+    requires room { 0 < S.room store.old }
+    requires frames_room { vec_len frames.old + (2 + depth_of block.now) ≤ MOST_FRAMES }
+    requires capacity { MOST_FRAMES ≤ vec_capacity frames.old }
+    requires sit { Sit (S.history store.old).place 0 frames.old.items }
+    ensures made { (d : List Reading) → IsStep d (λ at. then_steps (next_steps d at (Next.Enter line block.entry)) (rest d at frames.old.items)) last (S.history store.old) (S.history store.new) result frames.new.items }
+    ensures sit { Sit (S.history store.new).place 0 frames.new.items }
+    ensures fit { StaysSuited (λ d. frames_suit d frames.old.items && policy_suits d block.now) None frames.new.items }
+    ensures states { KeepsFit (S.history store.old) (S.history store.new) }
+    ensures kept { (S.history store.old).place + S.room store.old ≤ (S.history store.new).place + S.room store.new }
+    ensures capacity { MOST_FRAMES ≤ vec_capacity frames.new }
+{
+    put(frames, Frame::End(line, store.place()));
+    put(frames, Frame::Statements(block));
+    stay(store);
+    Mark {
+        label: Label::Enter(line),
+        code: last.code,
+        stopped: false,
+    }
+}
+
+// The step of a condition.
+fn step_test<'a, S: Store>(
+    dictionary: &Dictionary,
+    frames: &mut Vec<Frame<'a>>,
+    store: &mut S,
+    last: Mark,
+    branches: &'a [Branch],
+    otherwise: &'a Option<Block>,
+) -> Mark
+    requires some { 1 ≤ length branches.now }
+    requires fits { IsTrue (branches_suit dictionary.now branches.now) }
+    requires states { StatesFit dictionary.now (S.history store.old) }
+    requires room { 0 < S.room store.old }
+    requires frames_room { vec_len frames.old + (1 + max (depth_of_branches branches.now) (else_depth otherwise.now)) ≤ MOST_FRAMES }
+    requires capacity { MOST_FRAMES ≤ vec_capacity frames.old }
+    requires sit { Sit (S.history store.old).place 0 frames.old.items }
+    ensures made { IsStep dictionary.now (λ at. then_steps (next_steps dictionary.now at (Next.Test branches.entry otherwise.entry)) (rest dictionary.now at frames.old.items)) last (S.history store.old) (S.history store.new) result frames.new.items }
+    ensures sit { Sit (S.history store.new).place 0 frames.new.items }
+    ensures fit { StaysSuited (λ d. frames_suit d frames.old.items && (branches_suit d branches.now && else_suits d otherwise.now)) None frames.new.items }
+    ensures states { KeepsFit (S.history store.old) (S.history store.new) }
+    ensures kept { (S.history store.old).place + S.room store.old ≤ (S.history store.new).place + S.room store.new }
+    ensures capacity { MOST_FRAMES ≤ vec_capacity frames.new }
+{
+    let Some((branch, others)) = branches.split_first() else {
+        unreachable!()
+    };
+    if holds(&branch.cond, store, last.code) {
+        put(frames, Frame::Statements(branch.block.as_slice()));
+        stay(store);
+        return Mark {
+            label: Label::If(branch.line, true),
+            code: last.code,
+            stopped: false,
+        };
+    }
+    put(frames, Frame::Branches(others, otherwise));
+    stay(store);
+    Mark {
+        label: Label::If(branch.line, false),
+        code: last.code,
+        stopped: false,
+    }
+}
+
+// The step of an update line.
+fn step_line<'a, S: Store>(
+    alloc: Global,
+    dictionary: &Dictionary,
+    frames: &mut Vec<Frame<'a>>,
+    store: &mut S,
+    last: Mark,
+    lines: &'a [Line],
+    entry: usize,
+) -> Result<Mark, AllocError>
+    requires some { 1 ≤ length lines.now }
+    requires fits { IsTrue (list_all (line_suits dictionary.now) lines.now) }
+    requires states { StatesFit dictionary.now (S.history store.old) }
+    requires running { last.stopped ≡ false }
+    requires earlier { entry ≤ (S.history store.old).place }
+    requires room { 0 < S.room store.old }
+    requires frames_room { vec_len frames.old + 1 ≤ MOST_FRAMES }
+    requires capacity { MOST_FRAMES ≤ vec_capacity frames.old }
+    requires sit { Sit (S.history store.old).place 0 frames.old.items }
+    ensures made { IfOk result (λ made. IsStep dictionary.now (λ at. then_steps (next_steps dictionary.now at (Next.Lines lines.entry entry)) (rest dictionary.now at frames.old.items)) last (S.history store.old) (S.history store.new) made frames.new.items) }
+    ensures refused { OnErr result (IsRefused dictionary.now (λ at. then_steps (next_steps dictionary.now at (Next.Lines lines.entry entry)) (rest dictionary.now at frames.old.items)) last (S.history store.old) frames.new.items) }
+    ensures unchanged { OnErr result (S.history store.new ≡ S.history store.old) }
+    ensures sit { Sit (S.history store.new).place 0 frames.new.items }
+    ensures fit { StaysSuited (λ d. frames_suit d frames.old.items && list_all (line_suits d) lines.now) None frames.new.items }
+    ensures states { StatesFit dictionary.now (S.history store.new) }
+    ensures kept { (S.history store.old).place + S.room store.old ≤ (S.history store.new).place + S.room store.new }
+    ensures capacity { MOST_FRAMES ≤ vec_capacity frames.new }
+{
+    let Some((line, others)) = lines.split_first() else {
+        unreachable!()
+    };
+    match edit_by(alloc, dictionary, store, line) {
+        Ok(None) => {
+            put(frames, Frame::Lines(others, entry));
+            Ok(Mark {
+                label: Label::Line(line.line),
+                code: last.code,
+                stopped: false,
+            })
+        }
+        Ok(Some(reason)) => {
+            go_back(store, entry);
+            Ok(Mark {
+                label: Label::Failed(line.line, reason),
+                code: Code::Fail,
+                stopped: true,
+            })
+        }
+        Err(refused) => {
+            put(frames, Frame::Lines(lines, entry));
+            Err(refused)
+        }
+    }
+}
+
+// The step of what comes next.
+fn step_next<'a, S: Store>(
+    alloc: Global,
+    dictionary: &Dictionary,
+    frames: &mut Vec<Frame<'a>>,
+    store: &mut S,
+    last: Mark,
+    next: Next<'a>,
+) -> Result<Mark, AllocError>
+    requires next { IsNext last.stopped (Some next) }
+    requires next_sits { NextSit (S.history store.old).place (Some next) frames.old.items }
+    requires fits { IsTrue (frames_suit dictionary.now frames.old.items && next_suits dictionary.now next) }
+    requires states { StatesFit dictionary.now (S.history store.old) }
+    requires room { 0 < S.room store.old }
+    requires capacity { MOST_FRAMES ≤ vec_capacity frames.old }
+    requires sit { Sit (S.history store.old).place 0 frames.old.items }
+    ensures made { IfOk result (λ made. IsStep dictionary.now (λ at. then_steps (next_steps dictionary.now at next.entry) (rest dictionary.now at frames.old.items)) last (S.history store.old) (S.history store.new) made frames.new.items) }
+    ensures refused { OnErr result (IsRefused dictionary.now (λ at. then_steps (next_steps dictionary.now at next.entry) (rest dictionary.now at frames.old.items)) last (S.history store.old) frames.new.items) }
+    ensures unchanged { OnErr result (S.history store.new ≡ S.history store.old) }
+    ensures sit { Sit (S.history store.new).place 0 frames.new.items }
+    ensures fit { IsTrue (frames_suit dictionary.now frames.new.items) }
+    ensures states { StatesFit dictionary.now (S.history store.new) }
+    ensures kept { (S.history store.old).place + S.room store.old ≤ (S.history store.new).place + S.room store.new }
+    ensures capacity { MOST_FRAMES ≤ vec_capacity frames.new }
+{
+    match next {
+        Next::Lines(lines, entry) => step_line(
+            alloc, dictionary, frames, store, last, lines, entry,
+        ),
+        Next::Test(branches, otherwise) => {
+            Ok(step_test(dictionary, frames, store, last, branches, otherwise))
+        }
+        Next::Enter(line, block) => Ok(step_enter(frames, store, last, line, block)),
+        Next::Word(line, word) => Ok(step_word(store, line, word)),
+        Next::Close(line, entry) => Ok(step_close(store, last, line, entry)),
+    }
+}
+
+/// The next step, if the run is not over. Only the step of an update line may be refused; then the store's history is as
+/// it was, and the frames have the same steps.
+pub fn step<S: Store>(
+    alloc: Global,
+    dictionary: &Dictionary,
+    frames: &mut Vec<Frame>,
+    store: &mut S,
+    last: Mark,
+) -> Result<Option<Mark>, AllocError>
+    requires room { HasRoom dictionary.now frames.old.items last (S.history store.old) (S.room store.old) }
+    requires capacity { MOST_FRAMES ≤ vec_capacity frames.old }
+    requires sit { Sit (S.history store.old).place 0 frames.old.items }
+    requires fit { IsTrue (frames_suit dictionary.now frames.old.items) }
+    requires states { StatesFit dictionary.now (S.history store.old) }
+    ensures made { IfOk result (λ next. IfSome next (λ made. IsStep dictionary.now (λ at. rest dictionary.now at frames.old.items) last (S.history store.old) (S.history store.new) made frames.new.items)) }
+    ensures over { result ≡ Ok None → IsOver (λ at. rest dictionary.now at frames.old.items) last (S.history store.old) × (frames.new.items ≡ []) }
+    ensures still { result ≡ Ok None → S.history store.new ≡ S.history store.old }
+    ensures refused { OnErr result (IsRefused dictionary.now (λ at. rest dictionary.now at frames.old.items) last (S.history store.old) frames.new.items) }
+    ensures unchanged { OnErr result (S.history store.new ≡ S.history store.old) }
+    ensures sit { Sit (S.history store.new).place 0 frames.new.items }
+    ensures fit { IsTrue (frames_suit dictionary.now frames.new.items) }
+    ensures states { StatesFit dictionary.now (S.history store.new) }
+    ensures kept { (S.history store.old).place + S.room store.old ≤ (S.history store.new).place + S.room store.new }
+    ensures capacity { MOST_FRAMES ≤ vec_capacity frames.new }
+{
+    let place = store.place();
+    let Some(next) = next_of(frames, last.stopped, place) else {
+        return Ok(None);
+    };
+    match step_next(alloc, dictionary, frames, store, last, next) {
+        Ok(made) => Ok(Some(made)),
+        Err(refused) => Err(refused),
+    }
+}

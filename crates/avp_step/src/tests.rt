@@ -1,0 +1,236 @@
+//! Worked runs: the label, the code and the lists at each step.
+ghost use Rattle.std.specs.Prelude.{IfOk};
+ghost use Rattle.avp_lists.specs.History.{present};
+ghost use Rattle.avp_unlang.specs.Resolutions.{StateFits};
+
+use crate::labels::{Label, Move, Moved};
+use crate::steppers::Stepper;
+use avp_dict::{Dictionary, FileSet, NamedFile};
+use avp_lists::{AttrId, List, Octets, SnapshotStore, Store, Value};
+use avp_unlang::{Code, read_policy};
+use std::alloc::Global;
+use std::process::Abort;
+use std::test::Fail;
+
+const LINES: &[u8] = b"ATTRIBUTE User-Name 1 string
+ATTRIBUTE User-Password 2 string encrypt=1
+ATTRIBUTE NAS-Port 5 integer
+ATTRIBUTE Reply-Message 18 string
+ATTRIBUTE Class 25 octets
+ATTRIBUTE Session-Timeout 27 integer
+";
+
+const NESTED: &[u8] = b"update reply { Class += 0x01 }
+transaction {
+  update reply { Class += 0x02 }
+  transaction {
+    update reply { Class := 0x03 }
+    transaction {
+      update reply { Class !* ANY }
+      fail
+    }
+    update reply { Reply-Message += \"m\" }
+  }
+  reject
+}
+update control { Session-Timeout := 60 }
+";
+
+fn octets_of(alloc: Global, octets: &[u8]) -> Result<Octets, Fail> {
+    Ok(Octets::from_vec(Vec::from_slice(alloc, octets)?))
+}
+
+fn small_dictionary(alloc: Global) -> Result<Dictionary, Fail> {
+    let mut files = Vec::new(alloc);
+    files.push(NamedFile {
+        name: octets_of(alloc, b"T")?,
+        octets: octets_of(alloc, LINES)?,
+    })?;
+    let set = FileSet::from_vec(files);
+    if set.is_empty() || !set.has_distinct_names() {
+        return Err(Fail::new("no set of files"));
+    }
+    Ok(Dictionary::read(alloc, &set)?)
+}
+
+// A store whose request list the text spells.
+fn store_of(alloc: Global, dictionary: &Dictionary, request: &[u8]) -> Result<SnapshotStore, Fail>
+    ensures { IfOk result (λ store. StateFits dictionary.now (present (⟦<SnapshotStore as Store>⟧.history store))) }
+{
+    let pairs = dictionary.read_request(alloc, request)?;
+    match SnapshotStore::new(alloc, pairs, Vec::new(alloc), Vec::new(alloc)) {
+        Ok(store) => Ok(store),
+        Err(_) => Err(Fail::new("out of memory")),
+    }
+}
+
+// Each step has its label, and then the run is over.
+fn goes(
+    rt: &impl Abort,
+    stepper: &mut Stepper<SnapshotStore>,
+    labels: &[Label],
+) -> Result<(), Fail> {
+    for label in labels {
+        assert_eq!(rt; stepper.forward()?, Moved::To(*label));
+        assert_eq!(rt; stepper.label(), *label);
+    }
+    assert_eq!(rt; stepper.forward()?, Moved::AtEnd);
+    Ok(())
+}
+
+// A run of a policy over a request has these steps, and ends with this code and so many pairs in the reply.
+fn runs(
+    rt: &impl Abort,
+    alloc: Global,
+    request: &[u8],
+    policy: &[u8],
+    labels: &[Label],
+    code: Code,
+    stopped: bool,
+    replies: usize,
+) -> Result<(), Fail> {
+    let dictionary = small_dictionary(alloc)?;
+    let policy = read_policy(alloc, &dictionary, policy)?;
+    let store = store_of(alloc, &dictionary, request)?;
+    let mut stepper = Stepper::new(alloc, &dictionary, &policy, store).map_err(|e| e.1)?;
+    goes(rt, &mut stepper, labels)?;
+    assert_eq!(rt; stepper.position(), labels.len());
+    assert_eq!(rt; stepper.code(), code);
+    assert_eq!(rt; stepper.stopped(), stopped);
+    assert_eq!(rt; stepper.store().count(List::Reply), replies);
+    Ok(())
+}
+
+#[test]
+fn nested_transactions(rt: HostRuntime) -> Result<(), Fail> {
+    let labels = [
+        Label::Line(1),
+        Label::Enter(2),
+        Label::Line(3),
+        Label::Enter(4),
+        Label::Line(5),
+        Label::Enter(6),
+        Label::Line(7),
+        Label::Word(8),
+        Label::Rollback(6),
+        Label::Line(10),
+        Label::Commit(4),
+        Label::Word(12),
+        Label::Rollback(2),
+        Label::Line(14),
+    ];
+    runs(
+        &rt,
+        rt.alloc(),
+        b"",
+        NESTED,
+        &labels,
+        Code::Reject,
+        false,
+        1,
+    )
+}
+
+#[test]
+fn failed_update(rt: HostRuntime) -> Result<(), Fail> {
+    runs(
+        &rt,
+        rt.alloc(),
+        b"User-Name = u",
+        b"update reply {\n Class := 0x01\n Reply-Message += \"x\"\n Class += &request:Class\n}",
+        &[Label::Line(2), Label::Line(3), Label::Failed(4, 1)],
+        Code::Fail,
+        true,
+        0,
+    )
+}
+
+#[test]
+fn conditions(rt: HostRuntime) -> Result<(), Fail> {
+    runs(
+        &rt,
+        rt.alloc(),
+        b"",
+        b"if (ok || fail && reject) { noop }",
+        &[Label::If(1, true), Label::Word(1)],
+        Code::Noop,
+        false,
+        0,
+    )?;
+    runs(
+        &rt,
+        rt.alloc(),
+        b"User-Name = bob, NAS-Port = 7",
+        b"if (&NAS-Port >= 7 && !&Class) {\n update reply { Reply-Message := \"hi %{User-Name} on %{NAS-Port}%{Class}\" }\n}\nelse { reject }",
+        &[Label::If(1, true), Label::Line(2)],
+        Code::Ok,
+        false,
+        1,
+    )?;
+    runs(
+        &rt,
+        rt.alloc(),
+        b"NAS-Port = 7",
+        b"if (&NAS-Port < 7) { fail }\nelsif (&User-Name != \"bob\") { fail }\nelse { updated }",
+        &[Label::If(1, false), Label::If(2, false), Label::Word(3)],
+        Code::Updated,
+        false,
+        0,
+    )
+}
+
+#[test]
+fn unresolved_sources(rt: HostRuntime) -> Result<(), Fail> {
+    runs(
+        &rt,
+        rt.alloc(),
+        b"User-Name = \"300\"",
+        b"update control { Session-Timeout := \"%{User-Name}x\" }",
+        &[Label::Failed(1, 2)],
+        Code::Fail,
+        true,
+        0,
+    )?;
+    runs(
+        &rt,
+        rt.alloc(),
+        b"User-Name = \"300\"",
+        b"update control { Session-Timeout := \"%{User-Name}\" }",
+        &[Label::Line(1)],
+        Code::Ok,
+        false,
+        0,
+    )
+}
+
+#[test]
+fn forward_and_back(rt: HostRuntime) -> Result<(), Fail> {
+    let dictionary = small_dictionary(rt.alloc())?;
+    let policy = read_policy(rt.alloc(), &dictionary, NESTED)?;
+    let store = store_of(rt.alloc(), &dictionary, b"")?;
+    let mut stepper = Stepper::new(rt.alloc(), &dictionary, &policy, store).map_err(|e| e.1)?;
+    assert_eq!(rt; stepper.label(), Label::Start);
+    stepper.run_to_end()?;
+    assert_eq!(rt; stepper.position(), 14);
+    assert!(rt; stepper.back());
+    assert_eq!(rt; stepper.label(), Label::Rollback(2));
+    assert_eq!(rt; stepper.code(), Code::Reject);
+    assert_eq!(rt; stepper.store().count(List::Reply), 1);
+    assert!(rt; stepper.back());
+    assert_eq!(rt; stepper.label(), Label::Word(12));
+    assert!(rt; stepper.stopped());
+    assert_eq!(rt; stepper.store().count(List::Reply), 2);
+    stepper.follow(&[Move::Back, Move::Back, Move::Back]);
+    assert_eq!(rt; stepper.label(), Label::Rollback(6));
+    assert_eq!(rt; stepper.code(), Code::Fail);
+    stepper.to_start();
+    assert!(rt; !stepper.back());
+    assert_eq!(rt; stepper.store().count(List::Reply), 0);
+    stepper.follow(&[Move::End]);
+    assert_eq!(rt; stepper.position(), 14);
+    match stepper.store().first(List::Control, AttrId::Plain(27)) {
+        Some(pair) => assert!(rt; pair.value == Value::Int(60)),
+        None => assert!(rt; false),
+    }
+    Ok(())
+}
