@@ -1,4 +1,4 @@
-//! The dictionaries of the worked examples.
+//! What several worked examples share: dictionaries, an authenticator and a policy.
 
 /// Attributes of RFC 2865 and 2866, two extended ones, an internal one and a vendor.
 pub const TEST_DICTIONARY: &[u8] = b"ATTRIBUTE User-Name 1 string
@@ -38,4 +38,29 @@ ATTRIBUTE Ty-D 206 date
 ATTRIBUTE Ty-V 207 ipv6addr
 ATTRIBUTE Ty-T 208 integer has_tag
 ATTRIBUTE Ty-U 209 string has_tag
+";
+
+/// The authenticator of the request in RFC 2865, section 7.1, as a word.
+pub const AUTHENTICATOR: &str = "0f403f9473978057bd83d5cb98f4227a";
+
+/// The same as octets.
+pub const AUTHENTICATOR_OCTETS: [u8; 16] = [
+    0x0f, 0x40, 0x3f, 0x94, 0x73, 0x97, 0x80, 0x57, 0xbd, 0x83, 0xd5, 0xcb, 0x98, 0xf4, 0x22, 0x7a,
+];
+
+/// Three transactions, one in the other: the innermost fails, the middle one is kept and the outer one is refused.
+pub const NESTED_TRANSACTIONS: &[u8] = b"update reply { Class += 0x01 }
+transaction {
+  update reply { Class += 0x02 }
+  transaction {
+    update reply { Class := 0x03 }
+    transaction {
+      update reply { Class !* ANY }
+      fail
+    }
+    update reply { Reply-Message += \"m\" }
+  }
+  reject
+}
+update control { Session-Timeout := 60 }
 ";

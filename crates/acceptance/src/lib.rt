@@ -8,6 +8,14 @@ mod dictionaries;
 #[cfg(test)]
 mod first_path;
 #[cfg(test)]
+mod packets;
+#[cfg(test)]
+mod policies;
+#[cfg(test)]
 mod program;
 #[cfg(test)]
+mod runs;
+#[cfg(test)]
 mod values;
+#[cfg(test)]
+mod walks;

@@ -1,6 +1,7 @@
 //! The program without its files and streams: words, named bytes and writers in memory.
 
-ghost use Rattle.std.specs.Prelude.{◌≡◌, IfOk, Some, is_some};
+ghost use Rattle.std.specs.Prelude.{◌≡◌, [], IfOk, Some, is_some};
+ghost use Rattle.radpolicy.specs.Faults.{IsPrintedWith};
 ghost use Rattle.radpolicy.specs.Plans.{IsSound, asked_by_job, asked_by_plan, names_of_files, names_of_paths};
 
 use avp_dict::{FileSet, NamedFile};
@@ -95,42 +96,53 @@ pub fn job_of(alloc: Global, sources: &[Source], plan: &Plan) -> Result<Job, All
     })
 }
 
+// The line of a fault.
+fn line_of(alloc: Global, fault: &Fault, files: &FileSet) -> Vec<u8>
+    requires { IsPrintedWith files.now fault.now }
+{
+    let mut line = Vec::new(alloc);
+    let _ = print_fault(fault, files, &mut WriteOutput::new(&mut line));
+    line
+}
+
 // Does a job, and prints its fault if there is one.
 fn finish(alloc: Global, job: &Job) -> Finished
     requires { IsSound (asked_by_job job.now) }
 {
     let mut output = Vec::new(alloc);
-    let mut errors = Vec::new(alloc);
-    let status = match answer(alloc, job, &mut WriteOutput::new(&mut output)) {
-        Ok(_) => 0,
-        Err(fault) => {
-            let _ = print_fault(&fault, &job.files, &mut WriteOutput::new(&mut errors));
-            status(&fault)
-        }
-    };
-    Finished {
-        status,
-        output,
-        errors,
+    match answer(alloc, job, &mut WriteOutput::new(&mut output)) {
+        Ok(_) => Finished {
+            status: 0,
+            output,
+            errors: Vec::new(alloc),
+        },
+        Err(fault) => Finished {
+            status: status(&fault),
+            output,
+            errors: line_of(alloc, &fault, &job.files),
+        },
     }
 }
 
-// The fault of the words.
-fn refuse(alloc: Global, fault: &Fault) -> Finished {
+// Prints the fault of the words.
+fn refuse(alloc: Global, fault: &Fault) -> Finished
+    requires { IsPrintedWith [] fault.now }
+{
     Finished {
         status: status(fault),
         output: Vec::new(alloc),
-        errors: Vec::new(alloc),
+        errors: line_of(alloc, fault, &FileSet::from_vec(Vec::new(alloc))),
     }
 }
 
-/// The program on these words.
-pub fn program(alloc: Global, words: &[&str], sources: &[Source]) -> Result<Finished, AllocError> {
+/// The program on these words, which do not ask for its help.
+pub fn program(alloc: Global, words: &[&str], sources: &[Source]) -> Result<Finished, Fail> {
     match read_words(alloc, words) {
         Ok(plan) => {
             let job = job_of(alloc, sources, &plan)?;
             Ok(finish(alloc, &job))
         }
+        Err(Fault::Help) => Err("words that ask for help")?,
         Err(fault) => Ok(refuse(alloc, &fault)),
     }
 }
@@ -164,4 +176,23 @@ pub fn expect_fault(
     assert_eq!(rt; finished.status, status);
     assert!(rt; finished.output.is_empty());
     Ok(())
+}
+
+// The last line of a text.
+fn last_line(text: &[u8]) -> &[u8] {
+    let mut last: &[u8] = &[];
+    for line in text.split(|octet| *octet == b'\n') {
+        if !line.is_empty() {
+            last = line;
+        }
+    }
+    last
+}
+
+/// The octets of the packet that the last line shows.
+pub fn sent_octets(alloc: Global, output: &[u8]) -> Result<Vec<u8>, Fail> {
+    let digits = last_line(output)
+        .strip_prefix(b"packet ")
+        .ok_or("a packet")?;
+    Ok(hex::decode(alloc, digits).map_err(|_| "hexadecimal digits")?)
 }

@@ -1,11 +1,8 @@
-pub mod Determined
+pub mod Controls
 pub mod DistinctFiles
-pub mod FittingLines
-pub mod FittingRuns
 pub mod Names
-pub mod NoValues
 pub mod OneReport
+pub mod PacketRoom
 pub mod Refusals
-pub mod Room
-pub mod Runs
-pub mod Single
+pub mod Replying
+pub mod ScriptWords

@@ -1,76 +1,195 @@
 -- A job has at most one report, and none if it is refused.
-use Rattle.std.proofs.Common.{◌≡◌, ◌∙◌, Some, None, Ok, Err, List, ap, ap₂, subst, sym}
-use Rattle.avp_lists.specs.declared.attributes.Pair.{Pair}
-use Rattle.avp_lists.specs.declared.edits.Edit.{Edit}
+use Rattle.std.proofs.Common.{◌≡◌, ◌∙◌, ◌≢◌, ◌⊎◌, ℕ, inl, inr, Option, Some, None, Result, Ok, Err, List, ap, ap₂, subst, sym, refl}
+use Rattle.avp_dict.specs.declared.readings.Reading.{Reading}
+use Rattle.avp_packet.specs.declared.packets.Packet.{Packet}
 use Rattle.radpolicy.specs.declared.faults.Fault.{Fault}
 use Rattle.radpolicy.specs.declared.faults.Fault.TheVariants as fault
 use Rattle.radpolicy.specs.declared.jobs.Command.{Command}
 use Rattle.radpolicy.specs.declared.jobs.Command.TheVariants.{Check, Decode, Encode, Run, Step}
 use Rattle.radpolicy.specs.declared.jobs.Job.{Job}
-use Rattle.radpolicy.specs.JobReports.{IsCheckReport, IsDictionaryRefusal, IsRefused, IsReport, IsRunRefusal, IsRunReport, RefusalOf, ReportOf, dictionary_for, entry_state, policy_of}
-use Rattle.radpolicy.specs.Reports.{Report, check_report, run_report}
-use Rattle.radpolicy.specs.PolicyTexts.{SpellsPolicy}
-use Rattle.radpolicy.specs.Updates.{run_end}
-use Rattle.avp_dict.specs.declared.readings.Reading.{Reading}
-use Rattle.avp_dict.specs.Requests.{request_spelled}
-use Rattle.radpolicy.proofs.Single.{one_policy}
+use Rattle.radpolicy.specs.JobReports.{IsCheckRefusal, IsCheckReport, IsDictionaryRefusal, IsMakingRefusal, IsOpenRefusal, IsOpened, IsPacketRefusal, IsPacketReport, IsPolicy, IsPolicyRefusal, IsReceived, IsRefused, IsReport, IsRequestOrReplyRefusal, IsRequestRefusal, IsRunRefusal, IsRunReport, IsScript, IsSecretRefusal, IsSizeOf, IsStepRefusal, IsStepReport, Opened, RefusalOf, ReportOf, decode_report, dictionary_for, encode_report, policy_of, report_of_run, script_of, step_report, walk_of}
+use Rattle.radpolicy.specs.Received.{IsUnread, Unread, request_for}
+use Rattle.radpolicy.specs.Reports.{Report, check_report}
+use Rattle.radpolicy.specs.Scripts.{IsUnknownWord, script_spelled}
+use Rattle.radpolicy.specs.Secrets.{secret_for}
+use Rattle.radpolicy.specs.declared.scripts.ScriptWord.{ScriptWord}
+use Rattle.avp_unlang.specs.declared.tree.Statement.{Statement}
+use Rattle.avp_unlang.specs.Sizes.{size_of}
+use Rattle.avp_unlang.proofs.StatementsOne.{one_policy}
 
-one_run_report : (job : Job) (a b : Report) → IsRunReport job a → IsRunReport job b → a ≡ b
-one_run_report job a b h g =
-    let read = sym h.read ∙ g.read in
-    let same : h.dictionary ≡ g.dictionary = cc in
-    let policy = subst (λ (d : List Reading). SpellsPolicy d (policy_of job) h.sections) same h.policy in
-    let sections = one_policy g.dictionary (policy_of job) h.sections g.sections policy g.policy in
-    let request = subst (λ (d : List Reading). request_spelled job.request d ≡ Some h.pairs) same h.request in
-    let both : Some h.pairs ≡ Some g.pairs = sym request ∙ g.request in
-    let pairs : h.pairs ≡ g.pairs = cc in
-    h.text
-    ∙ ap (λ (d : List Reading). run_report d (run_end h.sections (entry_state h.pairs))) same
-    ∙ ap₂ (λ (s : List (List Edit)) (ps : List Pair). run_report g.dictionary (run_end s (entry_state ps))) sections pairs
-    ∙ sym g.text
+the_ok : {A B : Type 0} (a b : A) (r : Result A B) → r ≡ Ok a → r ≡ Ok b → a ≡ b
+the_ok a b r h g = cc
 
-one_check_report : (job : Job) (a b : Report) → IsCheckReport job a → IsCheckReport job b → a ≡ b
-one_check_report job a b h g =
-    let both = sym h.read ∙ g.read in
-    let same : h.dictionary ≡ g.dictionary = cc in
-    h.text ∙ ap (check_report job.files) same ∙ sym g.text
+the_some : {A : Type 0} (a b : A) (o : Option A) → o ≡ Some a → o ≡ Some b → a ≡ b
+the_some a b o h g = cc
 
-one_report_of : (command : Command) (job : Job) (a b : Report) → ReportOf command job a → ReportOf command job b → a ≡ b
-one_report_of Run job a b h g = one_run_report job a b h g
-one_report_of Check job a b h g = one_check_report job a b h g
-one_report_of Step job a b h g = absurd h
-one_report_of Encode job a b h g = absurd h
-one_report_of Decode job a b h g = absurd h
+not_both_ok : {A B : Type 0} (a : A) (b : B) (r : Result A B) → r ≡ Ok a → r ≡ Err b → ⊥
+not_both_ok a b r h g = cc
+
+not_both_some : {A : Type 0} (a : A) (o : Option A) → o ≡ Some a → o ≡ None → ⊥
+not_both_some a o h g = cc
+
+-- ---- what a job is made from
+
+abbrev opened : List Reading → Option (List ℕ) → Opened
+opened dictionary secret = record { dictionary = dictionary; secret = secret }
+
+module _ (job : Job) where
+  one_opened : (a b : Opened) → IsOpened job a → IsOpened job b → a ≡ b
+  one_opened a b h g =
+      let dictionary = the_ok a.dictionary b.dictionary (dictionary_for job) h.dictionary g.dictionary in
+      let secret = the_some a.secret b.secret (secret_for job) h.secret g.secret in
+      ap₂ opened dictionary secret
+
+  one_statements : (d : List Reading) (a b : List Statement) → IsPolicy job d a → IsPolicy job d b → a ≡ b
+  one_statements d a b h g = one_policy d (policy_of job) a b h g
+
+  one_request : (o : Opened) (a b : Packet) → IsReceived job o a → IsReceived job o b → a ≡ b
+  one_request o a b h g = the_ok a b (request_for o.dictionary o.secret job) h g
+
+  -- ---- one report
+
+  run_of_other : (o : Opened) (a : Report) (h : IsRunReport job a) → h.opened ≡ o → (statements : List Statement) × (request : Packet) × IsPolicy job o.dictionary statements × IsReceived job o request × (report_of_run job.form o statements request ≡ Some a)
+  run_of_other o a h e = subst (λ (p : Opened). (statements : List Statement) × (request : Packet) × IsPolicy job p.dictionary statements × IsReceived job p request × (report_of_run job.form p statements request ≡ Some a)) e (h.statements, h.request, h.policy, h.received, h.made)
+
+  one_run_report : (a b : Report) → IsRunReport job a → IsRunReport job b → a ≡ b
+  one_run_report a b h g =
+      let o = g.opened in
+      let r = run_of_other o a h (one_opened h.opened o h.opens g.opens) in
+      let statements = one_statements o.dictionary r.0 g.statements r.2 g.policy in
+      let request = one_request o r.1 g.request r.3 g.received in
+      let same = ap (λ s. report_of_run job.form o s r.1) statements ∙ ap (report_of_run job.form o g.statements) request in
+      the_some a b (report_of_run job.form o g.statements g.request) (sym same ∙ r.4) g.made
+
+  module _ (made_of : Opened → Packet → Option Report) where
+    packet_of_other : (o : Opened) (a : Report) (h : IsPacketReport made_of job a) → h.opened ≡ o → (request : Packet) × IsReceived job o request × (made_of o request ≡ Some a)
+    packet_of_other o a h e = subst (λ (p : Opened). (request : Packet) × IsReceived job p request × (made_of p request ≡ Some a)) e (h.request, h.received, h.made)
+
+    one_packet_report : (a b : Report) → IsPacketReport made_of job a → IsPacketReport made_of job b → a ≡ b
+    one_packet_report a b h g =
+        let o = g.opened in
+        let r = packet_of_other o a h (one_opened h.opened o h.opens g.opens) in
+        let request = one_request o r.0 g.request r.1 g.received in
+        the_some a b (made_of o g.request) (sym (ap (made_of o) request) ∙ r.2) g.made
+
+  one_size : (policy : Option (List ℕ)) (d : List Reading) (a b : Option ℕ) → IsSizeOf policy job d a → IsSizeOf policy job d b → a ≡ b
+  one_size None d a b h g = h ∙ sym g
+  one_size (Some text) d a b h g =
+      let statements = one_policy d _ h.0 g.0 h.1 g.1 in
+      h.2 ∙ ap (λ s. Some (size_of s)) statements ∙ sym g.2
+
+  one_check_report : (a b : Report) → IsCheckReport job a → IsCheckReport job b → a ≡ b
+  one_check_report a b h g =
+      let same = the_ok h.dictionary g.dictionary (dictionary_for job) h.read g.read in
+      let size = one_size job.policy g.dictionary h.size g.size (subst (λ (d : List Reading). IsSizeOf job.policy job d h.size) same h.policy) g.policy in
+      h.text ∙ ap₂ (λ d n. check_report job.files d n) same size ∙ sym g.text
+
+  step_of_other : (o : Opened) (a : Report) (h : IsStepReport job a) → h.opened ≡ o → (statements : List Statement) × (request : Packet) × IsPolicy job o.dictionary statements × IsReceived job o request × (a ≡ step_report h.script (walk_of o.dictionary statements request))
+  step_of_other o a h e = subst (λ (p : Opened). (statements : List Statement) × (request : Packet) × IsPolicy job p.dictionary statements × IsReceived job p request × (a ≡ step_report h.script (walk_of p.dictionary statements request))) e (h.statements, h.request, h.policy, h.received, h.made)
+
+  one_step_report : (a b : Report) → IsStepReport job a → IsStepReport job b → a ≡ b
+  one_step_report a b h g =
+      let o = g.opened in
+      let r = step_of_other o a h (one_opened h.opened o h.opens g.opens) in
+      let statements = one_statements o.dictionary r.0 g.statements r.2 g.policy in
+      let request = one_request o r.1 g.request r.3 g.received in
+      let script = the_ok h.script g.script (script_spelled (script_of job)) h.words g.words in
+      r.4 ∙ ap (λ w. step_report w (walk_of o.dictionary r.0 r.1)) script ∙ ap (λ s. step_report g.script (walk_of o.dictionary s r.1)) statements
+      ∙ ap (λ q. step_report g.script (walk_of o.dictionary g.statements q)) request ∙ sym g.made
+
+  one_report_of : (command : Command) (a b : Report) → ReportOf command job a → ReportOf command job b → a ≡ b
+  one_report_of Run a b h g = one_run_report a b h g
+  one_report_of Check a b h g = one_check_report a b h g
+  one_report_of Encode a b h g = one_packet_report encode_report a b h g
+  one_report_of Decode a b h g = one_packet_report decode_report a b h g
+  one_report_of Step a b h g = one_step_report a b h g
+
+  -- ---- no report of a refused job
+
+  dictionary_read : (d : List Reading) (f : Fault) → dictionary_for job ≡ Ok d → IsDictionaryRefusal job f → ⊥
+  dictionary_read d (fault.Dictionary g) read refused = not_both_ok d g (dictionary_for job) read refused
+  dictionary_read d _ read refused = refused
+
+  opened_not : (o : Opened) (f : Fault) → IsOpened job o → IsOpenRefusal job f → ⊥
+  opened_not o f h (inl refused) = dictionary_read o.dictionary f h.dictionary refused
+  opened_not o f h (inr refused) = not_both_some o.secret (secret_for job) h.secret refused.secret
+
+  request_read : (o : Opened) (request : Packet) (f : Fault) → IsReceived job o request → IsRequestRefusal job o f → ⊥
+  request_read o request f h refused = subst (IsUnread f) h refused
+
+  run_not : (report : Report) (f : Fault) → IsRunReport job report → IsRunRefusal job f → ⊥
+  run_not report f h (inl refused) = opened_not h.opened f h.opens refused
+  run_not report f h (inr (inl refused)) =
+      let r = run_of_other refused.opened report h (one_opened h.opened refused.opened h.opens refused.opens) in
+      refused.none r.0 r.2
+  run_not report f h (inr (inr refused)) = by_fault refused.fault
+    where
+      o : Opened
+      o = refused.opened
+
+      r : (statements : List Statement) × (request : Packet) × IsPolicy job o.dictionary statements × IsReceived job o request × (report_of_run job.form o statements request ≡ Some report)
+      r = run_of_other o report h (one_opened h.opened o h.opens refused.opens)
+
+      by_fault : (IsRequestRefusal job o f ⊎ ((request : Packet) × IsReceived job o request × (report_of_run job.form o refused.statements request ≡ None) × (f ≡ fault.PacketTooLong))) → ⊥
+      by_fault (inl unread) = request_read o r.1 f r.3 unread
+      by_fault (inr long) =
+          let statements = one_statements o.dictionary r.0 refused.statements r.2 refused.policy in
+          let request = one_request o r.1 long.0 r.3 long.1 in
+          let same = ap (λ s. report_of_run job.form o s r.1) statements ∙ ap (report_of_run job.form o refused.statements) request in
+          not_both_some report (report_of_run job.form o refused.statements long.0) (sym same ∙ r.4) long.2
+
+  step_not : (report : Report) (f : Fault) → IsStepReport job report → IsStepRefusal job f → ⊥
+  step_not report f h (inl refused) = opened_not h.opened f h.opens refused
+  step_not report f h (inr (inl refused)) =
+      let r = step_of_other refused.opened report h (one_opened h.opened refused.opened h.opens refused.opens) in
+      refused.none r.0 r.2
+  step_not report f h (inr (inr refused)) = by_fault refused.fault
+    where
+      o : Opened
+      o = refused.opened
+
+      by_fault : (IsUnknownWord f (script_spelled (script_of job)) ⊎ ((script : List ScriptWord) × IsScript job script × IsRequestRefusal job o f)) → ⊥
+      by_fault (inl unknown) = subst (IsUnknownWord f) h.words unknown
+      by_fault (inr unread) =
+          let r = step_of_other o report h (one_opened h.opened o h.opens refused.opens) in
+          request_read o r.1 f r.3 unread.2
+
+  packet_not : (made_of : Opened → Packet → Option Report) (report : Report) (f : Fault) → IsPacketReport made_of job report → IsPacketRefusal made_of job f → ⊥
+  packet_not made_of report f h (inl refused) = opened_not h.opened f h.opens refused
+  packet_not made_of report f h (inr refused) = by_fault refused.fault
+    where
+      o : Opened
+      o = refused.opened
+
+      r : (request : Packet) × IsReceived job o request × (made_of o request ≡ Some report)
+      r = packet_of_other made_of o report h (one_opened h.opened o h.opens refused.opens)
+
+      by_fault : (IsRequestRefusal job o f ⊎ ((request : Packet) × IsReceived job o request × (made_of o request ≡ None) × (f ≡ fault.PacketTooLong))) → ⊥
+      by_fault (inl unread) = request_read o r.0 f r.1 unread
+      by_fault (inr long) =
+          let request = one_request o r.0 long.0 r.1 long.1 in
+          not_both_some report (made_of o long.0) (sym (ap (made_of o) request) ∙ r.2) long.2
+
+  spelled_by : (policy : Option (List ℕ)) (d : List Reading) (size : Option ℕ) → policy ≢ None → IsSizeOf policy job d size → (statements : List Statement) × IsPolicy job d statements
+  spelled_by None d size given h = absurd (given refl)
+  spelled_by (Some text) d size given h = (h.0, h.1)
+
+  check_not : (report : Report) (f : Fault) → IsCheckReport job report → IsCheckRefusal job f → ⊥
+  check_not report f h (inl refused) = dictionary_read h.dictionary f h.read refused
+  check_not report f h (inr refused) =
+      let same = the_ok h.dictionary refused.dictionary (dictionary_for job) h.read refused.read in
+      let spelled = spelled_by job.policy refused.dictionary h.size refused.given (subst (λ (d : List Reading). IsSizeOf job.policy job d h.size) same h.policy) in
+      refused.none spelled.0 spelled.1
+
+  not_both_of : (command : Command) (report : Report) (f : Fault) → ReportOf command job report → RefusalOf command job f → ⊥
+  not_both_of Run report f h refused = run_not report f h refused
+  not_both_of Check report f h refused = check_not report f h refused
+  not_both_of Encode report f h refused = packet_not encode_report report f h refused
+  not_both_of Decode report f h refused = packet_not decode_report report f h refused
+  not_both_of Step report f h refused = step_not report f h refused
 
 pub one_report : (job : Job) (a b : Report) → IsReport job a → IsReport job b → a ≡ b
-one_report job a b = one_report_of job.command job a b
-
--- two dictionaries of one job are the same
-one_dictionary : (job : Job) (d e : List Reading) → dictionary_for job ≡ Ok d → dictionary_for job ≡ Ok e → d ≡ e
-one_dictionary job d e h g = let both = sym h ∙ g in cc
-
-not_both_in_run : (job : Job) (report : Report) (f : Fault) → IsRunReport job report → IsRunRefusal job f → ⊥
-not_both_in_run job report (fault.Dictionary d) h refused = let e : Ok h.dictionary ≡ Err d = sym h.read ∙ refused in cc
-not_both_in_run job report (fault.Policy f) h refused =
-    let same = one_dictionary job h.dictionary refused.1 h.read refused.2 in
-    refused.3 h.sections (subst (λ (d : List Reading). SpellsPolicy d (policy_of job) h.sections) same h.policy)
-not_both_in_run job report (fault.Request f) h refused =
-    let same = one_dictionary job h.dictionary refused.1 h.read refused.2 in
-    let request = subst (λ (d : List Reading). request_spelled job.request d ≡ Some h.pairs) same h.request in
-    let e : Some h.pairs ≡ None = sym request ∙ refused.5 in
-    cc
-not_both_in_run job report _ h refused = refused
-
-not_both_in_check : (job : Job) (report : Report) (f : Fault) → IsCheckReport job report → IsDictionaryRefusal job f → ⊥
-not_both_in_check job report (fault.Dictionary d) h refused = let e : Ok h.dictionary ≡ Err d = sym h.read ∙ refused in cc
-not_both_in_check job report _ h refused = refused
-
-not_both_of : (command : Command) (job : Job) (report : Report) (f : Fault) → ReportOf command job report → RefusalOf command job f → ⊥
-not_both_of Run job report f h refused = not_both_in_run job report f h refused
-not_both_of Check job report f h refused = not_both_in_check job report f h refused
-not_both_of Step job report f h refused = refused
-not_both_of Encode job report f h refused = refused
-not_both_of Decode job report f h refused = refused
+one_report job a b = one_report_of job job.command a b
 
 pub not_both : (job : Job) (report : Report) (f : Fault) → IsReport job report → IsRefused job f → ⊥
-not_both job report f = not_both_of job.command job report f
+not_both job report f = not_both_of job job.command report f

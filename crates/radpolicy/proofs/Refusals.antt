@@ -1,26 +1,35 @@
 -- A policy that is refused, memory aside, is no policy.
-use Rattle.std.proofs.Common.{◌≡◌, ◌≢◌, ℕ, ◌⊎◌, inl, inr, List, Ok, refl}
+use Rattle.std.proofs.Common.{◌≡◌, ◌≢◌, ℕ, ◌⊎◌, inl, inr, List, None, Ok, refl}
 use Rattle.radpolicy.specs.declared.faults.Fault.TheVariants.{Memory}
-use Rattle.radpolicy.specs.declared.faults.PolicyFault.{PolicyFault}
-use Rattle.radpolicy.specs.declared.faults.PolicyKind.{PolicyKind}
-use Rattle.radpolicy.specs.declared.faults.PolicyKind.TheVariants as kind
+use Rattle.avp_unlang.specs.declared.faults.PolicyFault.{PolicyFault}
+use Rattle.avp_unlang.specs.declared.faults.PolicyKind.{PolicyKind}
+use Rattle.avp_unlang.specs.declared.faults.PolicyKind.TheVariants as kind
 use Rattle.avp_dict.specs.declared.readings.Reading.{Reading}
+use Rattle.avp_unlang.specs.declared.tree.Statement.{Statement}
 use Rattle.radpolicy.specs.declared.jobs.Job.{Job}
 use Rattle.radpolicy.specs.Faults.{fault_of_policy}
-use Rattle.radpolicy.specs.JobReports.{HasNoPolicy, IsRunRefusal, dictionary_for}
+use Rattle.radpolicy.specs.JobReports.{IsCheckedPolicyRefusal, IsOpened, IsPolicy, IsPolicyFault, IsPolicyRefusal, Opened, dictionary_for}
 
-module _ (job : Job) (line : ℕ) (d : List Reading) (dictionary : dictionary_for job ≡ Ok d) where
-  by_kind : (k : PolicyKind) → (k ≢ kind.Memory → HasNoPolicy d job) → let f : PolicyFault = record { line = line; kind = k } in (fault_of_policy f ≡ Memory) ⊎ IsRunRefusal job (fault_of_policy f)
-  by_kind kind.NotValue none = inr ((λ e. cc), d, dictionary, none (λ e. cc))
-  by_kind kind.TooLong none = inr ((λ e. cc), d, dictionary, none (λ e. cc))
-  by_kind kind.Unknown none = inr ((λ e. cc), d, dictionary, none (λ e. cc))
-  by_kind kind.NotWritable none = inr ((λ e. cc), d, dictionary, none (λ e. cc))
-  by_kind kind.Unreadable none = inr ((λ e. cc), d, dictionary, none (λ e. cc))
-  by_kind kind.Misplaced none = inr ((λ e. cc), d, dictionary, none (λ e. cc))
-  by_kind kind.TooDeep none = inr ((λ e. cc), d, dictionary, none (λ e. cc))
-  by_kind kind.TooLarge none = inr ((λ e. cc), d, dictionary, none (λ e. cc))
-  by_kind kind.OtherType none = inr ((λ e. cc), d, dictionary, none (λ e. cc))
-  by_kind kind.Memory none = inl refl
+is_policy_fault : (line : ℕ) (k : PolicyKind) → let f : PolicyFault = record { line = line; kind = k } in (fault_of_policy f ≡ Memory) ⊎ (IsPolicyFault (fault_of_policy f) × (k ≢ kind.Memory))
+is_policy_fault line kind.NotValue = inr ((λ e. cc), (λ e. cc))
+is_policy_fault line kind.TooLong = inr ((λ e. cc), (λ e. cc))
+is_policy_fault line kind.Unknown = inr ((λ e. cc), (λ e. cc))
+is_policy_fault line kind.NotWritable = inr ((λ e. cc), (λ e. cc))
+is_policy_fault line kind.Unreadable = inr ((λ e. cc), (λ e. cc))
+is_policy_fault line kind.Misplaced = inr ((λ e. cc), (λ e. cc))
+is_policy_fault line kind.TooDeep = inr ((λ e. cc), (λ e. cc))
+is_policy_fault line kind.TooLarge = inr ((λ e. cc), (λ e. cc))
+is_policy_fault line kind.OtherType = inr ((λ e. cc), (λ e. cc))
+is_policy_fault line kind.Memory = inl refl
 
-pub policy_refused : (job : Job) (f : PolicyFault) (d : List Reading) → dictionary_for job ≡ Ok d → (f.kind ≢ kind.Memory → HasNoPolicy d job) → (fault_of_policy f ≡ Memory) ⊎ IsRunRefusal job (fault_of_policy f)
-policy_refused job f d dictionary none = by_kind job f.line d dictionary f.kind none
+pub policy_refused : (job : Job) (f : PolicyFault) (o : Opened) → IsOpened job o → (f.kind ≢ kind.Memory → (statements : List Statement) → IsPolicy job o.dictionary statements → ⊥) → (fault_of_policy f ≡ Memory) ⊎ IsPolicyRefusal job (fault_of_policy f)
+policy_refused job f o opens none = elim (is_policy_fault f.line f.kind) [
+  | inl memory ↦ inl memory
+  | inr found ↦ inr (record { opened = o; opens = opens; none = none found.1; fault = found.0 })
+]
+
+pub checked_refused : (job : Job) (f : PolicyFault) (d : List Reading) → dictionary_for job ≡ Ok d → job.policy ≢ None → (f.kind ≢ kind.Memory → (statements : List Statement) → IsPolicy job d statements → ⊥) → (fault_of_policy f ≡ Memory) ⊎ IsCheckedPolicyRefusal job (fault_of_policy f)
+checked_refused job f d read given none = elim (is_policy_fault f.line f.kind) [
+  | inl memory ↦ inl memory
+  | inr found ↦ inr (record { dictionary = d; read = read; given = given; none = none found.1; fault = found.0 })
+]

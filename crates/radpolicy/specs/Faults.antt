@@ -7,11 +7,13 @@ use Rattle.avp_dict.specs.declared.faults.DictFault.{DictFault}
 use Rattle.avp_dict.specs.declared.line_faults.LineKind.{LineKind}
 use Rattle.avp_dict.specs.declared.line_faults.LineKind.TheVariants as line
 use Rattle.avp_dict.specs.declared.line_faults.LineFault.{LineFault}
-use Rattle.radpolicy.specs.declared.faults.PacketFault.{PacketFault}
-use Rattle.radpolicy.specs.declared.faults.PacketFault.TheVariants as packet
-use Rattle.radpolicy.specs.declared.faults.PolicyKind.{PolicyKind}
-use Rattle.radpolicy.specs.declared.faults.PolicyKind.TheVariants as policy
-use Rattle.radpolicy.specs.declared.faults.PolicyFault.{PolicyFault}
+use Rattle.avp_packet.specs.declared.faults.PacketFault.{PacketFault}
+use Rattle.avp_packet.specs.declared.faults.PacketFault.TheVariants as packet
+use Rattle.avp_packet.specs.declared.faults.EncodeFault.{EncodeFault}
+use Rattle.avp_packet.specs.declared.faults.EncodeFault.TheVariants as encode
+use Rattle.avp_unlang.specs.declared.faults.PolicyKind.{PolicyKind}
+use Rattle.avp_unlang.specs.declared.faults.PolicyKind.TheVariants as policy
+use Rattle.avp_unlang.specs.declared.faults.PolicyFault.{PolicyFault}
 use Rattle.radpolicy.specs.declared.faults.Fault.{Fault}
 use Rattle.radpolicy.specs.declared.faults.Fault.TheVariants as fault
 
@@ -66,20 +68,22 @@ line_text line.Unreadable = codes "unreadable line"
 line_text line.Memory = codes "out of memory"
 
 abbrev pub packet_number : PacketFault → ℕ
-packet_number packet.Short = 40
-packet_number packet.BadLength = 41
-packet_number packet.Cut = 42
+packet_number packet.TooShort = 40
+packet_number packet.LengthOutOfRange = 41
+packet_number packet.CutShort = 42
 packet_number (packet.BadAttribute offset) = 43
-packet_number packet.OtherCode = 44
+packet_number packet.CodeNotTaken = 44
 packet_number packet.WrongAuthenticator = 45
+packet_number packet.Memory = memory_number
 
 abbrev pub packet_text : PacketFault → List ℕ
-packet_text packet.Short = codes "fewer than 20 octets"
-packet_text packet.BadLength = codes "bad packet length"
-packet_text packet.Cut = codes "packet cut short"
+packet_text packet.TooShort = codes "fewer than 20 octets"
+packet_text packet.LengthOutOfRange = codes "bad packet length"
+packet_text packet.CutShort = codes "packet cut short"
 packet_text (packet.BadAttribute offset) = codes "bad attribute length"
-packet_text packet.OtherCode = codes "code not taken"
+packet_text packet.CodeNotTaken = codes "code not taken"
 packet_text packet.WrongAuthenticator = codes "wrong authenticator"
+packet_text packet.Memory = codes "out of memory"
 
 abbrev pub policy_number : PolicyKind → ℕ
 policy_number policy.NotValue = 30
@@ -192,6 +196,16 @@ fault_of_line f = of_kind f.kind
     of_kind : LineKind → Fault
     of_kind line.Memory = fault.Memory
     of_kind _ = fault.Request f
+
+-- the fault of a job whose packet was refused
+abbrev pub fault_of_packet : PacketFault → Fault
+fault_of_packet packet.Memory = fault.Memory
+fault_of_packet f = fault.Packet f
+
+-- the fault of a job whose packet was not made
+abbrev pub fault_of_encode : EncodeFault → Fault
+fault_of_encode encode.TooLong = fault.PacketTooLong
+fault_of_encode encode.Memory = fault.Memory
 
 -- the fault of a job whose policy was refused
 abbrev pub fault_of_policy : PolicyFault → Fault

@@ -1,85 +1,254 @@
 -- The report of a job, and the faults for which a job is refused.
-use Rattle.std.specs.Prelude.{◌≡◌, ◌≢◌, ℕ, List, [], None, Some, Result, Ok, Err, unwrap_or}
+use Rattle.std.specs.Prelude.{◌≡◌, ◌≢◌, ◌⊎◌, ℕ, List, [], Option, None, Some, Result, Ok, Err}
+use Rattle.std.specs.Option.{option_map, unwrap_or}
 use Rattle.avp_lists.specs.declared.attributes.Pair.{Pair}
-use Rattle.avp_lists.specs.declared.edits.Edit.{Edit}
 use Rattle.avp_lists.specs.declared.lists.State.{State}
 use Rattle.avp_dict.specs.declared.faults.DictFault.{DictFault}
-use Rattle.radpolicy.specs.declared.faults.Fault.{Fault}
-use Rattle.radpolicy.specs.declared.faults.Fault.TheVariants.{Dictionary, Policy, Request}
-use Rattle.avp_dict.specs.declared.line_faults.LineKind.TheVariants as line
-use Rattle.radpolicy.specs.declared.faults.PolicyKind.TheVariants as policy
 use Rattle.avp_dict.specs.declared.readings.Reading.{Reading}
 use Rattle.avp_dict.specs.Dictionary.{dictionary_of, most_lines}
-use Rattle.avp_dict.specs.Requests.{request_spelled}
+use Rattle.avp_packet.specs.declared.packets.Packet.{Packet}
+use Rattle.radpolicy.specs.declared.faults.Fault.{Fault}
+use Rattle.radpolicy.specs.declared.faults.Fault.TheVariants as fault
+use Rattle.avp_unlang.specs.declared.faults.PolicyKind.TheVariants as policy
 use Rattle.radpolicy.specs.declared.jobs.Command.{Command}
-use Rattle.radpolicy.specs.declared.jobs.Command.TheVariants.{Check, Run}
+use Rattle.radpolicy.specs.declared.jobs.Command.TheVariants.{Check, Decode, Encode, Run, Step}
+use Rattle.radpolicy.specs.declared.jobs.Form.{Form}
 use Rattle.radpolicy.specs.declared.jobs.Job.{Job}
-use Rattle.radpolicy.specs.PolicyTexts.{SpellsPolicy}
-use Rattle.radpolicy.specs.Reports.{Report, check_report, run_report}
-use Rattle.radpolicy.specs.Updates.{run_end}
+use Rattle.avp_unlang.specs.declared.tree.Statement.{Statement}
+use Rattle.avp_unlang.specs.Policies.{SpellsPolicy}
+use Rattle.avp_unlang.specs.Meaning.{Outcome as End, meaning_of}
+use Rattle.avp_unlang.specs.declared.codes.Code.TheVariants as Code
+use Rattle.avp_step.specs.Trace.{trace_of}
+use Rattle.avp_step.specs.Walk.{Walk, entry}
+use Rattle.avp_unlang.specs.Sizes.{size_of}
+use Rattle.radpolicy.specs.Received.{IsUnread, request_for}
+use Rattle.radpolicy.specs.Replies.{answer_of, request_packet}
+use Rattle.radpolicy.specs.Reports.{Report, answer_line, check_report, packet_line, packet_text, plain_report, run_report}
+use Rattle.radpolicy.specs.Scripts.{IsUnknownWord, after_script, script_spelled, script_text}
+use Rattle.radpolicy.specs.Secrets.{secret_for}
+use Rattle.radpolicy.specs.declared.scripts.ScriptWord.{ScriptWord}
+
+-- ---- what a job is made from
 
 -- the dictionary of the job's files, or the first refusal
 abbrev pub dictionary_for : Job → Result (List Reading) DictFault
 dictionary_for job = dictionary_of most_lines job.files
 
+-- the dictionary and the secret of a job
+pub record Opened : Type 0 where
+  pub dictionary : List Reading
+  pub secret : Option (List ℕ)
+
+pub record IsOpened (job : Job) (opened : Opened) : Type 0 where
+  pub dictionary : dictionary_for job ≡ Ok opened.dictionary
+  pub secret : secret_for job ≡ Some opened.secret
+
+-- the secret, and no octets where there is none
+abbrev pub key : Opened → List ℕ
+key opened = unwrap_or opened.secret []
+
+-- the job's request is this one
+abbrev pub IsReceived : Job → Opened → Packet → Type 0
+IsReceived job opened request = request_for opened.dictionary opened.secret job ≡ Ok request
+
 -- the policy's text
 abbrev pub policy_of : Job → List ℕ
 policy_of job = unwrap_or job.policy []
 
--- the job's policy spells no sections
-abbrev pub HasNoPolicy : List Reading → Job → Type 0
-HasNoPolicy dictionary job = (sections : List (List Edit)) → SpellsPolicy dictionary (policy_of job) sections → ⊥
+-- the job's policy spells these statements
+abbrev pub IsPolicy : Job → List Reading → List Statement → Type 0
+IsPolicy job dictionary statements = SpellsPolicy dictionary (policy_of job) statements
+
+-- ---- runs
 
 -- a run begins with the request's pairs, and two empty lists
 abbrev pub entry_state : List Pair → State
 entry_state pairs = record { request = pairs; reply = []; control = [] }
 
--- the report of a run: that of its policy over its request, by its dictionary
-pub record IsRunReport (job : Job) (report : Report) : Type 0 where
-  pub dictionary : List Reading
-  pub sections : List (List Edit)
-  pub pairs : List Pair
-  pub read : dictionary_for job ≡ Ok dictionary
-  pub policy : SpellsPolicy dictionary (policy_of job) sections
-  pub request : request_spelled job.request dictionary ≡ Some pairs
-  pub text : report ≡ run_report dictionary (run_end sections (entry_state pairs))
+-- what the policy means from the request's pairs, two empty lists and the code `ok`
+abbrev pub run_of : List Reading → List Statement → Packet → End
+run_of dictionary statements request = meaning_of dictionary statements (entry_state request.list) Code.Ok
 
--- the report of a check: what the dictionary holds
+-- the line of what the run sends: nothing is said of it without a secret; none where a packet is too long
+abbrev pub sent_line : Form → Opened → Packet → End → Option (List ℕ)
+sent_line form opened request end = elim opened.secret [ None ↦ Some [] | Some secret ↦ answer_line (answer_of form opened.dictionary secret request end) ]
+
+-- the report of a run; none where its packet is too long
+abbrev pub report_of_run : Form → Opened → List Statement → Packet → Option Report
+report_of_run form opened statements request =
+    let end = run_of opened.dictionary statements request in
+    option_map (run_report opened.dictionary end) (sent_line form opened request end)
+
+-- the report of a run: that of its policy over its request
+pub record IsRunReport (job : Job) (report : Report) : Type 0 where
+  pub opened : Opened
+  pub statements : List Statement
+  pub request : Packet
+  pub opens : IsOpened job opened
+  pub policy : IsPolicy job opened.dictionary statements
+  pub received : IsReceived job opened request
+  pub made : report_of_run job.form opened statements request ≡ Some report
+
+-- ---- walks
+
+-- the script's text
+abbrev pub script_of : Job → List ℕ
+script_of job = unwrap_or job.script []
+
+abbrev pub IsScript : Job → List ScriptWord → Type 0
+IsScript job script = script_spelled (script_of job) ≡ Ok script
+
+-- the walk over the policy's trace, at its start
+abbrev pub walk_of : List Reading → List Statement → Packet → Walk
+walk_of dictionary statements request = record { dictionary = dictionary; trace = trace_of dictionary statements (entry_state request.list); position = 0 }
+
+-- the report of a walk by a script
+abbrev pub step_report : List ScriptWord → Walk → Report
+step_report script walk =
+    let end = (entry (after_script script walk)).outcome in
+    record { text = script_text script walk; outcome = record { code = Some end.code; stopped = end.stopped } }
+
+-- the report of a walk by the job's script
+pub record IsStepReport (job : Job) (report : Report) : Type 0 where
+  pub opened : Opened
+  pub statements : List Statement
+  pub script : List ScriptWord
+  pub request : Packet
+  pub opens : IsOpened job opened
+  pub policy : IsPolicy job opened.dictionary statements
+  pub words : IsScript job script
+  pub received : IsReceived job opened request
+  pub made : report ≡ step_report script (walk_of opened.dictionary statements request)
+
+-- ---- packets
+
+-- the report of `encode`: the packet of its request; none where that is too long
+abbrev pub encode_report : Opened → Packet → Option Report
+encode_report opened request = option_map (λ octets. plain_report (packet_line octets)) (request_packet opened.dictionary (key opened) request)
+
+-- the report of `decode`: the head and the list of its request
+abbrev pub decode_report : Opened → Packet → Option Report
+decode_report opened request = Some (plain_report (packet_text opened.dictionary request))
+
+-- the report that is made of a job's request, with no policy
+pub record IsPacketReport (made_of : Opened → Packet → Option Report) (job : Job) (report : Report) : Type 0 where
+  pub opened : Opened
+  pub request : Packet
+  pub opens : IsOpened job opened
+  pub received : IsReceived job opened request
+  pub made : made_of opened request ≡ Some report
+
+-- ---- checks
+
+-- the size of the job's policy, where it has one
+abbrev pub IsSizeOf : Option (List ℕ) → Job → List Reading → Option ℕ → Type 0
+IsSizeOf None job dictionary size = size ≡ None
+IsSizeOf (Some text) job dictionary size = (statements : List Statement) × IsPolicy job dictionary statements × (size ≡ Some (size_of statements))
+
+-- the report of a check: what the dictionary holds, and how large the policy is
 pub record IsCheckReport (job : Job) (report : Report) : Type 0 where
   pub dictionary : List Reading
+  pub size : Option ℕ
   pub read : dictionary_for job ≡ Ok dictionary
-  pub text : report ≡ check_report job.files dictionary
+  pub policy : IsSizeOf job.policy job dictionary size
+  pub text : report ≡ check_report job.files dictionary size
 
 -- the report of a job, by its command
 abbrev pub ReportOf : Command → Job → Report → Type 0
 ReportOf Run job report = IsRunReport job report
+ReportOf Step job report = IsStepReport job report
+ReportOf Encode job report = IsPacketReport encode_report job report
+ReportOf Decode job report = IsPacketReport decode_report job report
 ReportOf Check job report = IsCheckReport job report
-ReportOf _ job report = ⊥
 
 abbrev pub IsReport : Job → Report → Type 0
 IsReport job report = ReportOf job.command job report
 
+-- ---- refusals, each where those before it don't apply
+
 -- the refusal of the dictionary, with its file and line
 abbrev pub IsDictionaryRefusal : Job → Fault → Type 0
-IsDictionaryRefusal job (Dictionary fault) = dictionary_for job ≡ Err fault
+IsDictionaryRefusal job (fault.Dictionary f) = dictionary_for job ≡ Err f
 IsDictionaryRefusal job _ = ⊥
 
--- The faults for which a run is refused, each where those before it don't apply: the dictionary, the policy, the request. Which fault of
--- a policy or a request comes, and its line, is left open.
+-- a secret's file that holds no secret
+pub record IsSecretRefusal (job : Job) (f : Fault) : Type 0 where
+  pub dictionary : List Reading
+  pub read : dictionary_for job ≡ Ok dictionary
+  pub secret : secret_for job ≡ None
+  pub fault : f ≡ fault.EmptySecret
+
+abbrev pub IsOpenRefusal : Job → Fault → Type 0
+IsOpenRefusal job f = IsDictionaryRefusal job f ⊎ IsSecretRefusal job f
+
+-- some fault of a policy
+abbrev pub IsPolicyFault : Fault → Type 0
+IsPolicyFault (fault.Policy f) = f.kind ≢ policy.Memory
+IsPolicyFault _ = ⊥
+
+-- The policy spells no statements. Which fault of it comes, and its line, is left open.
+pub record IsPolicyRefusal (job : Job) (f : Fault) : Type 0 where
+  pub opened : Opened
+  pub opens : IsOpened job opened
+  pub none : (statements : List Statement) → IsPolicy job opened.dictionary statements → ⊥
+  pub fault : IsPolicyFault f
+
+-- the request is none
+abbrev pub IsRequestRefusal : Job → Opened → Fault → Type 0
+IsRequestRefusal job opened f = IsUnread f (request_for opened.dictionary opened.secret job)
+
+-- after a policy that is one, the request is none, or a packet of the run is too long
+pub record IsRequestOrReplyRefusal (job : Job) (f : Fault) : Type 0 where
+  pub opened : Opened
+  pub statements : List Statement
+  pub opens : IsOpened job opened
+  pub policy : IsPolicy job opened.dictionary statements
+  pub fault : IsRequestRefusal job opened f
+      ⊎ ((request : Packet) × IsReceived job opened request × (report_of_run job.form opened statements request ≡ None) × (f ≡ fault.PacketTooLong))
+
 abbrev pub IsRunRefusal : Job → Fault → Type 0
-IsRunRefusal job (Dictionary fault) = dictionary_for job ≡ Err fault
-IsRunRefusal job (Policy fault) = (fault.kind ≢ policy.Memory)
-    × (dictionary : List Reading) × (dictionary_for job ≡ Ok dictionary) × HasNoPolicy dictionary job
-IsRunRefusal job (Request fault) = (fault.kind ≢ line.Memory)
-    × (dictionary : List Reading) × (dictionary_for job ≡ Ok dictionary)
-    × (sections : List (List Edit)) × SpellsPolicy dictionary (policy_of job) sections × (request_spelled job.request dictionary ≡ None)
-IsRunRefusal job _ = ⊥
+IsRunRefusal job f = IsOpenRefusal job f ⊎ IsPolicyRefusal job f ⊎ IsRequestOrReplyRefusal job f
+
+-- after a policy that is one, the script has an unknown word, or the request is none
+pub record IsScriptOrRequestRefusal (job : Job) (f : Fault) : Type 0 where
+  pub opened : Opened
+  pub statements : List Statement
+  pub opens : IsOpened job opened
+  pub policy : IsPolicy job opened.dictionary statements
+  pub fault : IsUnknownWord f (script_spelled (script_of job))
+      ⊎ ((script : List ScriptWord) × IsScript job script × IsRequestRefusal job opened f)
+
+abbrev pub IsStepRefusal : Job → Fault → Type 0
+IsStepRefusal job f = IsOpenRefusal job f ⊎ IsPolicyRefusal job f ⊎ IsScriptOrRequestRefusal job f
+
+-- the request is none, or what is made of it is too long for a packet
+pub record IsMakingRefusal (made_of : Opened → Packet → Option Report) (job : Job) (f : Fault) : Type 0 where
+  pub opened : Opened
+  pub opens : IsOpened job opened
+  pub fault : IsRequestRefusal job opened f
+      ⊎ ((request : Packet) × IsReceived job opened request × (made_of opened request ≡ None) × (f ≡ fault.PacketTooLong))
+
+abbrev pub IsPacketRefusal : (Opened → Packet → Option Report) → Job → Fault → Type 0
+IsPacketRefusal made_of job f = IsOpenRefusal job f ⊎ IsMakingRefusal made_of job f
+
+-- the policy of a check spells no statements
+pub record IsCheckedPolicyRefusal (job : Job) (f : Fault) : Type 0 where
+  pub dictionary : List Reading
+  pub read : dictionary_for job ≡ Ok dictionary
+  pub given : job.policy ≢ None
+  pub none : (statements : List Statement) → IsPolicy job dictionary statements → ⊥
+  pub fault : IsPolicyFault f
+
+abbrev pub IsCheckRefusal : Job → Fault → Type 0
+IsCheckRefusal job f = IsDictionaryRefusal job f ⊎ IsCheckedPolicyRefusal job f
 
 -- the faults for which a job is refused, by its command
 abbrev pub RefusalOf : Command → Job → Fault → Type 0
-RefusalOf Run job fault = IsRunRefusal job fault
-RefusalOf Check job fault = IsDictionaryRefusal job fault
-RefusalOf _ job fault = ⊥
+RefusalOf Run job f = IsRunRefusal job f
+RefusalOf Step job f = IsStepRefusal job f
+RefusalOf Encode job f = IsPacketRefusal encode_report job f
+RefusalOf Decode job f = IsPacketRefusal decode_report job f
+RefusalOf Check job f = IsCheckRefusal job f
 
 abbrev pub IsRefused : Job → Fault → Type 0
-IsRefused job fault = RefusalOf job.command job fault
+IsRefused job f = RefusalOf job.command job f

@@ -1,11 +1,11 @@
 pub mod Faults
 pub mod Fitting
-pub mod Forms
 pub mod JobReports
-pub mod Places
 pub mod Plans
-pub mod PolicyTexts
+pub mod Received
+pub mod Replies
 pub mod Reports
-pub mod Tokens
-pub mod Updates
+pub mod Scripts
+pub mod Secrets
 pub mod Writing
+pub mod code

@@ -8,15 +8,19 @@ use Rattle.radpolicy.specs.declared.jobs.Command.TheVariants.{Run, Step, Encode,
 use Rattle.radpolicy.specs.declared.jobs.Form.{Form}
 use Rattle.radpolicy.specs.declared.jobs.Form.TheVariants.{Hex, Access, Accounting}
 use Rattle.radpolicy.specs.declared.jobs.Job.{Job}
-use Rattle.radpolicy.specs.declared.words.Plan.{Plan}
+use Rattle.radpolicy.specs.declared.plans.Plan.{Plan}
 
--- what a command line or a job asks for
-pub record Asked : Type 0 where
-  pub command : Command
+-- what a command line or a job says of the request's packet
+pub record AskedPacket : Type 0 where
   pub form : Form
   pub identifier : ℕ
   pub has_authenticator : Bool
   pub has_secret : Bool
+
+-- what a command line or a job asks for
+pub record Asked : Type 0 where
+  pub command : Command
+  pub packet : AskedPacket
   pub has_policy : Bool
   pub has_script : Bool
   -- the last components of the dictionary files' paths
@@ -31,10 +35,12 @@ names_of_files files = map (λ file. file.name) files
 abbrev pub asked_by_plan : Plan → Asked
 asked_by_plan plan = record {
   command = plan.command;
-  form = plan.form;
-  identifier = plan.identifier;
-  has_authenticator = is_some plan.authenticator;
-  has_secret = is_some plan.secret;
+  packet = record {
+    form = plan.form;
+    identifier = plan.identifier;
+    has_authenticator = is_some plan.authenticator;
+    has_secret = is_some plan.secret;
+  };
   has_policy = is_some plan.policy;
   has_script = is_some plan.script;
   names = names_of_paths plan.dictionaries.items;
@@ -43,10 +49,12 @@ asked_by_plan plan = record {
 abbrev pub asked_by_job : Job → Asked
 asked_by_job job = record {
   command = job.command;
-  form = job.form;
-  identifier = job.identifier;
-  has_authenticator = is_some job.authenticator;
-  has_secret = is_some job.secret;
+  packet = record {
+    form = job.form;
+    identifier = job.identifier;
+    has_authenticator = is_some job.authenticator;
+    has_secret = is_some job.secret;
+  };
   has_policy = is_some job.policy;
   has_script = is_some job.script;
   names = names_of_files job.files;
@@ -56,32 +64,44 @@ asked_by_job job = record {
 abbrev pub AreDistinct : List (List ℕ) → Type 0
 AreDistinct names = AllPairs (λ a b. a ≢ b) names
 
--- without a packet there is neither identifier, authenticator nor secret
-pub record HasNoPacket (asked : Asked) : Type 0 where
-  pub identifier : asked.identifier ≡ 0
-  pub authenticator : asked.has_authenticator ≡ false
-  pub secret : asked.has_secret ≡ false
+-- What goes together in `run`, by the form of its request: a packet in hexadecimal digits brings its own identifier and
+-- authenticator, and a reply to lines wants a secret and an authenticator, which is made for an Accounting-Request.
+abbrev pub RunRulesOf : Form → AskedPacket → Type 0
+RunRulesOf Hex packet = (packet.has_secret ≡ true) × (packet.identifier ≡ 0) × (packet.has_authenticator ≡ false)
+RunRulesOf Access packet = packet.has_authenticator ≡ packet.has_secret
+RunRulesOf Accounting packet = packet.has_authenticator ≡ false
 
--- what goes together in `run`, by the form of its request
-abbrev pub RunRules : Form → Asked → Type 0
-RunRules Hex asked = ⊥
-RunRules Access asked = HasNoPacket asked
-RunRules Accounting asked = ⊥
+abbrev pub RunRules : AskedPacket → Type 0
+RunRules packet = RunRulesOf packet.form packet
 
--- what goes together in `check`, which reads no request
-pub record CheckRules (asked : Asked) : Type 0 where
-  pub form : asked.form ≡ Access
-  pub packet : HasNoPacket asked
-  pub policy : asked.has_policy ≡ false
-  pub script : asked.has_script ≡ false
+-- what goes together in `step`: a packet in hexadecimal digits, and the secret that shows its hidden values
+abbrev pub StepRulesOf : Form → AskedPacket → Type 0
+StepRulesOf Hex packet = packet.has_secret ≡ true
+StepRulesOf _ packet = packet.has_secret ≡ false
+
+abbrev pub StepRules : AskedPacket → Type 0
+StepRules packet = StepRulesOf packet.form packet
+
+-- what goes together in `encode`, which makes the packet of lines
+abbrev pub EncodeRulesOf : Form → AskedPacket → Type 0
+EncodeRulesOf Hex packet = ⊥
+EncodeRulesOf Access packet = packet.has_authenticator ≡ true
+EncodeRulesOf Accounting packet = packet.has_authenticator ≡ false
+
+abbrev pub EncodeRules : AskedPacket → Type 0
+EncodeRules packet = (packet.has_secret ≡ true) × EncodeRulesOf packet.form packet
+
+-- what goes together in `decode`, whose request is a packet in hexadecimal digits
+abbrev pub DecodeRules : AskedPacket → Type 0
+DecodeRules packet = (packet.has_secret ≡ true) × (packet.form ≡ Hex)
 
 -- what goes together, by the command
 abbrev pub Rules : Command → Asked → Type 0
-Rules Run asked = (asked.has_policy ≡ true) × (asked.has_script ≡ false) × RunRules asked.form asked
-Rules Step asked = ⊥
-Rules Encode asked = ⊥
-Rules Decode asked = ⊥
-Rules Check asked = CheckRules asked
+Rules Run asked = (asked.has_policy ≡ true) × RunRules asked.packet
+Rules Step asked = (asked.has_policy ≡ true) × (asked.has_script ≡ true) × StepRules asked.packet
+Rules Encode asked = EncodeRules asked.packet
+Rules Decode asked = DecodeRules asked.packet
+Rules Check asked = Unit {0}
 
 -- there is a dictionary file at least, no two of them have one name, and no rule of the command is broken
 pub record IsSound (asked : Asked) : Type 0 where

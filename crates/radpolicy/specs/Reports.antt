@@ -1,5 +1,5 @@
 -- The texts of reports: lists and results of runs, counts and notes of dictionaries.
-use Rattle.std.specs.Prelude.{ℕ, Bool, false, ◌++◌, List, [], None, Some, length, codes, decimal, if◌then◌else◌}
+use Rattle.std.specs.Prelude.{ℕ, Bool, false, ◌++◌, List, [], Option, None, Some, length, codes, decimal, if◌then◌else◌}
 use Rattle.std.specs.List.{flat_map}
 use Rattle.avp_lists.specs.declared.attributes.Pair.{Pair}
 use Rattle.avp_lists.specs.declared.lists.State.{State}
@@ -8,11 +8,14 @@ use Rattle.avp_dict.specs.declared.files.NamedFile.{NamedFile}
 use Rattle.avp_dict.specs.declared.readings.Reading.{Reading}
 use Rattle.avp_dict.specs.Counts.{counts_of, notes_of}
 use Rattle.avp_dict.specs.Printing.{printed_name, printed_text}
-use Rattle.radpolicy.specs.declared.jobs.Code.{Code}
-use Rattle.radpolicy.specs.declared.jobs.Code.TheVariants as code
+use Rattle.avp_unlang.specs.declared.codes.Code.{Code}
+use Rattle.avp_unlang.specs.declared.codes.Code.TheVariants as code
 use Rattle.radpolicy.specs.declared.jobs.Outcome.{Outcome}
+use Rattle.hex.specs.Hex.{encode_lower}
+use Rattle.avp_packet.specs.declared.packets.Packet.{Packet}
 use Rattle.radpolicy.specs.Faults.{name_at}
-use Rattle.radpolicy.specs.Updates.{End}
+use Rattle.radpolicy.specs.Replies.{Answer, Nothing, Sent, TooLong}
+use Rattle.avp_unlang.specs.Meaning.{Outcome as End}
 
 -- the line of a pair, by a dictionary
 abbrev pub pair_line : List Reading → Pair → List ℕ
@@ -43,18 +46,43 @@ pub record Report : Type 0 where
   pub text : List ℕ
   pub outcome : Outcome
 
--- the report of a run that ended so
-abbrev pub run_report : List Reading → End → Report
-run_report dictionary end = record {
-  text = state_text dictionary end.state ++ result_line end.code end.stopped;
+-- ---- runs
+
+-- the line of a packet
+abbrev pub packet_line : List ℕ → List ℕ
+packet_line octets = codes "packet " ++ encode_lower octets ++ codes "\n"
+
+-- the line of what a run sends; none where its packet is too long
+abbrev pub answer_line : Answer → Option (List ℕ)
+answer_line Nothing = Some (codes "packet none\n")
+answer_line (Sent octets) = Some (packet_line octets)
+answer_line TooLong = None
+
+-- the report of a run that ended so, with what it sends
+abbrev pub run_report : List Reading → End → List ℕ → Report
+run_report dictionary end line = record {
+  text = state_text dictionary end.state ++ result_line end.code end.stopped ++ line;
   outcome = record { code = Some end.code; stopped = end.stopped };
 }
 
--- ---- what a dictionary holds
+-- ---- packets
 
 -- a count after its name
 abbrev pub count_line : List ℕ → ℕ → List ℕ
 count_line name count = name ++ codes " " ++ decimal count ++ codes "\n"
+
+-- the report of a job that runs no policy
+abbrev pub plain_report : List ℕ → Report
+plain_report text = record { text = text; outcome = record { code = None; stopped = false } }
+
+-- a packet's head, and the request list
+abbrev pub packet_text : List Reading → Packet → List ℕ
+packet_text dictionary packet =
+    count_line (codes "code") packet.code ++ count_line (codes "identifier") packet.id
+    ++ codes "authenticator " ++ encode_lower packet.authenticator ++ codes "\n"
+    ++ list_text dictionary (codes "request") packet.list
+
+-- ---- what a dictionary holds
 
 -- the line of a note: its file and its line
 abbrev pub note_line : List NamedFile → Note → List ℕ
@@ -70,9 +98,11 @@ dictionary_text files dictionary =
     ++ count_line (codes "notes") (length (notes_of dictionary))
     ++ flat_map (note_line files) (notes_of dictionary)
 
--- the report of a check, which comes to nothing more
-abbrev pub check_report : List NamedFile → List Reading → Report
-check_report files dictionary = record {
-  text = dictionary_text files dictionary;
-  outcome = record { code = None; stopped = false };
-}
+-- the line of a policy's size, where a policy was given
+abbrev pub size_text : Option ℕ → List ℕ
+size_text None = []
+size_text (Some size) = count_line (codes "size") size
+
+-- the report of a check
+abbrev pub check_report : List NamedFile → List Reading → Option ℕ → Report
+check_report files dictionary size = plain_report (dictionary_text files dictionary ++ size_text size)

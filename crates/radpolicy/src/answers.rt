@@ -1,31 +1,41 @@
 //! A job, answered by its report.
 
-ghost use Rattle.std.specs.Prelude.{All, ◌≡◌, ◌≢◌, ◌≤◌, ◌⊎◌, ◌<◌, List, true, false, length, sum_by, IfOk, IfErr, IsErrOf, OnOk};
+ghost use Rattle.std.specs.Prelude.{All, ◌≡◌, ◌≢◌, ◌≤◌, ◌⊎◌, ◌<◌, List, None, Ok, Some, true, false, length, IfOk, IfErr, IfSome, IsErrOf, OnOk};
 ghost use Rattle.std.specs.Io.KnownBytes.{Appends};
-ghost use Rattle.avp_lists.specs.declared.edits.Edit.{Edit as ListEdit};
+ghost use Rattle.std.specs.Option.{option_copied};
 ghost use Rattle.avp_dict.specs.Counts.{notes_of};
-ghost use Rattle.avp_dict.specs.Requests.{request_spelled};
 ghost use Rattle.radpolicy.specs.Faults.{IsPrintedWith};
-ghost use Rattle.radpolicy.specs.Fitting.{AllFit, SectionsFit};
-ghost use Rattle.radpolicy.specs.declared.faults.Fault.{Fault};
-ghost use Rattle.radpolicy.specs.JobReports.{IsDictionaryRefusal, IsRefused, IsReport, IsRunRefusal, IsRunReport, dictionary_for, entry_state, policy_of};
+ghost use Rattle.radpolicy.specs.JobReports.{IsCheckRefusal, IsCheckReport, IsCheckedPolicyRefusal, IsDictionaryRefusal, IsOpened, IsMakingRefusal, IsOpenRefusal, IsPacketReport, IsPolicy, IsPolicyRefusal, IsRefused, IsReport, IsRequestOrReplyRefusal, IsRunReport, IsScript, IsScriptOrRequestRefusal, IsSizeOf, IsStepReport, decode_report, dictionary_for, encode_report, policy_of, script_of};
+ghost use Rattle.radpolicy.specs.Scripts.{IsUnknownWord, script_spelled};
 ghost use Rattle.radpolicy.specs.Plans.{IsSound, asked_by_job};
-ghost use Rattle.radpolicy.specs.PolicyTexts.{SpellsPolicy};
-ghost use Rattle.radpolicy.specs.Reports.{Report, run_report};
-ghost use Rattle.radpolicy.specs.Updates.{run_end};
+ghost use Rattle.radpolicy.specs.Reports.{Report};
+ghost use Rattle.radpolicy.specs.Secrets.{secret_for};
 ghost use Rattle.radpolicy.specs.Writing.{AppendsFrontOf};
+ghost use Rattle.radpolicy.specs.declared.faults.Fault.TheVariants as fault;
+ghost use Rattle.radpolicy.specs.declared.faults.Fault.{Fault};
+ghost use Rattle.radpolicy.specs.declared.jobs.Command.TheVariants.{Check as TheCheck};
+ghost use Rattle.radpolicy.specs.declared.jobs.Form.TheVariants.{Hex as InHex};
 
-use crate::checks::report_of_check;
-use crate::cursors::MOST_UPDATE_LINES;
+use crate::checks::text_of_check;
 use crate::faults::Fault;
 use crate::jobs::{Command, Job, Outcome};
 use crate::outputs::{Output, put_all};
-use crate::policies::read_policy;
-use crate::reports::report_of_run;
-use crate::sections::Section;
+use crate::received::request_of;
+use crate::reports::{push_packet, text_of_packet};
+use crate::running::report_of_run;
+use crate::scripts::{ScriptWord, read_script};
+use crate::secrets::secret_in;
+use crate::walking::report_of_walk;
 use avp_dict::Dictionary;
-use avp_lists::{MOST_PAIRS, Pair, SnapshotStore};
-use std::alloc::{AllocError, Global};
+use avp_packet::encode_request;
+use avp_unlang::{Policy, read_policy, size};
+use std::alloc::Global;
+
+// What a job that runs no policy came to.
+const NO_RUN: Outcome = Outcome {
+    code: None,
+    stopped: false,
+};
 
 // The policy's text.
 fn policy_of(job: &Job) -> &[u8]
@@ -42,8 +52,8 @@ fn dictionary_of(alloc: Global, job: &Job) -> Result<Dictionary, Fault>
     requires sound { IsSound (asked_by_job job.now) }
     ensures ok { IfOk result (λ dictionary. dictionary_for job.now ≡ Ok dictionary) }
     ensures noted { IfOk result (λ dictionary. All (λ note. note.file < length job.now.files) (notes_of dictionary)) }
-    ensures refused { IfErr result (λ fault. (fault ≡ Fault.Memory) ⊎ IsDictionaryRefusal job.now fault) }
-    ensures printed { IfErr result (λ fault. IsPrintedWith job.now.files fault) }
+    ensures refused { IfErr result (λ f. (f ≡ fault.Memory) ⊎ IsDictionaryRefusal job.now f) }
+    ensures printed { IfErr result (λ f. IsPrintedWith job.now.files f) }
 {
     match Dictionary::read(alloc, &job.files) {
         Ok(dictionary) => Ok(dictionary),
@@ -51,53 +61,53 @@ fn dictionary_of(alloc: Global, job: &Job) -> Result<Dictionary, Fault>
     }
 }
 
+// The secret, where the job has one.
+fn secret_of(job: &Job) -> Result<Option<&[u8]>, Fault>
+    ensures ok { IfOk result (λ secret. secret_for job.now ≡ Some (option_copied secret)) }
+    ensures some { IfOk result (λ secret. IfSome secret (λ octets. 0 < length octets.now)) }
+    ensures there { job.now.secret ≢ None → IfOk result (λ secret. secret ≢ None) }
+    ensures refused { IfErr result (λ f. (secret_for job.now ≡ None) × (f ≡ fault.EmptySecret)) }
+{
+    match &job.secret {
+        None => Ok(None),
+        Some(file) => match secret_in(file.as_slice()) {
+            Some(secret) => Ok(Some(secret)),
+            None => Err(Fault::EmptySecret),
+        },
+    }
+}
+
+// Reads the dictionary and the secret.
+fn open<'a>(alloc: Global, job: &'a Job) -> Result<(Dictionary, Option<&'a [u8]>), Fault>
+    requires sound { IsSound (asked_by_job job.now) }
+    ensures ok { IfOk result (λ opened. IsOpened job.now (record { dictionary = opened.0; secret = option_copied opened.1 })) }
+    ensures some { IfOk result (λ opened. IfSome opened.1 (λ octets. 0 < length octets.now)) }
+    ensures there { job.now.secret ≢ None → IfOk result (λ opened. opened.1 ≢ None) }
+    ensures refused { IfErr result (λ f. (f ≡ fault.Memory) ⊎ IsOpenRefusal job.now f) }
+    ensures printed { IfErr result (λ f. IsPrintedWith job.now.files f) }
+{
+    let dictionary = dictionary_of(alloc, job)?;
+    match secret_of(job) {
+        Ok(secret) => Ok((dictionary, secret)),
+        Err(fault) => Err(fault),
+    }
+}
+
 // Reads the policy.
-fn sections_of(alloc: Global, dictionary: &Dictionary, job: &Job) -> Result<Vec<Section>, Fault>
-    requires { dictionary_for job.now ≡ Ok dictionary.now }
-    ensures ok { IfOk result (λ sections. SpellsPolicy dictionary.now (policy_of job.now) sections.items) }
-    ensures short { IfOk result (λ sections. sum_by length sections.items ≤ MOST_UPDATE_LINES) }
-    ensures fit { IfOk result (λ sections. SectionsFit dictionary.now sections.items) }
-    ensures refused { IfErr result (λ fault. (fault ≡ Fault.Memory) ⊎ IsRunRefusal job.now fault) }
-    ensures printed { IfErr result (λ fault. IsPrintedWith job.now.files fault) }
-{
-    match read_policy(alloc, dictionary, policy_of(job)) {
-        Ok(sections) => Ok(sections),
-        Err(fault) => Err(Fault::from(fault)),
-    }
-}
-
-// Reads the request.
-fn pairs_of(alloc: Global, dictionary: &Dictionary, job: &Job) -> Result<Vec<Pair>, Fault>
-    requires dictionary { dictionary_for job.now ≡ Ok dictionary.now }
-    requires policy { (sections : List (List ListEdit)) × SpellsPolicy dictionary.now (policy_of job.now) sections }
-    ensures ok { IfOk result (λ pairs. request_spelled job.now.request dictionary.now ≡ Some pairs.items) }
-    ensures few { IfOk result (λ pairs. length pairs.items ≤ MOST_PAIRS) }
-    ensures fit { IfOk result (λ pairs. AllFit dictionary.now pairs.items) }
-    ensures refused { IfErr result (λ fault. (fault ≡ Fault.Memory) ⊎ IsRunRefusal job.now fault) }
-    ensures printed { IfErr result (λ fault. IsPrintedWith job.now.files fault) }
-{
-    match dictionary.read_request(alloc, job.request.as_slice()) {
-        Ok(pairs) => Ok(pairs),
-        Err(fault) => Err(Fault::from(fault)),
-    }
-}
-
-// The report of the sections over the pairs.
-fn report_of_sections(
+fn policy_for(
     alloc: Global,
     dictionary: &Dictionary,
-    sections: Vec<Section>,
-    pairs: Vec<Pair>,
-) -> Result<(Vec<u8>, Outcome), AllocError>
-    requires short { sum_by length sections.items ≤ MOST_UPDATE_LINES }
-    requires lines { SectionsFit dictionary.now sections.items }
-    requires few { length pairs.items ≤ MOST_PAIRS }
-    requires fit { AllFit dictionary.now pairs.items }
-    ensures { IfOk result (λ report. run_report dictionary.now (run_end sections.items (entry_state pairs.items)) ≡ record { text = report.0.items; outcome = report.1 }) }
+    secret: Option<&[u8]>,
+    job: &Job,
+) -> Result<Policy, Fault>
+    requires opened { IsOpened job.now (record { dictionary = dictionary.now; secret = option_copied secret }) }
+    ensures ok { IfOk result (λ policy. IsPolicy job.now dictionary.now policy) }
+    ensures refused { IfErr result (λ f. (f ≡ fault.Memory) ⊎ IsPolicyRefusal job.now f) }
+    ensures printed { IfErr result (λ f. IsPrintedWith job.now.files f) }
 {
-    match SnapshotStore::new(alloc, pairs, Vec::new(alloc), Vec::new(alloc)) {
-        Ok(store) => report_of_run(alloc, dictionary, store, sections),
-        Err(_) => Err(AllocError),
+    match read_policy(alloc, dictionary, policy_of(job)) {
+        Ok(policy) => Ok(policy),
+        Err(fault) => Err(Fault::from(fault)),
     }
 }
 
@@ -105,37 +115,169 @@ fn report_of_sections(
 fn run_report_of(
     alloc: Global,
     dictionary: &Dictionary,
+    secret: Option<&[u8]>,
     job: &Job,
 ) -> Result<(Vec<u8>, Outcome), Fault>
-    requires { dictionary_for job.now ≡ Ok dictionary.now }
+    requires opened { IsOpened job.now (record { dictionary = dictionary.now; secret = option_copied secret }) }
+    requires secret { IfSome secret (λ octets. 0 < length octets.now) }
+    requires hex { job.now.form ≡ InHex → secret ≢ None }
     ensures ok { IfOk result (λ report. IsRunReport job.now (record { text = report.0.items; outcome = report.1 })) }
-    ensures refused { IfErr result (λ fault. (fault ≡ Fault.Memory) ⊎ IsRunRefusal job.now fault) }
-    ensures printed { IfErr result (λ fault. IsPrintedWith job.now.files fault) }
+    ensures refused { IfErr result (λ f. (f ≡ fault.Memory) ⊎ (IsPolicyRefusal job.now f ⊎ IsRequestOrReplyRefusal job.now f)) }
+    ensures printed { IfErr result (λ f. IsPrintedWith job.now.files f) }
 {
-    let sections = sections_of(alloc, dictionary, job)?;
-    let pairs = pairs_of(alloc, dictionary, job)?;
-    let report = report_of_sections(alloc, dictionary, sections, pairs)?;
+    let policy = policy_for(alloc, dictionary, secret, job)?;
+    let request = request_of(alloc, dictionary, secret, job)?;
+    let report = report_of_run(alloc, dictionary, job.form, secret, &policy, request)?;
     Ok(report)
+}
+
+// The script's text.
+fn script_of(job: &Job) -> &[u8]
+    ensures { result.now ≡ script_of job.now }
+{
+    match &job.script {
+        Some(script) => script.as_slice(),
+        None => &[],
+    }
+}
+
+// Reads the script.
+fn script_for(alloc: Global, job: &Job) -> Result<Vec<ScriptWord>, Fault>
+    ensures ok { IfOk result (λ script. IsScript job.now script.items) }
+    ensures refused { IfErr result (λ f. (f ≡ fault.Memory) ⊎ IsUnknownWord f (script_spelled (script_of job.now))) }
+    ensures printed { IfErr result (λ f. IsPrintedWith job.now.files f) }
+{
+    read_script(alloc, script_of(job))
+}
+
+// The report of a walk, in the order in which it is refused.
+fn step_report_of(
+    alloc: Global,
+    dictionary: &Dictionary,
+    secret: Option<&[u8]>,
+    job: &Job,
+) -> Result<(Vec<u8>, Outcome), Fault>
+    requires opened { IsOpened job.now (record { dictionary = dictionary.now; secret = option_copied secret }) }
+    requires secret { IfSome secret (λ octets. 0 < length octets.now) }
+    requires hex { job.now.form ≡ InHex → secret ≢ None }
+    ensures ok { IfOk result (λ report. IsStepReport job.now (record { text = report.0.items; outcome = report.1 })) }
+    ensures refused { IfErr result (λ f. (f ≡ fault.Memory) ⊎ (IsPolicyRefusal job.now f ⊎ IsScriptOrRequestRefusal job.now f)) }
+    ensures printed { IfErr result (λ f. IsPrintedWith job.now.files f) }
+{
+    let policy = policy_for(alloc, dictionary, secret, job)?;
+    let script = script_for(alloc, job)?;
+    let request = request_of(alloc, dictionary, secret, job)?;
+    Ok(report_of_walk(alloc, dictionary, &policy, &script, request)?)
+}
+
+// The report of `encode`, in the order in which it is refused.
+fn encode_report_of(
+    alloc: Global,
+    dictionary: &Dictionary,
+    secret: &[u8],
+    job: &Job,
+) -> Result<(Vec<u8>, Outcome), Fault>
+    requires opened { IsOpened job.now (record { dictionary = dictionary.now; secret = Some secret.now }) }
+    requires secret { 0 < length secret.now }
+    ensures ok { IfOk result (λ report. IsPacketReport encode_report job.now (record { text = report.0.items; outcome = report.1 })) }
+    ensures refused { IfErr result (λ f. (f ≡ fault.Memory) ⊎ IsMakingRefusal encode_report job.now f) }
+    ensures printed { IfErr result (λ f. IsPrintedWith job.now.files f) }
+{
+    let request = request_of(alloc, dictionary, Some(secret), job)?;
+    let octets = encode_request(
+        alloc,
+        dictionary,
+        secret,
+        request.code,
+        request.id,
+        &request.authenticator,
+        request.list.as_slice(),
+    )?;
+    let mut text = Vec::new(alloc);
+    push_packet(&mut text, &octets)?;
+    Ok((text, NO_RUN))
+}
+
+// The report of `decode`, in the order in which it is refused.
+fn decode_report_of(
+    alloc: Global,
+    dictionary: &Dictionary,
+    secret: &[u8],
+    job: &Job,
+) -> Result<(Vec<u8>, Outcome), Fault>
+    requires opened { IsOpened job.now (record { dictionary = dictionary.now; secret = Some secret.now }) }
+    requires secret { 0 < length secret.now }
+    ensures ok { IfOk result (λ report. IsPacketReport decode_report job.now (record { text = report.0.items; outcome = report.1 })) }
+    ensures refused { IfErr result (λ f. (f ≡ fault.Memory) ⊎ IsMakingRefusal decode_report job.now f) }
+    ensures printed { IfErr result (λ f. IsPrintedWith job.now.files f) }
+{
+    let request = request_of(alloc, dictionary, Some(secret), job)?;
+    Ok((text_of_packet(alloc, dictionary, &request)?, NO_RUN))
+}
+
+// The report of a job that reads a request, by its command.
+fn request_report_of(alloc: Global, job: &Job) -> Result<(Vec<u8>, Outcome), Fault>
+    requires sound { IsSound (asked_by_job job.now) }
+    requires command { job.now.command ≢ TheCheck }
+    ensures ok { IfOk result (λ report. IsReport job.now (record { text = report.0.items; outcome = report.1 })) }
+    ensures refused { IfErr result (λ f. (f ≡ fault.Memory) ⊎ IsRefused job.now f) }
+    ensures printed { IfErr result (λ f. IsPrintedWith job.now.files f) }
+{
+    let (dictionary, secret) = open(alloc, job)?;
+    match (job.command, secret) {
+        (Command::Run, secret) => run_report_of(alloc, &dictionary, secret, job),
+        (Command::Step, secret) => step_report_of(alloc, &dictionary, secret, job),
+        (Command::Encode, Some(secret)) => encode_report_of(alloc, &dictionary, secret, job),
+        (Command::Decode, Some(secret)) => decode_report_of(alloc, &dictionary, secret, job),
+        _ => unreachable!(),
+    }
+}
+
+// The size of the policy, where the job has one.
+fn size_of_policy(alloc: Global, dictionary: &Dictionary, job: &Job) -> Result<Option<usize>, Fault>
+    requires { dictionary_for job.now ≡ Ok dictionary.now }
+    ensures ok { IfOk result (λ size. IsSizeOf job.now.policy job.now dictionary.now size) }
+    ensures refused { IfErr result (λ f. (f ≡ fault.Memory) ⊎ IsCheckedPolicyRefusal job.now f) }
+    ensures printed { IfErr result (λ f. IsPrintedWith job.now.files f) }
+{
+    let Some(text) = &job.policy else {
+        return Ok(None);
+    };
+    match read_policy(alloc, dictionary, text.as_slice()) {
+        Ok(policy) => Ok(Some(size(&policy))),
+        Err(fault) => Err(Fault::from(fault)),
+    }
+}
+
+// The report of a check, in the order in which it is refused.
+fn check_report_of(alloc: Global, job: &Job) -> Result<(Vec<u8>, Outcome), Fault>
+    requires sound { IsSound (asked_by_job job.now) }
+    ensures ok { IfOk result (λ report. IsCheckReport job.now (record { text = report.0.items; outcome = report.1 })) }
+    ensures refused { IfErr result (λ f. (f ≡ fault.Memory) ⊎ IsCheckRefusal job.now f) }
+    ensures printed { IfErr result (λ f. IsPrintedWith job.now.files f) }
+{
+    let dictionary = dictionary_of(alloc, job)?;
+    let size = size_of_policy(alloc, &dictionary, job)?;
+    Ok((text_of_check(alloc, &job.files, &dictionary, size)?, NO_RUN))
 }
 
 // The report of a job, by its command.
 fn report_of(alloc: Global, job: &Job) -> Result<(Vec<u8>, Outcome), Fault>
     requires sound { IsSound (asked_by_job job.now) }
     ensures ok { IfOk result (λ report. IsReport job.now (record { text = report.0.items; outcome = report.1 })) }
-    ensures refused { IfErr result (λ fault. (fault ≡ Fault.Memory) ⊎ IsRefused job.now fault) }
-    ensures printed { IfErr result (λ fault. IsPrintedWith job.now.files fault) }
+    ensures refused { IfErr result (λ f. (f ≡ fault.Memory) ⊎ IsRefused job.now f) }
+    ensures printed { IfErr result (λ f. IsPrintedWith job.now.files f) }
 {
-    let dictionary = dictionary_of(alloc, job)?;
     match job.command {
-        Command::Run => run_report_of(alloc, &dictionary, job),
-        Command::Check => Ok(report_of_check(alloc, &job.files, &dictionary)?),
-        Command::Step | Command::Encode | Command::Decode => unreachable!(),
+        Command::Check => check_report_of(alloc, job),
+        _ => request_report_of(alloc, job),
     }
 }
 
 /// Does a job: makes its report whole, and then puts it out.
 ///
-/// The faults come in this order: the dictionary, the policy, the request, the writing of the report.
+/// The faults come in this order: the dictionary, the secret, the policy, the script, the request, a packet that would be too long, the
+/// writing of the report.
 pub fn answer<O: Output>(alloc: Global, job: &Job, out: &mut O) -> Result<Outcome, Fault>
     requires works { O.has_failed out.old ≡ false }
     requires sound { IsSound (asked_by_job job.now) }

@@ -4,14 +4,14 @@ ghost use Rattle.std.specs.Prelude.{◌≡◌, ◌<◌, ◌++◌, All, codes, de
 ghost use Rattle.std.specs.List.{flat_map};
 ghost use Rattle.avp_dict.specs.Counts.{notes_of};
 ghost use Rattle.radpolicy.specs.Faults.{name_at};
-ghost use Rattle.radpolicy.specs.Reports.{check_report, count_line, dictionary_text, note_line};
+ghost use Rattle.radpolicy.specs.Reports.{count_line, dictionary_text, note_line, size_text};
 
-use crate::jobs::Outcome;
 use avp_dict::{Dictionary, FileSet, NamedFile, Note};
 use itoa::Buffer;
 use std::alloc::{AllocError, Global};
 
-fn push_count(text: &mut Vec<u8>, name: &str, count: usize) -> Result<(), AllocError>
+/// A count after its name.
+pub(crate) fn push_count(text: &mut Vec<u8>, name: &str, count: usize) -> Result<(), AllocError>
     ensures { OnOk result (text.new.items ≡ text.old.items ++ count_line name.now count) }
 {
     let mut digits = Buffer::new();
@@ -52,14 +52,25 @@ fn push_notes(text: &mut Vec<u8>, files: &[NamedFile], notes: &[Note]) -> Result
     Ok(())
 }
 
-/// The report of a check of these files, which hold this dictionary.
-pub(crate) fn report_of_check(
+// The line of a policy's size, where there is a policy.
+fn push_size(text: &mut Vec<u8>, size: Option<usize>) -> Result<(), AllocError>
+    ensures { OnOk result (text.new.items ≡ text.old.items ++ size_text size) }
+{
+    match size {
+        Some(size) => push_count(text, "size", size),
+        None => Ok(()),
+    }
+}
+
+/// The text of a check of these files, which hold this dictionary, with a policy of this size.
+pub(crate) fn text_of_check(
     alloc: Global,
     files: &FileSet,
     dictionary: &Dictionary,
-) -> Result<(Vec<u8>, Outcome), AllocError>
+    size: Option<usize>,
+) -> Result<Vec<u8>, AllocError>
     requires { All (λ note. note.file < length files.now) (notes_of dictionary.now) }
-    ensures { IfOk result (λ report. check_report files.now dictionary.now ≡ record { text = report.0.items; outcome = report.1 }) }
+    ensures { IfOk result (λ text. text.items ≡ dictionary_text files.now dictionary.now ++ size_text size) }
 {
     let counts = dictionary.counts();
     let notes = dictionary.notes();
@@ -70,9 +81,6 @@ pub(crate) fn report_of_check(
     push_count(&mut text, "vendors", counts.vendors)?;
     push_count(&mut text, "notes", notes.len())?;
     push_notes(&mut text, files.as_slice(), notes)?;
-    let outcome = Outcome {
-        code: None,
-        stopped: false,
-    };
-    Ok((text, outcome))
+    push_size(&mut text, size)?;
+    Ok(text)
 }

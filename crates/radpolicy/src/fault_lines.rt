@@ -5,9 +5,10 @@ ghost use Rattle.std.specs.List.{flat_map};
 ghost use Rattle.std.specs.Io.KnownBytes.{Appends};
 ghost use Rattle.radpolicy.specs.Faults.{IsPrintedWith, NamesFileOf, fault_line, place_of, place_text};
 
-use crate::faults::{Fault, PacketFault};
+use crate::faults::Fault;
 use crate::outputs::{Output, OutputError, put_all};
 use avp_dict::{FileSet, NamedFile};
+use avp_packet::PacketFault;
 use itoa::Buffer;
 
 // The octets of all parts, in order.
@@ -49,7 +50,7 @@ fn put_place_of<O: Output>(
         Fault::ScriptWord { line } => {
             put_parts(out, &[b" script:", digits.format(line).as_bytes()])
         }
-        Fault::Packet(PacketFault::BadAttribute { offset }) => {
+        Fault::Packet(PacketFault::BadAttribute(offset)) => {
             put_parts(out, &[b" offset ", digits.format(offset).as_bytes()])
         }
         _ => Ok(()),

@@ -2,49 +2,13 @@
 
 ghost use Rattle.std.specs.Prelude.{◌≡◌};
 ghost use Rattle.radpolicy.specs.declared.faults.Fault.TheVariants.{Memory};
-ghost use Rattle.radpolicy.specs.Faults.{dict_number, dict_text, fault_number, fault_of_dict, fault_of_line, fault_of_policy, fault_text, is_memory, line_number, line_text, packet_number, packet_text, policy_number, policy_text, status_of};
+ghost use Rattle.radpolicy.specs.Faults.{dict_number, dict_text, fault_number, fault_of_dict, fault_of_encode, fault_of_line, fault_of_packet, fault_of_policy, fault_text, is_memory, line_number, line_text, packet_number, packet_text, policy_number, policy_text, status_of};
 
 use avp_dict::{DictFault, DictKind, LineFault, LineKind};
+use avp_packet::{EncodeFault, PacketFault};
+use avp_unlang::{PolicyFault, PolicyKind};
 use std::alloc::{AllocError, AllocFailed};
 use thiserror::Error;
-
-/// Why a packet was refused (RFC 2865, section 3).
-#[derive(Clone, Copy, Debug, PartialEq, Eq, Error)]
-#[error("{}", self.text())]
-pub enum PacketFault {
-    Short,
-    BadLength,
-    Cut,
-    /// The offset of the attribute's first octet, from the packet's first one.
-    BadAttribute { offset: usize },
-    OtherCode,
-    WrongAuthenticator,
-}
-
-/// Why a policy text was refused.
-#[derive(Clone, Copy, Debug, PartialEq, Eq, Error)]
-#[error("{}", self.text())]
-pub enum PolicyKind {
-    /// A name or a value, as it would be refused in a request line.
-    NotValue,
-    TooLong,
-    Unknown,
-    NotWritable,
-    Unreadable,
-    Misplaced,
-    TooDeep,
-    TooLarge,
-    OtherType,
-    Memory,
-}
-
-/// Why a policy text was refused, and at which line, from 1.
-#[derive(Clone, Copy, Debug, PartialEq, Eq, Error)]
-#[error("{}", self.kind.text())]
-pub struct PolicyFault {
-    pub line: usize,
-    pub kind: PolicyKind,
-}
 
 /// Why a job was refused. `Help` asks for the help and is no refusal.
 #[derive(Clone, Copy, Debug, PartialEq, Eq, Error)]
@@ -84,6 +48,28 @@ impl From<LineFault> for Fault {
         match fault.kind {
             LineKind::Memory => Fault::Memory,
             _ => Fault::Request(fault),
+        }
+    }
+}
+
+impl From<PacketFault> for Fault {
+    ghost from_gives = { λ fault f. f ≡ fault_of_packet fault };
+
+    fn from(fault: PacketFault) -> Fault {
+        match fault {
+            PacketFault::Memory => Fault::Memory,
+            _ => Fault::Packet(fault),
+        }
+    }
+}
+
+impl From<EncodeFault> for Fault {
+    ghost from_gives = { λ fault f. f ≡ fault_of_encode fault };
+
+    fn from(fault: EncodeFault) -> Fault {
+        match fault {
+            EncodeFault::TooLong => Fault::PacketTooLong,
+            EncodeFault::Memory => Fault::Memory,
         }
     }
 }
@@ -188,67 +174,69 @@ fn line_text(kind: LineKind) -> &'static str
     }
 }
 
-impl PacketFault {
-    fn number(self) -> u8
-        ensures { result ≡ packet_number self }
-    {
-        match self {
-            PacketFault::Short => 40,
-            PacketFault::BadLength => 41,
-            PacketFault::Cut => 42,
-            PacketFault::BadAttribute { .. } => 43,
-            PacketFault::OtherCode => 44,
-            PacketFault::WrongAuthenticator => 45,
-        }
-    }
-
-    fn text(self) -> &'static str
-        ensures { result.now ≡ packet_text self }
-    {
-        match self {
-            PacketFault::Short => "fewer than 20 octets",
-            PacketFault::BadLength => "bad packet length",
-            PacketFault::Cut => "packet cut short",
-            PacketFault::BadAttribute { .. } => "bad attribute length",
-            PacketFault::OtherCode => "code not taken",
-            PacketFault::WrongAuthenticator => "wrong authenticator",
-        }
+// The number of a packet's fault.
+fn packet_number(fault: PacketFault) -> u8
+    ensures { result ≡ packet_number fault }
+{
+    match fault {
+        PacketFault::TooShort => 40,
+        PacketFault::LengthOutOfRange => 41,
+        PacketFault::CutShort => 42,
+        PacketFault::BadAttribute(_) => 43,
+        PacketFault::CodeNotTaken => 44,
+        PacketFault::WrongAuthenticator => 45,
+        PacketFault::Memory => MEMORY,
     }
 }
 
-impl PolicyKind {
-    fn number(self) -> u8
-        ensures { result ≡ policy_number self }
-    {
-        match self {
-            PolicyKind::NotValue => 30,
-            PolicyKind::TooLong => 31,
-            PolicyKind::Unknown => 32,
-            PolicyKind::NotWritable => 33,
-            PolicyKind::Unreadable => 50,
-            PolicyKind::Misplaced => 51,
-            PolicyKind::TooDeep => 53,
-            PolicyKind::TooLarge => 54,
-            PolicyKind::OtherType => 55,
-            PolicyKind::Memory => MEMORY,
-        }
+// What the line of a packet's fault says.
+fn packet_text(fault: PacketFault) -> &'static str
+    ensures { result.now ≡ packet_text fault }
+{
+    match fault {
+        PacketFault::TooShort => "fewer than 20 octets",
+        PacketFault::LengthOutOfRange => "bad packet length",
+        PacketFault::CutShort => "packet cut short",
+        PacketFault::BadAttribute(_) => "bad attribute length",
+        PacketFault::CodeNotTaken => "code not taken",
+        PacketFault::WrongAuthenticator => "wrong authenticator",
+        PacketFault::Memory => "out of memory",
     }
+}
 
-    fn text(self) -> &'static str
-        ensures { result.now ≡ policy_text self }
-    {
-        match self {
-            PolicyKind::NotValue => "not a value",
-            PolicyKind::TooLong => "too long",
-            PolicyKind::Unknown => "unknown attribute",
-            PolicyKind::NotWritable => "not writable",
-            PolicyKind::Unreadable => "unreadable token",
-            PolicyKind::Misplaced => "token does not fit",
-            PolicyKind::TooDeep => "nested too deep",
-            PolicyKind::TooLarge => "policy too large",
-            PolicyKind::OtherType => "types differ",
-            PolicyKind::Memory => "out of memory",
-        }
+// The number of a policy's fault.
+fn policy_number(kind: PolicyKind) -> u8
+    ensures { result ≡ policy_number kind }
+{
+    match kind {
+        PolicyKind::NotValue => 30,
+        PolicyKind::TooLong => 31,
+        PolicyKind::Unknown => 32,
+        PolicyKind::NotWritable => 33,
+        PolicyKind::Unreadable => 50,
+        PolicyKind::Misplaced => 51,
+        PolicyKind::TooDeep => 53,
+        PolicyKind::TooLarge => 54,
+        PolicyKind::OtherType => 55,
+        PolicyKind::Memory => MEMORY,
+    }
+}
+
+// What the line of a policy's fault says.
+fn policy_text(kind: PolicyKind) -> &'static str
+    ensures { result.now ≡ policy_text kind }
+{
+    match kind {
+        PolicyKind::NotValue => "not a value",
+        PolicyKind::TooLong => "too long",
+        PolicyKind::Unknown => "unknown attribute",
+        PolicyKind::NotWritable => "not writable",
+        PolicyKind::Unreadable => "unreadable token",
+        PolicyKind::Misplaced => "token does not fit",
+        PolicyKind::TooDeep => "nested too deep",
+        PolicyKind::TooLarge => "policy too large",
+        PolicyKind::OtherType => "types differ",
+        PolicyKind::Memory => "out of memory",
     }
 }
 
@@ -269,9 +257,9 @@ impl Fault {
             Fault::Memory => MEMORY,
             Fault::Dictionary(fault) => dict_number(fault.kind),
             Fault::Request(fault) => line_number(fault.kind),
-            Fault::Packet(fault) => fault.number(),
+            Fault::Packet(fault) => packet_number(fault),
             Fault::PacketTooLong => 46,
-            Fault::Policy(fault) => fault.kind.number(),
+            Fault::Policy(fault) => policy_number(fault.kind),
         }
     }
 
@@ -291,9 +279,9 @@ impl Fault {
             Fault::Memory => "out of memory",
             Fault::Dictionary(fault) => dict_text(fault.kind),
             Fault::Request(fault) => line_text(fault.kind),
-            Fault::Packet(fault) => fault.text(),
+            Fault::Packet(fault) => packet_text(fault),
             Fault::PacketTooLong => "packet too long",
-            Fault::Policy(fault) => fault.kind.text(),
+            Fault::Policy(fault) => policy_text(fault.kind),
         }
     }
 

@@ -2,6 +2,7 @@
 
 use avp_dict::FileSet;
 use avp_lists::Octets;
+use avp_unlang::Code;
 
 /// What is to be done.
 #[derive(Clone, Copy, Debug, PartialEq, Eq)]
@@ -27,16 +28,6 @@ pub enum Form {
     Access,
     /// The lines of an Accounting-Request (RFC 2866, section 4.1).
     Accounting,
-}
-
-/// What the run of a policy came to.
-#[derive(Clone, Copy, Debug, PartialEq, Eq)]
-pub enum Code {
-    Ok,
-    Noop,
-    Updated,
-    Fail,
-    Reject,
 }
 
 /// What is asked for, over octets that were read.

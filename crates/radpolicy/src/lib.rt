@@ -4,25 +4,28 @@
 
 mod answers;
 mod checks;
-mod cursors;
 mod fault_lines;
 mod faults;
 mod inputs;
 mod jobs;
 mod outputs;
-mod policies;
-#[cfg(test)]
-mod policy_tests;
+mod plans;
+mod received;
+mod replies;
 mod reports;
-mod sections;
-mod tokens;
-mod updates;
+mod running;
+mod scripts;
+mod secrets;
+mod walking;
+#[cfg(test)]
+mod word_tests;
 mod words;
 
 pub use answers::answer;
 pub use fault_lines::print_fault;
-pub use faults::{Fault, PacketFault, PolicyFault, PolicyKind, status};
+pub use faults::{Fault, status};
 pub use inputs::{MOST_OCTETS, read_input};
-pub use jobs::{Code, Command, Form, Job, Outcome};
+pub use jobs::{Command, Form, Job, Outcome};
 pub use outputs::{Output, OutputError, WriteOutput};
-pub use words::{Plan, help_text, read_words};
+pub use plans::Plan;
+pub use words::{help_text, read_words};

@@ -1,19 +1,18 @@
-//! The report of a run.
+//! The texts of reports.
 
-ghost use Rattle.std.specs.Prelude.{◌≡◌, ◌≤◌, ◌++◌, codes, length, sum_by, IfOk, IsTrue, OnOk};
+ghost use Rattle.std.specs.Prelude.{◌≡◌, ◌++◌, codes, IfOk, IsTrue, OnOk};
 ghost use Rattle.avp_lists.specs.History.{present};
 ghost use Rattle.avp_lists.specs.declared.lists.State.{State};
 ghost use Rattle.avp_dict.specs.Limits.{fits};
-ghost use Rattle.radpolicy.specs.Fitting.{AllFit, SectionsFit, StateFits};
-ghost use Rattle.radpolicy.specs.Reports.{code_text, list_text, pair_line, result_line, run_report, state_text};
-ghost use Rattle.radpolicy.specs.Updates.{end_of, run_end};
+ghost use Rattle.avp_unlang.specs.Resolutions.{StateFits};
+ghost use Rattle.radpolicy.specs.Fitting.{AllFit};
+ghost use Rattle.radpolicy.specs.Reports.{code_text, list_text, packet_line, packet_text, pair_line, result_line, state_text};
 
-use crate::cursors::MOST_UPDATE_LINES;
-use crate::jobs::{Code, Outcome};
-use crate::sections::Section;
-use crate::updates::{Ending, run_sections};
+use crate::checks::push_count;
 use avp_dict::Dictionary;
 use avp_lists::{List, Pair, Store};
+use avp_packet::Packet;
+use avp_unlang::Code;
 use std::alloc::{AllocError, Global};
 
 fn push_pair(text: &mut Vec<u8>, dictionary: &Dictionary, pair: &Pair) -> Result<(), AllocError>
@@ -48,8 +47,8 @@ fn push_list(
     Ok(())
 }
 
-// The three present lists.
-fn push_lists<S: Store>(
+/// The three present lists.
+pub(crate) fn push_lists<S: Store>(
     text: &mut Vec<u8>,
     dictionary: &Dictionary,
     store: &S,
@@ -78,7 +77,7 @@ fn push_lists<S: Store>(
     Ok(())
 }
 
-fn code_text(code: Code) -> &'static str
+pub(crate) fn code_text(code: Code) -> &'static str
     ensures { result.now ≡ code_text code }
 {
     match code {
@@ -102,51 +101,57 @@ fn push_result(text: &mut Vec<u8>, code: Code, stopped: bool) -> Result<(), Allo
     Ok(())
 }
 
-// The number of update lines.
-fn line_count(sections: &[Section]) -> usize
-    requires { sum_by length sections.now ≤ MOST_UPDATE_LINES }
-    ensures { result ≡ sum_by length sections.now }
-{
-    sections
-        .iter()
-        .map(|section| section.as_slice().len())
-        .sum()
-}
-
-impl Ending {
-    // The last code of a run that ended so, and whether it was stopped.
-    fn result(self) -> (Code, bool)
-        ensures code { (s : State) → result.0 ≡ (end_of self s).code }
-        ensures stopped { (s : State) → result.1 ≡ (end_of self s).stopped }
-    {
-        match self {
-            Ending::Finished => (Code::Ok, false),
-            Ending::Failed => (Code::Fail, true),
-        }
-    }
-}
-
-/// Runs the sections over a store, and writes the report of the run.
-pub(crate) fn report_of_run<S: Store>(
+/// The lists and the result of a run.
+pub(crate) fn text_of_run<S: Store>(
     alloc: Global,
     dictionary: &Dictionary,
-    store: S,
-    sections: Vec<Section>,
-) -> Result<(Vec<u8>, Outcome), AllocError>
-    requires short { sum_by length sections.items ≤ MOST_UPDATE_LINES }
-    requires lines { SectionsFit dictionary.now sections.items }
-    requires pairs { StateFits dictionary.now (present (S.history store)) }
-    ensures { IfOk result (λ report. run_report dictionary.now (run_end sections.items (present (S.history store))) ≡ record { text = report.0.items; outcome = report.1 }) }
+    store: &S,
+    code: Code,
+    stopped: bool,
+) -> Result<Vec<u8>, AllocError>
+    requires { StateFits dictionary.now (present (S.history store.now)) }
+    ensures { IfOk result (λ text. text.items ≡ state_text dictionary.now (present (S.history store.now)) ++ result_line code stopped) }
 {
-    let mut store = store;
-    store.reserve(1 + line_count(sections.as_slice()))?;
-    let (code, stopped) = run_sections(&mut store, sections)?.result();
     let mut text = Vec::new(alloc);
-    push_lists(&mut text, dictionary, &store)?;
+    push_lists(&mut text, dictionary, store)?;
     push_result(&mut text, code, stopped)?;
-    let outcome = Outcome {
-        code: Some(code),
-        stopped,
-    };
-    Ok((text, outcome))
+    Ok(text)
+}
+
+/// The line of a packet.
+pub(crate) fn push_packet(text: &mut Vec<u8>, octets: &[u8]) -> Result<(), AllocError>
+    ensures { OnOk result (text.new.items ≡ text.old.items ++ packet_line octets.now) }
+{
+    let alloc = *text.allocator();
+    text.extend_from_slice(b"packet ")?;
+    text.extend_from_slice(hex::encode(alloc, octets)?.as_bytes())?;
+    text.extend_from_slice(b"\n")?;
+    Ok(())
+}
+
+/// The line of a run that sends no packet.
+pub(crate) fn push_no_packet(text: &mut Vec<u8>) -> Result<(), AllocError>
+    ensures { OnOk result (text.new.items ≡ text.old.items ++ codes "packet none\n") }
+{
+    text.extend_from_slice(b"packet none\n")?;
+    Ok(())
+}
+
+/// The head of a packet, and the request list.
+pub(crate) fn text_of_packet(
+    alloc: Global,
+    dictionary: &Dictionary,
+    packet: &Packet,
+) -> Result<Vec<u8>, AllocError>
+    requires { AllFit dictionary.now packet.now.list }
+    ensures { IfOk result (λ text. text.items ≡ packet_text dictionary.now packet.now) }
+{
+    let mut text = Vec::new(alloc);
+    push_count(&mut text, "code", usize::from(packet.code))?;
+    push_count(&mut text, "identifier", usize::from(packet.id))?;
+    text.extend_from_slice(b"authenticator ")?;
+    text.extend_from_slice(hex::encode(alloc, packet.authenticator)?.as_bytes())?;
+    text.extend_from_slice(b"\n")?;
+    push_list(&mut text, dictionary, "request", packet.list.as_slice())?;
+    Ok(text)
 }

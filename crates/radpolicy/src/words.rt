@@ -1,37 +1,28 @@
 //! The words of the command line. All calls of `clap` stand here.
 
-ghost use Rattle.std.specs.Prelude.{◌≡◌, ◌≢◌, ◌<◌, length, true, false, All, IfOk, IfErr};
+ghost use Rattle.std.specs.Prelude.{◌≡◌, ◌<◌, length, is_some, true, false, IfOk, IfErr};
+ghost use Rattle.radpolicy.specs.declared.jobs.Form.TheVariants.{Hex};
 ghost use Rattle.radpolicy.specs.Faults.{IsWordFault};
-ghost use Rattle.radpolicy.specs.Plans.{AreDistinct, IsSound, asked_by_plan, names_of_paths};
+ghost use Rattle.radpolicy.specs.Plans.{AreDistinct, EncodeRules, IsSound, RunRules, StepRules, asked_by_plan, names_of_paths};
+ghost use Rattle.radpolicy.specs.code.Options.{asked_by_options};
 
 use crate::faults::Fault;
 use crate::jobs::{Command, Form};
-use avp_dict::last_component;
+use crate::plans::{Plan, has_distinct_names};
 use clap::error::ErrorKind;
 use clap::{Arg, ArgAction, ArgMatches};
 use std::alloc::{AllocError, Global};
 use std::convert::AsStr;
 
-/// What the words of a command line ask for. Files are named by their paths, as they were given.
-#[derive(Debug, Drop)]
-pub struct Plan<'a> {
-    pub command: Command,
-    pub form: Form,
-    /// 0 where none was asked for.
-    pub identifier: u8,
-    pub authenticator: Option<[u8; 16]>,
-    /// The dictionary files, the main one first.
-    pub dictionaries: Vec<&'a str>,
-    /// The request; standard input where there is none. A check reads none.
-    pub request: Option<&'a str>,
-    pub policy: Option<&'a str>,
-    pub secret: Option<&'a str>,
-    pub script: Option<&'a str>,
-}
-
 // The commands and the options, as they are written. A getter answers a name that a command lacks
 // as an option that was not given, so each is written here alone.
 const RUN: &str = "run";
+
+const STEP: &str = "step";
+
+const ENCODE: &str = "encode";
+
+const DECODE: &str = "decode";
 
 const CHECK: &str = "check";
 
@@ -39,22 +30,71 @@ const REQUEST: &str = "request";
 
 const POLICY: &str = "policy";
 
+const HEX: &str = "hex";
+
+const ACCOUNTING: &str = "acct";
+
+const IDENTIFIER: &str = "identifier";
+
+const SECRET: &str = "secret";
+
+const AUTHENTICATOR: &str = "authenticator";
+
+const SCRIPT: &str = "script";
+
 const DICTIONARY: &str = "dictionary";
 
-fn request_option<'a>(alloc: Global) -> Arg<'a> {
-    Arg::new(alloc, REQUEST)
-        .short('f')
+fn file_option<'a>(alloc: Global, name: &'a str, help: &'a str) -> Arg<'a> {
+    Arg::new(alloc, name)
         .value_name("FILE")
         .action(ArgAction::Set)
-        .help("The request; standard input if left out")
+        .help(help)
+}
+
+fn request_option<'a>(alloc: Global) -> Arg<'a> {
+    file_option(alloc, REQUEST, "The request; standard input if left out").short('f')
 }
 
 fn policy_option<'a>(alloc: Global) -> Arg<'a> {
-    Arg::new(alloc, POLICY)
-        .long(POLICY)
-        .value_name("FILE")
+    file_option(alloc, POLICY, "The policy").long(POLICY)
+}
+
+fn script_option<'a>(alloc: Global) -> Arg<'a> {
+    file_option(alloc, SCRIPT, "The script: forward, back, start, end, show").long(SCRIPT)
+}
+
+fn secret_option<'a>(alloc: Global) -> Arg<'a> {
+    file_option(alloc, SECRET, "The shared secret, in the file's first line").short('S')
+}
+
+fn hex_option<'a>(alloc: Global) -> Arg<'a> {
+    Arg::new(alloc, HEX)
+        .long(HEX)
+        .action(ArgAction::SetTrue)
+        .help("The request is a packet in hexadecimal digits")
+}
+
+fn accounting_option<'a>(alloc: Global) -> Arg<'a> {
+    Arg::new(alloc, ACCOUNTING)
+        .long(ACCOUNTING)
+        .action(ArgAction::SetTrue)
+        .help("The request's lines are an Accounting-Request")
+}
+
+fn identifier_option<'a>(alloc: Global) -> Arg<'a> {
+    Arg::new(alloc, IDENTIFIER)
+        .short('i')
+        .value_name("NUMBER")
         .action(ArgAction::Set)
-        .help("The policy")
+        .help("The packet's Identifier, 0 to 255; 0 if left out")
+}
+
+fn authenticator_option<'a>(alloc: Global) -> Arg<'a> {
+    Arg::new(alloc, AUTHENTICATOR)
+        .long(AUTHENTICATOR)
+        .value_name("HEX")
+        .action(ArgAction::Set)
+        .help("The Request Authenticator, 32 hexadecimal digits")
 }
 
 fn dictionary_files<'a>(alloc: Global) -> Arg<'a> {
@@ -70,13 +110,49 @@ fn run_command<'a>(alloc: Global) -> Result<clap::Command<'a>, AllocError> {
     clap::Command::new(alloc, RUN)
         .about("Runs a policy over a request")
         .arg(request_option(alloc))?
+        .arg(hex_option(alloc))?
+        .arg(accounting_option(alloc))?
+        .arg(identifier_option(alloc))?
+        .arg(secret_option(alloc))?
+        .arg(authenticator_option(alloc))?
         .arg(policy_option(alloc).required(true))?
+        .arg(dictionary_files(alloc))
+}
+
+fn step_command<'a>(alloc: Global) -> Result<clap::Command<'a>, AllocError> {
+    clap::Command::new(alloc, STEP)
+        .about("Walks through a run of a policy forward and back")
+        .arg(request_option(alloc))?
+        .arg(hex_option(alloc))?
+        .arg(secret_option(alloc))?
+        .arg(policy_option(alloc).required(true))?
+        .arg(script_option(alloc).required(true))?
+        .arg(dictionary_files(alloc))
+}
+
+fn encode_command<'a>(alloc: Global) -> Result<clap::Command<'a>, AllocError> {
+    clap::Command::new(alloc, ENCODE)
+        .about("Makes the packet of a request's lines")
+        .arg(request_option(alloc))?
+        .arg(accounting_option(alloc))?
+        .arg(identifier_option(alloc))?
+        .arg(secret_option(alloc).required(true))?
+        .arg(authenticator_option(alloc))?
+        .arg(dictionary_files(alloc))
+}
+
+fn decode_command<'a>(alloc: Global) -> Result<clap::Command<'a>, AllocError> {
+    clap::Command::new(alloc, DECODE)
+        .about("Shows a request's packet in hexadecimal digits as lines")
+        .arg(request_option(alloc))?
+        .arg(secret_option(alloc).required(true))?
         .arg(dictionary_files(alloc))
 }
 
 fn check_command<'a>(alloc: Global) -> Result<clap::Command<'a>, AllocError> {
     clap::Command::new(alloc, CHECK)
-        .about("Reads dictionary files and counts what they hold")
+        .about("Reads dictionary files and a policy, and counts what they hold")
+        .arg(policy_option(alloc))?
         .arg(dictionary_files(alloc))
 }
 
@@ -87,6 +163,9 @@ fn program<'a>(alloc: Global) -> Result<clap::Command<'a>, AllocError> {
         .subcommand_required(true)
         .disable_help_subcommand(true)
         .subcommand(run_command(alloc)?)?
+        .subcommand(step_command(alloc)?)?
+        .subcommand(encode_command(alloc)?)?
+        .subcommand(decode_command(alloc)?)?
         .subcommand(check_command(alloc)?)
 }
 
@@ -99,30 +178,6 @@ fn fault_of(error: &clap::Error) -> Fault
         ErrorKind::OutOfMemory => Fault::Memory,
         _ => Fault::Usage,
     }
-}
-
-// Whether one of the paths ends in this name.
-fn has_name(paths: &[&str], name: &[u8]) -> bool
-    ensures { result ≡ false → All (λ taken. taken ≢ name.now) (names_of_paths paths.now) }
-{
-    for path in paths {
-        if last_component(path.as_bytes()) == name {
-            return true;
-        }
-    }
-    false
-}
-
-// Whether no two paths end in one name.
-fn has_distinct_names(paths: &[&str]) -> bool
-    ensures { result ≡ true → AreDistinct (names_of_paths paths.now) }
-{
-    for (i, path) in paths.iter().enumerate() {
-        if has_name(&paths[..i], last_component(path.as_bytes())) {
-            return false;
-        }
-    }
-    true
 }
 
 // The dictionary files; the parse has seen to it that there is one.
@@ -141,21 +196,189 @@ fn files_of<'a>(alloc: Global, found: &ArgMatches<'a>) -> Result<Vec<&'a str>, F
     Ok(Vec::from_slice(alloc, files)?)
 }
 
+// A number of decimal digits, 0 to 255.
+fn identifier_of(word: &str) -> Result<u8, Fault>
+    ensures fault { IfErr result IsWordFault }
+{
+    if word.is_empty() || !word.as_bytes().iter().all(|octet| octet.is_ascii_digit()) {
+        return Err(Fault::OptionValue);
+    }
+    match word.parse::<u8>() {
+        Ok(identifier) => Ok(identifier),
+        Err(_) => Err(Fault::OptionValue),
+    }
+}
+
+// The octets of 32 hexadecimal digits.
+fn authenticator_of(word: &str) -> Result<[u8; 16], Fault>
+    ensures fault { IfErr result IsWordFault }
+{
+    let mut authenticator = [0; 16];
+    match hex::decode_to_slice(word, &mut authenticator) {
+        Ok(()) => Ok(authenticator),
+        Err(_) => Err(Fault::OptionValue),
+    }
+}
+
+// What the options say of the packet.
+#[derive(Clone, Copy, Drop)]
+struct PacketOptions<'a> {
+    form: Form,
+    identifier: Option<u8>,
+    authenticator: Option<[u8; 16]>,
+    secret: Option<&'a str>,
+}
+
+fn form_of(hex: bool, accounting: bool) -> Result<Form, Fault>
+    ensures fault { IfErr result IsWordFault }
+{
+    match (hex, accounting) {
+        (true, true) => Err(Fault::OptionValue),
+        (true, false) => Ok(Form::Hex),
+        (false, true) => Ok(Form::Accounting),
+        (false, false) => Ok(Form::Access),
+    }
+}
+
+fn packet_options<'a>(found: &ArgMatches<'a>) -> Result<PacketOptions<'a>, Fault>
+    ensures fault { IfErr result IsWordFault }
+{
+    let identifier = match found.get_str(IDENTIFIER) {
+        Some(word) => Some(identifier_of(word)?),
+        None => None,
+    };
+    let authenticator = match found.get_str(AUTHENTICATOR) {
+        Some(word) => Some(authenticator_of(word)?),
+        None => None,
+    };
+    Ok(PacketOptions {
+        form: form_of(found.get_flag(HEX), found.get_flag(ACCOUNTING))?,
+        identifier,
+        authenticator,
+        secret: found.get_str(SECRET),
+    })
+}
+
+// Whether the options of `run` go together.
+fn is_run(options: &PacketOptions<'_>) -> bool
+    ensures { result ≡ true → RunRules (asked_by_options options.now) }
+{
+    match options.form {
+        Form::Hex => {
+            options.secret.is_some()
+                && options.identifier.is_none()
+                && options.authenticator.is_none()
+        }
+        Form::Access => options.authenticator.is_some() == options.secret.is_some(),
+        Form::Accounting => options.authenticator.is_none(),
+    }
+}
+
+// Whether the options of `step` go together.
+fn is_step(options: &PacketOptions<'_>) -> bool
+    ensures { result ≡ true → StepRules (asked_by_options options.now) }
+{
+    match options.form {
+        Form::Hex => options.secret.is_some(),
+        Form::Access | Form::Accounting => options.secret.is_none(),
+    }
+}
+
+// Whether the options of `encode` go together.
+fn is_encode(options: &PacketOptions<'_>) -> bool
+    ensures { result ≡ true → EncodeRules (asked_by_options options.now) }
+{
+    match options.form {
+        Form::Hex => false,
+        Form::Access => options.secret.is_some() && options.authenticator.is_some(),
+        Form::Accounting => options.secret.is_some() && options.authenticator.is_none(),
+    }
+}
+
 // The plan of the words of `run`. The parse has seen to it that there is a policy.
 fn run_plan<'a>(alloc: Global, found: &ArgMatches<'a>) -> Result<Plan<'a>, Fault>
     ensures plan { IfOk result (λ plan. IsSound (asked_by_plan plan)) }
     ensures fault { IfErr result IsWordFault }
 {
     let policy = found.get_str(POLICY).ok_or(Fault::Usage)?;
+    let options = packet_options(found)?;
+    if !is_run(&options) {
+        return Err(Fault::OptionValue);
+    }
     Ok(Plan {
         command: Command::Run,
-        form: Form::Access,
+        form: options.form,
+        identifier: options.identifier.unwrap_or(0),
+        authenticator: options.authenticator,
+        dictionaries: files_of(alloc, found)?,
+        request: found.get_str(REQUEST),
+        policy: Some(policy),
+        secret: options.secret,
+        script: None,
+    })
+}
+
+// The plan of the words of `step`. The parse has seen to it that there are a policy and a script.
+fn step_plan<'a>(alloc: Global, found: &ArgMatches<'a>) -> Result<Plan<'a>, Fault>
+    ensures plan { IfOk result (λ plan. IsSound (asked_by_plan plan)) }
+    ensures fault { IfErr result IsWordFault }
+{
+    let policy = found.get_str(POLICY).ok_or(Fault::Usage)?;
+    let script = found.get_str(SCRIPT).ok_or(Fault::Usage)?;
+    let options = packet_options(found)?;
+    if !is_step(&options) {
+        return Err(Fault::OptionValue);
+    }
+    Ok(Plan {
+        command: Command::Step,
+        form: options.form,
+        identifier: options.identifier.unwrap_or(0),
+        authenticator: options.authenticator,
+        dictionaries: files_of(alloc, found)?,
+        request: found.get_str(REQUEST),
+        policy: Some(policy),
+        secret: options.secret,
+        script: Some(script),
+    })
+}
+
+// The plan of the words of `encode`. The parse has seen to it that there is a secret.
+fn encode_plan<'a>(alloc: Global, found: &ArgMatches<'a>) -> Result<Plan<'a>, Fault>
+    ensures plan { IfOk result (λ plan. IsSound (asked_by_plan plan)) }
+    ensures fault { IfErr result IsWordFault }
+{
+    let options = packet_options(found)?;
+    if !is_encode(&options) {
+        return Err(Fault::OptionValue);
+    }
+    Ok(Plan {
+        command: Command::Encode,
+        form: options.form,
+        identifier: options.identifier.unwrap_or(0),
+        authenticator: options.authenticator,
+        dictionaries: files_of(alloc, found)?,
+        request: found.get_str(REQUEST),
+        policy: None,
+        secret: options.secret,
+        script: None,
+    })
+}
+
+// The plan of the words of `decode`. The parse has seen to it that there is a secret.
+fn decode_plan<'a>(alloc: Global, found: &ArgMatches<'a>) -> Result<Plan<'a>, Fault>
+    ensures plan { IfOk result (λ plan. IsSound (asked_by_plan plan)) }
+    ensures fault { IfErr result IsWordFault }
+{
+    let secret = found.get_str(SECRET).ok_or(Fault::Usage)?;
+    Ok(Plan {
+        command: Command::Decode,
+        form: Form::Hex,
         identifier: 0,
         authenticator: None,
         dictionaries: files_of(alloc, found)?,
         request: found.get_str(REQUEST),
-        policy: Some(policy),
-        secret: None,
+        policy: None,
+        secret: Some(secret),
         script: None,
     })
 }
@@ -172,7 +395,7 @@ fn check_plan<'a>(alloc: Global, found: &ArgMatches<'a>) -> Result<Plan<'a>, Fau
         authenticator: None,
         dictionaries: files_of(alloc, found)?,
         request: None,
-        policy: None,
+        policy: found.get_str(POLICY),
         secret: None,
         script: None,
     })
@@ -189,6 +412,9 @@ pub fn read_words<'a, S: AsStr>(alloc: Global, words: &'a [S]) -> Result<Plan<'a
         .map_err(|error| fault_of(&error))?;
     match matches.subcommand() {
         Some((RUN, found)) => run_plan(alloc, found),
+        Some((STEP, found)) => step_plan(alloc, found),
+        Some((ENCODE, found)) => encode_plan(alloc, found),
+        Some((DECODE, found)) => decode_plan(alloc, found),
         Some((CHECK, found)) => check_plan(alloc, found),
         _ => Err(Fault::Usage),
     }
@@ -199,101 +425,5 @@ pub fn help_text<'a, S: AsStr>(alloc: Global, words: &'a [S]) -> Result<String, 
     match program(alloc)?.try_get_matches_from(words) {
         Ok(_) => String::from_str(alloc, ""),
         Err(error) => error.to_string(alloc),
-    }
-}
-
-#[cfg(test)]
-mod tests {
-    use super::*;
-    use std::test::Fail;
-
-    // The number of the fault of these words; 100 where they are a plan.
-    fn number(answer: Result<Plan<'_>, Fault>) -> u8 {
-        match answer {
-            Ok(_) => 100,
-            Err(fault) => fault.number(),
-        }
-    }
-
-    #[test]
-    fn reads_a_run(rt: HostRuntime) -> Result<(), Fail> {
-        let words = ["radpolicy", "run", "d", "-fr", "--policy=p", "x/e"];
-        let plan = read_words(rt.alloc(), words.as_slice()).map_err(|_| "a plan")?;
-        assert!(rt; plan.command == Command::Run);
-        assert!(rt; plan.dictionaries.as_slice() == ["d", "x/e"].as_slice());
-        assert!(rt; plan.request == Some("r"));
-        assert!(rt; plan.policy == Some("p"));
-        let words = ["radpolicy", "run", "--policy", "p", "--", "d", "-f"];
-        let plan = read_words(rt.alloc(), words.as_slice()).map_err(|_| "a plan")?;
-        assert!(rt; plan.dictionaries.as_slice() == ["d", "-f"].as_slice());
-        assert!(rt; plan.request == None);
-        Ok(())
-    }
-
-    #[test]
-    fn numbers_of_faults(rt: HostRuntime) {
-        let cases: [(&[&str], u8); 39] = [
-            (&[], 1),
-            (&[""], 1),
-            (&["--policy", "p", "d"], 1),
-            (&["walk", "--policy", "p", "d"], 1),
-            (&["step", "--policy", "p", "--script", "s", "d"], 1),
-            (&["encode", "-S", "s", "d"], 1),
-            (&["decode", "-S", "s", "d"], 1),
-            (&["check", "d"], 100),
-            (&["check", "d", "x/e"], 100),
-            (&["check"], 1),
-            (&["check", "--policy", "p", "d"], 1),
-            (&["check", "-f", "r", "d"], 1),
-            (&["check", "x/d", "d"], 2),
-            (&["check", "--help"], 0),
-            (&["help"], 1),
-            (&["--version"], 1),
-            (&["--help"], 0),
-            (&["-h"], 0),
-            (&["run", "--help"], 0),
-            (&["run", "-h", "--policy", "p", "a/d", "b/d"], 0),
-            (&["run"], 1),
-            (&["run", "d"], 1),
-            (&["run", "--policy", "p"], 1),
-            (&["run", "--policy", "p", "d"], 100),
-            (&["run", "--policy", "p", "d", "-f"], 1),
-            (&["run", "--policy", "p", "d", "-x"], 1),
-            (&["run", "--pol", "p", "d"], 1),
-            (&["run", "--policy", "p", "--policy", "p", "d"], 1),
-            (&["run", "--policy", "p", "-f", "r", "-f", "r", "d"], 1),
-            (&["run", "--policy", "p", "-i", "5", "d"], 1),
-            (&["run", "--policy", "p", "-S", "s", "d"], 1),
-            (&["run", "--policy", "p", "--hex", "d"], 1),
-            (&["run", "--policy", "p", "--acct", "d"], 1),
-            (&["run", "--policy", "p", "--authenticator", "00", "d"], 1),
-            (&["run", "--policy", "p", "--script", "s", "d"], 1),
-            (&["run", "--policy", "p", "a/d", "b/d"], 2),
-            (&["run", "--policy", "p", "d", "e", "d"], 2),
-            (&["run", "--policy", "p", "a/", "b/"], 2),
-            (&["run", "--pol", "p", "d", "d"], 1),
-        ];
-        for (i, (words, want)) in cases.iter().enumerate() {
-            let got = number_after_name(rt.alloc(), words);
-            assert_eq!(rt; got, *want, "case {i}");
-        }
-    }
-
-    // The number of the fault of these words after the program's name.
-    fn number_after_name(alloc: Global, words: &[&str]) -> u8 {
-        let mut all = Vec::new(alloc);
-        if all.push("radpolicy").is_err() || all.extend_from_slice(words).is_err() {
-            return 9;
-        }
-        number(read_words(alloc, all.as_slice()))
-    }
-
-    #[test]
-    fn shows_help(rt: HostRuntime) -> Result<(), Fail> {
-        let text = help_text(rt.alloc(), ["radpolicy", "run", "--help"].as_slice())?;
-        assert!(rt;
-            text.as_str().contains("Usage: radpolicy run [OPTIONS] --policy <FILE> <DICTIONARY>...")
-        );
-        Ok(())
     }
 }

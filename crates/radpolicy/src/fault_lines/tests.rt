@@ -2,11 +2,13 @@ ghost use Rattle.std.specs.Prelude.{◌≡◌, true};
 ghost use Rattle.radpolicy.specs.Faults.{IsPrintedWith};
 
 use super::*;
-use crate::faults::{PolicyFault, PolicyKind, status};
+use crate::faults::status;
 use crate::outputs::WriteOutput;
 use crate::outputs::tests::Narrow;
 use avp_dict::{DictFault, DictKind, LineFault, LineKind};
 use avp_lists::Octets;
+use avp_packet::PacketFault;
+use avp_unlang::{PolicyFault, PolicyKind};
 use std::alloc::{AllocError, Global};
 use std::test::Fail;
 
@@ -46,7 +48,7 @@ fn in_policy(line: usize, kind: PolicyKind) -> Fault {
 #[test]
 fn shows_each_kind_of_place(rt: HostRuntime) -> Result<(), Fail> {
     let files = two_files(rt.alloc())?;
-    let at = PacketFault::BadAttribute { offset: 20 };
+    let at = PacketFault::BadAttribute(20);
     let cases: [(Fault, u8, &str); 18] = [
         (Fault::Usage, 2, "E01: usage"),
         (Fault::OptionValue, 2, "E02: option value"),
@@ -77,7 +79,7 @@ fn shows_each_kind_of_place(rt: HostRuntime) -> Result<(), Fail> {
         ),
         (in_request(1, LineKind::Memory), 4, "E09: out of memory"),
         (
-            Fault::Packet(PacketFault::Short),
+            Fault::Packet(PacketFault::TooShort),
             2,
             "E40: fewer than 20 octets",
         ),

@@ -1,0 +1,205 @@
+//! Walks by a script, forward and back over the run of a policy.
+
+use crate::data::{NESTED_TRANSACTIONS, TEST_DICTIONARY};
+use crate::policies::expect_size;
+use crate::program::{Narrow, Source, expect_fault, expect_output, job_of};
+use crate::runs::ABSENT_SOURCE;
+use radpolicy::{Fault, WriteOutput, answer, read_words, status};
+use std::alloc::Global;
+use std::process::Abort;
+use std::test::Fail;
+
+const STEP: [&str; 7] = ["radpolicy", "step", "--policy", "p", "--script", "s", "d"];
+
+// Goes to the end, back into the transactions, and to the start.
+const THERE_AND_BACK: &[u8] = b"end back back show start back";
+
+const FAILED_TRANSACTION: &[u8] =
+    b"update reply { Class += 0x01 Reply-Message += \"a\" Class += 0x02 Class += 0x01 }
+transaction {
+update reply { Class += 0x09 }
+fail }";
+
+const EDITED_TRANSACTIONS: &[u8] = b"update reply { Class += 0x01 Class += 0x02 Class += 0x01 }
+transaction {
+  update reply { Class -= 0x01 }
+  transaction {
+    update reply { Class := 0x03 }
+    fail
+  }
+  update reply { Class += 0x04 }
+  reject
+}
+update reply { Class := 0x05 }
+";
+
+/// The walk by the script over the policy's run on request lines prints this.
+pub fn expect_walk<'a>(
+    rt: &impl Abort,
+    alloc: Global,
+    script: &'a [u8],
+    request: &'a [u8],
+    policy: &'a [u8],
+    wanted: &[u8],
+) -> Result<(), Fail> {
+    let sources: [Source; 4] = [
+        ("d", TEST_DICTIONARY),
+        ("-", request),
+        ("p", policy),
+        ("s", script),
+    ];
+    expect_output(rt, alloc, &STEP, &sources, wanted)
+}
+
+#[test]
+fn walks_back_into_a_refused_transaction(rt: HostRuntime) -> Result<(), Fail> {
+    expect_walk(
+        &rt,
+        rt.alloc(),
+        THERE_AND_BACK,
+        b"",
+        NESTED_TRANSACTIONS,
+        b"14 line 14 reject
+13 rollback 2 reject
+12 word 12 reject
+request
+reply
+  Class = 0x03
+  Reply-Message = \"m\"
+control
+0 start ok
+0 start ok stays
+",
+    )
+}
+
+#[test]
+fn walks_back_from_a_failed_line_and_fails_again(rt: HostRuntime) -> Result<(), Fail> {
+    expect_walk(
+        &rt,
+        rt.alloc(),
+        b"end back show forward",
+        b"User-Name = \"u\"\n",
+        ABSENT_SOURCE,
+        b"3 line 4 failed P1 fail
+2 line 3 ok
+request
+  User-Name = \"u\"
+reply
+  Class = 0x01
+  Reply-Message = \"x\"
+control
+3 line 4 failed P1 fail
+",
+    )
+}
+
+#[test]
+fn refuses_an_unknown_script_word(rt: HostRuntime) -> Result<(), Fail> {
+    let sources: [Source; 2] = [("d", TEST_DICTIONARY), ("s", b"show\njump")];
+    let wanted = b"radpolicy: E06 script:2: unknown script word\n";
+    expect_fault(&rt, rt.alloc(), &STEP, &sources, wanted, 2)
+}
+
+#[test]
+fn prints_nothing_for_an_empty_script(rt: HostRuntime) -> Result<(), Fail> {
+    expect_walk(&rt, rt.alloc(), b"", b"", b"", b"")
+}
+
+#[test]
+fn refuses_a_packet_without_a_secret(rt: HostRuntime) -> Result<(), Fail> {
+    let words = [
+        "radpolicy",
+        "step",
+        "--hex",
+        "--policy",
+        "p",
+        "--script",
+        "s",
+        "d",
+    ];
+    let wanted = b"radpolicy: E02: option value\n";
+    expect_fault(&rt, rt.alloc(), &words, &[], wanted, 2)
+}
+
+#[test]
+fn walks_back_over_a_rollback(rt: HostRuntime) -> Result<(), Fail> {
+    expect_walk(
+        &rt,
+        rt.alloc(),
+        b"end show back back show",
+        b"",
+        FAILED_TRANSACTION,
+        b"8 rollback 2 fail
+request
+reply
+  Class = 0x01
+  Reply-Message = \"a\"
+  Class = 0x02
+  Class = 0x01
+control
+7 word 4 fail
+6 line 3 ok
+request
+reply
+  Class = 0x01
+  Reply-Message = \"a\"
+  Class = 0x02
+  Class = 0x01
+  Class = 0x09
+control
+",
+    )
+}
+
+#[test]
+fn walks_back_over_two_rollbacks(rt: HostRuntime) -> Result<(), Fail> {
+    expect_walk(
+        &rt,
+        rt.alloc(),
+        b"end back back back back show back show",
+        b"",
+        EDITED_TRANSACTIONS,
+        b"13 line 11 reject
+12 rollback 2 reject
+11 word 9 reject
+10 line 8 fail
+9 rollback 4 fail
+request
+reply
+  Class = 0x02
+control
+8 word 6 fail
+request
+reply
+  Class = 0x03
+control
+",
+    )
+}
+
+#[test]
+fn counts_the_steps_of_two_transactions(rt: HostRuntime) -> Result<(), Fail> {
+    expect_size(&rt, rt.alloc(), EDITED_TRANSACTIONS, b"13")
+}
+
+#[test]
+fn stops_a_walk_at_a_write_fault(rt: HostRuntime) -> Result<(), Fail> {
+    let alloc = rt.alloc();
+    let plan = read_words(alloc, &STEP).map_err(|_| "a plan")?;
+    let sources: [Source; 3] = [
+        ("d", TEST_DICTIONARY),
+        ("p", NESTED_TRANSACTIONS),
+        ("s", THERE_AND_BACK),
+    ];
+    let job = job_of(alloc, &sources, &plan)?;
+    let mut writer = Narrow {
+        held: Vec::new(alloc),
+        room: 10,
+    };
+    let refused = answer(alloc, &job, &mut WriteOutput::new(&mut writer));
+    assert!(rt; matches!(&refused, Err(Fault::Write)));
+    assert_eq!(rt; status(&Fault::Write), 3);
+    assert_eq!(rt; writer.held.as_slice(), b"14 line 14".as_slice());
+    Ok(())
+}

@@ -1,0 +1,69 @@
+-- The request of a job: from a packet in hexadecimal digits, or from lines (RFC 2865, section 4.1; RFC 2866, section 4.1).
+use Rattle.std.specs.Prelude.{◌≡◌, ◌≢◌, ℕ, Bool, not, ◌||◌, ◌==◌, List, [], filter, Option, Some, None, Result, Ok, Err}
+use Rattle.std.specs.Option.{unwrap_or}
+use Rattle.std.specs.Result.{result_ok}
+use Rattle.hex.specs.Hex.{decode_of}
+use Rattle.avp_lists.specs.declared.attributes.Pair.{Pair}
+use Rattle.avp_dict.specs.declared.line_faults.LineKind.TheVariants as line
+use Rattle.avp_dict.specs.declared.readings.Reading.{Reading}
+use Rattle.avp_dict.specs.Requests.{request_spelled}
+use Rattle.avp_packet.specs.declared.faults.PacketFault.{PacketFault}
+use Rattle.avp_packet.specs.declared.packets.Packet.{Packet}
+use Rattle.avp_packet.specs.Packets.{decoded, zeros}
+use Rattle.radpolicy.specs.declared.faults.Fault.{Fault}
+use Rattle.radpolicy.specs.declared.faults.Fault.TheVariants as fault
+use Rattle.radpolicy.specs.declared.jobs.Form.{Form}
+use Rattle.radpolicy.specs.declared.jobs.Form.TheVariants.{Hex, Access, Accounting}
+use Rattle.radpolicy.specs.declared.jobs.Job.{Job}
+
+-- why a job's request is none
+pub data Unread : Type 0 where
+  NotHex : Unread
+  BadPacket : PacketFault → Unread
+  BadLines : Unread
+
+-- a space, a tab, a CR or an LF
+abbrev pub is_space : ℕ → Bool
+is_space o = (o == 32) || (o == 9) || (o == 13) || (o == 10)
+
+abbrev pub is_no_space : ℕ → Bool
+is_no_space o = not (is_space o)
+
+-- the octets that hexadecimal digits stand for, spaces among them left out
+unfoldable pub hex_octets : List ℕ → Option (List ℕ)
+hex_octets text = result_ok (decode_of (filter is_no_space text))
+
+abbrev pub unread_packet : Result Packet PacketFault → Result Packet Unread
+unread_packet (Ok packet) = Ok packet
+unread_packet (Err fault) = Err (BadPacket fault)
+
+-- a packet in hexadecimal digits
+abbrev pub packet_for : List Reading → List ℕ → Option (List ℕ) → Result Packet Unread
+packet_for dictionary secret None = Err NotHex
+packet_for dictionary secret (Some octets) = unread_packet (decoded dictionary secret octets)
+
+-- lines, as the list of a packet of this code
+abbrev pub lines_for : ℕ → Job → Option (List Pair) → Result Packet Unread
+lines_for code job None = Err BadLines
+lines_for code job (Some pairs) = Ok (record { code = code; id = job.identifier; authenticator = unwrap_or job.authenticator zeros; list = pairs })
+
+-- the request of a job, by its form
+abbrev pub request_of : Form → List Reading → Option (List ℕ) → Job → Result Packet Unread
+request_of Hex dictionary secret job = packet_for dictionary (unwrap_or secret []) (hex_octets job.request)
+request_of Access dictionary secret job = lines_for 1 job (request_spelled job.request dictionary)
+request_of Accounting dictionary secret job = lines_for 4 job (request_spelled job.request dictionary)
+
+abbrev pub request_for : List Reading → Option (List ℕ) → Job → Result Packet Unread
+request_for dictionary secret job = request_of job.form dictionary secret job
+
+-- The fault of a request that is none. Which fault of lines comes, and its line, is left open.
+abbrev pub IsUnreadBy : Unread → Fault → Type 0
+IsUnreadBy NotHex fault.NotHex = Unit {0}
+IsUnreadBy (BadPacket f) (fault.Packet g) = f ≡ g
+IsUnreadBy BadLines (fault.Request f) = f.kind ≢ line.Memory
+IsUnreadBy _ _ = ⊥
+
+-- the request is none, with this fault
+abbrev pub IsUnread : Fault → Result Packet Unread → Type 0
+IsUnread f (Ok packet) = ⊥
+IsUnread f (Err unread) = IsUnreadBy unread f

@@ -1,0 +1,74 @@
+-- The reply packet of a run (RFC 2865, sections 4.2, 4.3 and 5.33; RFC 2866, section 4.2).
+use Rattle.std.specs.Prelude.{ℕ, ◌==◌, nat_le, if◌then◌else◌, List, [], length, Option, Some, None}
+use Rattle.std.specs.Option.{option_and_then, option_map}
+use Rattle.avp_lists.specs.declared.attributes.AttrId.TheVariants.{Plain}
+use Rattle.avp_lists.specs.declared.attributes.Pair.{Pair}
+use Rattle.avp_lists.specs.Instances.{instances}
+use Rattle.avp_dict.specs.declared.readings.Reading.{Reading}
+use Rattle.avp_packet.specs.declared.packets.Packet.{Packet}
+use Rattle.avp_packet.specs.Packets.{authenticator_of, reply, request}
+use Rattle.avp_unlang.specs.declared.codes.Code.{Code}
+use Rattle.avp_unlang.specs.declared.codes.Code.TheVariants as code
+use Rattle.radpolicy.specs.declared.jobs.Form.{Form}
+use Rattle.radpolicy.specs.declared.jobs.Form.TheVariants.{Hex, Access, Accounting}
+use Rattle.avp_unlang.specs.Meaning.{Outcome as End}
+
+-- a packet of 4096 octets at most
+abbrev pub within_packet : List ℕ → Option (List ℕ)
+within_packet octets = if nat_le (length octets) 4096 then Some octets else None
+
+-- the packet of a request
+abbrev pub request_packet : List Reading → List ℕ → Packet → Option (List ℕ)
+request_packet dictionary secret r = within_packet (request dictionary secret r.code r.id r.authenticator r.list)
+
+-- the code of an Access-Request's reply: an Access-Accept, or an Access-Reject
+abbrev pub access_reply : Code → Option ℕ
+access_reply code.Fail = Some 3
+access_reply code.Reject = Some 3
+access_reply _ = Some 2
+
+-- the code of an Accounting-Request's reply: an Accounting-Response, or none
+abbrev pub accounting_reply : Code → Option ℕ
+accounting_reply code.Fail = None
+accounting_reply code.Reject = None
+accounting_reply _ = Some 5
+
+abbrev pub reply_code : ℕ → Code → Option ℕ
+reply_code request_code last = if request_code == 4 then accounting_reply last else access_reply last
+
+-- the pairs of a reply: those of the reply list, and none after `fail`
+abbrev pub reply_pairs : Code → List Pair → List Pair
+reply_pairs code.Fail pairs = []
+reply_pairs _ pairs = pairs
+
+-- the request's Proxy-States, unchanged and in order
+abbrev pub proxy_states : Packet → List Pair
+proxy_states r = instances (Plain 33) r.list
+
+-- the authenticator that a reply answers: that of the request, which for the lines of an Accounting-Request is that of its packet
+abbrev pub answered_authenticator : Form → List Reading → List ℕ → Packet → Option (List ℕ)
+answered_authenticator Accounting dictionary secret r = option_map authenticator_of (request_packet dictionary secret r)
+answered_authenticator _ dictionary secret r = Some r.authenticator
+
+-- what a run sends
+pub data Answer : Type 0 where
+  -- nothing
+  Nothing : Answer
+  Sent : List ℕ → Answer
+  -- a packet that is too long, the request's own or the reply's
+  TooLong : Answer
+
+abbrev pub sent_or_too_long : Option (List ℕ) → Answer
+sent_or_too_long (Some octets) = Sent octets
+sent_or_too_long None = TooLong
+
+-- the reply of this code with these pairs and Proxy-States, if there is one, to a request with this identifier and authenticator
+abbrev pub reply_with : List Reading → List ℕ → ℕ → Option (List ℕ) → List Pair → List Pair → Option ℕ → Answer
+reply_with dictionary secret id authenticator pairs proxies None = Nothing
+reply_with dictionary secret id authenticator pairs proxies (Some code) =
+    sent_or_too_long (option_and_then (λ a. within_packet (reply dictionary secret code id a pairs proxies)) authenticator)
+
+-- what a run sends that ended so
+unfoldable pub answer_of : Form → List Reading → List ℕ → Packet → End → Answer
+answer_of form dictionary secret r end =
+    reply_with dictionary secret r.id (answered_authenticator form dictionary secret r) (reply_pairs end.code end.state.reply) (proxy_states r) (reply_code r.code end.code)

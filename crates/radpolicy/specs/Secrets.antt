@@ -1,0 +1,33 @@
+-- The secret that a job's file holds.
+use Rattle.std.specs.Prelude.{ℕ, Bool, ◌==◌, nat_lt, if◌then◌else◌, List, [], ◌∷◌, Option, Some, None}
+use Rattle.std.specs.List.{before_first, list_all}
+use Rattle.radpolicy.specs.declared.jobs.Job.{Job}
+
+abbrev pub is_line_end : ℕ → Bool
+is_line_end o = o == 10
+
+-- an octet below a blank
+abbrev pub is_control : ℕ → Bool
+is_control o = nat_lt o 32
+
+-- octets without the controls at their end
+unfoldable pub without_last_controls : List ℕ → List ℕ
+without_last_controls [] = []
+without_last_controls (o ∷ os) = if list_all is_control (o ∷ os) then [] else (o ∷ without_last_controls os)
+
+-- a file's first line, without the controls at its end
+abbrev pub secret_in : List ℕ → List ℕ
+secret_in file = without_last_controls (before_first is_line_end file)
+
+-- a secret of one octet at least
+abbrev pub usable : List ℕ → Option (List ℕ)
+usable [] = None
+usable secret = Some secret
+
+-- No file, and no secret; or the secret of the job's file; none of both where that has no octets.
+abbrev pub secret_from : Option (List ℕ) → Option (Option (List ℕ))
+secret_from None = Some None
+secret_from (Some file) = elim (usable (secret_in file)) [ None ↦ None | Some secret ↦ Some (Some secret) ]
+
+abbrev pub secret_for : Job → Option (Option (List ℕ))
+secret_for job = secret_from job.secret

@@ -1,0 +1,126 @@
+//! The request of a job.
+
+ghost use Rattle.std.specs.Prelude.{◌≡◌, ◌≢◌, ◌⊎◌, ◌≤◌, ◌<◌, Err, IfErr, IfOk, IfSome, None, Ok, Some, length};
+ghost use Rattle.std.specs.List.{filter};
+ghost use Rattle.std.specs.Option.{option_copied};
+ghost use Rattle.avp_lists.specs.States.{most_pairs};
+ghost use Rattle.avp_packet.specs.Packets.{IsRequestCode};
+ghost use Rattle.radpolicy.specs.Faults.{IsPrintedWith};
+ghost use Rattle.radpolicy.specs.Fitting.{AllFit};
+ghost use Rattle.avp_dict.specs.Requests.{request_spelled};
+ghost use Rattle.radpolicy.specs.Received.{IsUnread, hex_octets, is_no_space, lines_for, packet_for, request_for};
+ghost use Rattle.radpolicy.specs.declared.faults.Fault.TheVariants as fault;
+ghost use Rattle.radpolicy.specs.declared.jobs.Form.TheVariants.{Hex as InHex};
+
+use crate::faults::Fault;
+use crate::jobs::{Form, Job};
+use avp_dict::Dictionary;
+use avp_lists::Pairs;
+use avp_packet::{ACCESS_REQUEST, ACCOUNTING_REQUEST, Packet, decode};
+use hex::FromHexError;
+use std::alloc::{AllocError, Global};
+
+fn is_no_space(octet: u8) -> bool
+    ensures { result ≡ is_no_space octet }
+{
+    octet != b' ' && octet != b'\t' && octet != b'\r' && octet != b'\n'
+}
+
+fn without_spaces(alloc: Global, text: &[u8]) -> Result<Vec<u8>, AllocError>
+    ensures { IfOk result (λ digits. digits.items ≡ filter is_no_space text.now) }
+{
+    let mut digits = Vec::new(alloc);
+    for octet in text {
+        if is_no_space(*octet) {
+            digits.push(*octet)?;
+        }
+    }
+    Ok(digits)
+}
+
+// The octets that hexadecimal digits stand for.
+#[tactic(auto, unfolding(crate::specs::Received::hex_octets))]
+fn octets_of_hex(alloc: Global, text: &[u8]) -> Result<Option<Vec<u8>>, AllocError>
+    ensures none { result ≡ Ok None → hex_octets text.now ≡ None }
+    ensures some { IfOk result (λ octets. IfSome octets (λ os. hex_octets text.now ≡ Some os.items)) }
+{
+    let digits = without_spaces(alloc, text)?;
+    match hex::decode(alloc, digits) {
+        Ok(octets) => Ok(Some(octets)),
+        Err(FromHexError::OutOfMemory) => Err(AllocError),
+        Err(_) => Ok(None),
+    }
+}
+
+// A packet in hexadecimal digits.
+fn packet_of_hex(
+    alloc: Global,
+    dictionary: &Dictionary,
+    secret: &[u8],
+    job: &Job,
+) -> Result<Packet, Fault>
+    requires secret { 0 < length secret.now }
+    ensures ok { IfOk result (λ packet. packet_for dictionary.now secret.now (hex_octets job.now.request) ≡ Ok packet) }
+    ensures code { IfOk result (λ packet. IsRequestCode packet.code) }
+    ensures few { IfOk result (λ packet. length packet.list ≤ most_pairs) }
+    ensures fit { IfOk result (λ packet. AllFit dictionary.now packet.list) }
+    ensures refused { IfErr result (λ f. (f ≡ fault.Memory) ⊎ IsUnread f (packet_for dictionary.now secret.now (hex_octets job.now.request))) }
+    ensures printed { IfErr result (λ f. IsPrintedWith job.now.files f) }
+{
+    let Some(octets) = octets_of_hex(alloc, job.request.as_slice())? else {
+        return Err(Fault::NotHex);
+    };
+    match decode(alloc, dictionary, secret, &octets) {
+        Ok(packet) => Ok(packet),
+        Err(fault) => Err(Fault::from(fault)),
+    }
+}
+
+// The lines of a request, as the list of a packet of this code.
+fn packet_of_lines(
+    alloc: Global,
+    dictionary: &Dictionary,
+    code: u8,
+    job: &Job,
+) -> Result<Packet, Fault>
+    ensures ok { IfOk result (λ packet. lines_for code job.now (request_spelled job.now.request dictionary.now) ≡ Ok packet) }
+    ensures code { IfOk result (λ packet. packet.code ≡ code) }
+    ensures few { IfOk result (λ packet. length packet.list ≤ most_pairs) }
+    ensures fit { IfOk result (λ packet. AllFit dictionary.now packet.list) }
+    ensures refused { IfErr result (λ f. (f ≡ fault.Memory) ⊎ IsUnread f (lines_for code job.now (request_spelled job.now.request dictionary.now))) }
+    ensures printed { IfErr result (λ f. IsPrintedWith job.now.files f) }
+{
+    match dictionary.read_request(alloc, job.request.as_slice()) {
+        Ok(pairs) => Ok(Packet {
+            code,
+            id: job.identifier,
+            authenticator: job.authenticator.unwrap_or([0; 16]),
+            list: Pairs::from_vec(pairs),
+        }),
+        Err(fault) => Err(Fault::from(fault)),
+    }
+}
+
+/// The request of a job, by its form. A request in hexadecimal digits wants a secret.
+pub(crate) fn request_of(
+    alloc: Global,
+    dictionary: &Dictionary,
+    secret: Option<&[u8]>,
+    job: &Job,
+) -> Result<Packet, Fault>
+    requires secret { IfSome secret (λ octets. 0 < length octets.now) }
+    requires hex { job.now.form ≡ InHex → secret ≢ None }
+    ensures ok { IfOk result (λ packet. request_for dictionary.now (option_copied secret.entry) job.now ≡ Ok packet) }
+    ensures code { IfOk result (λ packet. IsRequestCode packet.code) }
+    ensures few { IfOk result (λ packet. length packet.list ≤ most_pairs) }
+    ensures fit { IfOk result (λ packet. AllFit dictionary.now packet.list) }
+    ensures refused { IfErr result (λ f. (f ≡ fault.Memory) ⊎ IsUnread f (request_for dictionary.now (option_copied secret.entry) job.now)) }
+    ensures printed { IfErr result (λ f. IsPrintedWith job.now.files f) }
+{
+    match (job.form, secret) {
+        (Form::Hex, Some(secret)) => packet_of_hex(alloc, dictionary, secret, job),
+        (Form::Hex, None) => unreachable!(),
+        (Form::Access, _) => packet_of_lines(alloc, dictionary, ACCESS_REQUEST, job),
+        (Form::Accounting, _) => packet_of_lines(alloc, dictionary, ACCOUNTING_REQUEST, job),
+    }
+}

@@ -1,0 +1,198 @@
+//! The reply packet of a run.
+
+ghost use Rattle.std.specs.Prelude.{◌≡◌, ◌⊎◌, ◌<◌, ◌≤◌, All, IfOk, IfSome, length};
+ghost use Rattle.std.specs.Option.{option_map};
+ghost use Rattle.avp_lists.specs.Instances.{instances};
+ghost use Rattle.avp_lists.specs.declared.attributes.AttrId.TheVariants.{Plain};
+ghost use Rattle.radpolicy.specs.Fitting.{AllFit};
+ghost use Rattle.avp_packet.specs.Packets.{IsReplyCode, IsRequestCode, authenticator_of};
+ghost use Rattle.radpolicy.specs.Replies.{answer_of, answered_authenticator, reply_code, reply_pairs, request_packet};
+ghost use Rattle.radpolicy.specs.code.ReplyHeads.{IsAnswer, answered_by};
+ghost use Rattle.avp_unlang.specs.Meaning.{Outcome as End};
+
+use crate::jobs::Form;
+use avp_dict::Dictionary;
+use avp_lists::{AttrId, Pair, copy_pair};
+use avp_packet::{
+    ACCESS_ACCEPT, ACCESS_REJECT, ACCOUNTING_REQUEST, ACCOUNTING_RESPONSE, EncodeFault, Packet,
+    encode_reply, encode_request,
+};
+use avp_unlang::Code;
+use std::alloc::{AllocError, Global};
+
+/// The attribute that is sent back as it came (RFC 2865, section 5.33).
+const PROXY_STATE: AttrId = AttrId::Plain(33);
+
+/// What a reply takes of its request, and the secret.
+#[derive(Debug, Drop)]
+pub(crate) struct ReplyHead<'a> {
+    secret: &'a [u8],
+    code: u8,
+    id: u8,
+    /// `None` where the packet of an Accounting-Request's lines would be too long.
+    authenticator: Option<[u8; 16]>,
+    proxy_states: Vec<Pair>,
+}
+
+// The Proxy-States among pairs, in order.
+fn proxy_states_of(alloc: Global, pairs: &[Pair]) -> Result<Vec<Pair>, AllocError>
+    ensures { IfOk result (λ found. found.items ≡ instances (Plain 33) pairs.now) }
+{
+    let mut found = Vec::new(alloc);
+    for pair in pairs {
+        if pair.id.equals(PROXY_STATE) {
+            found.push(copy_pair(alloc, pair)?)?;
+        }
+    }
+    Ok(found)
+}
+
+// The authenticator in the octets of a packet.
+fn authenticator_in(octets: &[u8]) -> [u8; 16]
+    requires { 20 ≤ length octets.now }
+    ensures { result ≡ authenticator_of octets.now }
+{
+    let mut authenticator = [0; 16];
+    authenticator.copy_from_slice(&octets[4..20]);
+    authenticator
+}
+
+// An authenticator's length.
+fn has_sixteen_octets(authenticator: &[u8; 16])
+    ensures { length authenticator.now ≡ 16 }
+{}
+
+// The authenticator of the packet of an Accounting-Request's lines; `None` where that is too long.
+#[tactic(auto, using(crate::proofs::PacketRoom::is_within, crate::proofs::PacketRoom::is_too_long))]
+fn made_authenticator(
+    alloc: Global,
+    dictionary: &Dictionary,
+    secret: &[u8],
+    request: &Packet,
+) -> Result<Option<[u8; 16]>, AllocError>
+    requires secret { 0 < length secret.now }
+    requires code { IsRequestCode request.now.code }
+    requires fit { AllFit dictionary.now request.now.list }
+    ensures { IfOk result (λ authenticator. authenticator ≡ option_map authenticator_of (request_packet dictionary.now secret.now request.now)) }
+{
+    has_sixteen_octets(&request.authenticator);
+    let made = encode_request(
+        alloc,
+        dictionary,
+        secret,
+        request.code,
+        request.id,
+        &request.authenticator,
+        request.list.as_slice(),
+    );
+    match made {
+        Ok(octets) => Ok(Some(authenticator_in(&octets))),
+        Err(EncodeFault::TooLong) => Ok(None),
+        Err(EncodeFault::Memory) => Err(AllocError),
+    }
+}
+
+// The authenticator that a reply answers.
+fn answered_authenticator(
+    alloc: Global,
+    dictionary: &Dictionary,
+    secret: &[u8],
+    form: Form,
+    request: &Packet,
+) -> Result<Option<[u8; 16]>, AllocError>
+    requires secret { 0 < length secret.now }
+    requires code { IsRequestCode request.now.code }
+    requires fit { AllFit dictionary.now request.now.list }
+    ensures { IfOk result (λ authenticator. authenticator ≡ answered_authenticator form dictionary.now secret.now request.now) }
+{
+    match form {
+        Form::Accounting => made_authenticator(alloc, dictionary, secret, request),
+        Form::Hex | Form::Access => Ok(Some(request.authenticator)),
+    }
+}
+
+/// What a reply takes of its request, before a run changes the request's list.
+pub(crate) fn reply_head<'a>(
+    alloc: Global,
+    dictionary: &Dictionary,
+    secret: &'a [u8],
+    form: Form,
+    request: &Packet,
+) -> Result<ReplyHead<'a>, AllocError>
+    requires secret { 0 < length secret.now }
+    requires code { IsRequestCode request.now.code }
+    requires fit { AllFit dictionary.now request.now.list }
+    ensures head { IfOk result (λ head. (end : End) → answered_by dictionary.now head end.code end.state.reply ≡ answer_of form dictionary.now secret.now request.now end) }
+    ensures secret { IfOk result (λ head. 0 < length head.secret.now) }
+    ensures proxies { IfOk result (λ head. All (λ pair. pair.id ≡ Plain 33) head.proxy_states.items) }
+    ensures fit { IfOk result (λ head. AllFit dictionary.now head.proxy_states.items) }
+{
+    Ok(ReplyHead {
+        secret,
+        code: request.code,
+        id: request.id,
+        authenticator: answered_authenticator(alloc, dictionary, secret, form, request)?,
+        proxy_states: proxy_states_of(alloc, request.list.as_slice())?,
+    })
+}
+
+// The code of the reply, if there is one.
+fn reply_code(request_code: u8, last: Code) -> Option<u8>
+    ensures code { result ≡ reply_code request_code last }
+    ensures reply { IfSome result IsReplyCode }
+{
+    match (request_code, last) {
+        (ACCOUNTING_REQUEST, Code::Fail | Code::Reject) => None,
+        (ACCOUNTING_REQUEST, _) => Some(ACCOUNTING_RESPONSE),
+        (_, Code::Fail | Code::Reject) => Some(ACCESS_REJECT),
+        (_, _) => Some(ACCESS_ACCEPT),
+    }
+}
+
+// The pairs of a reply.
+fn reply_pairs(last: Code, reply: &[Pair]) -> &[Pair]
+    ensures { result.now ≡ reply_pairs last reply.now }
+{
+    match last {
+        Code::Fail => &[],
+        _ => reply,
+    }
+}
+
+/// The reply packet of a run that ended with this code and this reply list, if it sends one.
+#[tactic(auto, unfolding(crate::specs::code::ReplyHeads::answered_by), using(crate::proofs::PacketRoom::is_within, crate::proofs::PacketRoom::is_too_long))]
+pub(crate) fn reply_of(
+    alloc: Global,
+    dictionary: &Dictionary,
+    head: &ReplyHead<'_>,
+    last: Code,
+    reply: &[Pair],
+) -> Result<Option<Vec<u8>>, EncodeFault>
+    requires reply { AllFit dictionary.now reply.now }
+    requires secret { 0 < length head.now.secret.now }
+    requires proxies { All (λ pair. pair.id ≡ Plain 33) head.now.proxy_states.items }
+    requires fit { AllFit dictionary.now head.now.proxy_states.items }
+    ensures { IsAnswer result (answered_by dictionary.now head.now last reply.now) }
+{
+    let Some(code) = reply_code(head.code, last) else {
+        return Ok(None);
+    };
+    let Some(authenticator) = head.authenticator else {
+        return Err(EncodeFault::TooLong);
+    };
+    let made = encode_reply(
+        alloc,
+        dictionary,
+        head.secret,
+        code,
+        head.id,
+        &authenticator,
+        reply_pairs(last, reply),
+        head.proxy_states.as_slice(),
+    );
+    match made {
+        Ok(octets) => Ok(Some(octets)),
+        Err(EncodeFault::TooLong) => Err(EncodeFault::TooLong),
+        Err(EncodeFault::Memory) => Err(EncodeFault::Memory),
+    }
+}

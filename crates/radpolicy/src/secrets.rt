@@ -1,0 +1,51 @@
+//! The secret that a job's file holds.
+
+ghost use Rattle.std.specs.Prelude.{◌≡◌, ◌<◌, [], length, MatchOption};
+ghost use Rattle.std.specs.List.{before_first, position};
+ghost use Rattle.radpolicy.specs.Secrets.{is_line_end, secret_in, without_last_controls};
+
+// Octets without the controls at their end.
+#[tactic(auto, using(crate::proofs::Controls::kept_at_end, crate::proofs::Controls::dropped_at_end, crate::proofs::Controls::none_at_end))]
+fn without_last_controls(octets: &[u8]) -> &[u8]
+    ensures { result.now ≡ without_last_controls octets.now }
+{
+    match octets.split_last() {
+        Some((last, rest)) => {
+            if *last < 32 {
+                without_last_controls(rest)
+            } else {
+                octets
+            }
+        }
+        None => octets,
+    }
+}
+
+fn line_end(text: &[u8]) -> Option<usize>
+    ensures { result ≡ position is_line_end text.now }
+{
+    text.iter().position(|octet| *octet == b'\n')
+}
+
+// A text's first line, without its end.
+fn first_line(text: &[u8]) -> &[u8]
+    ensures { result.now ≡ before_first is_line_end text.now }
+{
+    match line_end(text) {
+        Some(end) => &text[..end],
+        None => text,
+    }
+}
+
+/// The secret in a file's octets: its first line without the octets below 0x20 at its end. `None` where that has no
+/// octets.
+pub(crate) fn secret_in(file: &[u8]) -> Option<&[u8]>
+    ensures { MatchOption result (secret_in file.now ≡ []) (λ secret. (secret.now ≡ secret_in file.now) × (0 < length secret.now)) }
+{
+    let secret = without_last_controls(first_line(file));
+    if secret.is_empty() {
+        None
+    } else {
+        Some(secret)
+    }
+}
