@@ -49,11 +49,11 @@ kept_by : {X : Type 0} (P : X → Type 0) (x : X) (b : Bool) → (b ≡ true →
 kept_by P x true h = h refl
 kept_by P x false h = tt
 
-then_holds : {X Y : Type 0} (P : Y → Type 0) (f : X → Option Y) → ((x : X) → IfSome (f x) P) → (o : Option X) → IfSome (option_and_then f o) P
+pub then_holds : {X Y : Type 0} (P : Y → Type 0) (f : X → Option Y) → ((x : X) → IfSome (f x) P) → (o : Option X) → IfSome (option_and_then f o) P
 then_holds P f h None = tt
 then_holds P f h (Some x) = h x
 
-mapped_holds : {X Y : Type 0} (P : Y → Type 0) (f : X → Y) (o : Option X) → IfSome o (λ x. P (f x)) → IfSome (option_map f o) P
+pub mapped_holds : {X Y : Type 0} (P : Y → Type 0) (f : X → Y) (o : Option X) → IfSome o (λ x. P (f x)) → IfSome (option_map f o) P
 mapped_holds P f None h = tt
 mapped_holds P f (Some x) h = h
 
@@ -65,11 +65,11 @@ and_right : (a b : Bool) → (a && b) ≡ true → b ≡ true
 and_right true b h = h
 and_right false b h = cc
 
-always : {X : Type 0} (P : X → Type 0) → ((x : X) → P x) → (o : Option X) → IfSome o P
+pub always : {X : Type 0} (P : X → Type 0) → ((x : X) → P x) → (o : Option X) → IfSome o P
 always P h None = tt
 always P h (Some x) = h x
 
-weaker : {X : Type 0} (P Q : X → Type 0) → ((x : X) → P x → Q x) → (o : Option X) → IfSome o P → IfSome o Q
+pub weaker : {X : Type 0} (P Q : X → Type 0) → ((x : X) → P x → Q x) → (o : Option X) → IfSome o P → IfSome o Q
 weaker P Q f None h = tt
 weaker P Q f (Some x) h = f x h
 
@@ -151,7 +151,7 @@ module _ (d : List Reading) where
   known_numbered (t ∷ v ∷ n ∷ []) = none_by (is_vendor_specific (digits 10 t)) (vendor_id_numbered d (digits 10 v) (digits 10 n)) (known_vendor (digits 10 v) (digits 10 n))
   known_numbered (t ∷ v ∷ n ∷ m ∷ more) = tt
 
-  known_named : IsSound d → (name : List ℕ) → IfSome (named name d) (λ n. is_known n.id d ≡ true)
+  pub known_named : IsSound d → (name : List ℕ) → IfSome (named name d) (λ n. is_known n.id d ≡ true)
   unfolding named id_named
   known_named sound name =
       elim (begins_as_attr name) as (λ b. IfSome (cond b (option_map (named_by true) (id_numbered d (slice_split is_dot (drop 5 name)))) (option_map (named_by false) (id_named name d))) (λ n. is_known n.id d ≡ true)) [
@@ -178,7 +178,7 @@ module _ (d : List Reading) where
   unfolding described typing_of_id
   kind_of_typing id = typed_line (last_where (is_attribute_of id) d)
 
-  up_to_holds : (most : ℕ) (o : Option ℕ) → IfSome (up_to most o) (λ n. nat_le n most ≡ true)
+  pub up_to_holds : (most : ℕ) (o : Option ℕ) → IfSome (up_to most o) (λ n. nat_le n most ≡ true)
   up_to_holds most None = tt
   up_to_holds most (Some n) = kept_by (λ k. nat_le k most ≡ true) n (nat_le n most) (λ h. h)
 
@@ -225,7 +225,7 @@ module _ (d : List Reading) where
   typed_read kinds.Integer64 id os k bytes = kept_by (λ v. is_typed id v d ≡ true) (number_value os) (length os == 8) (λ long. rw (k, number_within os 8 18446744073709551615 bytes long (lit≤ tt)))
   typed_read kinds.Signed id os k bytes = kept_by (λ v. is_typed id v d ≡ true) (signed_value os) (length os == 4) (λ _. rw k)
 
-  read_by_typed : (id : AttrId) (os : List ℕ) → IsBytes os → (o : Option Described) → described id d ≡ o → IfSome (option_and_then (read_by os) o) (λ v. is_typed id v d ≡ true)
+  pub read_by_typed : (id : AttrId) (os : List ℕ) → IsBytes os → (o : Option Described) → described id d ≡ o → IfSome (option_and_then (read_by os) o) (λ v. is_typed id v d ≡ true)
   read_by_typed id os bytes None e = tt
   read_by_typed id os bytes (Some known) e =
       elim (known.hidden && not (is_hideable os)) as (λ b. IfSome (cond b None (value_read known.kind os)) (λ v. is_typed id v d ≡ true)) [
@@ -270,7 +270,7 @@ module _ (d : List Reading) where
   unless_long_holds id None h = tt
   unless_long_holds id (Some v) h = within_by id v (is_within id v d) refl h
 
-  value_holds : (n : Named) (text : List ℕ) → IfSome (result_ok (value_spelled n text d)) (λ v. (is_typed n.id v d && is_within n.id v d) ≡ true)
+  pub value_holds : (n : Named) (text : List ℕ) → IfSome (result_ok (value_spelled n text d)) (λ v. (is_typed n.id v d && is_within n.id v d) ≡ true)
   unfolding value_spelled
   value_holds n text = elim (is_barred n d) as (λ b. IfSome (result_ok (cond b (Err NotWritable) (unless_long n.id d (spelled n text d)))) (λ v. (is_typed n.id v d && is_within n.id v d) ≡ true)) [
     | true ↦ tt
@@ -279,7 +279,7 @@ module _ (d : List Reading) where
 
   -- ---- pairs
 
-  fits_by : (n : Named) (v : Value) → is_known n.id d ≡ true → (is_typed n.id v d && is_within n.id v d) ≡ true → fits (pair_with n v) d ≡ true
+  pub fits_by : (n : Named) (v : Value) → is_known n.id d ≡ true → (is_typed n.id v d && is_within n.id v d) ≡ true → fits (pair_with n v) d ≡ true
   unfolding fits
   fits_by n v known h =
       let typed = and_left (is_typed n.id v d) (is_within n.id v d) h in
@@ -296,7 +296,7 @@ module _ (d : List Reading) where
   unfolding pair_spelled
   pair_fits sound a = named_fits a.text (named a.name d) (known_named sound a.name)
 
-  of_found : {X : Type 0} (P : X → Type 0) (o : Option X) (x : X) → o ≡ Some x → IfSome o P → P x
+  pub of_found : {X : Type 0} (P : X → Type 0) (o : Option X) (x : X) → o ≡ Some x → IfSome o P → P x
   of_found P o x e h = subst (λ found. IfSome found P) e h
 
   -- what a text spells under a name fits

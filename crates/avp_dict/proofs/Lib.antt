@@ -8,14 +8,17 @@ pub mod Lexing
 pub mod Numbered
 pub mod Numerals
 pub mod OneMore
+pub mod OwnValues
 pub mod PairSteps
 pub mod Placed
 pub mod ReadingBack
 pub mod Resolving
 pub mod Sameness
 pub mod Separated
+pub mod SignedRange
 pub mod SoundDictionary
 pub mod SoundLines
+pub mod SpelledClean
 pub mod Spelling
 pub mod Unescaping
 pub mod Whole

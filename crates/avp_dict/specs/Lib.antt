@@ -19,6 +19,7 @@ pub mod Sent
 pub mod Settled
 pub mod Soundness
 pub mod SpelledPairs
+pub mod SpelledValues
 pub mod Spellings
 pub mod Steps
 pub mod Types

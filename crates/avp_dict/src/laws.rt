@@ -8,6 +8,7 @@ ghost use Rattle.avp_dict.specs.Soundness.{IsSound};
 ghost use Rattle.avp_dict.specs.Names.{named, vendor_format};
 ghost use Rattle.avp_dict.specs.declared.entries.Named.{Named};
 ghost use Rattle.avp_dict.specs.SpelledPairs.{SpelledPairsFit};
+ghost use Rattle.avp_dict.specs.SpelledValues.{SpelledValuesClean};
 ghost use Rattle.avp_dict.specs.Vendors.{is_format};
 ghost use Rattle.avp_dict.specs.code.Ranges.{AreOctets, IsIdInRange, IsValueInRange};
 
@@ -72,6 +73,13 @@ impl Dictionary {
         let _lines = self.readings();
         id_in_range(pair.id);
         value_in_range(&pair.value);
+    }
+
+    /// A value that a text stands for is read back from its own octets.
+    pub fn spelled_values_clean(&self)
+        ensures { SpelledValuesClean self.now }
+    {
+        let _lines = self.readings();
     }
 
     /// The pair of a name and a text that stands for a value under it fits.

@@ -9,6 +9,7 @@ ghost use Rattle.avp_dict.specs.Limits.{fits};
 ghost use Rattle.avp_dict.specs.Lines.{texts_of};
 ghost use Rattle.avp_dict.specs.RequestLines.{is_blank_line, is_idle_line, joined, pairs_of, tokens_at, without_front};
 ghost use Rattle.avp_dict.specs.Requests.{few_enough, pair_named, request_spelled};
+ghost use Rattle.avp_dict.specs.Sent.{is_clean};
 ghost use Rattle.avp_dict.specs.code.LineReading.{IsRefused, ReadsLine, RefusesLine, after_pairs, assigned_after, packet_pairs, pair_of_token, pairs_after, pairs_at};
 ghost use Rattle.avp_dict.specs.code.RequestTokens.{side_after, token_view};
 
@@ -186,6 +187,9 @@ impl Dictionary {
         ensures read { IfOk result (λ pairs. request_spelled text.now self.now ≡ Some pairs.items) }
         ensures fits { IfOk result (λ pairs. All (λ pair. IsTrue (fits pair self.now)) pairs.items) }
         ensures few { IfOk result (λ pairs. length pairs.items ≤ most_pairs) }
+
+        // What is written of the pairs is read back as they are.
+        ensures clean { IfOk result (λ pairs. is_clean pairs.items self.now ≡ true) }
         ensures only { IfOk result (λ pairs. (other : List Pair) → request_spelled text.now self.now ≡ Some other → other ≡ pairs.items) }
         ensures refused { IfErr result (λ fault. fault.kind ≢ LineKind.Memory → request_spelled text.now self.now ≡ None) }
     {

@@ -416,3 +416,14 @@ fn fits_by_id_and_type(rt: HostRuntime) -> Result<(), Fail> {
     }
     Ok(())
 }
+
+#[test]
+fn laws_of_a_dictionary(rt: HostRuntime) -> Result<(), Fail> {
+    let dictionary = read_lines(rt.alloc())?;
+    dictionary.is_sound();
+    dictionary.spelled_pairs_fit();
+    dictionary.spelled_values_clean();
+    let pair = pair_of(rt.alloc(), &dictionary, b"Ty-G", b"-2")?;
+    assert!(rt; dictionary.fits(&pair));
+    Ok(())
+}

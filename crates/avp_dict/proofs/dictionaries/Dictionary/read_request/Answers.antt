@@ -6,6 +6,7 @@ use Rattle.avp_dict.specs.RequestLines.{is_blank_line, is_idle_line, without_fro
 use Rattle.avp_dict.specs.code.LineReading.{after_pairs, packet_pairs}
 use Rattle.avp_dict.proofs.Fitting.{request_fits}
 use Rattle.avp_dict.proofs.PairSteps.{line_read, none_before, only_one, packet_ends, packet_goes_on, packet_none, request_ends, request_fails, request_refused}
+use Rattle.avp_dict.proofs.SpelledClean.{request_clean}
 use Rattle.avp_dict.proofs.dictionaries.Dictionary.read_request.Goals as goal
 
 pub loop-line-init : goal.loop-line-init
@@ -35,6 +36,10 @@ returns-then-is_blank_line-clause-fits c =
     let read = request_ends c.args.text.now c.args.self.now c.loop-line.pairs.items (texts_of c.loop-line.rest.now) c.loop-line.invariant.read (ap (packet_pairs c.args.self.now) c.in-Some.ensures.cut ∙ end) c.loop-line.invariant.few in
     request_fits c.args.self.now c.readings-sound.ensures.sound c.args.text.now c.loop-line.pairs.items read
 
+pub returns-then-is_blank_line-clause-clean : goal.returns-then-is_blank_line-clause-clean
+returns-then-is_blank_line-clause-clean c =
+    request_clean c.args.self.now c.readings-sound.ensures.sound c.args.text.now c.loop-line.pairs.items (returns-then-is_blank_line-clause-read c)
+
 pub returns-then-is_blank_line-clause-only : goal.returns-then-is_blank_line-clause-only
 returns-then-is_blank_line-clause-only c = λ other spelled.
     only_one (request_spelled c.args.text.now c.args.self.now) c.loop-line.pairs.items other (returns-then-is_blank_line-clause-read c) spelled
@@ -63,6 +68,9 @@ pub returns-clause-fits : goal.returns-clause-fits
 returns-clause-fits c =
     let read = request_ends c.args.text.now c.args.self.now c.loop-line.pairs.items (texts_of c.loop-line.rest.now) c.loop-line.invariant.read (ap (packet_pairs c.args.self.now) c.in_default.ensures.cut ∙ packet_none c.args.self.now) c.loop-line.invariant.few in
     request_fits c.args.self.now c.readings-sound.ensures.sound c.args.text.now c.loop-line.pairs.items read
+
+pub returns-clause-clean : goal.returns-clause-clean
+returns-clause-clean c = request_clean c.args.self.now c.readings-sound.ensures.sound c.args.text.now c.loop-line.pairs.items (returns-clause-read c)
 
 pub returns-clause-only : goal.returns-clause-only
 returns-clause-only c = λ other spelled. only_one (request_spelled c.args.text.now c.args.self.now) c.loop-line.pairs.items other (returns-clause-read c) spelled
