@@ -44,7 +44,7 @@ module _ (lines : List Reading) where
   unfolding greatest_length
   hidden_greatest id n h a b = rw h (omega arith)
 
-  octets_same : (id : AttrId) (v : Value) (d : Described) (os : List ℕ) → described id lines ≡ Some d → octets_of (Some d.kind) v ≡ os → octets id v lines ≡ os
+  pub octets_same : (id : AttrId) (v : Value) (d : Described) (os : List ℕ) → described id lines ≡ Some d → octets_of (Some d.kind) v ≡ os → octets id v lines ≡ os
   unfolding octets
   octets_same id v d os e h = rw e h
 

@@ -1,4 +1,4 @@
--- The pairs of whole attributes fit the dictionary.
+-- What holds of each pair that is read holds of the pairs of whole attributes: they fit the dictionary.
 use Rattle.std.proofs.Common.{◌≡◌, ℕ, zero, suc, ◌+◌, ◌-◌, ◌*◌, ◌^◌, ◌<◌, ◌≤◌, Bool, true, false, ◌&&◌, ◌||◌, ◌==◌, nat_le, cond, List, [], ◌∷◌, ◌++◌, length, take, drop, map, Option, Some, None, refl, ap, subst, arith, ◌⊎◌, inl, inr}
 use Rattle.std.specs.Prelude.{IfSome}
 use Rattle.std.specs.List.{All, AllByRecursion}
@@ -7,6 +7,7 @@ use Rattle.std.proofs.lemmas.Grind.{common_steps}
 use Rattle.std.proofs.lemmas.Int.Digits.{number_lt}
 use Rattle.std.proofs.lemmas.List.{length-append, length-drop, length-take, length-take-le}
 use Rattle.std.proofs.lemmas.List.Elements.{All-from_recursion}
+use Rattle.avp_lists.specs.declared.attributes.AttrId.{AttrId}
 use Rattle.avp_lists.specs.declared.attributes.AttrId.TheVariants.{Plain, Vendor, Extended}
 use Rattle.avp_lists.specs.declared.attributes.Pair.{Pair}
 use Rattle.avp_dict.specs.declared.entries.Format.{Format}
@@ -16,6 +17,7 @@ use Rattle.avp_dict.specs.Attributes.{is_held}
 use Rattle.avp_dict.specs.Definitions.{format_of}
 use Rattle.avp_dict.specs.Limits.{fits, is_known, most_octets, vendor_room}
 use Rattle.avp_dict.specs.Names.{unless_three, vendor_format}
+use Rattle.avp_dict.specs.Sent.{is_container}
 use Rattle.avp_dict.specs.Settled.{holds, is_in_format}
 use Rattle.avp_dict.specs.Vendors.{is_format}
 use Rattle.avp_packet.specs.Meanings.{Piece, Run, Sub, are_subs, begins_sub, extended_pair, extended_type, first_pairs, first_run, first_sub, joined, long_pair, meaning, meaning_behind, others, pair_of, piece_in, piece_of, raw_pair, run, run_with, sub_length, sub_pair, subs, subs_behind, subs_by, vendor_of, vendor_pairs, vendor_subs}
@@ -202,37 +204,45 @@ subs_good f most zero (o ∷ os) bytes few =
 
 -- ---- pairs
 
-module _ (lines : List Reading) (secret authenticator : List ℕ) where
-  abbrev Fits : Pair → Type 0
-  Fits p = fits p lines ≡ true
+-- P holds of each pair of a known id and octets that the id's attributes hold
+abbrev pub HoldsOfMade : List Reading → List ℕ → List ℕ → (Pair → Type 0) → Type 0
+HoldsOfMade lines secret authenticator P = (id : AttrId) (os : List ℕ) → is_known id lines ≡ true → AreBytes os → length os ≤ most_octets id lines → P (pair_of lines secret authenticator id os)
 
-  abbrev AreFitting : List Pair → Type 0
-  AreFitting pairs = AllByRecursion Fits pairs
+-- P holds of each attribute that holds others and is not looked into
+abbrev pub HoldsOfKept : (Pair → Type 0) → Type 0
+HoldsOfKept P = (p : Part) → IsGood p → is_container (Plain p.number) ≡ true → P (raw_pair p)
 
-  fitting-append : (xs ys : List Pair) → AreFitting xs → AreFitting ys → AreFitting (xs ++ ys)
-  fitting-append [] ys h k = k
-  fitting-append (x ∷ xs) ys h k = (h.0, fitting-append xs ys h.1 k)
+extended_held : (n : ℕ) → 241 ≤ n → n ≤ 246 → is_container (Plain n) ≡ true
+extended_held n low high =
+    let a : (n == 26) ≡ false = grind (arith, common_steps) in
+    let b : nat_le 241 n ≡ true = grind (arith, common_steps) in
+    let d : nat_le n 246 ≡ true = grind (arith, common_steps) in
+    rw (a, b, d) refl
 
-  raw_good : (p : Part) → IsGood p → Fits (raw_pair p)
-  unfolding fits is_known most_octets
-  raw_good p good =
-      let number : nat_le p.number 255 ≡ true = let low = good.number in grind (arith, common_steps) in
-      let short : nat_le (length p.value) 253 ≡ true = let few = good.short in grind (arith, common_steps) in
-      rw (number, short)
+module _ (lines : List Reading) (secret authenticator : List ℕ) (P : Pair → Type 0) (made : HoldsOfMade lines secret authenticator P) (kept : HoldsOfKept P) where
+  abbrev AllHold : List Pair → Type 0
+  AllHold pairs = AllByRecursion P pairs
 
-  plain_good : (p : Part) → IsGood p → Fits (pair_of lines secret authenticator (Plain p.number) p.value)
+  holds-append : (xs ys : List Pair) → AllHold xs → AllHold ys → AllHold (xs ++ ys)
+  holds-append [] ys h k = k
+  holds-append (x ∷ xs) ys h k = (h.0, holds-append xs ys h.1 k)
+
+  plain_good : (p : Part) → IsGood p → P (pair_of lines secret authenticator (Plain p.number) p.value)
   unfolding is_known most_octets
   plain_good p good =
       let number : nat_le p.number 255 ≡ true = let low = good.number in grind (arith, common_steps) in
-      pair_fits lines secret authenticator (Plain p.number) p.value refl good.bytes (rw number good.short)
+      made (Plain p.number) p.value refl good.bytes (rw number good.short)
 
-  extended_good : (p : Part) → IsGood p → 241 ≤ p.number → p.number ≤ 244 → Fits (extended_pair lines secret authenticator p)
+  extended_good : (p : Part) → IsGood p → 241 ≤ p.number → p.number ≤ 244 → P (extended_pair lines secret authenticator p)
   unfolding is_known most_octets
   extended_good p good low high = go p.value refl
     where
-      go : (value : List ℕ) → p.value ≡ value → Fits (extended_pair lines secret authenticator (record { number = p.number; value = value }))
-      go [] e = raw_good (record { number = p.number; value = [] }) (record { number = good.number; short = omega arith; bytes = tt })
-      go (n ∷ []) e = raw_good (record { number = p.number; value = n ∷ [] }) (record { number = good.number; short = omega arith; bytes = rw e at good.bytes })
+      held : is_container (Plain p.number) ≡ true
+      held = extended_held p.number low (omega arith)
+
+      go : (value : List ℕ) → p.value ≡ value → P (extended_pair lines secret authenticator (record { number = p.number; value = value }))
+      go [] e = kept (record { number = p.number; value = [] }) (record { number = good.number; short = omega arith; bytes = tt }) held
+      go (n ∷ []) e = kept (record { number = p.number; value = n ∷ [] }) (record { number = good.number; short = omega arith; bytes = rw e at good.bytes }) held
       go (n ∷ o ∷ os) e =
           let few = good.short in
           let same = ap length e in
@@ -241,74 +251,91 @@ module _ (lines : List Reading) (secret authenticator : List ℕ) where
           let b : nat_le p.number 246 ≡ true = grind (arith, common_steps) in
           let d : nat_le p.number 244 ≡ true = grind (arith, common_steps) in
           let short : length (o ∷ os) ≤ 252 = omega arith in
-          pair_fits lines secret authenticator (Extended p.number n) (o ∷ os) (rw (a, b)) bytes.1 (rw (a, d) short)
+          made (Extended p.number n) (o ∷ os) (rw (a, b)) bytes.1 (rw (a, d) short)
 
-  long_good : (p : Part) (ps : List Part) → AreGood (p ∷ ps) → size (p ∷ ps) ≤ 4076 → 245 ≤ p.number → p.number ≤ 246 → Fits (long_pair lines secret authenticator p (first_run p ps))
+  long_good : (p : Part) (ps : List Part) → AreGood (p ∷ ps) → size (p ∷ ps) ≤ 4076 → 245 ≤ p.number → p.number ≤ 246 → P (long_pair lines secret authenticator p (first_run p ps))
   unfolding is_known most_octets
   long_good p ps good few low high = go (first_run p ps) (run_good p.number (extended_type p) (p ∷ ps) good)
     where
-      go : (o : Option Run) → IfSome o (IsRun (p ∷ ps)) → Fits (long_pair lines secret authenticator p o)
-      go None h = raw_good p good.0
+      go : (o : Option Run) → IfSome o (IsRun (p ∷ ps)) → P (long_pair lines secret authenticator p o)
+      go None h = kept p good.0 (extended_held p.number (omega arith) high)
       go (Some r) h =
           let short : length r.os ≤ 4012 = run_short (p ∷ ps) r h few in
           let a : nat_le 241 p.number ≡ true = grind (arith, common_steps) in
           let b : nat_le p.number 246 ≡ true = grind (arith, common_steps) in
           let d : nat_le p.number 244 ≡ false = grind (arith, common_steps) in
           let e : nat_le 245 p.number ≡ true = grind (arith, common_steps) in
-          pair_fits lines secret authenticator (Extended p.number (extended_type p)) r.os (rw (a, b)) h.bytes (rw (a, d, e, b) short)
+          made (Extended p.number (extended_type p)) r.os (rw (a, b)) h.bytes (rw (a, d, e, b) short)
 
   -- the pairs of a vendor's attributes
-  sub_good : (v : ℕ) (f : Format) (s : Sub) → known_format v lines ≡ Some f → IsSub f 249 s → Fits (sub_pair lines secret authenticator v s)
+  sub_good : (v : ℕ) (f : Format) (s : Sub) → known_format v lines ≡ Some f → IsSub f 249 s → P (sub_pair lines secret authenticator v s)
   unfolding is_known most_octets known_format vendor_format is_in_format
   sub_good v f s known is =
       let x = known_of s.number f (format_of v lines) known in
       let few = is.short in
-      pair_fits lines secret authenticator (Vendor v s.number) s.value (x.holds is.number) is.bytes (rw x.room (omega arith))
+      made (Vendor v s.number) s.value (x.holds is.number) is.bytes (rw x.room (omega arith))
 
-  subs_fit : (v : ℕ) (f : Format) (ss : List Sub) → known_format v lines ≡ Some f → AllByRecursion (IsSub f 249) ss → AreFitting (map (sub_pair lines secret authenticator v) ss)
-  subs_fit v f [] known h = tt
-  subs_fit v f (s ∷ ss) known h = (sub_good v f s known h.0, subs_fit v f ss known h.1)
+  subs_hold : (v : ℕ) (f : Format) (ss : List Sub) → known_format v lines ≡ Some f → AllByRecursion (IsSub f 249) ss → AllHold (map (sub_pair lines secret authenticator v) ss)
+  subs_hold v f [] known h = tt
+  subs_hold v f (s ∷ ss) known h = (sub_good v f s known h.0, subs_hold v f ss known h.1)
 
-  vendor_good : (p : Part) → IsGood p → AreFitting (vendor_pairs lines secret authenticator p (vendor_subs lines p.value))
+  vendor_good : (p : Part) → IsGood p → is_container (Plain p.number) ≡ true → AllHold (vendor_pairs lines secret authenticator p (vendor_subs lines p.value))
   unfolding vendor_subs
-  vendor_good p good =
-      by_test (AreFitting (vendor_pairs lines secret authenticator p (cond (nat_le 4 (length p.value)) (option_and_then (subs_by p.value) (known_format (vendor_of p.value) lines)) None))) (nat_le 4 (length p.value))
+  vendor_good p good held =
+      by_test (AllHold (vendor_pairs lines secret authenticator p (cond (nat_le 4 (length p.value)) (option_and_then (subs_by p.value) (known_format (vendor_of p.value) lines)) None))) (nat_le 4 (length p.value))
       (λ e. let long : 4 ≤ length p.value = grind (arith, common_steps) in rw e (go (known_format (vendor_of p.value) lines) refl long))
-      (λ e. rw e (raw_good p good, tt))
+      (λ e. rw e (kept p good held, tt))
     where
-      go : (o : Option Format) → known_format (vendor_of p.value) lines ≡ o → 4 ≤ length p.value → AreFitting (vendor_pairs lines secret authenticator p (option_and_then (subs_by p.value) o))
-      go None known long = (raw_good p good, tt)
+      go : (o : Option Format) → known_format (vendor_of p.value) lines ≡ o → 4 ≤ length p.value → AllHold (vendor_pairs lines secret authenticator p (option_and_then (subs_by p.value) o))
+      go None known long = (kept p good held, tt)
       go (Some f) known long =
           let rest = length-drop 4 p.value in
           let few = good.short in
           let short : length (drop 4 p.value) ≤ 249 = omega arith in
-          by_test (AreFitting (vendor_pairs lines secret authenticator p (subs_by p.value f))) (are_subs f (drop 4 p.value))
-          (λ e. rw e (subs_fit (vendor_of p.value) f (subs f (drop 4 p.value)) known (subs_good f 249 0 (drop 4 p.value) (bytes-drop 4 p.value good.bytes) short)))
-          (λ e. rw e (raw_good p good, tt))
+          by_test (AllHold (vendor_pairs lines secret authenticator p (subs_by p.value f))) (are_subs f (drop 4 p.value))
+          (λ e. rw e (subs_hold (vendor_of p.value) f (subs f (drop 4 p.value)) known (subs_good f 249 0 (drop 4 p.value) (bytes-drop 4 p.value good.bytes) short)))
+          (λ e. rw e (kept p good held, tt))
 
-  first_good_pairs : (p : Part) (ps : List Part) → AreGood (p ∷ ps) → size (p ∷ ps) ≤ 4076 → AreFitting (first_pairs lines secret authenticator p ps)
+  first_good_pairs : (p : Part) (ps : List Part) → AreGood (p ∷ ps) → size (p ∷ ps) ≤ 4076 → AllHold (first_pairs lines secret authenticator p ps)
   first_good_pairs p ps good few =
-      by_test (AreFitting (first_pairs lines secret authenticator p ps)) (p.number == 26)
-      (λ e. rw e (vendor_good p good.0))
-      (λ e. by_test (AreFitting (first_pairs lines secret authenticator p ps)) (nat_le 241 p.number && nat_le p.number 244)
+      by_test (AllHold (first_pairs lines secret authenticator p ps)) (p.number == 26)
+      (λ e. let held : is_container (Plain p.number) ≡ true = rw e refl in rw e (vendor_good p good.0 held))
+      (λ e. by_test (AllHold (first_pairs lines secret authenticator p ps)) (nat_le 241 p.number && nat_le p.number 244)
       (λ f. let low : 241 ≤ p.number = grind (arith, common_steps) in
       let high : p.number ≤ 244 = grind (arith, common_steps) in
       rw (e, f) (extended_good p good.0 low high, tt))
-      (λ f. by_test (AreFitting (first_pairs lines secret authenticator p ps)) ((p.number == 245) || (p.number == 246))
+      (λ f. by_test (AllHold (first_pairs lines secret authenticator p ps)) ((p.number == 245) || (p.number == 246))
       (λ g. let low : 245 ≤ p.number = grind (arith, common_steps) in
       let high : p.number ≤ 246 = grind (arith, common_steps) in
       rw (e, f, g) (long_good p ps good few low high, tt))
       (λ g. rw (e, f, g) (plain_good p good.0, tt))))
 
-  meaning_fits : (k : ℕ) (ps : List Part) → AreGood ps → size ps ≤ 4076 → AreFitting (meaning_behind lines secret authenticator k ps)
+  meaning_holds : (k : ℕ) (ps : List Part) → AreGood ps → size ps ≤ 4076 → AllHold (meaning_behind lines secret authenticator k ps)
   unfolding meaning_behind
-  meaning_fits k [] good few = tt
-  meaning_fits (suc k) (p ∷ ps) good few = meaning_fits k ps good.1 (omega arith)
-  meaning_fits zero (p ∷ ps) good few =
-      fitting-append (first_pairs lines secret authenticator p ps) (meaning_behind lines secret authenticator (others p ps) ps) (first_good_pairs p ps good few) (meaning_fits (others p ps) ps good.1 (omega arith))
+  meaning_holds k [] good few = tt
+  meaning_holds (suc k) (p ∷ ps) good few = meaning_holds k ps good.1 (omega arith)
+  meaning_holds zero (p ∷ ps) good few =
+      holds-append (first_pairs lines secret authenticator p ps) (meaning_behind lines secret authenticator (others p ps) ps) (first_good_pairs p ps good few) (meaning_holds (others p ps) ps good.1 (omega arith))
+
+  -- it holds of the pairs of a packet's attributes
+  pub octets_hold : (os : List ℕ) → AreBytes os → length os ≤ 4076 → All P (meaning lines secret authenticator (parts os))
+  octets_hold os bytes short =
+      let few = size_behind 0 os in
+      All-from_recursion P (meaning lines secret authenticator (parts os)) (meaning_holds 0 (parts os) (good_behind 0 os bytes) (omega arith))
+
+-- ---- pairs that fit
+
+module _ (lines : List Reading) (secret authenticator : List ℕ) where
+  abbrev Fits : Pair → Type 0
+  Fits p = fits p lines ≡ true
+
+  raw_fits : (p : Part) → IsGood p → is_container (Plain p.number) ≡ true → Fits (raw_pair p)
+  unfolding fits is_known most_octets
+  raw_fits p good held =
+      let number : nat_le p.number 255 ≡ true = let low = good.number in grind (arith, common_steps) in
+      let short : nat_le (length p.value) 253 ≡ true = let few = good.short in grind (arith, common_steps) in
+      rw (number, short)
 
   -- the pairs of a packet's attributes fit
   pub octets_fit : (os : List ℕ) → AreBytes os → length os ≤ 4076 → All Fits (meaning lines secret authenticator (parts os))
-  octets_fit os bytes short =
-      let few = size_behind 0 os in
-      All-from_recursion Fits (meaning lines secret authenticator (parts os)) (meaning_fits 0 (parts os) (good_behind 0 os bytes) (omega arith))
+  octets_fit os bytes short = octets_hold lines secret authenticator Fits (pair_fits lines secret authenticator) raw_fits os bytes short

@@ -6,6 +6,7 @@ pub mod Means
 pub mod Nuls
 pub mod Octets
 pub mod OneMeaning
+pub mod Own
 pub mod PairCounts
 pub mod ReadBack
 pub mod Refused

@@ -1,14 +1,14 @@
 -- Attributes mean no more pairs than they have octets.
-use Rattle.std.proofs.Common.{◌≡◌, ◌∙◌, ℕ, zero, suc, ◌+◌, ◌-◌, ◌≤◌, Bool, true, false, ◌||◌, ◌&&◌, cond, nat_le, ◌==◌, List, [], ◌∷◌, ◌++◌, length, drop, take, map, Option, Some, None, refl, sym, ap, subst, arith}
+use Rattle.std.proofs.Common.{◌∙◌, ℕ, zero, suc, ◌+◌, ◌-◌, ◌≤◌, Bool, true, false, ◌||◌, ◌&&◌, cond, nat_le, ◌==◌, List, [], ◌∷◌, length, drop, Option, Some, None, ap, arith}
 use Rattle.std.specs.Prelude.{IfSome}
 use Rattle.std.specs.List.{flat_map}
-use Rattle.std.specs.Option.{option_and_then, option_map}
+use Rattle.std.specs.Option.{option_and_then}
 use Rattle.std.proofs.lemmas.List.{length-append, length-drop, length-map}
 use Rattle.avp_lists.specs.declared.attributes.AttrId.TheVariants.{Plain}
 use Rattle.avp_lists.specs.declared.attributes.Pair.{Pair}
 use Rattle.avp_dict.specs.declared.entries.Format.{Format}
 use Rattle.avp_dict.specs.declared.readings.Reading.{Reading}
-use Rattle.avp_packet.specs.Meanings.{Sub, are_subs, begins_sub, extended_pair, first_pairs, first_run, first_sub, long_pair, meaning, meaning_behind, others, pair_of, raw_pair, sub_length, sub_pair, subs, subs_behind, subs_by, vendor_of, vendor_pairs, vendor_subs}
+use Rattle.avp_packet.specs.Meanings.{Sub, are_subs, begins_sub, extended_pair, first_pairs, first_run, first_sub, long_pair, meaning, meaning_behind, others, pair_of, sub_length, sub_pair, subs, subs_behind, subs_by, vendor_of, vendor_pairs, vendor_subs}
 use Rattle.avp_packet.specs.Splitting.{Part, left, part_octets, parts}
 use Rattle.avp_packet.specs.VendorFormats.{known_format}
 use Rattle.avp_packet.proofs.Splits.{is_split}

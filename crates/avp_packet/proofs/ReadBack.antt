@@ -25,14 +25,14 @@ use Rattle.avp_dict.specs.Soundness.{IsSound}
 use Rattle.avp_dict.specs.Vendors.{is_format}
 use Rattle.avp_packet.specs.AttributeOctets.{attribute_octets, fragments, is_long, part, parts_holding, parts_of, parts_of_pair, sent_octets, vendor_value}
 use Rattle.avp_packet.specs.Meanings.{Run, are_subs, are_subs_behind, begins_sub, extended_type, first_run, first_sub, meaning, others, pair_of, piece_of, run, sub_length, subs, subs_behind, vendor_of, vendor_subs}
-use Rattle.avp_packet.specs.Splitting.{Part, part_octets, parts}
+use Rattle.avp_packet.specs.Splitting.{Part, left, part_octets, parts}
 use Rattle.avp_packet.specs.VendorFormats.{HasKnownFormats, known_format, usable}
 use Rattle.avp_packet.specs.code.Holding.{CanHold, FitsFormat}
 use Rattle.avp_packet.specs.code.Ranges.{IsVendorInRange}
 use Rattle.avp_packet.proofs.Means.{meaning-cons, meaning-nil}
 use Rattle.avp_packet.proofs.Rooms.{and_left, and_right, by_test, fits_known, format_of_size, sent_by, sent_held}
 use Rattle.avp_packet.proofs.Runs.{run-some, run_rest}
-use Rattle.avp_packet.proofs.Splits.{parts-all, parts-none}
+use Rattle.avp_packet.proofs.Splits.{left-all, left-none, parts-all, parts-none}
 use Rattle.avp_packet.proofs.Subs.{are_subs_more, subs_more}
 use Rattle.avp_packet.proofs.Values.{value_back}
 use Rattle.avp_packet.proofs.Written.{length-bytes_high_first, length-vendor_value}
@@ -295,6 +295,15 @@ module _ (lines : List Reading) (sound : IsSound lines) (formats : HasKnownForma
   nothing_read = meaning-nil lines secret authenticator
 
   -- ---- octets
+
+  -- no octets are left behind the attributes
+  pub written_whole : (pairs : List Pair) → left (attribute_octets lines secret authenticator pairs) ≡ []
+  written_whole pairs =
+      let ps : List Part = parts_of lines secret authenticator pairs in
+      ap left (sym (append-nil (flat_map part_octets ps))) ∙ left-all ps [] ∙ left-none [] refl
+
+  pub both_whole : (pairs others : List Pair) → left (attribute_octets lines secret authenticator pairs ++ attribute_octets lines secret authenticator others) ≡ []
+  both_whole pairs others = left-all (parts_of lines secret authenticator pairs) (attribute_octets lines secret authenticator others) ∙ written_whole others
 
   pub written_means : (pairs : List Pair) → is_clean pairs lines ≡ true → All (λ p. IsVendorInRange p.id) pairs → means (parts (attribute_octets lines secret authenticator pairs)) ≡ sent pairs lines
   written_means pairs clean ranged =

@@ -32,7 +32,7 @@ not_false true e = sym e
 not_false false e = refl
 
 module _ (lines : List Reading) (sound : IsSound lines) where
-  hides_text : (id : AttrId) (d : Described) → described id lines ≡ Some d → d.hidden ≡ true → is_text_kind (Some d.kind) ≡ true
+  pub hides_text : (id : AttrId) (d : Described) → described id lines ≡ Some d → d.hidden ≡ true → is_text_kind (Some d.kind) ≡ true
   hides_text id d e h =
       let x = is_described lines sound id d e in
       let text : is_text_kind (Some x.typing.kind) ≡ true = x.keeps.hides (x.hidden ∙ h) in

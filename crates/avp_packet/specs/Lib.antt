@@ -3,6 +3,7 @@ pub mod Hiding
 pub mod Meanings
 pub mod Means
 pub mod Outcomes
+pub mod Own
 pub mod Packets
 pub mod Splitting
 pub mod VendorFormats

@@ -7,6 +7,7 @@ ghost use Rattle.avp_dict.specs.Limits.{fits};
 ghost use Rattle.avp_packet.specs.Meanings.{meaning};
 ghost use Rattle.avp_packet.specs.Means.{Means};
 ghost use Rattle.avp_packet.specs.Outcomes.{Gives};
+ghost use Rattle.avp_packet.specs.Own.{IsOwn};
 ghost use Rattle.avp_packet.specs.Packets.{IsRequestCode, attributes_of, authenticator_of, decoded, hiding_authenticator, length_of, packet_read, request_read};
 ghost use Rattle.avp_packet.specs.Splitting.{left, parts};
 
@@ -60,6 +61,7 @@ fn read_packet(
     requires whole { length_of octets.now ≤ length octets.now }
     requires short { length_of octets.now ≤ MOST_OCTETS }
     ensures fits { IfOk result (λ packet. All (λ pair. fits pair dictionary.now ≡ true) packet.list) }
+    ensures own { IfOk result (λ packet. All (IsOwn dictionary.now) packet.list) }
     ensures means { IfOk result (λ packet. packet.list ≡ meaning dictionary.now secret.now (hiding_authenticator packet.code packet.authenticator) (parts (attributes_of octets.now))) }
     ensures packet { IfOk result (λ packet. packet ≡ packet_read dictionary.now secret.now octets.now) }
     ensures few { IfOk result (λ packet. length packet.list ≤ length_of octets.now) }
@@ -88,6 +90,7 @@ fn read_request(
     requires whole { length_of octets.now ≤ length octets.now }
     requires short { length_of octets.now ≤ MOST_OCTETS }
     ensures fits { IfOk result (λ packet. All (λ pair. fits pair dictionary.now ≡ true) packet.list) }
+    ensures own { IfOk result (λ packet. All (IsOwn dictionary.now) packet.list) }
     ensures means { IfOk result (λ packet. packet.list ≡ meaning dictionary.now secret.now (hiding_authenticator packet.code packet.authenticator) (parts (attributes_of octets.now))) }
     ensures read { Gives result (request_read dictionary.now secret.now octets.now) }
     ensures code { IfOk result (λ packet. IsRequestCode packet.code) }
@@ -117,6 +120,9 @@ pub fn decode(
 ) -> Result<Packet, PacketFault>
     requires { 0 < length secret.now }
     ensures fits { IfOk result (λ packet. All (λ pair. fits pair dictionary.now ≡ true) packet.list) }
+
+    // Each pair's own octets stand for its value, but for an attribute that holds others and is not looked into.
+    ensures own { IfOk result (λ packet. All (IsOwn dictionary.now) packet.list) }
 
     // The list is the one that the attributes mean.
     ensures means { IfOk result (λ packet. Means dictionary.now secret.now (hiding_authenticator packet.code packet.authenticator) (parts (attributes_of octets.now)) packet.list) }

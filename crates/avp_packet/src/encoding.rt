@@ -1,13 +1,13 @@
 //! Packets written (RFC 2865, section 3; RFC 2866, section 3).
 
-ghost use Rattle.std.specs.Prelude.{◌≡◌, ◌≤◌, ◌<◌, ◌++◌, true, length, All, OnOk, IfOk, Err};
+ghost use Rattle.std.specs.Prelude.{◌≡◌, ◌≤◌, ◌<◌, ◌++◌, [], true, length, All, OnOk, IfOk, Err};
 ghost use Rattle.avp_lists.specs.declared.attributes.AttrId.TheVariants.{Plain};
 ghost use Rattle.avp_dict.specs.Limits.{fits};
 ghost use Rattle.avp_dict.specs.Sent.{is_clean, sent};
 ghost use Rattle.avp_packet.specs.AttributeOctets.{attribute_octets};
 ghost use Rattle.avp_packet.specs.Means.{Means};
 ghost use Rattle.avp_packet.specs.Packets.{IsReplyCode, IsRequestCode, attributes_of, hiding_authenticator, is_reply, packet, reply, reply_attributes, request, request_attributes, request_authenticator};
-ghost use Rattle.avp_packet.specs.Splitting.{parts};
+ghost use Rattle.avp_packet.specs.Splitting.{left, parts};
 ghost use Rattle.avp_packet.specs.code.Ranges.{IsVendorInRange};
 
 use crate::authenticators::{HEAD_OCTETS, MOST_OCTETS, ZEROS, digest_of_packet};
@@ -143,7 +143,8 @@ pub fn encode_request(
     requires fits { All (λ pair. fits pair dictionary.now ≡ true) list.now }
     ensures octets { IfOk result (λ octets. octets.items ≡ request dictionary.now secret.now code id authenticator.now list.now) }
     ensures short { OnOk result (length (request dictionary.now secret.now code id authenticator.now list.now) ≤ MOST_OCTETS) }
-    // What is written of a clean list means the pairs that are sent.
+    // The attributes are whole, and what is written of a clean list means the pairs that are sent.
+    ensures whole { IfOk result (λ octets. left (attributes_of octets.items) ≡ []) }
     ensures means { IfOk result (λ octets. is_clean list.now dictionary.now ≡ true
         → Means dictionary.now secret.now (hiding_authenticator code authenticator.now) (parts (attributes_of octets.items)) (sent list.now dictionary.now)) }
     ensures too_long { result ≡ Err EncodeFault.TooLong → MOST_OCTETS < length (request dictionary.now secret.now code id authenticator.now list.now) }
@@ -186,7 +187,8 @@ pub fn encode_reply(
     ensures octets { IfOk result (λ octets. octets.items ≡ reply dictionary.now secret.now code id request_authenticator.now list.now proxy_states.now) }
     ensures short { OnOk result (length (reply dictionary.now secret.now code id request_authenticator.now list.now proxy_states.now) ≤ MOST_OCTETS) }
 
-    // What is written of clean lists means the pairs that are sent.
+    // The attributes are whole, and what is written of clean lists means the pairs that are sent.
+    ensures whole { IfOk result (λ octets. left (attributes_of octets.items) ≡ []) }
     ensures means { IfOk result (λ octets. is_clean list.now dictionary.now ≡ true → is_clean proxy_states.now dictionary.now ≡ true
         → Means dictionary.now secret.now (hiding_authenticator code request_authenticator.now) (parts (attributes_of octets.items)) (sent list.now dictionary.now ++ sent proxy_states.now dictionary.now)) }
 

@@ -4,6 +4,7 @@ ghost use Rattle.std.specs.Prelude.{◌≡◌, ◌<◌, ◌≤◌, ◌∷◌, �
 ghost use Rattle.avp_dict.specs.Limits.{fits};
 ghost use Rattle.avp_packet.specs.AttributeOctets.{part};
 ghost use Rattle.avp_packet.specs.Meanings.{first_pairs, first_run, long_pair, meaning, others, others_in};
+ghost use Rattle.avp_packet.specs.Own.{IsOwn};
 ghost use Rattle.avp_packet.specs.Splitting.{part_octets, parts};
 
 use crate::fragments::join_run;
@@ -108,7 +109,9 @@ pub(crate) fn read_pairs(
     requires short { length octets.now ≤ MOST_ATTRIBUTE_OCTETS }
     ensures pairs { IfOk result (λ pairs. pairs.items ≡ meaning dictionary.now secret.now authenticator.now (parts octets.now)) }
     ensures fits { IfOk result (λ pairs. All (λ pair. fits pair dictionary.now ≡ true) pairs.items) }
+    ensures own { IfOk result (λ pairs. All (IsOwn dictionary.now) pairs.items) }
 {
+    dictionary.is_sound();
     let mut pairs = Vec::new(alloc);
     let mut rest = octets;
     while let Some(front) = first_attribute(rest) {

@@ -1,6 +1,5 @@
-use Rattle.std.proofs.Common.{◌≡◌, ◌∙◌, ◌≤◌, ℕ, List, ap, length, drop, take, subst, arith}
+use Rattle.std.proofs.Common.{◌∙◌, ℕ, List, ap, length, take, arith}
 use Rattle.std.proofs.lemmas.List.{length-drop, length-take}
-use Rattle.avp_lists.specs.declared.attributes.Pair.{Pair}
 use Rattle.avp_packet.proofs.PairCounts.{few_pairs}
 use Rattle.avp_packet.proofs.decoding.read_packet.Goals as goal
 

@@ -4,6 +4,7 @@ use Rattle.avp_packet.specs.AttributeOctets.{part}
 use Rattle.avp_packet.proofs.FittedLists.{octets_fit}
 use Rattle.avp_packet.proofs.Octets.{bytes_by_index}
 use Rattle.avp_packet.proofs.Means.{none_left, one_read}
+use Rattle.avp_packet.proofs.Own.{octets_own}
 use Rattle.avp_packet.proofs.pairs.read_pairs.Goals as goal
 
 pub loop-front-preserved : goal.loop-front-preserved
@@ -22,10 +23,12 @@ returns-clause-pairs c =
 
 pub returns-clause-fits : goal.returns-clause-fits
 returns-clause-fits c =
-    let old = c.loop-front.pairs.items in
-    let all = sym (append-nil old)
-    ∙ ap (λ (pairs : List Pair). old ++ pairs) (sym (none_left c.args.dictionary.now c.args.secret.now c.args.authenticator.now old c.loop-front.rest.now c.in_default.ensures.none))
-    ∙ c.loop-front.invariant in
     let below : (i : ℕ) → get_or c.args.octets.now i 0 < 256 = search rules in
     let bytes = bytes_by_index c.args.octets.now below in
-    rw all (octets_fit c.args.dictionary.now c.args.secret.now c.args.authenticator.now c.args.octets.now bytes c.requires.short)
+    rw (returns-clause-pairs c) (octets_fit c.args.dictionary.now c.args.secret.now c.args.authenticator.now c.args.octets.now bytes c.requires.short)
+
+pub returns-clause-own : goal.returns-clause-own
+returns-clause-own c =
+    let below : (i : ℕ) → get_or c.args.octets.now i 0 < 256 = search rules in
+    let bytes = bytes_by_index c.args.octets.now below in
+    rw (returns-clause-pairs c) (octets_own c.args.dictionary.now c.is_sound.ensures.sound c.args.secret.now c.args.authenticator.now c.args.octets.now bytes c.requires.short)
