@@ -2,7 +2,7 @@
 use Rattle.std.proofs.Common.{◌≡◌, ℕ, zero, suc, ◌+◌, ◌*◌, ◌≤◌, ◌<◌, max, List, [], ◌∷◌, Option, Some, None, map, ap, sym, ◌∙◌, arith}
 use Rattle.std.specs.Prelude.{Bool, codes}
 use Rattle.avp_dict.specs.declared.readings.Reading.{Reading}
-use Rattle.avp_unlang.specs.Forms.{Form, Step, While, Others, Chain}
+use Rattle.avp_unlang.specs.Forms.{Form, Step, While, Chain}
 use Rattle.avp_unlang.specs.Places.{Place, start_of}
 use Rattle.avp_unlang.specs.Policies.{SpellsPolicy}
 use Rattle.avp_unlang.specs.Statements.{BlockIs, branch_of, BranchIs, Otherwise, StatementFrom, Nested, keyword_in, begins_word}
@@ -20,6 +20,7 @@ use Rattle.avp_unlang.specs.declared.tree.Statement.TheFolds.{fold-roll-Branch, 
 use Rattle.avp_unlang.specs.declared.tree.Statement.TheOpen as layer
 use Rattle.avp_unlang.specs.declared.tree.Statement.TheVariants.{Update, If, Transaction, Word, rolls-Update, rolls-If, rolls-Transaction, rolls-Word}
 use Rattle.avp_unlang.specs.Depth.{branch_depth, depth, depth_of, depth_of_branch, depth_of_branches, else_depth, greatest, statement_depth}
+use Rattle.avp_unlang.proofs.Spelled.{Holds, block_holds, chain_holds, while_holds}
 
 -- ---- statements by their kind
 
@@ -40,23 +41,19 @@ depth_Word n word = ap depth (sym (rolls-Word n word)) ∙ fold-roll-Statement �
 
 -- what a form spells is at most so deep
 abbrev AtMost : {A : Type 0} → (A → ℕ) → ℕ → Form Place A → Type 0
-AtMost {A = A} f k form = (p : Place) (x : A) (rest : Place) → form p x rest → f x ≤ k
+AtMost f k = Holds (λ x. f x ≤ k)
+
+more_at_most : {A : Type 0} (f : A → ℕ) (k : ℕ) (x : A) (xs : List A) → f x ≤ k → greatest (map f xs) ≤ k → greatest (map f (x ∷ xs)) ≤ k
+more_at_most f k x xs first others = omega arith
 
 while_at_most : {A : Type 0} (f : A → ℕ) (k : ℕ) (begins : Place → Bool) (form : Form Place A) → AtMost f k form → AtMost (λ xs. greatest (map f xs)) k (While begins form)
-while_at_most f k begins form each p [] rest h = omega arith
-while_at_most f k begins form each p (x ∷ xs) rest h = omega (arith, each p x h.1 h.2, while_at_most f k begins form each h.1 xs rest h.3)
-
-others_at_most : {A : Type 0} (f : A → ℕ) (k : ℕ) (step : Step Place) (form : Form Place A) → AtMost f k form → AtMost (λ xs. greatest (map f xs)) k (Others step form)
-others_at_most f k step form each p [] rest h = omega arith
-others_at_most f k step form each p (x ∷ xs) rest h = omega (arith, each h.0 x h.2 h.3, others_at_most f k step form each h.2 xs rest h.4)
+while_at_most f k begins form each = while_holds (λ x. f x ≤ k) (λ xs. greatest (map f xs) ≤ k) (omega arith) (more_at_most f k) form each begins
 
 chain_at_most : {A : Type 0} (f : A → ℕ) (k : ℕ) (step : Step Place) (form : Form Place A) → AtMost f k form → AtMost (λ xs. greatest (map f xs)) k (Chain step form)
-chain_at_most f k step form each p [] rest h = absurd h
-chain_at_most f k step form each p (x ∷ xs) rest h = omega (arith, each p x h.0 h.1, others_at_most f k step form each h.0 xs rest h.2)
+chain_at_most f k step form each = chain_holds (λ x. f x ≤ k) (λ xs. greatest (map f xs) ≤ k) (omega arith) (more_at_most f k) form each step
 
 block_at_most : {A : Type 0} (f : A → ℕ) (k n : ℕ) (begins : Place → Bool) (inner : Form Place A) → AtMost f k inner → AtMost (λ xs. greatest (map f xs)) k (BlockIs n begins inner)
-block_at_most f k n begins inner each p xs rest h =
-    omega (arith, ap (λ (ys : List _). greatest (map f ys)) h.1.2.3.2.0, while_at_most f k begins inner each h.1.0 h.1.2.0 h.1.2.1 h.1.2.2)
+block_at_most f k n begins inner each = block_holds (λ x. f x ≤ k) (λ xs. greatest (map f xs) ≤ k) (omega arith) (more_at_most f k) inner each n begins
 
 depth_of_spelled : (line : ℕ) (c : Cond) (block : List Statement) → depth_of_branch (branch_of line c block) ≡ depth_of block
 depth_of_spelled line c block = fold-roll-Branch ℕ ℕ statement_depth branch_depth (record { line = line; cond = c; block = block })

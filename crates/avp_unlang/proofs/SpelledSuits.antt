@@ -1,18 +1,14 @@
 -- A policy that was read suits the dictionary, if names stand for known ids.
-use Rattle.std.proofs.Common.{◌≡◌, ℕ, zero, suc, Bool, true, false, ◌&&◌, cond, List, [], ◌∷◌, map, Option, Some, None, refl, sym, ap, ap₂, subst, ◌∙◌}
+use Rattle.std.proofs.Common.{◌≡◌, ℕ, zero, suc, Bool, true, false, ◌&&◌, List, [], ◌∷◌, map, Option, Some, None, refl, sym, ap, ap₂, subst, ◌∙◌}
+use Rattle.std.proofs.lemmas.Bool.{and_parts}
 use Rattle.std.specs.Option.{option_and_then, option_map}
-use Rattle.std.specs.Result.{result_ok}
 use Rattle.std.specs.Prelude.{codes}
 use Rattle.avp_lists.specs.declared.attributes.AttrId.{AttrId}
-use Rattle.avp_lists.specs.declared.attributes.Value.{Value}
 use Rattle.avp_lists.specs.declared.lists.List.{List as Name}
 use Rattle.avp_dict.specs.declared.entries.Named.{Named}
 use Rattle.avp_dict.specs.declared.readings.Reading.{Reading}
 use Rattle.avp_dict.specs.declared.quotes.QuoteMark.TheVariants.{Double, Single}
-use Rattle.avp_dict.specs.Limits.{fits}
 use Rattle.avp_dict.specs.Quotes.{single_quoted_octets}
-use Rattle.avp_dict.specs.Requests.{pair_with}
-use Rattle.avp_dict.specs.Spellings.{value_spelled}
 use Rattle.avp_unlang.specs.declared.codes.Code.{Code}
 use Rattle.avp_unlang.specs.declared.statements.Keyword.{Keyword}
 use Rattle.avp_unlang.specs.declared.statements.Keyword.TheVariants as keyword
@@ -28,77 +24,48 @@ use Rattle.avp_unlang.specs.declared.tree.Cond.TheFolds.{fold-roll-Cond}
 use Rattle.avp_unlang.specs.declared.tree.Cond.TheOpen as open_cond
 use Rattle.avp_unlang.specs.declared.tree.Cond.TheVariants.{Any, All, Not, Last, Present, Compare, rolls-Any, rolls-All, rolls-Not, rolls-Last, rolls-Present, rolls-Compare}
 use Rattle.avp_unlang.specs.declared.tree.Line.{Line}
-use Rattle.avp_unlang.specs.declared.tree.Part.{Part}
 use Rattle.avp_unlang.specs.declared.tree.Relation.{Relation}
-use Rattle.avp_unlang.specs.declared.tree.Source.{Source}
-use Rattle.avp_unlang.specs.declared.tree.Source.TheVariants as source
 use Rattle.avp_unlang.specs.declared.tree.Statement.{Statement}
 use Rattle.avp_unlang.specs.declared.tree.Statement.TheFolds.{fold-roll-Statement, fold-roll-Branch, fold_out-Branch}
 use Rattle.avp_unlang.specs.declared.tree.Statement.TheOpen as layer
 use Rattle.avp_unlang.specs.declared.tree.Statement.TheVariants.{Update, If, Transaction, Word, rolls-Update, rolls-If, rolls-Transaction, rolls-Word}
 use Rattle.avp_unlang.specs.Conditions.{relation_of, plain_octets, ComparandFrom, comparison_of, ComparedFrom, ComparedIs, WordFrom, any_of, all_of, Both, Either, Closed, OperandFrom, Within}
 use Rattle.avp_unlang.specs.References.{reference, target_in, type_of}
-use Rattle.avp_unlang.specs.Resolutions.{line_suits, literal_fits, pair_of}
+use Rattle.avp_unlang.specs.Resolutions.{line_suits, literal_fits}
 use Rattle.avp_unlang.specs.Suiting.{NamesKnown, branch_layer_suits, branches_suit, else_suits, branch_suits, comparand_suits, comparison_suits, cond_layer_suits, cond_suits, itself, policy_suits, same_kind, statement_layer_suits, statement_suits}
 use Rattle.avp_dict.specs.Limits.{is_known}
 use Rattle.avp_dict.specs.Names.{named}
 use Rattle.avp_dict.specs.declared.readings.Kind.{Kind}
 use Rattle.avp_dict.specs.declared.readings.Kind.TheVariants as kinds
 use Rattle.std.specs.List.{list_all}
-use Rattle.avp_unlang.specs.Forms.{Form, Step, While, Others, Chain}
+use Rattle.avp_unlang.specs.Forms.{Form, Step, While, Chain}
 use Rattle.avp_unlang.specs.Lines.{LineIs, begins_line, line_of}
 use Rattle.avp_unlang.specs.Places.{Place, start_of}
 use Rattle.avp_unlang.specs.Policies.{SpellsPolicy}
-use Rattle.avp_unlang.specs.Sources.{fitting, literal, whole_text, filled, ValueFrom, SourceBy, is_removal}
+use Rattle.avp_unlang.specs.Sources.{literal, SourceBy, is_removal}
 use Rattle.avp_unlang.specs.Statements.{BlockIs, branch_of, BranchIs, Otherwise, StatementFrom, Nested, keyword_in, list_at, begins_word}
 use Rattle.avp_unlang.specs.Steps.{Follows}
 use Rattle.avp_unlang.specs.Tokens.{next_token}
 use Rattle.avp_unlang.specs.Words.{code_named}
 use Rattle.avp_unlang.proofs.Determined.{some_is}
+use Rattle.avp_unlang.proofs.Spelled.{Holds, block_holds, chain_holds, literal_is, mapped, value_holds, while_holds}
 
 -- ---- lists
 
 abbrev Suits : {A : Type 0} → (A → Bool) → Form Place A → Type 0
-Suits {A = A} f form = (p : Place) (x : A) (rest : Place) → form p x rest → f x ≡ true
+Suits f = Holds (λ x. f x ≡ true)
 
 both_true : (a b : Bool) → a ≡ true → b ≡ true → (a && b) ≡ true
 both_true a b e f = ap₂ (λ x y. x && y) e f
 
 while_fits : {A : Type 0} (f : A → Bool) (begins : Place → Bool) (form : Form Place A) → Suits f form → Suits (λ xs. list_all f xs) (While begins form)
-while_fits f begins form each p [] rest h = refl
-while_fits f begins form each p (x ∷ xs) rest h = both_true (f x) (list_all f xs) (each p x h.1 h.2) (while_fits f begins form each h.1 xs rest h.3)
-
-others_fit : {A : Type 0} (f : A → Bool) (step : Step Place) (form : Form Place A) → Suits f form → Suits (λ xs. list_all f xs) (Others step form)
-others_fit f step form each p [] rest h = refl
-others_fit f step form each p (x ∷ xs) rest h = both_true (f x) (list_all f xs) (each h.0 x h.2 h.3) (others_fit f step form each h.2 xs rest h.4)
+while_fits f begins form each = while_holds (λ x. f x ≡ true) (λ xs. list_all f xs ≡ true) refl (λ x xs. both_true (f x) (list_all f xs)) form each begins
 
 chain_fits : {A : Type 0} (f : A → Bool) (step : Step Place) (form : Form Place A) → Suits f form → Suits (λ xs. list_all f xs) (Chain step form)
-chain_fits f step form each p [] rest h = absurd h
-chain_fits f step form each p (x ∷ xs) rest h = both_true (f x) (list_all f xs) (each p x h.0 h.1) (others_fit f step form each h.0 xs rest h.2)
+chain_fits f step form each = chain_holds (λ x. f x ≡ true) (λ xs. list_all f xs ≡ true) refl (λ x xs. both_true (f x) (list_all f xs)) form each step
 
 block_fits : {A : Type 0} (f : A → Bool) (n : ℕ) (begins : Place → Bool) (inner : Form Place A) → Suits f inner → Suits (λ xs. list_all f xs) (BlockIs n begins inner)
-block_fits f n begins inner each p xs rest h =
-    ap (λ (ys : List _). list_all f ys) h.1.2.3.2.0 ∙ while_fits f begins inner each h.1.0 h.1.2.0 h.1.2.1 h.1.2.2
-
--- ---- literals
-
-kept : (b : Bool) (w v : Value) → cond b (Some w) None ≡ Some v → (b ≡ true) × (w ≡ v)
-kept true w v e = (refl, some_is w v e)
-kept false w v e = absurd cc
-
-spelled_fits : (lines : List Reading) (name : Named) (o : Option Value) (v : Value) → option_and_then (fitting lines name) o ≡ Some v → fits (pair_of name.id v) lines ≡ true
-spelled_fits lines name None v e = absurd cc
-spelled_fits lines name (Some w) v e =
-    let k = kept (fits (pair_with name w) lines) w v e in
-    subst (λ (x : Value). fits (pair_of name.id x) lines ≡ true) k.1 k.0
-
-a_literal_fits : (lines : List Reading) (name : Named) (text : List ℕ) (v : Value) → literal lines name text ≡ Some v → fits (pair_of name.id v) lines ≡ true
-unfolding literal
-a_literal_fits lines name text v e = spelled_fits lines name (result_ok (value_spelled name text lines)) v e
-
-mapped : {A B : Type 0} (f : A → B) (o : Option A) (z : B) → option_map f o ≡ Some z → (n : A) × (o ≡ Some n) × (f n ≡ z)
-mapped f None z e = absurd cc
-mapped f (Some n) z e = (n, refl, some_is (f n) z e)
+block_fits f n begins inner each = block_holds (λ x. f x ≡ true) (λ xs. list_all f xs ≡ true) refl (λ x xs. both_true (f x) (list_all f xs)) inner each n begins
 
 all_itself : {A : Type 0} (f : A → Bool) (xs : List A) → list_all itself (map f xs) ≡ list_all f xs
 all_itself f [] = refl
@@ -150,30 +117,11 @@ same_kind_self kinds.Ether = refl
 module _ (lines : List Reading) (known : NamesKnown lines) where
   -- ---- update lines
 
-  literal_literal_fits : (name : Named) (text : List ℕ) (s : Source) → option_map source.Literal (literal lines name text) ≡ Some s → literal_fits lines name.id s ≡ true
-  literal_literal_fits name text s e =
-      let m = mapped source.Literal (literal lines name text) s e in
-      subst (λ (x : Source). literal_fits lines name.id x ≡ true) m.2 (a_literal_fits lines name text m.0 m.1)
-
-  filled_by_fits : (name : Named) (parts : List Part) (o : Option (List ℕ)) (s : Source)
-      → elim o [ Some text ↦ option_map source.Literal (literal lines name text) | None ↦ Some (source.Text name.raw parts) ] ≡ Some s → literal_fits lines name.id s ≡ true
-  filled_by_fits name parts (Some text) s e = literal_literal_fits name text s e
-  filled_by_fits name parts None s e = subst (λ (x : Source). literal_fits lines name.id x ≡ true) (some_is (source.Text name.raw parts) s e) refl
-
-  filled_fits : (name : Named) (parts : List Part) (s : Source) → filled lines name parts ≡ Some s → literal_fits lines name.id s ≡ true
-  unfolding filled
-  filled_fits name parts s e = filled_by_fits name parts (whole_text parts) s e
-
-  value_from_fits : (name : Named) (t : Token) → Suits (literal_fits lines name.id) (ValueFrom lines name t)
-  value_from_fits name (token.Word text) p s rest h = literal_literal_fits name text s h.0
-  value_from_fits name (token.Quoted Single text) p s rest h = literal_literal_fits name (single_quoted_octets text) s h.0
-  value_from_fits name (token.Quoted Double text) p s rest h = filled_fits name h.0.1 s h.0.3
-  value_from_fits name (token.Operator sign.Reference) p s rest h = ap (literal_fits lines name.id) h.2
-  value_from_fits name _ p s rest h = absurd h
-
   source_by_fits : (b : Bool) (name : Named) → Suits (literal_fits lines name.id) (SourceBy b lines name)
   source_by_fits true name p s rest h = ap (literal_fits lines name.id) h.1
-  source_by_fits false name p s rest h = value_from_fits name (next_token p).0 (next_token p).1 s rest h.1
+  source_by_fits false name p s rest h =
+      value_holds lines name (λ x. literal_fits lines name.id x ≡ true) (λ text v e. (literal_is lines name text v e).1) (λ parts. refl) (λ list id. refl)
+      (next_token p).0 (next_token p).1 s rest h.1
 
   target_known : (o : Option Named) (in_list : Name) (target : Name × Named) → ((n : Named) → o ≡ Some n → is_known n.id lines ≡ true) → option_map (λ n. (in_list, n)) o ≡ Some target → is_known target.1.id lines ≡ true
   target_known None in_list target h e = absurd cc
@@ -220,18 +168,14 @@ module _ (lines : List Reading) (known : NamesKnown lines) where
   unfolding cond_suits
   fits_Compare x = ap (cond_suits lines) (sym (rolls-Compare x)) ∙ fold-roll-Cond Bool (cond_layer_suits lines) (open_cond.Compare x)
 
-  first_true : (a b : Bool) → (a && b) ≡ true → a ≡ true
-  first_true true b e = refl
-  first_true false b e = e
-
   any_fits : (cs : List Cond) → list_all (cond_suits lines) cs ≡ true → cond_suits lines (any_of cs) ≡ true
   any_fits [] h = fits_Any [] ∙ h
-  any_fits (c ∷ []) h = first_true (cond_suits lines c) true h
+  any_fits (c ∷ []) h = (and_parts (cond_suits lines c) true h).0
   any_fits (c ∷ d ∷ cs) h = fits_Any (c ∷ d ∷ cs) ∙ h
 
   all_fits : (cs : List Cond) → list_all (cond_suits lines) cs ≡ true → cond_suits lines (all_of cs) ≡ true
   all_fits [] h = fits_All [] ∙ h
-  all_fits (c ∷ []) h = first_true (cond_suits lines c) true h
+  all_fits (c ∷ []) h = (and_parts (cond_suits lines c) true h).0
   all_fits (c ∷ d ∷ cs) h = fits_All (c ∷ d ∷ cs) ∙ h
 
   module _ (found : Name × Named) (relation : Relation) (y : Comparand) where
@@ -241,7 +185,7 @@ module _ (lines : List Reading) (known : NamesKnown lines) where
     literal_suits : (text : List ℕ) (x : Comparand) → option_map comparand.Literal (literal lines found.1 text) ≡ Some x → against x ≡ true
     literal_suits text x e =
         let m = mapped comparand.Literal (literal lines found.1 text) x e in
-        subst (λ (z : Comparand). against z ≡ true) m.2 (a_literal_fits lines found.1 text m.0 m.1)
+        subst (λ (z : Comparand). against z ≡ true) m.2 (literal_is lines found.1 text m.0 m.1).1
 
     plain_suits : (o : Option (List ℕ)) (x : Comparand) → option_map comparand.Literal (option_and_then (literal lines found.1) o) ≡ Some x → against x ≡ true
     plain_suits None x e = absurd cc

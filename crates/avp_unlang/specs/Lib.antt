@@ -1,6 +1,6 @@
+pub mod Cleanness
 pub mod Conditions
 pub mod Depth
-pub mod Fitting
 pub mod Forms
 pub mod Lines
 pub mod Meaning

@@ -74,7 +74,7 @@ instance_value lines id None = Err Absent
 instance_value lines id (Some pair) = given (unless_long id lines (read_by_type id (octets pair.id pair.value lines) lines))
 
 -- A literal is its value, a text with values put in is read as a text, and a reference gives the octets of its first
--- instance. What follows `!*` gives no octets.
+-- instance. What follows `!*` gives raw octets, none of them.
 abbrev pub source_value : List Reading → State → AttrId → Source → Result Value Unresolved
 source_value lines s id (Literal value) = Ok value
 source_value lines s id (Text raw parts) = given (value_spelled (record { id = id; raw = raw }) (parts_text lines s parts) lines)

@@ -106,6 +106,7 @@ same_code _ _ = false
 abbrev pub Test : Type 0
 Test = State → Code → Bool
 
+-- a condition, each part of it decided: a code is true if it is the last one, and a reference if it has an instance
 abbrev pub cond_truth : Cond-F Test → Test
 cond_truth (Any tests) s c = list_any (λ (test : Test). test s c) tests
 cond_truth (All tests) s c = list_all (λ (test : Test). test s c) tests
@@ -114,7 +115,7 @@ cond_truth (Last word) s c = same_code c word
 cond_truth (Present list id) s c = has_instance id (list_of list s)
 cond_truth (Compare comparison) s c = is_met comparison s
 
--- a code is true if it is the last one, and a reference if it has an instance
+-- whether a condition is true
 unfoldable pub truth : Cond → Test
 truth = fold-Cond Test cond_truth
 

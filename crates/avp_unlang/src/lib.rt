@@ -30,7 +30,7 @@ pub use boxed::Boxed;
 pub use codes::Code;
 pub use faults::{PolicyFault, PolicyKind};
 pub use items::Items;
-pub use policies::{Policy, one_policy, read_policy, size};
+pub use policies::{Policy, keeps_reply_clean, one_policy, read_policy, size};
 pub use resolving::{Unresolved, resolve};
 pub use tree::{
     Block, Branch, Branches, Comparand, Comparison, Cond, Line, Lines, Part, Parts, Relation,

@@ -4,6 +4,7 @@ ghost use Rattle.avp_lists.specs.History.{present};
 ghost use Rattle.avp_unlang.specs.Resolutions.{StateFits};
 
 use crate::items::Items;
+use crate::policies::{keeps_reply_clean, one_policy, read_policy, size};
 use crate::resolving::{Unresolved, resolve};
 use crate::tests::{octets_of, small_dictionary};
 use crate::tree::{Line, Part, Relation, Source};
@@ -111,5 +112,19 @@ fn comparisons(rt: HostRuntime) -> Result<(), Fail> {
     let whole = Value::Text(octets_of(rt.alloc(), b"ab")?);
     assert!(rt; relates(Kind::Text, Relation::Less, &front, &whole));
     assert!(rt; relates(Kind::Text, Relation::Greater, &raw, &whole));
+    Ok(())
+}
+
+#[test]
+fn clean_replies(rt: HostRuntime) -> Result<(), Fail> {
+    let dictionary = small_dictionary(rt.alloc())?;
+    let policy = read_policy(
+        rt.alloc(),
+        &dictionary,
+        b"if (&User-Name) {\n update reply {\n Reply-Message := \"%{User-Name}\"\n Reply-Message += &User-Name\n }\n}",
+    )?;
+    keeps_reply_clean(&dictionary, &policy);
+    one_policy();
+    assert_eq!(rt; size(&policy), 3);
     Ok(())
 }

@@ -3,10 +3,11 @@
 ghost use Rattle.std.specs.Prelude.{◌≡◌, ◌≤◌, ℕ, List, IfOk, IsTrue};
 ghost use Rattle.avp_dict.specs.declared.readings.Reading.{Reading};
 ghost use Rattle.avp_unlang.specs.declared.tree.Statement.{Statement as Tree};
-ghost use Rattle.avp_unlang.specs.Fitting.{policy_fits};
+ghost use Rattle.avp_unlang.specs.Cleanness.{KeepsReplyClean};
 ghost use Rattle.avp_unlang.specs.Forms.{ReadsAll};
 ghost use Rattle.avp_unlang.specs.Policies.{SpellsPolicy};
 ghost use Rattle.avp_unlang.specs.Sizes.{size_of};
+ghost use Rattle.avp_unlang.specs.Suiting.{IsSpelled, policy_suits};
 
 use crate::cursors::{Cursor, MOST_SIZE};
 use crate::faults::PolicyFault;
@@ -69,8 +70,10 @@ pub fn read_policy(
     text: &[u8],
 ) -> Result<Policy, PolicyFault>
     ensures read { ReadsAll (SpellsPolicy dictionary.now text.now) result }
-    ensures fits { IfOk result (λ policy. IsTrue (policy_fits dictionary.now policy)) }
+    // Its attributes are known, its literals fit, and what it compares is of one type.
+    ensures suits { IfOk result (λ policy. IsTrue (policy_suits dictionary.now policy)) }
 {
+    dictionary.is_sound();
     let (statements, end) = statements(alloc, dictionary, MOST_NESTED, Cursor::new(text))?;
     match end.next().0 {
         Token::End => Ok(Policy {
@@ -85,3 +88,11 @@ pub fn read_policy(
 pub fn one_policy()
     ensures { (lines : List Reading) (text : List ℕ) (xs ys : List Tree) → SpellsPolicy lines text xs → SpellsPolicy lines text ys → xs ≡ ys }
 {}
+
+/// A policy that was read by a dictionary keeps reply lists clean: what is written of them is read back as they are.
+pub fn keeps_reply_clean(dictionary: &Dictionary, policy: &Policy)
+    requires { IsSpelled dictionary.now policy.now }
+    ensures { KeepsReplyClean dictionary.now policy.now }
+{
+    dictionary.spelled_values_clean();
+}

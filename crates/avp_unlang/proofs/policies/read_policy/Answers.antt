@@ -3,8 +3,8 @@ use Rattle.avp_unlang.specs.Places.{Place}
 use Rattle.avp_unlang.specs.Policies.{SpellsPolicy}
 use Rattle.avp_unlang.specs.Sizes.{size_of}
 use Rattle.avp_unlang.proofs.Determined.{exits_all}
-use Rattle.avp_unlang.proofs.LiteralsFit.{spelled_policy_fits}
 use Rattle.avp_unlang.proofs.Room.{policy_takes}
+use Rattle.avp_unlang.proofs.SpelledSuits.{spelled_policy_suits}
 use Rattle.avp_unlang.proofs.StatementsOne.{policy_ends, policy_goes_on, policy_refused}
 use Rattle.avp_unlang.proofs.policies.read_policy.Goals as goal
 
@@ -35,7 +35,7 @@ pub returns-in_default-clause-read : goal.returns-in_default-clause-read
 returns-in_default-clause-read c = λ _.
     policy_goes_on c.args.dictionary.now c.args.text.now c.new.result c.in_ok-statements.statements c.in_ok-statements.end c.next.result c.new.ensures c.in_ok-statements.ensures.read c.next.ensures.same c.in_default.not-End
 
-pub returns-in-End-clause-fits : goal.returns-in-End-clause-fits
-returns-in-End-clause-fits c =
-    spelled_policy_fits c.args.dictionary.now c.args.text.now c.in_ok-statements.statements
+pub returns-in-End-clause-suits : goal.returns-in-End-clause-suits
+returns-in-End-clause-suits c =
+    spelled_policy_suits c.args.dictionary.now c.is_sound.ensures.names c.args.text.now c.in_ok-statements.statements
     (policy_ends c.args.dictionary.now c.args.text.now c.new.result c.in_ok-statements.statements c.in_ok-statements.end c.next.result c.new.ensures c.in_ok-statements.ensures.read c.next.ensures.same c.in-End.is)

@@ -1,0 +1,128 @@
+-- The pairs that update lines add are clean where they fit.
+use Rattle.std.proofs.Common.{◌≡◌, ℕ, Bool, true, false, ◌&&◌, cond, List, Option, Some, None, Result, Ok, Err, refl, sym, ap, subst, ◌∙◌}
+use Rattle.std.proofs.lemmas.Bool.{and_parts}
+use Rattle.avp_lists.specs.Instances.{first_instance}
+use Rattle.avp_lists.specs.States.{list_of}
+use Rattle.avp_lists.specs.declared.attributes.AttrId.{AttrId}
+use Rattle.avp_lists.specs.declared.attributes.Pair.{Pair}
+use Rattle.avp_lists.specs.declared.attributes.Value.{Value}
+use Rattle.avp_lists.specs.declared.attributes.Value.TheVariants as values
+use Rattle.avp_lists.specs.declared.lists.List.{List as Name}
+use Rattle.avp_lists.specs.declared.lists.State.{State}
+use Rattle.avp_dict.specs.Limits.{fits, is_known, is_typed, is_within}
+use Rattle.avp_dict.specs.Octets.{kind_of, octets, read_value}
+use Rattle.avp_dict.specs.Sent.{is_canonical, is_clean_pair, is_container}
+use Rattle.avp_dict.specs.SpelledValues.{SpelledValuesClean}
+use Rattle.avp_dict.specs.Spellings.{unless_long, value_spelled}
+use Rattle.avp_dict.specs.declared.entries.Named.{Named}
+use Rattle.avp_dict.specs.declared.readings.Kind.{Kind}
+use Rattle.avp_dict.specs.declared.readings.Kind.TheVariants as kinds
+use Rattle.avp_dict.specs.declared.readings.Reading.{Reading}
+use Rattle.avp_dict.specs.declared.value_faults.ValueFault.{ValueFault}
+use Rattle.avp_dict.specs.declared.value_faults.ValueFault.TheVariants.{TooLong}
+use Rattle.avp_dict.proofs.OwnValues.{raw_canonical, read_value_sized, typed_canonical}
+use Rattle.avp_unlang.specs.Lines.{LineIs, line_of}
+use Rattle.avp_unlang.specs.Resolutions.{given, instance_value, pair_of, paired, parts_text, read_by_kind, resolution, source_value}
+use Rattle.avp_unlang.specs.Sources.{SourceBy, is_removal, literal}
+use Rattle.avp_unlang.specs.Tokens.{next_token}
+use Rattle.avp_unlang.specs.declared.resolving.Unresolved.{Unresolved}
+use Rattle.avp_unlang.specs.declared.tree.Line.{Line}
+use Rattle.avp_unlang.specs.declared.tree.Part.{Part}
+use Rattle.avp_unlang.specs.declared.tree.Source.{Source}
+use Rattle.avp_unlang.specs.declared.tree.Source.TheVariants as source
+use Rattle.avp_unlang.proofs.Determined.{some_is}
+use Rattle.avp_unlang.proofs.KeptReplies.{Adds}
+use Rattle.avp_unlang.proofs.Spelled.{Holds, literal_is, value_holds}
+
+ok_is : {A E : Type 0} (x y : A) → (let made : Result A E = Ok x in made ≡ Ok y) → x ≡ y
+ok_is x y e = cc
+
+-- ---- what a value was made of
+
+given_from : (r : Result Value ValueFault) (v : Value) → given r ≡ Ok v → r ≡ Ok v
+given_from (Ok w) v e = ap Ok (ok_is w v e)
+given_from (Err fault) v e = absurd cc
+
+paired_from : (id : AttrId) (r : Result Value Unresolved) (p : Pair) → paired id r ≡ Ok p → (v : Value) × (r ≡ Ok v) × (pair_of id v ≡ p)
+paired_from id (Ok v) p e = (v, refl, ok_is (pair_of id v) p e)
+paired_from id (Err fault) p e = absurd cc
+
+module _ (d : List Reading) where
+  within_from : (b : Bool) (w v : Value) → cond b (Ok w) (Err TooLong) ≡ Ok v → w ≡ v
+  within_from true w v e = ok_is w v e
+  within_from false w v e = absurd cc
+
+  read_from : (id : AttrId) (o : Option Value) (v : Value) → unless_long id d o ≡ Ok v → o ≡ Some v
+  read_from id None v e = absurd cc
+  read_from id (Some w) v e = ap Some (within_from (is_within id w d) w v e)
+
+  known_of : (p : Pair) → fits p d ≡ true → is_known p.id d ≡ true
+  unfolding fits
+  known_of p h = (and_parts (is_known p.id d) (is_typed p.id p.value d) (and_parts (is_known p.id d && is_typed p.id p.value d) (is_within p.id p.value d) h).0).0
+
+  -- a pair that is clean where it fits
+  abbrev pub CleanWhereFits : Pair → Type 0
+  CleanWhereFits p = fits p d ≡ true → is_clean_pair d p ≡ true
+
+  clean_from : (p : Pair) → is_container p.id ≡ false → (fits p d ≡ true → is_canonical p d ≡ true) → CleanWhereFits p
+  clean_from p own canonical h = let same = canonical h in rw (same, own)
+
+  -- each value that a source gives the name's attribute is clean where it fits
+  abbrev SourceClean : Named → Source → Type 0
+  SourceClean name from = (s : State) (v : Value) → source_value d s name.id from ≡ Ok v → CleanWhereFits (pair_of name.id v)
+
+  module _ (clean : SpelledValuesClean d) where
+    -- ---- spelled values
+
+    spelled_clean : (name : Named) (text : List ℕ) (v : Value) → value_spelled name text d ≡ Ok v → CleanWhereFits (pair_of name.id v)
+    spelled_clean name text v e h = clean name text v (known_of (pair_of name.id v) h) e
+
+    literal_clean : (name : Named) (text : List ℕ) (v : Value) → literal d name text ≡ Some v → SourceClean name (source.Literal v)
+    literal_clean name text v e s w is = spelled_clean name text w ((literal_is d name text v e).0 ∙ ap Ok (ok_is v w is))
+
+    text_clean : (name : Named) (parts : List Part) → SourceClean name (source.Text name.raw parts)
+    text_clean name parts s v e = spelled_clean name (parts_text d s parts) v (given_from (value_spelled name (parts_text d s parts) d) v e)
+
+    -- ---- values of other instances
+
+    abbrev CanonicalWhereFits : AttrId → Value → Type 0
+    CanonicalWhereFits id v = fits (pair_of id v) d ≡ true → is_canonical (pair_of id v) d ≡ true
+
+    read_canonical : (id : AttrId) (os : List ℕ) (v : Value) → read_value id os d ≡ Some v → CanonicalWhereFits id v
+    read_canonical id os v e h = let of_type = read_value_sized d id os v e in typed_canonical d id v of_type.0 of_type.1 h
+
+    kind_canonical : (kind : Option Kind) (id : AttrId) (os : List ℕ) (v : Value) → kind_of id d ≡ kind → read_by_kind kind id os d ≡ Some v → CanonicalWhereFits id v
+    kind_canonical None id os v k e = subst (CanonicalWhereFits id) (some_is (values.Raw os) v e) (raw_canonical d id os k)
+    kind_canonical (Some kinds.Text) id os v k e = subst (CanonicalWhereFits id) (some_is (values.Text os) v e) (typed_canonical d id (values.Text os) refl tt)
+    kind_canonical (Some kinds.Bytes) id os v k e = subst (CanonicalWhereFits id) (some_is (values.Bytes os) v e) (typed_canonical d id (values.Bytes os) refl tt)
+    kind_canonical (Some _) id os v k e = read_canonical id os v e
+
+    instance_from : (id : AttrId) → is_container id ≡ false → (o : Option Pair) (v : Value) → instance_value d id o ≡ Ok v → CleanWhereFits (pair_of id v)
+    instance_from id own None v e = absurd cc
+    instance_from id own (Some p) v e =
+        let os = octets p.id p.value d in
+        let read = read_by_kind (kind_of id d) id os d in
+        clean_from (pair_of id v) own (kind_canonical (kind_of id d) id os v refl (read_from id read v (given_from (unless_long id d read) v e)))
+
+    instance_clean : (name : Named) → is_container name.id ≡ false → (list : Name) (other : AttrId) → SourceClean name (source.Instance list other)
+    instance_clean name own list other s v e = instance_from name.id own (first_instance other (list_of list s)) v e
+
+    -- ---- update lines
+
+    source_by_clean : (b : Bool) (name : Named) → b ≡ false → Holds (SourceClean name) (SourceBy b d name)
+    source_by_clean true name stays p from rest h = absurd cc
+    source_by_clean false name stays p from rest h =
+        value_holds d name (SourceClean name) (literal_clean name) (text_clean name) (instance_clean name h.0) (next_token p).0 (next_token p).1 from rest h.1
+
+    line_clean : (line : Line) (name : Named) → name.id ≡ line.id → (is_removal line.op ≡ false → SourceClean name line.source) → Adds d CleanWhereFits line
+    unfolding resolution
+    line_clean line name same values_clean s p stays e =
+        let made = paired_from line.id (source_value d s line.id line.source) p e in
+        subst CleanWhereFits made.2 (subst (λ (id : AttrId). source_value d s id line.source ≡ Ok made.0 → CleanWhereFits (pair_of id made.0)) same (values_clean stays s made.0) made.1)
+
+    pub lines_clean : (own : Name) → Holds (Adds d CleanWhereFits) (LineIs d own)
+    lines_clean own p line rest h =
+        let name = h.2.0.1 in
+        let operation = h.2.3.0 in
+        subst (Adds d CleanWhereFits) (sym h.2.3.3.3.0)
+        (line_clean (line_of (next_token p).1.line h.2.0 operation h.2.3.3.0) name refl (λ stays. source_by_clean (is_removal operation) name stays h.2.3.1 h.2.3.3.0 h.2.3.3.1 h.2.3.3.2))

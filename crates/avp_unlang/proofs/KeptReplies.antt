@@ -1,0 +1,204 @@
+-- What statements keep of each pair of a reply list, if each pair that an update line adds has it.
+use Rattle.std.proofs.Common.{◌≡◌, ℕ, zero, suc, ◌+◌, Bool, true, false, cond, List, [], ◌∷◌, ◌++◌, map, Option, Some, None, Result, Ok, Err, filter, take, drop, length, sym, ap, subst, refl, ◌∙◌}
+use Rattle.std.specs.Prelude.{codes, nat_le}
+use Rattle.std.specs.List.{All, position_or_len}
+use Rattle.std.proofs.lemmas.List.Elements.{All-append, All-cons, All-drop, All-filter, All-push, All-take}
+use Rattle.avp_lists.specs.Instances.{has_id, has_instance, is_other}
+use Rattle.avp_lists.specs.Operators.{agrees, apply, differs}
+use Rattle.avp_lists.specs.States.{edited, edited_list, most_pairs}
+use Rattle.avp_lists.specs.declared.attributes.Pair.{Pair}
+use Rattle.avp_lists.specs.declared.edits.Op.{Op}
+use Rattle.avp_lists.specs.declared.edits.Op.TheVariants.{AddNew, Append, KeepEqual, RemoveAll, RemoveEqual, Replace}
+use Rattle.avp_lists.specs.declared.lists.List.{List as Name}
+use Rattle.avp_lists.specs.declared.lists.List.TheVariants.{Control, Reply, Request}
+use Rattle.avp_lists.specs.declared.lists.State.{State}
+use Rattle.avp_dict.specs.declared.readings.Reading.{Reading}
+use Rattle.avp_unlang.specs.Forms.{Form, Chain}
+use Rattle.avp_unlang.specs.Lines.{LineIs, begins_line}
+use Rattle.avp_unlang.specs.Meaning.{Choice, Edited, Meaning, Outcome, Refused, after_body, after_line, all_lines, branch_meaning, edit_of, first_true, if_given, line_result, meaning, meaning_of, result_from, running, statement_meaning, unless_stop}
+use Rattle.avp_unlang.specs.Places.{Place, start_of}
+use Rattle.avp_unlang.specs.Policies.{SpellsPolicy}
+use Rattle.avp_unlang.specs.Resolutions.{resolution}
+use Rattle.avp_unlang.specs.Sources.{is_removal}
+use Rattle.avp_unlang.specs.Statements.{BlockIs, BranchIs, Nested, Otherwise, StatementFrom, begins_word, branch_of, keyword_in, list_at}
+use Rattle.avp_unlang.specs.Steps.{Follows}
+use Rattle.avp_unlang.specs.Tokens.{next_token}
+use Rattle.avp_unlang.specs.Truth.{truth}
+use Rattle.avp_unlang.specs.declared.codes.Code.{Code}
+use Rattle.avp_unlang.specs.declared.resolving.Unresolved.{Unresolved}
+use Rattle.avp_unlang.specs.declared.statements.Keyword.{Keyword}
+use Rattle.avp_unlang.specs.declared.statements.Keyword.TheVariants as keyword
+use Rattle.avp_unlang.specs.declared.tokens.Token.TheVariants as token
+use Rattle.avp_unlang.specs.declared.tree.Branch.{Branch}
+use Rattle.avp_unlang.specs.declared.tree.Cond.{Cond}
+use Rattle.avp_unlang.specs.declared.tree.Line.{Line}
+use Rattle.avp_unlang.specs.declared.tree.Statement.{Statement}
+use Rattle.avp_unlang.specs.declared.tree.Statement.TheFolds.{fold-Branch, fold-roll-Branch, fold-roll-Statement}
+use Rattle.avp_unlang.specs.declared.tree.Statement.TheOpen as layer
+use Rattle.avp_unlang.specs.declared.tree.Statement.TheVariants.{Update, If, Transaction, Word, rolls-Update, rolls-If, rolls-Transaction, rolls-Word}
+use Rattle.avp_unlang.proofs.Spelled.{Holds, block_holds, chain_holds, while_holds}
+
+-- ---- edits
+
+module _ (d : List Reading) (P : Pair → Type 0) where
+  -- what an operator makes of pairs that have it, with one that has it unless the operator removes all
+  applied : (op : Op) (p : Pair) (pairs : List Pair) → (is_removal op ≡ false → P p) → All P pairs → All P (apply op p pairs)
+  applied AddNew p pairs h all = elim (has_instance p.id pairs) as (λ b. All P (cond b pairs (pairs ++ p ∷ []))) [ true ↦ all | false ↦ All-push P pairs p all (h refl) ]
+  applied Replace p pairs h all =
+      let n = position_or_len (has_id p.id) pairs in
+      let later = All-filter (is_other p.id) P (drop (n + 1) pairs) (All-drop P (n + 1) pairs all) in
+      All-append P (take n pairs) (p ∷ filter (is_other p.id) (drop (n + 1) pairs)) (All-take P n pairs all)
+      (All-cons P p (filter (is_other p.id) (drop (n + 1) pairs)) (h refl) later)
+  applied Append p pairs h all = All-push P pairs p all (h refl)
+  applied RemoveEqual p pairs h all = All-filter (differs p) P pairs all
+  applied KeepEqual p pairs h all = All-filter (agrees p) P pairs all
+  applied RemoveAll p pairs h all = All-filter (is_other p.id) P pairs all
+
+  -- an edit of the reply list, or of another one
+  edit_keeps : (list : Name) (op : Op) (p : Pair) (s : State) → (is_removal op ≡ false → P p) → All P s.reply → All P (edited (record { list = list; op = op; pair = p }) s).reply
+  edit_keeps Request op p s h all = all
+  edit_keeps Reply op p s h all = applied op p s.reply h all
+  edit_keeps Control op p s h all = all
+
+  -- ---- meanings
+
+  abbrev Keeps : Meaning → Type 0
+  Keeps m = (s : State) (code : Code) → All P s.reply → All P (m s code).state.reply
+
+  abbrev StatementKeeps : Statement → Type 0
+  StatementKeeps statement = Keeps (meaning d statement)
+
+  abbrev BlockKeeps : List Statement → Type 0
+  BlockKeeps block = Keeps (meaning_of d block)
+
+  abbrev choice : Branch → Choice
+  choice = fold-Branch Meaning Choice (statement_meaning d) branch_meaning
+
+  abbrev BranchKeeps : Branch → Type 0
+  BranchKeeps b = Keeps (choice b).block
+
+  abbrev BranchesKeep : List Branch → Type 0
+  BranchesKeep bs = (otherwise : Meaning) → Keeps otherwise → Keeps (first_true (map choice bs) otherwise)
+
+  -- each pair that a line adds has it
+  abbrev pub Adds : Line → Type 0
+  Adds line = (s : State) (p : Pair) → is_removal line.op ≡ false → resolution d line s ≡ Ok p → P p
+
+  abbrev LinesKeep : List Line → Type 0
+  LinesKeep ls = (entry : State) → All P entry.reply → Keeps (all_lines d entry ls)
+
+  none_keeps : BlockKeeps []
+  none_keeps s code all = all
+
+  next_keeps : (o : Outcome) (next : Meaning) → Keeps next → All P o.state.reply → All P (unless_stop o next).state.reply
+  next_keeps o next keeps all = elim o.stopped as (λ b. All P (cond b o (next o.state o.code)).state.reply) [ true ↦ all | false ↦ keeps o.state o.code all ]
+
+  more_keeps : (x : Statement) (xs : List Statement) → StatementKeeps x → BlockKeeps xs → BlockKeeps (x ∷ xs)
+  more_keeps x xs first others s code all = next_keeps (meaning d x s code) (meaning_of d xs) others (first s code all)
+
+  no_branches : BranchesKeep []
+  no_branches otherwise keeps = keeps
+
+  more_branches : (b : Branch) (bs : List Branch) → BranchKeeps b → BranchesKeep bs → BranchesKeep (b ∷ bs)
+  more_branches b bs first others otherwise keeps s code all =
+      elim (truth (choice b).cond s code) as (λ t. All P (cond t ((choice b).block s code) (first_true (map choice bs) otherwise s code)).state.reply) [
+        | true ↦ first s code all
+        | false ↦ others otherwise keeps s code all
+      ]
+
+  abbrev else_meaning : Option (List Statement) → Meaning
+  else_meaning None = if_given None
+  else_meaning (Some block) = if_given (Some (map (meaning d) block))
+
+  no_lines : LinesKeep []
+  no_lines entry kept s code all = all
+
+  module _ (line : Line) (entry : State) (ls : List Line) (kept : All P entry.reply) (others : LinesKeep ls) where
+    -- after an edit, unless its list would have too many pairs
+    edit_followed : (fit : Bool) (t : State) (code : Code) → All P t.reply → All P (after_line entry (cond fit (Edited t) (Refused 4)) code (all_lines d entry ls)).state.reply
+    edit_followed true t code all = others entry kept t code all
+    edit_followed false t code all = kept
+
+    line_followed : (r : Result Pair Unresolved) (s : State) (code : Code) → ((p : Pair) → is_removal line.op ≡ false → r ≡ Ok p → P p) → All P s.reply
+        → All P (after_line entry (result_from line s r) code (all_lines d entry ls)).state.reply
+    line_followed (Ok p) s code adds all =
+        edit_followed (nat_le (length (edited_list (edit_of line p) s)) most_pairs) (edited (edit_of line p) s) code (edit_keeps line.list line.op p s (λ stays. adds p stays refl) all)
+    line_followed (Err why) s code adds all = kept
+
+  more_lines : (line : Line) (ls : List Line) → Adds line → LinesKeep ls → LinesKeep (line ∷ ls)
+  unfolding line_result
+  more_lines line ls adds others entry kept s code all = line_followed line entry ls kept others (resolution d line s) s code (adds s) all
+
+  -- ---- each kind of statement
+
+  keeps_same : (m n : Meaning) → m ≡ n → Keeps n → Keeps m
+  keeps_same m n e keeps = subst Keeps (sym e) keeps
+
+  update_keeps : (n : ℕ) (ls : List Line) → LinesKeep ls → StatementKeeps (Update n ls)
+  update_keeps n ls lines_keep =
+      keeps_same (meaning d (Update n ls)) (statement_meaning d (layer.Update n ls))
+      (ap (meaning d) (sym (rolls-Update n ls)) ∙ fold-roll-Statement Meaning Choice (statement_meaning d) branch_meaning (layer.Update n ls))
+      (λ s code all. lines_keep s all s code all)
+
+  if_keeps : (bs : List Branch) (otherwise : Option (List Statement)) → BranchesKeep bs → Keeps (else_meaning otherwise) → StatementKeeps (If bs otherwise)
+  if_keeps bs None branches last =
+      keeps_same (meaning d (If bs None)) (statement_meaning d (layer.If (map choice bs) None))
+      (ap (meaning d) (sym (rolls-If bs None)) ∙ fold-roll-Statement Meaning Choice (statement_meaning d) branch_meaning (layer.If bs None))
+      (branches (if_given None) last)
+  if_keeps bs (Some block) branches last =
+      keeps_same (meaning d (If bs (Some block))) (statement_meaning d (layer.If (map choice bs) (Some (map (meaning d) block))))
+      (ap (meaning d) (sym (rolls-If bs (Some block))) ∙ fold-roll-Statement Meaning Choice (statement_meaning d) branch_meaning (layer.If bs (Some block)))
+      (branches (if_given (Some (map (meaning d) block))) last)
+
+  body_keeps : (entry : State) (o : Outcome) → All P entry.reply → All P o.state.reply → All P (after_body entry o).state.reply
+  body_keeps entry o kept all = elim o.stopped as (λ b. All P (cond b (running entry o.code) o).state.reply) [ true ↦ kept | false ↦ all ]
+
+  transaction_keeps : (n : ℕ) (block : List Statement) → BlockKeeps block → StatementKeeps (Transaction n block)
+  transaction_keeps n block keeps =
+      keeps_same (meaning d (Transaction n block)) (statement_meaning d (layer.Transaction n (map (meaning d) block)))
+      (ap (meaning d) (sym (rolls-Transaction n block)) ∙ fold-roll-Statement Meaning Choice (statement_meaning d) branch_meaning (layer.Transaction n block))
+      (λ s code all. body_keeps s (meaning_of d block s code) all (keeps s code all))
+
+  word_keeps : (n : ℕ) (word : Code) → StatementKeeps (Word n word)
+  word_keeps n word =
+      keeps_same (meaning d (Word n word)) (statement_meaning d (layer.Word n word))
+      (ap (meaning d) (sym (rolls-Word n word)) ∙ fold-roll-Statement Meaning Choice (statement_meaning d) branch_meaning (layer.Word n word)) (λ s code all. all)
+
+  branch_keeps : (n : ℕ) (c : Cond) (block : List Statement) → BlockKeeps block → BranchKeeps (branch_of n c block)
+  branch_keeps n c block keeps =
+      subst (λ (x : Choice). Keeps x.block) (sym (fold-roll-Branch Meaning Choice (statement_meaning d) branch_meaning (record { line = n; cond = c; block = block }))) keeps
+
+  -- ---- what is spelled
+
+  module _ (adds : (own : Name) → Holds Adds (LineIs d own)) where
+    module _ (n : ℕ) (inner : Form Place Statement) (each : Holds StatementKeeps inner) where
+      blocks_keep : Holds BlockKeeps (BlockIs n begins_word inner)
+      blocks_keep = block_holds StatementKeeps BlockKeeps none_keeps more_keeps inner each n begins_word
+
+      branches_keep : Holds BranchKeeps (BranchIs d n inner)
+      branches_keep p branch rest h =
+          subst BranchKeeps (sym h.2.2.3.3.0) (branch_keeps p.line h.2.2.0 h.2.2.3.0 (blocks_keep h.2.2.1 h.2.2.3.0 h.2.2.3.1 h.2.2.3.2))
+
+      chosen_keep : Holds BranchesKeep (Chain (Follows (token.Word (codes "elsif"))) (BranchIs d n inner))
+      chosen_keep = chain_holds BranchKeeps BranchesKeep no_branches more_branches (BranchIs d n inner) branches_keep (Follows (token.Word (codes "elsif")))
+
+      ending_keeps : (o : Option (List Statement)) (p rest : Place) → Otherwise n inner p o rest → Keeps (else_meaning o)
+      ending_keeps None p rest h = none_keeps
+      ending_keeps (Some block) p rest h = blocks_keep h.0 block rest h.2
+
+      from_keeps : (k : Keyword) → Holds StatementKeeps (StatementFrom d n inner k)
+      from_keeps keyword.Update p s rest h =
+          subst StatementKeeps (sym h.3.0)
+          (update_keeps p.line h.0 (block_holds Adds LinesKeep no_lines more_lines (LineIs d (list_at p).0) (adds (list_at p).0) n begins_line (list_at p).1 h.0 h.1 h.2))
+      from_keeps keyword.If p s rest h = subst StatementKeeps (sym h.3.3.0) (if_keeps h.0 h.3.0 (chosen_keep p h.0 h.1 h.2) (ending_keeps h.3.0 h.1 h.3.1 h.3.2))
+      from_keeps keyword.Transaction p s rest h = subst StatementKeeps (sym h.2.3.0) (transaction_keeps p.line h.2.0 (blocks_keep h.0 h.2.0 h.2.1 h.2.2))
+      from_keeps (keyword.Code code) p s rest h = subst StatementKeeps (sym h.2.0) (word_keeps p.line code)
+      from_keeps keyword.Other p s rest h = absurd h
+
+    nested_keeps : (n : ℕ) → Holds StatementKeeps (Nested d n)
+    nested_keeps zero p s rest h = absurd h
+    nested_keeps (suc n) p s rest h = from_keeps n (Nested d n) (nested_keeps n) (keyword_in (next_token p).0) (next_token p).1 s rest h
+
+    -- the pairs of a reply list go on having it under a policy that was read
+    pub policy_keeps : (text : List ℕ) (statements : List Statement) → SpellsPolicy d text statements → (s : State) (code : Code) → All P s.reply → All P (meaning_of d statements s code).state.reply
+    policy_keeps text statements h = while_holds StatementKeeps BlockKeeps none_keeps more_keeps (Nested d 65) (nested_keeps 65) begins_word (start_of text) statements h.0 h.2
