@@ -15,7 +15,7 @@ use Rattle.avp_unlang.specs.declared.tree.Statement.TheOpen.{Statement-F, Branch
 use Rattle.avp_step.specs.declared.labels.Label.{Label}
 use Rattle.avp_step.specs.declared.labels.Label.TheVariants as label
 
--- a step: what it did, and where the run stands after it
+-- A step: what it did, and where the run stands after it. Where steps begin, the run is not stopped.
 pub record Entry : Type 0 where
   pub label : Label
   pub outcome : Outcome

@@ -16,7 +16,7 @@ pub record Walk : Type 0 where
   pub trace : List Entry
   pub position : ℕ
 
--- the trace's entry at a position
+-- the trace's entry at a position; past the end one of no step
 abbrev pub entry_at : Walk → ℕ → Entry
 entry_at w k = slice_index_or w.trace k (start empty_state)
 
@@ -59,7 +59,7 @@ IsLineLabel (label.Line n) = Unit {0}
 IsLineLabel (label.Failed n k) = Unit {0}
 IsLineLabel _ = ⊥
 
--- a walk to the end that was refused stands before the step of an update line
+-- a walk to the end that was refused stands before the step of an update line: which one is left open
 pub record IsHeldUp (old new : Walk) : Type 0 where
   pub dictionary : new.dictionary ≡ old.dictionary
   pub trace : new.trace ≡ old.trace

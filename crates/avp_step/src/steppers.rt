@@ -133,8 +133,9 @@ impl<'a, S: Store> Stepper<'a, S> {
         self.marks[self.position].stopped
     }
 
-    /// The store, whose present lists are those of this position.
+    /// The store, whose present lists are those of this position. It has one state for each step that was made.
     pub fn store(&self) -> &S
+        ensures place { (S.history result.now).place ≡ self.now.position }
         ensures lists { present (S.history result.now) ≡ (entry self.now).outcome.state }
         ensures fits { StateFits self.now.dictionary (present (S.history result.now)) }
     {
