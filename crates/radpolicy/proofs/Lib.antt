@@ -5,4 +5,5 @@ pub mod OneReport
 pub mod PacketRoom
 pub mod Refusals
 pub mod Replying
+pub mod ReplyReads
 pub mod ScriptWords

@@ -7,8 +7,8 @@ use Rattle.radpolicy.specs.declared.faults.Fault.TheVariants as fault
 use Rattle.radpolicy.specs.declared.jobs.Command.{Command}
 use Rattle.radpolicy.specs.declared.jobs.Command.TheVariants.{Check, Decode, Encode, Run, Step}
 use Rattle.radpolicy.specs.declared.jobs.Job.{Job}
-use Rattle.radpolicy.specs.JobReports.{IsCheckRefusal, IsCheckReport, IsDictionaryRefusal, IsMakingRefusal, IsOpenRefusal, IsOpened, IsPacketRefusal, IsPacketReport, IsPolicy, IsPolicyRefusal, IsReceived, IsRefused, IsReport, IsRequestOrReplyRefusal, IsRequestRefusal, IsRunRefusal, IsRunReport, IsScript, IsSecretRefusal, IsSizeOf, IsStepRefusal, IsStepReport, Opened, RefusalOf, ReportOf, decode_report, dictionary_for, encode_report, policy_of, report_of_run, script_of, step_report, walk_of}
-use Rattle.radpolicy.specs.Received.{IsUnread, Unread, request_for}
+use Rattle.radpolicy.specs.JobReports.{IsCheckRefusal, IsCheckReport, IsDictionaryRefusal, IsOpenRefusal, IsOpened, IsPacketRefusal, IsPacketReport, IsPolicy, IsReceived, IsRefused, IsReport, IsRequestRefusal, IsRunRefusal, IsRunReport, IsScript, IsSizeOf, IsStepRefusal, IsStepReport, Opened, RefusalOf, ReportOf, decode_report, dictionary_for, encode_report, policy_of, report_of_run, script_of, step_report, walk_of}
+use Rattle.radpolicy.specs.Received.{IsUnread, request_for}
 use Rattle.radpolicy.specs.Reports.{Report, check_report}
 use Rattle.radpolicy.specs.Scripts.{IsUnknownWord, script_spelled}
 use Rattle.radpolicy.specs.Secrets.{secret_for}

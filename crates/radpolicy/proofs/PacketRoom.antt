@@ -1,5 +1,5 @@
 -- Packets of 4096 octets at most.
-use Rattle.std.proofs.Common.{◌≡◌, ◌≤◌, ◌<◌, ℕ, List, Option, Some, None, length, arith}
+use Rattle.std.proofs.Common.{◌≡◌, ◌≤◌, ◌<◌, ℕ, List, Some, None, length, arith}
 use Rattle.std.proofs.lemmas.Grind.{common_steps}
 use Rattle.avp_packet.specs.declared.authenticators.TheConstants.{MOST_OCTETS}
 use Rattle.radpolicy.specs.Replies.{within_packet}

@@ -1,20 +1,27 @@
 -- What a reply takes of its request makes the reply of the run.
-use Rattle.std.proofs.Common.{◌≡◌, ◌∙◌, ℕ, Bool, true, false, cond, List, [], ◌∷◌, Option, Some, None, filter, refl, sym, ap}
-use Rattle.std.specs.Prelude.{All, IsTrue}
-use Rattle.std.proofs.lemmas.List.Elements.{All-cons, All-filter, All-nil}
+use Rattle.std.proofs.Common.{◌≡◌, ◌∙◌, ℕ, Bool, true, false, ◌&&◌, cond, List, [], ◌∷◌, Option, Some, None, filter, refl, sym, ap, subst}
+use Rattle.std.specs.Prelude.{All, IsTrue, OnOk, Result, Ok, Err}
+use Rattle.std.specs.List.{list_all}
+use Rattle.std.proofs.lemmas.List.Elements.{All-cons, All-filter, All-head, All-nil, All-tail}
 use Rattle.avp_lists.specs.declared.attributes.AttrId.{AttrId}
 use Rattle.avp_lists.specs.declared.attributes.Pair.{Pair}
 use Rattle.avp_lists.specs.Instances.{has_id, instances}
 use Rattle.avp_lists.proofs.Equality.{same_id}
 use Rattle.avp_dict.specs.Limits.{fits}
+use Rattle.avp_dict.specs.Sent.{is_clean, is_clean_pair, is_container}
 use Rattle.avp_dict.specs.declared.readings.Reading.{Reading}
+use Rattle.avp_lists.specs.declared.attributes.AttrId.TheVariants.{Plain}
+use Rattle.avp_packet.specs.Own.{IsOwn}
+use Rattle.avp_unlang.specs.declared.codes.Code.{Code}
+use Rattle.avp_unlang.specs.declared.codes.Code.TheVariants as codes
+use Rattle.radpolicy.specs.ReplyMeaning.{IsRead, ReplyIsRead, pairs_sent}
 use Rattle.avp_packet.specs.declared.packets.Packet.{Packet}
 use Rattle.radpolicy.specs.declared.jobs.Form.{Form}
 use Rattle.radpolicy.specs.declared.replies.ReplyHead.{ReplyHead}
 use Rattle.radpolicy.specs.Fitting.{AllFit}
-use Rattle.radpolicy.specs.Replies.{answer_of, answered_authenticator, proxy_states, reply_code, reply_pairs, reply_with}
+use Rattle.radpolicy.specs.Replies.{Sent, answer_of, answered_authenticator, proxy_states, reply_code, reply_pairs, reply_with}
 use Rattle.avp_unlang.specs.Meaning.{Outcome as End}
-use Rattle.radpolicy.specs.code.ReplyHeads.{answered_by}
+use Rattle.radpolicy.specs.code.ReplyHeads.{AnswerIsRead, IsHeadOf, IsLineHead, LineIsRead, answered_by}
 
 module _ (lines : List Reading) (pairs : List Pair) where
   same_reply : (key : List ℕ) (id : ℕ) (a b : Option (List ℕ)) (proxies others : List Pair) (code : Option ℕ) → a ≡ b → proxies ≡ others → reply_with lines key id a pairs proxies code ≡ reply_with lines key id b pairs others code
@@ -41,3 +48,93 @@ instances_are id (q ∷ pairs) = by_test (has_id id q) refl (instances_are id pa
 -- instances of pairs that fit
 pub instances_fit : (lines : List Reading) (id : AttrId) (pairs : List Pair) → AllFit lines pairs → AllFit lines (instances id pairs)
 instances_fit lines id pairs all = All-filter (has_id id) (λ p. IsTrue (fits p lines)) pairs all
+
+-- ---- what is read back
+
+module _ (lines : List Reading) where
+  both : (a b : Bool) → a ≡ true → b ≡ true → (a && b) ≡ true
+  both a b e f = rw (e, f)
+
+  and_left : (a b : Bool) → (a && b) ≡ true → a ≡ true
+  and_left true b h = refl
+  and_left false b h = h
+
+  and_right : (a b : Bool) → (a && b) ≡ true → b ≡ true
+  and_right true b h = h
+  and_right false b h = absurd (cc)
+
+  -- instances of a clean list
+  pub instances_clean : (id : AttrId) (pairs : List Pair) → is_clean pairs lines ≡ true → is_clean (instances id pairs) lines ≡ true
+  unfolding is_clean
+  instances_clean id [] h = refl
+  instances_clean id (q ∷ pairs) h =
+      by_test (has_id id q) (and_left (is_clean_pair lines q) (list_all (is_clean_pair lines) pairs) h)
+      (instances_clean id pairs (and_right (is_clean_pair lines q) (list_all (is_clean_pair lines) pairs) h))
+    where
+      by_test : (b : Bool) → is_clean_pair lines q ≡ true → list_all (is_clean_pair lines) (filter (has_id id) pairs) ≡ true → list_all (is_clean_pair lines) (cond b (q ∷ filter (has_id id) pairs) (filter (has_id id) pairs)) ≡ true
+      by_test true own rest = both (is_clean_pair lines q) (list_all (is_clean_pair lines) (filter (has_id id) pairs)) own rest
+      by_test false own rest = rest
+
+  own_clean : (q : Pair) → q.id ≡ Plain 33 → IsOwn lines q → is_clean_pair lines q ≡ true
+  own_clean q e own =
+      let free : is_container q.id ≡ false = ap is_container e in
+      let canonical = own free in
+      rw (canonical, free)
+
+  -- the Proxy-States of pairs that are read from a packet
+  pub proxies_clean : (pairs : List Pair) → All (IsOwn lines) pairs → is_clean (instances (Plain 33) pairs) lines ≡ true
+  unfolding is_clean
+  proxies_clean [] all = refl
+  proxies_clean (q ∷ pairs) all = by_test (has_id (Plain 33) q) refl (proxies_clean pairs (All-tail (IsOwn lines) q pairs all))
+    where
+      by_test : (b : Bool) → has_id (Plain 33) q ≡ b → list_all (is_clean_pair lines) (filter (has_id (Plain 33)) pairs) ≡ true
+          → list_all (is_clean_pair lines) (cond b (q ∷ filter (has_id (Plain 33)) pairs) (filter (has_id (Plain 33)) pairs)) ≡ true
+      by_test true e rest =
+          both (is_clean_pair lines q) (list_all (is_clean_pair lines) (filter (has_id (Plain 33)) pairs)) (own_clean q (same_id q.id (Plain 33) e) (All-head (IsOwn lines) q pairs all)) rest
+      by_test false e rest = rest
+
+  pub reply_clean : (last : Code) (pairs : List Pair) → is_clean pairs lines ≡ true → is_clean (reply_pairs last pairs) lines ≡ true
+  unfolding is_clean
+  reply_clean codes.Fail pairs h = refl
+  reply_clean _ pairs h = h
+
+  -- what a head's reply is read as is what the run's is
+  pub read_by : (head : ReplyHead) (form : Form) (key : List ℕ) (r : Packet) (end : End) (last : Code) (pairs : List Pair) → IsHeadOf form lines key r head → end.code ≡ last → pairs ≡ end.state.reply
+      → AnswerIsRead lines head last pairs → ReplyIsRead form lines key r end
+  unfolding AnswerIsRead
+  read_by head form key r end last pairs is code reply read = λ authenticator octets answered sends.
+      let own : answered_by lines head end.code end.state.reply ≡ answer_of form lines head.secret.now r end =
+      head_answers lines head form r is.code is.id (is.authenticator ∙ ap (λ k. answered_authenticator form lines k r) (sym is.secret)) is.proxies end in
+      let sent_by : answered_by lines head last pairs ≡ Sent octets =
+      ap (λ c. answered_by lines head c pairs) (sym code) ∙ ap (λ ps. answered_by lines head end.code ps) reply ∙ own ∙ ap (λ k. answer_of form lines k r end) is.secret ∙ sends in
+      let known = read authenticator octets (is.authenticator ∙ answered) sent_by in
+      let by_key = subst (λ (k : List ℕ). IsRead lines k authenticator octets (pairs_sent lines (reply_pairs last pairs) head.proxy_states.items)) is.secret known in
+      let by_proxies = subst (λ (ps : List Pair). IsRead lines key authenticator octets (pairs_sent lines (reply_pairs last pairs) ps)) is.proxies by_key in
+      let by_code = subst (λ (c : Code). IsRead lines key authenticator octets (pairs_sent lines (reply_pairs c pairs) (proxy_states r))) (sym code) by_proxies in
+      subst (λ (ps : List Pair). IsRead lines key authenticator octets (pairs_sent lines (reply_pairs end.code ps) (proxy_states r))) reply by_code
+
+  -- the same where there may be no secret
+  pub line_read_by : (head : Option ReplyHead) (form : Form) (key : Option (List ℕ)) (r : Packet) (end : End) (last : Code) (pairs : List Pair) → IsLineHead form lines key r head → end.code ≡ last → pairs ≡ end.state.reply
+      → LineIsRead lines head last pairs → (secret : List ℕ) → key ≡ Some secret → ReplyIsRead form lines secret r end
+  unfolding LineIsRead
+  line_read_by head form None r end last pairs is code reply read secret e = absurd (cc)
+  line_read_by None form (Some k) r end last pairs is code reply read secret e = absurd is
+  line_read_by (Some head) form (Some k) r end last pairs is code reply read secret e =
+      let same : k ≡ secret = cc in
+      subst (λ (s : List ℕ). ReplyIsRead form lines s r end) same (read_by head form k r end last pairs is code reply (read head refl))
+
+  pub none_clean : is_clean [] lines ≡ true
+  unfolding is_clean
+  none_clean = refl
+
+  pub head_read : (head : Option ReplyHead) (own : ReplyHead) (last : Code) (pairs : List Pair) → head ≡ Some own → AnswerIsRead lines own last pairs → LineIsRead lines head last pairs
+  unfolding LineIsRead
+  head_read head own last pairs is read = λ other e. let same : own ≡ other = cc in subst (λ (h : ReplyHead). AnswerIsRead lines h last pairs) same read
+
+  pub none_read : (head : Option ReplyHead) (last : Code) (pairs : List Pair) → head ≡ None → LineIsRead lines head last pairs
+  unfolding LineIsRead
+  none_read head last pairs is = λ other e. absurd (cc)
+
+pub ok_map : {A E : Type 0} (P Q : Type 0) (r : Result A E) → (P → Q) → OnOk r P → OnOk r Q
+ok_map P Q (Ok x) f h = f h
+ok_map P Q (Err e) f h = tt

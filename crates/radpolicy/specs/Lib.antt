@@ -4,6 +4,7 @@ pub mod JobReports
 pub mod Plans
 pub mod Received
 pub mod Replies
+pub mod ReplyMeaning
 pub mod Reports
 pub mod Scripts
 pub mod Secrets

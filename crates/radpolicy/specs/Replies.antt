@@ -10,7 +10,7 @@ use Rattle.avp_packet.specs.Packets.{authenticator_of, reply, request}
 use Rattle.avp_unlang.specs.declared.codes.Code.{Code}
 use Rattle.avp_unlang.specs.declared.codes.Code.TheVariants as code
 use Rattle.radpolicy.specs.declared.jobs.Form.{Form}
-use Rattle.radpolicy.specs.declared.jobs.Form.TheVariants.{Hex, Access, Accounting}
+use Rattle.radpolicy.specs.declared.jobs.Form.TheVariants.{Accounting}
 use Rattle.avp_unlang.specs.Meaning.{Outcome as End}
 
 -- a packet of 4096 octets at most

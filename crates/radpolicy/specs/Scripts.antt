@@ -1,10 +1,9 @@
 -- The words of a script, and the report of a walk by them.
-use Rattle.std.specs.Prelude.{◌≡◌, ℕ, ◌+◌, Bool, true, false, not, ◌||◌, ◌==◌, ◌++◌, if◌then◌else◌, List, [], ◌∷◌, filter, length, bytes_eq, codes, decimal, Option, Some, None, Result, Ok, Err}
+use Rattle.std.specs.Prelude.{◌≡◌, ℕ, ◌+◌, Bool, true, false, ◌==◌, ◌++◌, if◌then◌else◌, List, [], ◌∷◌, filter, bytes_eq, codes, decimal, Option, Some, None, Result, Ok, Err}
 use Rattle.std.specs.List.{slice_split}
 use Rattle.std.specs.Option.{option_and_then, option_map}
 use Rattle.avp_dict.specs.Lines.{texts_of}
 use Rattle.avp_dict.specs.Words.{is_blank, is_word}
-use Rattle.avp_step.specs.Trace.{Entry}
 use Rattle.avp_step.specs.Walk.{Walk, entry, moved_back, moved_forward, moved_to_end, moved_to_start}
 use Rattle.avp_step.specs.declared.labels.Label.{Label}
 use Rattle.avp_step.specs.declared.labels.Label.TheVariants as label

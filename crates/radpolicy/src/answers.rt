@@ -8,12 +8,13 @@ ghost use Rattle.radpolicy.specs.Faults.{IsPrintedWith};
 ghost use Rattle.radpolicy.specs.JobReports.{IsCheckRefusal, IsCheckReport, IsCheckedPolicyRefusal, IsDictionaryRefusal, IsOpened, IsMakingRefusal, IsOpenRefusal, IsPacketReport, IsPolicy, IsPolicyRefusal, IsRefused, IsReport, IsRequestOrReplyRefusal, IsRunReport, IsScript, IsScriptOrRequestRefusal, IsSizeOf, IsStepReport, decode_report, dictionary_for, encode_report, policy_of, script_of};
 ghost use Rattle.radpolicy.specs.Scripts.{IsUnknownWord, script_spelled};
 ghost use Rattle.radpolicy.specs.Plans.{IsSound, asked_by_job};
+ghost use Rattle.radpolicy.specs.ReplyMeaning.{IsRunRead};
 ghost use Rattle.radpolicy.specs.Reports.{Report};
 ghost use Rattle.radpolicy.specs.Secrets.{secret_for};
 ghost use Rattle.radpolicy.specs.Writing.{AppendsFrontOf};
 ghost use Rattle.radpolicy.specs.declared.faults.Fault.TheVariants as fault;
 ghost use Rattle.radpolicy.specs.declared.faults.Fault.{Fault};
-ghost use Rattle.radpolicy.specs.declared.jobs.Command.TheVariants.{Check as TheCheck};
+ghost use Rattle.radpolicy.specs.declared.jobs.Command.TheVariants.{Check as TheCheck, Run as TheRun};
 ghost use Rattle.radpolicy.specs.declared.jobs.Form.TheVariants.{Hex as InHex};
 
 use crate::checks::text_of_check;
@@ -122,6 +123,7 @@ fn run_report_of(
     requires secret { IfSome secret (λ octets. 0 < length octets.now) }
     requires hex { job.now.form ≡ InHex → secret ≢ None }
     ensures ok { IfOk result (λ report. IsRunReport job.now (record { text = report.0.items; outcome = report.1 })) }
+    ensures read { OnOk result (IsRunRead job.now) }
     ensures refused { IfErr result (λ f. (f ≡ fault.Memory) ⊎ (IsPolicyRefusal job.now f ⊎ IsRequestOrReplyRefusal job.now f)) }
     ensures printed { IfErr result (λ f. IsPrintedWith job.now.files f) }
 {
@@ -220,6 +222,7 @@ fn request_report_of(alloc: Global, job: &Job) -> Result<(Vec<u8>, Outcome), Fau
     requires sound { IsSound (asked_by_job job.now) }
     requires command { job.now.command ≢ TheCheck }
     ensures ok { IfOk result (λ report. IsReport job.now (record { text = report.0.items; outcome = report.1 })) }
+    ensures read { OnOk result (job.now.command ≡ TheRun → IsRunRead job.now) }
     ensures refused { IfErr result (λ f. (f ≡ fault.Memory) ⊎ IsRefused job.now f) }
     ensures printed { IfErr result (λ f. IsPrintedWith job.now.files f) }
 {
@@ -265,6 +268,7 @@ fn check_report_of(alloc: Global, job: &Job) -> Result<(Vec<u8>, Outcome), Fault
 fn report_of(alloc: Global, job: &Job) -> Result<(Vec<u8>, Outcome), Fault>
     requires sound { IsSound (asked_by_job job.now) }
     ensures ok { IfOk result (λ report. IsReport job.now (record { text = report.0.items; outcome = report.1 })) }
+    ensures read { OnOk result (job.now.command ≡ TheRun → IsRunRead job.now) }
     ensures refused { IfErr result (λ f. (f ≡ fault.Memory) ⊎ IsRefused job.now f) }
     ensures printed { IfErr result (λ f. IsPrintedWith job.now.files f) }
 {
@@ -285,6 +289,8 @@ pub fn answer<O: Output>(alloc: Global, job: &Job, out: &mut O) -> Result<Outcom
     ensures done { IfOk result (λ outcome. (report : Report) × (IsReport job.now report
         × Appends (O.taken out.old) (O.taken out.new) report.text × (outcome ≡ report.outcome))) }
     ensures works { OnOk result (O.has_failed out.new ≡ false) }
+    // What a run sends is accepted as the reply to its request, and its attributes mean the pairs that are sent.
+    ensures read { OnOk result (job.now.command ≡ TheRun → IsRunRead job.now) }
     // The output failed in this call, and took a front of the report.
     ensures cut { IsErrOf result Fault.Write → (report : Report) × (IsReport job.now report
         × AppendsFrontOf (O.taken out.old) (O.taken out.new) report.text

@@ -1,6 +1,6 @@
 //! The request of a job.
 
-ghost use Rattle.std.specs.Prelude.{◌≡◌, ◌≢◌, ◌⊎◌, ◌≤◌, ◌<◌, Err, IfErr, IfOk, IfSome, None, Ok, Some, length};
+ghost use Rattle.std.specs.Prelude.{◌≡◌, ◌≢◌, ◌⊎◌, ◌≤◌, ◌<◌, Err, IfErr, IfOk, IfSome, None, Ok, Some, length, true};
 ghost use Rattle.std.specs.List.{filter};
 ghost use Rattle.std.specs.Option.{option_copied};
 ghost use Rattle.avp_lists.specs.States.{most_pairs};
@@ -8,6 +8,8 @@ ghost use Rattle.avp_packet.specs.Packets.{IsRequestCode};
 ghost use Rattle.radpolicy.specs.Faults.{IsPrintedWith};
 ghost use Rattle.radpolicy.specs.Fitting.{AllFit};
 ghost use Rattle.avp_dict.specs.Requests.{request_spelled};
+ghost use Rattle.avp_dict.specs.Sent.{is_clean};
+ghost use Rattle.radpolicy.specs.Replies.{proxy_states};
 ghost use Rattle.radpolicy.specs.Received.{IsUnread, hex_octets, is_no_space, lines_for, packet_for, request_for};
 ghost use Rattle.radpolicy.specs.declared.faults.Fault.TheVariants as fault;
 ghost use Rattle.radpolicy.specs.declared.jobs.Form.TheVariants.{Hex as InHex};
@@ -64,6 +66,7 @@ fn packet_of_hex(
     ensures code { IfOk result (λ packet. IsRequestCode packet.code) }
     ensures few { IfOk result (λ packet. length packet.list ≤ most_pairs) }
     ensures fit { IfOk result (λ packet. AllFit dictionary.now packet.list) }
+    ensures proxies { IfOk result (λ packet. is_clean (proxy_states packet) dictionary.now ≡ true) }
     ensures refused { IfErr result (λ f. (f ≡ fault.Memory) ⊎ IsUnread f (packet_for dictionary.now secret.now (hex_octets job.now.request))) }
     ensures printed { IfErr result (λ f. IsPrintedWith job.now.files f) }
 {
@@ -87,6 +90,7 @@ fn packet_of_lines(
     ensures code { IfOk result (λ packet. packet.code ≡ code) }
     ensures few { IfOk result (λ packet. length packet.list ≤ most_pairs) }
     ensures fit { IfOk result (λ packet. AllFit dictionary.now packet.list) }
+    ensures proxies { IfOk result (λ packet. is_clean (proxy_states packet) dictionary.now ≡ true) }
     ensures refused { IfErr result (λ f. (f ≡ fault.Memory) ⊎ IsUnread f (lines_for code job.now (request_spelled job.now.request dictionary.now))) }
     ensures printed { IfErr result (λ f. IsPrintedWith job.now.files f) }
 {
@@ -114,6 +118,7 @@ pub(crate) fn request_of(
     ensures code { IfOk result (λ packet. IsRequestCode packet.code) }
     ensures few { IfOk result (λ packet. length packet.list ≤ most_pairs) }
     ensures fit { IfOk result (λ packet. AllFit dictionary.now packet.list) }
+    ensures proxies { IfOk result (λ packet. is_clean (proxy_states packet) dictionary.now ≡ true) }
     ensures refused { IfErr result (λ f. (f ≡ fault.Memory) ⊎ IsUnread f (request_for dictionary.now (option_copied secret.entry) job.now)) }
     ensures printed { IfErr result (λ f. IsPrintedWith job.now.files f) }
 {

@@ -1,13 +1,14 @@
 //! The reply packet of a run.
 
-ghost use Rattle.std.specs.Prelude.{◌≡◌, ◌⊎◌, ◌<◌, ◌≤◌, All, IfOk, IfSome, length};
+ghost use Rattle.std.specs.Prelude.{◌≡◌, ◌⊎◌, ◌<◌, ◌≤◌, true, All, IfOk, OnOk, IfSome, length};
 ghost use Rattle.std.specs.Option.{option_map};
 ghost use Rattle.avp_lists.specs.Instances.{instances};
 ghost use Rattle.avp_lists.specs.declared.attributes.AttrId.TheVariants.{Plain};
 ghost use Rattle.radpolicy.specs.Fitting.{AllFit};
 ghost use Rattle.avp_packet.specs.Packets.{IsReplyCode, IsRequestCode, authenticator_of};
-ghost use Rattle.radpolicy.specs.Replies.{answer_of, answered_authenticator, reply_code, reply_pairs, request_packet};
-ghost use Rattle.radpolicy.specs.code.ReplyHeads.{IsAnswer, answered_by};
+ghost use Rattle.radpolicy.specs.Replies.{answer_of, answered_authenticator, proxy_states, reply_code, reply_pairs, request_packet};
+ghost use Rattle.radpolicy.specs.code.ReplyHeads.{AnswerIsRead, IsAnswer, IsHeadOf, IsUsable, answered_by};
+ghost use Rattle.avp_dict.specs.Sent.{is_clean};
 ghost use Rattle.avp_unlang.specs.Meaning.{Outcome as End};
 
 use crate::jobs::Form;
@@ -122,10 +123,10 @@ pub(crate) fn reply_head<'a>(
     requires secret { 0 < length secret.now }
     requires code { IsRequestCode request.now.code }
     requires fit { AllFit dictionary.now request.now.list }
+    requires proxies { is_clean (proxy_states request.now) dictionary.now ≡ true }
+    ensures made { IfOk result (λ head. IsHeadOf form dictionary.now secret.now request.now head) }
     ensures head { IfOk result (λ head. (end : End) → answered_by dictionary.now head end.code end.state.reply ≡ answer_of form dictionary.now secret.now request.now end) }
-    ensures secret { IfOk result (λ head. 0 < length head.secret.now) }
-    ensures proxies { IfOk result (λ head. All (λ pair. pair.id ≡ Plain 33) head.proxy_states.items) }
-    ensures fit { IfOk result (λ head. AllFit dictionary.now head.proxy_states.items) }
+    ensures usable { IfOk result (λ head. IsUsable dictionary.now head) }
 {
     Ok(ReplyHead {
         secret,
@@ -168,11 +169,11 @@ pub(crate) fn reply_of(
     last: Code,
     reply: &[Pair],
 ) -> Result<Option<Vec<u8>>, EncodeFault>
+    requires usable { IsUsable dictionary.now head.now }
     requires reply { AllFit dictionary.now reply.now }
-    requires secret { 0 < length head.now.secret.now }
-    requires proxies { All (λ pair. pair.id ≡ Plain 33) head.now.proxy_states.items }
-    requires fit { AllFit dictionary.now head.now.proxy_states.items }
-    ensures { IsAnswer result (answered_by dictionary.now head.now last reply.now) }
+    requires clean { is_clean reply.now dictionary.now ≡ true }
+    ensures answer { IsAnswer result (answered_by dictionary.now head.now last reply.now) }
+    ensures read { OnOk result (AnswerIsRead dictionary.now head.now last reply.now) }
 {
     let Some(code) = reply_code(head.code, last) else {
         return Ok(None);

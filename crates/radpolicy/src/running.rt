@@ -1,6 +1,6 @@
 //! A run, from its parts to its report.
 
-ghost use Rattle.std.specs.Prelude.{◌≡◌, ◌⊎◌, ◌≤◌, ◌<◌, ◌++◌, IfOk, IfErr, IfSome, None, Some, length};
+ghost use Rattle.std.specs.Prelude.{◌≡◌, ◌⊎◌, ◌≤◌, ◌<◌, ◌++◌, true, IfOk, IfErr, IfSome, OnOk, None, Some, length};
 ghost use Rattle.std.specs.Option.{option_copied, option_map};
 ghost use Rattle.avp_lists.specs.States.{most_pairs};
 ghost use Rattle.avp_packet.specs.Packets.{IsRequestCode};
@@ -11,7 +11,10 @@ ghost use Rattle.avp_unlang.specs.Meaning.{Outcome as End};
 ghost use Rattle.avp_step.specs.Walk.{entry};
 ghost use Rattle.avp_unlang.specs.Suiting.{IsSpelled};
 ghost use Rattle.radpolicy.specs.JobReports.{entry_state, run_of};
-ghost use Rattle.radpolicy.specs.code.ReplyHeads.{AddsLine, IsUsable, answered_by, line_by};
+ghost use Rattle.radpolicy.specs.code.ReplyHeads.{AddsLine, AnswerIsRead, IsLineHead, IsUsable, LineIsRead, answered_by, line_by};
+ghost use Rattle.radpolicy.specs.Replies.{proxy_states};
+ghost use Rattle.radpolicy.specs.ReplyMeaning.{RunIsRead};
+ghost use Rattle.avp_dict.specs.Sent.{is_clean};
 ghost use Rattle.radpolicy.specs.Reports.{answer_line, result_line, state_text};
 ghost use Rattle.radpolicy.specs.declared.faults.Fault.TheVariants as fault;
 
@@ -23,7 +26,7 @@ use avp_dict::Dictionary;
 use avp_lists::{List, Pair, SnapshotStore, Store};
 use avp_packet::{EncodeFault, Packet};
 use avp_step::Stepper;
-use avp_unlang::{Code, Policy};
+use avp_unlang::{Code, Policy, keeps_reply_clean};
 use std::alloc::{AllocError, Global};
 
 // What a reply takes of the request, where there is a secret.
@@ -38,6 +41,8 @@ fn head_of<'a>(
     requires secret { IfSome secret (λ octets. 0 < length octets.now) }
     requires code { IsRequestCode request.now.code }
     requires fit { AllFit dictionary.now request.now.list }
+    requires proxies { is_clean (proxy_states request.now) dictionary.now ≡ true }
+    ensures made { IfOk result (λ head. IsLineHead form dictionary.now (option_copied secret.entry) request.now head) }
     ensures line { IfOk result (λ head. (end : End) → line_by dictionary.now head end.code end.state.reply ≡ sent_line form (record { dictionary = dictionary.now; secret = option_copied secret.entry }) request.now end) }
     ensures usable { IfOk result (λ head. IfSome head (λ h. IsUsable dictionary.now h)) }
 {
@@ -57,7 +62,9 @@ fn push_reply(
 ) -> Result<(), EncodeFault>
     requires usable { IsUsable dictionary.now head.now }
     requires reply { AllFit dictionary.now reply.now }
-    ensures { AddsLine result (answer_line (answered_by dictionary.now head.now last reply.now)) text.old.items text.new.items }
+    requires clean { is_clean reply.now dictionary.now ≡ true }
+    ensures line { AddsLine result (answer_line (answered_by dictionary.now head.now last reply.now)) text.old.items text.new.items }
+    ensures read { OnOk result (AnswerIsRead dictionary.now head.now last reply.now) }
 {
     let alloc = *text.allocator();
     match reply_of(alloc, dictionary, head, last, reply) {
@@ -78,7 +85,9 @@ fn push_sent(
 ) -> Result<(), EncodeFault>
     requires usable { IfSome head.now (λ h. IsUsable dictionary.now h) }
     requires reply { AllFit dictionary.now reply.now }
-    ensures { AddsLine result (line_by dictionary.now head.now last reply.now) text.old.items text.new.items }
+    requires clean { is_clean reply.now dictionary.now ≡ true }
+    ensures line { AddsLine result (line_by dictionary.now head.now last reply.now) text.old.items text.new.items }
+    ensures read { OnOk result (LineIsRead dictionary.now head.now last reply.now) }
 {
     match head {
         Some(head) => push_reply(text, dictionary, head, last, reply),
@@ -139,7 +148,9 @@ fn run_over(
     ensures text { IfOk result (λ ended. ended.text.items ≡ state_text dictionary.now (run_of dictionary.now policy.now request).state ++ result_line ended.code ended.stopped) }
     ensures reply { IfOk result (λ ended. ended.reply.items ≡ (run_of dictionary.now policy.now request).state.reply) }
     ensures fit { IfOk result (λ ended. AllFit dictionary.now ended.reply.items) }
+    ensures clean { IfOk result (λ ended. is_clean ended.reply.items dictionary.now ≡ true) }
 {
+    keeps_reply_clean(dictionary, policy);
     let store = entry_store(alloc, request)?;
     let Ok(mut stepper) = Stepper::new(alloc, dictionary, policy, store) else {
         return Err(AllocError);
@@ -171,8 +182,10 @@ pub(crate) fn report_of_run(
     requires code { IsRequestCode request.code }
     requires few { length request.list ≤ most_pairs }
     requires fit { AllFit dictionary.now request.list }
+    requires proxies { is_clean (proxy_states request) dictionary.now ≡ true }
     ensures ok { IfOk result (λ report. report_of_run form (record { dictionary = dictionary.now; secret = option_copied secret.entry }) policy.now request ≡ Some (record { text = report.0.items; outcome = report.1 })) }
     ensures refused { IfErr result (λ f. (f ≡ fault.Memory) ⊎ ((f ≡ fault.PacketTooLong) × (report_of_run form (record { dictionary = dictionary.now; secret = option_copied secret.entry }) policy.now request ≡ None))) }
+    ensures read { OnOk result (RunIsRead form (record { dictionary = dictionary.now; secret = option_copied secret.entry }) policy.now request) }
 {
     let head = head_of(alloc, dictionary, form, secret, &request)?;
     let ended = run_over(alloc, dictionary, policy, request)?;

@@ -1,4 +1,4 @@
-use Rattle.std.proofs.Common.{◌≡◌, ◌∙◌, length, ap, arith}
+use Rattle.std.proofs.Common.{◌∙◌, length, ap, arith}
 use Rattle.avp_packet.specs.Packets.{request}
 use Rattle.avp_packet.proofs.Assembled.{length_request}
 use Rattle.radpolicy.proofs.replies.made_authenticator.Goals as goal

@@ -3,21 +3,31 @@ use Rattle.std.specs.Prelude.{All}
 use Rattle.avp_lists.specs.declared.attributes.AttrId.TheVariants.{Plain}
 use Rattle.avp_lists.specs.declared.attributes.Pair.{Pair}
 use Rattle.avp_lists.specs.Instances.{instances}
+use Rattle.avp_dict.specs.Sent.{is_clean}
 use Rattle.radpolicy.specs.Fitting.{AllFit}
 use Rattle.radpolicy.proofs.Replying.{head_answers, instances_are, instances_fit}
 use Rattle.radpolicy.proofs.replies.reply_head.Goals as goal
+
+pub returns-clause-made : goal.returns-clause-made
+returns-clause-made c = record {
+  secret = refl;
+  code = refl;
+  id = refl;
+  authenticator = c.in_ok-answered_authenticator.ensures;
+  proxies = c.in_ok-proxy_states_of.ensures ∙ ap (instances (Plain 33)) c.as_slice.ensures;
+}
 
 pub returns-clause-head : goal.returns-clause-head
 returns-clause-head c = λ end.
     let proxies = c.in_ok-proxy_states_of.ensures ∙ ap (instances (Plain 33)) c.as_slice.ensures in
     head_answers c.args.dictionary.now _ c.args.form c.args.request.now refl refl c.in_ok-answered_authenticator.ensures proxies end
 
-pub returns-clause-proxies : goal.returns-clause-proxies
-returns-clause-proxies c =
+pub returns-clause-usable : goal.returns-clause-usable
+returns-clause-usable c =
     let proxies = c.in_ok-proxy_states_of.ensures ∙ ap (instances (Plain 33)) c.as_slice.ensures in
-    subst (λ (pairs : List Pair). All (λ (p : Pair). p.id ≡ Plain 33) pairs) (sym proxies) (instances_are (Plain 33) c.args.request.now.list)
-
-pub returns-clause-fit : goal.returns-clause-fit
-returns-clause-fit c =
-    let proxies = c.in_ok-proxy_states_of.ensures ∙ ap (instances (Plain 33)) c.as_slice.ensures in
-    subst (λ (pairs : List Pair). AllFit c.args.dictionary.now pairs) (sym proxies) (instances_fit c.args.dictionary.now (Plain 33) c.args.request.now.list c.requires.fit)
+    record {
+      secret = c.requires.secret;
+      proxies = subst (λ (pairs : List Pair). All (λ (p : Pair). p.id ≡ Plain 33) pairs) (sym proxies) (instances_are (Plain 33) c.args.request.now.list);
+      fit = subst (λ (pairs : List Pair). AllFit c.args.dictionary.now pairs) (sym proxies) (instances_fit c.args.dictionary.now (Plain 33) c.args.request.now.list c.requires.fit);
+      clean = ap (λ pairs. is_clean pairs c.args.dictionary.now) proxies ∙ c.requires.proxies;
+    }
