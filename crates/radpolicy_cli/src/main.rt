@@ -1,8 +1,9 @@
 //! The program: its words, the files that they name, and what it prints.
 #![tactic(auto)]
 
-ghost use Rattle.std.specs.Prelude.{◌≡◌, [], Ok, Some, IfOk, is_some};
-ghost use Rattle.radpolicy.specs.Faults.{IsPrintedWith};
+ghost use Rattle.std.specs.Prelude.{◌≡◌, ◌⊎◌, [], Ok, Some, IfOk, IfErr, IfSome, is_some};
+ghost use Rattle.radpolicy.specs.Faults.{IsPrintedWith, status_of};
+ghost use Rattle.radpolicy_cli.specs.declared.Unread.TheVariants as why;
 ghost use Rattle.radpolicy.specs.Plans.{IsSound, asked_by_job, asked_by_plan, names_of_files, names_of_paths};
 
 use avp_dict::{FileSet, NamedFile};
@@ -25,12 +26,16 @@ enum Unread<'a> {
 }
 
 impl From<AllocError> for Unread<'_> {
+    ghost from_gives = { λ _ unread. unread ≡ why.Memory };
+
     fn from(_error: AllocError) -> Self {
         Unread::Memory
     }
 }
 
 impl<T: Drop> From<AllocFailed<T>> for Unread<'_> {
+    ghost from_gives = { λ _ unread. unread ≡ why.Memory };
+
     fn from(_error: AllocFailed<T>) -> Self {
         Unread::Memory
     }
@@ -38,7 +43,8 @@ impl<T: Drop> From<AllocFailed<T>> for Unread<'_> {
 
 // What was read under a name. More than an input file may have is not readable.
 fn octets_of(name: &str, read: io::Result<Option<Octets>>) -> Result<Octets, Unread<'_>>
-    ensures { IfOk result (λ octets. read ≡ Ok (Some octets)) }
+    ensures read { IfOk result (λ octets. read ≡ Ok (Some octets)) }
+    ensures named { IfErr result (λ unread. (unread ≡ Unread.Memory) ⊎ (unread ≡ Unread.File name.entry)) }
 {
     match read {
         Ok(Some(octets)) => Ok(octets),
@@ -50,7 +56,9 @@ fn octets_of(name: &str, read: io::Result<Option<Octets>>) -> Result<Octets, Unr
     }
 }
 
-fn read_file<'a>(rt: &HostRuntime, path: &'a str) -> Result<Octets, Unread<'a>> {
+fn read_file<'a>(rt: &HostRuntime, path: &'a str) -> Result<Octets, Unread<'a>>
+    ensures { IfErr result (λ unread. (unread ≡ Unread.Memory) ⊎ (unread ≡ Unread.File path.entry)) }
+{
     match File::open(rt, path) {
         Ok(file) => octets_of(path, read_input(rt.alloc(), file)),
         Err(error) => octets_of(path, Err(error)),
@@ -58,7 +66,8 @@ fn read_file<'a>(rt: &HostRuntime, path: &'a str) -> Result<Octets, Unread<'a>> 
 }
 
 fn read_optional<'a>(rt: &HostRuntime, path: Option<&'a str>) -> Result<Option<Octets>, Unread<'a>>
-    ensures { IfOk result (λ octets. is_some octets ≡ is_some path.entry) }
+    ensures given { IfOk result (λ octets. is_some octets ≡ is_some path.entry) }
+    ensures named { IfErr result (λ unread. (unread ≡ Unread.Memory) ⊎ IfSome path.entry (λ p. unread ≡ Unread.File p)) }
 {
     match path {
         Some(path) => Ok(Some(read_file(rt, path)?)),
@@ -108,6 +117,7 @@ fn job_of<'a>(rt: &HostRuntime, plan: &Plan<'a>) -> Result<Job, Unread<'a>>
 // be printed.
 fn refuse(rt: &HostRuntime, fault: &Fault, files: &FileSet) -> u8
     requires { IsPrintedWith files.now fault.now }
+    ensures { result ≡ status_of fault.now }
 {
     let mut out = WriteOutput::new(rt.stderr());
     let _ = print_fault(fault, files, &mut out);
@@ -117,6 +127,7 @@ fn refuse(rt: &HostRuntime, fault: &Fault, files: &FileSet) -> u8
 // The same before any file was read.
 fn refuse_early(rt: &HostRuntime, fault: &Fault) -> u8
     requires { IsPrintedWith [] fault.now }
+    ensures { result ≡ status_of fault.now }
 {
     refuse(rt, fault, &FileSet::from_vec(Vec::new(rt.alloc())))
 }
