@@ -1,0 +1,85 @@
+//! Asks a dictionary and a packet all that takes no memory, and prints the answers. The tests run it with every
+//! growth refused from the line `begin` on. Its words: the text of a dictionary, the octets of attributes, a request
+//! line for each pair, and then the names to look up.
+#![tactic(auto)]
+
+use avp_dict::{Dictionary, FileSet, NamedFile};
+use avp_lists::{Octets, Pair};
+use avp_packet::{attributes, check_reply};
+use std::alloc::Global;
+use std::{env, io};
+
+// The reply to the request in RFC 2865, section 7.1, whose authenticator and secret are these.
+const REPLY: [u8; 38] = [
+    0x02, 0x00, 0x00, 0x26, 0x86, 0xfe, 0x22, 0x0e, 0x76, 0x24, 0xba, 0x2a, 0x10, 0x05, 0xf6, 0xbf,
+    0x9b, 0x55, 0xe0, 0xb2, 0x06, 0x06, 0x00, 0x00, 0x00, 0x01, 0x0f, 0x06, 0x00, 0x00, 0x00, 0x00,
+    0x0e, 0x06, 0xc0, 0xa8, 0x01, 0x03,
+];
+
+const AUTHENTICATOR: [u8; 16] = [
+    0x0f, 0x40, 0x3f, 0x94, 0x73, 0x97, 0x80, 0x57, 0xbd, 0x83, 0xd5, 0xcb, 0x98, 0xf4, 0x22, 0x7a,
+];
+
+const SECRET: &[u8] = b"xyzzy5461";
+
+// The dictionary of one file.
+fn dictionary_of(alloc: Global, text: &str) -> io::Result<Dictionary> {
+    let octets = Octets::from_vec(Vec::from_slice(alloc, text.as_bytes())?);
+    let files = vec![in alloc; NamedFile::at(alloc, "dictionary", octets)?]?;
+    let set = FileSet::from_vec(files);
+    if set.is_empty() || !set.has_distinct_names() {
+        return Err(io::ErrorKind::InvalidInput.into());
+    }
+    Dictionary::read(alloc, &set).map_err(|_| io::ErrorKind::InvalidData.into())
+}
+
+// What a name stands for, and what is known of that.
+fn look_up(rt: &HostRuntime, dictionary: &Dictionary, name: &[u8]) -> io::Result<()> {
+    match dictionary.by_name(name) {
+        None => println!(rt; "none"),
+        Some(named) => {
+            println!(rt; "{named:?} {}", dictionary.greatest_length(named.id))?;
+            match dictionary.by_id(named.id) {
+                None => println!(rt; "no entry"),
+                Some(entry) => println!(rt; "{:?} {:?} {}", entry.name, entry.kind, entry.hidden),
+            }
+        }
+    }
+}
+
+fn look_at_all(rt: &HostRuntime, dictionary: &Dictionary, pairs: &[Pair]) -> io::Result<()> {
+    println!(rt; "{:?} {:?}", dictionary.counts(), dictionary.notes())?;
+    println!(rt; "{:?} {:?}", dictionary.vendor(9), dictionary.vendor(10))?;
+    for pair in pairs {
+        println!(rt; "fits {}", dictionary.fits(pair))?;
+    }
+    Ok(())
+}
+
+fn look_at_packets(rt: &HostRuntime, octets: &[u8]) -> io::Result<()> {
+    for attribute in attributes(octets) {
+        match attribute {
+            Ok(whole) => println!(rt; "{} {:?} {}", whole.number, whole.value, whole.offset)?,
+            Err(bad) => println!(rt; "bad {}", bad.offset)?,
+        }
+    }
+    println!(rt; "reply {}", check_reply(&REPLY, &AUTHENTICATOR, SECRET))
+}
+
+fn main(rt: HostRuntime) -> io::Result<()> {
+    let words: Vec<String> = env::args(&rt)?.collect(rt.alloc())?;
+    let [_, text, octets, request, names @ ..] = words.as_slice() else {
+        return Err(io::ErrorKind::InvalidInput.into());
+    };
+    let dictionary = dictionary_of(rt.alloc(), text.as_str())?;
+    let pairs = dictionary
+        .read_request(rt.alloc(), request.as_bytes())
+        .map_err(|_| io::Error::from(io::ErrorKind::InvalidData))?;
+    println!(rt; "begin")?;
+    look_at_all(&rt, &dictionary, &pairs)?;
+    look_at_packets(&rt, octets.as_bytes())?;
+    for name in names {
+        look_up(&rt, &dictionary, name.as_bytes())?;
+    }
+    Ok(())
+}

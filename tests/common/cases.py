@@ -1,0 +1,43 @@
+"""Commands with their files: the worked cases of `tests/cases` and the examples, as folders or in memory."""
+import os
+from dataclasses import dataclass, replace
+from pathlib import Path
+from typing import Dict, Iterator, Tuple
+
+
+@dataclass(frozen=True)
+class Case:
+    """The words after the program's name, the files that lie where it runs, and standard input."""
+
+    name: str
+    words: Tuple[bytes, ...]
+    files: Dict[str, bytes]
+    stdin: bytes = b""
+    output: bytes = b""
+
+    def place(self, folder: Path) -> None:
+        """Writes the files."""
+        for name, octets in self.files.items():
+            (folder / name).write_bytes(octets)
+
+    def with_file(self, name: str, octets: bytes) -> "Case":
+        return replace(self, files={**self.files, name: octets})
+
+
+def from_folder(folder: Path) -> Case:
+    """The case of a folder with the files `command` and `output`. Each word of the command that is a path of a file
+    becomes the last part of it, and the file one of the case's own, so that the case stands alone."""
+    words, files = [], {}
+    for word in (folder / "command").read_text().split():
+        path = folder / word
+        if path.is_file():
+            files[path.name] = path.read_bytes()
+            word = path.name
+        words.append(os.fsencode(word))
+    return Case(folder.name, tuple(words), files, output=(folder / "output").read_bytes())
+
+
+def cases_below(folder: Path) -> Iterator[Case]:
+    """The cases of the folders in a folder, by name."""
+    for command in sorted(folder.glob("*/command")):
+        yield from_folder(command.parent)

@@ -1,0 +1,45 @@
+"""What is tested: the repository, its built programs, and the processors to run them on."""
+import os
+import tempfile
+from concurrent.futures import ThreadPoolExecutor
+from contextlib import contextmanager
+from dataclasses import dataclass
+from pathlib import Path
+from typing import Callable, Iterable, Iterator, List, TypeVar
+
+Given = TypeVar("Given")
+Made = TypeVar("Made")
+
+
+@dataclass(frozen=True)
+class Subject:
+    """The root of the repository and the program."""
+
+    root: Path
+    program: Path
+
+    def driver(self, name: str) -> Path:
+        """A program of the crates that only tests run."""
+        return self.root / "crates" / name / "out" / name
+
+    @property
+    def kit(self) -> Path:
+        """The folder of the Rattle kit, by the command that `RT` names."""
+        for folder in os.environ.get("RT", "rt"), *(f"{it}/rt" for it in os.environ["PATH"].split(":")):
+            if os.path.isfile(folder) and (Path(folder).resolve().parent.parent / "toolchain").is_dir():
+                return Path(folder).resolve().parent.parent
+        return Path("/opt/rattle")
+
+
+@contextmanager
+def new_folder() -> Iterator[Path]:
+    """A folder that is there for a while, in memory where there is such a place."""
+    where = "/dev/shm" if os.access("/dev/shm", os.W_OK) else None
+    with tempfile.TemporaryDirectory(prefix="radpolicy-", dir=where) as folder:
+        yield Path(folder)
+
+
+def on_all(work: Callable[[Given], Made], given: Iterable[Given]) -> List[Made]:
+    """The work on each of the given, on all processors, in their order."""
+    with ThreadPoolExecutor(os.cpu_count()) as pool:
+        return list(pool.map(work, given))

@@ -1,0 +1,79 @@
+"""The program under a row of limits on its address space, from too little to enough, with whole sets of dictionaries."""
+import os
+import resource
+from dataclasses import replace
+from pathlib import Path
+from typing import Callable, Optional, Sequence
+
+from common.cases import Case, from_folder
+from common.documents import faults, line_of
+from common.program import Ended, Word, run
+from common.report import Report
+from common.subject import Subject, new_folder, on_all
+
+SERVER = Path("/usr/share/freeradius")
+MOST = 1 << 31
+STEP = 1 << 12
+LIMITS = 48
+PAST_ENOUGH = 8
+
+
+def run_within(command: Sequence[Word], case: Case, octets: int) -> Ended:
+    """A run in an address space of so many octets."""
+
+    def limit() -> None:
+        resource.setrlimit(resource.RLIMIT_AS, (octets, octets))
+
+    with new_folder() as folder:
+        case.place(folder)
+        return run(command, folder, case.stdin, before=limit)
+
+
+def least(is_enough: Callable[[int], bool]) -> int:
+    """The least limit that is enough, to a step."""
+    low, high = 0, MOST
+    while high - low > STEP:
+        middle = (low + high) // 2
+        low, high = (low, middle) if is_enough(middle) else (middle, high)
+    return high
+
+
+def is_refused(ended: Ended, case: Case, fault: bytes) -> Optional[bool]:
+    """Whether a run was refused, or has the exact output; neither is nothing."""
+    if (ended.status, ended.output, ended.errors) == (4, b"", fault):
+        return True
+    return False if (ended.status, ended.output, ended.errors) == (0, case.output, b"") else None
+
+
+def check_case(subject: Subject, report: Report, case: Case) -> None:
+    """Limits from the least in which the program begins at all, which it shows without words, to enough for the case."""
+    fault = line_of(faults(subject.root)["E09"])
+    command = [subject.program, *case.words]
+    begins = least(lambda octets: run_within([subject.program], case, octets).status in (2, 4))
+    enough = least(lambda octets: is_refused(run_within(command, case, octets), case, fault) is False)
+    limits = [begins + (enough - begins) * at // LIMITS for at in range(LIMITS + PAST_ENOUGH)]
+    ends = on_all(lambda octets: (octets, run_within(command, case, octets)), limits)
+    judged = [(octets, end, is_refused(end, case, fault)) for octets, end in ends]
+    wrong = [f"{octets} octets: {end.status} {end.errors!r}" for octets, end, how in judged if how is None]
+    refused = sum(how is True for _, _, how in judged)
+    wrong += [] if refused else ["no run was refused"]
+    report.check(f"{case.name} in {begins >> 10} to {enough >> 10} KiB: {refused} of {len(limits)} runs refused", wrong)
+
+
+def server_case(subject: Subject, example: Case) -> Case:
+    """The example's request and policy by the dictionaries of a FreeRADIUS server, with what is printed then."""
+    paths = sorted(SERVER.glob("dictionary*"))
+    names = [os.fsencode(path.name) for path in paths]
+    words = tuple(word for word in example.words if not word.startswith(b"dictionary"))
+    files = {**example.files, **{path.name: path.read_bytes() for path in paths}}
+    case = replace(example, name="reply by a server's dictionaries", words=(*words, *names), files=files)
+    return replace(case, output=run_within([subject.program, *case.words], case, MOST).output)
+
+
+def check(subject: Subject, report: Report) -> None:
+    example = from_folder(subject.root / "examples/reply")
+    check_case(subject, report, example)
+    if SERVER.is_dir():
+        check_case(subject, report, server_case(subject, example))
+    else:
+        report.say(f"no dictionaries of a server in {SERVER}, so none were read")

@@ -1,0 +1,66 @@
+// Preloaded into a program, it counts each time that the program asks for memory, and refuses some.
+//
+// GROWTHS names a file of four numbers of eight octets, which is shared with whoever started the program: the first
+// growth to refuse and the last one, both counted from 1, and then what is told, how often the program asked and how
+// often it was refused. Growths before the program's own start are not counted. It is made without headers and
+// without a C library's start files, so that the kit's clang is all that is needed.
+
+typedef unsigned long size;
+
+extern void *__libc_malloc(size);
+extern void *__libc_calloc(size, size);
+extern void *__libc_realloc(void *, size);
+extern void *__libc_memalign(size, size);
+extern int *__errno_location(void);
+extern char *getenv(const char *);
+extern int open(const char *, int, ...);
+extern void *mmap(void *, size, int, int, int, long);
+
+enum { READ_WRITE = 2, PROT_READ_WRITE = 3, MAP_SHARED = 1, NO_MEMORY = 12 };
+
+struct growths {
+    long first, last, asked, refused;
+};
+
+static struct growths nowhere = {0, 0, 0, 0};
+static volatile struct growths *growths = &nowhere;
+
+__attribute__((constructor)) static void begin(void) {
+    const char *name = getenv("GROWTHS");
+    int file = name ? open(name, READ_WRITE) : -1;
+    void *page = file < 0 ? (void *)-1 : mmap(0, sizeof(struct growths), PROT_READ_WRITE, MAP_SHARED, file, 0);
+    if (page != (void *)-1)
+        growths = page;
+}
+
+static int is_refused(void) {
+    long growth = ++growths->asked;
+    if (growth < growths->first || growths->last < growth)
+        return 0;
+    growths->refused++;
+    *__errno_location() = NO_MEMORY;
+    return 1;
+}
+
+void *malloc(size octets) {
+    return is_refused() ? 0 : __libc_malloc(octets);
+}
+
+void *calloc(size count, size octets) {
+    return is_refused() ? 0 : __libc_calloc(count, octets);
+}
+
+void *realloc(void *old, size octets) {
+    return is_refused() ? 0 : __libc_realloc(old, octets);
+}
+
+void *aligned_alloc(size alignment, size octets) {
+    return is_refused() ? 0 : __libc_memalign(alignment, octets);
+}
+
+int posix_memalign(void **made, size alignment, size octets) {
+    if (is_refused())
+        return NO_MEMORY;
+    *made = __libc_memalign(alignment, octets);
+    return *made ? 0 : NO_MEMORY;
+}

@@ -1,0 +1,56 @@
+"""Runs programs with growths of their memory refused."""
+import mmap
+import os
+import struct
+import subprocess
+from pathlib import Path
+from typing import NamedTuple, Optional, Sequence
+
+from common.program import Ended, Word, run
+from common.subject import Subject
+
+NUMBERS = struct.Struct("4q")
+ALL_LATER = 2**62
+SOURCE = Path(__file__).with_name("refuse_growths.c")
+
+
+def library(subject: Subject) -> Path:
+    """The preloaded library, made by the kit's own clang where it is not there yet."""
+    made = Path(__file__).parent / "out" / "refuse_growths.so"
+    if made.is_file() and made.stat().st_mtime > SOURCE.stat().st_mtime:
+        return made
+    made.parent.mkdir(exist_ok=True)
+    new = made.with_suffix(f".{os.getpid()}")
+    clang = subject.kit / "toolchain/bin/clang"
+    flags = ["--no-default-config", "-O2", "-shared", "-fPIC", "-nostdlib", "-fuse-ld=lld"]
+    subprocess.run([clang, *flags, "-o", new, SOURCE], check=True)
+    new.rename(made)
+    return made
+
+
+class Refused(NamedTuple):
+    """How a run ended, how often it asked for memory, and how often it was refused."""
+
+    ended: Ended
+    asked: int
+    refused: int
+
+
+class Refusals:
+    """Refuses growths of the programs that it runs, one program at a time."""
+
+    def __init__(self, subject: Subject, folder: Path) -> None:
+        self._file = folder / f"growths-{os.urandom(4).hex()}"
+        self._file.write_bytes(bytes(NUMBERS.size))
+        with open(self._file, "r+b") as file:
+            self._page = mmap.mmap(file.fileno(), NUMBERS.size)
+        self._environment = {"LD_PRELOAD": str(library(subject)), "GROWTHS": str(self._file)}
+
+    def run(
+        self, command: Sequence[Word], folder: Path, first: int, last: Optional[int] = None, stdin: bytes = b""
+    ) -> Refused:
+        """Runs a command with its growths from the first to the last refused, or the first alone."""
+        NUMBERS.pack_into(self._page, 0, first, first if last is None else last, 0, 0)
+        ended = run(command, folder, stdin, self._environment)
+        _, _, asked, refused = NUMBERS.unpack_from(self._page)
+        return Refused(ended, asked, refused)

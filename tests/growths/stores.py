@@ -1,0 +1,133 @@
+"""Stores with each growth of their calls refused in turn: a refusal changes nothing, and the store is used on."""
+import itertools
+from typing import Counter, Iterator, List, NamedTuple, Optional, Tuple
+
+from common.report import Report
+from common.subject import Subject, new_folder
+from growths.refusing import ALL_LATER, Refusals, Refused
+from growths.store_model import FIRST, NAMES, Store, told
+
+STORES = ("snapshots",)
+OUT_OF_MEMORY = b"Error: Kind(OutOfMemory)\n"
+
+# Every operator, with an effect and without; edits from the middle; rollbacks until there is no room, and their undo.
+EDITS = [
+    *("reply += 25 9", "undo", "reply += 25 8", "redo", "list reply", "reply := 25 5", "reply = 7 1", "reply = 7 2"),
+    *("reply -= 25 5", "undo", "undo", "reply == 25 2", "control := 4 4", "request !* 1 0", "list request"),
+]
+ROLLBACKS = [
+    *("rollback 1", "rollback 0", "undo", "rollback 2", *["rollback 0"] * 8, "undo", "undo", "rollback 9", "redo"),
+]
+TO_BOTH_ENDS = [*["undo"] * 20, "list reply", *["redo", "list reply"] * 20]
+SETTLED = ["undo", "settle", "list reply", "reserve 3", "reserve 60", "control += 1 1", "list control"]
+# The last call that takes memory, and then those that take none: there is room for the rollbacks.
+WITHOUT_MEMORY = [
+    *("reserve 12", "reply += 25 9", "reply := 25 3", "list reply"),
+    *("undo", "undo", "undo", "redo", "rollback 1", "rollback 0", "rollback 3", "undo", "redo", "redo"),
+    *("reserve 3", "list control", "settle", "rollback 0", "undo", "settle"),
+]
+LAST_WITH_MEMORY = 3
+SCRIPTS = {
+    "edits": EDITS + TO_BOTH_ENDS,
+    "rollbacks": EDITS[:4] + ROLLBACKS + TO_BOTH_ENDS,
+    "settled": EDITS[:6] + SETTLED + TO_BOTH_ENDS,
+}
+KINDS = {"new", "list", "reserve", "rollback", *(f"edit {it}" for it in ("=", ":=", "+=", "-=", "==", "!*"))}
+
+
+class Followed(NamedTuple):
+    """The first thing that is wrong of a run, and the calls that were refused, by their places in the script."""
+
+    fault: Optional[str]
+    refused: List[int]
+
+
+def new_answered(lines: List[str]) -> Tuple[Optional[str], List[int]]:
+    """Takes the line of a refused `new` away: it hands back the lists."""
+    if not lines or not lines[0].startswith("refused"):
+        return None, []
+    back = lines.pop(0)
+    wanted = f"refused {' '.join(told(FIRST[name]) for name in NAMES)}"
+    return None if back == wanted else f"new handed back {back}", [-1]
+
+
+def follow(script: List[str], output: str) -> Followed:
+    """Holds what a run printed to what a store is."""
+    lines = output.splitlines()
+    fault, refused = new_answered(lines)
+    store = Store()
+    fault = fault or (store.stands("new", lines.pop(0), 0) if lines else "nothing was told")
+    if len(lines) != 2 * len(script):
+        return Followed(fault or f"{len(lines)} lines for {len(script)} calls", refused)
+    for at, (call, answer, state) in enumerate(zip(script, lines[::2], lines[1::2])):
+        place_before = store.place
+        fault = fault or store.answered(call, answer) or store.stands(call, state, place_before)
+        if fault:
+            return Followed(f"{call}, answered {answer}: {fault}", refused)
+        refused += [at] if answer == "refused" else []
+    return Followed(None, refused)
+
+
+def kind_of(script: List[str], at: int) -> str:
+    """What a call that was refused is called."""
+    if at < 0:
+        return "new"
+    words = script[at].split(" ")
+    return f"edit {words[1]}" if words[0] in NAMES else words[0]
+
+
+def runs(refusals: Refusals, command: List[str], folder, all_later: bool) -> Iterator[Tuple[int, Refused]]:
+    """The runs with the first, the second and each later growth refused, until none is; that one too."""
+    for growth in itertools.count(1):
+        run = refusals.run(command, folder, growth, ALL_LATER if all_later else growth)
+        yield growth, run
+        if not run.refused:
+            return
+
+
+def swept(subject: Subject, store: str, script: List[str], all_later: bool) -> Tuple[List[str], Counter[str]]:
+    """Each growth of a script refused in turn: what is wrong, and how often each kind of call was refused."""
+    wrong, kinds = [], Counter[str]()
+    command = [str(subject.driver("drive_store")), store, *script]
+    with new_folder() as folder:
+        for growth, run in runs(Refusals(subject, folder), command, folder, all_later):
+            ended = run.ended
+            if ended.status == 1 and ended.errors == OUT_OF_MEMORY and (not ended.output or all_later):
+                continue
+            found = follow(script, ended.output.decode())
+            kinds.update(kind_of(script, at) for at in found.refused)
+            if found.fault or ended.status:
+                wrong.append(f"growth {growth} of {run.asked}: status {ended.status}, {found.fault}")
+            elif not all_later and len(found.refused) > run.refused:
+                wrong.append(f"growth {growth}: {len(found.refused)} calls were refused")
+    return wrong, kinds
+
+
+def check_without_memory(subject: Subject, report: Report, store: str) -> None:
+    """From the last growth on every one is refused. It was that of the last call that takes memory, so the calls after
+    it asked for none."""
+    command = [str(subject.driver("drive_store")), store, *WITHOUT_MEMORY]
+    with new_folder() as folder:
+        refusals = Refusals(subject, folder)
+        asked = refusals.run(command, folder, 0).asked
+        run = refusals.run(command, folder, asked, ALL_LATER)
+    found = follow(WITHOUT_MEMORY, run.ended.output.decode())
+    wrong = [found.fault] if found.fault else []
+    if found.refused != [LAST_WITH_MEMORY] or run.asked != asked:
+        wrong.append(f"asked {asked} and then {run.asked} times, refused at the calls {found.refused}")
+    report.check(f"calls of {store} that take no memory, with every growth refused", wrong)
+
+
+def check(subject: Subject, report: Report) -> None:
+    """Every store, each script, each growth alone and with all later ones."""
+    for store in STORES:
+        kinds = Counter[str]()
+        for name, script in SCRIPTS.items():
+            for all_later in (False, True):
+                wrong, found = swept(subject, store, script, all_later)
+                kinds += found
+                how = "with all later ones" if all_later else "alone"
+                report.check(f"growths of {store}, {name}, {how}: {sum(found.values())} calls refused", wrong)
+        missed = sorted(KINDS - set(kinds))
+        report.check(f"calls of {store} that were refused: {dict(kinds)}", [f"none of {it}" for it in missed])
+        check_without_memory(subject, report, store)

@@ -1,0 +1,100 @@
+"""Walks whose update lines are refused in turn: only they may be, nothing changes, and the walk goes on."""
+from pathlib import Path
+from typing import List, NamedTuple, Optional, Set
+
+from common.report import Report
+from common.subject import Subject, new_folder
+from growths.refusing import Refusals
+from growths.stores import STORES, runs
+from growths.walk_model import Answered, Stand, Walk, answers
+
+CASES = Path(__file__).parent.parent / "cases"
+# For each policy the lines whose step adds octets to a list, which takes memory in every store.
+ADDING = {"nested-transactions": {1, 3, 5, 10}, "walk-over-rollbacks": {1, 5, 8, 11}}
+SCRIPTS = {
+    "to the end twice": ["end", *["back"] * 5, "end", *["back"] * 20, *["forward"] * 20],
+    "step by step": [*["forward", "back", "forward", "forward", "back"] * 14, "end", "start", "forward"],
+    "back in between": ["forward"] * 7 + ["back"] * 3 + ["end", "back", "back", "start", "back", "end", "forward"],
+}
+
+
+class Walked(NamedTuple):
+    """What is wrong of a walk, the positions whose step was refused, and what it told."""
+
+    fault: Optional[str]
+    refused: List[int]
+    told: List[Answered]
+
+
+def command_of(subject: Subject, store: str, case: str, moves: List[str]) -> List[str]:
+    policy = (CASES / case / "policy").read_text()
+    return [str(subject.driver("drive_walk")), store, (CASES / "dictionary").read_text(), "", policy, *moves]
+
+
+def trace_of(subject: Subject, store: str, case: str) -> List[Stand]:
+    """The positions of a walk that nothing refuses, step by step to the end."""
+    with new_folder() as folder:
+        command = command_of(subject, store, case, ["forward"] * 40)
+        told = answers(Refusals(subject, folder).run(command, folder, 0).ended.output.decode())[1]
+    return [it.stand for it in told if it.answer != "stays"]
+
+
+def follow(trace: List[Stand], moves: List[str], output: str) -> Walked:
+    """Holds what a walk told to its trace."""
+    refused, told = answers(output)
+    if refused not in (None, "refused 0 0") or len(told) != len(moves) + 1:
+        return Walked(f"{refused}, {len(told)} answers for {len(moves)} moves", [], told)
+    walk = Walk(trace)
+    fault = walk.stands(told[0].stand)
+    for word, answered in zip(moves, told[1:]):
+        fault = fault or walk.answered(word, answered)
+    return Walked(fault, walk.refused, told)
+
+
+def is_held_up_inside(moves: List[str], walked: Walked) -> bool:
+    """The walk to the end was refused at position 4, inside two transactions; five steps back, four of them made; and
+    then the end is reached."""
+    heads = [it.stand.head for it in walked.told]
+    replies = walked.told[1].stand.lists[1].count("Pair")
+    steps = [it.answer for it in walked.told[2:7]]
+    return (
+        moves[:7] == ["end", *["back"] * 5, "end"]
+        and (heads[1], replies) == ("at 4 Enter(4) Ok false", 2)
+        and steps == ["done"] * 4 + ["stays"]
+        and heads[7].startswith("at 14 Line(14) Reject")
+    )
+
+
+def sweep(subject: Subject, report: Report, store: str, case: str, all_later: bool) -> Set[str]:
+    """Each growth of each script refused; gives the labels of the steps that were refused."""
+    trace, labels, held_up = trace_of(subject, store, case), set(), 0
+    for name, moves in SCRIPTS.items():
+        wrong: List[str] = []
+        command = command_of(subject, store, case, moves)
+        with new_folder() as folder:
+            for growth, run in runs(Refusals(subject, folder), command, folder, all_later):
+                ended = run.ended
+                if ended.status == 1 and b"at 0" not in ended.output:
+                    continue  # the program's own preparation was refused
+                walked = follow(trace, moves, ended.output.decode())
+                if ended.status or walked.fault:
+                    wrong.append(f"growth {growth}: status {ended.status}, {walked.fault}")
+                labels |= {trace[at].label for at in walked.refused}
+                held_up += not walked.fault and walked.refused == [5] and is_held_up_inside(moves, walked)
+        how = "with all later ones" if all_later else "alone"
+        report.check(f"growths of a walk over {case} on {store}, {name}, {how}", wrong)
+    if case == "nested-transactions" and not all_later:
+        report.check(f"a walk on {store} held up inside two transactions", [] if held_up else ["none was"])
+    return labels
+
+
+def check(subject: Subject, report: Report) -> None:
+    """Every store and both policies."""
+    for store in STORES:
+        for case, adding in ADDING.items():
+            labels = sweep(subject, report, store, case, False) | sweep(subject, report, store, case, True)
+            missed = {f"Line({line})" for line in adding} - labels
+            report.check(
+                f"steps of {case} on {store} that were refused: {sorted(labels)}",
+                [f"not {label}" for label in sorted(missed)],
+            )
