@@ -4,7 +4,7 @@ from pathlib import Path
 from typing import Dict, NamedTuple, Optional
 
 ROW = re.compile(r"^\| (E\d\d) \| ([^|(]+?)(?: \([^|]*\))? \| (\d) \|$", re.M)
-LINE = re.compile(rb"radpolicy: (E\d\d)(?: (.+))?: ([^:\n]+)\n", re.S)
+LINE = re.compile(rb"radpolicy: (E\d\d)(?: (.*))?: ([^:\n]+)\n", re.S)
 
 
 class Fault(NamedTuple):

@@ -1,0 +1,47 @@
+"""Runs the rows of crafted input. Each ends as it should within 2 s of a processor and 512 MiB."""
+from typing import List
+
+from common.documents import faults, line_of
+from common.program import run
+from common.report import Report
+from common.subject import Subject, new_folder
+from hostile.sizes import Row, rows
+
+SECONDS = 2.0
+KILOBYTES = 512 * 1024
+
+
+def wrong(subject: Subject, row: Row) -> List[str]:
+    """What is wrong of a row's run."""
+    with new_folder() as folder:
+        for name, octets in row.files.items():
+            (folder / name).write_bytes(octets)
+        ended = run([subject.program, *row.words.split()], folder, seconds=20)
+    found = []
+    if row.fault:
+        number, _, place = row.fault.partition(" ")
+        fault = faults(subject.root)[number]
+        if (ended.status, ended.output, ended.errors) != (fault.status, b"", line_of(fault, place.encode())):
+            found.append(f"wanted {row.fault}, got {ended.status} {ended.errors!r} {ended.output[:80]!r}")
+    elif ended.status or ended.errors or not ended.output.endswith(row.end):
+        found.append(f"wanted {row.end[-80:]!r}, got {ended.status} {ended.errors!r} {ended.output[-80:]!r}")
+    if ended.seconds > SECONDS or ended.timed_out:
+        found.append(f"{ended.seconds:.1f} s")
+    if ended.kilobytes > KILOBYTES:
+        found.append(f"{ended.kilobytes >> 10} MiB")
+    return found
+
+
+def check(subject: Subject, report: Report) -> None:
+    for row in rows():
+        if row.off:
+            report.say(f"{row.name}: not run, since {row.off}")
+        else:
+            report.check(row.name, wrong(subject, row))
+
+
+def check_off(subject: Subject, report: Report) -> None:
+    """The rows that are off alone, to see which of them can be switched on."""
+    for row in rows():
+        if row.off:
+            report.check(row.name, wrong(subject, row))

@@ -1,0 +1,243 @@
+"""Rows of crafted input by its size and depth: what each is, how it ends, and that it ends in time and memory."""
+from dataclasses import dataclass
+from typing import Dict, List, Optional
+
+MIB = 1 << 20
+MOST_INPUT = 16 * MIB
+MOST_LINES = 200_000
+MOST_PAIRS = 4096
+MOST_SIZE = 65_535
+MOST_DEPTH = 64
+TYPES = b"""ATTRIBUTE User-Name 1 string
+ATTRIBUTE User-Password 2 string encrypt=1
+ATTRIBUTE Class 25 octets
+ATTRIBUTE Short 241.1 octets
+ATTRIBUTE Long 245.1 octets
+VENDOR Small 9
+BEGIN-VENDOR Small
+ATTRIBUTE Small-Text 1 string
+END-VENDOR Small
+"""
+LISTS = b"request\n%breply\n%bcontrol\nresult %b\n"
+EMPTY = LISTS % (b"", b"", b"ok")
+COUNTS = b"files %d\nattributes %d\nvalues %d\nvendors %d\nnotes %d\n"
+# Why rows are off.
+SNAPSHOTS = "a run keeps a whole state for each update line: the product of lines and pairs"
+SCANS = "each line of a dictionary is compared with the lines before it: the square of their number"
+REPORTS = "a walk's whole report is made before it is written"
+
+
+@dataclass(frozen=True)
+class Row:
+    """A command on files. It ends with the output, or with the fault at its place; an output that is long to spell is
+    known by its end. A row that is `off` is not run, for the reason that stands there."""
+
+    name: str
+    words: str
+    files: Dict[str, bytes]
+    fault: Optional[str] = None
+    end: bytes = b""
+    off: Optional[str] = None
+
+
+def run_row(name: str, end: bytes = b"", fault: Optional[str] = None, off: Optional[str] = None, **files: bytes) -> Row:
+    """A run of a request and a policy by the types, or by a dictionary."""
+    whole = {"request": b"", "policy": b"", "dictionary": TYPES, **files}
+    return Row(name, "run -f request --policy policy dictionary", whole, fault, end, off)
+
+
+def check_row(name: str, end: bytes = b"", fault: Optional[str] = None, off: Optional[str] = None, **files: bytes) -> Row:
+    """A check of a policy and a dictionary."""
+    words = "check --policy policy dictionary" if "policy" in files else "check dictionary"
+    return Row(name, words, {"dictionary": TYPES, **files}, fault, end, off)
+
+
+def pair_row(name: str, line: bytes, fault: Optional[str] = None) -> Row:
+    """A request of one line, which a run prints as it stands."""
+    return run_row(name, b"  " + line + b"\nreply\ncontrol\nresult ok\n", fault, request=line + b"\n")
+
+
+def hexadecimal(count: int) -> bytes:
+    return b"0x" + b"61" * count
+
+
+def value_rows() -> List[Row]:
+    """Values as long as they may be, and longer by one octet."""
+    rows = []
+    for name, most in ("Class", 253), ("Short", 252), ("Long", 4012):
+        rows.append(pair_row(f"{most} octets of {name}", name.encode() + b" = " + hexadecimal(most)))
+        rows.append(pair_row(f"{most + 1} octets of {name}", name.encode() + b" = " + hexadecimal(most + 1), "E31 request:1"))
+    for name, most in ("User-Name", 253), ("Small-Text", 247), ("User-Password", 128):
+        rows.append(pair_row(f"{most} octets of {name}", name.encode() + b' = "' + b"a" * most + b'"'))
+        longer = name.encode() + b' = "' + b"a" * (most + 1) + b'"'
+        rows.append(pair_row(f"{most + 1} octets of {name}", longer, "E31 request:1"))
+    return rows
+
+
+def name_rows() -> List[Row]:
+    """Names of 128 and of 129 octets."""
+    line, value = b"ATTRIBUTE %b 200 integer\n", b"ATTRIBUTE A 200 integer\nVALUE A %b 1\n"
+    note = b"note dictionary:%d\n"
+    return [
+        check_row("an attribute's name of 128", COUNTS % (1, 1, 0, 0, 0), dictionary=line % (b"n" * 128)),
+        check_row("an attribute's name of 129", COUNTS % (1, 0, 0, 0, 1) + note % 1, dictionary=line % (b"n" * 129)),
+        check_row("a value's name of 128", COUNTS % (1, 1, 1, 0, 0), dictionary=value % (b"n" * 128)),
+        check_row("a value's name of 129", COUNTS % (1, 1, 0, 0, 1) + note % 2, dictionary=value % (b"n" * 129)),
+        check_row("a vendor's name of 128", COUNTS % (1, 0, 0, 1, 0), dictionary=b"VENDOR %b 9\n" % (b"n" * 128)),
+        check_row("a vendor's name of 129", fault="E10 dictionary:1", dictionary=b"VENDOR %b 9\n" % (b"n" * 129)),
+    ]
+
+
+def depth_rows() -> List[Row]:
+    """Policies nested as deep as they may be, and deeper."""
+    rows = []
+    for depth in MOST_DEPTH, MOST_DEPTH + 1:
+        nested = b"transaction {\n" * depth + b"}\n" * depth
+        fault = None if depth == MOST_DEPTH else f"E53 policy:{depth}"
+        rows.append(check_row(f"{depth} transactions", b"size %d\n" % (2 * depth), fault, policy=nested))
+        rows.append(run_row(f"a run of {depth} transactions", b"result ok\n", fault, policy=nested))
+        fault = None if depth == MOST_DEPTH else "E53 policy:1"
+        denied = b"if (" + b"!" * (depth - 1) + b"&Class) { }"
+        rows.append(check_row(f"{depth - 1} signs of denial", b"size 1\n", fault, policy=denied))
+        bracketed = b"if " + b"(" * depth + b"&Class" + b")" * depth + b" { }"
+        rows.append(check_row(f"{depth} brackets", b"size 1\n", fault, policy=bracketed))
+    return rows
+
+
+def policy_rows() -> List[Row]:
+    """Policies as large as they may be, and larger by one line."""
+    many = b"update control {\n" + b"Class !* ANY\n" * MOST_SIZE + b"}\n"
+    more = b"update control {\n" + b"Class !* ANY\n" * (MOST_SIZE + 1) + b"}\n"
+    words = b"ok\n" * MOST_SIZE
+    lines = b"update reply {\n" + b"Class += 0x01\n" * MOST_PAIRS + b"%b}\n"
+    pairs = b"Class = 0x01\n" * MOST_PAIRS
+    listed = b"  " + pairs.replace(b"\n", b"\n  ")[:-2]
+    return [
+        check_row("a policy of 65,535 lines", b"size 65535\n", policy=many),
+        check_row("a policy of 65,536 lines", fault="E54 policy:65537", policy=more),
+        run_row("a run of 65,535 lines", LISTS % (b"", b"", b"ok"), policy=many),
+        run_row("a run of 65,535 words", LISTS % (b"", b"", b"ok"), policy=words),
+        run_row("4096 pairs added to a reply", LISTS % (b"", listed, b"ok"), policy=lines % b"", off=SNAPSHOTS),
+        run_row("4097 pairs added to a reply", LISTS % (b"", b"", b"fail stopped"), policy=lines % b"Class += 2\n", off=SNAPSHOTS),
+        run_row("65,535 lines on 4096 pairs", LISTS % (listed, b"", b"ok"), request=pairs, policy=many, off=SNAPSHOTS),
+    ]
+
+
+
+def input_rows() -> List[Row]:
+    """Files of 16 MiB, and of one octet more, which are not read."""
+    rows = []
+    for count, word in (MOST_INPUT, "16 MiB"), (MOST_INPUT + 1, "more than 16 MiB"):
+        longer = count > MOST_INPUT
+
+        def fault(name: str) -> Optional[str]:
+            return f"E04 {name}" if longer else None
+
+        blanks = b" " * 79 + b"\n"
+        blank = (blanks * (count // 80 + 1))[:count]
+        rows.append(run_row(f"a request of {word}", EMPTY, fault("request"), request=blank))
+        rows.append(run_row(f"a policy of {word}", EMPTY, fault("policy"), policy=blank))
+        rows.append(run_row(f"a comment of {word} in a dictionary", EMPTY, fault("dictionary"), dictionary=b"#" * count))
+        walk = {"policy": b"", "request": b"", "dictionary": TYPES, "script": blank}
+        rows.append(Row(f"a script of {word}", "step -f request --policy policy --script script dictionary", walk, fault("script")))
+        packet = b"01000014" + b"00" * 16 + b" " * (count - 40)
+        decode = {"packet": packet, "secret": b"s" * 9, "dictionary": TYPES}
+        rows.append(Row(f"a packet of {word}", "decode -f packet -S secret dictionary", decode, fault("packet"), b"\nrequest\n"))
+        encode = {"request": b"", "secret": b"s" * count, "dictionary": TYPES}
+        words = f"encode -f request -S secret --authenticator {'00' * 16} dictionary"
+        rows.append(Row(f"a secret of {word}", words, encode, fault("secret"), b"00" * 16 + b"\n"))
+    return rows
+
+
+def full_rows() -> List[Row]:
+    """Inputs of 16 MiB that hold as much as they can."""
+    value = b'User-Name = "' + b"\\" * (MOST_INPUT - 14) + b'"'
+    words = b"(" * (MOST_INPUT - 4)
+    walk = {"policy": b"", "request": b"", "dictionary": TYPES}
+    step = "step -f request --policy policy --script script dictionary"
+    pairs = {**walk, "request": b"Class = 0x01\n" * MOST_PAIRS}
+    return [
+        run_row("a request of one quoted text", fault="E36 request:1", request=value),
+        run_row("a request of one name", fault="E32 request:1", request=b"n" * MOST_INPUT),
+        run_row("a policy of brackets", fault="E53 policy:1", policy=b"if " + words),
+        run_row("a policy of one word", fault="E51 policy:1", policy=b"n" * MOST_INPUT),
+        Row("a script of one word", step, {**walk, "script": b"n" * MOST_INPUT}, "E06 script:1"),
+        Row("a script of 3,355,443 shows", step, {**walk, "script": b"show " * (MOST_INPUT // 5)}, end=b"control\n", off=REPORTS),
+        Row("a script of 200 shows of 4096 pairs", step, {**pairs, "script": b"show " * 200}, end=b"control\n"),
+        Row("a script of 2,000 shows of 4096 pairs", step, {**pairs, "script": b"show " * 2000}, end=b"control\n", off=REPORTS),
+    ]
+
+
+def request_rows() -> List[Row]:
+    """Requests of as many pairs as there may be, and of one more; packets of as many octets."""
+    pairs = b"Class = 0x01\n" * MOST_PAIRS
+    listed = b"  " + pairs.replace(b"\n", b"\n  ")[:-2]
+    secret = {"dictionary": TYPES, "secret": b"s\n"}
+    encode = f"encode -f request -S secret --authenticator {'00' * 16} dictionary"
+    most = b"Long = " + hexadecimal(4012)
+    return [
+        run_row("4096 pairs", LISTS % (listed, b"", b"ok"), request=pairs),
+        run_row("4097 pairs", fault="E35 request:4097", request=pairs + b"Class = 0x01\n"),
+        Row("a packet of 4096 octets", encode, {**secret, "request": most}, end=b"61\n"),
+        Row("a packet of 4099 octets", encode, {**secret, "request": most + b"\nClass = 0x01\n"}, "E46"),
+        Row("a packet of 4096 pairs", encode, {**secret, "request": pairs}, "E46"),
+        packet_row("a read packet of 4096 octets", 4096, b"\n" + b"  Class = 0x\n" * 2038),
+        packet_row("a read packet of 4097 octets", 4097, fault="E41"),
+    ]
+
+
+def packet_row(name: str, length: int, end: bytes = b"", fault: Optional[str] = None) -> Row:
+    """A packet of so many octets of empty attributes."""
+    octets = b"\x01\x00" + length.to_bytes(2, "big") + bytes(16) + (b"\x19\x02" * length)[: length - 20]
+    files = {"dictionary": TYPES, "secret": b"s\n", "packet": octets.hex().encode()}
+    return Row(name, "decode -f packet -S secret dictionary", files, fault, end)
+
+
+def include_rows() -> List[Row]:
+    """Files that include each other: two, a chain as deep as it may be and deeper, and ten times the next file."""
+    chain = {f"f{at}": b"$INCLUDE f%d\n" % (at + 1) for at in range(9)}
+    tenfold = {f"f{at}": b"$INCLUDE f%d\n" % (at + 1) * 10 for at in range(8)}
+    whole = "check " + " ".join(f"f{at}" for at in range(9))
+    return [
+        Row("ten lines in each of nine files", whole, {**tenfold, "f8": b"\n" * 10}, "E17 f8:8"),
+        Row("nine files that include the next", whole, {**chain, "f8": b"\n"}, end=COUNTS % (9, 0, 0, 0, 0)),
+        Row("ten files that include the next", whole + " f9", {**chain, "f9": b"\n"}, "E16 f8:1"),
+        Row("a tenth file that is not given", whole, chain, "E15 f8:1"),
+        Row("two files that include each other", "check a b", {"a": b"$INCLUDE b\n", "b": b"$INCLUDE a\n"}, "E16 a:1"),
+        Row("a file that includes itself ten times", "check a", {"a": b"$INCLUDE a\n" * 10}, "E16 a:1"),
+        Row("names in each of nine files", whole, {**tenfold, "f8": b"ATTRIBUTE A 200 integer\n" * 10}, "E17 f8:8", off=SCANS),
+    ]
+
+
+def line_rows() -> List[Row]:
+    """Dictionaries of as many lines as there may be, of each kind, and of one more."""
+    blank = b"\n" * MOST_LINES
+    numbered = range(MOST_LINES)
+    names = b"".join(b"ATTRIBUTE N-%d %d integer\n" % (at, at) for at in numbered)
+    alike = b"ATTRIBUTE Class 25 octets\n" * MOST_LINES
+    half = MOST_LINES // 2
+    values = b"ATTRIBUTE A 200 integer\n" + b"".join(b"VALUE A N-%d %d\n" % (at, at) for at in range(MOST_LINES - 1))
+    same = b"ATTRIBUTE A 200 integer\n" * half + b"VALUE A One 1\n" * half
+    vendors = b"".join(b"VENDOR N-%d %d\n" % (at, at) for at in numbered)
+    skipped = b"ATTRIBUTE A 200.1 integer\n" * MOST_LINES
+    blocks = b"VENDOR V 9\n\n" + b"BEGIN-VENDOR V\nEND-VENDOR V\n" * (half - 1)
+    nested = b"BEGIN-TLV T\n" * half + b"END-TLV T\n" * half
+    return [
+        check_row("200,000 blank lines", COUNTS % (1, 0, 0, 0, 0), dictionary=blank),
+        check_row("200,001 blank lines", fault="E17 dictionary:200001", dictionary=blank + b"\n"),
+        check_row("200,001 lines, the last of them bad", fault="E17 dictionary:200001", dictionary=blank + b"bad\n"),
+        check_row("200,000 names of attributes", COUNTS % (1, MOST_LINES, 0, 0, 0), dictionary=names, off=SCANS),
+        check_row("200,000 lines of one attribute", COUNTS % (1, 1, 0, 0, 0), dictionary=alike, off=SCANS),
+        check_row("199,999 names of values", COUNTS % (1, 1, MOST_LINES - 1, 0, 0), dictionary=values, off=SCANS),
+        check_row("100,000 lines of one value", COUNTS % (1, 1, 1, 0, 0), dictionary=same, off=SCANS),
+        check_row("200,000 vendors", COUNTS % (1, 0, 0, MOST_LINES, 0), dictionary=vendors, off=SCANS),
+        check_row("200,000 skipped lines", b"note dictionary:200000\n", dictionary=skipped),
+        check_row("99,999 blocks", COUNTS % (1, 0, 0, 1, 0), dictionary=blocks, off=SCANS),
+        check_row("100,000 blocks in one another", b"note dictionary:200000\n", dictionary=nested, off=SCANS),
+    ]
+
+
+def rows() -> List[Row]:
+    """All of them."""
+    makers = [value_rows, name_rows, depth_rows, policy_rows, input_rows, full_rows, request_rows, include_rows, line_rows]
+    return [row for maker in makers for row in maker()]
