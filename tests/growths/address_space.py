@@ -12,10 +12,12 @@ from common.report import Report
 from common.subject import Subject, new_folder, on_all
 
 SERVER = Path("/usr/share/freeradius")
-MOST = 1 << 31
+MOST = 1 << 28
 STEP = 1 << 12
-LIMITS = 48
-PAST_ENOUGH = 8
+LIMITS = 16
+PAST_ENOUGH = 2
+# How the loader ends where there is no room for a program.
+NOT_LOADED = 127
 
 
 def run_within(command: Sequence[Word], case: Case, octets: int) -> Ended:
@@ -29,35 +31,37 @@ def run_within(command: Sequence[Word], case: Case, octets: int) -> Ended:
         return run(command, folder, case.stdin, before=limit)
 
 
-def least(is_enough: Callable[[int], bool]) -> int:
-    """The least limit that is enough, to a step."""
-    low, high = 0, MOST
-    while high - low > STEP:
+def least(is_enough: Callable[[int], bool], floor: int) -> int:
+    """The least limit above a floor that is enough, to a sixteenth of what is above the floor."""
+    low, high = floor, MOST
+    while high - low > max(STEP, (high - floor) // 16):
         middle = (low + high) // 2
         low, high = (low, middle) if is_enough(middle) else (middle, high)
     return high
 
 
-def is_refused(ended: Ended, case: Case, fault: bytes) -> Optional[bool]:
-    """Whether a run was refused, or has the exact output; neither is nothing."""
+def how_it_ended(ended: Ended, case: Case, fault: bytes) -> Optional[str]:
+    """Whether a run was refused, has the exact output, or is none of the program; else nothing."""
     if (ended.status, ended.output, ended.errors) == (4, b"", fault):
-        return True
-    return False if (ended.status, ended.output, ended.errors) == (0, case.output, b"") else None
+        return "refused"
+    if ended.status == NOT_LOADED and not ended.output and not ended.errors.startswith(b"radpolicy: "):
+        return "not loaded"
+    return "done" if (ended.status, ended.output, ended.errors) == (0, case.output, b"") else None
 
 
 def check_case(subject: Subject, report: Report, case: Case) -> None:
-    """Limits from the least in which the program begins at all, which it shows without words, to enough for the case."""
+    """Limits from the least in which the program begins without words to what is enough for the case."""
     fault = line_of(faults(subject.root)["E09"])
     command = [subject.program, *case.words]
-    begins = least(lambda octets: run_within([subject.program], case, octets).status in (2, 4))
-    enough = least(lambda octets: is_refused(run_within(command, case, octets), case, fault) is False)
+    begins = least(lambda octets: run_within([subject.program], case, octets).status in (2, 4), 0)
+    enough = least(lambda octets: how_it_ended(run_within(command, case, octets), case, fault) == "done", begins)
     limits = [begins + (enough - begins) * at // LIMITS for at in range(LIMITS + PAST_ENOUGH)]
     ends = on_all(lambda octets: (octets, run_within(command, case, octets)), limits)
-    judged = [(octets, end, is_refused(end, case, fault)) for octets, end in ends]
-    wrong = [f"{octets} octets: {end.status} {end.errors!r}" for octets, end, how in judged if how is None]
-    refused = sum(how is True for _, _, how in judged)
-    wrong += [] if refused else ["no run was refused"]
-    report.check(f"{case.name} in {begins >> 10} to {enough >> 10} KiB: {refused} of {len(limits)} runs refused", wrong)
+    ways = [how_it_ended(ended, case, fault) for _, ended in ends]
+    wrong = [f"{octets} octets: {ended}" for (octets, ended), way in zip(ends, ways) if way is None]
+    wrong += [] if "refused" in ways and ways[-1] == "done" else [f"the runs ended so: {ways}"]
+    name = f"{case.name} in {begins >> 10} to {enough >> 10} KiB: {ways.count('refused')} of {len(ways)} runs refused"
+    report.check(name, wrong)
 
 
 def server_case(subject: Subject, example: Case) -> Case:

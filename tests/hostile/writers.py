@@ -6,7 +6,7 @@ import signal
 from contextlib import contextmanager
 from dataclasses import replace
 from pathlib import Path
-from typing import Callable, Iterator, Optional, Tuple
+from typing import BinaryIO, Callable, Iterator, Optional, Tuple
 
 from common.cases import Case, from_folder
 from common.documents import faults, line_of
@@ -16,6 +16,8 @@ from common.subject import Subject, new_folder, on_all
 
 CASES = Path(__file__).parent.parent / "cases"
 PIPE = 4096
+# F_SETPIPE_SZ of Linux, which Python names from 3.10 on.
+SET_PIPE_SIZE = 1031
 
 
 def run_case(
@@ -32,17 +34,11 @@ def run_case(
 
 
 @contextmanager
-def pipe() -> Iterator[Tuple[int, int]]:
-    """The ends of a pipe, to read and to write."""
-    ends = os.pipe()
-    try:
-        yield ends
-    finally:
-        for end in ends:
-            try:
-                os.close(end)
-            except OSError:
-                pass  # it was closed already
+def pipe() -> Iterator[Tuple[BinaryIO, BinaryIO]]:
+    """The ends of a pipe, to read and to write. Each may be closed before."""
+    reader, writer = os.pipe()
+    with open(reader, "rb", buffering=0) as read_end, open(writer, "wb", buffering=0) as write_end:
+        yield read_end, write_end
 
 
 def cut_off(subject: Subject, case: Case, octets: int) -> Tuple[Ended, bytes, bytes]:
@@ -54,9 +50,9 @@ def cut_off(subject: Subject, case: Case, octets: int) -> Tuple[Ended, bytes, by
 
     file = in_memory(b"")
     with pipe() as (reader, writer):
-        ended = run_case(subject, case, limit, file, writer)
-        os.close(writer)
-        said = os.read(reader, PIPE)
+        ended = run_case(subject, case, limit, file, writer.fileno())
+        writer.close()
+        said = reader.read(PIPE)
     taken = written(file)
     os.close(file)
     return ended, taken, said
@@ -83,14 +79,14 @@ def check_leaving_reader(subject: Subject, report: Report, fault: bytes) -> None
     wrong = [] if whole.status == 0 else [f"{whole}"]
     for octets in (0, 1, 7, 4095, 4096, 4097, 65536, 100000):
         with pipe() as (reader, writer), new_folder() as folder:
-            fcntl.fcntl(writer, fcntl.F_SETPIPE_SZ, PIPE)
+            fcntl.fcntl(writer, SET_PIPE_SIZE, PIPE)
             child = os.fork()
             if child == 0:
-                os.close(writer)
+                writer.close()
                 (folder / "taken").write_bytes(take(reader, octets))
                 os._exit(0)
-            os.close(reader)
-            ended = run_case(subject, request, output=writer)
+            reader.close()
+            ended = run_case(subject, request, output=writer.fileno())
             os.waitpid(child, 0)
             taken = (folder / "taken").read_bytes()
         if (ended.status, ended.errors, taken) != (3, fault, whole.output[:octets]):
@@ -98,11 +94,11 @@ def check_leaving_reader(subject: Subject, report: Report, fault: bytes) -> None
     report.check("a pipe whose reader goes", wrong)
 
 
-def take(reader: int, octets: int) -> bytes:
-    """So many octets of a pipe."""
+def take(reader: BinaryIO, octets: int) -> bytes:
+    """So many octets of a pipe, a few at a time."""
     taken = b""
     while len(taken) < octets:
-        taken += os.read(reader, octets - len(taken))
+        taken += reader.read(octets - len(taken))
     return taken
 
 
@@ -113,16 +109,16 @@ def check_streams(subject: Subject, report: Report, fault: bytes) -> None:
     refused = replace(case, words=(b"run",))
     full = os.open("/dev/full", os.O_WRONLY)
     with pipe() as (reader, writer):
-        os.close(reader)
+        reader.close()
         ends = {
             "closed output": (run_case(subject, case, lambda: os.close(1)), (3, b"", fault)),
             "full output": (run_case(subject, case, output=full), (3, b"", fault)),
-            "output that nobody reads": (run_case(subject, case, output=writer), (3, b"", fault)),
+            "output that nobody reads": (run_case(subject, case, output=writer.fileno()), (3, b"", fault)),
             "closed input": (run_case(subject, case, lambda: os.close(0)), (3, b"", unread)),
             "closed errors": (run_case(subject, case, lambda: os.close(2)), (0, case.output, b"")),
             "closed errors of a refusal": (run_case(subject, refused, lambda: os.close(2)), (2, b"", b"")),
             "full errors of a refusal": (run_case(subject, refused, errors=full), (2, b"", b"")),
-            "errors that nobody reads": (run_case(subject, refused, errors=writer), (2, b"", b"")),
+            "errors that nobody reads": (run_case(subject, refused, errors=writer.fileno()), (2, b"", b"")),
             "all closed": (run_case(subject, case, lambda: os.closerange(0, 3)), (3, b"", b"")),
         }
     os.close(full)
