@@ -3,7 +3,7 @@ import re
 from pathlib import Path
 from typing import Dict, NamedTuple, Optional
 
-ROW = re.compile(r"^\| (E\d\d) \| ([^|(]+?)(?: \([^|]*\))? \| (\d) \|$", re.M)
+ROW = re.compile(r"^\| (E\d\d) \| ([^|(]+?)(?: \([^|]*\))? \| (\d) \|", re.M)
 LINE = re.compile(rb"radpolicy: (E\d\d)(?: (.*))?: ([^:\n]+)\n", re.S)
 
 

@@ -1,5 +1,6 @@
 """What is tested: the repository, its built programs, and the processors to run them on."""
 import os
+import shutil
 import tempfile
 from concurrent.futures import ThreadPoolExecutor
 from contextlib import contextmanager
@@ -24,11 +25,9 @@ class Subject:
 
     @property
     def kit(self) -> Path:
-        """The folder of the Rattle kit, by the command that `RT` names."""
-        for folder in os.environ.get("RT", "rt"), *(f"{it}/rt" for it in os.environ["PATH"].split(":")):
-            if os.path.isfile(folder) and (Path(folder).resolve().parent.parent / "toolchain").is_dir():
-                return Path(folder).resolve().parent.parent
-        return Path("/opt/rattle")
+        """The folder of the Rattle kit: that of the command that `RT` names, or else where it is installed."""
+        rt = shutil.which(os.environ.get("RT", "rt")) or "/opt/rattle/bin/rt"
+        return Path(rt).resolve().parent.parent
 
 
 @contextmanager

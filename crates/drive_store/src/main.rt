@@ -98,28 +98,21 @@ fn follow<S: Store>(rt: &HostRuntime, mut store: S, calls: Vec<Call>) -> io::Res
     Ok(())
 }
 
-// A store of the lists. Where it is refused they are printed as they came back, and it is made of them once more.
-fn snapshots(rt: &HostRuntime, lists: ListsRefused) -> io::Result<SnapshotStore> {
-    if lists
-        .request
-        .len()
-        .max(lists.reply.len())
-        .max(lists.control.len())
-        > MOST_PAIRS
-    {
-        return Err(io::ErrorKind::InvalidInput.into());
-    }
-    match SnapshotStore::new(rt.alloc(), lists.request, lists.reply, lists.control) {
-        Ok(store) => Ok(store),
-        Err(back) => {
-            println!(rt;
-                "refused {:?} {:?} {:?}",
-                back.request, back.reply, back.control
-            )?;
-            let again = SnapshotStore::new(rt.alloc(), back.request, back.reply, back.control);
-            Ok(again.map_err(|_| AllocError)?)
+// Makes a store of the lists and the calls on it. Where the store is refused, the lists are printed as they came back,
+// and it is made of them once more.
+macro_rules! follow_new {
+    ($rt:expr, $store:ident, $lists:expr, $calls:expr) => {
+        match $store::new($rt.alloc(), $lists.request, $lists.reply, $lists.control) {
+            Ok(store) => follow($rt, store, $calls),
+            Err(back) => {
+                println!($rt; "refused {:?} {:?} {:?}", back.request, back.reply, back.control)?;
+                match $store::new($rt.alloc(), back.request, back.reply, back.control) {
+                    Ok(store) => follow($rt, store, $calls),
+                    Err(_) => Err(AllocError.into()),
+                }
+            }
         }
-    }
+    };
 }
 
 fn main(rt: HostRuntime) -> io::Result<()> {
@@ -129,8 +122,14 @@ fn main(rt: HostRuntime) -> io::Result<()> {
     };
     let calls = calls_of(rt.alloc(), words)?;
     let lists = first_lists(rt.alloc())?;
+    if lists.reply.len() > MOST_PAIRS
+        || lists.request.len() > MOST_PAIRS
+        || lists.control.len() > MOST_PAIRS
+    {
+        return Err(io::ErrorKind::InvalidInput.into());
+    }
     match store.as_str() {
-        "snapshots" => follow(&rt, snapshots(&rt, lists)?, calls),
+        "snapshots" => follow_new!(&rt, SnapshotStore, lists, calls),
         _ => Err(io::ErrorKind::InvalidInput.into()),
     }
 }
