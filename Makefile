@@ -1,6 +1,6 @@
 # make run        builds the program and shows the README's example
 # make test       the gate, then the examples through the built program
-# make documents  the commands of the documents, the completions and the manual pages, with the built program
+# make documents  the documents' links and commands, the completions and the manual pages, with the built program
 # make install    puts the program, the manual pages and the completions below PREFIX
 # make uninstall  removes them
 
@@ -21,6 +21,7 @@ test:
 	@RT=$(RT) scripts/test $(PROGRAM)
 
 documents:
+	@scripts/check-links
 	@scripts/check-document $(PROGRAM) README.md examples/hello
 	@scripts/check-document $(PROGRAM) docs/TUTORIAL.md
 	@scripts/check-document $(PROGRAM) docs/FREERADIUS.md
