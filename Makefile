@@ -21,12 +21,7 @@ test:
 	@RT=$(RT) scripts/test $(PROGRAM)
 
 documents:
-	@scripts/check-links
-	@scripts/check-document $(PROGRAM) README.md examples/hello
-	@scripts/check-document $(PROGRAM) docs/TUTORIAL.md
-	@scripts/check-document $(PROGRAM) docs/FREERADIUS.md
-	@scripts/check-completions $(PROGRAM)
-	@scripts/check-manual
+	@scripts/check-documents $(PROGRAM)
 
 # Where each file goes, by the conventions of man and of the three shells.
 AT = $(DESTDIR)$(PREFIX)
