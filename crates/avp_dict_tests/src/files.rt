@@ -1,54 +1,11 @@
-use crate::dictionaries::Dictionary;
-use crate::entries::{Counts, Format, Named, Note};
-use crate::faults::{DictFault, DictKind};
-use crate::files::{FileSet, NamedFile, last_component};
-use crate::octets::copy_of;
-use crate::readings::Kind;
+use avp_dict::{
+    Counts, DictFault, DictKind, Dictionary, FileSet, Format, Kind, Named, Note, last_component,
+};
 use avp_lists::AttrId;
+use samples::{TEST_DICTIONARY, file, one_file};
 use std::alloc::Global;
 use std::process::Abort;
 use std::test::Fail;
-
-const SMALL_SET: &[u8] = b"ATTRIBUTE User-Name 1 string
-ATTRIBUTE User-Password 2 string encrypt=1
-ATTRIBUTE NAS-IP-Address 4 ipaddr
-ATTRIBUTE NAS-Port 5 integer
-ATTRIBUTE Service-Type 6 integer
-ATTRIBUTE Login-IP-Host 14 ipaddr
-ATTRIBUTE Login-Service 15 integer
-ATTRIBUTE Reply-Message 18 string
-ATTRIBUTE Class 25 octets
-ATTRIBUTE Vendor-Specific 26 octets
-ATTRIBUTE Session-Timeout 27 integer
-ATTRIBUTE Proxy-State 33 octets
-ATTRIBUTE Acct-Status-Type 40 integer
-ATTRIBUTE Acct-Session-Id 44 string
-ATTRIBUTE Test-Ext 241.1 integer
-ATTRIBUTE Test-Long 245.1 octets
-ATTRIBUTE Tmp-Number 1000 integer
-VALUE Service-Type Login-User 1
-VALUE Login-Service Telnet 0
-VALUE Acct-Status-Type Start 1
-VALUE Acct-Status-Type Stop 2
-VENDOR Cisco 9
-BEGIN-VENDOR Cisco
-ATTRIBUTE Cisco-AVPair 1 string
-END-VENDOR Cisco
-";
-
-fn file(alloc: Global, name: &[u8], octets: &[u8]) -> Result<NamedFile, Fail> {
-    Ok(NamedFile {
-        name: copy_of(alloc, name)?,
-        octets: copy_of(alloc, octets)?,
-    })
-}
-
-// One file of the name d.
-fn one_file(alloc: Global, octets: &[u8]) -> Result<FileSet, Fail> {
-    let mut files = Vec::new(alloc);
-    files.push(file(alloc, b"d", octets)?)?;
-    Ok(FileSet::from_vec(files))
-}
 
 // The files f0, f1, .. up to the last, each of which includes the next one; the last is blank.
 fn chain(alloc: Global, last: u8) -> Result<FileSet, Fail> {
@@ -117,7 +74,7 @@ fn expect_counts(
 #[test]
 fn reads_a_small_set(rt: HostRuntime) -> Result<(), Fail> {
     let alloc = rt.alloc();
-    let dictionary = read(alloc, &one_file(alloc, SMALL_SET)?)??;
+    let dictionary = read(alloc, &one_file(alloc, TEST_DICTIONARY)?)??;
     expect_counts(&rt, &dictionary, 18, 4, 1);
     expect_notes(&rt, &dictionary, &[]);
     let pair = AttrId::Vendor(9, 1);
@@ -325,7 +282,7 @@ fn reads_so_many_lines(rt: HostRuntime) -> Result<(), Fail> {
 #[test]
 fn reads_names_by_number(rt: HostRuntime) -> Result<(), Fail> {
     let alloc = rt.alloc();
-    let dictionary = read(alloc, &one_file(alloc, SMALL_SET)?)??;
+    let dictionary = read(alloc, &one_file(alloc, TEST_DICTIONARY)?)??;
     let raw = |id| Some(Named { id, raw: true });
     assert_eq!(rt; dictionary.by_name(b"Attr-25"), raw(AttrId::Plain(25)));
     assert_eq!(rt; dictionary.by_name(b"attr-0255"), raw(AttrId::Plain(255)));

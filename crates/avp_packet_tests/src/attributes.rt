@@ -1,19 +1,34 @@
 //! Attributes of each form, read and written.
 
-use crate::decoding::decode;
-use crate::encoding::{encode_reply, encode_request};
-use crate::faults::PacketFault;
-use crate::packets::{ACCESS_ACCEPT, ACCESS_REQUEST, ACCOUNTING_REQUEST};
-use crate::splitting::BadLength;
-use crate::tests::{all_fit, octets, read_dictionary, read_test_dictionary};
-use crate::walking::attributes;
 use avp_dict::Dictionary;
 use avp_lists::{AttrId, Pair, Value};
+use avp_packet::{
+    ACCESS_ACCEPT, ACCESS_REQUEST, ACCOUNTING_REQUEST, BadLength, PacketFault, attributes, decode,
+    encode_reply, encode_request,
+};
+use samples::{TEST_DICTIONARY, all_fit, octets, read_dictionary};
 use std::alloc::Global;
 use std::process::Abort;
 use std::test::Fail;
 
+// Vendors whose types and lengths have other sizes.
+const WIDE_VENDORS: &[u8] = b"VENDOR W 50 format=4,0
+VENDOR X 51 format=2,2
+BEGIN-VENDOR W
+ATTRIBUTE W-A 1 octets
+END-VENDOR W
+BEGIN-VENDOR X
+ATTRIBUTE X-A 1 byte
+END-VENDOR X
+";
+
 const ZEROS: [u8; 16] = [0; 16];
+
+fn test_dictionary(alloc: Global) -> Result<Dictionary, Fail> {
+    let mut lines = Vec::from_slice(alloc, TEST_DICTIONARY)?;
+    lines.extend_from_slice(WIDE_VENDORS)?;
+    read_dictionary(alloc, &lines)
+}
 
 fn pairs_of(alloc: Global, id: AttrId, value: Value) -> Result<Vec<Pair>, Fail> {
     let mut pairs = Vec::new(alloc);
@@ -21,7 +36,7 @@ fn pairs_of(alloc: Global, id: AttrId, value: Value) -> Result<Vec<Pair>, Fail> 
     Ok(pairs)
 }
 
-// The packet of attributes handed in.
+// The list of a packet with these attributes.
 fn read(
     alloc: Global,
     dictionary: &Dictionary,
@@ -82,7 +97,7 @@ fn expect_read(
 #[test]
 fn vendors(rt: HostRuntime) -> Result<(), Fail> {
     let alloc = rt.alloc();
-    let d = read_test_dictionary(alloc)?;
+    let d = test_dictionary(alloc)?;
     let cisco = [0x1a, 0x0b, 0, 0, 0, 9, 1, 5, b'a', b'=', b'b'];
     let text = Value::Text(octets(alloc, b"a=b")?);
     expect_both(&rt, alloc, &d, AttrId::Vendor(9, 1), text, &cisco)?;
@@ -100,7 +115,7 @@ fn vendors(rt: HostRuntime) -> Result<(), Fail> {
 #[test]
 fn vendors_in_part(rt: HostRuntime) -> Result<(), Fail> {
     let alloc = rt.alloc();
-    let d = read_test_dictionary(alloc)?;
+    let d = test_dictionary(alloc)?;
     let id = AttrId::Vendor(9, 1);
     let empty = Value::Text(octets(alloc, b"")?);
     expect_read(&rt, alloc, &d, &[0x1a, 8, 0, 0, 0, 9, 1, 2], id, empty)?;
@@ -127,7 +142,7 @@ fn vendors_in_part(rt: HostRuntime) -> Result<(), Fail> {
 #[test]
 fn extended(rt: HostRuntime) -> Result<(), Fail> {
     let alloc = rt.alloc();
-    let d = read_test_dictionary(alloc)?;
+    let d = test_dictionary(alloc)?;
     let seven = [0xf1, 7, 1, 0, 0, 0, 7];
     expect_both(
         &rt,
@@ -160,7 +175,7 @@ fn extended(rt: HostRuntime) -> Result<(), Fail> {
 #[test]
 fn pieces(rt: HostRuntime) -> Result<(), Fail> {
     let alloc = rt.alloc();
-    let d = read_test_dictionary(alloc)?;
+    let d = test_dictionary(alloc)?;
     let long = AttrId::Extended(245, 1);
     let mut full = Vec::from_slice(alloc, &[0xf5, 0xff, 1, 0])?;
     full.resize(255, 0xaa)?;
@@ -190,7 +205,7 @@ fn pieces(rt: HostRuntime) -> Result<(), Fail> {
 #[test]
 fn a_full_packet(rt: HostRuntime) -> Result<(), Fail> {
     let alloc = rt.alloc();
-    let d = read_test_dictionary(alloc)?;
+    let d = test_dictionary(alloc)?;
     let value = vec![in alloc; 0xaau8; 4012]?;
     let list = pairs_of(
         alloc,
@@ -212,7 +227,7 @@ fn a_full_packet(rt: HostRuntime) -> Result<(), Fail> {
 #[test]
 fn accounting(rt: HostRuntime) -> Result<(), Fail> {
     let alloc = rt.alloc();
-    let d = read_test_dictionary(alloc)?;
+    let d = test_dictionary(alloc)?;
     let list = pairs_of(alloc, AttrId::Plain(2), Value::Text(octets(alloc, b"p")?))?;
     if !all_fit(&d, &list) {
         return Err(Fail::new("no fit"));

@@ -1,68 +1,12 @@
 //! Worked runs: the label, the code and the lists at each step.
-ghost use Rattle.std.specs.Prelude.{IfOk};
-ghost use Rattle.avp_lists.specs.History.{present};
-ghost use Rattle.avp_unlang.specs.Resolutions.{StateFits};
-
-use crate::labels::{Label, Move, Moved};
-use crate::steppers::Stepper;
-use avp_dict::{Dictionary, FileSet, NamedFile};
-use avp_lists::{AttrId, List, Octets, SnapshotStore, Store, Value};
+use avp_lists::{AttrId, List, SnapshotStore, Store, Value};
+use avp_step::{Label, Move, Moved, Stepper};
 use avp_unlang::{Code, read_policy};
+use avp_unlang_tests::store_of;
+use samples::{NESTED_TRANSACTIONS, test_dictionary};
 use std::alloc::Global;
 use std::process::Abort;
 use std::test::Fail;
-
-const LINES: &[u8] = b"ATTRIBUTE User-Name 1 string
-ATTRIBUTE User-Password 2 string encrypt=1
-ATTRIBUTE NAS-Port 5 integer
-ATTRIBUTE Reply-Message 18 string
-ATTRIBUTE Class 25 octets
-ATTRIBUTE Session-Timeout 27 integer
-";
-
-const NESTED: &[u8] = b"update reply { Class += 0x01 }
-transaction {
-  update reply { Class += 0x02 }
-  transaction {
-    update reply { Class := 0x03 }
-    transaction {
-      update reply { Class !* ANY }
-      fail
-    }
-    update reply { Reply-Message += \"m\" }
-  }
-  reject
-}
-update control { Session-Timeout := 60 }
-";
-
-fn octets_of(alloc: Global, octets: &[u8]) -> Result<Octets, Fail> {
-    Ok(Octets::from_vec(Vec::from_slice(alloc, octets)?))
-}
-
-fn small_dictionary(alloc: Global) -> Result<Dictionary, Fail> {
-    let mut files = Vec::new(alloc);
-    files.push(NamedFile {
-        name: octets_of(alloc, b"T")?,
-        octets: octets_of(alloc, LINES)?,
-    })?;
-    let set = FileSet::from_vec(files);
-    if set.is_empty() || !set.has_distinct_names() {
-        return Err(Fail::new("no set of files"));
-    }
-    Ok(Dictionary::read(alloc, &set)?)
-}
-
-// A store whose request list the text spells.
-fn store_of(alloc: Global, dictionary: &Dictionary, request: &[u8]) -> Result<SnapshotStore, Fail>
-    ensures { IfOk result (λ store. StateFits dictionary.now (present (⟦<SnapshotStore as Store>⟧.history store))) }
-{
-    let pairs = dictionary.read_request(alloc, request)?;
-    match SnapshotStore::new(alloc, pairs, Vec::new(alloc), Vec::new(alloc)) {
-        Ok(store) => Ok(store),
-        Err(_) => Err(Fail::new("out of memory")),
-    }
-}
 
 // Each step has its label, and then the run is over.
 fn goes(
@@ -89,7 +33,7 @@ fn runs(
     stopped: bool,
     replies: usize,
 ) -> Result<(), Fail> {
-    let dictionary = small_dictionary(alloc)?;
+    let dictionary = test_dictionary(alloc)?;
     let policy = read_policy(alloc, &dictionary, policy)?;
     let store = store_of(alloc, &dictionary, request)?;
     let mut stepper = Stepper::new(alloc, &dictionary, &policy, store).map_err(|e| e.1)?;
@@ -123,7 +67,7 @@ fn nested_transactions(rt: HostRuntime) -> Result<(), Fail> {
         &rt,
         rt.alloc(),
         b"",
-        NESTED,
+        NESTED_TRANSACTIONS,
         &labels,
         Code::Reject,
         false,
@@ -179,6 +123,36 @@ fn conditions(rt: HostRuntime) -> Result<(), Fail> {
     )
 }
 
+// Numbers compare as numbers and texts octet by octet; raw octets are no number.
+#[test]
+fn comparisons(rt: HostRuntime) -> Result<(), Fail> {
+    let request = b"NAS-Port = 7, User-Name = ab, Attr-6 = 0x78";
+    let cases: [(&[u8], bool); 8] = [
+        (b"if (&NAS-Port < 10) { }", true),
+        (b"if (&NAS-Port >= 7) { }", true),
+        (b"if (&NAS-Port > 7) { }", false),
+        (b"if (&User-Name > \"a\") { }", true),
+        (b"if (&User-Name < \"ab\") { }", false),
+        (b"if (&User-Name <= \"ab\") { }", true),
+        (b"if (&Service-Type == 120) { }", false),
+        (b"if (&Service-Type != 120) { }", false),
+    ];
+    for (policy, truth) in cases {
+        let labels = [Label::If(1, truth)];
+        runs(
+            &rt,
+            rt.alloc(),
+            request,
+            policy,
+            &labels,
+            Code::Ok,
+            false,
+            0,
+        )?;
+    }
+    Ok(())
+}
+
 #[test]
 fn unresolved_sources(rt: HostRuntime) -> Result<(), Fail> {
     runs(
@@ -205,8 +179,8 @@ fn unresolved_sources(rt: HostRuntime) -> Result<(), Fail> {
 
 #[test]
 fn forward_and_back(rt: HostRuntime) -> Result<(), Fail> {
-    let dictionary = small_dictionary(rt.alloc())?;
-    let policy = read_policy(rt.alloc(), &dictionary, NESTED)?;
+    let dictionary = test_dictionary(rt.alloc())?;
+    let policy = read_policy(rt.alloc(), &dictionary, NESTED_TRANSACTIONS)?;
     let store = store_of(rt.alloc(), &dictionary, b"")?;
     let mut stepper = Stepper::new(rt.alloc(), &dictionary, &policy, store).map_err(|e| e.1)?;
     assert_eq!(rt; stepper.label(), Label::Start);

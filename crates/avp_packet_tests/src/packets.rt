@@ -1,44 +1,16 @@
 //! Digests, hiding, and packets from outside.
 
-ghost use Rattle.std.specs.Prelude.{◌≡◌, true, All, IsTrue, IfOk, OnOk};
-ghost use Rattle.avp_dict.specs.Limits.{fits};
-
-use crate::authenticators::check_reply;
-use crate::decoding::decode;
-use crate::encoding::{encode_reply, encode_request};
-use crate::faults::{HideFault, PacketFault};
-use crate::hiding::{hide, unhide};
-use crate::packets::{ACCESS_ACCEPT, ACCESS_REQUEST};
-use avp_dict::{Dictionary, FileSet, NamedFile};
-use avp_lists::{AttrId, Octets, Pair, Value};
+use avp_dict::Dictionary;
+use avp_lists::{AttrId, Pair, Value};
+use avp_packet::{
+    ACCESS_ACCEPT, ACCESS_REQUEST, HideFault, PacketFault, check_reply, decode, encode_reply,
+    encode_request, hide, unhide,
+};
 use md5::{Digest, Md5};
-use std::alloc::{AllocError, Global};
+use samples::{all_fit, octets, read_dictionary, test_dictionary};
+use std::alloc::Global;
 use std::process::Abort;
 use std::test::Fail;
-
-const LINES: &[u8] = b"ATTRIBUTE User-Name 1 string
-ATTRIBUTE User-Password 2 string encrypt=1
-ATTRIBUTE NAS-IP-Address 4 ipaddr
-ATTRIBUTE NAS-Port 5 integer
-ATTRIBUTE Service-Type 6 integer
-ATTRIBUTE Login-IP-Host 14 ipaddr
-ATTRIBUTE Login-Service 15 integer
-ATTRIBUTE Class 25 octets
-ATTRIBUTE Test-Ext 241.1 integer
-ATTRIBUTE Test-Long 245.1 octets
-VENDOR Cisco 9
-VENDOR W 50 format=4,0
-VENDOR X 51 format=2,2
-BEGIN-VENDOR Cisco
-ATTRIBUTE Cisco-AVPair 1 string
-END-VENDOR Cisco
-BEGIN-VENDOR W
-ATTRIBUTE W-A 1 octets
-END-VENDOR W
-BEGIN-VENDOR X
-ATTRIBUTE X-A 1 byte
-END-VENDOR X
-";
 
 // The packets of RFC 2865, section 7.1.
 const SECRET: &[u8] = b"xyzzy5461";
@@ -59,33 +31,6 @@ const REPLY: [u8; 38] = [
     0x9b, 0x55, 0xe0, 0xb2, 0x06, 0x06, 0x00, 0x00, 0x00, 0x01, 0x0f, 0x06, 0x00, 0x00, 0x00, 0x00,
     0x0e, 0x06, 0xc0, 0xa8, 0x01, 0x03,
 ];
-
-pub(crate) fn octets(alloc: Global, bytes: &[u8]) -> Result<Octets, AllocError> {
-    Ok(Octets::from_vec(Vec::from_slice(alloc, bytes)?))
-}
-
-pub(crate) fn read_dictionary(alloc: Global, lines: &[u8]) -> Result<Dictionary, Fail> {
-    let mut files = Vec::new(alloc);
-    files.push(NamedFile {
-        name: octets(alloc, b"T")?,
-        octets: octets(alloc, lines)?,
-    })?;
-    let set = FileSet::from_vec(files);
-    if set.is_empty() || !set.has_distinct_names() {
-        return Err(Fail::new("no set of files"));
-    }
-    Ok(Dictionary::read(alloc, &set)?)
-}
-
-pub(crate) fn read_test_dictionary(alloc: Global) -> Result<Dictionary, Fail> {
-    read_dictionary(alloc, LINES)
-}
-
-pub(crate) fn all_fit(dictionary: &Dictionary, pairs: &[Pair]) -> bool
-    ensures { IsTrue result → All (λ pair. fits pair dictionary.now ≡ true) pairs.now }
-{
-    pairs.iter().all(|pair| dictionary.fits(pair))
-}
 
 fn request_of_four(alloc: Global) -> Result<Vec<Pair>, Fail> {
     let mut pairs = Vec::new(alloc);
@@ -179,7 +124,7 @@ fn hides_and_shows(rt: HostRuntime) -> Result<(), Fail> {
 #[test]
 fn reads_a_request(rt: HostRuntime) -> Result<(), Fail> {
     let alloc = rt.alloc();
-    let dictionary = read_test_dictionary(alloc)?;
+    let dictionary = test_dictionary(alloc)?;
     let packet = decode(alloc, &dictionary, SECRET, &REQUEST)?;
     assert_eq!(rt; packet.code, ACCESS_REQUEST);
     assert_eq!(rt; packet.id, 0);
@@ -191,7 +136,7 @@ fn reads_a_request(rt: HostRuntime) -> Result<(), Fail> {
 #[test]
 fn writes_a_request(rt: HostRuntime) -> Result<(), Fail> {
     let alloc = rt.alloc();
-    let dictionary = read_test_dictionary(alloc)?;
+    let dictionary = test_dictionary(alloc)?;
     let list = request_of_four(alloc)?;
     if !all_fit(&dictionary, &list) {
         return Err(Fail::new("no fit"));
@@ -212,7 +157,7 @@ fn writes_a_request(rt: HostRuntime) -> Result<(), Fail> {
 #[test]
 fn writes_a_reply(rt: HostRuntime) -> Result<(), Fail> {
     let alloc = rt.alloc();
-    let dictionary = read_test_dictionary(alloc)?;
+    let dictionary = test_dictionary(alloc)?;
     let list = reply_of_three(alloc)?;
     if !all_fit(&dictionary, &list) {
         return Err(Fail::new("no fit"));

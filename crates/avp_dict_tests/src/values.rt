@@ -1,8 +1,6 @@
-use crate::dictionaries::Dictionary;
-use crate::files::{FileSet, NamedFile};
-use crate::octets::copy_of;
-use crate::value_faults::ValueFault;
+use avp_dict::{Dictionary, ValueFault};
 use avp_lists::{AttrId, Octets, Pair, Value};
+use samples::{octets, read_dictionary};
 use std::alloc::Global;
 use std::process::Abort;
 use std::test::Fail;
@@ -41,16 +39,7 @@ END-VENDOR Cisco
 ";
 
 fn read_lines(alloc: Global) -> Result<Dictionary, Fail> {
-    let mut files = Vec::new(alloc);
-    files.push(NamedFile {
-        name: copy_of(alloc, b"d")?,
-        octets: copy_of(alloc, LINES)?,
-    })?;
-    let set = FileSet::from_vec(files);
-    if set.is_empty() || !set.has_distinct_names() {
-        return Err(Fail::new("no set of files"));
-    }
-    Ok(Dictionary::read(alloc, &set)?)
+    read_dictionary(alloc, LINES)
 }
 
 fn pair_of(alloc: Global, dictionary: &Dictionary, name: &[u8], text: &[u8]) -> Result<Pair, Fail> {
@@ -354,10 +343,10 @@ fn bars_names_before_reading(rt: HostRuntime) -> Result<(), Fail> {
 fn prints_a_string(rt: HostRuntime) -> Result<(), Fail> {
     let alloc = rt.alloc();
     let dictionary = read_lines(alloc)?;
-    let octets = [0x61, 0x22, 0x5c, 0x41, 0x0a, 0xc3];
+    let bytes = [0x61, 0x22, 0x5c, 0x41, 0x0a, 0xc3];
     let string = Pair {
         id: AttrId::Plain(1),
-        value: Value::Text(copy_of(alloc, &octets)?),
+        value: Value::Text(octets(alloc, &bytes)?),
     };
     let printed = b"\"a\\\"\\\\A\\n\\303\"";
     expect_printed(
@@ -366,7 +355,7 @@ fn prints_a_string(rt: HostRuntime) -> Result<(), Fail> {
         &dictionary,
         &string,
         b"User-Name",
-        &octets,
+        &bytes,
         printed,
     )
 }

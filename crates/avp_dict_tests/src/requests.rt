@@ -1,11 +1,8 @@
 //! Which texts are requests, and where others are refused.
 
-use crate::dictionaries::Dictionary;
-use crate::files::{FileSet, NamedFile};
-use crate::line_faults::{LineFault, LineKind};
-use crate::octets::copy_of;
-use crate::quotes::quote;
+use avp_dict::{Dictionary, LineFault, LineKind, quote};
 use avp_lists::{MOST_PAIRS, Pair, Value};
+use samples::{octets, read_dictionary};
 use std::alloc::Global;
 use std::process::Abort;
 use std::test::Fail;
@@ -25,16 +22,7 @@ END-VENDOR Cisco
 ";
 
 fn read_lines(alloc: Global) -> Result<Dictionary, Fail> {
-    let mut files = Vec::new(alloc);
-    files.push(NamedFile {
-        name: copy_of(alloc, b"d")?,
-        octets: copy_of(alloc, LINES)?,
-    })?;
-    let set = FileSet::from_vec(files);
-    if set.is_empty() || !set.has_distinct_names() {
-        return Err(Fail::new("no set of files"));
-    }
-    Ok(Dictionary::read(alloc, &set)?)
+    read_dictionary(alloc, LINES)
 }
 
 // The pairs as they are printed, each on a line.

@@ -1,43 +1,27 @@
-//! What sources give, and how values compare.
-ghost use Rattle.std.specs.Prelude.{IfOk};
-ghost use Rattle.avp_lists.specs.History.{present};
-ghost use Rattle.avp_unlang.specs.Resolutions.{StateFits};
-
-use crate::items::Items;
-use crate::policies::{keeps_reply_clean, one_policy, read_policy, size};
-use crate::resolving::{Unresolved, resolve};
-use crate::tests::{octets_of, small_dictionary};
-use crate::tree::{Line, Part, Relation, Source};
-use crate::truth::relates;
-use avp_dict::{Dictionary, Kind};
-use avp_lists::{AttrId, List, Op, Pair, SnapshotStore, Store, Value};
+//! What sources give.
+use crate::store_of;
+use avp_lists::{AttrId, List, Op, Pair, Value};
+use avp_unlang::{
+    Items, Line, Part, Source, Unresolved, keeps_reply_clean, one_policy, read_policy, resolve,
+    size,
+};
+use samples::{octets, test_dictionary};
 use std::alloc::Global;
 use std::test::Fail;
 
-// A store whose request list the text spells.
-fn store_of(alloc: Global, dictionary: &Dictionary, request: &[u8]) -> Result<SnapshotStore, Fail>
-    ensures { IfOk result (λ store. StateFits dictionary.now (present (⟦<SnapshotStore as Store>⟧.history store))) }
-{
-    let pairs = dictionary.read_request(alloc, request)?;
-    match SnapshotStore::new(alloc, pairs, Vec::new(alloc), Vec::new(alloc)) {
-        Ok(store) => Ok(store),
-        Err(_) => Err(Fail::new("out of memory")),
-    }
-}
-
 // What a text gives an attribute: the user's name, and then these octets.
-#[tactic(auto, unfolding(crate::specs::Resolutions::line_suits, avp_dict::specs::Limits::is_known))]
+#[tactic(auto, unfolding(avp_unlang::specs::Resolutions::line_suits, avp_dict::specs::Limits::is_known))]
 fn filled(
     alloc: Global,
     request: &[u8],
     number: u32,
     after: &[u8],
 ) -> Result<Result<Pair, Unresolved>, Fail> {
-    let dictionary = small_dictionary(alloc)?;
+    let dictionary = test_dictionary(alloc)?;
     let store = store_of(alloc, &dictionary, request)?;
     let mut parts = Vec::new(alloc);
     parts.push(Part::Instance(List::Request, AttrId::Plain(1)))?;
-    parts.push(Part::Text(octets_of(alloc, after)?))?;
+    parts.push(Part::Text(octets(alloc, after)?))?;
     let line = Line {
         line: 1,
         list: List::Control,
@@ -49,9 +33,9 @@ fn filled(
 }
 
 // What the user's name gives an attribute.
-#[tactic(auto, unfolding(crate::specs::Resolutions::line_suits, avp_dict::specs::Limits::is_known))]
+#[tactic(auto, unfolding(avp_unlang::specs::Resolutions::line_suits, avp_dict::specs::Limits::is_known))]
 fn copied(alloc: Global, request: &[u8], number: u32) -> Result<Result<Pair, Unresolved>, Fail> {
-    let dictionary = small_dictionary(alloc)?;
+    let dictionary = test_dictionary(alloc)?;
     let store = store_of(alloc, &dictionary, request)?;
     let line = Line {
         line: 1,
@@ -101,23 +85,8 @@ fn references(rt: HostRuntime) -> Result<(), Fail> {
 }
 
 #[test]
-fn comparisons(rt: HostRuntime) -> Result<(), Fail> {
-    let seven = Value::Int(7);
-    let ten = Value::Int(10);
-    let raw = Value::Raw(octets_of(rt.alloc(), b"x")?);
-    assert!(rt; relates(Kind::Integer, Relation::Less, &seven, &ten));
-    assert!(rt; relates(Kind::Integer, Relation::AtLeast, &ten, &ten));
-    assert!(rt; !relates(Kind::Integer, Relation::Differs, &raw, &ten));
-    let front = Value::Text(octets_of(rt.alloc(), b"a")?);
-    let whole = Value::Text(octets_of(rt.alloc(), b"ab")?);
-    assert!(rt; relates(Kind::Text, Relation::Less, &front, &whole));
-    assert!(rt; relates(Kind::Text, Relation::Greater, &raw, &whole));
-    Ok(())
-}
-
-#[test]
 fn clean_replies(rt: HostRuntime) -> Result<(), Fail> {
-    let dictionary = small_dictionary(rt.alloc())?;
+    let dictionary = test_dictionary(rt.alloc())?;
     let policy = read_policy(
         rt.alloc(),
         &dictionary,

@@ -1,13 +1,10 @@
 //! What policies are read as.
 
-use crate::codes::Code;
-use crate::cursors::Cursor;
-use crate::faults::PolicyKind;
-use crate::policies::size;
-use crate::tests::{octets_of, policy_of};
-use crate::tree::{Comparand, Cond, Line, Part, Relation, Source, Statement};
+use crate::texts::policy_of;
 use avp_dict::Kind;
 use avp_lists::{AttrId, List, Op, Value};
+use avp_unlang::{Code, Comparand, Cond, Line, Part, Relation, Source, Statement, size};
+use samples::octets;
 use std::test::Fail;
 
 const TRANSACTIONS: &[u8] = b"update reply { Class += 0x01 }
@@ -147,7 +144,7 @@ fn literals(rt: HostRuntime) -> Result<(), Fail> {
     let policy = policy_of(alloc, b"update reply { request:Reply-Message -= \"5%%\" }")?;
     let line = with_line(policy.statements().as_slice())?;
     assert!(rt; line.list == List::Request && line.op == Op::RemoveEqual);
-    let wanted = Value::Text(octets_of(alloc, b"5%")?);
+    let wanted = Value::Text(octets(alloc, b"5%")?);
     assert!(rt; matches!(&line.source, Source::Literal(value) if *value == wanted));
     let policy = policy_of(alloc, b"update reply { Class += &control:Class }")?;
     let line = with_line(policy.statements().as_slice())?;
@@ -176,17 +173,7 @@ fn percents_in_conditions(rt: HostRuntime) -> Result<(), Fail> {
         return Err(Fail::from("no comparison"));
     };
     assert!(rt; comparison.relation == Relation::Less && comparison.kind == Kind::Text);
-    let wanted = Value::Text(octets_of(alloc, b"5%%")?);
+    let wanted = Value::Text(octets(alloc, b"5%%")?);
     assert!(rt; matches!(&comparison.comparand, Comparand::Literal(value) if *value == wanted));
     Ok(())
-}
-
-#[test]
-fn counting(rt: HostRuntime) {
-    let start = Cursor::new(b"");
-    assert!(rt; start.count(65_535, 3).is_ok());
-    let fault = start.count(65_536, 3).err();
-    assert!(rt;
-        matches!(fault, Some(found) if found.line == 3 && found.kind == PolicyKind::TooLarge)
-    );
 }

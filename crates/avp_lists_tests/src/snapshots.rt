@@ -1,10 +1,8 @@
 //! Worked examples of the operators and of the history, and each call that takes memory once.
-use crate::attributes::{AttrId, Pair, Value, copy_pair};
-use crate::bytes::Octets;
-use crate::edits::{Edit, EditFault, Op};
-use crate::history::Store;
-use crate::lists::{List, MOST_PAIRS};
-use crate::snapshots::SnapshotStore;
+use avp_lists::{
+    AttrId, Edit, EditFault, List, MOST_PAIRS, Octets, Op, Pair, SnapshotStore, Store, Value,
+    copy_pair,
+};
 use std::alloc::Global;
 use std::process::Abort;
 use std::test::Fail;

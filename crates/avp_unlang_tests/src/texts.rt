@@ -1,43 +1,15 @@
 //! Which texts are policies, of what size, and where others are refused.
 
-use crate::faults::{PolicyFault, PolicyKind};
-use crate::policies::{Policy, read_policy, size};
-use avp_dict::{Dictionary, FileSet, NamedFile};
-use avp_lists::Octets;
+use avp_dict::Dictionary;
+use avp_unlang::{Policy, PolicyFault, PolicyKind, read_policy, size};
+use samples::test_dictionary;
 use std::alloc::Global;
 use std::process::Abort;
 use std::test::Fail;
 
-const LINES: &[u8] = b"ATTRIBUTE User-Name 1 string
-ATTRIBUTE User-Password 2 string encrypt=1
-ATTRIBUTE NAS-Port 5 integer
-ATTRIBUTE Service-Type 6 integer
-ATTRIBUTE Reply-Message 18 string
-ATTRIBUTE Class 25 octets
-ATTRIBUTE Vendor-Specific 26 octets
-ATTRIBUTE Session-Timeout 27 integer
-VALUE Service-Type Login-User 1
-";
-
-pub(crate) fn octets_of(alloc: Global, octets: &[u8]) -> Result<Octets, Fail> {
-    Ok(Octets::from_vec(Vec::from_slice(alloc, octets)?))
-}
-
-pub(crate) fn small_dictionary(alloc: Global) -> Result<Dictionary, Fail> {
-    let mut files = Vec::new(alloc);
-    files.push(NamedFile {
-        name: octets_of(alloc, b"T")?,
-        octets: octets_of(alloc, LINES)?,
-    })?;
-    let set = FileSet::from_vec(files);
-    if set.is_empty() || !set.has_distinct_names() {
-        return Err(Fail::new("no set of files"));
-    }
-    Ok(Dictionary::read(alloc, &set)?)
-}
-
-pub(crate) fn policy_of(alloc: Global, text: &[u8]) -> Result<Policy, Fail> {
-    let dictionary = small_dictionary(alloc)?;
+/// The policy that a text spells by the test dictionary.
+pub fn policy_of(alloc: Global, text: &[u8]) -> Result<Policy, Fail> {
+    let dictionary = test_dictionary(alloc)?;
     Ok(read_policy(alloc, &dictionary, text)?)
 }
 
@@ -52,7 +24,7 @@ fn refuses(
     alloc: Global,
     cases: &[(&str, PolicyKind, usize)],
 ) -> Result<(), Fail> {
-    let dictionary = small_dictionary(alloc)?;
+    let dictionary = test_dictionary(alloc)?;
     for (text, kind, line) in cases {
         let fault = PolicyFault {
             line: *line,
@@ -65,7 +37,7 @@ fn refuses(
 
 // Each text is a policy of this size.
 fn accepts(rt: &impl Abort, alloc: Global, cases: &[(&str, usize)]) -> Result<(), Fail> {
-    let dictionary = small_dictionary(alloc)?;
+    let dictionary = test_dictionary(alloc)?;
     for (text, size) in cases {
         assert_eq!(rt; answer(alloc, &dictionary, text.as_bytes()), Ok(*size));
     }
@@ -489,7 +461,7 @@ fn nested(
 #[test]
 fn nested_blocks(rt: HostRuntime) -> Result<(), Fail> {
     let alloc = rt.alloc();
-    let dictionary = small_dictionary(alloc)?;
+    let dictionary = test_dictionary(alloc)?;
     assert_eq!(rt; nested(alloc, &dictionary, 64, b"")?, Ok(128));
     let too_deep = PolicyFault {
         line: 65,
@@ -516,7 +488,7 @@ fn nested_blocks(rt: HostRuntime) -> Result<(), Fail> {
 #[test]
 fn nested_conditions(rt: HostRuntime) -> Result<(), Fail> {
     let alloc = rt.alloc();
-    let dictionary = small_dictionary(alloc)?;
+    let dictionary = test_dictionary(alloc)?;
     let most = repeated(alloc, b"if (", b"!", 63, b"&Class) { }")?;
     assert_eq!(rt; answer(alloc, &dictionary, &most), Ok(1));
     let too_deep = PolicyFault {
@@ -535,5 +507,31 @@ fn nested_conditions(rt: HostRuntime) -> Result<(), Fail> {
         b") { transaction { } }",
     )?;
     assert_eq!(rt; answer(alloc, &dictionary, &flat), Ok(3));
+    Ok(())
+}
+
+// So many update lines, the first on the second line of the text.
+fn lines_of_updates(alloc: Global, count: usize) -> Result<Vec<u8>, Fail> {
+    repeated(
+        alloc,
+        b"update control {\n",
+        b"Class !* ANY\n",
+        count,
+        b"}\n",
+    )
+}
+
+#[test]
+fn counts_up_to_the_largest_policy(rt: HostRuntime) -> Result<(), Fail> {
+    let alloc = rt.alloc();
+    let dictionary = test_dictionary(alloc)?;
+    let largest = lines_of_updates(alloc, 65_535)?;
+    assert_eq!(rt; answer(alloc, &dictionary, &largest), Ok(65_535));
+    let too_large = PolicyFault {
+        line: 65_537,
+        kind: PolicyKind::TooLarge,
+    };
+    let larger = lines_of_updates(alloc, 65_536)?;
+    assert_eq!(rt; answer(alloc, &dictionary, &larger), Err(too_large));
     Ok(())
 }
