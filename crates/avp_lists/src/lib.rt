@@ -11,8 +11,6 @@ mod history;
 mod lists;
 mod operators;
 mod snapshots;
-#[cfg(test)]
-mod tests;
 mod undoing;
 
 pub use attributes::{AttrId, Pair, Value, copy_pair};
