@@ -1,8 +1,9 @@
 """Commands with their files: the worked cases of `tests/cases` and the examples, as folders or in memory."""
+import glob
 import os
 from dataclasses import dataclass, replace
 from pathlib import Path
-from typing import Dict, Iterator, Tuple
+from typing import Dict, Iterator, List, Tuple
 
 
 @dataclass(frozen=True)
@@ -25,16 +26,15 @@ class Case:
 
 
 def from_folder(folder: Path) -> Case:
-    """The case of a folder with the files `command` and `output`. Each word of the command that is a path of a file
-    becomes the last part of it, and the file one of the case's own, so that the case stands alone."""
-    words, files = [], {}
+    """The case of a folder with the files `command` and `output`. Each word of the command that a shell takes for paths
+    of files becomes their last parts, and the files become the case's own, so that the case stands alone."""
+    words: List[str] = []
+    files: Dict[str, bytes] = {}
     for word in (folder / "command").read_text().split():
-        path = folder / word
-        if path.is_file():
-            files[path.name] = path.read_bytes()
-            word = path.name
-        words.append(os.fsencode(word))
-    return Case(folder.name, tuple(words), files, output=(folder / "output").read_bytes())
+        paths = [Path(path) for path in sorted(glob.glob(str(folder / word))) if os.path.isfile(path)]
+        files.update((path.name, path.read_bytes()) for path in paths)
+        words += [path.name for path in paths] or [word]
+    return Case(folder.name, tuple(map(os.fsencode, words)), files, output=(folder / "output").read_bytes())
 
 
 def cases_below(folder: Path) -> Iterator[Case]:

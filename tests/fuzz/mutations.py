@@ -1,8 +1,9 @@
 """Changes of cases: of octets, of lines, of tokens by what they are, of packets by their parts, and of words."""
+import functools
 import re
 from dataclasses import replace
 from random import Random
-from typing import Callable, Dict, List, Sequence
+from typing import Callable, Dict, List, Sequence, Tuple
 
 from common.cases import Case
 from fuzz import generate
@@ -74,21 +75,57 @@ def change_lines(rng: Random, octets: bytes) -> bytes:
     return b"\n".join(lines)
 
 
-def change_token(rng: Random, octets: bytes) -> bytes:
-    """A token becomes another of its kind, one of any kind, or one that stands elsewhere in the text."""
+# How often lines are repeated: as often as passes limits of depth and number. A dictionary's time grows with the square
+# of its lines, and an include repeats whole files.
+REPEATED = {"dictionary": [2, 9, 17]}
+REPEATED_ELSE = [2, 17, 70, 600]
+
+
+def repeat_lines(rng: Random, octets: bytes, role: str) -> bytes:
+    """A few lines many times."""
+    lines = octets.split(b"\n")
+    at = rng.randrange(len(lines))
+    some = lines[at : at + rng.choice([1, 1, 1, 2, 4])]
+    return b"\n".join(lines[:at] + some * rng.choice(REPEATED.get(role, REPEATED_ELSE)) + lines[at:])
+
+
+def change_token(rng: Random, octets: bytes, names: Sequence[bytes]) -> bytes:
+    """A token becomes another of its kind, one of any kind, a name of the case, or one that stands elsewhere in the
+    text."""
     tokens = TOKEN.findall(octets)
     solid = [at for at, token in enumerate(tokens) if token.strip()]
     if not solid:
         return octets + rng.choice(rng.choice(KINDS))
     at = rng.choice(solid)
-    kind = NUMBERS if tokens[at][:1].isdigit() else WORDS if tokens[at][:1].isalpha() else SIGNS
+    kind = NUMBERS if tokens[at][:1].isdigit() else names if tokens[at][:1].isalpha() else SIGNS
     new = rng.choice([rng.choice(kind), rng.choice(kind), rng.choice(rng.choice(KINDS)), tokens[rng.choice(solid)]])
-    tokens[at] = rng.choice([new, new, new, new + b" " + tokens[at], tokens[at] + b" " + new, b""])
+    tokens[at] = rng.choice([new] * 6 + [new + b" " + tokens[at], tokens[at] + b" " + new, b""])
     return b"".join(tokens)
 
 
-TEXTS: List[Change] = [change_octet, flip_bit, drop_part, repeat_part, cut_off]
-TEXTS += [change_lines] * 4 + [change_token] * 10
+OCTETS: List[Change] = [change_octet, flip_bit, drop_part, repeat_part, cut_off]
+
+
+def change_text(rng: Random, octets: bytes, role: str, names: Sequence[bytes]) -> bytes:
+    """Mostly a token, else lines, and now and then octets."""
+    drawn = rng.random()
+    if drawn < 0.55:
+        return change_token(rng, octets, names)
+    if drawn < 0.65:
+        return repeat_lines(rng, octets, role)
+    return change_lines(rng, octets) if drawn < 0.85 else rng.choice(OCTETS)(rng, octets)
+
+
+@functools.lru_cache(256)
+def names_in(octets: bytes) -> Tuple[bytes, ...]:
+    """The names in a text, once each and in order."""
+    return tuple(sorted({token for token in TOKEN.findall(octets) if token[:1].isalpha()}))
+
+
+def names_of(case: Case) -> List[bytes]:
+    """What the case's files are called, and the names in its dictionaries."""
+    texts = [case.files[name] for name, role in roles(case).items() if role == "dictionary"]
+    return [*WORDS, *(name.encode() for name in case.files), *(name for octets in texts for name in names_in(octets))]
 
 
 def attributes_of(octets: bytes) -> List[bytes]:
@@ -163,14 +200,14 @@ WEIGHTS = {"policy": 6, "request": 6, "packet": 6, "script": 3, "dictionary": 3,
 
 def change_file(rng: Random, case: Case, name: str, role: str) -> Case:
     octets = case.files[name]
-    if role == "packet":
+    if role == "packet" and rng.random() < 0.8:
         octets = change_packet(rng, octets)
         if rng.random() < 0.2 and re.fullmatch(rb"(?:[0-9a-f]{2}){20,}", octets):
             octets = sign_accounting(case, octets)
     elif role == "policy" and rng.random() < 0.2:
         octets += b"\n" + "\n".join(generate.policy(rng)).encode("latin-1")
     else:
-        octets = rng.choice(TEXTS)(rng, octets)
+        octets = change_text(rng, octets, role, names_of(case))
     return case.with_file(name, octets)
 
 

@@ -23,3 +23,5 @@ mod values;
 mod walks;
 #[cfg(test)]
 mod words;
+#[cfg(test)]
+mod writers;

@@ -8,11 +8,11 @@ use std::alloc::Global;
 use std::process::Abort;
 use std::test::Fail;
 
-// The Access-Request of RFC 2865, section 7.1.
-const REQUEST: &[u8] =
+/// The Access-Request of RFC 2865, section 7.1.
+pub const REQUEST: &[u8] =
     b"010000380f403f9473978057bd83d5cb98f4227a01066e656d6f02120dbe708d93d413ce3196e43f782a0aee0406c0a80110050600000003";
 
-const SECRET: &[u8] = b"xyzzy5461\n";
+pub const SECRET: &[u8] = b"xyzzy5461\n";
 
 const DECODE: [&str; 5] = ["radpolicy", "decode", "-S", "s", "d"];
 

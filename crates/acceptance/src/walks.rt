@@ -9,10 +9,10 @@ use std::alloc::Global;
 use std::process::Abort;
 use std::test::Fail;
 
-const STEP: [&str; 7] = ["radpolicy", "step", "--policy", "p", "--script", "s", "d"];
+pub const STEP: [&str; 7] = ["radpolicy", "step", "--policy", "p", "--script", "s", "d"];
 
-// Goes to the end, back into the transactions, and to the start.
-const THERE_AND_BACK: &[u8] = b"end back back show start back";
+/// Goes to the end, back into the transactions, and to the start.
+pub const THERE_AND_BACK: &[u8] = b"end back back show start back";
 
 const FAILED_TRANSACTION: &[u8] =
     b"update reply { Class += 0x01 Reply-Message += \"a\" Class += 0x02 Class += 0x01 }

@@ -1,0 +1,87 @@
+//! Reports put out an octet at a time, to writers that fail after each number of octets.
+
+ghost use Rattle.std.specs.Prelude.{Some};
+
+use crate::packets::{REQUEST, SECRET};
+use crate::program::{Source, job_of};
+use crate::walks::{STEP, THERE_AND_BACK};
+use radpolicy::{Fault, WriteOutput, answer, read_words};
+use samples::{NESTED_TRANSACTIONS, TEST_DICTIONARY};
+use std::alloc::Global;
+use std::io;
+use std::io::Write;
+use std::process::Abort;
+use std::test::Fail;
+
+// Takes an octet at a time until it has no room, and then fails: by an error, or by a count of 0.
+#[derive(Drop)]
+struct OneByOne {
+    held: Vec<u8>,
+    room: usize,
+    errs: bool,
+}
+
+impl Write for OneByOne {
+    ghost contents = { λ w. Some w.held.items };
+
+    fn write(&mut self, buf: &[u8]) -> io::Result<usize> {
+        let count = buf.len().min(self.room).min(1);
+        if count == 0 && self.errs {
+            return Err(io::ErrorKind::BrokenPipe.into());
+        }
+        self.held.extend_from_slice(&buf[..count])?;
+        self.room -= count;
+        Ok(count)
+    }
+
+    fn flush(&mut self) -> io::Result<()> {
+        Ok(())
+    }
+}
+
+// The program on these words, its output cut off after each number of octets, has a write fault, and put out the front
+// of the report.
+fn expect_fronts(
+    rt: &impl Abort,
+    alloc: Global,
+    words: &[&str],
+    sources: &[Source],
+) -> Result<(), Fail> {
+    let plan = read_words(alloc, words).map_err(|_| "a plan")?;
+    let job = job_of(alloc, sources, &plan)?;
+    let mut report = Vec::new(alloc);
+    answer(alloc, &job, &mut WriteOutput::new(&mut report)).map_err(|_| "a report")?;
+    for room in 0..report.len() {
+        for errs in [false, true] {
+            let held = Vec::new(alloc);
+            let mut writer = OneByOne { held, room, errs };
+            let refused = answer(alloc, &job, &mut WriteOutput::new(&mut writer));
+            assert!(rt; matches!(&refused, Err(Fault::Write)));
+            assert_eq!(rt; writer.held.as_slice(), &report[..room]);
+        }
+    }
+    Ok(())
+}
+
+#[test]
+fn puts_out_the_front_of_a_run(rt: HostRuntime) -> Result<(), Fail> {
+    let words = ["radpolicy", "run", "--hex", "-S", "s", "--policy", "p", "d"];
+    let policy = b"update reply { Service-Type := Login-User }";
+    let sources: [Source; 4] = [
+        ("d", TEST_DICTIONARY),
+        ("-", REQUEST),
+        ("s", SECRET),
+        ("p", policy),
+    ];
+    expect_fronts(&rt, rt.alloc(), &words, &sources)
+}
+
+#[test]
+fn puts_out_the_front_of_a_walk(rt: HostRuntime) -> Result<(), Fail> {
+    let sources: [Source; 3] = [
+        ("d", TEST_DICTIONARY),
+        ("p", NESTED_TRANSACTIONS),
+        ("s", THERE_AND_BACK),
+    ];
+    expect_fronts(&rt, rt.alloc(), &STEP, &sources)
+}
