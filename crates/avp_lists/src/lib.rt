@@ -10,7 +10,11 @@ mod edits;
 mod history;
 mod lists;
 mod operators;
+mod planning;
+mod showing;
+mod slots;
 mod snapshots;
+mod steps;
 #[cfg(test)]
 mod tests;
 mod undoing;
