@@ -1,13 +1,12 @@
 -- A cut and one step more.
-use Rattle.std.proofs.Common.{◌≡◌, ℕ, ◌+◌, ◌-◌, ◌<◌, ◌≤◌, true, List, [], ◌∷◌, ◌++◌, length, get_or, map, take, refl, sym, ap, ap₂, ◌∙◌, subst, inl, inr, arith}
+use Rattle.std.proofs.Common.{◌≡◌, ℕ, ◌+◌, ◌<◌, ◌≤◌, true, List, [], ◌∷◌, ◌++◌, length, get_or, map, take, sym, ap, ap₂, ◌∙◌, subst, inl, inr, arith}
 use Rattle.std.proofs.lemmas.Bool.{cases_lt}
 use Rattle.std.proofs.lemmas.List.{get_or-take, get_or_append_left, get_or_push, get_or_past, get_or_default, get_or-map, length-map, length-take-le, length_push, map_push, take-map}
 use Rattle.avp_lists.specs.declared.attributes.Pair.{Pair}
 use Rattle.avp_lists.specs.declared.lists.State.{State}
 use Rattle.avp_lists.specs.declared.lists.List.TheVariants.{Request, Reply, Control}
 use Rattle.avp_lists.specs.declared.slots.Slot.{Slot}
-use Rattle.avp_lists.specs.declared.steps.Change.{Change}
-use Rattle.avp_lists.specs.declared.steps.Change.TheVariants.{Turned, Back}
+use Rattle.avp_lists.specs.declared.steps.Change.TheVariants.{Back}
 use Rattle.avp_lists.specs.declared.steps.Step.{Step}
 use Rattle.avp_lists.specs.States.{empty_state, IsLimited}
 use Rattle.avp_lists.specs.Slots.{at_first, slot_at, Housed}
@@ -18,13 +17,13 @@ use Rattle.avp_lists.proofs.Replay.{every-take, every-push, node_fits}
 use Rattle.avp_lists.proofs.Moves.{states-same}
 
 -- what holds of each and of one more
-pub each-continued : {X : Type 0} (P : X → Type 0) (d : X) (all : List X) (n : ℕ) (last : X) → n ≤ length all → P d → ((k : ℕ) → P (get_or all k d)) → P last → (k : ℕ) → P (get_or (take n all ++ last ∷ []) k d)
+pub each-continued : {X : Type 0} (P : X → Type 0) (d : X) (all : List X) (n : ℕ) (last : X) → n ≤ length all → P d → ((k : ℕ) → k < n → P (get_or all k d)) → P last → (k : ℕ) → P (get_or (take n all ++ last ∷ []) k d)
 each-continued P d all n last within none each one k =
     let long : length (take n all) ≡ n = length-take-le n all within in
     elim (cases_lt k n) [
       | inl below ↦
           let inside : k < length (take n all) = omega arith in
-          subst P (sym (get_or_append_left (take n all) (last ∷ []) d k inside ∙ get_or-take n all k d below)) (each k)
+          subst P (sym (get_or_append_left (take n all) (last ∷ []) d k inside ∙ get_or-take n all k d below)) (each k below)
       | inr past ↦ elim (cases_lt n k) [
         | inl beyond ↦
             let far : length (take n all ++ last ∷ []) ≤ k = omega (arith, length_push (take n all) last) in
@@ -41,7 +40,7 @@ empty_limited Reply = omega arith
 empty_limited Control = omega arith
 
 pub limited-continued : (all : List State) (n : ℕ) (last : State) → n ≤ length all → ((k : ℕ) → IsLimited (get_or all k empty_state)) → IsLimited last → (k : ℕ) → IsLimited (get_or (take n all ++ last ∷ []) k empty_state)
-limited-continued all n last within each one = each-continued IsLimited empty_state all n last within empty_limited each one
+limited-continued all n last within each one = each-continued IsLimited empty_state all n last within empty_limited (λ k below. each k) one
 
 pub state-each : (pool : List Pair) (all : List (List Slot)) (k : ℕ) → get_or (map (state_of pool) all) k empty_state ≡ state_of pool (get_or all k [])
 state-each pool all k = elim (cases_lt k (length all)) [
@@ -72,9 +71,9 @@ module _ (steps : List Step) (n : ℕ) (e : Step) (within : n ≤ length steps) 
   step-new = get_or_push (take n steps) e no_step n (length-take-le n steps within)
 
   pub counted-more : AllCounted steps → NamesCounted e → AllCounted (take n steps ++ e ∷ [])
-  counted-more counted new = each-continued NamesCounted no_step steps n e within (λ i h. absurd (omega (arith, h)), omega arith) counted new
+  counted-more counted new = each-continued NamesCounted no_step steps n e within (λ i h. absurd (omega (arith, h)), omega arith) (λ k below. counted k) new
 
-  pub counts-more : (a b : ℕ) → CountsWithin a b steps → e.slots ≤ a → e.pairs ≤ b → CountsWithin a b (take n steps ++ e ∷ [])
+  pub counts-more : (a b : ℕ) → ((k : ℕ) → k < n → ((step_at steps k).slots ≤ a) × ((step_at steps k).pairs ≤ b)) → e.slots ≤ a → e.pairs ≤ b → CountsWithin a b (take n steps ++ e ∷ [])
   counts-more a b counts s p =
       let P : Step → Type 0 = λ x. (x.slots ≤ a) × (x.pairs ≤ b) in each-continued P no_step steps n e within (omega arith, omega arith) counts (s, p)
 

@@ -1,5 +1,5 @@
 -- What the turning of marks makes of a list.
-use Rattle.std.proofs.Common.{◌≡◌, ℕ, zero, suc, ◌+◌, ◌<◌, ◌≤◌, Bool, true, false, not, ◌&&◌, cond, List, [], ◌∷◌, ◌++◌, Option, Some, None, length, get_or, set, map, refl, sym, ap, ◌∙◌, subst, arith}
+use Rattle.std.proofs.Common.{◌≡◌, ℕ, ◌+◌, Bool, true, false, not, ◌&&◌, cond, List, [], ◌∷◌, ◌++◌, length, set, map, refl, sym, ap, ◌∙◌}
 use Rattle.std.specs.List.{filter}
 use Rattle.std.proofs.lemmas.List.{append_assoc, get_or_at, set_at, length_push}
 use Rattle.avp_lists.specs.declared.attributes.Pair.{Pair}
@@ -12,7 +12,7 @@ use Rattle.avp_lists.specs.Plans.{names_in}
 abbrev pub turned_if : (Slot → Bool) → Slot → Slot
 turned_if p s = cond (p s) (flipped s) s
 
-turn_at : (before after : List Slot) (s : Slot) → turn (before ++ s ∷ after) (length before) ≡ (before ++ flipped s ∷ []) ++ after
+pub turn_at : (before after : List Slot) (s : Slot) → turn (before ++ s ∷ after) (length before) ≡ (before ++ flipped s ∷ []) ++ after
 turn_at before after s =
     ap (λ (x : Slot). set (before ++ s ∷ after) (length before) (flipped x)) (get_or_at before s after no_slot (length before) refl)
     ∙ set_at before s after (flipped s) (length before) refl

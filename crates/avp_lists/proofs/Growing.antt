@@ -1,7 +1,7 @@
 -- Slots that no step names leave all that is before them as it was: for a slot more, and for a cut.
-use Rattle.std.proofs.Common.{◌≡◌, ℕ, zero, suc, ◌+◌, ◌-◌, ◌<◌, ◌≤◌, true, List, [], ◌∷◌, ◌++◌, Option, Some, None, length, get_or, set, map, refl, sym, ap, ap₂, ◌∙◌, subst, inl, inr, arith}
+use Rattle.std.proofs.Common.{◌≡◌, ℕ, zero, suc, ◌-◌, ◌<◌, ◌≤◌, List, [], ◌∷◌, ◌++◌, Option, Some, None, length, get_or, set, map, refl, sym, ap, ◌∙◌, subst, inl, inr, arith}
 use Rattle.std.proofs.lemmas.Bool.{cases_lt}
-use Rattle.std.proofs.lemmas.List.{length-set, set-append_left, get_or_append_left, get_or_push, get_or_past, length-map, length_push, map_push, map-append}
+use Rattle.std.proofs.lemmas.List.{length-set, set-append_left, get_or_append_left, get_or_push, get_or_past, get_or_default, length-map, length_push, map_push, map-append}
 use Rattle.avp_lists.specs.declared.slots.Slot.{Slot}
 use Rattle.avp_lists.specs.declared.slots.Swap.{Swap}
 use Rattle.avp_lists.specs.declared.steps.Change.{Change}
@@ -9,7 +9,8 @@ use Rattle.avp_lists.specs.declared.steps.Change.TheVariants.{Turned, Back}
 use Rattle.avp_lists.specs.declared.steps.Step.{Step}
 use Rattle.avp_lists.specs.Slots.{no_slot, slot_at, flipped, turn, turn_all, with_other, swap_at, forward, NamesWithin, SwapWithin}
 use Rattle.avp_lists.specs.Slots.{at_first}
-use Rattle.avp_lists.specs.Steps.{last_or, after, replay, every, change_at, names_of, swap_of, StepsWithin}
+use Rattle.avp_lists.specs.Steps.{last_or, after, replay, every, slots_at, names_of, swap_of, StepsWithin}
+use Rattle.avp_lists.specs.SlotLaws.{length-every}
 use Rattle.avp_lists.proofs.Turning.{length-turn_all, length-forward}
 
 pub set_grown : (f : Slot → Slot) (c d : List Slot) (i : ℕ) → i < length c → set (c ++ d) i (f (slot_at (c ++ d) i)) ≡ set c i (f (slot_at c i)) ++ d
@@ -87,3 +88,18 @@ every-grown slots more steps fits =
     let P : ℕ → Type 0 = λ m. StepsWithin m steps in
     ap (λ (x : List Slot). replay x [] steps) (map-append at_first slots more)
     ∙ replay-grown f d [] steps (λ k. refl) (subst P (sym (length-map slots at_first)) fits)
+
+-- each state has all the slots
+SameLength-replay : (f : List Slot) (done : List (List Slot)) (steps : List Step) → SameLength f done → SameLength f (replay f done steps)
+SameLength-replay f done [] same = same
+SameLength-replay f done (e ∷ es) same =
+    let a = after f done e.change in
+    SameLength-replay f (done ++ a ∷ []) es (SameLength-push f done a same (length-after f done e.change same))
+
+pub length-each : (slots : List Slot) (steps : List Step) (k : ℕ) → k < length steps → length (slots_at slots steps k) ≡ length slots
+length-each slots steps k within =
+    let f = map at_first slots in
+    let inside : k < length (every slots steps) = omega (arith, length-every slots steps) in
+    ap length (sym (get_or_default (every slots steps) k f [] inside))
+    ∙ SameLength-replay f [] steps (λ j. refl) k
+    ∙ length-map slots at_first

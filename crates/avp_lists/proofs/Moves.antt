@@ -1,14 +1,14 @@
 -- What a move of the marks leaves as it was, and what it makes true.
-use Rattle.std.proofs.Common.{◌≡◌, ℕ, ◌+◌, ◌-◌, ◌<◌, ◌≤◌, true, List, [], length, get_or, map, refl, sym, ap, ◌∙◌, subst, arith}
+use Rattle.std.proofs.Common.{◌≡◌, ℕ, ◌<◌, ◌≤◌, true, List, [], length, get_or, map, sym, ap, ◌∙◌, subst, arith}
 use Rattle.avp_lists.specs.declared.attributes.Pair.{Pair}
 use Rattle.avp_lists.specs.declared.lists.State.{State}
 use Rattle.avp_lists.specs.declared.slots.Slot.{Slot}
 use Rattle.avp_lists.specs.declared.steps.Step.{Step}
 use Rattle.avp_lists.specs.States.{empty_state, IsLimited}
 use Rattle.avp_lists.specs.Slots.{at_first}
-use Rattle.avp_lists.specs.Steps.{replay, every, states_of, slots_at, step_at, change_at, turns, node, BacksBelow, AllHoused, StatesLimited}
+use Rattle.avp_lists.specs.Steps.{replay, states_of, slots_at, step_at, change_at, turns, node, names_of, swap_of, BacksBelow, StepsWithin, AllCounted, CountsWithin, AllHoused, StatesLimited}
 use Rattle.avp_lists.specs.Shown.{state_of}
-use Rattle.avp_lists.specs.Slots.{Housed}
+use Rattle.avp_lists.specs.Slots.{NamesWithin, SwapWithin, Housed}
 use Rattle.avp_lists.proofs.Replay.{node_fits, slots_at-same}
 
 module _ (pool : List Pair) (slots moved : List Slot) (steps : List Step) (firsts : map at_first moved ≡ map at_first slots) where
@@ -35,3 +35,17 @@ node_within slots steps k n below within e =
 
 pub node_standing : (slots : List Slot) (steps : List Step) (k n : ℕ) → BacksBelow steps → k < length steps → n ≡ node steps k → slots_at slots steps k ≡ slots → slots ≡ slots_at slots steps n
 node_standing slots steps k n below within e standing = sym standing ∙ sym (node_fits slots steps k below within).2 ∙ ap (slots_at slots steps) (sym e)
+
+-- what steps name is among the slots
+pub names_in_more : (names : List ℕ) (a b : ℕ) → a ≤ b → NamesWithin a names → NamesWithin b names
+names_in_more names a b le h i lt =
+    let low : get_or names i 0 < a = h i lt in
+    omega arith
+
+pub steps_within : (m n : ℕ) (steps : List Step) → AllCounted steps → CountsWithin m n steps → StepsWithin m steps
+steps_within m n steps counted counts k =
+    let c = counted k in
+    let all = counts k in
+    let le : (step_at steps k).slots ≤ m = all.0 in
+    let s : SwapWithin (step_at steps k).slots (swap_of (change_at steps k)) = c.1 in
+    (names_in_more (names_of (change_at steps k)) (step_at steps k).slots m le c.0, omega (arith, s, le))

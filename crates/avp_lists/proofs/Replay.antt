@@ -1,8 +1,6 @@
 -- The slots at each place, by the steps that lead there.
-use Rattle.std.proofs.Common.{◌≡◌, ◌≢◌, ℕ, ◌+◌, ◌-◌, ◌<◌, ◌≤◌, Bool, true, false, List, [], ◌∷◌, ◌++◌, Option, Some, None, length, get_or, set, map, take, drop, refl, sym, ap, ◌∙◌, subst, inl, inr, arith}
-use Rattle.std.specs.declared.vec.Vec.{Vec}
-use Rattle.std.proofs.lemmas.Bool.{cases_lt}
-use Rattle.std.proofs.lemmas.List.{append-nil, append_assoc, length-take-le, length_push, get_or-take, get_or_push, get_or_append_left, get_or_default, get_or_past, take_more, take_all, take_at, take-append-drop}
+use Rattle.std.proofs.Common.{◌≡◌, ℕ, ◌+◌, ◌-◌, ◌<◌, ◌≤◌, true, List, [], ◌∷◌, ◌++◌, length, get_or, map, take, drop, refl, sym, ap, ◌∙◌, arith}
+use Rattle.std.proofs.lemmas.List.{append-nil, append_assoc, length-take-le, get_or-take, get_or_push, get_or_default, take_more, take_at, take-append-drop}
 use Rattle.avp_lists.specs.declared.slots.Slot.{Slot}
 use Rattle.avp_lists.specs.declared.steps.Change.{Change}
 use Rattle.avp_lists.specs.declared.steps.Change.TheVariants.{Turned, Back}
@@ -10,8 +8,8 @@ use Rattle.avp_lists.specs.declared.steps.Step.{Step}
 use Rattle.avp_lists.specs.Slots.{forward, backward}
 use Rattle.avp_lists.specs.Slots.{at_first}
 use Rattle.avp_lists.specs.Steps.{last_or, after, replay, every, slots_at, change_at, names_of, swap_of, turns, node, node_of, BacksBelow}
-use Rattle.avp_lists.specs.SlotLaws.{length-replay, length-every}
-use Rattle.avp_lists.proofs.Turning.{backward-forward, firsts-forward}
+use Rattle.avp_lists.specs.SlotLaws.{length-every}
+use Rattle.avp_lists.proofs.Turning.{backward-forward}
 
 pub replay-append : (f : List Slot) (done : List (List Slot)) (xs ys : List Step) → replay f done (xs ++ ys) ≡ replay f (replay f done xs) ys
 replay-append f done [] ys = refl

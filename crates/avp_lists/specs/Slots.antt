@@ -1,5 +1,5 @@
 -- Slots, whose marks tell which pairs they show, and how a step turns the marks.
-use Rattle.std.specs.Prelude.{◌≡◌, ◌<◌, ◌≤◌, ◌+◌, length, ◌==◌, ℕ, Bool, true, false, not, if◌then◌else◌, List, [], ◌∷◌, slice_index_or, slice_set, Option, Some, None}
+use Rattle.std.specs.Prelude.{◌≡◌, ◌<◌, ◌≤◌, ◌+◌, length, ◌==◌, ℕ, true, false, not, if◌then◌else◌, List, [], ◌∷◌, slice_index_or, slice_set, Option, Some, None}
 use Rattle.avp_lists.specs.declared.lists.List.TheVariants.{Request}
 use Rattle.avp_lists.specs.declared.slots.Mark.{Mark}
 use Rattle.avp_lists.specs.declared.slots.Slot.{Slot}

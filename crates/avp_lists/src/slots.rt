@@ -107,6 +107,15 @@ pub(crate) fn backward(slots: &mut [Slot], names: &[usize], by: Option<Swap>)
     turn_all(slots, names);
 }
 
+// The same in a vector.
+pub(crate) fn turn_slots(slots: &mut Vec<Slot>, names: &[usize], by: Option<Swap>)
+    requires names { NamesWithin (length slots.old.items) names.now }
+    requires swap { SwapWithin (length slots.old.items) by }
+    ensures { slots.new.items ≡ forward names.now by slots.old.items }
+{
+    forward(slots.as_mut_slice(), names, by);
+}
+
 fn keep_marks_of(slots: &mut [Slot])
     ensures { slots.new ≡ map kept slots.old }
 {

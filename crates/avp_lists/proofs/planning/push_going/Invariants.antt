@@ -1,4 +1,4 @@
-use Rattle.std.proofs.Common.{◌≡◌, ◌≤◌, ◌++◌, drop, length}
+use Rattle.std.proofs.Common.{◌≡◌, ◌++◌, drop}
 use Rattle.avp_lists.specs.Plans.{taken, names_in}
 use Rattle.avp_lists.proofs.planning.push_going.Given as goal
 

@@ -1,4 +1,4 @@
-use Rattle.std.proofs.Common.{◌≡◌, ℕ, ◌<◌, List, length, map, sym, ap, ◌∙◌, subst, [], arith}
+use Rattle.std.proofs.Common.{◌≡◌, List, length, map, sym, ap, ◌∙◌, subst, []}
 use Rattle.std.proofs.lemmas.List.{with_items_is}
 use Rattle.avp_lists.specs.declared.slots.Slot.{Slot}
 use Rattle.avp_lists.specs.Slots.{at_first}
