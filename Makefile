@@ -11,9 +11,8 @@ PROGRAM = crates/radpolicy_cli/out/radpolicy_cli
 run: build
 	@scripts/show-example $(PROGRAM) examples/access-request
 
-# The kit proves a program, links it and runs it; here it shows its help.
 build:
-	@cd crates/radpolicy_cli && $(RT) run -- --help > out.log 2>&1 || { cat out.log; exit 1; }
+	@RT=$(RT) scripts/build radpolicy_cli
 
 test:
 	@RT=$(RT) scripts/test $(PROGRAM)

@@ -1,7 +1,7 @@
 //! Checks of dictionary files.
 
-use crate::data::TEST_DICTIONARY;
 use crate::program::{Source, expect_fault, expect_output};
+use samples::TEST_DICTIONARY;
 use std::alloc::Global;
 use std::process::Abort;
 use std::test::Fail;

@@ -6,7 +6,7 @@ mod data;
 #[cfg(test)]
 mod dictionaries;
 #[cfg(test)]
-mod first_path;
+mod faults;
 #[cfg(test)]
 mod packets;
 #[cfg(test)]
@@ -16,6 +16,10 @@ mod program;
 #[cfg(test)]
 mod runs;
 #[cfg(test)]
+mod unnamed_attributes;
+#[cfg(test)]
 mod values;
 #[cfg(test)]
 mod walks;
+#[cfg(test)]
+mod words;

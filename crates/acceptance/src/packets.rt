@@ -1,8 +1,9 @@
 //! Requests and replies as packets.
 
-use crate::data::{AUTHENTICATOR, AUTHENTICATOR_OCTETS, TEST_DICTIONARY};
+use crate::data::{AUTHENTICATOR, AUTHENTICATOR_OCTETS};
 use crate::program::{Source, expect_fault, expect_output, program, sent_octets};
 use avp_packet::check_reply;
+use samples::TEST_DICTIONARY;
 use std::alloc::Global;
 use std::process::Abort;
 use std::test::Fail;

@@ -1,7 +1,7 @@
 //! Checks of policies.
 
-use crate::data::{NESTED_TRANSACTIONS, TEST_DICTIONARY};
 use crate::program::{Source, expect_fault, expect_output};
+use samples::{NESTED_TRANSACTIONS, TEST_DICTIONARY};
 use std::alloc::Global;
 use std::process::Abort;
 use std::test::Fail;

@@ -1,9 +1,10 @@
 //! Runs of whole policies, each as its report, the labels of its steps and its reply.
 
-use crate::data::{AUTHENTICATOR, AUTHENTICATOR_OCTETS, NESTED_TRANSACTIONS, TEST_DICTIONARY};
+use crate::data::{AUTHENTICATOR, AUTHENTICATOR_OCTETS};
 use crate::program::{Source, expect_output, program, sent_octets};
 use crate::walks::expect_walk;
 use avp_packet::check_reply;
+use samples::{NESTED_TRANSACTIONS, TEST_DICTIONARY};
 use std::alloc::Global;
 use std::process::Abort;
 use std::test::Fail;

@@ -1,7 +1,8 @@
 //! Runs on requests whose names and values are written as people write them.
 
-use crate::data::{TEST_DICTIONARY, TYPES};
+use crate::data::TYPES;
 use crate::program::{expect_fault, expect_output};
+use samples::TEST_DICTIONARY;
 use std::alloc::Global;
 use std::process::Abort;
 use std::test::Fail;

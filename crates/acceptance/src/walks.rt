@@ -1,10 +1,10 @@
 //! Walks by a script, forward and back over the run of a policy.
 
-use crate::data::{NESTED_TRANSACTIONS, TEST_DICTIONARY};
 use crate::policies::expect_size;
 use crate::program::{Narrow, Source, expect_fault, expect_output, job_of};
 use crate::runs::ABSENT_SOURCE;
 use radpolicy::{Fault, WriteOutput, answer, read_words, status};
+use samples::{NESTED_TRANSACTIONS, TEST_DICTIONARY};
 use std::alloc::Global;
 use std::process::Abort;
 use std::test::Fail;

@@ -30,19 +30,13 @@ mod printing;
 mod quotes;
 mod reader;
 mod readings;
-#[cfg(test)]
-mod request_tests;
 mod request_tokens;
 mod requests;
 mod settling;
 mod shapes;
-#[cfg(test)]
-mod tests;
 mod types;
 mod value_faults;
 mod value_octets;
-#[cfg(test)]
-mod value_tests;
 mod value_texts;
 mod values;
 mod vendors;

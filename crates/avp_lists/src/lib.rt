@@ -1,7 +1,8 @@
 //! Ordered lists of attribute-value pairs, the edits of an `update` section, and a history of edited
 //! states with undo, redo and rollback.
 //!
-//! [`Store`] is the contract that the layers above use; [`SnapshotStore`] meets it with whole states.
+//! [`Store`] is the contract that the layers above use. [`SlotStore`] meets it with one set of lists and a journal, and
+//! [`SnapshotStore`] with whole states.
 #![tactic(auto)]
 
 mod attributes;
@@ -16,8 +17,6 @@ mod slot_store;
 mod slots;
 mod snapshots;
 mod steps;
-#[cfg(test)]
-mod tests;
 mod undoing;
 
 pub use attributes::{AttrId, Pair, Value, copy_pair};

@@ -4,8 +4,6 @@
 //! RFC 6929.
 #![tactic(auto)]
 
-#[cfg(test)]
-mod attribute_tests;
 mod authenticators;
 mod decoding;
 mod encoding;
@@ -19,8 +17,6 @@ mod reading;
 mod sending;
 mod splitting;
 mod subattributes;
-#[cfg(test)]
-mod tests;
 mod walking;
 mod writing;
 

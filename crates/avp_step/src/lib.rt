@@ -6,8 +6,6 @@ mod labels;
 mod marks;
 mod steppers;
 mod stepping;
-#[cfg(test)]
-mod tests;
 
 pub use labels::{Label, Move, Moved};
 pub use steppers::{Stepper, run};

@@ -10,20 +10,14 @@ mod cursors;
 mod faults;
 mod items;
 mod lines;
-#[cfg(test)]
-mod meaning_tests;
 mod parts;
 mod policies;
 mod references;
 mod resolving;
 mod sources;
 mod statements;
-#[cfg(test)]
-mod tests;
 mod tokens;
 mod tree;
-#[cfg(test)]
-mod tree_tests;
 mod truth;
 
 pub use boxed::Boxed;

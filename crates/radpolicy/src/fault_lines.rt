@@ -99,6 +99,3 @@ pub fn print_fault<O: Output>(fault: &Fault, files: &FileSet, out: &mut O) -> bo
         Err(_) => false,
     }
 }
-
-#[cfg(test)]
-mod tests;

@@ -27,17 +27,3 @@ pub fn read_input<R: Read + Drop>(alloc: Global, reader: R) -> io::Result<Option
         Ok(None)
     }
 }
-
-#[cfg(test)]
-mod tests {
-    use super::*;
-    use std::test::Fail;
-
-    #[test]
-    fn reads_all_of_an_input(rt: HostRuntime) -> Result<(), Fail> {
-        let octets = b"abc".as_slice();
-        let input = read_input(rt.alloc(), octets)?.ok_or("short enough")?;
-        assert!(rt; input.as_slice() == octets);
-        Ok(())
-    }
-}

@@ -17,8 +17,6 @@ mod running;
 mod scripts;
 mod secrets;
 mod walking;
-#[cfg(test)]
-mod word_tests;
 mod words;
 
 pub use answers::answer;

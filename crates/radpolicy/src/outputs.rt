@@ -88,6 +88,3 @@ pub fn put_all<O: Output>(out: &mut O, octets: &[u8]) -> Result<(), OutputError>
     }
     Ok(())
 }
-
-#[cfg(test)]
-pub(crate) mod tests;

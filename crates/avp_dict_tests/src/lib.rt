@@ -1,0 +1,9 @@
+//! Dictionary files, value texts and request lines: what is read, what is printed, and what is refused where.
+#![tactic(auto)]
+
+#[cfg(test)]
+mod files;
+#[cfg(test)]
+mod requests;
+#[cfg(test)]
+mod values;

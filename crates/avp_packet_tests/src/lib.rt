@@ -1,0 +1,7 @@
+//! Packets from outside: digests, hidden passwords, attributes of each form, and what is refused.
+#![tactic(auto)]
+
+#[cfg(test)]
+mod attributes;
+#[cfg(test)]
+mod packets;

@@ -1,0 +1,5 @@
+//! Worked runs: the label, the code and the lists at each step, forward and back.
+#![tactic(auto)]
+
+#[cfg(test)]
+mod runs;
