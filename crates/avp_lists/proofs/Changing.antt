@@ -15,7 +15,7 @@ use Rattle.avp_lists.specs.Shown.{state_of}
 use Rattle.avp_lists.specs.SlotLaws.{length-states_of}
 use Rattle.avp_lists.specs.Slots.{slot_at, at_first, PairsWithin}
 use Rattle.avp_lists.specs.States.{empty_state, edited, IsLimited}
-use Rattle.avp_lists.specs.Steps.{slots_at, states_of, step_at, BacksBelow, AllCounted, CountsWithin, CountsGrow, AllHoused, StatesLimited}
+use Rattle.avp_lists.specs.Steps.{slots_at, states_of, step_at, most_kept, BacksBelow, AllCounted, CountsWithin, CountsGrow, AllHoused, StatesLimited}
 use Rattle.avp_lists.proofs.Adding.{long-few, long-pairs, state-few, standing-new, states-new, below-new, counted-new, counts-new, grow-new, housed-new}
 use Rattle.avp_lists.proofs.Continuing.{limited-continued}
 use Rattle.avp_lists.proofs.ShownPairs.{present-shown}
@@ -66,6 +66,13 @@ module _ (e : Edit) (pool : List Pair) (slots : List Slot) (steps : List Step) (
   length-changed =
       let below : k + 1 ≤ length steps = omega (arith, placed) in
       omega (arith, ap length S, length-append (take (k + 1) steps) (step ∷ []), length-take-le (k + 1) steps below)
+
+  -- one pair more than there were, or none
+  pub slim-changed : length new_pool ≤ most_kept steps k
+  slim-changed =
+      let few = take (step_at steps k).pairs pool in
+      let one : length (entering p e.pair) ≤ 1 = elim (enters p) as (λ b. length (cond b (e.pair ∷ []) []) ≤ 1) [ true ↦ omega arith | false ↦ omega arith ] in
+      omega (arith, ap length pool_is, length-append few (entering p e.pair), one, long-pairs pool slots steps k placed counted counts grow housed standing)
 
   pub below-changed : BacksBelow steps → BacksBelow new_steps
   below-changed backs = subst BacksBelow (sym S) (below-new pool slots steps k placed counted counts grow housed standing (option_to_list p.added) firsts dark (entering p e.pair) p.turned p.swap step new_slots N T backs)

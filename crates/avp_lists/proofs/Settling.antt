@@ -1,5 +1,5 @@
 -- A state that is the only one.
-use Rattle.std.proofs.Common.{◌≡◌, ℕ, zero, suc, ◌+◌, ◌<◌, ◌≤◌, true, false, cond, List, [], ◌∷◌, ◌++◌, None, length, get_or, set, take, drop, map, refl, sym, ap, ◌∙◌, subst, inl, inr, arith}
+use Rattle.std.proofs.Common.{◌≡◌, ℕ, zero, suc, ◌+◌, ◌<◌, ◌≤◌, Bool, true, false, cond, List, [], ◌∷◌, ◌++◌, None, length, get_or, set, take, drop, map, refl, sym, ap, ◌∙◌, subst, inl, inr, arith}
 use Rattle.std.specs.List.{filter}
 use Rattle.std.specs.declared.vec.Vec.{Vec}
 use Rattle.std.specs.declared.alloc.Global.{Global}
@@ -14,7 +14,7 @@ use Rattle.avp_lists.specs.declared.steps.Change.{Change}
 use Rattle.avp_lists.specs.declared.steps.Change.TheVariants.{Turned, Back}
 use Rattle.avp_lists.specs.declared.steps.Step.{Step}
 use Rattle.avp_lists.specs.States.{empty_state, IsLimited}
-use Rattle.avp_lists.specs.Slots.{no_slot, slot_at, at_first, kept, turn_all, Housed, PairsWithin}
+use Rattle.avp_lists.specs.Slots.{no_slot, slot_at, is_live, at_first, kept, turn_all, Housed, PairsWithin}
 use Rattle.avp_lists.specs.Steps.{states_of, after, every, slots_at, step_at, change_at, turns, BacksBelow, NamesCounted, AllCounted, CountsWithin, CountsGrow, AllHoused, StatesLimited}
 use Rattle.avp_lists.specs.Shown.{shows, pair_of, pairs_of, state_of}
 
@@ -30,7 +30,7 @@ pairs_of-kept which pool (s ∷ ss) =
       | false ↦ pairs_of-kept which pool ss
     ]
 
-pub state_of-kept : (pool : List Pair) (c : List Slot) → state_of pool (map kept c) ≡ state_of pool c
+state_of-kept : (pool : List Pair) (c : List Slot) → state_of pool (map kept c) ≡ state_of pool c
 state_of-kept pool c = rw (pairs_of-kept Request pool c, pairs_of-kept Reply pool c, pairs_of-kept Control pool c) refl
 
 kept-housed : (n : ℕ) (c : List Slot) → PairsWithin n c → PairsWithin n (map kept c)
@@ -44,8 +44,40 @@ kept-housed n c pooled i = elim (cases_lt i (length c)) [
       subst P (sym (get_or_past (map kept c) i no_slot far)) (λ live. cc)
 ]
 
-pub settled_within : (n : ℕ) (c after_slots : List Slot) → after_slots ≡ map kept c → PairsWithin n c → PairsWithin n after_slots
-settled_within n c after_slots K pooled = subst (PairsWithin n) (sym K) (kept-housed n c pooled)
+-- without the slots that show nothing
+live-shows : (which : WhichList) (s : Slot) → is_live s ≡ false → shows which s ≡ false
+live-shows which s h = rw h refl
+
+pairs_of-live : (which : WhichList) (pool : List Pair) (c : List Slot) → pairs_of which pool (filter is_live c) ≡ pairs_of which pool c
+pairs_of-live which pool [] = refl
+pairs_of-live which pool (s ∷ ss) =
+    let rest = pairs_of-live which pool ss in
+    elim (is_live s) as (λ b. is_live s ≡ b → pairs_of which pool (cond b (s ∷ filter is_live ss) (filter is_live ss)) ≡ pairs_of which pool (s ∷ ss)) [
+      | true ↦ λ h. elim (shows which s) as (λ b. map (pair_of pool) (cond b (s ∷ filter (shows which) (filter is_live ss)) (filter (shows which) (filter is_live ss))) ≡ map (pair_of pool) (cond b (s ∷ filter (shows which) ss) (filter (shows which) ss))) [
+        | true ↦ ap (λ (xs : List Pair). pair_of pool s ∷ xs) rest
+        | false ↦ rest
+      ]
+      | false ↦ λ h. rest ∙ sym (ap (λ (b : Bool). map (pair_of pool) (cond b (s ∷ filter (shows which) ss) (filter (shows which) ss))) (live-shows which s h))
+    ] refl
+
+live-within : (n : ℕ) (c : List Slot) → PairsWithin n c → PairsWithin n (filter is_live c)
+live-within n [] pooled = pooled
+live-within n (s ∷ ss) pooled =
+    let rest = live-within n ss (λ i. pooled (suc i)) in
+    elim (is_live s) as (λ b. PairsWithin n (cond b (s ∷ filter is_live ss) (filter is_live ss))) [
+      | true ↦ one_more n s (filter is_live ss) (pooled 0) rest
+      | false ↦ rest
+    ]
+  where
+    one_more : (n : ℕ) (s : Slot) (ss : List Slot) → (s.mark.live ≡ true → s.mark.pair < n) → PairsWithin n ss → PairsWithin n (s ∷ ss)
+    one_more n s ss first rest zero = first
+    one_more n s ss first rest (suc i) = rest i
+
+pub settled_within : (n : ℕ) (c after_slots : List Slot) → after_slots ≡ map kept (filter is_live c) → PairsWithin n c → PairsWithin n after_slots
+settled_within n c after_slots K pooled = subst (PairsWithin n) (sym K) (kept-housed n (filter is_live c) (live-within n c pooled))
+
+pub settled_state : (pool : List Pair) (c : List Slot) → state_of pool (map kept (filter is_live c)) ≡ state_of pool c
+settled_state pool c = state_of-kept pool (filter is_live c) ∙ rw (pairs_of-live Request pool c, pairs_of-live Reply pool c, pairs_of-live Control pool c) refl
 
 empty_limited : IsLimited empty_state
 empty_limited Request = omega arith

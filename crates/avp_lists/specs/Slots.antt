@@ -1,5 +1,5 @@
 -- Slots, whose marks tell which pairs they show, and how a step turns the marks.
-use Rattle.std.specs.Prelude.{◌≡◌, ◌<◌, ◌≤◌, ◌+◌, length, ◌==◌, ℕ, true, false, not, if◌then◌else◌, List, [], ◌∷◌, slice_index_or, slice_set, Option, Some, None}
+use Rattle.std.specs.Prelude.{◌≡◌, ◌<◌, ◌≤◌, ◌+◌, length, ◌==◌, ℕ, Bool, true, false, not, if◌then◌else◌, List, [], ◌∷◌, slice_index_or, slice_set, Option, Some, None}
 use Rattle.avp_lists.specs.declared.lists.List.TheVariants.{Request}
 use Rattle.avp_lists.specs.declared.slots.Mark.{Mark}
 use Rattle.avp_lists.specs.declared.slots.Slot.{Slot}
@@ -15,6 +15,10 @@ no_slot = record { list = Request; mark = no_mark; first = no_mark }
 -- the slot at a place; past the last one none
 abbrev pub slot_at : List Slot → ℕ → Slot
 slot_at c i = slice_index_or c i no_slot
+
+-- it shows a pair
+abbrev pub is_live : Slot → Bool
+is_live s = s.mark.live
 
 -- the slot as it is in the first state
 abbrev pub at_first : Slot → Slot

@@ -1,5 +1,5 @@
 -- The states that steps lead to, from the first one on.
-use Rattle.std.specs.Prelude.{◌≡◌, ◌<◌, ◌≤◌, ◌-◌, ℕ, Bool, true, false, List, [], ◌∷◌, ◌++◌, map, length, slice_index_or, Option, None}
+use Rattle.std.specs.Prelude.{◌≡◌, ◌<◌, ◌≤◌, ◌+◌, ◌-◌, ℕ, Bool, true, false, List, [], ◌∷◌, ◌++◌, map, length, slice_index_or, Option, None}
 use Rattle.avp_lists.specs.declared.attributes.Pair.{Pair}
 use Rattle.avp_lists.specs.declared.lists.State.{State}
 use Rattle.avp_lists.specs.declared.slots.Slot.{Slot}
@@ -87,6 +87,10 @@ CountsWithin m n steps = (k : ℕ) → ((step_at steps k).slots ≤ m) × ((step
 -- no step counts more than a later one
 abbrev pub CountsGrow : List Step → Type 0
 CountsGrow steps = (j k : ℕ) → j ≤ k → k < length steps → ((step_at steps j).slots ≤ (step_at steps k).slots) × ((step_at steps j).pairs ≤ (step_at steps k).pairs)
+
+-- how many pairs there are at most after an edit at a place
+abbrev pub most_kept : List Step → ℕ → ℕ
+most_kept steps k = (step_at steps k).pairs + 1
 
 -- in each state, the slots that show a pair and those pairs are among those that its step counts
 abbrev pub AllHoused : List Slot → List Step → Type 0

@@ -6,7 +6,7 @@ ghost use Rattle.avp_lists.specs.Growth.{adds_one};
 ghost use Rattle.avp_lists.specs.History.{starting, present, after_edit};
 ghost use Rattle.avp_lists.specs.States.{list_of, edited, IsFull, IsLimited};
 ghost use Rattle.avp_lists.specs.Slots.{NamesWithin, SwapWithin};
-ghost use Rattle.avp_lists.specs.Steps.{slots_at, BacksBelow, AllCounted, CountsWithin, CountsGrow, AllHoused, StatesLimited};
+ghost use Rattle.avp_lists.specs.Steps.{slots_at, most_kept, BacksBelow, AllCounted, CountsWithin, CountsGrow, AllHoused, StatesLimited};
 ghost use Rattle.avp_lists.specs.Plans.{pooled, widened, planned, fresh};
 
 use crate::attributes::{AttrId, Pair};
@@ -15,7 +15,7 @@ use crate::history::Store;
 use crate::lists::{List, MOST_PAIRS};
 use crate::planning::{Plan, plan_edit};
 use crate::showing::{copy_shown, count_shown, first_shown, first_slot, lend_shown};
-use crate::slots::{Mark, Slot, keep_marks, turn_slots};
+use crate::slots::{Mark, Slot, forget_dark, turn_slots};
 use crate::snapshots::ListsRefused;
 use crate::steps::{Change, Step, cut_and_push, make_room, make_room_beside, move_to, node};
 use std::alloc::{AllocError, Global};
@@ -247,6 +247,8 @@ impl SlotStore {
         requires fits { IsLimited (edited edit (present (⟦<SlotStore as Store>⟧.history self.old))) }
         ensures ok { OnOk result (⟦<SlotStore as Store>⟧.history self.new ≡ after_edit edit (⟦<SlotStore as Store>⟧.history self.old)) }
         ensures err { OnErr result (⟦<SlotStore as Store>⟧.history self.new ≡ ⟦<SlotStore as Store>⟧.history self.old) }
+        // What was cut off is given up: at most the edit's own pair is kept besides those that were there at the place.
+        ensures slim { OnOk result (length self.new.pool.items ≤ most_kept self.old.steps.items self.old.place) }
         ensures kept { self.old.place + ⟦<SlotStore as Store>⟧.room self.old ≤ self.new.place + ⟦<SlotStore as Store>⟧.room self.new }
     {
         let last = &self.steps[self.place];
@@ -396,7 +398,7 @@ impl Store for SlotStore {
     }
 
     fn settle(&mut self) {
-        keep_marks(&mut self.slots);
+        forget_dark(&mut self.slots);
         let step = Step {
             change: Change::Turned(Vec::new(self.alloc), None),
             slots: self.slots.len(),

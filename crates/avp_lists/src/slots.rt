@@ -1,6 +1,6 @@
 //! The slots of a store's lists, and how a step turns their marks.
-ghost use Rattle.std.specs.Prelude.{◌≡◌, ◌<◌, length, map};
-ghost use Rattle.avp_lists.specs.Slots.{kept, turn, turn_all, swap_at, forward, backward, NamesWithin, SwapWithin};
+ghost use Rattle.std.specs.Prelude.{◌≡◌, ◌<◌, length, map, filter};
+ghost use Rattle.avp_lists.specs.Slots.{is_live, kept, turn, turn_all, swap_at, forward, backward, NamesWithin, SwapWithin};
 ghost use Rattle.avp_lists.specs.Shown.{same_list};
 
 use crate::lists::List;
@@ -125,8 +125,16 @@ fn keep_marks_of(slots: &mut [Slot])
 }
 
 // Makes the present marks those of the first state.
-pub(crate) fn keep_marks(slots: &mut Vec<Slot>)
+fn keep_marks(slots: &mut Vec<Slot>)
     ensures { slots.new.items ≡ map kept slots.old.items }
 {
     keep_marks_of(slots.as_mut_slice());
+}
+
+// Forgets the slots that show nothing, and each mark but the present ones.
+pub(crate) fn forget_dark(slots: &mut Vec<Slot>)
+    ensures { slots.new.items ≡ map kept (filter is_live slots.old.items) }
+{
+    slots.retain(|slot| slot.mark.live);
+    keep_marks(slots);
 }
