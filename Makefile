@@ -1,12 +1,14 @@
-# make run      builds the program and shows the README's example
-# make test     the gate, then the examples through the built program
-# make install  puts the program into PREFIX/bin
+# make run        builds the program and shows the README's example
+# make test       the gate, then the examples through the built program
+# make documents  the documents' links and commands, the completions and the manual pages, with the built program
+# make install    puts the program, the manual pages and the completions below PREFIX
+# make uninstall  removes them
 
 RT ?= $(shell command -v rt || echo /opt/rattle/bin/rt)
 PREFIX ?= /usr/local
 PROGRAM = crates/radpolicy_cli/out/radpolicy_cli
 
-.PHONY: run build test install
+.PHONY: run build test documents install uninstall
 
 run: build
 	@scripts/show-example $(PROGRAM) examples/access-request
@@ -17,5 +19,24 @@ build:
 test:
 	@RT=$(RT) scripts/test $(PROGRAM)
 
+documents:
+	@scripts/check-documents $(PROGRAM)
+
+# Where each file goes, by the conventions of man and of the three shells.
+AT = $(DESTDIR)$(PREFIX)
+INSTALLED = $(AT)/bin/radpolicy $(AT)/share/man/man1/radpolicy.1 $(AT)/share/man/man5/radpolicy.5 \
+	$(AT)/share/bash-completion/completions/radpolicy $(AT)/share/zsh/site-functions/_radpolicy \
+	$(AT)/share/fish/vendor_completions.d/radpolicy.fish
+
 install: build
-	install -D $(PROGRAM) $(PREFIX)/bin/radpolicy
+	@install -D $(PROGRAM) $(AT)/bin/radpolicy
+	@install -D -m 644 man/radpolicy.1 $(AT)/share/man/man1/radpolicy.1
+	@install -D -m 644 man/radpolicy.5 $(AT)/share/man/man5/radpolicy.5
+	@install -D -m 644 completions/radpolicy.bash $(AT)/share/bash-completion/completions/radpolicy
+	@install -D -m 644 completions/_radpolicy $(AT)/share/zsh/site-functions/_radpolicy
+	@install -D -m 644 completions/radpolicy.fish $(AT)/share/fish/vendor_completions.d/radpolicy.fish
+	@echo "The program is $(AT)/bin/radpolicy; 'man radpolicy' and 'radpolicy --help' tell how to use it."
+
+uninstall:
+	@rm -f $(INSTALLED)
+	@echo "Removed from $(AT): the program, its manual pages and completions."

@@ -5,9 +5,9 @@ use Rattle.std.proofs.lemmas.List.{append_assoc, get_or_at, set_at, length_push}
 use Rattle.avp_lists.specs.declared.attributes.Pair.{Pair}
 use Rattle.avp_lists.specs.declared.lists.List.{List as WhichList}
 use Rattle.avp_lists.specs.declared.slots.Slot.{Slot}
-use Rattle.avp_lists.specs.Slots.{no_slot, flipped, turn, turn_all}
-use Rattle.avp_lists.specs.Shown.{same_list, shows, pair_of, pairs_of}
-use Rattle.avp_lists.specs.Plans.{names_in}
+use Rattle.avp_lists.specs.code.Slots.{no_slot, flipped, turn, turn_all}
+use Rattle.avp_lists.specs.code.Shown.{same_list, shows, pair_of, pairs_of}
+use Rattle.avp_lists.specs.code.Plans.{names_in}
 
 abbrev pub turned_if : (Slot → Bool) → Slot → Slot
 turned_if p s = cond (p s) (flipped s) s

@@ -14,9 +14,9 @@ use Rattle.avp_lists.specs.declared.steps.Change.{Change}
 use Rattle.avp_lists.specs.declared.steps.Change.TheVariants.{Turned, Back}
 use Rattle.avp_lists.specs.declared.steps.Step.{Step}
 use Rattle.avp_lists.specs.States.{empty_state, IsLimited}
-use Rattle.avp_lists.specs.Slots.{no_slot, slot_at, is_live, at_first, kept, turn_all, Housed, PairsWithin}
-use Rattle.avp_lists.specs.Steps.{states_of, after, every, slots_at, step_at, change_at, turns, BacksBelow, NamesCounted, AllCounted, CountsWithin, CountsGrow, AllHoused, StatesLimited}
-use Rattle.avp_lists.specs.Shown.{shows, pair_of, pairs_of, state_of}
+use Rattle.avp_lists.specs.code.Slots.{no_slot, slot_at, is_live, at_first, kept, turn_all, Housed, PairsWithin}
+use Rattle.avp_lists.specs.code.Steps.{states_of, after, every, slots_at, step_at, change_at, turns, BacksBelow, NamesCounted, AllCounted, CountsWithin, CountsGrow, AllHoused, StatesLimited}
+use Rattle.avp_lists.specs.code.Shown.{shows, pair_of, pairs_of, state_of}
 
 pub firsts-kept : (c : List Slot) → map at_first (map kept c) ≡ map kept c
 firsts-kept [] = refl

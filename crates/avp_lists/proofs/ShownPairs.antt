@@ -10,11 +10,11 @@ use Rattle.avp_lists.specs.declared.lists.List.{List as WhichList}
 use Rattle.avp_lists.specs.declared.lists.List.TheVariants.{Request, Reply, Control}
 use Rattle.avp_lists.specs.declared.slots.Slot.{Slot}
 use Rattle.avp_lists.specs.declared.steps.Step.{Step}
-use Rattle.avp_lists.specs.Slots.{no_slot, slot_at, Housed, PairsWithin}
+use Rattle.avp_lists.specs.code.Slots.{no_slot, slot_at, Housed, PairsWithin}
 use Rattle.avp_lists.specs.States.{empty_state, list_of}
-use Rattle.avp_lists.specs.Steps.{every, slots_at, states_of, step_at, AllHoused, CountsWithin}
-use Rattle.avp_lists.specs.Shown.{same_list, shows, shows_id, pair_of, pairs_of, state_of}
-use Rattle.avp_lists.specs.SlotLaws.{length-every}
+use Rattle.avp_lists.specs.code.Steps.{every, slots_at, states_of, step_at, AllHoused, CountsWithin}
+use Rattle.avp_lists.specs.code.Shown.{same_list, shows, shows_id, pair_of, pairs_of, state_of}
+use Rattle.avp_lists.specs.code.SlotLaws.{length-every}
 
 pub list_of-state_of : (which : WhichList) (pool : List Pair) (c : List Slot) → list_of which (state_of pool c) ≡ pairs_of which pool c
 list_of-state_of Request pool c = refl

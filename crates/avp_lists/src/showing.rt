@@ -4,8 +4,8 @@ ghost use Rattle.std.specs.Option.{option_copied, IfSome, IfNone};
 ghost use Rattle.std.specs.List.{list_any};
 ghost use Rattle.avp_lists.specs.Instances.{has_id};
 ghost use Rattle.avp_lists.specs.Lending.{lent};
-ghost use Rattle.avp_lists.specs.Slots.{slot_at, PairsWithin};
-ghost use Rattle.avp_lists.specs.Shown.{shows, shows_id, pairs_of};
+ghost use Rattle.avp_lists.specs.code.Slots.{slot_at, PairsWithin};
+ghost use Rattle.avp_lists.specs.code.Shown.{shows, shows_id, pairs_of};
 
 use crate::attributes::{AttrId, Pair, copy_pair};
 use crate::lists::List;

@@ -1,5 +1,5 @@
 use Rattle.std.proofs.Common.{◌≡◌, take}
-use Rattle.avp_lists.specs.Shown.{pairs_of}
+use Rattle.avp_lists.specs.code.Shown.{pairs_of}
 use Rattle.avp_lists.proofs.showing.copy_shown.Given as goal
 
 abbrev pub invariant-loop-slot : goal.invariant-loop-slot

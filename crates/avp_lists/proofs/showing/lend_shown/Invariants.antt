@@ -1,6 +1,6 @@
 use Rattle.std.proofs.Common.{◌≡◌, take}
 use Rattle.avp_lists.specs.Lending.{lent}
-use Rattle.avp_lists.specs.Shown.{pairs_of}
+use Rattle.avp_lists.specs.code.Shown.{pairs_of}
 use Rattle.avp_lists.proofs.showing.lend_shown.Given as goal
 
 abbrev pub invariant-loop-slot : goal.invariant-loop-slot

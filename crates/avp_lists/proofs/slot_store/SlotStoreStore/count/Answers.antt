@@ -2,7 +2,7 @@ use Rattle.std.proofs.Common.{List, length, sym, ap, ◌∙◌}
 use Rattle.std.specs.List.{filter}
 use Rattle.std.proofs.lemmas.List.{length-map}
 use Rattle.avp_lists.specs.declared.slots.Slot.{Slot}
-use Rattle.avp_lists.specs.Shown.{shows, pair_of}
+use Rattle.avp_lists.specs.code.Shown.{shows, pair_of}
 use Rattle.avp_lists.proofs.ShownPairs.{present-list}
 use Rattle.avp_lists.proofs.slot_store.SlotStoreStore.count.Goals as goal
 

@@ -10,8 +10,8 @@ use Rattle.avp_lists.specs.declared.planning.Plan.{Plan}
 use Rattle.avp_lists.specs.declared.slots.Slot.{Slot}
 use Rattle.avp_lists.specs.Instances.{has_id}
 use Rattle.avp_lists.specs.Pairs.{pair_eq}
-use Rattle.avp_lists.specs.Shown.{shows, pair_of, state_of}
-use Rattle.avp_lists.specs.Slots.{forward, NamesWithin, SwapWithin, PairsWithin}
+use Rattle.avp_lists.specs.code.Shown.{shows, pair_of, state_of}
+use Rattle.avp_lists.specs.code.Slots.{forward, NamesWithin, SwapWithin, PairsWithin}
 use Rattle.avp_lists.specs.States.{edited}
 
 -- an operator takes the other pair away, where it is not the first instance
