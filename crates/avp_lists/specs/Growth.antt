@@ -1,4 +1,4 @@
--- Which operators make a list longer: a test that the code makes before an edit.
+-- Which operators make a list longer, and which can only make it shorter: tests that the code makes before an edit.
 use Rattle.std.specs.Prelude.{Bool, true, false, not, List}
 use Rattle.avp_lists.specs.declared.attributes.AttrId.{AttrId}
 use Rattle.avp_lists.specs.declared.attributes.Pair.{Pair}
@@ -14,3 +14,12 @@ adds_one Append id pairs = true
 adds_one RemoveEqual id pairs = false
 adds_one KeepEqual id pairs = false
 adds_one RemoveAll id pairs = false
+
+-- an operator takes pairs away and adds none
+abbrev pub removes : Op → Bool
+removes AddNew = false
+removes Replace = false
+removes Append = false
+removes RemoveEqual = true
+removes KeepEqual = true
+removes RemoveAll = true

@@ -1,7 +1,8 @@
 //! Ordered lists of attribute-value pairs, the edits of an `update` section, and a history of edited
 //! states with undo, redo and rollback.
 //!
-//! [`Store`] is the contract that the layers above use; [`SnapshotStore`] meets it with whole states.
+//! [`Store`] is the contract that the layers above use. [`SlotStore`] meets it with one set of lists and a journal, and
+//! [`SnapshotStore`] with whole states.
 #![tactic(auto)]
 
 mod attributes;
@@ -10,13 +11,19 @@ mod edits;
 mod history;
 mod lists;
 mod operators;
+mod planning;
+mod showing;
+mod slot_store;
+mod slots;
 mod snapshots;
+mod steps;
 mod undoing;
 
 pub use attributes::{AttrId, Pair, Value, copy_pair};
 pub use bytes::Octets;
 pub use edits::{Edit, EditFault, Op};
 pub use history::Store;
-pub use lists::{List, MOST_PAIRS, Pairs, State};
+pub use lists::{List, MOST_PAIRS, Pairs, State, lend};
+pub use slot_store::SlotStore;
 pub use snapshots::{ListsRefused, SnapshotStore};
 pub use undoing::{edit_and_undo, undo_by};

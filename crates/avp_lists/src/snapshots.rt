@@ -6,7 +6,7 @@ ghost use Rattle.avp_lists.specs.Snapshots.{snapshot_at, state_of, states_of, ow
 use crate::attributes::{AttrId, Pair};
 use crate::edits::{Edit, EditFault};
 use crate::history::Store;
-use crate::lists::{List, MOST_PAIRS, Pairs, State, copies};
+use crate::lists::{List, MOST_PAIRS, Pairs, State, copies, lend};
 use crate::operators::{edited, find_instance, is_full};
 use std::alloc::{AllocError, Global};
 
@@ -158,6 +158,10 @@ impl Store for SnapshotStore {
 
     fn list(&self, list: List) -> Result<Vec<Pair>, AllocError> {
         copies(self.alloc, self.present().list(list))
+    }
+
+    fn pairs(&self, list: List) -> Result<Vec<&Pair>, AllocError> {
+        lend(self.alloc, self.present().list(list))
     }
 
     fn place(&self) -> usize {

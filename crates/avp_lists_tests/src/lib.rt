@@ -1,5 +1,9 @@
-//! Worked examples of the operators and of the history, and each call that takes memory once.
+//! Worked examples of the operators and of the history for both stores, and each call that takes memory once.
 #![tactic(auto)]
 
+#[cfg(test)]
+mod rows;
+#[cfg(test)]
+mod slots;
 #[cfg(test)]
 mod snapshots;

@@ -2,6 +2,7 @@
 
 ghost use Rattle.std.specs.Prelude.{◌≡◌, ◌++◌, codes, IfOk, IsTrue, OnOk};
 ghost use Rattle.avp_lists.specs.History.{present};
+ghost use Rattle.avp_lists.specs.Lending.{lent};
 ghost use Rattle.avp_lists.specs.declared.lists.State.{State};
 ghost use Rattle.avp_dict.specs.Limits.{fits};
 ghost use Rattle.avp_unlang.specs.Resolutions.{StateFits};
@@ -10,7 +11,7 @@ ghost use Rattle.radpolicy.specs.Reports.{code_text, list_text, packet_line, pac
 
 use crate::checks::push_count;
 use avp_dict::Dictionary;
-use avp_lists::{List, Pair, Store};
+use avp_lists::{List, Pair, Store, lend};
 use avp_packet::Packet;
 use avp_unlang::Code;
 use std::alloc::{AllocError, Global};
@@ -34,10 +35,10 @@ fn push_list(
     text: &mut Vec<u8>,
     dictionary: &Dictionary,
     name: &str,
-    pairs: &[Pair],
+    pairs: &[&Pair],
 ) -> Result<(), AllocError>
-    requires { AllFit dictionary.now pairs.now }
-    ensures { OnOk result (text.new.items ≡ text.old.items ++ list_text dictionary.now name.now pairs.now) }
+    requires { AllFit dictionary.now (lent pairs.now) }
+    ensures { OnOk result (text.new.items ≡ text.old.items ++ list_text dictionary.now name.now (lent pairs.now)) }
 {
     text.extend_from_slice(name.as_bytes())?;
     text.extend_from_slice(b"\n")?;
@@ -60,19 +61,19 @@ pub(crate) fn push_lists<S: Store>(
         text,
         dictionary,
         "request",
-        store.list(List::Request)?.as_slice(),
+        store.pairs(List::Request)?.as_slice(),
     )?;
     push_list(
         text,
         dictionary,
         "reply",
-        store.list(List::Reply)?.as_slice(),
+        store.pairs(List::Reply)?.as_slice(),
     )?;
     push_list(
         text,
         dictionary,
         "control",
-        store.list(List::Control)?.as_slice(),
+        store.pairs(List::Control)?.as_slice(),
     )?;
     Ok(())
 }
@@ -152,6 +153,7 @@ pub(crate) fn text_of_packet(
     text.extend_from_slice(b"authenticator ")?;
     text.extend_from_slice(hex::encode(alloc, packet.authenticator)?.as_bytes())?;
     text.extend_from_slice(b"\n")?;
-    push_list(&mut text, dictionary, "request", packet.list.as_slice())?;
+    let request = lend(alloc, packet.list.as_slice())?;
+    push_list(&mut text, dictionary, "request", request.as_slice())?;
     Ok(text)
 }

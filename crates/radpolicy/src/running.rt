@@ -23,7 +23,7 @@ use crate::jobs::{Form, Outcome};
 use crate::replies::{ReplyHead, reply_head, reply_of};
 use crate::reports::{push_no_packet, push_packet, text_of_run};
 use avp_dict::Dictionary;
-use avp_lists::{List, Pair, SnapshotStore, Store};
+use avp_lists::{List, Pair, SlotStore, Store};
 use avp_packet::{EncodeFault, Packet};
 use avp_step::Stepper;
 use avp_unlang::{Code, Policy, keeps_reply_clean};
@@ -105,11 +105,11 @@ struct Ended {
 }
 
 /// A store of the request's pairs and two empty lists.
-pub(crate) fn entry_store(alloc: Global, request: Packet) -> Result<SnapshotStore, AllocError>
+pub(crate) fn entry_store(alloc: Global, request: Packet) -> Result<SlotStore, AllocError>
     requires { length request.list ≤ most_pairs }
-    ensures { IfOk result (λ store. present (⟦<SnapshotStore as Store>⟧.history store) ≡ entry_state request.list) }
+    ensures { IfOk result (λ store. present (⟦<SlotStore as Store>⟧.history store) ≡ entry_state request.list) }
 {
-    match SnapshotStore::new(
+    match SlotStore::new(
         alloc,
         request.list.into_vec(),
         Vec::new(alloc),

@@ -1,0 +1,190 @@
+-- What a plan makes of the lists.
+use Rattle.std.proofs.Common.{◌≡◌, ℕ, zero, suc, ◌+◌, ◌<◌, ◌≤◌, Bool, true, false, not, ◌&&◌, ◌||◌, cond, List, [], ◌∷◌, ◌++◌, length, get_or, map, refl, sym, ap, ap₂, ◌∙◌, subst, inl, inr, arith}
+use Rattle.std.specs.List.{filter, list_any, position_or_len}
+use Rattle.std.proofs.lemmas.Bool.{cases_lt}
+use Rattle.std.proofs.lemmas.List.{get_or_past, get_or_append_left, get_or-map, length-map, take_all, drop_all}
+use Rattle.avp_lists.specs.declared.attributes.AttrId.{AttrId}
+use Rattle.avp_lists.specs.declared.attributes.Pair.{Pair}
+use Rattle.avp_lists.specs.declared.edits.Edit.{Edit}
+use Rattle.avp_lists.specs.declared.edits.Op.{Op}
+use Rattle.avp_lists.specs.declared.edits.Op.TheVariants.{AddNew, Replace, Append, RemoveEqual, KeepEqual, RemoveAll}
+use Rattle.avp_lists.specs.declared.lists.List.{List as WhichList}
+use Rattle.avp_lists.specs.declared.lists.List.TheVariants.{Request, Reply, Control}
+use Rattle.avp_lists.specs.declared.slots.Slot.{Slot}
+use Rattle.avp_lists.specs.Growth.{adds_one, removes}
+use Rattle.avp_lists.specs.Instances.{has_id, is_other}
+use Rattle.avp_lists.specs.Operators.{agrees, replace, apply}
+use Rattle.avp_lists.specs.Pairs.{pair_eq}
+use Rattle.avp_lists.specs.code.Plans.{goes, taken, names_in}
+use Rattle.avp_lists.specs.code.Shown.{same_list, shows, shows_id, no_pair, pair_of, pairs_of, state_of}
+use Rattle.avp_lists.specs.code.Slots.{no_slot, slot_at, flipped, PairsWithin}
+use Rattle.avp_lists.specs.States.{with_list, edited, edited_list}
+use Rattle.avp_lists.proofs.Editing.{turned_if, taken_away}
+use Rattle.avp_lists.proofs.Lengths.{none_first}
+use Rattle.avp_lists.proofs.ShownPairs.{list_of-state_of}
+
+-- an edit's list, and the other two
+by_list : (w : WhichList) (L : List Pair) (pool other : List Pair) (c d : List Slot) → pairs_of w other d ≡ L → ((which : WhichList) → same_list which w ≡ false → pairs_of which other d ≡ pairs_of which pool c) → state_of other d ≡ with_list w L (state_of pool c)
+by_list Request L pool other c d own others = rw (own, others Reply refl, others Control refl) refl
+by_list Reply L pool other c d own others = rw (own, others Request refl, others Control refl) refl
+by_list Control L pool other c d own others = rw (own, others Request refl, others Reply refl) refl
+
+pub state_edited : (e : Edit) (pool other : List Pair) (c d : List Slot) → pairs_of e.list other d ≡ apply e.op e.pair (pairs_of e.list pool c) → ((which : WhichList) → same_list which e.list ≡ false → pairs_of which other d ≡ pairs_of which pool c) → state_of other d ≡ edited e (state_of pool c)
+state_edited e pool other c d own others =
+    by_list e.list (edited_list e (state_of pool c)) pool other c d (own ∙ ap (apply e.op e.pair) (sym (list_of-state_of e.list pool c))) others
+
+pub same_itself : (which : WhichList) → same_list which which ≡ true
+same_itself Request = refl
+same_itself Reply = refl
+same_itself Control = refl
+
+-- a list and another
+pub other_list : (which w x : WhichList) → same_list which w ≡ false → same_list w x ≡ true → same_list which x ≡ false
+other_list Request Reply Reply h t = refl
+other_list Request Control Control h t = refl
+other_list Reply Request Request h t = refl
+other_list Reply Control Control h t = refl
+other_list Control Request Request h t = refl
+other_list Control Reply Reply h t = refl
+other_list _ _ _ h t = cc
+
+pub and_false : (b x : Bool) → x ≡ false → (b && x) ≡ false
+and_false true x h = h
+and_false false x h = refl
+
+pub and_first : (b x : Bool) → (b && x) ≡ true → b ≡ true
+and_first true x h = refl
+and_first false x h = cc
+
+pub and_second : (b x : Bool) → (b && x) ≡ true → x ≡ true
+and_second true x h = h
+and_second false x h = cc
+
+-- a slot of another list shows nothing here, whatever its mark
+pub hidden_elsewhere : (which w : WhichList) (b : Bool) (s : Slot) → same_list which w ≡ false → shows w s ≡ true → (b && same_list which s.list) ≡ false
+hidden_elsewhere which w b s ne shown = and_false b (same_list which s.list) (other_list which w s.list ne (and_second s.mark.live (same_list w s.list) shown))
+
+-- turned slots of one list leave the others
+pub others_stay : (which w : WhichList) (pool : List Pair) (q : Slot → Bool) (c : List Slot) → same_list which w ≡ false → pairs_of which pool (map (turned_if (λ s. shows w s && q s)) c) ≡ pairs_of which pool c
+others_stay which w pool q [] ne = refl
+others_stay which w pool q (s ∷ ss) ne =
+    let p : Slot → Bool = λ t. shows w t && q t in
+    let rest = others_stay which w pool q ss ne in
+    let turned = map (turned_if p) ss in
+    let skip : (t : Slot) → shows which t ≡ false → pairs_of which pool (t ∷ turned) ≡ pairs_of which pool turned = λ t h. rw h refl in
+    let same : shows which s ≡ false → pairs_of which pool (s ∷ ss) ≡ pairs_of which pool ss = λ h. rw h refl in
+    elim (p s) as (λ b. p s ≡ b → pairs_of which pool (cond b (flipped s) s ∷ turned) ≡ pairs_of which pool (s ∷ ss)) [
+      | true ↦ λ h.
+          let shown = and_first (shows w s) (q s) h in
+          skip (flipped s) (hidden_elsewhere which w (not s.mark.live) s ne shown) ∙ rest ∙ sym (same (hidden_elsewhere which w s.mark.live s ne shown))
+      | false ↦ λ h. elim (shows which s) as (λ b. map (pair_of pool) (cond b (s ∷ filter (shows which) turned) (filter (shows which) turned)) ≡ map (pair_of pool) (cond b (s ∷ filter (shows which) ss) (filter (shows which) ss))) [
+        | true ↦ ap (λ (xs : List Pair). pair_of pool s ∷ xs) rest
+        | false ↦ rest
+      ]
+    ] refl
+
+-- what is turned off shows no pair
+turned-within : (n : ℕ) (p : Slot → Bool) (c : List Slot) → ((s : Slot) → p s ≡ true → s.mark.live ≡ true) → PairsWithin n c → PairsWithin n (map (turned_if p) c)
+turned-within n p c off pooled i =
+    let P : Slot → Type 0 = λ s. s.mark.live ≡ true → s.mark.pair < n in
+    elim (cases_lt i (length c)) [
+      | inl inside ↦
+          let s = slot_at c i in
+          subst P (sym (get_or-map (turned_if p) c i no_slot no_slot inside)) (elim (p s) as (λ b. p s ≡ b → (cond b (flipped s) s).mark.live ≡ true → (cond b (flipped s) s).mark.pair < n) [
+            | true ↦ λ h live. let on = off s h in let dark : false ≡ true = sym (ap not on) ∙ live in cc
+            | false ↦ λ h live. pooled i live
+          ] refl)
+      | inr past ↦
+          let far : length (map (turned_if p) c) ≤ i = omega (arith, length-map c (turned_if p)) in
+          subst P (sym (get_or_past (map (turned_if p) c) i no_slot far)) (λ live. cc)
+    ]
+
+pub taken-within : (e : Edit) (pool : List Pair) (n : ℕ) (c : List Slot) → PairsWithin n c → PairsWithin n (map (turned_if (taken e pool)) c)
+taken-within e pool n c pooled = turned-within n (taken e pool) c (λ s h. and_first s.mark.live (same_list e.list s.list) (and_first (shows e.list s) (goes e.op e.pair (pair_of pool s)) h)) pooled
+
+pub names_in-within : (p : Slot → Bool) (n : ℕ) (c : List Slot) (i : ℕ) → i < length (names_in p n c) → get_or (names_in p n c) i 0 < n + length c
+names_in-within p n [] i h = absurd (omega (arith, h))
+names_in-within p n (s ∷ ss) i h =
+    let rest = names_in-within p (n + 1) ss in
+    elim (p s) as (λ b. i < length (cond b (n ∷ names_in p (n + 1) ss) (names_in p (n + 1) ss)) → get_or (cond b (n ∷ names_in p (n + 1) ss) (names_in p (n + 1) ss)) i 0 < n + length (s ∷ ss)) [
+      | true ↦ λ lt. first_or_rest p n s ss rest i lt
+      | false ↦ λ lt. omega (arith, rest i lt)
+    ] h
+  where
+    first_or_rest : (p : Slot → Bool) (n : ℕ) (s : Slot) (ss : List Slot) → ((i : ℕ) → i < length (names_in p (n + 1) ss) → get_or (names_in p (n + 1) ss) i 0 < (n + 1) + length ss) → (i : ℕ) → i < length (n ∷ names_in p (n + 1) ss) → get_or (n ∷ names_in p (n + 1) ss) i 0 < n + length (s ∷ ss)
+    first_or_rest p n s ss rest zero lt = omega arith
+    first_or_rest p n s ss rest (suc i) lt = omega (arith, rest i (omega (arith, lt)))
+
+-- the operators that take pairs away
+filter_same : (p q : Pair → Bool) (xs : List Pair) → ((x : Pair) → p x ≡ q x) → filter p xs ≡ filter q xs
+filter_same p q [] same = refl
+filter_same p q (x ∷ xs) same =
+    let rest = filter_same p q xs same in
+    rw (same x) (elim (q x) as (λ b. cond b (x ∷ filter p xs) (filter p xs) ≡ cond b (x ∷ filter q xs) (filter q xs)) [
+      | true ↦ ap (λ (ys : List Pair). x ∷ ys) rest
+      | false ↦ rest
+    ])
+
+not_and : (a b : Bool) → not (a && not b) ≡ (not a || b)
+not_and true true = refl
+not_and true false = refl
+not_and false b = refl
+
+taken-applied : (op : Op) (p : Pair) (xs : List Pair) → removes op ≡ true → filter (λ x. not (goes op p x)) xs ≡ apply op p xs
+taken-applied RemoveEqual p xs h = refl
+taken-applied KeepEqual p xs h = filter_same (λ x. not (goes KeepEqual p x)) (agrees p) xs (λ x. not_and (has_id p.id x) (pair_eq x p))
+taken-applied RemoveAll p xs h = refl
+taken-applied Append p xs h = cc
+taken-applied AddNew p xs h = cc
+taken-applied Replace p xs h = cc
+
+pub state-removed : (e : Edit) (pool : List Pair) (c : List Slot) → removes e.op ≡ true → state_of pool (map (turned_if (taken e pool)) c) ≡ edited e (state_of pool c)
+state-removed e pool c h =
+    let d = map (turned_if (taken e pool)) c in
+    state_edited e pool pool c d
+    (taken_away e.list pool (goes e.op e.pair) c ∙ taken-applied e.op e.pair (pairs_of e.list pool c) h)
+    (λ which ne. others_stay which e.list pool (λ s. goes e.op e.pair (pair_of pool s)) c ne)
+
+-- whether there is an instance
+pub any-shown : (w : WhichList) (id : AttrId) (pool : List Pair) (c : List Slot) → list_any (shows_id w id pool) c ≡ list_any (has_id id) (pairs_of w pool c)
+any-shown w id pool [] = refl
+any-shown w id pool (s ∷ ss) =
+    let rest = any-shown w id pool ss in
+    elim (shows w s) as (λ b. ((b && has_id id (pair_of pool s)) || list_any (shows_id w id pool) ss) ≡ list_any (has_id id) (map (pair_of pool) (cond b (s ∷ filter (shows w) ss) (filter (shows w) ss)))) [
+      | true ↦ ap (λ (t : Bool). has_id id (pair_of pool s) || t) rest
+      | false ↦ rest
+    ]
+
+-- an operator that adds one adds it at the end
+replace-none : (p : Pair) (xs : List Pair) → list_any (has_id p.id) xs ≡ false → replace p xs ≡ xs ++ p ∷ []
+replace-none p xs h =
+    let first = none_first (has_id p.id) xs h in
+    let all : length xs ≤ position_or_len (has_id p.id) xs = omega (arith, first) in
+    let past : length xs ≤ position_or_len (has_id p.id) xs + 1 = omega (arith, first) in
+    ap₂ (λ (a b : List Pair). a ++ p ∷ filter (is_other p.id) b) (take_all (position_or_len (has_id p.id) xs) xs all) (drop_all (position_or_len (has_id p.id) xs + 1) xs past)
+
+pub added-applied : (op : Op) (p : Pair) (xs : List Pair) → adds_one op p.id xs ≡ true → apply op p xs ≡ xs ++ p ∷ []
+added-applied AddNew p xs h = elim (list_any (has_id p.id) xs) as (λ b. not b ≡ true → cond b xs (xs ++ p ∷ []) ≡ xs ++ p ∷ []) [ true ↦ λ e. cc | false ↦ λ e. refl ] h
+added-applied Replace p xs h = replace-none p xs (elim (list_any (has_id p.id) xs) as (λ b. not b ≡ true → b ≡ false) [ true ↦ λ e. cc | false ↦ λ e. refl ] h)
+added-applied Append p xs h = refl
+added-applied RemoveEqual p xs h = cc
+added-applied KeepEqual p xs h = cc
+added-applied RemoveAll p xs h = cc
+
+-- a pool with one more agrees on what was shown
+pub agree-more : (pool : List Pair) (p : Pair) (c : List Slot) → PairsWithin (length pool) c → (i : ℕ) → (slot_at c i).mark.live ≡ true → pair_of (pool ++ p ∷ []) (slot_at c i) ≡ pair_of pool (slot_at c i)
+agree-more pool p c pooled i live = get_or_append_left pool (p ∷ []) no_pair (slot_at c i).mark.pair (pooled i live)
+
+pub within-more : (n m : ℕ) (c : List Slot) → n ≤ m → PairsWithin n c → PairsWithin m c
+within-more n m c le pooled i live =
+    let lt : (slot_at c i).mark.pair < n = pooled i live in
+    omega arith
+
+pub within-append : (n : ℕ) (c d : List Slot) → PairsWithin n c → PairsWithin n d → PairsWithin n (c ++ d)
+within-append n [] d pooled more i = more i
+within-append n (s ∷ ss) d pooled more zero = pooled 0
+within-append n (s ∷ ss) d pooled more (suc i) = within-append n ss d (λ j. pooled (suc j)) more i
+
+pub within-one : (n : ℕ) (s : Slot) → (s.mark.live ≡ true → s.mark.pair < n) → PairsWithin n (s ∷ [])
+within-one n s h zero = h
+within-one n s h (suc i) = λ live. cc

@@ -1,0 +1,113 @@
+-- Each operator's plan makes of the slots what the operator makes of the list.
+use Rattle.std.proofs.Common.{◌≡◌, ℕ, zero, suc, ◌+◌, ◌<◌, ◌≤◌, true, false, not, cond, List, [], ◌∷◌, ◌++◌, Some, None, length, map, take, drop, refl, sym, ap, ◌∙◌, subst, arith, append-nil}
+use Rattle.std.specs.List.{list_any}
+use Rattle.std.specs.declared.vec.Vec.{Vec}
+use Rattle.std.specs.declared.alloc.Global.{Global}
+use Rattle.std.proofs.lemmas.List.{length-take-le, length-drop, take-append-drop, drop_more, length_push}
+use Rattle.avp_lists.specs.declared.attributes.Pair.{Pair}
+use Rattle.avp_lists.specs.declared.edits.Edit.{Edit}
+use Rattle.avp_lists.specs.declared.edits.Op.{Op}
+use Rattle.avp_lists.specs.declared.edits.Op.TheVariants.{AddNew, Replace}
+use Rattle.avp_lists.specs.declared.slots.Slot.{Slot}
+use Rattle.avp_lists.specs.declared.slots.Swap.{Swap}
+use Rattle.avp_lists.specs.Growth.{adds_one, removes}
+use Rattle.avp_lists.specs.Instances.{has_id}
+use Rattle.avp_lists.specs.Operators.{apply}
+use Rattle.avp_lists.specs.code.Plans.{taken, names_in, IsPlan}
+use Rattle.avp_lists.specs.code.Shown.{shows_id, pairs_of, state_of}
+use Rattle.avp_lists.specs.code.Slots.{no_slot, slot_at, flipped, turn_all, with_other, forward, NamesWithin, PairsWithin}
+use Rattle.avp_lists.specs.States.{edited}
+use Rattle.avp_lists.proofs.Editing.{turned_if, turned_where}
+use Rattle.avp_lists.proofs.Edited.{state_edited, names_in-within, taken-within, state-removed}
+use Rattle.avp_lists.proofs.Entering.{added-turned, added-within, state-added, replaced-turned, replaced-within, state-replaced}
+
+one_name : (n m : ℕ) → n < m → NamesWithin m (n ∷ [])
+one_name n m lt zero h = lt
+one_name n m lt (suc i) h = absurd (omega (arith, h))
+
+none_added : (s : Slot) → None ≡ Some s → ⊥
+none_added s h = cc
+
+-- the pair gets a slot of its own
+pub plan-added : (e : Edit) (pool : List Pair) (c : List Slot) (s : Slot) (v : Vec ℕ Global) → PairsWithin (length pool) c → adds_one e.op e.pair.id (pairs_of e.list pool c) ≡ true → s.list ≡ e.list → s.mark.live ≡ false → s.mark.pair ≡ length pool → s.first ≡ s.mark → v.items ≡ length c ∷ [] → IsPlan e pool c (record { turned = v; swap = None; added = Some s })
+plan-added e pool c s v fits adds of_list off pair first N =
+    let turned : turn_all v.items (c ++ s ∷ []) ≡ c ++ flipped s ∷ [] = ap (λ (ns : List ℕ). turn_all ns (c ++ s ∷ [])) N ∙ added-turned e pool c s fits adds of_list off pair in
+    let P : List Slot → Type 0 = λ d. PairsWithin (length (pool ++ e.pair ∷ [])) d in
+    let Q : List ℕ → Type 0 = λ ns. NamesWithin (length (c ++ s ∷ [])) ns in
+    let R : Slot → Type 0 = λ t. (t.mark.live ≡ false) × (t.first ≡ t.mark) in
+    record {
+      names = subst Q (sym N) (one_name (length c) (length (c ++ s ∷ [])) (omega (arith, length_push c s)));
+      swap = omega arith;
+      added = λ t is. let same : s ≡ t = cc in subst R same (off, first);
+      within = subst P (sym turned) (added-within e pool c s fits adds of_list off pair);
+      state = ap (state_of (pool ++ e.pair ∷ [])) turned ∙ state-added e pool c s fits adds of_list off pair;
+    }
+
+-- what is turned without a swap and without a slot more
+plain : (e : Edit) (pool : List Pair) (c d : List Slot) (v : Vec ℕ Global) → NamesWithin (length c) v.items → turn_all v.items c ≡ d → PairsWithin (length pool) d → state_of pool d ≡ edited e (state_of pool c) → IsPlan e pool c (record { turned = v; swap = None; added = None })
+plain e pool c d v names turned within state =
+    let same : turn_all v.items (c ++ []) ≡ d = ap (turn_all v.items) (append-nil c) ∙ turned in
+    let P : List Slot → Type 0 = λ x. PairsWithin (length pool) x in
+    let Q : List Slot → Type 0 = λ x. NamesWithin (length x) v.items in
+    record {
+      names = subst Q (sym (append-nil c)) names;
+      swap = omega arith;
+      added = λ t is. absurd (none_added t is);
+      within = subst P (sym same) within;
+      state = ap (state_of pool) same ∙ state;
+    }
+
+-- pairs go
+pub plan-removed : (e : Edit) (pool : List Pair) (c : List Slot) (v : Vec ℕ Global) → PairsWithin (length pool) c → removes e.op ≡ true → v.items ≡ names_in (taken e pool) 0 c → IsPlan e pool c (record { turned = v; swap = None; added = None })
+plan-removed e pool c v fits rem N =
+    let Q : List ℕ → Type 0 = λ ns. NamesWithin (length c) ns in
+    let names : NamesWithin (length c) (names_in (taken e pool) 0 c) = λ i h. omega (arith, names_in-within (taken e pool) 0 c i h) in
+    plain e pool c (map (turned_if (taken e pool)) c) v (subst Q (sym N) names)
+    (ap (λ (ns : List ℕ). turn_all ns c) N ∙ turned_where (taken e pool) [] c)
+    (taken-within e pool (length pool) c fits)
+    (state-removed e pool c rem)
+
+-- nothing changes
+kept_applied : (op : Op) (p : Pair) (xs : List Pair) → op ≡ AddNew → adds_one op p.id xs ≡ false → apply op p xs ≡ xs
+kept_applied op p xs is none =
+    let there : not (list_any (has_id p.id) xs) ≡ false = sym (ap (λ (o : Op). adds_one o p.id xs) is) ∙ none in
+    ap (λ (o : Op). apply o p xs) is
+    ∙ elim (list_any (has_id p.id) xs) as (λ b. not b ≡ false → cond b xs (xs ++ p ∷ []) ≡ xs) [ true ↦ λ h. refl | false ↦ λ h. cc ] there
+
+pub plan-kept : (e : Edit) (pool : List Pair) (c : List Slot) (v : Vec ℕ Global) → PairsWithin (length pool) c → e.op ≡ AddNew → adds_one e.op e.pair.id (pairs_of e.list pool c) ≡ false → v.items ≡ [] → IsPlan e pool c (record { turned = v; swap = None; added = None })
+plan-kept e pool c v fits op none N =
+    let Q : List ℕ → Type 0 = λ ns. NamesWithin (length c) ns in
+    plain e pool c c v (subst Q (sym N) (λ i h. absurd (omega (arith, h)))) (ap (λ (ns : List ℕ). turn_all ns c) N) fits
+    (state_edited e pool pool c c (sym (kept_applied e.op e.pair (pairs_of e.list pool c) op none)) (λ which ne. refl))
+
+-- the pair takes the place of another
+pub plan-replaced : (e : Edit) (pool : List Pair) (c : List Slot) (first : ℕ) (w : Swap) (v : Vec ℕ Global) → PairsWithin (length pool) c → e.op ≡ Replace → first < length c → shows_id e.list e.pair.id pool (slot_at c first) ≡ true → list_any (shows_id e.list e.pair.id pool) (take first c) ≡ false → w.slot ≡ first → w.old ≡ (slot_at c first).mark.pair → w.new ≡ length pool → v.items ≡ names_in (taken e pool) (first + 1) (drop (first + 1) c) → IsPlan e pool c (record { turned = v; swap = Some w; added = None })
+plan-replaced e pool c first w v fits op within shown none at old new N =
+    let before = take first c in
+    let s = slot_at c first in
+    let after = drop (first + 1) c in
+    let other = pool ++ e.pair ∷ [] in
+    let le : first ≤ length c = omega (arith, within) in
+    let long : length before ≡ first = length-take-le first c le in
+    let whole : c ≡ before ++ s ∷ after = sym (take-append-drop first c) ∙ ap (λ (xs : List Slot). before ++ xs) (drop_more c first no_slot within) in
+    let P : List Slot → Type 0 = λ x. PairsWithin (length pool) x in
+    let parts_fit : PairsWithin (length pool) (before ++ s ∷ after) = subst P whole fits in
+    let here : w.slot ≡ length before = at ∙ sym long in
+    let d = (before ++ with_other w s ∷ []) ++ map (turned_if (taken e pool)) after in
+    let names : v.items ≡ names_in (taken e pool) (length before + 1) after = N ∙ ap (λ (n : ℕ). names_in (taken e pool) (n + 1) after) (sym long) in
+    let turned : forward v.items (Some w) (c ++ []) ≡ d =
+    ap (forward v.items (Some w)) (append-nil c ∙ whole)
+    ∙ ap (λ (ns : List ℕ). forward ns (Some w) (before ++ s ∷ after)) names
+    ∙ replaced-turned e pool before after s w op parts_fit shown none here old new in
+    let A : List Slot → Type 0 = λ x. PairsWithin (length other) x in
+    let Q : List ℕ → Type 0 = λ ns. NamesWithin (length (c ++ [])) ns in
+    let end : length (c ++ []) ≡ length c = ap length (append-nil c) in
+    let all : NamesWithin (length (c ++ [])) (names_in (taken e pool) (first + 1) after) = λ i h.
+    omega (arith, names_in-within (taken e pool) (first + 1) after i h, length-drop (first + 1) c, end, within) in
+    record {
+      names = subst Q (sym N) all;
+      swap = omega (arith, at, end, within);
+      added = λ t is. absurd (none_added t is);
+      within = subst A (sym turned) (replaced-within e pool before after s w op parts_fit shown none here old new);
+      state = ap (state_of other) turned ∙ state-replaced e pool before after s w op parts_fit shown none here old new ∙ ap (λ (x : List Slot). edited e (state_of pool x)) (sym whole);
+    }

@@ -1,0 +1,13 @@
+use Rattle.std.proofs.Common.{◌∙◌, ◌++◌, ◌+◌, List, drop, ap, refl}
+use Rattle.avp_lists.specs.code.Plans.{taken, names_in}
+use Rattle.avp_lists.proofs.Planned.{plan-replaced}
+use Rattle.avp_lists.proofs.planning.plan_replacement.Goals as goal
+
+pub returns : goal.returns
+returns c =
+    let e = c.args.edit.now in
+    let pool = c.args.pool.now in
+    let slots = c.args.slots.now in
+    let first = c.args.first in
+    let names = c.in_ok-push_going.ensures ∙ ap (λ (ns : List _). ns ++ names_in (taken e pool) (first + 1) (drop (first + 1) slots)) c.new-turned.ensures.items in
+    plan-replaced e pool slots first _ c.push_going.new.names c.requires.pooled c.requires.op c.requires.first.0 c.requires.first.1 c.requires.none_before refl refl refl names

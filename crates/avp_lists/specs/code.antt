@@ -1,0 +1,5 @@
+pub mod Plans
+pub mod Shown
+pub mod SlotLaws
+pub mod Slots
+pub mod Steps

@@ -1,0 +1,62 @@
+-- What an edit turns in the slots, and the slots that a store begins with.
+use Rattle.std.specs.Prelude.{◌≡◌, zero, suc, ◌+◌, ℕ, Bool, true, false, not, ◌&&◌, ◌||◌, if◌then◌else◌, List, [], ◌∷◌, ◌++◌, length, Some}
+use Rattle.std.specs.Option.{is_some, option_to_list}
+use Rattle.avp_lists.specs.declared.attributes.Pair.{Pair}
+use Rattle.avp_lists.specs.declared.edits.Op.{Op}
+use Rattle.avp_lists.specs.declared.edits.Op.TheVariants.{RemoveEqual, KeepEqual, RemoveAll, Replace}
+use Rattle.avp_lists.specs.declared.edits.Edit.{Edit}
+use Rattle.avp_lists.specs.declared.lists.List.{List as WhichList}
+use Rattle.avp_lists.specs.declared.planning.Plan.{Plan}
+use Rattle.avp_lists.specs.declared.slots.Slot.{Slot}
+use Rattle.avp_lists.specs.Instances.{has_id}
+use Rattle.avp_lists.specs.Pairs.{pair_eq}
+use Rattle.avp_lists.specs.code.Shown.{shows, pair_of, state_of}
+use Rattle.avp_lists.specs.code.Slots.{forward, NamesWithin, SwapWithin, PairsWithin}
+use Rattle.avp_lists.specs.States.{edited}
+
+-- an operator takes the other pair away, where it is not the first instance
+abbrev pub goes : Op → Pair → Pair → Bool
+goes RemoveEqual p q = pair_eq q p
+goes KeepEqual p q = has_id p.id q && not (pair_eq q p)
+goes RemoveAll p q = has_id p.id q
+goes Replace p q = has_id p.id q
+goes _ p q = false
+
+-- the pair of the slot is taken away
+abbrev pub taken : Edit → List Pair → Slot → Bool
+taken e pool s = shows e.list s && goes e.op e.pair (pair_of pool s)
+
+-- the names of the slots that pass, the first of which has the name n
+abbrev pub names_in : (Slot → Bool) → ℕ → List Slot → List ℕ
+names_in p n [] = []
+names_in p n (s ∷ ss) = if p s then n ∷ names_in p (n + 1) ss else names_in p (n + 1) ss
+
+-- the slots before a plan's marks are turned, and after it
+abbrev pub widened : Plan → List Slot → List Slot
+widened p c = c ++ option_to_list p.added
+
+abbrev pub planned : Plan → List Slot → List Slot
+planned p c = forward p.turned.items p.swap (widened p c)
+
+-- the edit's pair enters the pool
+abbrev pub enters : Plan → Bool
+enters p = is_some p.swap || is_some p.added
+
+abbrev pub pooled : Plan → Pair → List Pair → List Pair
+pooled p pair pool = if enters p then pool ++ pair ∷ [] else pool
+
+-- the plan makes of the slots what the edit makes of the state that they show
+pub record IsPlan (e : Edit) (pool : List Pair) (c : List Slot) (p : Plan) : Type 0 where
+  pub names : NamesWithin (length (widened p c)) p.turned.items
+  pub swap : SwapWithin (length (widened p c)) p.swap
+  pub added : (s : Slot) → p.added ≡ Some s → (s.mark.live ≡ false) × (s.first ≡ s.mark)
+  pub within : PairsWithin (length (pooled p e.pair pool)) (planned p c)
+  pub state : state_of (pooled p e.pair pool) (planned p c) ≡ edited e (state_of pool c)
+
+-- n slots of the first state, from a place in the pool on
+abbrev pub fresh_slot : WhichList → ℕ → Slot
+fresh_slot which at = record { list = which; mark = record { live = true; pair = at }; first = record { live = true; pair = at } }
+
+abbrev pub fresh : WhichList → ℕ → ℕ → List Slot
+fresh which at zero = []
+fresh which at (suc n) = fresh_slot which at ∷ fresh which (at + 1) n

@@ -1,0 +1,34 @@
+-- What the slot store's laws rest on.
+use Rattle.std.proofs.Common.{◌≡◌, ℕ, ◌+◌, ◌-◌, ◌<◌, ◌≤◌, List, [], ◌∷◌, ◌++◌, length, map, min, ◌∙◌, arith}
+use Rattle.std.specs.declared.vec.Vec.{Vec}
+use Rattle.std.specs.declared.alloc.Global.{Global}
+use Rattle.std.specs.Vec.{vec_capacity}
+use Rattle.std.proofs.lemmas.List.{length-map, length_push}
+use Rattle.avp_lists.specs.declared.attributes.Pair.{Pair}
+use Rattle.avp_lists.specs.declared.slots.Slot.{Slot}
+use Rattle.avp_lists.specs.declared.steps.Step.{Step}
+use Rattle.avp_lists.specs.code.Slots.{at_first}
+use Rattle.avp_lists.specs.code.Steps.{after, replay, every, states_of}
+use Rattle.avp_lists.specs.code.Shown.{state_of}
+
+-- a state for each step
+pub length-replay : (first : List Slot) (done : List (List Slot)) (steps : List Step) → length (replay first done steps) ≡ length done + length steps
+length-replay first done [] = omega arith
+length-replay first done (e ∷ es) =
+    let x = after first done e.change in
+    omega (arith, length-replay first (done ++ x ∷ []) es, length_push done x)
+
+pub length-every : (slots : List Slot) (steps : List Step) → length (every slots steps) ≡ length steps
+length-every slots steps = let e : length (replay (map at_first slots) [] steps) ≡ 0 + length steps = length-replay (map at_first slots) [] steps in omega (arith, e)
+
+pub length-states_of : (pool : List Pair) (slots : List Slot) (steps : List Step) → length (states_of pool slots steps) ≡ length steps
+length-states_of pool slots steps = length-map (every slots steps) (state_of pool) ∙ length-every slots steps
+
+pub placed_among : (pool : List Pair) (slots : List Slot) (steps : List Step) (place : ℕ) → place < length steps → place < length (states_of pool slots steps)
+placed_among pool slots steps place h = omega (arith, length-states_of pool slots steps)
+
+pub roomy_among : (pool : List Pair) (slots : List Slot) (steps : Vec Step Global) (nexts : Vec ℕ Global) (place : ℕ) → length nexts.items ≡ length steps.items → length (states_of pool slots steps.items) ≤ place + 1 + (min (vec_capacity steps) (vec_capacity nexts) - (place + 1))
+roomy_among pool slots steps nexts place beside =
+    let a : length steps.items ≤ vec_capacity steps = omega (arith, steps.ok.0, steps.ok.1) in
+    let b : length nexts.items ≤ vec_capacity nexts = omega (arith, nexts.ok.0, nexts.ok.1) in
+    omega (arith, length-states_of pool slots steps.items)

@@ -1,0 +1,173 @@
+//! What an edit turns in the slots.
+ghost use Rattle.std.specs.Prelude.{◌≡◌, ◌≤◌, ◌<◌, ◌++◌, true, false, IfOk, OnOk, length, drop, take};
+ghost use Rattle.std.specs.List.{list_any};
+ghost use Rattle.avp_lists.specs.code.Slots.{slot_at, PairsWithin};
+ghost use Rattle.avp_lists.specs.code.Shown.{shows_id, pairs_of};
+ghost use Rattle.avp_lists.specs.Growth.{adds_one, removes};
+ghost use Rattle.avp_lists.specs.code.Plans.{enters, goes, taken, names_in, IsPlan};
+ghost use Rattle.avp_lists.specs.declared.edits.Op.TheVariants.{AddNew, Replace};
+
+use crate::attributes::Pair;
+use crate::edits::{Edit, Op};
+use crate::lists::List;
+use crate::showing::{first_slot, shows};
+use crate::slots::{Mark, Slot, Swap};
+use std::alloc::{AllocError, Global};
+
+// What an edit turns, as names of slots.
+#[derive(Drop)]
+pub(crate) struct Plan {
+    // The slots that begin or stop to show their pairs.
+    pub turned: Vec<usize>,
+    // The slot where the edit's pair takes the place of the first instance.
+    pub swap: Option<Swap>,
+    // A slot at the end for the edit's pair, which shows nothing yet.
+    pub added: Option<Slot>,
+}
+
+impl Plan {
+    // Whether the edit's pair enters the pool.
+    pub fn enters(&self) -> bool
+        ensures { result ≡ enters self.now }
+    {
+        self.swap.is_some() || self.added.is_some()
+    }
+}
+
+// Whether the operator takes the other pair away, where it is not the first instance.
+fn goes(op: Op, pair: &Pair, other: &Pair) -> bool
+    ensures { result ≡ goes op pair.now other.now }
+{
+    match op {
+        Op::AddNew | Op::Append => false,
+        Op::RemoveEqual => other.equals(pair),
+        Op::KeepEqual => other.id.equals(pair.id) && !other.equals(pair),
+        Op::Replace | Op::RemoveAll => other.id.equals(pair.id),
+    }
+}
+
+// The slots from a place on whose pairs an edit takes away.
+fn push_going(
+    names: &mut Vec<usize>,
+    slots: &[Slot],
+    pool: &[Pair],
+    from: usize,
+    edit: &Edit,
+) -> Result<(), AllocError>
+    requires pooled { PairsWithin (length pool.now) slots.now }
+    requires from { from ≤ length slots.now }
+    ensures { OnOk result (names.new.items ≡ names.old.items ++ names_in (taken edit.now pool.now) from (drop from slots.now)) }
+{
+    for name in from..slots.len() {
+        let slot = &slots[name];
+        if shows(slot, edit.list) && goes(edit.op, &edit.pair, &pool[slot.mark.pair]) {
+            names.push(name)?;
+        }
+    }
+    Ok(())
+}
+
+// The pair gets a slot of its own at the end.
+fn plan_addition(
+    alloc: Global,
+    slots: &[Slot],
+    pool: &[Pair],
+    edit: &Edit,
+) -> Result<Plan, AllocError>
+    requires pooled { PairsWithin (length pool.now) slots.now }
+    requires adds { adds_one edit.now.op edit.now.pair.id (pairs_of edit.now.list pool.now slots.now) ≡ true }
+    ensures { IfOk result (λ plan. IsPlan edit.now pool.now slots.now plan) }
+{
+    let mut turned = Vec::new(alloc);
+    turned.push(slots.len())?;
+    let mark = Mark {
+        live: false,
+        pair: pool.len(),
+    };
+    let added = Slot {
+        list: edit.list,
+        mark,
+        first: mark,
+    };
+    Ok(Plan {
+        turned,
+        swap: None,
+        added: Some(added),
+    })
+}
+
+// The pair takes the place of the first instance, and the later ones go.
+fn plan_replacement(
+    alloc: Global,
+    slots: &[Slot],
+    pool: &[Pair],
+    edit: &Edit,
+    first: usize,
+) -> Result<Plan, AllocError>
+    requires pooled { PairsWithin (length pool.now) slots.now }
+    requires op { edit.now.op ≡ Replace }
+    requires first { (first < length slots.now) × (shows_id edit.now.list edit.now.pair.id pool.now (slot_at slots.now first) ≡ true) }
+    requires none_before { list_any (shows_id edit.now.list edit.now.pair.id pool.now) (take first slots.now) ≡ false }
+    ensures { IfOk result (λ plan. IsPlan edit.now pool.now slots.now plan) }
+{
+    let mut turned = Vec::new(alloc);
+    push_going(&mut turned, slots, pool, first + 1, edit)?;
+    let swap = Swap {
+        slot: first,
+        old: slots[first].mark.pair,
+        new: pool.len(),
+    };
+    Ok(Plan {
+        turned,
+        swap: Some(swap),
+        added: None,
+    })
+}
+
+// Pairs go.
+fn plan_removal(
+    alloc: Global,
+    slots: &[Slot],
+    pool: &[Pair],
+    edit: &Edit,
+) -> Result<Plan, AllocError>
+    requires pooled { PairsWithin (length pool.now) slots.now }
+    requires removes { removes edit.now.op ≡ true }
+    ensures { IfOk result (λ plan. IsPlan edit.now pool.now slots.now plan) }
+{
+    let mut turned = Vec::new(alloc);
+    push_going(&mut turned, slots, pool, 0, edit)?;
+    Ok(Plan {
+        turned,
+        swap: None,
+        added: None,
+    })
+}
+
+// What the edit turns in these slots.
+pub(crate) fn plan_edit(
+    alloc: Global,
+    slots: &[Slot],
+    pool: &[Pair],
+    edit: &Edit,
+) -> Result<Plan, AllocError>
+    requires pooled { PairsWithin (length pool.now) slots.now }
+    ensures { IfOk result (λ plan. IsPlan edit.now pool.now slots.now plan) }
+{
+    match edit.op {
+        Op::Append => plan_addition(alloc, slots, pool, edit),
+        Op::AddNew => match first_slot(slots, pool, edit.list, edit.pair.id) {
+            None => plan_addition(alloc, slots, pool, edit),
+            Some(_) => Ok(Plan {
+                turned: Vec::new(alloc),
+                swap: None,
+                added: None,
+            }),
+        },
+        Op::Replace => match first_slot(slots, pool, edit.list, edit.pair.id) {
+            None => plan_addition(alloc, slots, pool, edit),
+            Some(first) => plan_replacement(alloc, slots, pool, edit, first),
+        },
+        Op::RemoveEqual | Op::KeepEqual | Op::RemoveAll => plan_removal(alloc, slots, pool, edit),
+    }
+}

@@ -1,0 +1,410 @@
+//! A store that keeps one set of lists, and a journal of what each step turned in them.
+ghost use Rattle.std.specs.Prelude.{◌≡◌, ◌↔◌, IsTrue, not, ◌+◌, ◌-◌, ◌≤◌, ◌<◌, ◌++◌, [], OnOk, OnErr, IfOk, IfErr, length, take, min, vec_capacity};
+ghost use Rattle.std.specs.Option.{option_to_list};
+ghost use Rattle.avp_lists.specs.Instances.{has_instance};
+ghost use Rattle.avp_lists.specs.Growth.{adds_one};
+ghost use Rattle.avp_lists.specs.History.{starting, present, after_edit};
+ghost use Rattle.avp_lists.specs.States.{list_of, edited, IsFull, IsLimited};
+ghost use Rattle.avp_lists.specs.code.Slots.{NamesWithin, SwapWithin};
+ghost use Rattle.avp_lists.specs.code.Steps.{slots_at, most_kept, BacksBelow, AllCounted, CountsWithin, CountsGrow, AllHoused, StatesLimited};
+ghost use Rattle.avp_lists.specs.code.Plans.{pooled, widened, planned, fresh};
+
+use crate::attributes::{AttrId, Pair};
+use crate::edits::{Edit, EditFault, Op};
+use crate::history::Store;
+use crate::lists::{List, MOST_PAIRS};
+use crate::planning::{Plan, plan_edit};
+use crate::showing::{copy_shown, count_shown, first_shown, first_slot, lend_shown};
+use crate::slots::{Mark, Slot, forget_dark, turn_slots};
+use crate::snapshots::ListsRefused;
+use crate::steps::{Change, Step, cut_and_push, make_room, make_room_beside, move_to, node};
+use std::alloc::{AllocError, Global};
+
+/// A store that keeps one set of lists, and what each step turned in them.
+///
+/// Each pair that enters a list stays in a pool, and a slot tells whether it is shown. A step names the slots that it
+/// turned, so an edit costs what it changes, and no list is copied.
+#[derive(Drop)]
+pub struct SlotStore {
+    alloc: Global,
+    pool: Vec<Pair>,
+    slots: Vec<Slot>,
+    // One for each state; the first one turns nothing.
+    steps: Vec<Step>,
+    // One for each state: where a move ahead goes on, which is written as the move begins.
+    nexts: Vec<usize>,
+    place: usize,
+    ghost placed: { place < length steps.items },
+    ghost beside: { length nexts.items ≡ length steps.items },
+    ghost below: { BacksBelow steps.items },
+    ghost counted: { AllCounted steps.items },
+    ghost counts: { CountsWithin (length slots.items) (length pool.items) steps.items },
+    ghost grow: { CountsGrow steps.items },
+    ghost housed: { AllHoused slots.items steps.items },
+    ghost standing: { slots_at slots.items steps.items place ≡ slots.items },
+    ghost limited: { StatesLimited pool.items slots.items steps.items },
+}
+
+// The parts of a store.
+#[derive(Drop)]
+struct Parts {
+    pool: Vec<Pair>,
+    slots: Vec<Slot>,
+    steps: Vec<Step>,
+    nexts: Vec<usize>,
+}
+
+// Room for a store of so many pairs.
+fn empty_parts(alloc: Global, count: usize) -> Result<Parts, AllocError>
+    ensures pool { IfOk result (λ parts. (parts.pool.items ≡ []) × (count ≤ vec_capacity parts.pool)) }
+    ensures slots { IfOk result (λ parts. (parts.slots.items ≡ []) × (count ≤ vec_capacity parts.slots)) }
+    ensures steps { IfOk result (λ parts. (parts.steps.items ≡ []) × (1 ≤ vec_capacity parts.steps)) }
+    ensures nexts { IfOk result (λ parts. (parts.nexts.items ≡ []) × (1 ≤ vec_capacity parts.nexts)) }
+{
+    Ok(Parts {
+        pool: Vec::with_capacity(alloc, count)?,
+        slots: Vec::with_capacity(alloc, count)?,
+        steps: Vec::with_capacity(alloc, 1)?,
+        nexts: Vec::with_capacity(alloc, 1)?,
+    })
+}
+
+// Adds slots for the pairs from a place in the pool on.
+fn push_firsts(slots: &mut Vec<Slot>, list: List, from: usize, end: usize)
+    requires order { from ≤ end }
+    requires room { length slots.old.items + (end - from) ≤ vec_capacity slots.old }
+    ensures items { slots.new.items ≡ slots.old.items ++ fresh list from (end - from) }
+    ensures capacity { vec_capacity slots.old ≤ vec_capacity slots.new }
+{
+    for pair in from..end {
+        let mark = Mark { live: true, pair };
+        let slot = Slot {
+            list,
+            mark,
+            first: mark,
+        };
+        slots.push(slot).unwrap();
+    }
+}
+
+// How many steps, slots and pairs stay when an edit cuts off what is after the place.
+#[derive(Clone, Copy)]
+struct Ends {
+    steps: usize,
+    slots: usize,
+    pairs: usize,
+}
+
+// Makes room for what an edit adds after what it cuts off.
+fn make_room_after(
+    steps: &mut Vec<Step>,
+    nexts: &mut Vec<usize>,
+    slots: &mut Vec<Slot>,
+    pool: &mut Vec<Pair>,
+    ends: Ends,
+) -> Result<(), AllocError>
+    requires beside { length nexts.old.items ≡ length steps.old.items }
+    requires steps { ends.steps ≤ length steps.old.items }
+    requires slots { ends.slots ≤ length slots.old.items }
+    requires pool { ends.pairs ≤ length pool.old.items }
+    ensures room { OnOk result (ends.steps < min (vec_capacity steps.new) (vec_capacity nexts.new)) }
+    ensures slots_room { OnOk result (ends.slots < vec_capacity slots.new) }
+    ensures pool_room { OnOk result (ends.pairs < vec_capacity pool.new) }
+    ensures steps { steps.new.items ≡ steps.old.items }
+    ensures nexts { nexts.new.items ≡ nexts.old.items }
+    ensures slots { slots.new.items ≡ slots.old.items }
+    ensures pool { pool.new.items ≡ pool.old.items }
+    ensures kept_steps { vec_capacity steps.old ≤ vec_capacity steps.new }
+    ensures kept_nexts { vec_capacity nexts.old ≤ vec_capacity nexts.new }
+{
+    make_room_beside(steps, nexts, ends.steps)?;
+    make_room(slots, ends.slots)?;
+    make_room(pool, ends.pairs)
+}
+
+// Cuts off the items from `end` on, and adds one, if there is one.
+fn cut_and_add<T: Drop>(items: &mut Vec<T>, end: usize, item: Option<T>)
+    requires within { end ≤ length items.old.items }
+    requires room { end < vec_capacity items.old }
+    ensures { items.new.items ≡ take end items.old.items ++ option_to_list item }
+{
+    items.truncate(end);
+    if let Some(item) = item {
+        items.push(item).unwrap();
+    }
+}
+
+// Cuts off the pairs from `end` on, and adds the edit's own where the plan needs it.
+fn pool_for(pool: &mut Vec<Pair>, end: usize, plan: &Plan, pair: Pair)
+    requires within { end ≤ length pool.old.items }
+    requires room { end < vec_capacity pool.old }
+    ensures { pool.new.items ≡ pooled plan.now pair (take end pool.old.items) }
+{
+    let added = if plan.enters() { Some(pair) } else { None };
+    cut_and_add(pool, end, added);
+}
+
+// Cuts off the slots from `end` on, and carries out the plan.
+fn slots_for(slots: &mut Vec<Slot>, end: usize, plan: &Plan)
+    requires within { end ≤ length slots.old.items }
+    requires room { end < vec_capacity slots.old }
+    requires names { NamesWithin (length (widened plan.now (take end slots.old.items))) plan.now.turned.items }
+    requires swap { SwapWithin (length (widened plan.now (take end slots.old.items))) plan.now.swap }
+    ensures { slots.new.items ≡ planned plan.now (take end slots.old.items) }
+{
+    cut_and_add(slots, end, plan.added);
+    turn_slots(slots, plan.turned.as_slice(), plan.swap);
+}
+
+// Adds the pairs of a list.
+fn add_list(pool: &mut Vec<Pair>, slots: &mut Vec<Slot>, list: List, mut pairs: Vec<Pair>)
+    requires pool_room { length pool.old.items + length pairs.items ≤ vec_capacity pool.old }
+    requires slots_room { length slots.old.items + length pairs.items ≤ vec_capacity slots.old }
+    ensures pool { pool.new.items ≡ pool.old.items ++ pairs.items }
+    ensures slots { slots.new.items ≡ slots.old.items ++ fresh list (length pool.old.items) (length pairs.items) }
+    ensures pool_kept { vec_capacity pool.old ≤ vec_capacity pool.new }
+    ensures slots_kept { vec_capacity slots.old ≤ vec_capacity slots.new }
+{
+    let from = pool.len();
+    pool.append(&mut pairs).unwrap();
+    push_firsts(slots, list, from, pool.len());
+}
+
+impl SlotStore {
+    /// A store with one state.
+    pub fn new(
+        alloc: Global,
+        request: Vec<Pair>,
+        reply: Vec<Pair>,
+        control: Vec<Pair>,
+    ) -> Result<SlotStore, ListsRefused>
+        requires request_fits { length request.items ≤ MOST_PAIRS }
+        requires reply_fits { length reply.items ≤ MOST_PAIRS }
+        requires control_fits { length control.items ≤ MOST_PAIRS }
+        ensures ok { IfOk result (λ s. ⟦<SlotStore as Store>⟧.history s ≡ starting (record { request = request.items; reply = reply.items; control = control.items })) }
+        ensures err { IfErr result (λ back. back ≡ record { request = request; reply = reply; control = control }) }
+    {
+        let count = request.len() + reply.len() + control.len();
+        let Ok(parts) = empty_parts(alloc, count) else {
+            return Err(ListsRefused {
+                request,
+                reply,
+                control,
+            });
+        };
+        let Parts {
+            mut pool,
+            mut slots,
+            mut steps,
+            mut nexts,
+        } = parts;
+        add_list(&mut pool, &mut slots, List::Request, request);
+        add_list(&mut pool, &mut slots, List::Reply, reply);
+        add_list(&mut pool, &mut slots, List::Control, control);
+        let first = Step {
+            change: Change::Turned(Vec::new(alloc), None),
+            slots: slots.len(),
+            pairs: pool.len(),
+        };
+        cut_and_push(&mut steps, &mut nexts, 0, first);
+        Ok(SlotStore {
+            alloc,
+            pool,
+            slots,
+            steps,
+            nexts,
+            place: 0,
+        })
+    }
+
+    // Whether the list has no instance of the id.
+    fn has_none(&self, list: List, id: AttrId) -> bool
+        ensures { result ≡ not (has_instance id (list_of list (present (⟦<SlotStore as Store>⟧.history self.now)))) }
+    {
+        first_slot(&self.slots, &self.pool, list, id).is_none()
+    }
+
+    // Whether the operator makes the list longer.
+    fn adds_one(&self, list: List, op: Op, id: AttrId) -> bool
+        ensures { result ≡ adds_one op id (list_of list (present (⟦<SlotStore as Store>⟧.history self.now))) }
+    {
+        match op {
+            Op::Append => true,
+            Op::AddNew | Op::Replace => self.has_none(list, id),
+            Op::RemoveEqual | Op::KeepEqual | Op::RemoveAll => false,
+        }
+    }
+
+    // Whether the edit would make its list too long.
+    fn is_full(&self, edit: &Edit) -> bool
+        ensures { IsTrue result ↔ IsFull edit.now (present (⟦<SlotStore as Store>⟧.history self.now)) }
+    {
+        self.count(edit.list) == MOST_PAIRS && self.adds_one(edit.list, edit.op, edit.pair.id)
+    }
+
+    // Cuts off what is after the place, and edits.
+    fn change(&mut self, edit: Edit) -> Result<(), AllocError>
+        requires fits { IsLimited (edited edit (present (⟦<SlotStore as Store>⟧.history self.old))) }
+        ensures ok { OnOk result (⟦<SlotStore as Store>⟧.history self.new ≡ after_edit edit (⟦<SlotStore as Store>⟧.history self.old)) }
+        ensures err { OnErr result (⟦<SlotStore as Store>⟧.history self.new ≡ ⟦<SlotStore as Store>⟧.history self.old) }
+        // What was cut off is given up: at most the edit's own pair is kept besides those that were there at the place.
+        ensures slim { OnOk result (length self.new.pool.items ≤ most_kept self.old.steps.items self.old.place) }
+        ensures kept { self.old.place + ⟦<SlotStore as Store>⟧.room self.old ≤ self.new.place + ⟦<SlotStore as Store>⟧.room self.new }
+    {
+        let last = &self.steps[self.place];
+        let ends = Ends {
+            steps: self.place + 1,
+            slots: last.slots,
+            pairs: last.pairs,
+        };
+        let plan = plan_edit(
+            self.alloc,
+            &self.slots[..ends.slots],
+            &self.pool[..ends.pairs],
+            &edit,
+        )?;
+        make_room_after(
+            &mut self.steps,
+            &mut self.nexts,
+            &mut self.slots,
+            &mut self.pool,
+            ends,
+        )?;
+        pool_for(&mut self.pool, ends.pairs, &plan, edit.pair);
+        slots_for(&mut self.slots, ends.slots, &plan);
+        let step = Step {
+            change: Change::Turned(plan.turned, plan.swap),
+            slots: self.slots.len(),
+            pairs: self.pool.len(),
+        };
+        cut_and_push(&mut self.steps, &mut self.nexts, ends.steps, step);
+        self.place = ends.steps;
+        Ok(())
+    }
+}
+
+impl Store for SlotStore {
+    ghost use Rattle.std.specs.Prelude.{◌+◌, ◌-◌, min, vec_capacity};
+    ghost use Rattle.avp_lists.specs.code.Steps.{states_of};
+
+    ghost history = { λ s. record { states = states_of s.pool.items s.slots.items s.steps.items; place = s.place } };
+
+    ghost room = { λ s. min (vec_capacity s.steps) (vec_capacity s.nexts) - (s.place + 1) };
+
+    ghost use Rattle.avp_lists.specs.code.SlotLaws.{placed_among, roomy_among};
+
+    ghost placed = { λ s. placed_among s.pool.items s.slots.items s.steps.items s.place s.placed };
+
+    ghost roomy = { λ s. roomy_among s.pool.items s.slots.items s.steps s.nexts s.place s.beside };
+
+    ghost limited = { λ s k. s.limited k };
+
+    fn count(&self, list: List) -> usize {
+        count_shown(&self.slots, list)
+    }
+
+    fn first(&self, list: List, id: AttrId) -> Option<&Pair> {
+        first_shown(&self.slots, &self.pool, list, id)
+    }
+
+    fn list(&self, list: List) -> Result<Vec<Pair>, AllocError> {
+        copy_shown(self.alloc, &self.slots, &self.pool, list)
+    }
+
+    fn pairs(&self, list: List) -> Result<Vec<&Pair>, AllocError> {
+        lend_shown(self.alloc, &self.slots, &self.pool, list)
+    }
+
+    fn place(&self) -> usize {
+        self.place
+    }
+
+    fn steps(&self) -> usize {
+        self.steps.len() - 1
+    }
+
+    fn room(&self) -> usize {
+        self.steps.capacity().min(self.nexts.capacity()) - (self.place + 1)
+    }
+
+    fn reserve(&mut self, n: usize) -> Result<(), AllocError> {
+        let ahead = self.steps.len() - (self.place + 1);
+        self.steps.reserve(n.saturating_sub(ahead))?;
+        self.nexts.reserve(n.saturating_sub(ahead))
+    }
+
+    fn edit(&mut self, edit: Edit) -> Result<(), EditFault> {
+        if self.is_full(&edit) {
+            return Err(EditFault::Full);
+        }
+        match self.change(edit) {
+            Ok(()) => Ok(()),
+            Err(AllocError) => Err(EditFault::Memory),
+        }
+    }
+
+    fn undo(&mut self) -> bool {
+        if self.place == 0 {
+            return false;
+        }
+        let to = self.place - 1;
+        move_to(
+            &mut self.slots,
+            &self.steps,
+            &mut self.nexts,
+            self.place,
+            to,
+        );
+        self.place = to;
+        true
+    }
+
+    fn redo(&mut self) -> bool {
+        let to = self.place + 1;
+        if to == self.steps.len() {
+            return false;
+        }
+        move_to(
+            &mut self.slots,
+            &self.steps,
+            &mut self.nexts,
+            self.place,
+            to,
+        );
+        self.place = to;
+        true
+    }
+
+    fn rollback(&mut self, to: usize) -> Result<(), AllocError> {
+        let end = self.place + 1;
+        make_room_beside(&mut self.steps, &mut self.nexts, end)?;
+        move_to(
+            &mut self.slots,
+            &self.steps,
+            &mut self.nexts,
+            self.place,
+            to,
+        );
+        let earlier = node(&self.steps, to);
+        let last = &self.steps[self.place];
+        let step = Step {
+            change: Change::Back(earlier),
+            slots: last.slots,
+            pairs: last.pairs,
+        };
+        cut_and_push(&mut self.steps, &mut self.nexts, end, step);
+        self.place = end;
+        Ok(())
+    }
+
+    fn settle(&mut self) {
+        forget_dark(&mut self.slots);
+        let step = Step {
+            change: Change::Turned(Vec::new(self.alloc), None),
+            slots: self.slots.len(),
+            pairs: self.pool.len(),
+        };
+        cut_and_push(&mut self.steps, &mut self.nexts, 0, step);
+        self.place = 0;
+    }
+}

@@ -1,0 +1,140 @@
+//! The slots of a store's lists, and how a step turns their marks.
+ghost use Rattle.std.specs.Prelude.{◌≡◌, ◌<◌, length, map, filter};
+ghost use Rattle.avp_lists.specs.code.Slots.{is_live, kept, turn, turn_all, swap_at, forward, backward, NamesWithin, SwapWithin};
+ghost use Rattle.avp_lists.specs.code.Shown.{same_list};
+
+use crate::lists::List;
+
+// Whether a slot shows a pair, and the place of that pair in the pool.
+#[derive(Clone, Copy)]
+pub(crate) struct Mark {
+    pub live: bool,
+    pub pair: usize,
+}
+
+// A place of a list: its mark in the present state, and in the first one.
+#[derive(Clone, Copy)]
+pub(crate) struct Slot {
+    pub list: List,
+    pub mark: Mark,
+    pub first: Mark,
+}
+
+// The slot of a replaced pair, and the places in the pool of the pairs that it shows before and after.
+#[derive(Clone, Copy)]
+pub(crate) struct Swap {
+    pub slot: usize,
+    pub old: usize,
+    pub new: usize,
+}
+
+pub(crate) fn same_list(a: List, b: List) -> bool
+    ensures { result ≡ same_list a b }
+{
+    match (a, b) {
+        (List::Request, List::Request) => true,
+        (List::Reply, List::Reply) => true,
+        (List::Control, List::Control) => true,
+        _ => false,
+    }
+}
+
+fn turn(slots: &mut [Slot], name: usize)
+    requires { name < length slots.old }
+    ensures { slots.new ≡ turn slots.old name }
+{
+    let slot = slots[name];
+    slots[name] = Slot {
+        list: slot.list,
+        mark: Mark {
+            live: !slot.mark.live,
+            pair: slot.mark.pair,
+        },
+        first: slot.first,
+    };
+}
+
+fn turn_all(slots: &mut [Slot], names: &[usize])
+    requires { NamesWithin (length slots.old) names.now }
+    ensures { slots.new ≡ turn_all names.now slots.old }
+{
+    for name in names {
+        turn(slots, *name);
+    }
+}
+
+fn put_other(slots: &mut [Slot], swap: Option<Swap>)
+    requires { SwapWithin (length slots.old) swap }
+    ensures { slots.new ≡ swap_at swap slots.old }
+{
+    if let Some(swap) = swap {
+        let slot = slots[swap.slot];
+        let pair = if slot.mark.pair == swap.old {
+            swap.new
+        } else if slot.mark.pair == swap.new {
+            swap.old
+        } else {
+            slot.mark.pair
+        };
+        slots[swap.slot] = Slot {
+            list: slot.list,
+            mark: Mark {
+                live: slot.mark.live,
+                pair,
+            },
+            first: slot.first,
+        };
+    }
+}
+
+// From the state before a step to the one after it.
+pub(crate) fn forward(slots: &mut [Slot], names: &[usize], by: Option<Swap>)
+    requires names { NamesWithin (length slots.old) names.now }
+    requires swap { SwapWithin (length slots.old) by }
+    ensures { slots.new ≡ forward names.now by slots.old }
+{
+    turn_all(slots, names);
+    put_other(slots, by);
+}
+
+// From the state after a step to the one before it.
+pub(crate) fn backward(slots: &mut [Slot], names: &[usize], by: Option<Swap>)
+    requires names { NamesWithin (length slots.old) names.now }
+    requires swap { SwapWithin (length slots.old) by }
+    ensures { slots.new ≡ backward names.now by slots.old }
+{
+    put_other(slots, by);
+    turn_all(slots, names);
+}
+
+// The same in a vector.
+pub(crate) fn turn_slots(slots: &mut Vec<Slot>, names: &[usize], by: Option<Swap>)
+    requires names { NamesWithin (length slots.old.items) names.now }
+    requires swap { SwapWithin (length slots.old.items) by }
+    ensures { slots.new.items ≡ forward names.now by slots.old.items }
+{
+    forward(slots.as_mut_slice(), names, by);
+}
+
+fn keep_marks_of(slots: &mut [Slot])
+    ensures { slots.new ≡ map kept slots.old }
+{
+    for slot in slots.iter_mut() {
+        slot.first = slot.mark;
+    }
+}
+
+// Makes the present marks those of the first state.
+fn keep_marks(slots: &mut Vec<Slot>)
+    ensures { slots.new.items ≡ map kept slots.old.items }
+{
+    keep_marks_of(slots.as_mut_slice());
+}
+
+// Forgets the slots that show nothing, and each mark but the present ones.
+pub(crate) fn forget_dark(slots: &mut Vec<Slot>)
+    ensures { slots.new.items ≡ map kept (filter is_live slots.old.items) }
+{
+    slots.retain(|slot| slot.mark.live);
+    keep_marks(slots);
+}
