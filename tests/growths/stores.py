@@ -1,5 +1,6 @@
 """Stores with each growth of their calls refused in turn: a refusal changes nothing, and the store is used on."""
 import itertools
+from pathlib import Path
 from typing import Counter, Iterator, List, NamedTuple, Optional, Tuple
 
 from common.report import Report
@@ -76,7 +77,7 @@ def kind_of(script: List[str], at: int) -> str:
     return f"edit {words[1]}" if words[0] in NAMES else words[0]
 
 
-def runs(refusals: Refusals, command: List[str], folder, all_later: bool) -> Iterator[Tuple[int, Refused]]:
+def runs(refusals: Refusals, command: List[str], folder: Path, all_later: bool) -> Iterator[Tuple[int, Refused]]:
     """The runs with the first, the second and each later growth refused, until none is; that one too."""
     for growth in itertools.count(1):
         run = refusals.run(command, folder, growth, ALL_LATER if all_later else growth)
