@@ -1,6 +1,6 @@
 """Rows of crafted input by its size and depth: what each is, how it ends, and that it ends in time and memory."""
 from dataclasses import dataclass
-from typing import Dict, List, Optional
+from typing import Dict, Iterator, List, Optional
 
 MIB = 1 << 20
 MOST_INPUT = 16 * MIB
@@ -244,7 +244,8 @@ def line_rows() -> List[Row]:
     ]
 
 
-def rows() -> List[Row]:
-    """All of them."""
+def rows() -> Iterator[Row]:
+    """All of them, some at a time, since they are large."""
     makers = [value_rows, name_rows, depth_rows, policy_rows, input_rows, full_rows, request_rows]
-    return [row for maker in [*makers, include_rows, line_rows] for row in maker()]
+    for maker in [*makers, include_rows, line_rows]:
+        yield from maker()
