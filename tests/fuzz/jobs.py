@@ -1,4 +1,4 @@
-"""The fuzzer's jobs: each is a case by its number, made of the worked cases, the examples and generated ones by changes."""
+"""The fuzzer's jobs: the worked cases, the examples and generated cases, changed. Each has a number."""
 import functools
 import json
 from collections import Counter

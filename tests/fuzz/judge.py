@@ -32,8 +32,10 @@ def place_fault(case: Case, number: str, place: Optional[bytes]) -> Optional[str
         return None if place is not None else "no path"
     if number == "E43":
         return None if place and re.fullmatch(rb"offset \d+", place) else f"{place!r} is no offset"
-    kinds = [b"request"] * (number in OF_REQUEST) + [b"policy"] * (number in OF_POLICY) + [b"script"] * (number == "E06")
-    files = [os.fsencode(os.path.basename(name)) for name in case.files] if number in OF_FILE else kinds
+    texts = {b"request": OF_REQUEST, b"policy": OF_POLICY, b"script": {"E06"}}
+    files = [text for text, numbers in texts.items() if number in numbers]
+    if number in OF_FILE:
+        files = [os.fsencode(name) for name in case.files]
     if not files:
         return None if place is None else f"{number} has a place"
     name, _, line = (place or b"").rpartition(b":")

@@ -10,17 +10,20 @@ from fuzz import generate
 from fuzz.packets import ZEROS, digest
 
 TOKEN = re.compile(
-    rb'"(?:[^"\\\n]|\\.)*"|\'[^\'\n]*\'|0x[0-9A-Fa-f]+|[A-Za-z_][A-Za-z0-9_./:-]*|\d+(?:\.\d+)*|[ \t]+|\n|[^\sA-Za-z0-9]{1,2}'
+    rb'"(?:[^"\\\n]|\\.)*"|\'[^\'\n]*\'|0x[0-9A-Fa-f]+|[A-Za-z_][A-Za-z0-9_./:-]*'
+    rb"|\d+(?:\.\d+)*|[ \t]+|\n|[^\sA-Za-z0-9]{1,2}"
 )
-NUMBERS = [b"0", b"1", b"-1", b"127", b"128", b"255", b"256", b"65535", b"65536", b"4294967295", b"4294967296"]
-NUMBERS += [b"18446744073709551615", b"18446744073709551616", b"0x", b"0xff", b"00000000001", b"9" * 40, b"241.1", b"26.9.1"]
-SIGNS = [b"=", b":=", b"+=", b"-=", b"==", b"!*", b"^=", b"!=", b"<", b"<=", b">", b">=", b"=~", b"{", b"}", b"(", b")"]
-SIGNS += [b"!", b"&&", b"||", b"&", b",", b"#", b"%", b"%{", b'"', b"'", b"\\", b"$", b":"]
-WORDS = [b"update", b"if", b"elsif", b"else", b"transaction", b"ok", b"noop", b"updated", b"fail", b"reject", b"request"]
-WORDS += [b"reply", b"control", b"ANY", b"ATTRIBUTE", b"VALUE", b"VENDOR", b"BEGIN-VENDOR", b"END-VENDOR", b"BEGIN-TLV"]
-WORDS += [b"END-TLV", b"$INCLUDE", b"$INCLUDE-", b"format=2,1", b"has_tag", b"encrypt=1", b"string", b"octets", b"integer"]
-WORDS += [b"ipaddr", b"ether", b"signed", b"Attr-26.9.1", b"Attr-241.1", b"Attr-26", b"Attr-2", b"Attr-1000", b"Class"]
-WORDS += [b"User-Name", b"User-Password", b"NAS-Port", b"forward", b"back", b"start", b"end", b"show", b"n" * 128, b"n" * 129]
+NUMBERS = b"""0 1 -1 127 128 255 256 65535 65536 4294967295 4294967296 18446744073709551615 18446744073709551616
+0x 0xff 00000000001 9999999999999999999999999999999999999999 241.1 26.9.1""".split()
+SIGNS = b"""= := += -= == != ^= !* < <= > >= =~ { } ( ) ! && || & , # % %{ " ' \\ $ :""".split()
+WORDS = b"""update if elsif else transaction ok noop updated fail reject request reply control ANY
+ATTRIBUTE VALUE VENDOR BEGIN-VENDOR END-VENDOR BEGIN-TLV END-TLV $INCLUDE $INCLUDE- format=2,1 has_tag encrypt=1
+string octets integer ipaddr ether signed Attr-26.9.1 Attr-241.1 Attr-26 Attr-2 Attr-1000 Class User-Name
+User-Password NAS-Port forward back start end show""".split()
+WORDS += [b"n" * 128, b"n" * 129]
+OPTIONS = b"""-f --policy --script -S -i --hex --acct --authenticator --help -h -- - run step encode decode check nosuch
+. 300 255 -i=-5 00000000000000000000000000000000 \xff -x""".split()
+OPTIONS += [b""]
 KINDS: List[Sequence[bytes]] = [NUMBERS, SIGNS, WORDS]
 
 Change = Callable[[Random, bytes], bytes]
@@ -34,7 +37,8 @@ def between(rng: Random, octets: bytes) -> slice:
 
 def change_octet(rng: Random, octets: bytes) -> bytes:
     part = between(rng, octets)
-    new = bytes(rng.choice([0, 9, 10, 13, 32, 34, 35, 127, 255, rng.randrange(256)]) for _ in range(rng.choice([1, 1, 3])))
+    drawn = [0, 9, 10, 13, 32, 34, 35, 127, 255, rng.randrange(256)]
+    new = bytes(rng.choice(drawn) for _ in range(rng.choice([1, 1, 3])))
     return octets[: part.start] + new + octets[part.start + rng.randint(0, len(new)) :]
 
 
@@ -75,8 +79,8 @@ def change_lines(rng: Random, octets: bytes) -> bytes:
     return b"\n".join(lines)
 
 
-# How often lines are repeated: as often as passes limits of depth and number. A dictionary's time grows with the square
-# of its lines, and an include repeats whole files.
+# How often lines are repeated: as often as passes limits of depth and number. A dictionary's time grows with the
+# square of its lines, and an include repeats whole files.
 REPEATED = {"dictionary": [2, 9, 17]}
 REPEATED_ELSE = [2, 17, 70, 600]
 
@@ -140,7 +144,8 @@ def attributes_of(octets: bytes) -> List[bytes]:
 
 def new_attribute(rng: Random) -> bytes:
     """An attribute of a type that has a form of its own, or of any."""
-    body = bytes(rng.choice([0, 1, 2, 5, 9, 0x80, 0xFF, rng.randrange(256)]) for _ in range(rng.choice([0, 1, 2, 3, 4, 9, 16, 60])))
+    drawn = [0, 1, 2, 5, 9, 0x80, 0xFF, rng.randrange(256)]
+    body = bytes(rng.choice(drawn) for _ in range(rng.choice([0, 1, 2, 3, 4, 9, 16, 60])))
     number = rng.choice([1, 2, 26, 26, 33, 80, 241, 243, 245, 246, rng.randrange(256)])
     if number == 26 and rng.random() < 0.7:
         vendor = rng.choice([9, 60, 61])
@@ -209,10 +214,6 @@ def change_file(rng: Random, case: Case, name: str, role: str) -> Case:
     else:
         octets = change_text(rng, octets, role, names_of(case))
     return case.with_file(name, octets)
-
-
-OPTIONS = [b"-f", b"--policy", b"--script", b"-S", b"-i", b"--hex", b"--acct", b"--authenticator", b"--help", b"-h", b"--", b"-"]
-OPTIONS += [b"run", b"step", b"encode", b"decode", b"check", b"", b"nosuch", b".", b"300", b"255", b"-i=-5", b"0" * 32, b"\xff", b"-x"]
 
 
 def change_words(rng: Random, case: Case) -> Case:

@@ -1,4 +1,5 @@
 """Round trips at random: lines to a packet and to lines again, with Python's own packets beside them; and replies."""
+import re
 from pathlib import Path
 from random import Random
 from typing import List, NamedTuple, Optional
@@ -108,7 +109,8 @@ def replied_fault(place: Place, request: bytes) -> Optional[str]:
         return f"by lines {by_lines.output!r}, by packet {by_packet.output!r}"
     last = by_packet.output.split(b"\n")[-2].split(b" ")[1]
     if last == b"none":
-        return None if trip.is_accounting and (b"reject" in by_packet.output or b"fail" in by_packet.output) else "none"
+        is_refused = re.search(rb"result (?:reject|fail)", by_packet.output)
+        return None if trip.is_accounting and is_refused else f"no reply: {by_packet.output!r}"
     reply = bytes.fromhex(last.decode())
     proxies = [valued for valued in trip.pairs if valued.attribute.name == "Proxy-State"]
     is_right = (

@@ -1,4 +1,4 @@
-"""The attributes of the fuzzer's own dictionary, and values of their types: as octets and as texts that stand for them."""
+"""The attributes of the fuzzer's own dictionary, and values of them: octets, and texts that stand for them."""
 import functools
 from dataclasses import dataclass, field
 from pathlib import Path

@@ -1,4 +1,4 @@
-"""The program under a row of limits on its address space, from too little to enough, with whole sets of dictionaries."""
+"""The program with whole sets of dictionaries in an address space of too little, of more, and of enough."""
 import os
 import resource
 from dataclasses import replace

@@ -14,7 +14,7 @@ VENDOR Wide 10 format=4,0
 """
 ATTRIBUTES = "\x01\x06nemo\x19\x03a\x12\x02\x05"
 REQUEST = "User-Name = nemo, User-Password = secret, NAS-Port = 3, Test-Long = 0x01, Cisco-AVPair = x, Attr-4 = 0x01"
-NAMES = ["User-Name", "user-password", "NAS-PORT", "Cisco-AVPair", "Test-Ext", "Attr-1", "Attr-26.10.5", "Attr-241.7", "Nosuch"]
+NAMES = "User-Name user-password NAS-PORT Cisco-AVPair Test-Ext Attr-1 Attr-26.10.5 Attr-241.7 Nosuch".split()
 ANSWERS = """begin
 Counts { attributes: 18, values: 4, vendors: 2 } [Note { file: 0, line: 26 }]
 Some(Format { t: 1, l: 1 }) Some(Format { t: 4, l: 0 })

@@ -1,7 +1,9 @@
 """Stores with each growth of their calls refused in turn: a refusal changes nothing, and the store is used on."""
 import itertools
-from typing import Counter, Iterator, List, NamedTuple, Optional, Tuple
+from pathlib import Path
+from typing import Counter, Iterator, List, NamedTuple, Optional, Sequence, Tuple
 
+from common.program import Word
 from common.report import Report
 from common.subject import Subject, new_folder
 from growths.refusing import ALL_LATER, Refusals, Refused
@@ -76,7 +78,7 @@ def kind_of(script: List[str], at: int) -> str:
     return f"edit {words[1]}" if words[0] in NAMES else words[0]
 
 
-def runs(refusals: Refusals, command: List[str], folder, all_later: bool) -> Iterator[Tuple[int, Refused]]:
+def runs(refusals: Refusals, command: Sequence[Word], folder: Path, all_later: bool) -> Iterator[Tuple[int, Refused]]:
     """The runs with the first, the second and each later growth refused, until none is; that one too."""
     for growth in itertools.count(1):
         run = refusals.run(command, folder, growth, ALL_LATER if all_later else growth)

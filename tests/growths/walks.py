@@ -2,6 +2,8 @@
 from pathlib import Path
 from typing import List, NamedTuple, Optional, Set
 
+from common.cases import from_folder
+from common.program import Word
 from common.report import Report
 from common.subject import Subject, new_folder
 from growths.refusing import Refusals
@@ -10,7 +12,11 @@ from growths.walk_model import Answered, Stand, Walk, answers
 
 CASES = Path(__file__).parent.parent / "cases"
 # For each policy the lines whose step adds octets to a list, which takes memory in every store.
-ADDING = {"nested-transactions": {1, 3, 5, 10}, "walk-over-rollbacks": {1, 5, 8, 11}}
+ADDING = {
+    "nested-transactions": {1, 3, 5, 10},
+    "walk-over-rollbacks": {1, 5, 8, 11},
+    "walk-over-a-condition": {2},
+}
 SCRIPTS = {
     "to the end twice": ["end", *["back"] * 5, "end", *["back"] * 20, *["forward"] * 20],
     "step by step": [*["forward", "back", "forward", "forward", "back"] * 14, "end", "start", "forward"],
@@ -26,9 +32,10 @@ class Walked(NamedTuple):
     told: List[Answered]
 
 
-def command_of(subject: Subject, store: str, case: str, moves: List[str]) -> List[str]:
-    policy = (CASES / case / "policy").read_text()
-    return [str(subject.driver("drive_walk")), store, (CASES / "dictionary").read_text(), "", policy, *moves]
+def command_of(subject: Subject, store: str, case: str, moves: List[str]) -> List[Word]:
+    given = from_folder(CASES / case).files
+    texts = [given.get(name, b"") for name in ("dictionary", "request", "policy")]
+    return [subject.driver("drive_walk"), store, *texts, *moves]
 
 
 def trace_of(subject: Subject, store: str, case: str) -> List[Stand]:
@@ -89,7 +96,7 @@ def sweep(subject: Subject, report: Report, store: str, case: str, all_later: bo
 
 
 def check(subject: Subject, report: Report) -> None:
-    """Every store and both policies."""
+    """Every store and each policy."""
     for store in STORES:
         for case, adding in ADDING.items():
             labels = sweep(subject, report, store, case, False) | sweep(subject, report, store, case, True)

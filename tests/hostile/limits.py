@@ -1,4 +1,5 @@
-"""Runs the rows of crafted input. Each ends as it should within 2 s of a processor and 512 MiB."""
+"""Runs the rows of crafted input. Each ends as it should within 2 s of a processor and an address space of 512 MiB."""
+import resource
 from typing import List
 
 from common.documents import faults, line_of
@@ -8,7 +9,12 @@ from common.subject import Subject, new_folder
 from hostile.sizes import Row, rows
 
 SECONDS = 2.0
-KILOBYTES = 512 * 1024
+OCTETS = 512 << 20
+
+
+def limit() -> None:
+    """Want of memory past the limit, which is then a wrong end."""
+    resource.setrlimit(resource.RLIMIT_AS, (OCTETS, OCTETS))
 
 
 def wrong(subject: Subject, row: Row) -> List[str]:
@@ -16,7 +22,7 @@ def wrong(subject: Subject, row: Row) -> List[str]:
     with new_folder() as folder:
         for name, octets in row.files.items():
             (folder / name).write_bytes(octets)
-        ended = run([subject.program, *row.words.split()], folder, seconds=20)
+        ended = run([subject.program, *row.words.split()], folder, seconds=20, before=limit)
     found = []
     if row.fault:
         number, _, place = row.fault.partition(" ")
@@ -27,8 +33,6 @@ def wrong(subject: Subject, row: Row) -> List[str]:
         found.append(f"wanted {row.end[-80:]!r}, got {ended.status} {ended.errors!r} {ended.output[-80:]!r}")
     if ended.seconds > SECONDS or ended.timed_out:
         found.append(f"{ended.seconds:.1f} s")
-    if ended.kilobytes > KILOBYTES:
-        found.append(f"{ended.kilobytes >> 10} MiB")
     return found
 
 

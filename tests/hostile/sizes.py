@@ -1,6 +1,6 @@
 """Rows of crafted input by its size and depth: what each is, how it ends, and that it ends in time and memory."""
 from dataclasses import dataclass
-from typing import Dict, List, Optional
+from typing import Dict, Iterator, List, Optional
 
 MIB = 1 << 20
 MOST_INPUT = 16 * MIB
@@ -18,8 +18,13 @@ BEGIN-VENDOR Small
 ATTRIBUTE Small-Text 1 string
 END-VENDOR Small
 """
+RUN = "run -f request --policy policy dictionary"
+STEP = "step -f request --policy policy --script script dictionary"
+DECODE = "decode -f packet -S secret dictionary"
+ENCODE = f"encode -f request -S secret --authenticator {'00' * 16} dictionary"
 LISTS = b"request\n%breply\n%bcontrol\nresult %b\n"
 EMPTY = LISTS % (b"", b"", b"ok")
+FULL = LISTS % (b"", b"", b"fail stopped")
 COUNTS = b"files %d\nattributes %d\nvalues %d\nvendors %d\nnotes %d\n"
 # Why rows are off.
 SNAPSHOTS = "a run keeps a whole state for each update line: the product of lines and pairs"
@@ -40,13 +45,16 @@ class Row:
     off: Optional[str] = None
 
 
-def run_row(name: str, end: bytes = b"", fault: Optional[str] = None, off: Optional[str] = None, **files: bytes) -> Row:
+def run_row(
+    name: str, end: bytes = b"", fault: Optional[str] = None, off: Optional[str] = None, **files: bytes
+) -> Row:
     """A run of a request and a policy by the types, or by a dictionary."""
-    whole = {"request": b"", "policy": b"", "dictionary": TYPES, **files}
-    return Row(name, "run -f request --policy policy dictionary", whole, fault, end, off)
+    return Row(name, RUN, {"request": b"", "policy": b"", "dictionary": TYPES, **files}, fault, end, off)
 
 
-def check_row(name: str, end: bytes = b"", fault: Optional[str] = None, off: Optional[str] = None, **files: bytes) -> Row:
+def check_row(
+    name: str, end: bytes = b"", fault: Optional[str] = None, off: Optional[str] = None, **files: bytes
+) -> Row:
     """A check of a policy and a dictionary."""
     words = "check --policy policy dictionary" if "policy" in files else "check dictionary"
     return Row(name, words, {"dictionary": TYPES, **files}, fault, end, off)
@@ -64,13 +72,12 @@ def hexadecimal(count: int) -> bytes:
 def value_rows() -> List[Row]:
     """Values as long as they may be, and longer by one octet."""
     rows = []
-    for name, most in ("Class", 253), ("Short", 252), ("Long", 4012):
-        rows.append(pair_row(f"{most} octets of {name}", name.encode() + b" = " + hexadecimal(most)))
-        rows.append(pair_row(f"{most + 1} octets of {name}", name.encode() + b" = " + hexadecimal(most + 1), "E31 request:1"))
-    for name, most in ("User-Name", 253), ("Small-Text", 247), ("User-Password", 128):
-        rows.append(pair_row(f"{most} octets of {name}", name.encode() + b' = "' + b"a" * most + b'"'))
-        longer = name.encode() + b' = "' + b"a" * (most + 1) + b'"'
-        rows.append(pair_row(f"{most + 1} octets of {name}", longer, "E31 request:1"))
+    for name, most in (b"Class", 253), (b"Short", 252), (b"Long", 4012):
+        for count, fault in (most, None), (most + 1, "E31 request:1"):
+            rows.append(pair_row(f"{count} octets of {name.decode()}", name + b" = " + hexadecimal(count), fault))
+    for name, most in (b"User-Name", 253), (b"Small-Text", 247), (b"User-Password", 128):
+        for count, fault in (most, None), (most + 1, "E31 request:1"):
+            rows.append(pair_row(f"{count} octets of {name.decode()}", name + b' = "' + b"a" * count + b'"', fault))
     return rows
 
 
@@ -118,35 +125,36 @@ def policy_rows() -> List[Row]:
         run_row("a run of 65,535 lines", LISTS % (b"", b"", b"ok"), policy=many),
         run_row("a run of 65,535 words", LISTS % (b"", b"", b"ok"), policy=words),
         run_row("4096 pairs added to a reply", LISTS % (b"", listed, b"ok"), policy=lines % b"", off=SNAPSHOTS),
-        run_row("4097 pairs added to a reply", LISTS % (b"", b"", b"fail stopped"), policy=lines % b"Class += 2\n", off=SNAPSHOTS),
+        run_row("4097 pairs added to a reply", FULL, policy=lines % b"Class += 2\n", off=SNAPSHOTS),
         run_row("65,535 lines on 4096 pairs", LISTS % (listed, b"", b"ok"), request=pairs, policy=many, off=SNAPSHOTS),
     ]
 
 
 
+def rows_of_size(count: int, name: str, is_longer: bool) -> List[Row]:
+    """A file of so many octets in each place."""
+
+    def fault(file: str) -> Optional[str]:
+        return f"E04 {file}" if is_longer else None
+
+    blank = ((b" " * 79 + b"\n") * (count // 80 + 1))[:count]
+    packet = b"01000014" + b"00" * 16 + b" " * (count - 40)
+    none = {"request": b"", "policy": b"", "dictionary": TYPES}
+    read = {"packet": packet, "secret": b"s", "dictionary": TYPES}
+    written = {"request": b"", "secret": b"s" * count, "dictionary": TYPES}
+    return [
+        run_row(f"a request of {name}", EMPTY, fault("request"), request=blank),
+        run_row(f"a policy of {name}", EMPTY, fault("policy"), policy=blank),
+        run_row(f"a dictionary of {name}", EMPTY, fault("dictionary"), dictionary=b"#" * count),
+        Row(f"a script of {name}", STEP, {**none, "script": blank}, fault("script")),
+        Row(f"a packet of {name}", DECODE, read, fault("packet"), b"\nrequest\n"),
+        Row(f"a secret of {name}", ENCODE, written, fault("secret"), b"00" * 16 + b"\n"),
+    ]
+
+
 def input_rows() -> List[Row]:
     """Files of 16 MiB, and of one octet more, which are not read."""
-    rows = []
-    for count, word in (MOST_INPUT, "16 MiB"), (MOST_INPUT + 1, "more than 16 MiB"):
-        longer = count > MOST_INPUT
-
-        def fault(name: str) -> Optional[str]:
-            return f"E04 {name}" if longer else None
-
-        blanks = b" " * 79 + b"\n"
-        blank = (blanks * (count // 80 + 1))[:count]
-        rows.append(run_row(f"a request of {word}", EMPTY, fault("request"), request=blank))
-        rows.append(run_row(f"a policy of {word}", EMPTY, fault("policy"), policy=blank))
-        rows.append(run_row(f"a comment of {word} in a dictionary", EMPTY, fault("dictionary"), dictionary=b"#" * count))
-        walk = {"policy": b"", "request": b"", "dictionary": TYPES, "script": blank}
-        rows.append(Row(f"a script of {word}", "step -f request --policy policy --script script dictionary", walk, fault("script")))
-        packet = b"01000014" + b"00" * 16 + b" " * (count - 40)
-        decode = {"packet": packet, "secret": b"s" * 9, "dictionary": TYPES}
-        rows.append(Row(f"a packet of {word}", "decode -f packet -S secret dictionary", decode, fault("packet"), b"\nrequest\n"))
-        encode = {"request": b"", "secret": b"s" * count, "dictionary": TYPES}
-        words = f"encode -f request -S secret --authenticator {'00' * 16} dictionary"
-        rows.append(Row(f"a secret of {word}", words, encode, fault("secret"), b"00" * 16 + b"\n"))
-    return rows
+    return rows_of_size(MOST_INPUT, "16 MiB", False) + rows_of_size(MOST_INPUT + 1, "more than 16 MiB", True)
 
 
 def full_rows() -> List[Row]:
@@ -154,17 +162,16 @@ def full_rows() -> List[Row]:
     value = b'User-Name = "' + b"\\" * (MOST_INPUT - 14) + b'"'
     words = b"(" * (MOST_INPUT - 4)
     walk = {"policy": b"", "request": b"", "dictionary": TYPES}
-    step = "step -f request --policy policy --script script dictionary"
     pairs = {**walk, "request": b"Class = 0x01\n" * MOST_PAIRS}
     return [
         run_row("a request of one quoted text", fault="E31 request:1", request=value),
         run_row("a request of one name", fault="E32 request:1", request=b"n" * MOST_INPUT),
         run_row("a policy of brackets", fault="E53 policy:1", policy=b"if " + words),
         run_row("a policy of one word", fault="E51 policy:1", policy=b"n" * MOST_INPUT),
-        Row("a script of one word", step, {**walk, "script": b"n" * MOST_INPUT}, "E06 script:1"),
-        Row("a script of 3,355,443 shows", step, {**walk, "script": b"show " * (MOST_INPUT // 5)}, end=b"control\n"),
-        Row("a script of 200 shows of 4096 pairs", step, {**pairs, "script": b"show " * 200}, end=b"control\n"),
-        Row("a script of 2,000 shows of 4096 pairs", step, {**pairs, "script": b"show " * 2000}, end=b"control\n", off=REPORTS),
+        Row("a script of one word", STEP, {**walk, "script": b"n" * MOST_INPUT}, "E06 script:1"),
+        Row("a script of 3,355,443 shows", STEP, {**walk, "script": b"show " * (MOST_INPUT // 5)}, end=b"control\n"),
+        Row("a script of 200 shows of 4096 pairs", STEP, {**pairs, "script": b"show " * 200}, end=b"control\n"),
+        Row("a script of 2,000 shows", STEP, {**pairs, "script": b"show " * 2000}, end=b"control\n", off=REPORTS),
     ]
 
 
@@ -173,14 +180,13 @@ def request_rows() -> List[Row]:
     pairs = b"Class = 0x01\n" * MOST_PAIRS
     listed = b"  " + pairs.replace(b"\n", b"\n  ")[:-2]
     secret = {"dictionary": TYPES, "secret": b"s\n"}
-    encode = f"encode -f request -S secret --authenticator {'00' * 16} dictionary"
     most = b"Long = " + hexadecimal(4012)
     return [
         run_row("4096 pairs", LISTS % (listed, b"", b"ok"), request=pairs),
         run_row("4097 pairs", fault="E35 request:4097", request=pairs + b"Class = 0x01\n"),
-        Row("a packet of 4096 octets", encode, {**secret, "request": most}, end=b"61\n"),
-        Row("a packet of 4099 octets", encode, {**secret, "request": most + b"\nClass = 0x01\n"}, "E46"),
-        Row("a packet of 4096 pairs", encode, {**secret, "request": pairs}, "E46"),
+        Row("a packet of 4096 octets", ENCODE, {**secret, "request": most}, end=b"61\n"),
+        Row("a packet of 4099 octets", ENCODE, {**secret, "request": most + b"\nClass = 0x01\n"}, "E46"),
+        Row("a packet of 4096 pairs", ENCODE, {**secret, "request": pairs}, "E46"),
         packet_row("a read packet of 4096 octets", 4096, b"\n" + b"  Class = 0x\n" * 2038),
         packet_row("a read packet of 4097 octets", 4097, fault="E41"),
     ]
@@ -190,13 +196,14 @@ def packet_row(name: str, length: int, end: bytes = b"", fault: Optional[str] = 
     """A packet of so many octets of empty attributes."""
     octets = b"\x01\x00" + length.to_bytes(2, "big") + bytes(16) + (b"\x19\x02" * length)[: length - 20]
     files = {"dictionary": TYPES, "secret": b"s\n", "packet": octets.hex().encode()}
-    return Row(name, "decode -f packet -S secret dictionary", files, fault, end)
+    return Row(name, DECODE, files, fault, end)
 
 
 def include_rows() -> List[Row]:
     """Files that include each other: two, a chain as deep as it may be and deeper, and ten times the next file."""
     chain = {f"f{at}": b"$INCLUDE f%d\n" % (at + 1) for at in range(9)}
     tenfold = {f"f{at}": b"$INCLUDE f%d\n" % (at + 1) * 10 for at in range(8)}
+    named = {**tenfold, "f8": b"ATTRIBUTE A 200 integer\n" * 10}
     whole = "check " + " ".join(f"f{at}" for at in range(9))
     return [
         Row("ten lines in each of nine files", whole, {**tenfold, "f8": b"\n" * 10}, "E17 f8:8"),
@@ -205,7 +212,7 @@ def include_rows() -> List[Row]:
         Row("a tenth file that is not given", whole, chain, "E15 f8:1"),
         Row("two files that include each other", "check a b", {"a": b"$INCLUDE b\n", "b": b"$INCLUDE a\n"}, "E16 a:1"),
         Row("a file that includes itself ten times", "check a", {"a": b"$INCLUDE a\n" * 10}, "E16 a:1"),
-        Row("names in each of nine files", whole, {**tenfold, "f8": b"ATTRIBUTE A 200 integer\n" * 10}, "E17 f8:8", off=SCANS),
+        Row("ten names in each of nine files", whole, named, "E17 f8:8", off=SCANS),
     ]
 
 
@@ -237,7 +244,8 @@ def line_rows() -> List[Row]:
     ]
 
 
-def rows() -> List[Row]:
-    """All of them."""
-    makers = [value_rows, name_rows, depth_rows, policy_rows, input_rows, full_rows, request_rows, include_rows, line_rows]
-    return [row for maker in makers for row in maker()]
+def rows() -> Iterator[Row]:
+    """All of them, some at a time, since they are large."""
+    makers = [value_rows, name_rows, depth_rows, policy_rows, input_rows, full_rows, request_rows]
+    for maker in [*makers, include_rows, line_rows]:
+        yield from maker()
