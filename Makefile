@@ -1,5 +1,6 @@
 # make run        builds the program and shows the README's example
-# make test       the gate, then the examples and the tests of tests/ through the built programs
+# make test       the gate, then the examples and the documents through the built program
+# make trials     the tests of tests/ on the built programs
 # make fuzz       changed cases through the built program, for so many SECONDS
 # make documents  the documents' links and commands, the completions and the manual pages, with the built program
 # make install    puts the program, the manual pages and the completions below PREFIX
@@ -9,7 +10,7 @@ RT ?= $(shell command -v rt || echo /opt/rattle/bin/rt)
 PREFIX ?= /usr/local
 PROGRAM = crates/radpolicy_cli/out/radpolicy_cli
 
-.PHONY: run build test fuzz documents install uninstall
+.PHONY: run build test trials fuzz documents install uninstall
 
 run: build
 	@scripts/show-example $(PROGRAM) examples/access-request
@@ -19,6 +20,9 @@ build:
 
 test:
 	@RT=$(RT) scripts/test $(PROGRAM)
+
+trials:
+	@tests/run $(PROGRAM)
 
 SECONDS = 60
 

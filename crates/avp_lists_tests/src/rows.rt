@@ -221,10 +221,13 @@ pub(crate) fn goes_back_over_rollbacks<S: Store>(
 ) -> Result<(), Fail> {
     try_edit(store, Op::Append, class(alloc, 7)?)?;
     try_edit(store, Op::RemoveEqual, class(alloc, 1)?)?;
+    assert_eq!(rt; store.place(), 2);
     store.rollback(1)?;
     try_edit(store, Op::Replace, class(alloc, 8)?)?;
     try_edit(store, Op::Append, class(alloc, 6)?)?;
+    assert_eq!(rt; store.place(), 5);
     store.rollback(2)?;
+    assert_eq!(rt; store.place(), 6);
     store.rollback(4)?;
     let wanted: [&[u8]; 8] = [
         b"1a21", b"1a217", b"a27", b"1a217", b"8a", b"8a6", b"a27", b"8a",
