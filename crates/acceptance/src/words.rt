@@ -237,7 +237,7 @@ fn reads_what_a_packet_is_made_of(rt: HostRuntime) -> Result<(), Fail> {
 fn shows_help(rt: HostRuntime) -> Result<(), Fail> {
     let text = help_text(rt.alloc(), ["radpolicy", "run", "--help"].as_slice())?;
     assert!(rt;
-        text.as_str().contains("Usage: radpolicy run [OPTIONS] --policy <FILE> <DICTIONARY>...")
+        text.as_str().contains("Usage: radpolicy run [OPTIONS] --policy <POLICY> <DICTIONARY>...")
     );
     assert_eq!(rt; status(&Fault::Help), 0);
     Ok(())

@@ -1,7 +1,5 @@
 -- Two lines that give a name different things do so in either order.
-use Rattle.std.proofs.Common.{◌≡◌, ℕ, Bool, true, false, not, ◌&&◌, ◌||◌, ◌==◌, List, [], ◌∷◌, refl, ap₂, arith}
-use Rattle.std.specs.List.{All, list_any}
-use Rattle.std.proofs.lemmas.List.Elements.{All-nil, All-cons}
+use Rattle.std.proofs.Common.{◌≡◌, ℕ, true, false, not, ◌&&◌, ◌==◌, List, [], ◌∷◌, refl, ap₂, arith}
 use Rattle.avp_lists.specs.declared.attributes.AttrId.{AttrId}
 use Rattle.avp_lists.specs.declared.attributes.AttrId.TheVariants.{Plain, Vendor, Extended}
 use Rattle.avp_lists.specs.Pairs.{id_eq}
@@ -36,13 +34,3 @@ other_id_sym n m i j h = rw (same_name_sym n m, id_eq_sym i j) h
 
 pub other_value_sym : (i j : AttrId) (n m : List ℕ) (v w : ℕ) → (id_eq j i && same_name m n && not (w == v)) ≡ false → (id_eq i j && same_name n m && not (v == w)) ≡ false
 other_value_sym i j n m v w h = rw (id_eq_sym i j, same_name_sym n m, eqb_sym v w) h
-
-or_false : (b c : Bool) → (b || c) ≡ false → (b ≡ false) × (c ≡ false)
-or_false false c h = (refl, h)
-or_false true c h = absurd (cc)
-
-pub All-from_none : {X : Type 0} (test : X → Bool) (xs : List X) → list_any test xs ≡ false → All (λ x. test x ≡ false) xs
-All-from_none test [] h = All-nil (λ x. test x ≡ false)
-All-from_none test (x ∷ xs) h =
-    let parts = or_false (test x) (list_any test xs) h in
-    All-cons (λ y. test y ≡ false) x xs parts.0 (All-from_none test xs parts.1)

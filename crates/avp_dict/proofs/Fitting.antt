@@ -19,29 +19,26 @@ use Rattle.avp_lists.specs.declared.attributes.Value.{Value}
 use Rattle.avp_lists.specs.declared.attributes.Value.TheVariants as values
 use Rattle.avp_lists.specs.States.{most_pairs}
 use Rattle.avp_dict.specs.declared.entries.Named.{Named}
-use Rattle.avp_dict.specs.declared.readings.Kind.{Kind}
-use Rattle.avp_dict.specs.declared.readings.Kind.TheVariants as kinds
-use Rattle.avp_dict.specs.declared.readings.Meaning.{Meaning}
-use Rattle.avp_dict.specs.declared.readings.Meaning.TheVariants as meanings
-use Rattle.avp_dict.specs.declared.readings.Reading.{Reading}
-use Rattle.avp_dict.specs.declared.readings.Typing.{Typing}
+use Rattle.avp_dict.specs.declared.entries.Kind.{Kind}
+use Rattle.avp_dict.specs.declared.entries.Kind.TheVariants as kinds
+use Rattle.avp_dict.specs.declared.entries.Typing.{Typing}
 use Rattle.avp_dict.specs.declared.value_faults.ValueFault.TheVariants.{NotWritable, TooLong}
 use Rattle.avp_dict.specs.Attributes.{is_extended}
 use Rattle.avp_dict.specs.declared.entries.Format.{Format}
-use Rattle.avp_dict.specs.declared.readings.VendorFormat.{VendorFormat}
-use Rattle.avp_dict.specs.Definitions.{format_of, format_of_line, is_attribute_named, is_attribute_of, is_vendor_numbered, last_where}
+use Rattle.avp_dict.specs.declared.entries.AttributeLine.{AttributeLine}
+use Rattle.avp_dict.specs.declared.entries.VendorFormat.{VendorFormat}
+use Rattle.avp_dict.specs.Dictionary.{Dictionary, format_of, format_of_line, id_named, id_of_line, is_attribute_named, is_attribute_of, is_vendor_numbered, last_where, number_named, typing_of_id, typing_of_line}
 use Rattle.avp_dict.specs.Vendors.{is_format}
 use Rattle.avp_dict.specs.Letters.{begins_as_attr, is_dot}
 use Rattle.avp_dict.specs.Limits.{fits, is_known, is_typed, is_within}
-use Rattle.avp_dict.specs.Names.{Described, number_named, described, described_by, extended_numbered, id_numbered, is_vendor_specific, named, named_by, plain_numbered, unless_three, vendor_format, vendor_id_numbered}
+use Rattle.avp_dict.specs.Names.{Described, described, described_by, extended_numbered, id_numbered, is_vendor_specific, named, named_by, plain_numbered, unless_three, vendor_format, vendor_id_numbered}
 use Rattle.avp_dict.specs.Octets.{is_hideable, kind_described, kind_of, number_value, read_by, read_value, signed_value, value_of_octets, value_read}
 use Rattle.avp_dict.specs.RequestLines.{Assignment, assignments_of, joined}
 use Rattle.avp_dict.specs.Requests.{few_enough, pair_named, pair_spelled, pair_with, pairs_spelled, request_spelled}
 use Rattle.avp_dict.specs.Settled.{is_in_format}
-use Rattle.avp_dict.specs.Soundness.{IsSound, IsSoundLine}
+use Rattle.avp_dict.specs.Soundness.{IsSound, IsSoundAttribute, IsSoundVendor}
 use Rattle.avp_dict.specs.Spellings.{address_spelled, bytes_spelled, ether_spelled, is_barred, number_spelled, signed_spelled, octets_spelled, octets_value, spelled, spelled_as, spelled_by, unless_long, up_to, value_spelled}
 use Rattle.avp_dict.specs.Words.{digits, is_hexadecimal, number_of}
-use Rattle.avp_dict.specs.Values.{id_named, id_of_line, typing_of_id, typing_of_line}
 
 -- ---- what a test keeps
 
@@ -83,18 +80,14 @@ found_holds : {X : Type 0} (P : X → Type 0) (test : X → Bool) (xs : List X) 
 found_holds P test [] h = tt
 found_holds P test (x ∷ xs) h = found_by P x (find test xs) (test x) (h 0 x (omega arith)) (found_holds P test xs (λ k d lt. h (suc k) d (omega arith)))
 
-last_holds : (P : Reading → Type 0) (test : Reading → Bool) (lines : List Reading) → All P lines → IfSome (last_where test lines) P
+last_holds : {X : Type 0} (P : X → Type 0) (test : X → Bool) (lines : List X) → All P lines → IfSome (last_where test lines) P
 last_holds P test lines h =
     found_holds P test (reverse lines) (λ k d lt.
     let within : k < length lines = omega (arith, length-reverse lines) in
     rw (get_or-reverse lines k d within) (h (length lines - 1 - k) d (omega arith)))
 
 -- the formats of vendors that are read are those that there are
-module _ (d : List Reading) where
-  formatted_line : (m : Meaning) (file line : ℕ) → IsSoundLine d (record { file = file; line = line; meaning = m }) → IfSome (format_of_line (record { file = file; line = line; meaning = m })) (λ f. is_format f.t f.l ≡ true)
-  formatted_line (meanings.Vendor n v f) file line h = h
-  formatted_line _ file line h = tt
-
+module _ (d : Dictionary) where
   two_parts_of : (f : VendorFormat) → is_format f.t f.l ≡ true → IfSome (unless_three f) (λ g. is_format g.t g.l ≡ true)
   two_parts_of f h = by_third f.third
     where
@@ -106,21 +99,13 @@ module _ (d : List Reading) where
   then_two None h = tt
   then_two (Some f) h = two_parts_of f h
 
-  found_format : (o : Option Reading) → IfSome o (IsSoundLine d) → IfSome (option_and_then format_of_line o) (λ f. is_format f.t f.l ≡ true)
-  found_format None h = tt
-  found_format (Some r) h = formatted_line r.meaning r.file r.line h
-
   pub formats_known : IsSound d → (vendor : ℕ) → IfSome (vendor_format vendor d) (λ f. is_format f.t f.l ≡ true)
   unfolding vendor_format format_of
   formats_known sound vendor =
-      then_two (option_and_then format_of_line (last_where (is_vendor_numbered vendor) d))
-      (found_format (last_where (is_vendor_numbered vendor) d) (last_holds (IsSoundLine d) (is_vendor_numbered vendor) d sound))
+      then_two (option_map format_of_line (last_where (is_vendor_numbered vendor) d.vendors))
+      (mapped_holds (λ f. is_format f.t f.l ≡ true) format_of_line (last_where (is_vendor_numbered vendor) d.vendors) (last_holds IsSoundVendor (is_vendor_numbered vendor) d.vendors sound.vendors))
 
-module _ (d : List Reading) where
-  known_line : (m : Meaning) (file line : ℕ) → IsSoundLine d (record { file = file; line = line; meaning = m }) → IfSome (id_of_line (record { file = file; line = line; meaning = m })) (λ id. is_known id d ≡ true)
-  known_line (meanings.Attribute n i t) file line h = h.known
-  known_line _ file line h = tt
-
+module _ (d : Dictionary) where
   known_plain : (n : Option ℕ) → IfSome (plain_numbered n) (λ id. is_known id d ≡ true)
   unfolding is_known
   known_plain None = tt
@@ -133,50 +118,43 @@ module _ (d : List Reading) where
   known_extended (Some t) (Some n) =
       kept_by (λ id. is_known id d ≡ true) (ids.Extended t n) (is_extended 0 t n) (λ h. and_left (nat_le 241 t && nat_le t 246) (nat_le 0 n) (and_left (nat_le 241 t && nat_le t 246 && nat_le 0 n) (nat_le n 255) h))
 
-  known_vendor : (v n : Option ℕ) → IfSome (vendor_id_numbered d v n) (λ id. is_known id d ≡ true)
+  known_vendor : (v n : Option ℕ) → IfSome (vendor_id_numbered d.vendors v n) (λ id. is_known id d ≡ true)
   unfolding is_known
   known_vendor None n = tt
   known_vendor (Some v) None = tt
   known_vendor (Some v) (Some n) =
-      kept_by (λ id. is_known id d ≡ true) (ids.Vendor v n) (nat_le v 4294967295 && is_in_format v n d) (λ h. and_right (nat_le v 4294967295) (is_in_format v n d) h)
+      kept_by (λ id. is_known id d ≡ true) (ids.Vendor v n) (nat_le v 4294967295 && is_in_format v n d.vendors) (λ h. and_right (nat_le v 4294967295) (is_in_format v n d.vendors) h)
 
   none_by : (b : Bool) (o : Option AttrId) → IfSome o (λ id. is_known id d ≡ true) → IfSome (cond b o None) (λ id. is_known id d ≡ true)
   none_by true o h = h
   none_by false o h = tt
 
-  known_numbered : (parts : List (List ℕ)) → IfSome (id_numbered d parts) (λ id. is_known id d ≡ true)
+  known_numbered : (parts : List (List ℕ)) → IfSome (id_numbered d.vendors parts) (λ id. is_known id d ≡ true)
   known_numbered [] = tt
   known_numbered (n ∷ []) = known_plain (digits 10 n)
   known_numbered (t ∷ n ∷ []) = known_extended (digits 10 t) (digits 10 n)
-  known_numbered (t ∷ v ∷ n ∷ []) = none_by (is_vendor_specific (digits 10 t)) (vendor_id_numbered d (digits 10 v) (digits 10 n)) (known_vendor (digits 10 v) (digits 10 n))
+  known_numbered (t ∷ v ∷ n ∷ []) = none_by (is_vendor_specific (digits 10 t)) (vendor_id_numbered d.vendors (digits 10 v) (digits 10 n)) (known_vendor (digits 10 v) (digits 10 n))
   known_numbered (t ∷ v ∷ n ∷ m ∷ more) = tt
 
   pub known_named : IsSound d → (name : List ℕ) → IfSome (named name d) (λ n. is_known n.id d ≡ true)
   unfolding named id_named
   known_named sound name =
-      elim (begins_as_attr name) as (λ b. IfSome (cond b (option_map (named_by true) (id_numbered d (slice_split is_dot (drop 5 name)))) (option_map (named_by false) (id_named name d))) (λ n. is_known n.id d ≡ true)) [
-        | true ↦ mapped_holds (λ n. is_known n.id d ≡ true) (named_by true) (id_numbered d (slice_split is_dot (drop 5 name))) (known_numbered (slice_split is_dot (drop 5 name)))
-        | false ↦ mapped_holds (λ n. is_known n.id d ≡ true) (named_by false) (id_named name d)
-            (lines_known (last_where (is_attribute_named name) d) (last_holds (IsSoundLine d) (is_attribute_named name) d sound))
+      elim (begins_as_attr name) as (λ b. IfSome (cond b (option_map (named_by true) (id_numbered d.vendors (slice_split is_dot (drop 5 name)))) (option_map (named_by false) (id_named name d.attributes))) (λ n. is_known n.id d ≡ true)) [
+        | true ↦ mapped_holds (λ n. is_known n.id d ≡ true) (named_by true) (id_numbered d.vendors (slice_split is_dot (drop 5 name))) (known_numbered (slice_split is_dot (drop 5 name)))
+        | false ↦ mapped_holds (λ n. is_known n.id d ≡ true) (named_by false) (id_named name d.attributes)
+            (mapped_holds (λ id. is_known id d ≡ true) id_of_line (last_where (is_attribute_named name) d.attributes)
+            (weaker (IsSoundAttribute d) (λ (a : AttributeLine). is_known a.id d ≡ true) (λ a h. h.known) (last_where (is_attribute_named name) d.attributes) (last_holds (IsSoundAttribute d) (is_attribute_named name) d.attributes sound.attributes)))
       ]
-    where
-      lines_known : (o : Option Reading) → IfSome o (IsSoundLine d) → IfSome (option_and_then id_of_line o) (λ id. is_known id d ≡ true)
-      lines_known None h = tt
-      lines_known (Some r) h = known_line r.meaning r.file r.line h
 
   -- ---- values
 
-  typed_line : (r : Option Reading) → option_map kind_described (option_and_then described_by r) ≡ option_map (λ (t : Typing). t.kind) (option_and_then typing_of_line r)
+  typed_line : (o : Option AttributeLine) → option_map kind_described (option_map described_by o) ≡ option_map (λ (t : Typing). t.kind) (option_map typing_of_line o)
   typed_line None = refl
-  typed_line (Some r) = go r.meaning
-    where
-      go : (m : Meaning) → let line : Reading = record { file = r.file; line = r.line; meaning = m } in option_map kind_described (described_by line) ≡ option_map (λ (t : Typing). t.kind) (typing_of_line line)
-      go (meanings.Attribute n i t) = refl
-      go _ = refl
+  typed_line (Some a) = refl
 
-  kind_of_typing : (id : AttrId) → kind_of id d ≡ option_map (λ (t : Typing). t.kind) (typing_of_id id d)
+  kind_of_typing : (id : AttrId) → kind_of id d ≡ option_map (λ (t : Typing). t.kind) (typing_of_id id d.attributes)
   unfolding described typing_of_id
-  kind_of_typing id = typed_line (last_where (is_attribute_of id) d)
+  kind_of_typing id = typed_line (last_where (is_attribute_of id) d.attributes)
 
   pub up_to_holds : (most : ℕ) (o : Option ℕ) → IfSome (up_to most o) (λ n. nat_le n most ≡ true)
   up_to_holds most None = tt
@@ -192,10 +170,10 @@ module _ (d : List Reading) where
   typed_as kinds.Bytes by_text id text k = mapped_holds (λ v. is_typed id v d ≡ true) values.Bytes (bytes_spelled by_text text) (always (λ os. is_typed id (values.Bytes os) d ≡ true) (λ os. rw k) (bytes_spelled by_text text))
   typed_as kinds.Addr by_text id text k = mapped_holds (λ v. is_typed id v d ≡ true) values.Addr (address_spelled text) (always (λ os. is_typed id (values.Addr os) d ≡ true) (λ os. rw k) (address_spelled text))
   typed_as kinds.Ether by_text id text k = mapped_holds (λ v. is_typed id v d ≡ true) values.Ether (ether_spelled text) (always (λ os. is_typed id (values.Ether os) d ≡ true) (λ os. rw k) (ether_spelled text))
-  typed_as kinds.Byte by_text id text k = number_typed id 255 (option_or (number_of text) (number_named id text d)) (λ n h. rw (k, h))
-  typed_as kinds.Short by_text id text k = number_typed id 65535 (option_or (number_of text) (number_named id text d)) (λ n h. rw (k, h))
-  typed_as kinds.Integer by_text id text k = number_typed id 4294967295 (option_or (number_of text) (number_named id text d)) (λ n h. rw (k, h))
-  typed_as kinds.Integer64 by_text id text k = number_typed id 18446744073709551615 (option_or (number_of text) (number_named id text d)) (λ n h. rw (k, h))
+  typed_as kinds.Byte by_text id text k = number_typed id 255 (option_or (number_of text) (number_named id text d.values)) (λ n h. rw (k, h))
+  typed_as kinds.Short by_text id text k = number_typed id 65535 (option_or (number_of text) (number_named id text d.values)) (λ n h. rw (k, h))
+  typed_as kinds.Integer by_text id text k = number_typed id 4294967295 (option_or (number_of text) (number_named id text d.values)) (λ n h. rw (k, h))
+  typed_as kinds.Integer64 by_text id text k = number_typed id 18446744073709551615 (option_or (number_of text) (number_named id text d.values)) (λ n h. rw (k, h))
   typed_as kinds.Date by_text id text k = number_typed id 4294967295 (number_of text) (λ n h. rw (k, h))
   typed_as kinds.Signed by_text id text k = mapped_holds (λ v. is_typed id v d ≡ true) values.Signed (signed_spelled text) (always (λ z. is_typed id (values.Signed z) d ≡ true) (λ z. rw k) (signed_spelled text))
 
@@ -251,15 +229,15 @@ module _ (d : List Reading) where
 
   -- ---- texts
 
-  named_typed : (id : AttrId) (text : List ℕ) (typing : Option Typing) → typing_of_id id d ≡ typing → IfSome (option_and_then (spelled_by id text d) typing) (λ v. is_typed id v d ≡ true)
+  named_typed : (id : AttrId) (text : List ℕ) (typing : Option Typing) → typing_of_id id d.attributes ≡ typing → IfSome (option_and_then (spelled_by id text d) typing) (λ v. is_typed id v d ≡ true)
   named_typed id text None e = tt
   named_typed id text (Some typing) e = typed_as typing.kind typing.by_text id text (kind_of_typing id ∙ rw e)
 
   spelled_typed : (n : Named) (text : List ℕ) → IfSome (spelled n text d) (λ v. is_typed n.id v d ≡ true)
   unfolding spelled
-  spelled_typed n text = elim n.raw as (λ b. IfSome (cond b (option_map (octets_value n.id d) (octets_spelled text)) (option_and_then (spelled_by n.id text d) (typing_of_id n.id d))) (λ v. is_typed n.id v d ≡ true)) [
+  spelled_typed n text = elim n.raw as (λ b. IfSome (cond b (option_map (octets_value n.id d) (octets_spelled text)) (option_and_then (spelled_by n.id text d) (typing_of_id n.id d.attributes))) (λ v. is_typed n.id v d ≡ true)) [
     | true ↦ mapped_holds (λ v. is_typed n.id v d ≡ true) (octets_value n.id d) (octets_spelled text) (weaker IsBytes (λ os. is_typed n.id (value_of_octets n.id os d) d ≡ true) (octets_typed n.id) (octets_spelled text) (octets_are_bytes text))
-    | false ↦ named_typed n.id text (typing_of_id n.id d) refl
+    | false ↦ named_typed n.id text (typing_of_id n.id d.attributes) refl
   ]
 
   within_by : (id : AttrId) (v : Value) (b : Bool) → is_within id v d ≡ b → is_typed id v d ≡ true → IfSome (result_ok (cond b (Ok v) (Err TooLong))) (λ x. (is_typed id x d && is_within id x d) ≡ true)

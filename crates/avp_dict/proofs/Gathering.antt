@@ -1,26 +1,12 @@
 -- What gathering the lines of a file keeps true.
-use Rattle.std.proofs.Common.{◌≡◌, ℕ, zero, suc, ◌+◌, ◌-◌, ◌<◌, ◌≤◌, Bool, true, false, not, cond, List, [], ◌∷◌, Some, None, ◌++◌, length, take, drop, refl, ap, sym, ◌∙◌, arith, append_assoc, one-add, add-one}
+use Rattle.std.proofs.Common.{◌≡◌, ℕ, zero, suc, ◌+◌, ◌-◌, ◌<◌, Bool, true, false, not, cond, List, [], ◌∷◌, Some, None, ◌++◌, length, take, drop, refl, ap, sym, ◌∙◌, arith, append_assoc, one-add, add-one}
 use Rattle.std.specs.Bool.{if◌then◌else◌}
 use Rattle.std.specs.List.{before_first, after_first, onto_first, position_or_len}
-use Rattle.std.proofs.lemmas.List.{take-append-le, length-map}
 use Rattle.avp_dict.specs.declared.files.NamedFile.{NamedFile}
-use Rattle.avp_dict.specs.declared.gather.Line.{Line as CodeLine}
 use Rattle.avp_dict.specs.Lines.{Line, expanded, file_included, lines_below, lines_in, octets_at, texts_of}
-use Rattle.avp_dict.specs.code.Gathered.{is_line_end, line_views}
+use Rattle.avp_dict.specs.code.Gathered.{is_line_end}
 
--- what is left out once stays out
-pub take_take_append : {A : Type 0} (n : ℕ) (xs ys : List A) → take n (take n xs ++ ys) ≡ take n (xs ++ ys)
-take_take_append zero xs ys = refl
-take_take_append (suc n) [] ys = refl
-take_take_append (suc n) (x ∷ xs) ys = ap (λ zs. x ∷ zs) (take_take_append n xs ys)
-
-pub take_all : {A : Type 0} (n : ℕ) (xs : List A) → length xs ≤ n → take n xs ≡ xs
-take_all zero [] h = refl
-take_all zero (x ∷ xs) h = absurd (omega arith)
-take_all (suc n) [] h = refl
-take_all (suc n) (x ∷ xs) h = ap (λ zs. x ∷ zs) (take_all n xs (omega arith))
-
-append_nil : {A : Type 0} (xs : List A) → xs ++ [] ≡ xs
+pub append_nil : {A : Type 0} (xs : List A) → xs ++ [] ≡ xs
 append_nil [] = refl
 append_nil (x ∷ xs) = ap (λ zs. x ∷ zs) (append_nil xs)
 
@@ -55,30 +41,28 @@ pub first_text : (rest : List ℕ) → 0 < length rest → texts_of rest ≡ bef
 first_text [] h = absurd (omega arith)
 first_text (o ∷ os) h = texts_of_first o os
 
-pub nothing_more : {A : Type 0} (n : ℕ) (xs : List A) → length xs ≤ n → xs ≡ take n (xs ++ [])
-nothing_more n xs few = rw append_nil (sym (take_all n xs few))
-
-pub few_views : (n : ℕ) (lines : List CodeLine) → length lines ≤ n → length (line_views lines) ≤ n
-few_views n lines few = rw length-map few
-
-pub many_views : (n : ℕ) (lines : List CodeLine) → n ≤ length lines → n ≤ length (line_views lines)
-many_views n lines many = rw length-map many
-
 pub below_some : (files : List NamedFile) (levels : ℕ) (text : List ℕ) (place : ℕ) → file_included files text ≡ Some place → lines_below files (lines_in files levels) text ≡ lines_in files levels place
 below_some files levels text place e = rw e
 
 pub below_none : (files : List NamedFile) (levels : ℕ) (text : List ℕ) → file_included files text ≡ None → lines_below files (lines_in files levels) text ≡ []
 below_none files levels text e = rw e
 
-module _ (n : ℕ) (below : List ℕ → List Line) (place depth number : ℕ) (gathered all : List Line) (rest : List ℕ) (so_far : take n (gathered ++ expanded below place depth number (texts_of rest)) ≡ all) where
-  pub ends_at_end : length gathered ≤ n → length rest ≡ 0 → gathered ≡ all
-  ends_at_end few done = nothing_more n gathered few ∙ (rw (no_texts rest done) at so_far)
+-- a step of reading: what is read of a line and the lines below it, and then of those that follow
+module _ {Y : Type 0} (first : List Line → Y) (all : List Line → Y) (below : List ℕ → List Line) (place depth number : ℕ) (rest text after : List ℕ) (more_left : 0 < length rest)
+    (is_text : text ≡ before_first is_line_end rest) (is_after : after ≡ after_first is_line_end rest)
+    (so_far : (ls : List Line) → first (expanded below place depth number (texts_of rest) ++ ls) ≡ all ls) where
+  abbrev line : Line
+  line = record { file = place; number = number; depth = depth; text = text }
 
-  pub ends_full : length gathered ≤ n → n ≤ length gathered → gathered ≡ all
-  ends_full few full = sym (take_all n gathered few) ∙ sym (take-append-le n gathered _ full) ∙ so_far
+  abbrev following : List Line
+  following = expanded below place depth (number + 1) (texts_of after)
 
-  pub goes_on : 0 < length rest → (text after : List ℕ) → text ≡ before_first is_line_end rest → after ≡ after_first is_line_end rest → (now : List Line) → now ≡ take n ((gathered ++ record { file = place; number = number; depth = depth; text = text } ∷ []) ++ below text) → take n (now ++ expanded below place depth (number + 1) (texts_of after)) ≡ all
-  goes_on more text after is_text is_after now e = rw (e, take_take_append, is_text, is_after) (simp append_assoc (rw (first_text rest more) at so_far))
+  first_line : (ls : List Line) → expanded below place depth number (texts_of rest) ++ ls ≡ line ∷ (below text ++ (following ++ ls))
+  first_line ls = rw (first_text rest more_left, ← is_text, ← is_after) (ap (λ xs. line ∷ xs) (append_assoc (below text) following ls))
 
-  pub goes_on_alone : 0 < length rest → (text after : List ℕ) → text ≡ before_first is_line_end rest → after ≡ after_first is_line_end rest → (now : List Line) → now ≡ gathered ++ record { file = place; number = number; depth = depth; text = text } ∷ [] → below text ≡ [] → take n (now ++ expanded below place depth (number + 1) (texts_of after)) ≡ all
-  goes_on_alone more text after is_text is_after now e none = rw (e, is_text, is_after) (simp append_assoc (rw (first_text rest more, rw is_text at none) at so_far))
+  -- the line is the first of all that is read
+  pub begins : (ls : List Line) → first (line ∷ (below text ++ (following ++ ls))) ≡ all ls
+  begins ls = ap first (sym (first_line ls)) ∙ so_far ls
+
+  pub goes_on : (middle next : List Line → Y) → ((ls : List Line) → first (line ∷ ls) ≡ middle ls) → ((ls : List Line) → middle (below text ++ ls) ≡ next ls) → (ls : List Line) → next (following ++ ls) ≡ all ls
+  goes_on middle next one under ls = sym (under (following ++ ls)) ∙ (sym (one (below text ++ (following ++ ls))) ∙ begins ls)

@@ -3,8 +3,8 @@ use Rattle.std.proofs.Common.{◌≡◌, ℕ, zero, suc, List, [], ◌∷◌, le
 use Rattle.std.specs.Int.{from_be_bytes, w64}
 use Rattle.std.specs.Int.Digits.{number_from_digits}
 use Rattle.avp_lists.specs.declared.attributes.Value.{Value}
-use Rattle.avp_dict.specs.declared.readings.Kind.{Kind}
-use Rattle.avp_dict.specs.declared.readings.Kind.TheVariants.{Byte, Short, Integer64}
+use Rattle.avp_dict.specs.declared.entries.Kind.{Kind}
+use Rattle.avp_dict.specs.declared.entries.Kind.TheVariants.{Byte, Short, Integer64}
 use Rattle.avp_dict.specs.Octets.{ends_in_nul, number_octets, of_length}
 
 abbrev pub items : (ℕ → ℕ) → ℕ → List ℕ

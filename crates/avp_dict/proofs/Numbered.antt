@@ -3,10 +3,10 @@ use Rattle.std.proofs.Common.{◌≡◌, ℕ, ◌<◌, ◌≤◌, ◌^◌, Bool,
 use Rattle.std.specs.List.{onto_first, slice_split}
 use Rattle.std.proofs.lemmas.Grind.{common_steps}
 use Rattle.avp_dict.specs.declared.numbers.TheConstants.{MOST_NUMBER}
-use Rattle.avp_dict.specs.declared.readings.Reading.{Reading}
-use Rattle.avp_dict.specs.declared.readings.VendorFormat.{VendorFormat}
+use Rattle.avp_dict.specs.declared.entries.VendorFormat.{VendorFormat}
+use Rattle.avp_dict.specs.declared.entries.VendorLine.{VendorLine}
 use Rattle.avp_dict.specs.Attributes.{most_in}
-use Rattle.avp_dict.specs.Definitions.{format_of}
+use Rattle.avp_dict.specs.Dictionary.{format_of}
 use Rattle.avp_dict.specs.Letters.{is_dot}
 use Rattle.avp_dict.specs.Names.{id_numbered, vendor_id_numbered}
 use Rattle.avp_dict.specs.Settled.{holds, is_in_format}
@@ -18,26 +18,26 @@ past_format : (format : Option VendorFormat) (n : ℕ) → MOST_NUMBER < n → h
 past_format None n h = refl
 past_format (Some f) n h = grind (arith, common_steps, past_most f.t n h)
 
-pub past_formats : (lines : List Reading) (v n : ℕ) → MOST_NUMBER < n → is_in_format v n lines ≡ false
+pub past_formats : (vendors : List VendorLine) (v n : ℕ) → MOST_NUMBER < n → is_in_format v n vendors ≡ false
 unfolding is_in_format
-past_formats lines v n h = past_format (format_of v lines) n h
+past_formats vendors v n h = past_format (format_of v vendors) n h
 
 -- a number of 2 ^ 64 or more
-pub number_past : (lines : List Reading) (v n : ℕ) → 2 ^ 64 ≤ n → vendor_id_numbered lines (Some v) (Some n) ≡ None
-number_past lines v n h =
+pub number_past : (vendors : List VendorLine) (v n : ℕ) → 2 ^ 64 ≤ n → vendor_id_numbered vendors (Some v) (Some n) ≡ None
+number_past vendors v n h =
     let most : MOST_NUMBER < n = omega arith in
-    grind (arith, common_steps, past_formats lines v n most)
+    grind (arith, common_steps, past_formats vendors v n most)
 
-pub vendor_past : (lines : List Reading) (v : ℕ) (number : Option ℕ) → 2 ^ 64 ≤ v → vendor_id_numbered lines (Some v) number ≡ None
-vendor_past lines v None h = refl
-vendor_past lines v (Some n) h = grind (arith, common_steps)
+pub vendor_past : (vendors : List VendorLine) (v : ℕ) (number : Option ℕ) → 2 ^ 64 ≤ v → vendor_id_numbered vendors (Some v) number ≡ None
+vendor_past vendors v None h = refl
+vendor_past vendors v (Some n) h = grind (arith, common_steps)
 
 -- four parts or more
-more_by : (lines : List Reading) (t v n : List ℕ) (b : Bool) (o : ℕ) (parts : List (List ℕ)) → id_numbered lines (t ∷ (v ∷ (n ∷ cond b ([] ∷ parts) (onto_first o parts)))) ≡ None
-more_by lines t v n true o parts = refl
-more_by lines t v n false o [] = refl
-more_by lines t v n false o (part ∷ parts) = refl
+more_by : (vendors : List VendorLine) (t v n : List ℕ) (b : Bool) (o : ℕ) (parts : List (List ℕ)) → id_numbered vendors (t ∷ (v ∷ (n ∷ cond b ([] ∷ parts) (onto_first o parts)))) ≡ None
+more_by vendors t v n true o parts = refl
+more_by vendors t v n false o [] = refl
+more_by vendors t v n false o (part ∷ parts) = refl
 
-pub four_parts : (lines : List Reading) (t v n rest : List ℕ) → id_numbered lines (t ∷ (v ∷ (n ∷ slice_split is_dot rest))) ≡ None
-four_parts lines t v n [] = refl
-four_parts lines t v n (o ∷ os) = more_by lines t v n (is_dot o) o (slice_split is_dot os)
+pub four_parts : (vendors : List VendorLine) (t v n rest : List ℕ) → id_numbered vendors (t ∷ (v ∷ (n ∷ slice_split is_dot rest))) ≡ None
+four_parts vendors t v n [] = refl
+four_parts vendors t v n (o ∷ os) = more_by vendors t v n (is_dot o) o (slice_split is_dot os)

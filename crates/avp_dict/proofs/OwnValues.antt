@@ -14,9 +14,9 @@ use Rattle.avp_lists.specs.declared.attributes.Value.TheVariants.{Int, Signed, A
 use Rattle.avp_lists.specs.declared.attributes.Value.TheVariants as values
 use Rattle.avp_lists.specs.Pairs.{value_eq}
 use Rattle.avp_lists.proofs.Equality.{value_eq-same}
-use Rattle.avp_dict.specs.declared.readings.Kind.{Kind}
-use Rattle.avp_dict.specs.declared.readings.Kind.TheVariants as kinds
-use Rattle.avp_dict.specs.declared.readings.Reading.{Reading}
+use Rattle.avp_dict.specs.declared.entries.Kind.{Kind}
+use Rattle.avp_dict.specs.declared.entries.Kind.TheVariants as kinds
+use Rattle.avp_dict.specs.Dictionary.{Dictionary}
 use Rattle.avp_dict.specs.Limits.{fits, is_known, is_of_kind, is_typed, is_within}
 use Rattle.avp_dict.specs.Names.{Described, described}
 use Rattle.avp_dict.specs.Octets.{is_hidden, is_hideable, kind_of, octets, octets_of, of_length, read_by, read_value, value_of_octets, value_read}
@@ -97,10 +97,10 @@ read_sized kinds.Date os v e = kept_sized 4 (λ (xs : List ℕ). Int (number_fro
 read_sized kinds.Integer64 os v e = kept_sized 8 (λ (xs : List ℕ). Int (number_from_digits 256 xs)) os v refl (λ h. tt) e
 read_sized kinds.Signed os v e = kept_sized 4 (λ (xs : List ℕ). Signed (cast_signed w32 (number_from_digits 256 xs))) os v refl (λ h. signed_ranged (number_from_digits 256 os)) e
 
-module _ (lines : List Reading) (id : AttrId) where
-  pub read_value_sized : (os : List ℕ) (v : Value) → read_value id os lines ≡ Some v → (is_raw v ≡ false) × IsSized v
+module _ (dictionary : Dictionary) (id : AttrId) where
+  pub read_value_sized : (os : List ℕ) (v : Value) → read_value id os dictionary ≡ Some v → (is_raw v ≡ false) × IsSized v
   unfolding read_value
-  read_value_sized os v e = go (described id lines) e
+  read_value_sized os v e = go (described id dictionary) e
     where
       by : (d : Described) (b : Bool) → cond b None (value_read d.kind os) ≡ Some v → (is_raw v ≡ false) × IsSized v
       by d true h = absurd (cc)
@@ -116,7 +116,7 @@ module _ (lines : List Reading) (id : AttrId) where
   not_raw_shown (Raw os) r = absurd (cc)
   not_raw_shown _ r = refl
 
-  typed_by : (v : Value) (d : Described) → is_raw v ≡ false → described id lines ≡ Some d → is_typed id v lines ≡ true → is_of_kind v d.kind ≡ true
+  typed_by : (v : Value) (d : Described) → is_raw v ≡ false → described id dictionary ≡ Some d → is_typed id v dictionary ≡ true → is_of_kind v d.kind ≡ true
   typed_by (Raw os) d r e h = absurd (false≢true (sym r))
   typed_by (values.Text os) d r e h = rw e at h
   typed_by (values.Bytes os) d r e h = rw e at h
@@ -126,11 +126,11 @@ module _ (lines : List Reading) (id : AttrId) where
   typed_by (Ether os) d r e h = rw e at h
 
   -- a value of the type of an id that is not hidden is what its octets stand for
-  own_octets : (v : Value) (o : Option Described) → described id lines ≡ o → is_hidden id lines ≡ false → is_raw v ≡ false → IsSized v → is_typed id v lines ≡ true → value_of_octets id (octets id v lines) lines ≡ v
+  own_octets : (v : Value) (o : Option Described) → described id dictionary ≡ o → is_hidden id dictionary ≡ false → is_raw v ≡ false → IsSized v → is_typed id v dictionary ≡ true → value_of_octets id (octets id v dictionary) dictionary ≡ v
   unfolding value_of_octets read_value octets
   own_octets v None e plain raw sized t = absurd (no_kind v raw e t)
     where
-      no_kind : (x : Value) → is_raw x ≡ false → described id lines ≡ None → is_typed id x lines ≡ true → ⊥
+      no_kind : (x : Value) → is_raw x ≡ false → described id dictionary ≡ None → is_typed id x dictionary ≡ true → ⊥
       no_kind (Raw os) r f h = false≢true (sym r)
       no_kind (values.Text os) r f h = false≢true (rw f at h)
       no_kind (values.Bytes os) r f h = false≢true (rw f at h)
@@ -143,35 +143,35 @@ module _ (lines : List Reading) (id : AttrId) where
       let own = own_value d.kind v raw sized (typed_by v d raw e t) in
       rw (e, shows, own)
 
-  by_hidden : (v : Value) (b : Bool) → is_hidden id lines ≡ b → is_shown v ≡ true → (is_hidden id lines ≡ false → value_of_octets id (octets id v lines) lines ≡ v) → cond b (is_shown v) (value_eq v (value_of_octets id (octets id v lines) lines)) ≡ true
+  by_hidden : (v : Value) (b : Bool) → is_hidden id dictionary ≡ b → is_shown v ≡ true → (is_hidden id dictionary ≡ false → value_of_octets id (octets id v dictionary) dictionary ≡ v) → cond b (is_shown v) (value_eq v (value_of_octets id (octets id v dictionary) dictionary)) ≡ true
   by_hidden v true h s own = s
   by_hidden v false h s own = ap (value_eq v) (own h) ∙ value_eq-same v
 
-  canonical_by : (v : Value) → fits (record { id = id; value = v }) lines ≡ true → is_shown v ≡ true → (is_hidden id lines ≡ false → value_of_octets id (octets id v lines) lines ≡ v) → is_canonical (record { id = id; value = v }) lines ≡ true
+  canonical_by : (v : Value) → fits (record { id = id; value = v }) dictionary ≡ true → is_shown v ≡ true → (is_hidden id dictionary ≡ false → value_of_octets id (octets id v dictionary) dictionary ≡ v) → is_canonical (record { id = id; value = v }) dictionary ≡ true
   unfolding is_canonical
-  canonical_by v fit s own = let h = by_hidden v (is_hidden id lines) refl s own in rw (fit, h)
+  canonical_by v fit s own = let h = by_hidden v (is_hidden id dictionary) refl s own in rw (fit, h)
 
-  typed_of : (v : Value) → fits (record { id = id; value = v }) lines ≡ true → is_typed id v lines ≡ true
+  typed_of : (v : Value) → fits (record { id = id; value = v }) dictionary ≡ true → is_typed id v dictionary ≡ true
   unfolding fits
   typed_of v h =
-      let a = and_parts (is_known id lines && is_typed id v lines) (is_within id v lines) h in
-      (and_parts (is_known id lines) (is_typed id v lines) a.0).1
+      let a = and_parts (is_known id dictionary && is_typed id v dictionary) (is_within id v dictionary) h in
+      (and_parts (is_known id dictionary) (is_typed id v dictionary) a.0).1
 
   -- a value of the id's type
-  pub typed_canonical : (v : Value) → is_raw v ≡ false → IsSized v → fits (record { id = id; value = v }) lines ≡ true → is_canonical (record { id = id; value = v }) lines ≡ true
+  pub typed_canonical : (v : Value) → is_raw v ≡ false → IsSized v → fits (record { id = id; value = v }) dictionary ≡ true → is_canonical (record { id = id; value = v }) dictionary ≡ true
   typed_canonical v raw sized fit =
-      canonical_by v fit (not_raw_shown v raw) (λ plain. own_octets v (described id lines) refl plain raw sized (typed_of v fit))
+      canonical_by v fit (not_raw_shown v raw) (λ plain. own_octets v (described id dictionary) refl plain raw sized (typed_of v fit))
 
   -- raw octets of an id without a type
-  pub raw_canonical : (os : List ℕ) → kind_of id lines ≡ None → fits (record { id = id; value = Raw os }) lines ≡ true → is_canonical (record { id = id; value = Raw os }) lines ≡ true
+  pub raw_canonical : (os : List ℕ) → kind_of id dictionary ≡ None → fits (record { id = id; value = Raw os }) dictionary ≡ true → is_canonical (record { id = id; value = Raw os }) dictionary ≡ true
   unfolding octets value_of_octets read_value is_canonical
-  raw_canonical os none fit = go (described id lines) refl none
+  raw_canonical os none fit = go (described id dictionary) refl none
     where
-      go : (o : Option Described) → described id lines ≡ o → kind_of id lines ≡ None → is_canonical (record { id = id; value = Raw os }) lines ≡ true
+      go : (o : Option Described) → described id dictionary ≡ o → kind_of id dictionary ≡ None → is_canonical (record { id = id; value = Raw os }) dictionary ≡ true
       go None e k = rw (fit, e) (value_eq-same (Raw os))
       go (Some d) e k = absurd (let some : Some d.kind ≡ None = rw e at k in cc)
 
   -- raw octets that a type does not read
-  pub unread_canonical : (os : List ℕ) → is_hidden id lines ≡ false → value_of_octets id os lines ≡ Raw os → fits (record { id = id; value = Raw os }) lines ≡ true → is_canonical (record { id = id; value = Raw os }) lines ≡ true
+  pub unread_canonical : (os : List ℕ) → is_hidden id dictionary ≡ false → value_of_octets id os dictionary ≡ Raw os → fits (record { id = id; value = Raw os }) dictionary ≡ true → is_canonical (record { id = id; value = Raw os }) dictionary ≡ true
   unfolding octets is_canonical
   unread_canonical os plain unread fit = rw (fit, plain, unread) (value_eq-same (Raw os))

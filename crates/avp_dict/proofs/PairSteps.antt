@@ -9,7 +9,7 @@ use Rattle.avp_lists.specs.States.{most_pairs}
 use Rattle.avp_dict.specs.declared.entries.Named.{Named}
 use Rattle.avp_dict.specs.declared.line_faults.LineKind.{LineKind}
 use Rattle.avp_dict.specs.declared.line_faults.LineKind.TheVariants as kinds
-use Rattle.avp_dict.specs.declared.readings.Reading.{Reading}
+use Rattle.avp_dict.specs.Dictionary.{Dictionary}
 use Rattle.avp_dict.specs.declared.request_tokens.Side.TheVariants.{Name, Value}
 use Rattle.avp_dict.specs.declared.request_tokens.Token.{Token as CodeToken}
 use Rattle.avp_dict.specs.declared.request_tokens.Token.TheVariants as code
@@ -36,13 +36,13 @@ joined_assoc (Some xs) None z = refl
 joined_assoc (Some xs) (Some ys) None = refl
 joined_assoc (Some xs) (Some ys) (Some zs) = ap Some (append_assoc xs ys zs)
 
-spelled_append : (d : List Reading) (as_ bs : List Assignment) → pairs_spelled d (as_ ++ bs) ≡ joined (pairs_spelled d as_) (pairs_spelled d bs)
+spelled_append : (d : Dictionary) (as_ bs : List Assignment) → pairs_spelled d (as_ ++ bs) ≡ joined (pairs_spelled d as_) (pairs_spelled d bs)
 unfolding pairs_spelled
 spelled_append d [] bs = sym (joined_nil (pairs_spelled d bs))
 spelled_append d (a ∷ as_) bs =
     ap (joined (option_map (λ pair. pair ∷ []) (pair_spelled d a))) (spelled_append d as_ bs) ∙ sym (joined_assoc (option_map (λ pair. pair ∷ []) (pair_spelled d a)) (pairs_spelled d as_) (pairs_spelled d bs))
 
-spelled_joined : (d : List Reading) (x y : Option (List Assignment)) → option_and_then (pairs_spelled d) (joined x y) ≡ joined (option_and_then (pairs_spelled d) x) (option_and_then (pairs_spelled d) y)
+spelled_joined : (d : Dictionary) (x y : Option (List Assignment)) → option_and_then (pairs_spelled d) (joined x y) ≡ joined (option_and_then (pairs_spelled d) x) (option_and_then (pairs_spelled d) y)
 spelled_joined d None y = refl
 spelled_joined d (Some as_) None = sym (joined_none (pairs_spelled d as_))
 spelled_joined d (Some as_) (Some bs) = spelled_append d as_ bs
@@ -65,7 +65,7 @@ pair_then name value (Quoted mark os ∷ tokens) = sym (joined_none (option_map 
 pair_then name value (Unended ∷ tokens) = sym (joined_none (option_map (assigned name) (value_text value)))
 
 -- the pair that a name with a text spells
-one_spelled : (d : List Reading) (name : List ℕ) (text : Option (List ℕ)) (name_is : Option Named) → named name d ≡ name_is → option_and_then (pairs_spelled d) (option_map (assigned name) text) ≡ option_map (λ pair. pair ∷ []) (option_and_then (λ os. option_and_then (pair_named d os) name_is) text)
+one_spelled : (d : Dictionary) (name : List ℕ) (text : Option (List ℕ)) (name_is : Option Named) → named name d ≡ name_is → option_and_then (pairs_spelled d) (option_map (assigned name) text) ≡ option_map (λ pair. pair ∷ []) (option_and_then (λ os. option_and_then (pair_named d os) name_is) text)
 unfolding pairs_spelled pair_spelled
 one_spelled d name None name_is e = refl
 one_spelled d name (Some text) name_is e = rw e (go (option_and_then (pair_named d text) name_is))
@@ -74,7 +74,7 @@ one_spelled d name (Some text) name_is e = rw e (go (option_and_then (pair_named
     go None = refl
     go (Some pair) = refl
 
-pairs_then : (d : List Reading) (name : List ℕ) (value : Token) (tokens : List Token) (name_is : Option Named) → named name d ≡ name_is → pairs_at d (Run name ∷ Sign ∷ value ∷ tokens) ≡ joined (option_map (λ pair. pair ∷ []) (option_and_then (λ os. option_and_then (pair_named d os) name_is) (value_text value))) (pairs_after d tokens)
+pairs_then : (d : Dictionary) (name : List ℕ) (value : Token) (tokens : List Token) (name_is : Option Named) → named name d ≡ name_is → pairs_at d (Run name ∷ Sign ∷ value ∷ tokens) ≡ joined (option_map (λ pair. pair ∷ []) (option_and_then (λ os. option_and_then (pair_named d os) name_is) (value_text value))) (pairs_after d tokens)
 unfolding pairs_at pairs_after
 pairs_then d name value tokens name_is e =
     ap (option_and_then (pairs_spelled d)) (pair_then name value tokens)
@@ -84,14 +84,14 @@ pairs_then d name value tokens name_is e =
 -- ---- reading a pair
 
 -- after the token of a value the side is that of values
-side_of_value : (d : List Reading) (n : Named) (value : CodeToken) (pair : Pair) → pair_of_token d n (token_view value) ≡ Some pair → side_after Value value ≡ Value
+side_of_value : (d : Dictionary) (n : Named) (value : CodeToken) (pair : Pair) → pair_of_token d n (token_view value) ≡ Some pair → side_after Value value ≡ Value
 side_of_value d n code.Comma pair h = cc
 side_of_value d n code.Sign pair h = refl
 side_of_value d n (code.Run os) pair h = refl
 side_of_value d n (code.Quoted mark os) pair h = refl
 side_of_value d n code.Unended pair h = refl
 
-module _ (d : List Reading) (name : List ℕ) (n : Named) (known : named name d ≡ Some n) (value : CodeToken) (rest : List ℕ) where
+module _ (d : Dictionary) (name : List ℕ) (n : Named) (known : named name d ≡ Some n) (value : CodeToken) (rest : List ℕ) where
   pub pair_read : (pair : Pair) → pair_of_token d n (token_view value) ≡ Some pair → pairs_at d (Run name ∷ Sign ∷ token_view value ∷ tokens_at (side_after Value value) rest) ≡ after_pairs (pair ∷ []) (pairs_after d (tokens_at Value rest))
   unfolding after_pairs
   pair_read pair h =
@@ -125,7 +125,7 @@ refuses_all kinds.TooMany part h other = h
 refuses_all kinds.Unreadable part h other = h
 
 -- an unknown name
-pub unknown_refused : (d : List Reading) (name : List ℕ) (tokens : List Token) → named name d ≡ None → pairs_at d (Run name ∷ tokens) ≡ None
+pub unknown_refused : (d : Dictionary) (name : List ℕ) (tokens : List Token) → named name d ≡ None → pairs_at d (Run name ∷ tokens) ≡ None
 unfolding pairs_at pairs_of
 unknown_refused d name [] h = refl
 unknown_refused d name (Sign ∷ []) h = refl
@@ -153,19 +153,19 @@ some_left test [] y ys h = cc
 some_left test (x ∷ xs) y ys h =
     elim (test x) as (λ b. cond b (without_front test xs) (x ∷ xs) ≡ y ∷ ys → (b && list_all test xs) ≡ false) [ true ↦ some_left test xs y ys | false ↦ λ e. refl ] h
 
-pub packet_line : (d : List Reading) (line : List ℕ) (lines : List (List ℕ)) → is_blank_line line ≡ false → packet_pairs d (line ∷ lines) ≡ joined (pairs_at d (tokens_at Name line)) (packet_pairs d lines)
+pub packet_line : (d : Dictionary) (line : List ℕ) (lines : List (List ℕ)) → is_blank_line line ≡ false → packet_pairs d (line ∷ lines) ≡ joined (pairs_at d (tokens_at Name line)) (packet_pairs d lines)
 unfolding packet_pairs packet_assignments pairs_at
 packet_line d line lines filled = rw filled (spelled_joined d (pairs_of (tokens_at Name line)) (packet_assignments lines))
 
-pub packet_ends : (d : List Reading) (line : List ℕ) (lines : List (List ℕ)) → is_blank_line line ≡ true → list_all is_idle_line lines ≡ true → packet_pairs d (line ∷ lines) ≡ Some []
+pub packet_ends : (d : Dictionary) (line : List ℕ) (lines : List (List ℕ)) → is_blank_line line ≡ true → list_all is_idle_line lines ≡ true → packet_pairs d (line ∷ lines) ≡ Some []
 unfolding packet_pairs packet_assignments pairs_spelled
 packet_ends d line lines blank rest = rw (blank, rest)
 
-pub packet_goes_on : (d : List Reading) (line : List ℕ) (lines : List (List ℕ)) → is_blank_line line ≡ true → list_all is_idle_line lines ≡ false → packet_pairs d (line ∷ lines) ≡ None
+pub packet_goes_on : (d : Dictionary) (line : List ℕ) (lines : List (List ℕ)) → is_blank_line line ≡ true → list_all is_idle_line lines ≡ false → packet_pairs d (line ∷ lines) ≡ None
 unfolding packet_pairs packet_assignments
 packet_goes_on d line lines blank rest = rw (blank, rest)
 
-pub packet_none : (d : List Reading) → packet_pairs d [] ≡ Some []
+pub packet_none : (d : Dictionary) → packet_pairs d [] ≡ Some []
 unfolding packet_pairs packet_assignments pairs_spelled
 packet_none d = refl
 
@@ -208,24 +208,24 @@ many_refused before pairs whole here (Some ps) pair same one full = λ more. rw 
 -- ---- lines
 
 -- one pair more has been read, and what follows its comma is left
-pub pair_more : (d : List Reading) (before pairs new : List Pair) (whole : Option (List Pair)) (here after next : List Token) (pair : Pair) → after_pairs pairs (pairs_at d here) ≡ after_pairs before whole → pairs_at d here ≡ after_pairs (pair ∷ []) (pairs_after d after) → assigned_after after ≡ pairs_of next → new ≡ pairs ++ pair ∷ [] → after_pairs new (pairs_at d next) ≡ after_pairs before whole
+pub pair_more : (d : Dictionary) (before pairs new : List Pair) (whole : Option (List Pair)) (here after next : List Token) (pair : Pair) → after_pairs pairs (pairs_at d here) ≡ after_pairs before whole → pairs_at d here ≡ after_pairs (pair ∷ []) (pairs_after d after) → assigned_after after ≡ pairs_of next → new ≡ pairs ++ pair ∷ [] → after_pairs new (pairs_at d next) ≡ after_pairs before whole
 unfolding pairs_at pairs_after
 pair_more d before pairs new whole here after next pair same one follows is =
     rw (is, ← follows, ← after_more pairs pair (option_and_then (pairs_spelled d) (assigned_after after)), ← one) same
 
 -- what follows a pair is none
-pub rest_refused : (d : List Reading) (here after : List Token) (pair : Pair) → pairs_at d here ≡ after_pairs (pair ∷ []) (pairs_after d after) → assigned_after after ≡ None → pairs_at d here ≡ None
+pub rest_refused : (d : Dictionary) (here after : List Token) (pair : Pair) → pairs_at d here ≡ after_pairs (pair ∷ []) (pairs_after d after) → assigned_after after ≡ None → pairs_at d here ≡ None
 unfolding pairs_after
 rest_refused d here after pair one none = one ∙ after_none (pair ∷ []) (option_and_then (pairs_spelled d) (assigned_after after)) (rw none)
 
 -- a line is at its end
-pub line_ends : (d : List Reading) (pairs : List Pair) (here : List Token) (whole : Option (List Pair)) → after_pairs pairs (pairs_at d here) ≡ whole → here ≡ [] → whole ≡ Some pairs
+pub line_ends : (d : Dictionary) (pairs : List Pair) (here : List Token) (whole : Option (List Pair)) → after_pairs pairs (pairs_at d here) ≡ whole → here ≡ [] → whole ≡ Some pairs
 unfolding pairs_at pairs_of pairs_spelled after_pairs
 line_ends d pairs here whole same end = sym same ∙ rw (end, append-nil)
 
 -- ---- requests
 
-module _ (text : List ℕ) (d : List Reading) (pairs : List Pair) (lines : List (List ℕ)) (read : after_pairs pairs (packet_pairs d lines) ≡ packet_pairs d (without_front is_idle_line (texts_of text))) where
+module _ (text : List ℕ) (d : Dictionary) (pairs : List Pair) (lines : List (List ℕ)) (read : after_pairs pairs (packet_pairs d lines) ≡ packet_pairs d (without_front is_idle_line (texts_of text))) where
   -- the packet has ended
   pub request_ends : packet_pairs d lines ≡ Some [] → length pairs ≤ most_pairs → request_spelled text d ≡ Some pairs
   unfolding request_spelled assignments_of packet_pairs
@@ -237,13 +237,13 @@ module _ (text : List ℕ) (d : List Reading) (pairs : List Pair) (lines : List 
   request_fails end = rw (← read, after_none pairs (packet_pairs d lines) end)
 
 -- a line is refused
-pub request_refused : (text : List ℕ) (d : List Reading) (pairs : List Pair) (line : List ℕ) (lines : List (List ℕ)) → after_pairs pairs (packet_pairs d (line ∷ lines)) ≡ packet_pairs d (without_front is_idle_line (texts_of text)) → is_blank_line line ≡ false → IsRefused pairs (pairs_at d (tokens_at Name line)) → request_spelled text d ≡ None
+pub request_refused : (text : List ℕ) (d : Dictionary) (pairs : List Pair) (line : List ℕ) (lines : List (List ℕ)) → after_pairs pairs (packet_pairs d (line ∷ lines)) ≡ packet_pairs d (without_front is_idle_line (texts_of text)) → is_blank_line line ≡ false → IsRefused pairs (pairs_at d (tokens_at Name line)) → request_spelled text d ≡ None
 unfolding request_spelled assignments_of packet_pairs IsRefused after_pairs
 request_refused text d pairs line lines read filled h =
     rw (← read, packet_line d line lines filled, ← joined_assoc (Some pairs) (pairs_at d (tokens_at Name line)) (packet_pairs d lines)) (h (packet_pairs d lines))
 
 -- a line has been read
-pub line_read : (d : List Reading) (pairs new : List Pair) (line : List ℕ) (lines : List (List ℕ)) → is_blank_line line ≡ false → after_pairs pairs (pairs_at d (tokens_at Name line)) ≡ Some new → after_pairs pairs (packet_pairs d (line ∷ lines)) ≡ after_pairs new (packet_pairs d lines)
+pub line_read : (d : Dictionary) (pairs new : List Pair) (line : List ℕ) (lines : List (List ℕ)) → is_blank_line line ≡ false → after_pairs pairs (pairs_at d (tokens_at Name line)) ≡ Some new → after_pairs pairs (packet_pairs d (line ∷ lines)) ≡ after_pairs new (packet_pairs d lines)
 unfolding after_pairs
 line_read d pairs new line lines filled e = rw (packet_line d line lines filled, ← joined_assoc (Some pairs) (pairs_at d (tokens_at Name line)) (packet_pairs d lines), e)
 

@@ -1,27 +1,25 @@
 -- Each line, note and fault lies in a file of the set.
-use Rattle.std.proofs.Common.{◌≡◌, ℕ, zero, suc, Bool, true, false, ◌+◌, ◌-◌, ◌<◌, List, [], ◌∷◌, ◌++◌, Option, Some, None, Result, Ok, Err, refl, subst, length, take, filter}
+use Rattle.std.proofs.Common.{◌≡◌, ℕ, zero, suc, Bool, true, false, ◌+◌, ◌-◌, ◌<◌, List, [], ◌∷◌, ◌++◌, Option, Some, None, Result, Ok, Err, refl, subst, length, if◌then◌else◌}
 use Rattle.std.specs.Prelude.{slice_get, All}
 use Rattle.std.specs.List.{fold}
 use Rattle.std.specs.Option.{option_and_then, option_map_or}
-use Rattle.std.proofs.lemmas.List.Elements.{All-nil, All-cons, All-head, All-tail, All-append, All-push, All-take, All-map, All-filter}
-use Rattle.avp_dict.specs.declared.files.NamedFile.{NamedFile}
-use Rattle.avp_dict.specs.declared.readings.Reading.{Reading}
-use Rattle.avp_dict.specs.declared.readings.Meaning.{Meaning}
-use Rattle.avp_dict.specs.declared.readings.Meaning.TheVariants.{Nothing, Skipped, SkippedAttribute, Vendor, Attribute, Unresolved, Value, BeginVendor, BeginTlv, End}
+use Rattle.std.proofs.lemmas.List.Elements.{All-nil, All-cons, All-head, All-tail, All-append, All-push, All-take}
 use Rattle.avp_dict.specs.declared.entries.Note.{Note}
+use Rattle.avp_dict.specs.declared.entries.ValueLine.{ValueLine}
 use Rattle.avp_dict.specs.declared.faults.DictFault.{DictFault}
 use Rattle.avp_dict.specs.declared.faults.DictKind.{DictKind}
+use Rattle.avp_dict.specs.declared.files.NamedFile.{NamedFile}
 use Rattle.avp_dict.proofs.Cuts.{found_within}
-use Rattle.avp_dict.specs.Attributes.{attribute}
-use Rattle.avp_dict.specs.Blocks.{after_line, innermost, open_blocks}
-use Rattle.avp_dict.specs.Counts.{is_noted_line, note_of, notes_of}
-use Rattle.avp_dict.specs.Dictionary.{dictionary_of, unless_open, unless_past}
+use Rattle.avp_dict.specs.Blocks.{innermost}
+use Rattle.avp_dict.specs.Dictionary.{Dictionary, id_named}
+use Rattle.avp_dict.specs.DictionaryReading.{dictionary_of, outline_of, settled, unless_open}
 use Rattle.avp_dict.specs.Lines.{Line, expanded, file_included, file_named, has_name, included_by, lines_below, lines_in, lines_of, octets_at, texts_of}
+use Rattle.avp_dict.specs.Meanings.{Meaning, Nothing, Skipped, SkippedAttribute, Vendor, Attribute, Value, BeginVendor, BeginTlv, End, Reading, Context, after_line, context_of, no_context}
 use Rattle.avp_dict.specs.Outcomes.{If, Refuses, is_memory, want_of_memory}
-use Rattle.avp_dict.specs.Readings.{read_line, read_lines}
-use Rattle.avp_dict.specs.Settled.{settled, settled_line}
+use Rattle.avp_dict.specs.Readings.{read_line, read_lines, within}
+use Rattle.avp_dict.specs.Settled.{skipped_names}
 use Rattle.avp_dict.specs.Steps.{refused_at, ◌>>=◌}
-use Rattle.avp_dict.specs.Values.{resolve, resolved_meaning}
+use Rattle.avp_dict.specs.Values.{is_noted, note_of, resolve, value_of, with_line, with_note, with_value}
 use Rattle.avp_dict.specs.Words.{words_of}
 
 abbrev pub IsLineIn : ℕ → Line → Type 0
@@ -33,6 +31,13 @@ IsIn n r = r.file < n
 abbrev pub AreIn : ℕ → Result (List Reading) DictFault → Type 0
 AreIn n (Ok readings) = All (IsIn n) readings
 AreIn n (Err fault) = fault.file < n
+
+abbrev pub IsNoteIn : ℕ → Note → Type 0
+IsNoteIn n note = note.file < n
+
+abbrev pub IsDictionaryIn : ℕ → Result Dictionary DictFault → Type 0
+IsDictionaryIn n (Ok dictionary) = All (IsNoteIn n) dictionary.notes
+IsDictionaryIn n (Err fault) = fault.file < n
 
 -- ---- the lines of a file set
 
@@ -69,85 +74,96 @@ module _ (n : ℕ) where
       subst P same (All-head P y ys all)
   get_in P (y ∷ ys) (suc i) x all e = get_in P ys i x (All-tail P y ys all) e
 
-  then_in : (r : Result (List Reading) DictFault) (f : List Reading → Result (List Reading) DictFault) → AreIn n r → ((readings : List Reading) → All (IsIn n) readings → AreIn n (f readings)) → AreIn n (r >>= f)
-  then_in (Ok readings) f h next = next readings h
-  then_in (Err fault) f h next = h
-
   step_in : (file line : ℕ) (r : Result Meaning DictKind) (f : Meaning → Result (List Reading) DictFault) → file < n → ((meaning : Meaning) → AreIn n (f meaning)) → AreIn n (refused_at file line r >>= f)
   step_in file line (Ok meaning) f lt next = next meaning
   step_in file line (Err kind) f lt next = lt
 
-  read_lines_in : (files : List NamedFile) (before : List Reading) (lines : List Line) → All (IsIn n) before → All (IsLineIn n) lines → AreIn n (read_lines files before lines)
+  read_lines_in : (limit : ℕ) (files : List NamedFile) (before : List Reading) (lines : List Line) → All (IsIn n) before → All (IsLineIn n) lines → AreIn n (read_lines limit files before lines)
   unfolding read_lines
-  read_lines_in files before [] were are = were
-  read_lines_in files before (line ∷ lines) were are =
-      step_in line.file line.number (read_line files before line) _ (All-head (IsLineIn n) line lines are) (λ meaning.
+  read_lines_in limit files before [] were are = were
+  read_lines_in limit files before (line ∷ lines) were are =
+      step_in line.file line.number (within limit before (read_line files (context_of before) line)) _ (All-head (IsLineIn n) line lines are) (λ meaning.
       let r : Reading = record { file = line.file; line = line.number; meaning = meaning } in
-      read_lines_in files (before ++ r ∷ []) lines (All-push (IsIn n) before r were (All-head (IsLineIn n) line lines are)) (All-tail (IsLineIn n) line lines are))
+      read_lines_in limit files (before ++ r ∷ []) lines (All-push (IsIn n) before r were (All-head (IsLineIn n) line lines are)) (All-tail (IsLineIn n) line lines are))
 
-  resolve_in : (all before rest : List Reading) → All (IsIn n) before → All (IsIn n) rest → AreIn n (resolve all before rest)
-  unfolding resolve
-  resolve_in all before [] were are = were
-  resolve_in all before (r ∷ rs) were are =
-      step_in r.file r.line (resolved_meaning all before r.meaning) _ (All-head (IsIn n) r rs are) (λ meaning.
-      let now : Reading = record { file = r.file; line = r.line; meaning = meaning } in
-      resolve_in all (before ++ now ∷ []) rs (All-push (IsIn n) before now were (All-head (IsIn n) r rs are)) (All-tail (IsIn n) r rs are))
+  after_line_in : (context : Context) (file line : ℕ) (m : Meaning) → All (IsIn n) context.opened → file < n → All (IsIn n) (after_line context (record { file = file; line = line; meaning = m })).opened
+  after_line_in context file line (BeginVendor name v) are is = All-push (IsIn n) context.opened (record { file = file; line = line; meaning = BeginVendor name v }) are is
+  after_line_in context file line (BeginTlv name) are is = All-push (IsIn n) context.opened (record { file = file; line = line; meaning = BeginTlv name }) are is
+  after_line_in context file line (End noted) are is = All-take (IsIn n) (length context.opened - 1) context.opened are
+  after_line_in context file line _ are is = are
 
-  settled_in : (readings : List Reading) → All (IsIn n) readings → All (IsIn n) (settled readings)
-  unfolding settled
-  settled_in readings are = All-map (IsIn n) (settled_line readings) readings are
+  fold_in : (context : Context) (readings : List Reading) → All (IsIn n) context.opened → All (IsIn n) readings → All (IsIn n) (fold after_line context readings).opened
+  fold_in context [] were are = were
+  fold_in context (r ∷ rs) were are = fold_in (after_line context r) rs (after_line_in context r.file r.line r.meaning were (All-head (IsIn n) r rs are)) (All-tail (IsIn n) r rs are)
 
-  after_line_in : (opened : List Reading) (r : Reading) → All (IsIn n) opened → IsIn n r → All (IsIn n) (after_line opened r)
-  after_line_in opened r are is = elim r.meaning as (λ m. All (IsIn n) (elim m [ BeginVendor name v ↦ opened ++ r ∷ [] | BeginTlv name ↦ opened ++ r ∷ [] | End noted ↦ take (length opened - 1) opened | _ ↦ opened ])) [
-    | Nothing ↦ are
-    | Skipped ↦ are
-    | SkippedAttribute name ↦ are
-    | Vendor name v f ↦ are
-    | Attribute name i t ↦ are
-    | Unresolved attribute name v ↦ are
-    | Value i name v ↦ are
-    | BeginVendor name v ↦ All-push (IsIn n) opened r are is
-    | BeginTlv name ↦ All-push (IsIn n) opened r are is
-    | End noted ↦ All-take (IsIn n) (length opened - 1) opened are
-  ]
-
-  open_in : (opened readings : List Reading) → All (IsIn n) opened → All (IsIn n) readings → All (IsIn n) (fold after_line opened readings)
-  open_in opened [] were are = were
-  open_in opened (r ∷ rs) were are = open_in (after_line opened r) rs (after_line_in opened r were (All-head (IsIn n) r rs are)) (All-tail (IsIn n) r rs are)
-
-  open_blocks_in : (readings : List Reading) → All (IsIn n) readings → All (IsIn n) (open_blocks readings)
-  unfolding open_blocks
-  open_blocks_in readings are = open_in [] readings (All-nil (IsIn n)) are
-
-  unless_past_in : (line : Option Line) (readings : List Reading) → ((l : Line) → line ≡ Some l → IsLineIn n l) → All (IsIn n) readings → AreIn n (unless_past line readings)
-  unless_past_in None readings is are = are
-  unless_past_in (Some line) readings is are = is line refl
+  opened_in : (readings : List Reading) → All (IsIn n) readings → All (IsIn n) (context_of readings).opened
+  unfolding context_of
+  opened_in readings are = fold_in no_context readings (All-nil (IsIn n)) are
 
   unless_open_in : (opened : Option Reading) (readings : List Reading) → ((r : Reading) → opened ≡ Some r → IsIn n r) → All (IsIn n) readings → AreIn n (unless_open opened readings)
   unless_open_in None readings is are = are
   unless_open_in (Some r) readings is are = is r refl
 
-pub dictionary_in : (limit : ℕ) (files : List NamedFile) → 0 < length files → AreIn (length files) (dictionary_of limit files)
+  -- ---- what the lines add
+
+  note_in : (dictionary : Dictionary) (r : Reading) → All (IsNoteIn n) dictionary.notes → IsIn n r → All (IsNoteIn n) (with_note dictionary r).notes
+  note_in dictionary r were is = All-push (IsNoteIn n) dictionary.notes (note_of r) were is
+
+  noted_if : (b : Bool) (dictionary : Dictionary) (r : Reading) → All (IsNoteIn n) dictionary.notes → IsIn n r → IsDictionaryIn n (Ok (if b then with_note dictionary r else dictionary))
+  noted_if true dictionary r were is = note_in dictionary r were is
+  noted_if false dictionary r were is = were
+
+  value_in : (value : Result (Option ValueLine) DictKind) (dictionary : Dictionary) (r : Reading) → All (IsNoteIn n) dictionary.notes → IsIn n r → IsDictionaryIn n (refused_at r.file r.line value >>= λ v. Ok (with_value dictionary r v))
+  value_in (Ok None) dictionary r were is = note_in dictionary r were is
+  value_in (Ok (Some v)) dictionary r were is = were
+  value_in (Err kind) dictionary r were is = is
+
+  with_line_in : (skipped : List (List ℕ)) (dictionary : Dictionary) (r : Reading) (m : Meaning) → r.meaning ≡ m → All (IsNoteIn n) dictionary.notes → IsIn n r → IsDictionaryIn n (with_line skipped dictionary r)
+  unfolding with_line
+  with_line_in skipped dictionary r (Value attribute name v) e were is = rw e (value_in (value_of skipped dictionary attribute name v (id_named attribute dictionary.attributes)) dictionary r were is)
+  with_line_in skipped dictionary r (BeginVendor name v) e were is = rw e (noted_if (is_noted dictionary.vendors (BeginVendor name v)) dictionary r were is)
+  with_line_in skipped dictionary r (BeginTlv name) e were is = rw e (noted_if true dictionary r were is)
+  with_line_in skipped dictionary r (End noted) e were is = rw e (noted_if noted dictionary r were is)
+  with_line_in skipped dictionary r (Attribute a) e were is = rw e (noted_if (is_noted dictionary.vendors (Attribute a)) dictionary r were is)
+  with_line_in skipped dictionary r (Vendor v) e were is = rw e (noted_if false dictionary r were is)
+  with_line_in skipped dictionary r Nothing e were is = rw e (noted_if false dictionary r were is)
+  with_line_in skipped dictionary r Skipped e were is = rw e (noted_if true dictionary r were is)
+  with_line_in skipped dictionary r (SkippedAttribute name) e were is = rw e (noted_if true dictionary r were is)
+
+  more_in : (read : Result Dictionary DictFault) (f : Dictionary → Result Dictionary DictFault) → IsDictionaryIn n read → ((d : Dictionary) → All (IsNoteIn n) d.notes → IsDictionaryIn n (f d)) → IsDictionaryIn n (read >>= f)
+  more_in (Ok d) f h next = next d h
+  more_in (Err fault) f h next = h
+
+  resolve_in : (skipped : List (List ℕ)) (dictionary : Dictionary) (readings : List Reading) → All (IsNoteIn n) dictionary.notes → All (IsIn n) readings → IsDictionaryIn n (resolve skipped dictionary readings)
+  unfolding resolve
+  resolve_in skipped dictionary [] were are = were
+  resolve_in skipped dictionary (r ∷ rs) were are =
+      more_in (with_line skipped dictionary r) _ (with_line_in skipped dictionary r r.meaning refl were (All-head (IsIn n) r rs are)) (λ more now. resolve_in skipped more rs now (All-tail (IsIn n) r rs are))
+
+  settled_in : (readings : List Reading) → All (IsIn n) readings → IsDictionaryIn n (settled readings)
+  unfolding settled
+  settled_in readings are = resolve_in (skipped_names (context_of readings).vendors readings) (outline_of (context_of readings)) readings (All-nil (IsNoteIn n)) are
+
+  then_in : (r : Result (List Reading) DictFault) (f : List Reading → Result Dictionary DictFault) → AreIn n r → ((readings : List Reading) → All (IsIn n) readings → IsDictionaryIn n (f readings)) → IsDictionaryIn n (r >>= f)
+  then_in (Ok readings) f h next = next readings h
+  then_in (Err fault) f h next = h
+
+pub dictionary_in : (limit : ℕ) (files : List NamedFile) → 0 < length files → IsDictionaryIn (length files) (dictionary_of limit files)
 unfolding dictionary_of
 dictionary_in limit files some =
     let n = length files in
-    let lines = lines_of_in files some in
-    then_in n (read_lines files [] (take limit (lines_of files))) _ (read_lines_in n files [] (take limit (lines_of files)) (All-nil (IsIn n)) (All-take (IsLineIn n) limit (lines_of files) lines)) (λ readings are.
-    then_in n (unless_past (slice_get (lines_of files) limit) readings) _ (unless_past_in n (slice_get (lines_of files) limit) readings (λ line e. get_in n (IsLineIn n) (lines_of files) limit line lines e) are) (λ within are_within.
-    then_in n (unless_open (innermost (open_blocks within)) within) _ (unless_open_in n (innermost (open_blocks within)) within (λ r e. get_in n (IsIn n) (open_blocks within) (length (open_blocks within) - 1) r (open_blocks_in n within are_within) e) are_within) (λ closed are_closed.
-    resolve_in n (settled closed) [] (settled closed) (All-nil (IsIn n)) (settled_in n closed are_closed))))
+    then_in n (read_lines limit files [] (lines_of files)) _ (read_lines_in n limit files [] (lines_of files) (All-nil (IsIn n)) (lines_of_in files some)) (λ readings are.
+    then_in n (unless_open (innermost (context_of readings).opened) readings) _ (unless_open_in n (innermost (context_of readings).opened) readings (λ r e. get_in n (IsIn n) (context_of readings).opened (length (context_of readings).opened - 1) r (opened_in n readings are) e) are) (λ closed are_closed.
+    settled_in n closed are_closed))
 
 -- ---- faults and notes
 
-fault_by : (memory : Bool) (n : ℕ) (fault : DictFault) (read : Result (List Reading) DictFault) → 0 < n → AreIn n read → If memory (fault ≡ want_of_memory) (read ≡ Err fault) → fault.file < n
+fault_by : (memory : Bool) (n : ℕ) (fault : DictFault) (read : Result Dictionary DictFault) → 0 < n → IsDictionaryIn n read → If memory (fault ≡ want_of_memory) (read ≡ Err fault) → fault.file < n
 fault_by true n fault read some are h = rw h some
-fault_by false n fault read some are h = subst (AreIn n) h are
+fault_by false n fault read some are h = subst (IsDictionaryIn n) h are
 
 pub fault_in : (limit : ℕ) (files : List NamedFile) (fault : DictFault) → 0 < length files → Refuses fault (dictionary_of limit files) → fault.file < length files
 fault_in limit files fault some h = fault_by (is_memory fault.kind) (length files) fault (dictionary_of limit files) some (dictionary_in limit files some) h
 
-pub notes_in : (limit : ℕ) (files : List NamedFile) (readings : List Reading) → 0 < length files → dictionary_of limit files ≡ Ok readings → All (λ (note : Note). note.file < length files) (notes_of readings)
-unfolding notes_of
-notes_in limit files readings some e =
-    let are : All (IsIn (length files)) readings = subst (AreIn (length files)) e (dictionary_in limit files some) in
-    All-map (λ (note : Note). note.file < length files) note_of (filter is_noted_line readings) (All-filter is_noted_line (IsIn (length files)) readings are)
+pub notes_in : (limit : ℕ) (files : List NamedFile) (dictionary : Dictionary) → 0 < length files → dictionary_of limit files ≡ Ok dictionary → All (λ (note : Note). note.file < length files) dictionary.notes
+notes_in limit files dictionary some e = subst (IsDictionaryIn (length files)) e (dictionary_in limit files some)

@@ -13,16 +13,16 @@ use Rattle.avp_lists.specs.declared.attributes.Value.TheVariants.{Int, Signed, A
 use Rattle.avp_lists.specs.declared.attributes.Value.TheVariants as values
 use Rattle.avp_lists.specs.Pairs.{value_eq}
 use Rattle.avp_lists.proofs.Equality.{same_value}
-use Rattle.avp_dict.specs.declared.readings.Kind.{Kind}
-use Rattle.avp_dict.specs.declared.readings.Kind.TheVariants as kinds
-use Rattle.avp_dict.specs.declared.readings.Reading.{Reading}
+use Rattle.avp_dict.specs.declared.entries.Kind.{Kind}
+use Rattle.avp_dict.specs.declared.entries.Kind.TheVariants as kinds
+use Rattle.avp_dict.specs.Dictionary.{Dictionary, name_numbered, typing_of_id}
 use Rattle.avp_dict.proofs.Found.{is_described, is_named_number, named_back}
 use Rattle.avp_dict.proofs.Numerals.{IsNumeral, decimal_numeral, digits_numeral, first_of_numeral, number_of_numeral, numeral_without}
 use Rattle.avp_dict.proofs.Separated.{address_back, bytes_back, ether_back, octets_back}
 use Rattle.avp_dict.proofs.Unescaping.{quoted_back}
 use Rattle.avp_dict.specs.Letters.{is_decimal, is_dot}
 use Rattle.avp_dict.specs.Limits.{fits, is_known, is_of_kind, is_typed, is_within}
-use Rattle.avp_dict.specs.Names.{Described, described, named, name_numbered}
+use Rattle.avp_dict.specs.Names.{Described, described, named}
 use Rattle.avp_dict.specs.Octets.{is_hidden, octets, of_length, read_value, value_of_octets, value_read}
 use Rattle.avp_dict.specs.Printing.{attr_name, hexadecimal, printed_name, printed_text, typed_text}
 use Rattle.avp_dict.specs.ReadingBack.{ReadsBack, is_writable, unquoted}
@@ -31,7 +31,6 @@ use Rattle.avp_dict.specs.Settled.{is_in_format}
 use Rattle.avp_dict.specs.Soundness.{IsSound}
 use Rattle.avp_dict.specs.Spellings.{is_negative, number_spelled, octets_spelled, octets_value, signed_spelled, spelled, spelled_as, spelled_by, up_to, value_spelled}
 use Rattle.avp_dict.specs.Types.{is_text_kind}
-use Rattle.avp_dict.specs.Values.{typing_of_id}
 use Rattle.avp_dict.specs.Words.{digits, number_of}
 use Rattle.avp_dict.specs.code.Ranges.{AreOctets, IsIdInRange, IsValueInRange}
 
@@ -57,16 +56,16 @@ signed_back (negsuc n) h =
     let low : leb (suc n) 2147483648 ≡ true = grind arith in
     rw (digits_numeral (suc n) (decimal (suc n)) (decimal_numeral (suc n) (omega arith)), low)
 
-module _ (lines : List Reading) (sound : IsSound lines) where
-  named_or : (most : ℕ) (id : AttrId) (n : ℕ) → leb n most ≡ true → n < 2 ^ 64 → (name : Option (List ℕ)) → name_numbered id n lines ≡ name → number_spelled most id (unwrap_or name (decimal n)) lines ≡ Some n
+module _ (dictionary : Dictionary) (sound : IsSound dictionary) where
+  named_or : (most : ℕ) (id : AttrId) (n : ℕ) → leb n most ≡ true → n < 2 ^ 64 → (name : Option (List ℕ)) → name_numbered id n dictionary.values ≡ name → number_spelled most id (unwrap_or name (decimal n)) dictionary ≡ Some n
   unfolding number_spelled
   named_or most id n h lt None e = rw (number_of_numeral n (decimal n) (decimal_numeral n lt)) (up_to_same most n h)
   named_or most id n h lt (Some name) e =
-      let is = is_named_number lines sound id n name e in
+      let is = is_named_number dictionary sound id n name e in
       rw (is.apart, is.numbered) (up_to_same most n h)
 
-  number_back : (most : ℕ) (id : AttrId) (n : ℕ) → leb n most ≡ true → n < 2 ^ 64 → number_spelled most id (unwrap_or (name_numbered id n lines) (decimal n)) lines ≡ Some n
-  number_back most id n h lt = named_or most id n h lt (name_numbered id n lines) refl
+  number_back : (most : ℕ) (id : AttrId) (n : ℕ) → leb n most ≡ true → n < 2 ^ 64 → number_spelled most id (unwrap_or (name_numbered id n dictionary.values) (decimal n)) dictionary ≡ Some n
+  number_back most id n h lt = named_or most id n h lt (name_numbered id n dictionary.values) refl
 
 -- ---- values of a type
 
@@ -76,17 +75,17 @@ IsWhole (Addr os) = length os ≡ 4
 IsWhole (Ether os) = length os ≡ 6
 IsWhole _ = Unit {0}
 
-module _ (lines : List Reading) (sound : IsSound lines) (id : AttrId) (by_text : Bool) where
-  typed_back : (kind : Kind) (value : Value) → IsValueInRange value → IsWhole value → is_raw value ≡ false → is_of_kind value kind ≡ true → spelled_as kind by_text id (unquoted value (typed_text kind id value lines)) lines ≡ Some value
+module _ (dictionary : Dictionary) (sound : IsSound dictionary) (id : AttrId) (by_text : Bool) where
+  typed_back : (kind : Kind) (value : Value) → IsValueInRange value → IsWhole value → is_raw value ≡ false → is_of_kind value kind ≡ true → spelled_as kind by_text id (unquoted value (typed_text kind id value dictionary)) dictionary ≡ Some value
   typed_back kinds.Text (values.Text os) h whole raw is = ap (λ (xs : List ℕ). Some (values.Text xs)) (quoted_back os h)
   typed_back kinds.Bytes (values.Bytes os) h whole raw is = ap (option_map (λ (xs : List ℕ). values.Bytes xs)) (bytes_back by_text os h)
   typed_back kinds.Addr (Addr os) h whole raw is = ap (option_map (λ (xs : List ℕ). Addr xs)) (address_back os whole h)
   typed_back kinds.Ether (Ether os) h whole raw is = ap (option_map (λ (xs : List ℕ). Ether xs)) (ether_back os whole h)
   typed_back kinds.Signed (Signed z) h whole raw is = ap (option_map (λ (x : ℤ). Signed x)) (signed_back z h)
-  typed_back kinds.Byte (Int n) h whole raw is = ap (option_map (λ (m : ℕ). Int m)) (number_back lines sound 255 id n is h)
-  typed_back kinds.Short (Int n) h whole raw is = ap (option_map (λ (m : ℕ). Int m)) (number_back lines sound 65535 id n is h)
-  typed_back kinds.Integer (Int n) h whole raw is = ap (option_map (λ (m : ℕ). Int m)) (number_back lines sound 4294967295 id n is h)
-  typed_back kinds.Integer64 (Int n) h whole raw is = ap (option_map (λ (m : ℕ). Int m)) (number_back lines sound 18446744073709551615 id n is h)
+  typed_back kinds.Byte (Int n) h whole raw is = ap (option_map (λ (m : ℕ). Int m)) (number_back dictionary sound 255 id n is h)
+  typed_back kinds.Short (Int n) h whole raw is = ap (option_map (λ (m : ℕ). Int m)) (number_back dictionary sound 65535 id n is h)
+  typed_back kinds.Integer (Int n) h whole raw is = ap (option_map (λ (m : ℕ). Int m)) (number_back dictionary sound 4294967295 id n is h)
+  typed_back kinds.Integer64 (Int n) h whole raw is = ap (option_map (λ (m : ℕ). Int m)) (number_back dictionary sound 18446744073709551615 id n is h)
   typed_back kinds.Date (Int n) h whole raw is = ap (option_map (λ (m : ℕ). Int m)) (plain_number 4294967295 n is h)
   typed_back _ _ h whole raw is = absurd (cc)
 
@@ -103,37 +102,37 @@ not_hidden : (b : Bool) (kind : Kind) → (b ≡ true → is_text_kind (Some kin
 not_hidden true kind h other = absurd (cc (h refl, other))
 not_hidden false kind h other = refl
 
-module _ (lines : List Reading) (sound : IsSound lines) (id : AttrId) (d : Described) (e : described id lines ≡ Some d) where
+module _ (dictionary : Dictionary) (sound : IsSound dictionary) (id : AttrId) (d : Described) (e : described id dictionary ≡ Some d) where
   shows : is_text_kind (Some d.kind) ≡ false → d.hidden ≡ false
   shows other =
-      let is = is_described lines sound id d e in
+      let is = is_described dictionary sound id d e in
       not_hidden d.hidden d.kind (λ h. subst (λ (k : Kind). is_text_kind (Some k) ≡ true) is.kind (is.keeps.hides (is.hidden ∙ h))) other
 
   -- a canonical value that is not hidden is what its octets stand for
-  shown_value : (value : Value) → d.hidden ≡ false → cond (is_hidden id lines) (is_shown value) (value_eq value (value_of_octets id (octets id value lines) lines)) ≡ true → value ≡ value_of_octets id (octets id value lines) lines
+  shown_value : (value : Value) → d.hidden ≡ false → cond (is_hidden id dictionary) (is_shown value) (value_eq value (value_of_octets id (octets id value dictionary) dictionary)) ≡ true → value ≡ value_of_octets id (octets id value dictionary) dictionary
   shown_value value plain h =
-      let hidden : is_hidden id lines ≡ false = rw e plain in
-      same_value value (value_of_octets id (octets id value lines) lines) (rw hidden at h)
+      let hidden : is_hidden id dictionary ≡ false = rw e plain in
+      same_value value (value_of_octets id (octets id value dictionary) dictionary) (rw hidden at h)
 
-  reads_kind : (kind : Kind) → d.kind ≡ kind → (os : List ℕ) → d.hidden ≡ false → value_of_octets id os lines ≡ unwrap_or (value_read kind os) (Raw os)
+  reads_kind : (kind : Kind) → d.kind ≡ kind → (os : List ℕ) → d.hidden ≡ false → value_of_octets id os dictionary ≡ unwrap_or (value_read kind os) (Raw os)
   unfolding read_value value_of_octets
   reads_kind kind k os plain = rw (e, plain, k)
 
-  address_whole : (kind : Kind) → d.kind ≡ kind → (os : List ℕ) → is_of_kind (Addr os) kind ≡ true → cond (is_hidden id lines) (is_shown (Addr os)) (value_eq (Addr os) (value_of_octets id (octets id (Addr os) lines) lines)) ≡ true → length os ≡ 4
+  address_whole : (kind : Kind) → d.kind ≡ kind → (os : List ℕ) → is_of_kind (Addr os) kind ≡ true → cond (is_hidden id dictionary) (is_shown (Addr os)) (value_eq (Addr os) (value_of_octets id (octets id (Addr os) dictionary) dictionary)) ≡ true → length os ≡ 4
   unfolding octets
   address_whole kinds.Addr k os is h =
       let plain = shows (ap (λ (x : Kind). is_text_kind (Some x)) k) in
       whole_if 4 (λ (xs : List ℕ). Addr xs) os (λ other. cc) (shown_value (Addr os) plain h ∙ reads_kind kinds.Addr k os plain)
   address_whole _ k os is h = absurd (cc)
 
-  ether_whole : (kind : Kind) → d.kind ≡ kind → (os : List ℕ) → is_of_kind (Ether os) kind ≡ true → cond (is_hidden id lines) (is_shown (Ether os)) (value_eq (Ether os) (value_of_octets id (octets id (Ether os) lines) lines)) ≡ true → length os ≡ 6
+  ether_whole : (kind : Kind) → d.kind ≡ kind → (os : List ℕ) → is_of_kind (Ether os) kind ≡ true → cond (is_hidden id dictionary) (is_shown (Ether os)) (value_eq (Ether os) (value_of_octets id (octets id (Ether os) dictionary) dictionary)) ≡ true → length os ≡ 6
   unfolding octets
   ether_whole kinds.Ether k os is h =
       let plain = shows (ap (λ (x : Kind). is_text_kind (Some x)) k) in
       whole_if 6 (λ (xs : List ℕ). Ether xs) os (λ other. cc) (shown_value (Ether os) plain h ∙ reads_kind kinds.Ether k os plain)
   ether_whole _ k os is h = absurd (cc)
 
-  is_whole : (value : Value) → is_of_kind value d.kind ≡ true → cond (is_hidden id lines) (is_shown value) (value_eq value (value_of_octets id (octets id value lines) lines)) ≡ true → IsWhole value
+  is_whole : (value : Value) → is_of_kind value d.kind ≡ true → cond (is_hidden id dictionary) (is_shown value) (value_eq value (value_of_octets id (octets id value dictionary) dictionary)) ≡ true → IsWhole value
   is_whole (Addr os) is h = address_whole d.kind refl os is h
   is_whole (Ether os) is h = ether_whole d.kind refl os is h
   is_whole (Raw os) is h = tt
@@ -141,26 +140,27 @@ module _ (lines : List Reading) (sound : IsSound lines) (id : AttrId) (d : Descr
 
   -- ---- under the name of a line
 
-  printed_by_name : (value : Value) → is_container id ≡ false → is_raw value ≡ false → printed_name id value lines ≡ d.name
+  printed_by_name : (value : Value) → is_container id ≡ false → is_raw value ≡ false → printed_name id value dictionary ≡ d.name
   unfolding printed_name
   printed_by_name value held raw = rw (held, raw, e)
 
-  text_by_name : (value : Value) → is_container id ≡ false → is_raw value ≡ false → printed_text id value lines ≡ typed_text d.kind id value lines
+  text_by_name : (value : Value) → is_container id ≡ false → is_raw value ≡ false → printed_text id value dictionary ≡ typed_text d.kind id value dictionary
   unfolding printed_text
   text_by_name value held raw = rw (held, raw, e)
 
-  spelled_by_name : (text : List ℕ) (value : Value) → is_container id ≡ false → is_within id value lines ≡ true → ((by_text : Bool) → spelled_as d.kind by_text id text lines ≡ Some value) → value_spelled (record { id = id; raw = false }) text lines ≡ Ok value
+  spelled_by_name : (text : List ℕ) (value : Value) → is_container id ≡ false → is_within id value dictionary ≡ true → ((by_text : Bool) → spelled_as d.kind by_text id text dictionary ≡ Some value) → value_spelled (record { id = id; raw = false }) text dictionary ≡ Ok value
   unfolding spelled value_spelled
   spelled_by_name text value held within back =
-      let is = is_described lines sound id d e in
-      let there : option_and_then (spelled_by id text lines) (typing_of_id id lines) ≡ Some value = rw (is.typed, is.kind) (back is.typing.by_text) in
+      let is = is_described dictionary sound id d e in
+      let there : option_and_then (spelled_by id text dictionary) (typing_of_id id dictionary.attributes) ≡ Some value = rw (is.typed, is.kind) (back is.typing.by_text) in
       rw (held, there, within)
 
-  back_by_name : (value : Value) → IsValueInRange value → is_container id ≡ false → is_raw value ≡ false → is_of_kind value d.kind ≡ true → is_within id value lines ≡ true → cond (is_hidden id lines) (is_shown value) (value_eq value (value_of_octets id (octets id value lines) lines)) ≡ true → ReadsBack (record { id = id; value = value }) lines
+  back_by_name : (value : Value) → IsValueInRange value → is_container id ≡ false → is_raw value ≡ false → is_of_kind value d.kind ≡ true → is_within id value dictionary ≡ true → cond (is_hidden id dictionary) (is_shown value) (value_eq value (value_of_octets id (octets id value dictionary) dictionary)) ≡ true → ReadsBack (record { id = id; value = value }) dictionary
   back_by_name value range held raw is within canonical = record {
     name = record { id = id; raw = false };
-    named = rw (printed_by_name value held raw) (named_back lines sound id d e);
-    spelled = rw (text_by_name value held raw) (spelled_by_name _ value held within (λ by_text. typed_back lines sound id by_text d.kind value range (is_whole value is canonical) raw is));
+    named = rw (printed_by_name value held raw) (named_back dictionary sound id d e);
+    same = refl;
+    spelled = rw (text_by_name value held raw) (spelled_by_name _ value held within (λ by_text. typed_back dictionary sound id by_text d.kind value range (is_whole value is canonical) raw is));
   }
 
 -- ---- names by number
@@ -186,23 +186,23 @@ first_stays : (xs ys zs : List ℕ) → 0 < length xs → slice_index ((xs ++ ys
 first_stays [] ys zs h = absurd (omega arith)
 first_stays (x ∷ xs) ys zs h = refl
 
-named_plain : (lines : List Reading) (n : ℕ) → n < 2 ^ 32 → leb n 255 ≡ true → named (attr_name (ids.Plain n)) lines ≡ Some (record { id = ids.Plain n; raw = true })
+named_plain : (dictionary : Dictionary) (n : ℕ) → n < 2 ^ 32 → leb n 255 ≡ true → named (attr_name (ids.Plain n)) dictionary ≡ Some (record { id = ids.Plain n; raw = true })
 unfolding attr_name named
-named_plain lines n h low =
+named_plain dictionary n h low =
     let small : n < 2 ^ 64 = omega arith in
     rw (digit_first (decimal n) n (decimal_numeral n small), one_number n small, number_digits n small, low)
 
-named_vendor : (lines : List Reading) (v n : ℕ) → v < 2 ^ 32 → n < 2 ^ 32 → is_in_format v n lines ≡ true → named (attr_name (ids.Vendor v n)) lines ≡ Some (record { id = ids.Vendor v n; raw = true })
+named_vendor : (dictionary : Dictionary) (v n : ℕ) → v < 2 ^ 32 → n < 2 ^ 32 → is_in_format v n dictionary.vendors ≡ true → named (attr_name (ids.Vendor v n)) dictionary ≡ Some (record { id = ids.Vendor v n; raw = true })
 unfolding attr_name named
-named_vendor lines v n hv hn known =
+named_vendor dictionary v n hv hn known =
     let sv : v < 2 ^ 64 = omega arith in
     let sn : n < 2 ^ 64 = omega arith in
     let low : leb v 4294967295 ≡ true = grind arith in
     rw (two_numbers v n sv sn, number_digits v sv, number_digits n sn, low, known)
 
-named_extended : (lines : List Reading) (t n : ℕ) → t < 256 → n < 256 → (leb 241 t && leb t 246) ≡ true → named (attr_name (ids.Extended t n)) lines ≡ Some (record { id = ids.Extended t n; raw = true })
+named_extended : (dictionary : Dictionary) (t n : ℕ) → t < 256 → n < 256 → (leb 241 t && leb t 246) ≡ true → named (attr_name (ids.Extended t n)) dictionary ≡ Some (record { id = ids.Extended t n; raw = true })
 unfolding attr_name named
-named_extended lines t n ht hn known =
+named_extended dictionary t n ht hn known =
     let st : t < 2 ^ 64 = omega arith in
     let sn : n < 2 ^ 64 = omega arith in
     let least : leb 0 n ≡ true = grind arith in
@@ -210,31 +210,32 @@ named_extended lines t n ht hn known =
     let some : slice_index ((decimal t ++ codes ".") ++ decimal n) 0 ≡ slice_index (decimal t) 0 = first_stays (decimal t) (codes ".") (decimal n) (decimal_numeral t st).some in
     rw (some, digit_first (decimal t) t (decimal_numeral t st), two_numbers t n st sn, number_digits t st, number_digits n sn, known, least, low)
 
-named_by_number : (lines : List Reading) (id : AttrId) → IsIdInRange id → is_known id lines ≡ true → is_internal id ≡ false → named (attr_name id) lines ≡ Some (record { id = id; raw = true })
+named_by_number : (dictionary : Dictionary) (id : AttrId) → IsIdInRange id → is_known id dictionary ≡ true → is_internal id ≡ false → named (attr_name id) dictionary ≡ Some (record { id = id; raw = true })
 unfolding is_known
-named_by_number lines (ids.Plain n) range known internal = let low : leb n 255 ≡ true = grind arith in named_plain lines n range low
-named_by_number lines (ids.Vendor v n) range known internal = named_vendor lines v n range.0 range.1 known
-named_by_number lines (ids.Extended t n) range known internal = named_extended lines t n range.0 range.1 known
+named_by_number dictionary (ids.Plain n) range known internal = let low : leb n 255 ≡ true = grind arith in named_plain dictionary n range low
+named_by_number dictionary (ids.Vendor v n) range known internal = named_vendor dictionary v n range.0 range.1 known
+named_by_number dictionary (ids.Extended t n) range known internal = named_extended dictionary t n range.0 range.1 known
 
-module _ (lines : List Reading) (id : AttrId) (os : List ℕ) (held : is_container id ≡ false) where
-  printed_by_number : printed_name id (Raw os) lines ≡ attr_name id
+module _ (dictionary : Dictionary) (id : AttrId) (os : List ℕ) (held : is_container id ≡ false) where
+  printed_by_number : printed_name id (Raw os) dictionary ≡ attr_name id
   unfolding printed_name
   printed_by_number = rw held
 
-  text_by_number : printed_text id (Raw os) lines ≡ hexadecimal os
+  text_by_number : printed_text id (Raw os) dictionary ≡ hexadecimal os
   unfolding octets printed_text
   text_by_number = rw held
 
-  spelled_by_number : AreOctets os → is_hidden id lines ≡ false → is_within id (Raw os) lines ≡ true → Raw os ≡ value_of_octets id os lines → value_spelled (record { id = id; raw = true }) (hexadecimal os) lines ≡ Ok (Raw os)
+  spelled_by_number : AreOctets os → is_hidden id dictionary ≡ false → is_within id (Raw os) dictionary ≡ true → Raw os ≡ value_of_octets id os dictionary → value_spelled (record { id = id; raw = true }) (hexadecimal os) dictionary ≡ Ok (Raw os)
   unfolding spelled value_spelled
   spelled_by_number range shown within canonical =
-      let there : option_map (octets_value id lines) (octets_spelled (hexadecimal os)) ≡ Some (Raw os) = ap (option_map (octets_value id lines)) (octets_back os range) ∙ ap (λ (v : Value). Some v) (sym canonical) in
+      let there : option_map (octets_value id dictionary) (octets_spelled (hexadecimal os)) ≡ Some (Raw os) = ap (option_map (octets_value id dictionary)) (octets_back os range) ∙ ap (λ (v : Value). Some v) (sym canonical) in
       rw (held, shown, there, within)
 
-  back_by_number : IsIdInRange id → AreOctets os → is_known id lines ≡ true → is_internal id ≡ false → is_hidden id lines ≡ false → is_within id (Raw os) lines ≡ true → Raw os ≡ value_of_octets id os lines → ReadsBack (record { id = id; value = Raw os }) lines
+  back_by_number : IsIdInRange id → AreOctets os → is_known id dictionary ≡ true → is_internal id ≡ false → is_hidden id dictionary ≡ false → is_within id (Raw os) dictionary ≡ true → Raw os ≡ value_of_octets id os dictionary → ReadsBack (record { id = id; value = Raw os }) dictionary
   back_by_number within_words range known internal shown within canonical = record {
     name = record { id = id; raw = true };
-    named = rw printed_by_number (named_by_number lines id within_words known internal);
+    named = rw printed_by_number (named_by_number dictionary id within_words known internal);
+    same = refl;
     spelled = rw text_by_number (spelled_by_number range shown within canonical);
   }
 
@@ -249,41 +250,41 @@ neither false false h = (refl, refl)
 neither false true h = absurd (cc)
 neither true c h = absurd (cc)
 
-record IsWritable (id : AttrId) (value : Value) (lines : List Reading) : Type 0 where
-  known : is_known id lines ≡ true
-  typed : is_typed id value lines ≡ true
-  within : is_within id value lines ≡ true
-  canonical : cond (is_hidden id lines) (is_shown value) (value_eq value (value_of_octets id (octets id value lines) lines)) ≡ true
+record IsWritable (id : AttrId) (value : Value) (dictionary : Dictionary) : Type 0 where
+  known : is_known id dictionary ≡ true
+  typed : is_typed id value dictionary ≡ true
+  within : is_within id value dictionary ≡ true
+  canonical : cond (is_hidden id dictionary) (is_shown value) (value_eq value (value_of_octets id (octets id value dictionary) dictionary)) ≡ true
   held : is_container id ≡ false
-  apart : not (is_raw value && (is_internal id || is_hidden id lines)) ≡ true
+  apart : not (is_raw value && (is_internal id || is_hidden id dictionary)) ≡ true
 
-writable_parts : (id : AttrId) (value : Value) (lines : List Reading) → is_writable (record { id = id; value = value }) lines ≡ true → IsWritable id value lines
+writable_parts : (id : AttrId) (value : Value) (dictionary : Dictionary) → is_writable (record { id = id; value = value }) dictionary ≡ true → IsWritable id value dictionary
 unfolding fits is_canonical is_writable
-writable_parts id value lines h =
-    let fit : Bool = is_known id lines && is_typed id value lines && is_within id value lines in
-    let shown : Bool = cond (is_hidden id lines) (is_shown value) (value_eq value (value_of_octets id (octets id value lines) lines)) in
-    let a = and_parts (fit && shown && not (is_container id)) (not (is_raw value && (is_internal id || is_hidden id lines))) h in
+writable_parts id value dictionary h =
+    let fit : Bool = is_known id dictionary && is_typed id value dictionary && is_within id value dictionary in
+    let shown : Bool = cond (is_hidden id dictionary) (is_shown value) (value_eq value (value_of_octets id (octets id value dictionary) dictionary)) in
+    let a = and_parts (fit && shown && not (is_container id)) (not (is_raw value && (is_internal id || is_hidden id dictionary))) h in
     let b = and_parts (fit && shown) (not (is_container id)) a.0 in
     let c = and_parts fit shown b.0 in
-    let d = and_parts (is_known id lines && is_typed id value lines) (is_within id value lines) c.0 in
-    let e = and_parts (is_known id lines) (is_typed id value lines) d.0 in
+    let d = and_parts (is_known id dictionary && is_typed id value dictionary) (is_within id value dictionary) c.0 in
+    let e = and_parts (is_known id dictionary) (is_typed id value dictionary) d.0 in
     record { known = e.0; typed = e.1; within = d.1; canonical = c.1; held = not_true (is_container id) b.1; apart = a.1 }
 
-raw_back : (lines : List Reading) (id : AttrId) (os : List ℕ) → IsIdInRange id → AreOctets os → IsWritable id (Raw os) lines → ReadsBack (record { id = id; value = Raw os }) lines
+raw_back : (dictionary : Dictionary) (id : AttrId) (os : List ℕ) → IsIdInRange id → AreOctets os → IsWritable id (Raw os) dictionary → ReadsBack (record { id = id; value = Raw os }) dictionary
 unfolding octets
-raw_back lines id os words range h =
-    let apart = neither (is_internal id) (is_hidden id lines) h.apart in
-    back_by_number lines id os h.held words range h.known apart.0 apart.1 h.within (same_value (Raw os) (value_of_octets id os lines) (rw apart.1 at h.canonical))
+raw_back dictionary id os words range h =
+    let apart = neither (is_internal id) (is_hidden id dictionary) h.apart in
+    back_by_number dictionary id os h.held words range h.known apart.0 apart.1 h.within (same_value (Raw os) (value_of_octets id os dictionary) (rw apart.1 at h.canonical))
 
-typed_by : (lines : List Reading) → IsSound lines → (id : AttrId) (value : Value) → IsValueInRange value → is_raw value ≡ false → IsWritable id value lines → (d : Option Described) → described id lines ≡ d → option_map_or (is_of_kind value) (option_map (λ (x : Described). x.kind) d) false ≡ true → ReadsBack (record { id = id; value = value }) lines
-typed_by lines sound id value range raw h None e is = absurd (cc)
-typed_by lines sound id value range raw h (Some d) e is = back_by_name lines sound id d e value range h.held raw is h.within h.canonical
+typed_by : (dictionary : Dictionary) → IsSound dictionary → (id : AttrId) (value : Value) → IsValueInRange value → is_raw value ≡ false → IsWritable id value dictionary → (d : Option Described) → described id dictionary ≡ d → option_map_or (is_of_kind value) (option_map (λ (x : Described). x.kind) d) false ≡ true → ReadsBack (record { id = id; value = value }) dictionary
+typed_by dictionary sound id value range raw h None e is = absurd (cc)
+typed_by dictionary sound id value range raw h (Some d) e is = back_by_name dictionary sound id d e value range h.held raw is h.within h.canonical
 
-pub reads_back : (lines : List Reading) → IsSound lines → (id : AttrId) (value : Value) → IsIdInRange id → IsValueInRange value → is_writable (record { id = id; value = value }) lines ≡ true → ReadsBack (record { id = id; value = value }) lines
-reads_back lines sound id (Raw os) words range h = raw_back lines id os words range (writable_parts id (Raw os) lines h)
-reads_back lines sound id (values.Text os) words range h = let w = writable_parts id (values.Text os) lines h in typed_by lines sound id (values.Text os) range refl w _ refl w.typed
-reads_back lines sound id (values.Bytes os) words range h = let w = writable_parts id (values.Bytes os) lines h in typed_by lines sound id (values.Bytes os) range refl w _ refl w.typed
-reads_back lines sound id (Int n) words range h = let w = writable_parts id (Int n) lines h in typed_by lines sound id (Int n) range refl w _ refl w.typed
-reads_back lines sound id (Signed z) words range h = let w = writable_parts id (Signed z) lines h in typed_by lines sound id (Signed z) range refl w _ refl w.typed
-reads_back lines sound id (Addr os) words range h = let w = writable_parts id (Addr os) lines h in typed_by lines sound id (Addr os) range refl w _ refl w.typed
-reads_back lines sound id (Ether os) words range h = let w = writable_parts id (Ether os) lines h in typed_by lines sound id (Ether os) range refl w _ refl w.typed
+pub reads_back : (dictionary : Dictionary) → IsSound dictionary → (id : AttrId) (value : Value) → IsIdInRange id → IsValueInRange value → is_writable (record { id = id; value = value }) dictionary ≡ true → ReadsBack (record { id = id; value = value }) dictionary
+reads_back dictionary sound id (Raw os) words range h = raw_back dictionary id os words range (writable_parts id (Raw os) dictionary h)
+reads_back dictionary sound id (values.Text os) words range h = let w = writable_parts id (values.Text os) dictionary h in typed_by dictionary sound id (values.Text os) range refl w _ refl w.typed
+reads_back dictionary sound id (values.Bytes os) words range h = let w = writable_parts id (values.Bytes os) dictionary h in typed_by dictionary sound id (values.Bytes os) range refl w _ refl w.typed
+reads_back dictionary sound id (Int n) words range h = let w = writable_parts id (Int n) dictionary h in typed_by dictionary sound id (Int n) range refl w _ refl w.typed
+reads_back dictionary sound id (Signed z) words range h = let w = writable_parts id (Signed z) dictionary h in typed_by dictionary sound id (Signed z) range refl w _ refl w.typed
+reads_back dictionary sound id (Addr os) words range h = let w = writable_parts id (Addr os) dictionary h in typed_by dictionary sound id (Addr os) range refl w _ refl w.typed
+reads_back dictionary sound id (Ether os) words range h = let w = writable_parts id (Ether os) dictionary h in typed_by dictionary sound id (Ether os) range refl w _ refl w.typed

@@ -11,10 +11,10 @@ use Rattle.avp_lists.specs.declared.attributes.Pair.{Pair}
 use Rattle.avp_lists.specs.declared.attributes.Value.{Value}
 use Rattle.avp_lists.specs.declared.attributes.Value.TheVariants as values
 use Rattle.avp_dict.specs.declared.entries.Named.{Named}
-use Rattle.avp_dict.specs.declared.readings.Kind.{Kind}
-use Rattle.avp_dict.specs.declared.readings.Kind.TheVariants as kinds
-use Rattle.avp_dict.specs.declared.readings.Reading.{Reading}
-use Rattle.avp_dict.specs.declared.readings.Typing.{Typing}
+use Rattle.avp_dict.specs.declared.entries.Kind.{Kind}
+use Rattle.avp_dict.specs.declared.entries.Kind.TheVariants as kinds
+use Rattle.avp_dict.specs.Dictionary.{Dictionary, typing_of_id}
+use Rattle.avp_dict.specs.declared.entries.Typing.{Typing}
 use Rattle.avp_dict.specs.declared.value_faults.ValueFault.{ValueFault}
 use Rattle.avp_dict.specs.declared.value_faults.ValueFault.TheVariants.{NotWritable, TooLong}
 use Rattle.avp_dict.specs.Letters.{is_dot}
@@ -27,7 +27,6 @@ use Rattle.avp_dict.specs.Soundness.{IsSound}
 use Rattle.avp_lists.specs.States.{most_pairs}
 use Rattle.avp_dict.specs.Sent.{is_canonical, is_clean, is_clean_pair, is_container, is_raw}
 use Rattle.avp_dict.specs.Spellings.{address_spelled, bytes_spelled, decimal_octet, digit_pair, each_number, ether_spelled, in_parts, is_barred, is_colon, is_negative, negated, number_spelled, octets_spelled, octets_value, signed_spelled, spelled, spelled_as, spelled_by, unless_long, up_to, value_spelled}
-use Rattle.avp_dict.specs.Values.{typing_of_id}
 use Rattle.avp_dict.specs.Words.{digits, number_of}
 use Rattle.avp_dict.proofs.Fitting.{always, fits_by, known_named, mapped_holds, of_found, then_holds, up_to_holds, value_holds, weaker}
 use Rattle.avp_dict.proofs.OwnValues.{IsSized, read_value_sized, typed_canonical, unread_canonical}
@@ -63,7 +62,7 @@ negated_ranged (suc n) h = let low : suc n ≤ 2147483648 = grind (arith, common
 plain_ranged : (n : ℕ) → nat_le n 2147483647 ≡ true → FitsSigned w32 (pos n)
 plain_ranged n h = let low : n ≤ 2147483647 = grind (arith, common_steps) in record { sfits = omega arith }
 
-signed_ranged : (d : List Reading) (text : List ℕ) → IfSome (signed_spelled text) (λ z. FitsSigned w32 z)
+signed_ranged : (d : Dictionary) (text : List ℕ) → IfSome (signed_spelled text) (λ z. FitsSigned w32 z)
 unfolding signed_spelled
 signed_ranged d text =
     elim (is_negative text) as (λ b. IfSome (cond b (option_map negated (up_to 2147483648 (digits 10 (drop 1 text)))) (option_map pos (up_to 2147483647 (digits 10 text)))) (λ z. FitsSigned w32 z)) [
@@ -76,7 +75,7 @@ signed_ranged d text =
 number_whole : (o : Option ℕ) → IfSome (option_map values.Int o) IsWhole
 number_whole o = mapped_holds IsWhole values.Int o (always (λ n. IsWhole (values.Int n)) (λ n. (refl, tt)) o)
 
-module _ (d : List Reading) where
+module _ (d : Dictionary) where
   whole_as : (kind : Kind) (by_text : Bool) (id : AttrId) (text : List ℕ) → IfSome (spelled_as kind by_text id text d) IsWhole
   whole_as kinds.Text by_text id text = (refl, tt)
   whole_as kinds.Bytes by_text id text = mapped_holds IsWhole values.Bytes (bytes_spelled by_text text) (always (λ os. IsWhole (values.Bytes os)) (λ os. (refl, tt)) (bytes_spelled by_text text))
@@ -122,10 +121,10 @@ module _ (d : List Reading) where
           by false b h = h
           by true b h = absurd (cc)
 
-      go : (raw : Bool) → n.raw ≡ raw → IfSome (cond raw (option_map (octets_value n.id d) (octets_spelled text)) (option_and_then (spelled_by n.id text d) (typing_of_id n.id d))) (IsOwn n.id)
+      go : (raw : Bool) → n.raw ≡ raw → IfSome (cond raw (option_map (octets_value n.id d) (octets_spelled text)) (option_and_then (spelled_by n.id text d) (typing_of_id n.id d.attributes))) (IsOwn n.id)
       go true e = mapped_holds (IsOwn n.id) (octets_value n.id d) (octets_spelled text) (always (λ os. IsOwn n.id (value_of_octets n.id os d)) (octets_own n.id (shown true e refl)) (octets_spelled text))
       go false e =
-          weaker IsWhole (IsOwn n.id) (λ v is fit. typed_canonical d n.id v is.0 is.1 fit) (option_and_then (spelled_by n.id text d) (typing_of_id n.id d)) (named_whole n.id text (typing_of_id n.id d))
+          weaker IsWhole (IsOwn n.id) (λ v is fit. typed_canonical d n.id v is.0 is.1 fit) (option_and_then (spelled_by n.id text d) (typing_of_id n.id d.attributes)) (named_whole n.id text (typing_of_id n.id d.attributes))
 
   within_own : (id : AttrId) (v : Value) (b : Bool) → IsOwn id v → IfSome (result_ok (cond b (Ok v) (Err TooLong))) (IsOwn id)
   within_own id v true h = h

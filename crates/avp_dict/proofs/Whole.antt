@@ -1,66 +1,63 @@
 -- The passes over the lines, one after the other.
-use Rattle.std.proofs.Common.{◌≡◌, ◌∙◌, ℕ, zero, suc, ◌+◌, List, [], ◌∷◌, None, Ok, Err, refl, sym, ap, take, add-one}
-use Rattle.std.specs.Prelude.{slice_get}
-use Rattle.std.specs.Option.{option_map}
-use Rattle.std.proofs.lemmas.Option.{slice_get-map}
-use Rattle.std.proofs.lemmas.List.{take-map}
-use Rattle.avp_dict.specs.declared.files.NamedFile.{NamedFile}
-use Rattle.avp_dict.specs.declared.readings.Reading.{Reading}
+use Rattle.std.proofs.Common.{◌≡◌, ◌∙◌, ℕ, Bool, true, false, List, [], ◌++◌, Option, Some, None, Result, Ok, Err, sym, ap}
+use Rattle.avp_dict.specs.declared.entries.AttributeLine.{AttributeLine}
+use Rattle.avp_dict.specs.declared.entries.Note.{Note}
+use Rattle.avp_dict.specs.declared.entries.ValueLine.{ValueLine}
 use Rattle.avp_dict.specs.declared.faults.DictFault.{DictFault}
-use Rattle.avp_dict.specs.declared.gather.Line.{Line as CodeLine}
-use Rattle.avp_dict.proofs.OneMore.{refuses_through}
-use Rattle.avp_dict.specs.Blocks.{innermost, open_blocks}
-use Rattle.avp_dict.specs.Dictionary.{dictionary_of, unless_open, unless_past}
-use Rattle.avp_dict.specs.Lines.{lines_of}
-use Rattle.avp_dict.specs.Outcomes.{Refuses}
+use Rattle.avp_dict.specs.declared.faults.DictKind.TheVariants.{Unmatched}
+use Rattle.avp_dict.specs.declared.files.NamedFile.{NamedFile}
+use Rattle.avp_dict.proofs.Gathering.{append_nil}
+use Rattle.avp_dict.proofs.OneMore.{read_lines_none, refuses_through}
+use Rattle.avp_dict.specs.Blocks.{innermost}
+use Rattle.avp_dict.specs.Dictionary.{Dictionary}
+use Rattle.avp_dict.specs.DictionaryReading.{dictionary_of, settled, unless_open}
+use Rattle.avp_dict.specs.Lines.{lines_in, lines_of}
+use Rattle.avp_dict.specs.Meanings.{Context, Reading, context_of}
+use Rattle.avp_dict.specs.Outcomes.{If, Refuses, is_memory, want_of_memory}
 use Rattle.avp_dict.specs.Readings.{read_lines}
-use Rattle.avp_dict.specs.Settled.{settled}
+use Rattle.avp_dict.specs.Settled.{skipped_names, used}
 use Rattle.avp_dict.specs.Values.{resolve}
-use Rattle.avp_dict.specs.code.Gathered.{line_view, line_views}
 
-take_less : {A : Type 0} (n : ℕ) (xs : List A) → take n (take (suc n) xs) ≡ take n xs
-take_less zero [] = refl
-take_less zero (x ∷ xs) = refl
-take_less (suc n) [] = refl
-take_less (suc n) (x ∷ xs) = ap (λ ys. x ∷ ys) (take_less n xs)
+all_lines : (limit : ℕ) (files : List NamedFile) → read_lines limit files [] (lines_in files 9 0 ++ []) ≡ read_lines limit files [] (lines_of files)
+unfolding lines_of
+all_lines limit files = ap (read_lines limit files []) (append_nil (lines_in files 9 0))
 
-get_last : {A : Type 0} (n : ℕ) (xs : List A) → slice_get (take (suc n) xs) n ≡ slice_get xs n
-get_last zero [] = refl
-get_last zero (x ∷ xs) = refl
-get_last (suc n) [] = refl
-get_last (suc n) (x ∷ xs) = get_last n xs
+pub read_fails : (limit : ℕ) (files : List NamedFile) (fault : DictFault) → Refuses fault (read_lines limit files [] (lines_in files 9 0 ++ [])) → Refuses fault (dictionary_of limit files)
+unfolding dictionary_of
+read_fails limit files fault h = refuses_through fault (read_lines limit files [] (lines_of files)) _ (rw all_lines at h)
 
-module _ (files : List NamedFile) (limit : ℕ) (gathered : List CodeLine) (are_lines : line_views gathered ≡ take (limit + 1) (lines_of files)) where
-  pub front_views : line_views (take limit gathered) ≡ take limit (lines_of files)
-  front_views = sym (take-map line_view limit gathered) ∙ (ap (take limit) (rw add-one at are_lines) ∙ take_less limit (lines_of files))
+module _ (limit : ℕ) (files : List NamedFile) (readings : List Reading) (is_read : read_lines limit files [] (lines_in files 9 0 ++ []) ≡ read_lines limit files readings []) where
+  are_read : read_lines limit files [] (lines_of files) ≡ Ok readings
+  are_read = sym (all_lines limit files) ∙ (is_read ∙ read_lines_none limit files readings)
 
-  pub past_views : option_map line_view (slice_get gathered limit) ≡ slice_get (lines_of files) limit
-  past_views = sym (slice_get-map line_view gathered limit) ∙ (ap (λ ls. slice_get ls limit) (rw add-one at are_lines) ∙ get_last limit (lines_of files))
-
-  pub read_fails : (fault : DictFault) → Refuses fault (read_lines files [] (line_views (take limit gathered))) → Refuses fault (dictionary_of limit files)
+  pub open_fails : (opened : List Reading) → opened ≡ (context_of readings).opened → (fault : DictFault) → unless_open (innermost opened) readings ≡ Err fault → dictionary_of limit files ≡ Err fault
   unfolding dictionary_of
-  read_fails fault h = refuses_through fault (read_lines files [] (take limit (lines_of files))) _ (rw front_views at h)
+  open_fails opened is_open fault h =
+      let e : unless_open (innermost (context_of readings).opened) readings ≡ Err fault = rw is_open at h in
+      rw (are_read, e)
 
-  module _ (readings : List Reading) (is_read : read_lines files [] (line_views (take limit gathered)) ≡ Ok readings) where
-    are_read : read_lines files [] (take limit (lines_of files)) ≡ Ok readings
-    are_read = rw front_views at is_read
+  pub dictionary_resolved : (opened : List Reading) → opened ≡ (context_of readings).opened → innermost opened ≡ None → dictionary_of limit files ≡ settled readings
+  unfolding dictionary_of
+  dictionary_resolved opened is_open closed =
+      let e : innermost (context_of readings).opened ≡ None = rw is_open at closed in
+      rw (are_read, e)
 
-    pub past_fails : (fault : DictFault) → unless_past (option_map line_view (slice_get gathered limit)) readings ≡ Err fault → dictionary_of limit files ≡ Err fault
-    unfolding dictionary_of
-    past_fails fault h =
-        let e : unless_past (slice_get (lines_of files) limit) readings ≡ Err fault = rw past_views at h in
-        rw (are_read, e)
+-- a refusal that is no want of memory
+certain : (memory : Bool) (fault : DictFault) (read : Result Dictionary DictFault) → memory ≡ false → read ≡ Err fault → If memory (fault ≡ want_of_memory) (read ≡ Err fault)
+certain true fault read e h = absurd (cc)
+certain false fault read e h = h
 
-    pub open_fails : option_map line_view (slice_get gathered limit) ≡ None → (opened : List Reading) → opened ≡ open_blocks readings → (fault : DictFault) → unless_open (innermost opened) readings ≡ Err fault → dictionary_of limit files ≡ Err fault
-    unfolding dictionary_of
-    open_fails within opened is_open fault h =
-        let none : slice_get (lines_of files) limit ≡ None = rw past_views at within in
-        let e : unless_open (innermost (open_blocks readings)) readings ≡ Err fault = rw is_open at h in
-        rw (are_read, none, e)
+open_certain : (opened : Option Reading) (readings : List Reading) (fault : DictFault) → unless_open opened readings ≡ Err fault → is_memory fault.kind ≡ false
+open_certain None readings fault h = absurd (cc)
+open_certain (Some r) readings fault h =
+    let is : record { file = r.file; line = r.line; kind = Unmatched } ≡ fault = cc in
+    ap (λ (f : DictFault). is_memory f.kind) (sym is)
 
-    pub dictionary_resolved : option_map line_view (slice_get gathered limit) ≡ None → (opened : List Reading) → opened ≡ open_blocks readings → innermost opened ≡ None → dictionary_of limit files ≡ resolve (settled readings) [] (settled readings)
-    unfolding dictionary_of
-    dictionary_resolved within opened is_open closed =
-        let none : slice_get (lines_of files) limit ≡ None = rw past_views at within in
-        let e : innermost (open_blocks readings) ≡ None = rw is_open at closed in
-        rw (are_read, none, e)
+pub open_refuses : (opened : Option Reading) (readings : List Reading) (fault : DictFault) (read : Result Dictionary DictFault) → unless_open opened readings ≡ Err fault → read ≡ Err fault → Refuses fault read
+open_refuses opened readings fault read h e = certain (is_memory fault.kind) fault read (open_certain opened readings fault h) e
+
+-- the lines by what they define before the names of values
+pub settled_by : (lines : List Reading) (context : Context) (attributes : List AttributeLine) (values : List ValueLine) (notes : List Note) → context ≡ context_of lines → attributes ≡ used context.vendors context.attributes → values ≡ [] → notes ≡ []
+    → settled lines ≡ resolve (skipped_names context.vendors lines) (record { attributes = attributes; values = values; vendors = context.vendors; notes = notes }) lines
+unfolding settled
+settled_by lines context attributes values notes is are none unnoted = rw (are, none, unnoted, is)

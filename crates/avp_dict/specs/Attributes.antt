@@ -1,18 +1,19 @@
 -- ATTRIBUTE lines: a name, a number, a type and flags.
-use Rattle.std.specs.Prelude.{ℕ, Bool, not, ◌&&◌, ◌==◌, nat_le, if◌then◌else◌, List, [], ◌∷◌, length, Option, Some, None, is_some, is_none, Result, Ok, Err}
-use Rattle.std.specs.List.{list_any, list_all, slice_split}
+use Rattle.std.specs.Prelude.{ℕ, Bool, false, not, ◌&&◌, ◌==◌, nat_le, if◌then◌else◌, List, [], ◌∷◌, length, Option, Some, None, is_some, is_none, Result, Ok, Err}
+use Rattle.std.specs.List.{list_all, slice_split}
 use Rattle.avp_lists.specs.declared.attributes.AttrId.{AttrId}
 use Rattle.avp_lists.specs.declared.attributes.AttrId.TheVariants as ids
+use Rattle.avp_lists.specs.Pairs.{id_eq}
 use Rattle.avp_dict.specs.declared.faults.DictKind.{DictKind}
 use Rattle.avp_dict.specs.declared.faults.DictKind.TheVariants.{Unreadable, OutOfRange, OtherNumber}
-use Rattle.avp_dict.specs.declared.readings.VendorFormat.{VendorFormat}
-use Rattle.avp_dict.specs.declared.readings.Meaning.{Meaning}
-use Rattle.avp_dict.specs.declared.readings.Meaning.TheVariants.{Attribute, SkippedAttribute}
-use Rattle.avp_dict.specs.declared.readings.Reading.{Reading}
+use Rattle.avp_dict.specs.declared.entries.AttributeLine.{AttributeLine}
+use Rattle.avp_dict.specs.declared.entries.VendorFormat.{VendorFormat}
+use Rattle.avp_dict.specs.declared.entries.VendorLine.{VendorLine}
+use Rattle.avp_dict.specs.Meanings.{Meaning, Attribute, SkippedAttribute, Context}
 use Rattle.avp_dict.specs.Words.{number_of}
 use Rattle.avp_dict.specs.Letters.{is_dot, is_comma, is_name_octet, begins_as_attr}
 use Rattle.avp_dict.specs.Steps.{◌>>=◌}
-use Rattle.avp_dict.specs.Definitions.{format_of, names_other_id}
+use Rattle.avp_dict.specs.Dictionary.{format_of, id_named}
 use Rattle.avp_dict.specs.Types.{are_flags, typing_of}
 
 -- ---- the id of a number
@@ -33,14 +34,14 @@ abbrev pub vendor_id : ℕ → ℕ → Option VendorFormat → Option AttrId
 vendor_id vendor n None = None
 vendor_id vendor n (Some f) = if is_held n f then Some (ids.Vendor vendor n) else None
 
-unfoldable pub number_id : List Reading → Option ℕ → ℕ → Option AttrId
-number_id before None n = Some (ids.Plain n)
-number_id before (Some vendor) n = vendor_id vendor n (format_of vendor before)
+unfoldable pub number_id : List VendorLine → Option ℕ → ℕ → Option AttrId
+number_id vendors None n = Some (ids.Plain n)
+number_id vendors (Some vendor) n = vendor_id vendor n (format_of vendor vendors)
 
 -- the id of a number; none where the line is skipped
-unfoldable pub number_word : List Reading → Option ℕ → Option ℕ → Result (Option AttrId) DictKind
-number_word before block None = Err Unreadable
-number_word before block (Some n) = if nat_le n 4294967295 then Ok (number_id before block n) else Err OutOfRange
+unfoldable pub number_word : List VendorLine → Option ℕ → Option ℕ → Result (Option AttrId) DictKind
+number_word vendors block None = Err Unreadable
+number_word vendors block (Some n) = if nat_le n 4294967295 then Ok (number_id vendors block n) else Err OutOfRange
 
 -- the id of two numbers with a dot between, outside a vendor block
 abbrev pub dotted_word : Option ℕ → Option ℕ → Option ℕ → Result (Option AttrId) DictKind
@@ -55,27 +56,32 @@ abbrev pub many_words : List (List ℕ) → Result (Option AttrId) DictKind
 many_words parts = if list_all is_number parts then Ok None else Err Unreadable
 
 -- the id of the parts between the dots
-unfoldable pub id_word : List Reading → Option ℕ → List (List ℕ) → Result (Option AttrId) DictKind
-id_word before block (n ∷ []) = number_word before block (number_of n)
-id_word before block (t ∷ x ∷ []) = dotted_word block (number_of t) (number_of x)
-id_word before block parts = many_words parts
+unfoldable pub id_word : List VendorLine → Option ℕ → List (List ℕ) → Result (Option AttrId) DictKind
+id_word vendors block (n ∷ []) = number_word vendors block (number_of n)
+id_word vendors block (t ∷ x ∷ []) = dotted_word block (number_of t) (number_of x)
+id_word vendors block parts = many_words parts
 
 -- ---- the line
 
 unfoldable pub is_attribute_name : List ℕ → Bool
 is_attribute_name name = list_all is_name_octet name && nat_le (length name) 128 && not (begins_as_attr name)
 
+-- an earlier line gave the name to another id: the last one tells, since each line of a name agreed with those before it
+abbrev pub is_of_other_id : AttrId → Option AttrId → Bool
+is_of_other_id id None = false
+is_of_other_id id (Some other) = not (id_eq other id)
+
 -- a line whose number is read
-unfoldable pub attribute_of : List Reading → List ℕ → List ℕ → List (List ℕ) → Option AttrId → Result Meaning DictKind
-attribute_of before name kind flags None = Ok (SkippedAttribute name)
-attribute_of before name kind flags (Some id) = if is_attribute_name name && are_flags flags
-    then (if list_any (names_other_id name id) before then Err OtherNumber else Ok (Attribute name id (typing_of id kind flags)))
+unfoldable pub attribute_of : List AttributeLine → List ℕ → List ℕ → List (List ℕ) → Option AttrId → Result Meaning DictKind
+attribute_of attributes name kind flags None = Ok (SkippedAttribute name)
+attribute_of attributes name kind flags (Some id) = if is_attribute_name name && are_flags flags
+    then (if is_of_other_id id (id_named name attributes) then Err OtherNumber else Ok (Attribute (record { name = name; id = id; typing = typing_of id kind flags })))
     else Ok (SkippedAttribute name)
 
-unfoldable pub attribute_line : List Reading → Option ℕ → List ℕ → List ℕ → List ℕ → List (List ℕ) → Result Meaning DictKind
-attribute_line before block name number kind flags = id_word before block (slice_split is_dot number) >>= attribute_of before name kind flags
+unfoldable pub attribute_line : Context → Option ℕ → List ℕ → List ℕ → List ℕ → List (List ℕ) → Result Meaning DictKind
+attribute_line before block name number kind flags = id_word before.vendors block (slice_split is_dot number) >>= attribute_of before.attributes name kind flags
 
-unfoldable pub attribute : List Reading → Option ℕ → List (List ℕ) → Result Meaning DictKind
+unfoldable pub attribute : Context → Option ℕ → List (List ℕ) → Result Meaning DictKind
 attribute before block (name ∷ number ∷ kind ∷ []) = attribute_line before block name number kind []
 attribute before block (name ∷ number ∷ kind ∷ flags ∷ []) = attribute_line before block name number kind (slice_split is_comma flags)
 attribute before block _ = Err Unreadable

@@ -1,23 +1,14 @@
--- Which blocks the lines leave open, and the lines that begin and end blocks.
-use Rattle.std.specs.Prelude.{ℕ, ◌-◌, Bool, true, false, if◌then◌else◌, List, [], ◌∷◌, ◌++◌, length, take, slice_get, Option, Some, None, is_none, Result, Ok, Err}
+-- The blocks that are open, and the lines that begin and end blocks.
+use Rattle.std.specs.Prelude.{ℕ, ◌-◌, Bool, true, false, if◌then◌else◌, List, [], ◌∷◌, length, slice_get, Option, Some, None, is_none, Result, Ok, Err}
 use Rattle.std.specs.Option.{option_and_then, option_map_or}
-use Rattle.std.specs.List.{fold, list_any}
+use Rattle.std.specs.List.{list_any}
+use Rattle.avp_dict.specs.declared.entries.VendorFormat.{VendorFormat}
+use Rattle.avp_dict.specs.declared.entries.VendorLine.{VendorLine}
 use Rattle.avp_dict.specs.declared.faults.DictKind.{DictKind}
 use Rattle.avp_dict.specs.declared.faults.DictKind.TheVariants.{Unreadable, UnknownVendor, Unmatched}
-use Rattle.avp_dict.specs.declared.readings.VendorFormat.{VendorFormat}
-use Rattle.avp_dict.specs.declared.readings.Meaning.{Meaning}
-use Rattle.avp_dict.specs.declared.readings.Meaning.TheVariants.{BeginVendor, BeginTlv, End}
-use Rattle.avp_dict.specs.declared.readings.Reading.{Reading}
+use Rattle.avp_dict.specs.Dictionary.{vendor_named, format_of}
+use Rattle.avp_dict.specs.Meanings.{Meaning, BeginVendor, BeginTlv, End, Reading}
 use Rattle.avp_dict.specs.Words.{same_name}
-use Rattle.avp_dict.specs.Definitions.{vendor_named, format_of}
-
--- a BEGIN line opens a block, and an END line closes the last open one
-abbrev pub after_line : List Reading → Reading → List Reading
-after_line opened r = elim r.meaning [ BeginVendor n v ↦ opened ++ r ∷ [] | BeginTlv n ↦ opened ++ r ∷ [] | End noted ↦ take (length opened - 1) opened | _ ↦ opened ]
-
--- the lines that opened the blocks that are open after these lines, the innermost last
-unfoldable pub open_blocks : List Reading → List Reading
-open_blocks lines = fold after_line [] lines
 
 abbrev pub innermost : List Reading → Option Reading
 innermost opened = slice_get opened (length opened - 1)
@@ -68,13 +59,13 @@ unless_third vendor None = Some vendor
 unless_third vendor (Some f) = if f.third then None else Some vendor
 
 -- a block with a name alone, outside skipped blocks
-unfoldable pub begin_known : List Reading → List ℕ → Result Meaning DictKind
-begin_known before name = elim (vendor_named name before) [
+unfoldable pub begin_known : List VendorLine → List ℕ → Result Meaning DictKind
+begin_known vendors name = elim (vendor_named name vendors) [
   | None ↦ Err UnknownVendor
-  | Some vendor ↦ Ok (BeginVendor name (unless_third vendor (format_of vendor before)))
+  | Some vendor ↦ Ok (BeginVendor name (unless_third vendor (format_of vendor vendors)))
 ]
 
-unfoldable pub begin_vendor : List Reading → List Reading → List (List ℕ) → Result Meaning DictKind
-begin_vendor before opened (name ∷ []) = if is_skipping opened then Ok (BeginVendor name None) else begin_known before name
-begin_vendor before opened (name ∷ word ∷ []) = Ok (BeginVendor name None)
-begin_vendor before opened _ = Err Unreadable
+unfoldable pub begin_vendor : List VendorLine → List Reading → List (List ℕ) → Result Meaning DictKind
+begin_vendor vendors opened (name ∷ []) = if is_skipping opened then Ok (BeginVendor name None) else begin_known vendors name
+begin_vendor vendors opened (name ∷ word ∷ []) = Ok (BeginVendor name None)
+begin_vendor vendors opened _ = Err Unreadable

@@ -1,34 +1,90 @@
--- The dictionary of a file set: its lines as they are read in the end, or the first refusal.
-use Rattle.std.specs.Prelude.{ℕ, List, [], take, slice_get, Option, Some, None, Result, Ok, Err}
-use Rattle.avp_dict.specs.declared.files.NamedFile.{NamedFile}
-use Rattle.avp_dict.specs.declared.faults.DictFault.{DictFault}
-use Rattle.avp_dict.specs.declared.faults.DictKind.TheVariants.{Unmatched, TooLong}
-use Rattle.avp_dict.specs.declared.readings.Reading.{Reading}
-use Rattle.avp_dict.specs.Lines.{Line, lines_of}
-use Rattle.avp_dict.specs.Steps.{◌>>=◌}
-use Rattle.avp_dict.specs.Blocks.{open_blocks, innermost}
-use Rattle.avp_dict.specs.Readings.{read_lines}
-use Rattle.avp_dict.specs.Settled.{settled}
-use Rattle.avp_dict.specs.Values.{resolve}
+-- What dictionary files define: attributes, the names of their values, and vendors, each by a line of its own; and how they are found.
+use Rattle.std.specs.Prelude.{ℕ, Bool, ◌&&◌, ◌==◌, List, reverse, Option}
+use Rattle.std.specs.Option.{option_map}
+use Rattle.std.specs.List.{find}
+use Rattle.avp_lists.specs.declared.attributes.AttrId.{AttrId}
+use Rattle.avp_lists.specs.Pairs.{id_eq}
+use Rattle.avp_dict.specs.declared.entries.AttributeLine.{AttributeLine}
+use Rattle.avp_dict.specs.declared.entries.ValueLine.{ValueLine}
+use Rattle.avp_dict.specs.declared.entries.VendorLine.{VendorLine}
+use Rattle.avp_dict.specs.declared.entries.VendorFormat.{VendorFormat}
+use Rattle.avp_dict.specs.declared.entries.Typing.{Typing}
+use Rattle.avp_dict.specs.declared.entries.Note.{Note}
+use Rattle.avp_dict.specs.Words.{same_name}
 
--- a line past the limit
-abbrev pub unless_past : {A : Type 0} → Option Line → A → Result A DictFault
-unless_past None x = Ok x
-unless_past (Some line) x = Err (record { file = line.file; line = line.number; kind = TooLong })
+-- the used ATTRIBUTE lines, the used VALUE lines, the VENDOR lines, and where lines stand that were skipped, each in the order of the lines
+pub record Dictionary : Type 0 where
+  pub attributes : List AttributeLine
+  pub values : List ValueLine
+  pub vendors : List VendorLine
+  pub notes : List Note
 
--- a block left open, at the line that opened it
-abbrev pub unless_open : {A : Type 0} → Option Reading → A → Result A DictFault
-unless_open None x = Ok x
-unless_open (Some r) x = Err (record { file = r.file; line = r.line; kind = Unmatched })
+-- the last line that passes
+abbrev pub last_where : {X : Type 0} → (X → Bool) → List X → Option X
+last_where test lines = find test (reverse lines)
 
--- so many lines are read
-abbrev pub most_lines : ℕ
-most_lines = 200000
+-- ---- attributes
 
--- first the lines, so many at most, one after the other; then one line too many, a block left open, and the VALUE lines
-unfoldable pub dictionary_of : ℕ → List NamedFile → Result (List Reading) DictFault
-dictionary_of limit files = do
-  lines ← read_lines files [] (take limit (lines_of files))
-  within ← unless_past (slice_get (lines_of files) limit) lines
-  closed ← unless_open (innermost (open_blocks within)) within
-  resolve (settled closed) [] (settled closed)
+abbrev pub is_attribute_named : List ℕ → AttributeLine → Bool
+is_attribute_named name a = same_name a.name name
+
+abbrev pub is_attribute_of : AttrId → AttributeLine → Bool
+is_attribute_of id a = id_eq a.id id
+
+abbrev pub id_of_line : AttributeLine → AttrId
+id_of_line a = a.id
+
+abbrev pub typing_of_line : AttributeLine → Typing
+typing_of_line a = a.typing
+
+-- the id that a name stands for: that of the last line with the name
+unfoldable pub id_named : List ℕ → List AttributeLine → Option AttrId
+id_named name attributes = option_map id_of_line (last_where (is_attribute_named name) attributes)
+
+-- how the values of an id are read: as its last line says
+unfoldable pub typing_of_id : AttrId → List AttributeLine → Option Typing
+typing_of_id id attributes = option_map typing_of_line (last_where (is_attribute_of id) attributes)
+
+-- ---- the names of values
+
+abbrev pub is_value_named : AttrId → List ℕ → ValueLine → Bool
+is_value_named id name v = id_eq v.id id && same_name v.name name
+
+abbrev pub is_value_numbered : AttrId → ℕ → ValueLine → Bool
+is_value_numbered id number v = id_eq v.id id && (v.number == number)
+
+abbrev pub number_of_line : ValueLine → ℕ
+number_of_line v = v.number
+
+abbrev pub name_of_line : ValueLine → List ℕ
+name_of_line v = v.name
+
+-- the number that a name of an attribute's values stands for
+unfoldable pub number_named : AttrId → List ℕ → List ValueLine → Option ℕ
+number_named id name values = option_map number_of_line (last_where (is_value_named id name) values)
+
+-- the printed name of a number: the last one
+unfoldable pub name_numbered : AttrId → ℕ → List ValueLine → Option (List ℕ)
+name_numbered id number values = option_map name_of_line (last_where (is_value_numbered id number) values)
+
+-- ---- vendors
+
+abbrev pub is_vendor_named : List ℕ → VendorLine → Bool
+is_vendor_named name v = same_name v.name name
+
+abbrev pub is_vendor_numbered : ℕ → VendorLine → Bool
+is_vendor_numbered number v = v.number == number
+
+abbrev pub vendor_of_line : VendorLine → ℕ
+vendor_of_line v = v.number
+
+abbrev pub format_of_line : VendorLine → VendorFormat
+format_of_line v = v.format
+
+-- the number of the vendor with this name
+unfoldable pub vendor_named : List ℕ → List VendorLine → Option ℕ
+vendor_named name vendors = option_map vendor_of_line (last_where (is_vendor_named name) vendors)
+
+-- the format of a vendor: that of its last line
+unfoldable pub format_of : ℕ → List VendorLine → Option VendorFormat
+format_of number vendors = option_map format_of_line (last_where (is_vendor_numbered number) vendors)

@@ -1,11 +1,12 @@
 pub mod Attributes
 pub mod Blocks
 pub mod Counts
-pub mod Definitions
 pub mod Dictionary
+pub mod DictionaryReading
 pub mod Letters
 pub mod Limits
 pub mod Lines
+pub mod Meanings
 pub mod Names
 pub mod Octets
 pub mod Outcomes

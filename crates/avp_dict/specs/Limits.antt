@@ -1,5 +1,5 @@
 -- How many octets a value may have, and which pairs fit a dictionary.
-use Rattle.std.specs.Prelude.{ℕ, ◌-◌, min, Bool, true, false, not, ◌&&◌, nat_le, if◌then◌else◌, List, length, Option, Some}
+use Rattle.std.specs.Prelude.{ℕ, ◌-◌, min, Bool, true, false, not, ◌&&◌, nat_le, if◌then◌else◌, length, Option, Some}
 use Rattle.std.specs.Option.{option_map_or}
 use Rattle.avp_lists.specs.declared.attributes.AttrId.{AttrId}
 use Rattle.avp_lists.specs.declared.attributes.AttrId.TheVariants as ids
@@ -8,9 +8,9 @@ use Rattle.avp_lists.specs.declared.attributes.Value.TheVariants.{Int, Signed, A
 use Rattle.avp_lists.specs.declared.attributes.Value.TheVariants as values
 use Rattle.avp_lists.specs.declared.attributes.Pair.{Pair}
 use Rattle.avp_dict.specs.declared.entries.Format.{Format}
-use Rattle.avp_dict.specs.declared.readings.Kind.{Kind}
-use Rattle.avp_dict.specs.declared.readings.Kind.TheVariants as kinds
-use Rattle.avp_dict.specs.declared.readings.Reading.{Reading}
+use Rattle.avp_dict.specs.declared.entries.Kind.{Kind}
+use Rattle.avp_dict.specs.declared.entries.Kind.TheVariants as kinds
+use Rattle.avp_dict.specs.Dictionary.{Dictionary}
 use Rattle.avp_dict.specs.Names.{vendor_format}
 use Rattle.avp_dict.specs.Octets.{kind_of, is_hidden, octets, ends_in_nul}
 use Rattle.avp_dict.specs.Settled.{is_in_format}
@@ -27,22 +27,22 @@ abbrev pub extended_room : ℕ → ℕ
 extended_room t = if nat_le 241 t && nat_le t 244 then 252 else (if nat_le 245 t && nat_le t 246 then 4012 else 0)
 
 -- the most octets of an id's attribute; the vendor's format has to have two parts
-unfoldable pub most_octets : AttrId → List Reading → ℕ
-most_octets (ids.Plain n) lines = if nat_le n 255 then 253 else 4012
-most_octets (ids.Vendor vendor n) lines = option_map_or vendor_room (vendor_format vendor lines) 0
-most_octets (ids.Extended t n) lines = extended_room t
+unfoldable pub most_octets : AttrId → Dictionary → ℕ
+most_octets (ids.Plain n) dictionary = if nat_le n 255 then 253 else 4012
+most_octets (ids.Vendor vendor n) dictionary = option_map_or vendor_room (vendor_format vendor dictionary) 0
+most_octets (ids.Extended t n) dictionary = extended_room t
 
 -- the most octets of a value of the id's type
-unfoldable pub greatest_length : AttrId → List Reading → ℕ
-greatest_length id lines = if is_hidden id lines then min 128 (most_octets id lines) else most_octets id lines
+unfoldable pub greatest_length : AttrId → Dictionary → ℕ
+greatest_length id dictionary = if is_hidden id dictionary then min 128 (most_octets id dictionary) else most_octets id dictionary
 
 -- ---- fitting pairs
 
 -- an id of a plain attribute, of an extended type, or of a vendor whose format has two parts and holds the number
-unfoldable pub is_known : AttrId → List Reading → Bool
-is_known (ids.Plain n) lines = true
-is_known (ids.Vendor vendor n) lines = is_in_format vendor n lines
-is_known (ids.Extended t n) lines = nat_le 241 t && nat_le t 246
+unfoldable pub is_known : AttrId → Dictionary → Bool
+is_known (ids.Plain n) dictionary = true
+is_known (ids.Vendor vendor n) dictionary = is_in_format vendor n dictionary.vendors
+is_known (ids.Extended t n) dictionary = nat_le 241 t && nat_le t 246
 
 -- the greatest number of a type
 abbrev pub most_number : Kind → Option ℕ
@@ -60,19 +60,19 @@ is_of_kind (Int n) kind = option_map_or (nat_le n) (most_number kind) false
 is_of_kind _ _ = false
 
 -- a value of the id's type, or raw octets
-abbrev pub is_typed : AttrId → Value → List Reading → Bool
-is_typed id (Raw os) lines = true
-is_typed id value lines = option_map_or (is_of_kind value) (kind_of id lines) false
+abbrev pub is_typed : AttrId → Value → Dictionary → Bool
+is_typed id (Raw os) dictionary = true
+is_typed id value dictionary = option_map_or (is_of_kind value) (kind_of id dictionary) false
 
 -- a length that the id's type allows; hidden octets do not end in NUL
-abbrev pub is_value_within : AttrId → Value → List Reading → Bool
-is_value_within id value lines = nat_le (length (octets id value lines)) (greatest_length id lines)
-    && not (is_hidden id lines && ends_in_nul (octets id value lines))
+abbrev pub is_value_within : AttrId → Value → Dictionary → Bool
+is_value_within id value dictionary = nat_le (length (octets id value dictionary)) (greatest_length id dictionary)
+    && not (is_hidden id dictionary && ends_in_nul (octets id value dictionary))
 
 -- raw octets have the length that the id's attribute holds
-abbrev pub is_within : AttrId → Value → List Reading → Bool
-is_within id (Raw os) lines = nat_le (length os) (most_octets id lines)
-is_within id value lines = is_value_within id value lines
+abbrev pub is_within : AttrId → Value → Dictionary → Bool
+is_within id (Raw os) dictionary = nat_le (length os) (most_octets id dictionary)
+is_within id value dictionary = is_value_within id value dictionary
 
-unfoldable pub fits : Pair → List Reading → Bool
-fits pair lines = is_known pair.id lines && is_typed pair.id pair.value lines && is_within pair.id pair.value lines
+unfoldable pub fits : Pair → Dictionary → Bool
+fits pair dictionary = is_known pair.id dictionary && is_typed pair.id pair.value dictionary && is_within pair.id pair.value dictionary

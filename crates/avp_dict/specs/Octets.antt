@@ -7,9 +7,9 @@ use Rattle.avp_lists.specs.declared.attributes.AttrId.{AttrId}
 use Rattle.avp_lists.specs.declared.attributes.Value.{Value}
 use Rattle.avp_lists.specs.declared.attributes.Value.TheVariants.{Int, Signed, Addr, Ether, Raw}
 use Rattle.avp_lists.specs.declared.attributes.Value.TheVariants as values
-use Rattle.avp_dict.specs.declared.readings.Kind.{Kind}
-use Rattle.avp_dict.specs.declared.readings.Kind.TheVariants as kinds
-use Rattle.avp_dict.specs.declared.readings.Reading.{Reading}
+use Rattle.avp_dict.specs.declared.entries.Kind.{Kind}
+use Rattle.avp_dict.specs.declared.entries.Kind.TheVariants as kinds
+use Rattle.avp_dict.specs.Dictionary.{Dictionary}
 use Rattle.avp_dict.specs.Names.{Described, described}
 
 abbrev pub kind_described : Described → Kind
@@ -19,12 +19,12 @@ abbrev pub hidden_described : Described → Bool
 hidden_described d = d.hidden
 
 -- the type of an id's values, if a line gives one
-abbrev pub kind_of : AttrId → List Reading → Option Kind
-kind_of id lines = option_map kind_described (described id lines)
+abbrev pub kind_of : AttrId → Dictionary → Option Kind
+kind_of id dictionary = option_map kind_described (described id dictionary)
 
 -- whether an id's values are hidden (RFC 2865, section 5.2)
-abbrev pub is_hidden : AttrId → List Reading → Bool
-is_hidden id lines = option_map_or hidden_described (described id lines) false
+abbrev pub is_hidden : AttrId → Dictionary → Bool
+is_hidden id dictionary = option_map_or hidden_described (described id dictionary) false
 
 -- ---- the octets of a value
 
@@ -45,8 +45,8 @@ octets_of kind (Addr os) = os
 octets_of kind (Ether os) = os
 octets_of kind (Raw os) = os
 
-unfoldable pub octets : AttrId → Value → List Reading → List ℕ
-octets id value lines = octets_of (kind_of id lines) value
+unfoldable pub octets : AttrId → Value → Dictionary → List ℕ
+octets id value dictionary = octets_of (kind_of id dictionary) value
 
 -- ---- the value of octets
 
@@ -88,9 +88,9 @@ abbrev pub read_by : List ℕ → Described → Option Value
 read_by os d = if d.hidden && not (is_hideable os) then None else value_read d.kind os
 
 -- the value of an id's type with these octets
-unfoldable pub read_value : AttrId → List ℕ → List Reading → Option Value
-read_value id os lines = option_and_then (read_by os) (described id lines)
+unfoldable pub read_value : AttrId → List ℕ → Dictionary → Option Value
+read_value id os dictionary = option_and_then (read_by os) (described id dictionary)
 
 -- the value of an id's type, and the octets as they are where the type does not read them
-unfoldable pub value_of_octets : AttrId → List ℕ → List Reading → Value
-value_of_octets id os lines = unwrap_or (read_value id os lines) (Raw os)
+unfoldable pub value_of_octets : AttrId → List ℕ → Dictionary → Value
+value_of_octets id os dictionary = unwrap_or (read_value id os dictionary) (Raw os)

@@ -9,10 +9,10 @@ use Rattle.avp_lists.specs.declared.attributes.AttrId.TheVariants as ids
 use Rattle.avp_lists.specs.declared.attributes.Value.{Value}
 use Rattle.avp_lists.specs.declared.attributes.Value.TheVariants.{Int, Signed, Addr, Ether, Raw}
 use Rattle.avp_lists.specs.declared.attributes.Value.TheVariants as values
-use Rattle.avp_dict.specs.declared.readings.Kind.{Kind}
-use Rattle.avp_dict.specs.declared.readings.Kind.TheVariants.{Date}
-use Rattle.avp_dict.specs.declared.readings.Reading.{Reading}
-use Rattle.avp_dict.specs.Names.{Described, described, name_numbered}
+use Rattle.avp_dict.specs.declared.entries.Kind.{Kind}
+use Rattle.avp_dict.specs.declared.entries.Kind.TheVariants.{Date}
+use Rattle.avp_dict.specs.Dictionary.{Dictionary, name_numbered}
+use Rattle.avp_dict.specs.Names.{Described, described}
 use Rattle.avp_dict.specs.Octets.{octets}
 use Rattle.avp_dict.specs.Quotes.{quoted}
 use Rattle.avp_dict.specs.Sent.{is_container, is_raw}
@@ -35,19 +35,19 @@ abbrev pub ether_text : List ℕ → List ℕ
 ether_text os = join_by digit_pair_text (codes ":") os
 
 -- the last name that a VALUE line gives to the number, else its decimal digits; a date has no names
-abbrev pub number_text : Kind → AttrId → ℕ → List Reading → List ℕ
-number_text Date id n lines = decimal n
-number_text kind id n lines = unwrap_or (name_numbered id n lines) (decimal n)
+abbrev pub number_text : Kind → AttrId → ℕ → Dictionary → List ℕ
+number_text Date id n dictionary = decimal n
+number_text kind id n dictionary = unwrap_or (name_numbered id n dictionary.values) (decimal n)
 
 -- a value of a type
-abbrev pub typed_text : Kind → AttrId → Value → List Reading → List ℕ
-typed_text kind id (values.Text os) lines = quoted os
-typed_text kind id (values.Bytes os) lines = hexadecimal os
-typed_text kind id (Int n) lines = number_text kind id n lines
-typed_text kind id (Signed z) lines = signed_decimal z
-typed_text kind id (Addr os) lines = address_text os
-typed_text kind id (Ether os) lines = ether_text os
-typed_text kind id (Raw os) lines = hexadecimal os
+abbrev pub typed_text : Kind → AttrId → Value → Dictionary → List ℕ
+typed_text kind id (values.Text os) dictionary = quoted os
+typed_text kind id (values.Bytes os) dictionary = hexadecimal os
+typed_text kind id (Int n) dictionary = number_text kind id n dictionary
+typed_text kind id (Signed z) dictionary = signed_decimal z
+typed_text kind id (Addr os) dictionary = address_text os
+typed_text kind id (Ether os) dictionary = ether_text os
+typed_text kind id (Raw os) dictionary = hexadecimal os
 
 -- ---- by number
 
@@ -61,18 +61,18 @@ attr_name (ids.Extended t n) = codes "Attr-" ++ decimal t ++ codes "." ++ decima
 abbrev pub is_by_number : AttrId → Value → Bool
 is_by_number id value = is_container id || is_raw value
 
-abbrev pub text_by : AttrId → Value → List Reading → Option Described → List ℕ
-text_by id value lines None = hexadecimal (octets id value lines)
-text_by id value lines (Some d) = typed_text d.kind id value lines
+abbrev pub text_by : AttrId → Value → Dictionary → Option Described → List ℕ
+text_by id value dictionary None = hexadecimal (octets id value dictionary)
+text_by id value dictionary (Some d) = typed_text d.kind id value dictionary
 
 abbrev pub name_by : AttrId → Option Described → List ℕ
 name_by id None = attr_name id
 name_by id (Some d) = d.name
 
 -- the text that is printed for a value of an id
-unfoldable pub printed_text : AttrId → Value → List Reading → List ℕ
-printed_text id value lines = if is_by_number id value then hexadecimal (octets id value lines) else text_by id value lines (described id lines)
+unfoldable pub printed_text : AttrId → Value → Dictionary → List ℕ
+printed_text id value dictionary = if is_by_number id value then hexadecimal (octets id value dictionary) else text_by id value dictionary (described id dictionary)
 
 -- the name that is printed before it: that of the id's last ATTRIBUTE line, or one by number
-unfoldable pub printed_name : AttrId → Value → List Reading → List ℕ
-printed_name id value lines = if is_by_number id value then attr_name id else name_by id (described id lines)
+unfoldable pub printed_name : AttrId → Value → Dictionary → List ℕ
+printed_name id value dictionary = if is_by_number id value then attr_name id else name_by id (described id dictionary)

@@ -1,16 +1,14 @@
 -- What each line of a file set is read as, by the lines before it, or the first refusal.
-use Rattle.std.specs.Prelude.{codes, ℕ, Bool, nat_lt, if◌then◌else◌, List, [], ◌∷◌, ◌++◌, Option, Some, None, Result, Ok, Err}
+use Rattle.std.specs.Prelude.{codes, ℕ, Bool, nat_lt, if◌then◌else◌, List, [], ◌∷◌, ◌++◌, length, Option, Some, None, Result, Ok, Err}
 use Rattle.avp_dict.specs.declared.files.NamedFile.{NamedFile}
 use Rattle.avp_dict.specs.declared.faults.DictKind.{DictKind}
-use Rattle.avp_dict.specs.declared.faults.DictKind.TheVariants.{Unreadable, NoFile, TooDeep}
+use Rattle.avp_dict.specs.declared.faults.DictKind.TheVariants.{Unreadable, NoFile, TooDeep, TooLong}
 use Rattle.avp_dict.specs.declared.faults.DictFault.{DictFault}
-use Rattle.avp_dict.specs.declared.readings.Meaning.{Meaning}
-use Rattle.avp_dict.specs.declared.readings.Meaning.TheVariants.{Nothing, Skipped, SkippedAttribute, Unresolved}
-use Rattle.avp_dict.specs.declared.readings.Reading.{Reading}
+use Rattle.avp_dict.specs.Meanings.{Meaning, Nothing, Skipped, SkippedAttribute, Value, Reading, Context, context_of}
 use Rattle.avp_dict.specs.Lines.{Line, is_include, file_included}
 use Rattle.avp_dict.specs.Words.{words_of, same_name}
 use Rattle.avp_dict.specs.Steps.{◌>>=◌, refused_at}
-use Rattle.avp_dict.specs.Blocks.{open_blocks, is_skipping, block_vendor, begin_vendor, end_vendor, begin_tlv, end_tlv}
+use Rattle.avp_dict.specs.Blocks.{is_skipping, block_vendor, begin_vendor, end_vendor, begin_tlv, end_tlv}
 use Rattle.avp_dict.specs.Vendors.{bounded, vendor}
 use Rattle.avp_dict.specs.Attributes.{attribute}
 
@@ -28,7 +26,7 @@ include found depth head _ = Err Unreadable
 -- ---- VALUE lines, whose names are resolved after the last line
 
 abbrev pub value_words : List ℕ → List ℕ → List ℕ → Result Meaning DictKind
-value_words attribute name number = bounded 18446744073709551615 number >>= λ n. Ok (Unresolved attribute name n)
+value_words attribute name number = bounded 18446744073709551615 number >>= λ n. Ok (Value attribute name n)
 
 unfoldable pub value : List (List ℕ) → Result Meaning DictKind
 value (attribute ∷ name ∷ number ∷ []) = value_words attribute name number
@@ -41,34 +39,38 @@ abbrev pub skipped : List ℕ → List (List ℕ) → Meaning
 skipped head [] = Skipped
 skipped head (name ∷ words) = if same_name head (codes "attribute") then SkippedAttribute name else Skipped
 
-unfoldable pub plain_line : List Reading → Option ℕ → List ℕ → List (List ℕ) → Result Meaning DictKind
+unfoldable pub plain_line : Context → Option ℕ → List ℕ → List (List ℕ) → Result Meaning DictKind
 plain_line before block head rest =
     if same_name head (codes "attribute") then attribute before block rest
     else (if same_name head (codes "value") then value rest
-    else (if same_name head (codes "vendor") then vendor before rest
+    else (if same_name head (codes "vendor") then vendor before.vendors rest
     else Err Unreadable))
 
--- the words of a line after its first, by the lines before it and the blocks that these leave open; found is the place of the file that it includes
-unfoldable pub read_head : List Reading → List Reading → Option ℕ → ℕ → List ℕ → List (List ℕ) → Result Meaning DictKind
-read_head before opened found depth head rest =
+-- the words of a line after its first, by what the lines before it leave; found is the place of the file that it includes
+unfoldable pub read_head : Context → Option ℕ → ℕ → List ℕ → List (List ℕ) → Result Meaning DictKind
+read_head before found depth head rest =
     if is_include head then include found depth head rest
-    else (if same_name head (codes "begin-vendor") then begin_vendor before opened rest
-    else (if same_name head (codes "end-vendor") then end_vendor opened rest
+    else (if same_name head (codes "begin-vendor") then begin_vendor before.vendors before.opened rest
+    else (if same_name head (codes "end-vendor") then end_vendor before.opened rest
     else (if same_name head (codes "begin-tlv") then begin_tlv rest
-    else (if same_name head (codes "end-tlv") then end_tlv opened rest
-    else (if is_skipping opened then Ok (skipped head rest)
-    else plain_line before (block_vendor opened) head rest)))))
+    else (if same_name head (codes "end-tlv") then end_tlv before.opened rest
+    else (if is_skipping before.opened then Ok (skipped head rest)
+    else plain_line before (block_vendor before.opened) head rest)))))
 
-unfoldable pub read_words : List Reading → List Reading → Option ℕ → ℕ → List (List ℕ) → Result Meaning DictKind
-read_words before opened found depth [] = Ok Nothing
-read_words before opened found depth (head ∷ rest) = read_head before opened found depth head rest
+unfoldable pub read_words : Context → Option ℕ → ℕ → List (List ℕ) → Result Meaning DictKind
+read_words before found depth [] = Ok Nothing
+read_words before found depth (head ∷ rest) = read_head before found depth head rest
 
--- a line, by the lines before it
-unfoldable pub read_line : List NamedFile → List Reading → Line → Result Meaning DictKind
-read_line files before line = read_words before (open_blocks before) (file_included files line.text) line.depth (words_of line.text)
+-- a line, by what the lines before it leave
+unfoldable pub read_line : List NamedFile → Context → Line → Result Meaning DictKind
+read_line files before line = read_words before (file_included files line.text) line.depth (words_of line.text)
 
--- what the lines are read as: each by the lines before it, or the first refusal
-unfoldable pub read_lines : List NamedFile → List Reading → List Line → Result (List Reading) DictFault
-read_lines files before [] = Ok before
-read_lines files before (line ∷ lines) = refused_at line.file line.number (read_line files before line) >>= λ meaning.
-    read_lines files (before ++ record { file = line.file; line = line.number; meaning = meaning } ∷ []) lines
+-- so many lines are read; one more is refused, before anything else about it
+abbrev pub within : ℕ → List Reading → Result Meaning DictKind → Result Meaning DictKind
+within limit before read = if nat_lt (length before) limit then read else Err TooLong
+
+-- what the lines are read as, so many at most: each by the lines before it, or the first refusal
+unfoldable pub read_lines : ℕ → List NamedFile → List Reading → List Line → Result (List Reading) DictFault
+read_lines limit files before [] = Ok before
+read_lines limit files before (line ∷ lines) = refused_at line.file line.number (within limit before (read_line files (context_of before) line)) >>= λ meaning.
+    read_lines limit files (before ++ record { file = line.file; line = line.number; meaning = meaning } ∷ []) lines

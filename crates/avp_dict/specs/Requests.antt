@@ -6,7 +6,7 @@ use Rattle.avp_lists.specs.declared.attributes.Pair.{Pair}
 use Rattle.avp_lists.specs.declared.attributes.Value.{Value}
 use Rattle.avp_lists.specs.States.{most_pairs}
 use Rattle.avp_dict.specs.declared.entries.Named.{Named}
-use Rattle.avp_dict.specs.declared.readings.Reading.{Reading}
+use Rattle.avp_dict.specs.Dictionary.{Dictionary}
 use Rattle.avp_dict.specs.Names.{named}
 use Rattle.avp_dict.specs.RequestLines.{Assignment, assignments_of, joined}
 use Rattle.avp_dict.specs.Spellings.{value_spelled}
@@ -15,22 +15,22 @@ abbrev pub pair_with : Named → Value → Pair
 pair_with name value = record { id = name.id; value = value }
 
 -- the pair of a text under a known name
-abbrev pub pair_named : List Reading → List ℕ → Named → Option Pair
-pair_named lines text name = option_map (pair_with name) (result_ok (value_spelled name text lines))
+abbrev pub pair_named : Dictionary → List ℕ → Named → Option Pair
+pair_named dictionary text name = option_map (pair_with name) (result_ok (value_spelled name text dictionary))
 
 -- the pair that an assignment spells
-unfoldable pub pair_spelled : List Reading → Assignment → Option Pair
-pair_spelled lines a = option_and_then (pair_named lines a.text) (named a.name lines)
+unfoldable pub pair_spelled : Dictionary → Assignment → Option Pair
+pair_spelled dictionary a = option_and_then (pair_named dictionary a.text) (named a.name dictionary)
 
 -- the pairs of all, where each has one
-unfoldable pub pairs_spelled : List Reading → List Assignment → Option (List Pair)
-pairs_spelled lines [] = Some []
-pairs_spelled lines (a ∷ as_) = joined (option_map (λ pair. pair ∷ []) (pair_spelled lines a)) (pairs_spelled lines as_)
+unfoldable pub pairs_spelled : Dictionary → List Assignment → Option (List Pair)
+pairs_spelled dictionary [] = Some []
+pairs_spelled dictionary (a ∷ as_) = joined (option_map (λ pair. pair ∷ []) (pair_spelled dictionary a)) (pairs_spelled dictionary as_)
 
 -- no more pairs than a list may have
 abbrev pub few_enough : List Pair → Option (List Pair)
 few_enough pairs = if nat_le (length pairs) most_pairs then Some pairs else None
 
 -- the request of a text: the pairs that its lines assign
-unfoldable pub request_spelled : List ℕ → List Reading → Option (List Pair)
-request_spelled text lines = option_and_then few_enough (option_and_then (pairs_spelled lines) (assignments_of text))
+unfoldable pub request_spelled : List ℕ → Dictionary → Option (List Pair)
+request_spelled text dictionary = option_and_then few_enough (option_and_then (pairs_spelled dictionary) (assignments_of text))

@@ -7,7 +7,7 @@ use Rattle.avp_lists.specs.declared.attributes.Value.{Value}
 use Rattle.avp_lists.specs.declared.attributes.Value.TheVariants.{Raw}
 use Rattle.avp_lists.specs.declared.attributes.Pair.{Pair}
 use Rattle.avp_lists.specs.Pairs.{value_eq}
-use Rattle.avp_dict.specs.declared.readings.Reading.{Reading}
+use Rattle.avp_dict.specs.Dictionary.{Dictionary}
 use Rattle.avp_dict.specs.Octets.{is_hidden, octets, value_of_octets}
 use Rattle.avp_dict.specs.Limits.{fits}
 
@@ -35,22 +35,22 @@ is_shown (Raw os) = not (is_block_length (length os))
 is_shown _ = true
 
 -- a pair that its own octets stand for
-unfoldable pub is_canonical : Pair → List Reading → Bool
-is_canonical pair lines = fits pair lines
-    && (if is_hidden pair.id lines then is_shown pair.value else value_eq pair.value (value_of_octets pair.id (octets pair.id pair.value lines) lines))
+unfoldable pub is_canonical : Pair → Dictionary → Bool
+is_canonical pair dictionary = fits pair dictionary
+    && (if is_hidden pair.id dictionary then is_shown pair.value else value_eq pair.value (value_of_octets pair.id (octets pair.id pair.value dictionary) dictionary))
 
-abbrev pub is_clean_pair : List Reading → Pair → Bool
-is_clean_pair lines pair = is_canonical pair lines && not (is_container pair.id)
+abbrev pub is_clean_pair : Dictionary → Pair → Bool
+is_clean_pair dictionary pair = is_canonical pair dictionary && not (is_container pair.id)
 
 -- a list that is read back as it was written
-unfoldable pub is_clean : List Pair → List Reading → Bool
-is_clean pairs lines = list_all (is_clean_pair lines) pairs
+unfoldable pub is_clean : List Pair → Dictionary → Bool
+is_clean pairs dictionary = list_all (is_clean_pair dictionary) pairs
 
 -- a pair that is not internal, and has octets or hides that it has none
-abbrev pub is_sent : List Reading → Pair → Bool
-is_sent lines pair = not (is_internal pair.id)
-    && (not (length (octets pair.id pair.value lines) == 0) || (is_hidden pair.id lines && not (is_raw pair.value)))
+abbrev pub is_sent : Dictionary → Pair → Bool
+is_sent dictionary pair = not (is_internal pair.id)
+    && (not (length (octets pair.id pair.value dictionary) == 0) || (is_hidden pair.id dictionary && not (is_raw pair.value)))
 
 -- the pairs that are sent
-unfoldable pub sent : List Pair → List Reading → List Pair
-sent pairs lines = filter (is_sent lines) pairs
+unfoldable pub sent : List Pair → Dictionary → List Pair
+sent pairs dictionary = filter (is_sent dictionary) pairs

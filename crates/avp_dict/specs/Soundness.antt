@@ -1,31 +1,42 @@
--- What holds of the lines of every dictionary that was read: a name stands for one thing, and for nothing that is written by number, and a vendor's format is one of those that there are.
-use Rattle.std.specs.Prelude.{◌≡◌, ℕ, true, false, List, Some}
+-- What holds of every dictionary that was read: a name stands for one thing, and for nothing that is written by number, and a vendor's format is one of those that there are.
+use Rattle.std.specs.Prelude.{◌≡◌, ℕ, Bool, true, false, not, ◌&&◌, ◌==◌, List, Some}
 use Rattle.std.specs.List.{All}
 use Rattle.avp_lists.specs.declared.attributes.AttrId.{AttrId}
-use Rattle.avp_dict.specs.declared.readings.Meaning.TheVariants.{Attribute, Value, Vendor}
-use Rattle.avp_dict.specs.declared.readings.Reading.{Reading}
-use Rattle.avp_dict.specs.declared.readings.Typing.{Typing}
-use Rattle.avp_dict.specs.Definitions.{names_other_id}
+use Rattle.avp_lists.specs.Pairs.{id_eq}
+use Rattle.avp_dict.specs.declared.entries.AttributeLine.{AttributeLine}
+use Rattle.avp_dict.specs.declared.entries.ValueLine.{ValueLine}
+use Rattle.avp_dict.specs.declared.entries.VendorLine.{VendorLine}
+use Rattle.avp_dict.specs.Dictionary.{Dictionary, is_attribute_named, is_value_named}
 use Rattle.avp_dict.specs.Letters.{begins_as_attr}
 use Rattle.avp_dict.specs.Limits.{is_known}
 use Rattle.avp_dict.specs.Types.{is_text_kind}
-use Rattle.avp_dict.specs.Values.{names_other_value, reads_as_number}
+use Rattle.avp_dict.specs.Values.{reads_as_number}
 use Rattle.avp_dict.specs.Vendors.{is_format}
 
+-- a line that gives the name another id
+abbrev pub names_other_id : List ℕ → AttrId → AttributeLine → Bool
+names_other_id name id a = is_attribute_named name a && not (id_eq a.id id)
+
 -- the name has no form of a name by number and no other id, the id is known, and a hidden value is a string or octets
-pub record IsSoundAttribute (lines : List Reading) (name : List ℕ) (id : AttrId) (typing : Typing) : Type 0 where
-  pub named : begins_as_attr name ≡ false
-  pub alone : All (λ r. names_other_id name id r ≡ false) lines
-  pub known : is_known id lines ≡ true
-  pub hides : typing.hidden ≡ true → is_text_kind (Some typing.kind) ≡ true
+pub record IsSoundAttribute (dictionary : Dictionary) (a : AttributeLine) : Type 0 where
+  pub named : begins_as_attr a.name ≡ false
+  pub alone : All (λ b. names_other_id a.name a.id b ≡ false) dictionary.attributes
+  pub known : is_known a.id dictionary ≡ true
+  pub hides : a.typing.hidden ≡ true → is_text_kind (Some a.typing.kind) ≡ true
+
+-- a line that gives the attribute's name another number
+abbrev pub names_other_value : AttrId → List ℕ → ℕ → ValueLine → Bool
+names_other_value id name number v = is_value_named id name v && not (v.number == number)
 
 -- the name is no number, and the attribute gives it no other number
-pub record IsSoundValue (lines : List Reading) (id : AttrId) (name : List ℕ) (number : ℕ) : Type 0 where
-  pub named : reads_as_number name ≡ false
-  pub alone : All (λ r. names_other_value id name number r ≡ false) lines
+pub record IsSoundValue (values : List ValueLine) (v : ValueLine) : Type 0 where
+  pub named : reads_as_number v.name ≡ false
+  pub alone : All (λ w. names_other_value v.id v.name v.number w ≡ false) values
 
-abbrev pub IsSoundLine : List Reading → Reading → Type 0
-IsSoundLine lines r = elim r.meaning [ Attribute n i t ↦ IsSoundAttribute lines n i t | Value i n v ↦ IsSoundValue lines i n v | Vendor n v f ↦ is_format f.t f.l ≡ true | _ ↦ Unit {0} ]
+abbrev pub IsSoundVendor : VendorLine → Type 0
+IsSoundVendor v = is_format v.format.t v.format.l ≡ true
 
-abbrev pub IsSound : List Reading → Type 0
-IsSound lines = All (IsSoundLine lines) lines
+pub record IsSound (dictionary : Dictionary) : Type 0 where
+  pub attributes : All (IsSoundAttribute dictionary) dictionary.attributes
+  pub values : All (IsSoundValue dictionary.values) dictionary.values
+  pub vendors : All IsSoundVendor dictionary.vendors

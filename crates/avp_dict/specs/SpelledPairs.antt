@@ -2,11 +2,11 @@
 use Rattle.std.specs.Prelude.{◌≡◌, ℕ, IsTrue, List, Some}
 use Rattle.std.specs.Option.{option_and_then}
 use Rattle.avp_lists.specs.declared.attributes.Pair.{Pair}
-use Rattle.avp_dict.specs.declared.readings.Reading.{Reading}
+use Rattle.avp_dict.specs.Dictionary.{Dictionary}
 use Rattle.avp_dict.specs.Limits.{fits}
 use Rattle.avp_dict.specs.Names.{named}
 use Rattle.avp_dict.specs.Requests.{pair_named}
 
 -- the pair of a name and a text that stands for a value under it fits
-abbrev pub SpelledPairsFit : List Reading → Type 0
-SpelledPairsFit lines = (name text : List ℕ) (pair : Pair) → option_and_then (pair_named lines text) (named name lines) ≡ Some pair → IsTrue (fits pair lines)
+abbrev pub SpelledPairsFit : Dictionary → Type 0
+SpelledPairsFit dictionary = (name text : List ℕ) (pair : Pair) → option_and_then (pair_named dictionary text) (named name dictionary) ≡ Some pair → IsTrue (fits pair dictionary)

@@ -2,12 +2,12 @@
 use Rattle.std.specs.Prelude.{◌≡◌, ℕ, true, List, Ok}
 use Rattle.avp_lists.specs.declared.attributes.Value.{Value}
 use Rattle.avp_dict.specs.declared.entries.Named.{Named}
-use Rattle.avp_dict.specs.declared.readings.Reading.{Reading}
+use Rattle.avp_dict.specs.Dictionary.{Dictionary}
 use Rattle.avp_dict.specs.Limits.{is_known}
 use Rattle.avp_dict.specs.Requests.{pair_with}
 use Rattle.avp_dict.specs.Sent.{is_clean_pair}
 use Rattle.avp_dict.specs.Spellings.{value_spelled}
 
 -- the pair of a known id and a value that a text stands for is clean: its own octets stand for it, and it holds no other attributes
-abbrev pub SpelledValuesClean : List Reading → Type 0
-SpelledValuesClean lines = (name : Named) (text : List ℕ) (value : Value) → is_known name.id lines ≡ true → value_spelled name text lines ≡ Ok value → is_clean_pair lines (pair_with name value) ≡ true
+abbrev pub SpelledValuesClean : Dictionary → Type 0
+SpelledValuesClean dictionary = (name : Named) (text : List ℕ) (value : Value) → is_known name.id dictionary ≡ true → value_spelled name text dictionary ≡ Ok value → is_clean_pair dictionary (pair_with name value) ≡ true

@@ -9,18 +9,16 @@ use Rattle.avp_lists.specs.declared.attributes.Value.{Value}
 use Rattle.avp_lists.specs.declared.attributes.Value.TheVariants.{Int, Signed, Addr, Ether}
 use Rattle.avp_lists.specs.declared.attributes.Value.TheVariants as values
 use Rattle.avp_dict.specs.declared.entries.Named.{Named}
-use Rattle.avp_dict.specs.declared.readings.Kind.{Kind}
-use Rattle.avp_dict.specs.declared.readings.Kind.TheVariants as kinds
-use Rattle.avp_dict.specs.declared.readings.Reading.{Reading}
-use Rattle.avp_dict.specs.declared.readings.Typing.{Typing}
+use Rattle.avp_dict.specs.declared.entries.Kind.{Kind}
+use Rattle.avp_dict.specs.declared.entries.Kind.TheVariants as kinds
+use Rattle.avp_dict.specs.Dictionary.{Dictionary, number_named, typing_of_id}
+use Rattle.avp_dict.specs.declared.entries.Typing.{Typing}
 use Rattle.avp_dict.specs.declared.value_faults.ValueFault.{ValueFault}
 use Rattle.avp_dict.specs.declared.value_faults.ValueFault.TheVariants.{NotWritable, NotValue, TooLong, Memory}
 use Rattle.avp_dict.specs.Letters.{is_dot}
 use Rattle.avp_dict.specs.Limits.{is_within}
-use Rattle.avp_dict.specs.Names.{number_named}
 use Rattle.avp_dict.specs.Octets.{is_hidden, value_of_octets}
 use Rattle.avp_dict.specs.Sent.{is_container}
-use Rattle.avp_dict.specs.Values.{typing_of_id}
 use Rattle.avp_dict.specs.Words.{digits, is_hexadecimal, number_of}
 
 -- ---- octets
@@ -41,8 +39,8 @@ up_to most None = None
 up_to most (Some n) = if nat_le n most then Some n else None
 
 -- a number, or a name that VALUE lines give to one
-unfoldable pub number_spelled : ℕ → AttrId → List ℕ → List Reading → Option ℕ
-number_spelled most id text lines = up_to most (option_or (number_of text) (number_named id text lines))
+unfoldable pub number_spelled : ℕ → AttrId → List ℕ → Dictionary → Option ℕ
+number_spelled most id text dictionary = up_to most (option_or (number_of text) (number_named id text dictionary.values))
 
 abbrev pub negated : ℕ → ℤ
 negated n = neg_ℤ (pos n)
@@ -89,43 +87,43 @@ ether_spelled text = in_parts 6 digit_pair (slice_split is_colon text)
 -- ---- values
 
 -- a text under a name of an ATTRIBUTE line, by the type; by_text says whether the line's own type word is string or octets
-abbrev pub spelled_as : Kind → Bool → AttrId → List ℕ → List Reading → Option Value
-spelled_as kinds.Text by_text id text lines = Some (values.Text text)
-spelled_as kinds.Bytes by_text id text lines = option_map values.Bytes (bytes_spelled by_text text)
-spelled_as kinds.Addr by_text id text lines = option_map Addr (address_spelled text)
-spelled_as kinds.Ether by_text id text lines = option_map Ether (ether_spelled text)
-spelled_as kinds.Byte by_text id text lines = option_map Int (number_spelled 255 id text lines)
-spelled_as kinds.Short by_text id text lines = option_map Int (number_spelled 65535 id text lines)
-spelled_as kinds.Integer by_text id text lines = option_map Int (number_spelled 4294967295 id text lines)
-spelled_as kinds.Integer64 by_text id text lines = option_map Int (number_spelled 18446744073709551615 id text lines)
-spelled_as kinds.Date by_text id text lines = option_map Int (up_to 4294967295 (number_of text))
-spelled_as kinds.Signed by_text id text lines = option_map Signed (signed_spelled text)
+abbrev pub spelled_as : Kind → Bool → AttrId → List ℕ → Dictionary → Option Value
+spelled_as kinds.Text by_text id text dictionary = Some (values.Text text)
+spelled_as kinds.Bytes by_text id text dictionary = option_map values.Bytes (bytes_spelled by_text text)
+spelled_as kinds.Addr by_text id text dictionary = option_map Addr (address_spelled text)
+spelled_as kinds.Ether by_text id text dictionary = option_map Ether (ether_spelled text)
+spelled_as kinds.Byte by_text id text dictionary = option_map Int (number_spelled 255 id text dictionary)
+spelled_as kinds.Short by_text id text dictionary = option_map Int (number_spelled 65535 id text dictionary)
+spelled_as kinds.Integer by_text id text dictionary = option_map Int (number_spelled 4294967295 id text dictionary)
+spelled_as kinds.Integer64 by_text id text dictionary = option_map Int (number_spelled 18446744073709551615 id text dictionary)
+spelled_as kinds.Date by_text id text dictionary = option_map Int (up_to 4294967295 (number_of text))
+spelled_as kinds.Signed by_text id text dictionary = option_map Signed (signed_spelled text)
 
-abbrev pub spelled_by : AttrId → List ℕ → List Reading → Typing → Option Value
-spelled_by id text lines typing = spelled_as typing.kind typing.by_text id text lines
+abbrev pub spelled_by : AttrId → List ℕ → Dictionary → Typing → Option Value
+spelled_by id text dictionary typing = spelled_as typing.kind typing.by_text id text dictionary
 
 -- under a name by number the octets alone are written, and read by the type of the id
-abbrev pub octets_value : AttrId → List Reading → List ℕ → Value
-octets_value id lines os = value_of_octets id os lines
+abbrev pub octets_value : AttrId → Dictionary → List ℕ → Value
+octets_value id dictionary os = value_of_octets id os dictionary
 
 -- the value that a text stands for, its length aside
-unfoldable pub spelled : Named → List ℕ → List Reading → Option Value
-spelled name text lines = if name.raw then option_map (octets_value name.id lines) (octets_spelled text)
-    else option_and_then (spelled_by name.id text lines) (typing_of_id name.id lines)
+unfoldable pub spelled : Named → List ℕ → Dictionary → Option Value
+spelled name text dictionary = if name.raw then option_map (octets_value name.id dictionary) (octets_spelled text)
+    else option_and_then (spelled_by name.id text dictionary) (typing_of_id name.id dictionary.attributes)
 
 -- ---- refusals
 
 -- no value is written under this name: the attribute only holds others, or it is hidden and named by number
-abbrev pub is_barred : Named → List Reading → Bool
-is_barred name lines = is_container name.id || (name.raw && is_hidden name.id lines)
+abbrev pub is_barred : Named → Dictionary → Bool
+is_barred name dictionary = is_container name.id || (name.raw && is_hidden name.id dictionary)
 
-abbrev pub unless_long : AttrId → List Reading → Option Value → Result Value ValueFault
-unless_long id lines None = Err NotValue
-unless_long id lines (Some value) = if is_within id value lines then Ok value else Err TooLong
+abbrev pub unless_long : AttrId → Dictionary → Option Value → Result Value ValueFault
+unless_long id dictionary None = Err NotValue
+unless_long id dictionary (Some value) = if is_within id value dictionary then Ok value else Err TooLong
 
 -- the value of a text under a name, or the first reason that there is none
-unfoldable pub value_spelled : Named → List ℕ → List Reading → Result Value ValueFault
-value_spelled name text lines = if is_barred name lines then Err NotWritable else unless_long name.id lines (spelled name text lines)
+unfoldable pub value_spelled : Named → List ℕ → Dictionary → Result Value ValueFault
+value_spelled name text dictionary = if is_barred name dictionary then Err NotWritable else unless_long name.id dictionary (spelled name text dictionary)
 
 -- a value, and a fault other than want of memory, is the one that the definition gives
 abbrev pub AnswersValue : Result Value ValueFault → Result Value ValueFault → Type 0

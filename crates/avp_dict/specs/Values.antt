@@ -1,38 +1,23 @@
--- VALUE lines, resolved after the last line: each by all settled lines and by the VALUE lines before it.
-use Rattle.std.specs.Prelude.{ℕ, Bool, false, not, ◌&&◌, ◌||◌, ◌==◌, nat_le, if◌then◌else◌, List, [], ◌∷◌, ◌++◌, length, drop, slice_index, Option, Some, None, is_some, Result, Ok, Err}
+-- VALUE lines and notes, after the last line: each VALUE line by the attributes of all lines and by the VALUE lines before it.
+use Rattle.std.specs.Prelude.{ℕ, Bool, true, false, not, ◌&&◌, ◌||◌, ◌==◌, nat_le, if◌then◌else◌, List, [], ◌∷◌, ◌++◌, length, drop, slice_index, Option, Some, None, is_none, is_some, Result, Ok, Err}
 use Rattle.std.specs.Option.{option_and_then}
 use Rattle.std.specs.List.{list_any, list_all}
 use Rattle.avp_lists.specs.declared.attributes.AttrId.{AttrId}
-use Rattle.avp_lists.specs.Pairs.{id_eq}
+use Rattle.avp_dict.specs.declared.entries.Kind.{Kind}
+use Rattle.avp_dict.specs.declared.entries.Kind.TheVariants.{Byte, Short, Integer, Integer64}
+use Rattle.avp_dict.specs.declared.entries.Note.{Note}
+use Rattle.avp_dict.specs.declared.entries.Typing.{Typing}
+use Rattle.avp_dict.specs.declared.entries.ValueLine.{ValueLine}
+use Rattle.avp_dict.specs.declared.entries.VendorLine.{VendorLine}
 use Rattle.avp_dict.specs.declared.faults.DictKind.{DictKind}
 use Rattle.avp_dict.specs.declared.faults.DictKind.TheVariants.{OutOfRange, NoAttribute, OtherValue}
 use Rattle.avp_dict.specs.declared.faults.DictFault.{DictFault}
-use Rattle.avp_dict.specs.declared.readings.Kind.{Kind}
-use Rattle.avp_dict.specs.declared.readings.Kind.TheVariants.{Byte, Short, Integer, Integer64}
-use Rattle.avp_dict.specs.declared.readings.Typing.{Typing}
-use Rattle.avp_dict.specs.declared.readings.Meaning.{Meaning}
-use Rattle.avp_dict.specs.declared.readings.Meaning.TheVariants.{Attribute, Skipped, Unresolved, Value}
-use Rattle.avp_dict.specs.declared.readings.Reading.{Reading}
-use Rattle.avp_dict.specs.Words.{same_name, digits, is_hexadecimal}
+use Rattle.avp_dict.specs.Dictionary.{Dictionary, id_named, number_named, typing_of_id}
 use Rattle.avp_dict.specs.Letters.{is_word_octet}
+use Rattle.avp_dict.specs.Meanings.{Meaning, Skipped, SkippedAttribute, Attribute, Value, BeginVendor, BeginTlv, End, Reading}
+use Rattle.avp_dict.specs.Settled.{is_kept}
 use Rattle.avp_dict.specs.Steps.{◌>>=◌, refused_at}
-use Rattle.avp_dict.specs.Definitions.{last_where, is_attribute_named, is_attribute_of, is_skipped_named}
-
--- ---- attributes by name and by id
-
-abbrev pub id_of_line : Reading → Option AttrId
-id_of_line r = elim r.meaning [ Attribute n i t ↦ Some i | _ ↦ None ]
-
-abbrev pub typing_of_line : Reading → Option Typing
-typing_of_line r = elim r.meaning [ Attribute n i t ↦ Some t | _ ↦ None ]
-
--- the id of the used ATTRIBUTE lines with this name
-unfoldable pub id_named : List ℕ → List Reading → Option AttrId
-id_named name lines = option_and_then id_of_line (last_where (is_attribute_named name) lines)
-
--- the type of an id, by the last used ATTRIBUTE line with it
-unfoldable pub typing_of_id : AttrId → List Reading → Option Typing
-typing_of_id id lines = option_and_then typing_of_line (last_where (is_attribute_of id) lines)
+use Rattle.avp_dict.specs.Words.{digits, is_hexadecimal, same_name}
 
 -- ---- the name of a value
 
@@ -59,30 +44,72 @@ most_of _ = None
 abbrev pub most_of_typing : Typing → Option ℕ
 most_of_typing typing = most_of typing.kind
 
--- a used VALUE line that gives the attribute's name another number
-abbrev pub names_other_value : AttrId → List ℕ → ℕ → Reading → Bool
-names_other_value id name number r = elim r.meaning [ Value i n v ↦ id_eq i id && same_name n name && not (v == number) | _ ↦ false ]
+-- an earlier VALUE line gave the name another number: the last one tells, since each line of a name agreed with those before it
+abbrev pub is_of_other_number : ℕ → Option ℕ → Bool
+is_of_other_number number None = false
+is_of_other_number number (Some other) = not (other == number)
 
-unfoldable pub value_up_to : List Reading → AttrId → List ℕ → ℕ → Option ℕ → Result Meaning DictKind
-value_up_to before id name number None = Ok Skipped
-value_up_to before id name number (Some most) =
-    if not (is_value_name name) then Ok Skipped
+-- the name of a number of an attribute with this greatest number; none where the line only gives a note
+unfoldable pub value_up_to : List ValueLine → AttrId → List ℕ → ℕ → Option ℕ → Result (Option ValueLine) DictKind
+value_up_to values id name number None = Ok None
+value_up_to values id name number (Some most) =
+    if not (is_value_name name) then Ok None
     else (if not (nat_le number most) then Err OutOfRange
-    else (if list_any (names_other_value id name number) before then Err OtherValue
-    else Ok (Value id name number)))
+    else (if is_of_other_number number (number_named id name values) then Err OtherValue
+    else Ok (Some (record { id = id; name = name; number = number }))))
+
+abbrev pub is_same_name : List ℕ → List ℕ → Bool
+is_same_name name other = same_name other name
 
 -- a VALUE line of this attribute's name; without such an attribute a note if the name stands on a skipped ATTRIBUTE line
-unfoldable pub value_of : List Reading → List Reading → List ℕ → List ℕ → ℕ → Option AttrId → Result Meaning DictKind
-value_of all before attribute name number (Some id) = value_up_to before id name number (option_and_then most_of_typing (typing_of_id id all))
-value_of all before attribute name number None = if list_any (is_skipped_named attribute) all then Ok Skipped else Err NoAttribute
+unfoldable pub value_of : List (List ℕ) → Dictionary → List ℕ → List ℕ → ℕ → Option AttrId → Result (Option ValueLine) DictKind
+value_of skipped dictionary attribute name number (Some id) =
+    value_up_to dictionary.values id name number (option_and_then most_of_typing (typing_of_id id dictionary.attributes))
+value_of skipped dictionary attribute name number None = if list_any (is_same_name attribute) skipped then Ok None else Err NoAttribute
 
--- a VALUE line resolved; the others stay as they are
-unfoldable pub resolved_meaning : List Reading → List Reading → Meaning → Result Meaning DictKind
-resolved_meaning all before (Unresolved attribute name number) = value_of all before attribute name number (id_named attribute all)
-resolved_meaning all before m = Ok m
+-- ---- notes
 
--- the lines resolved, or the first refusal
-unfoldable pub resolve : List Reading → List Reading → List Reading → Result (List Reading) DictFault
-resolve all before [] = Ok before
-resolve all before (r ∷ rs) = refused_at r.file r.line (resolved_meaning all before r.meaning) >>= λ meaning.
-    resolve all (before ++ record { file = r.file; line = r.line; meaning = meaning } ∷ []) rs
+-- a line other than a VALUE line that is skipped, or that begins or ends a skipped block
+abbrev pub is_noted : List VendorLine → Meaning → Bool
+is_noted vendors Skipped = true
+is_noted vendors (SkippedAttribute name) = true
+is_noted vendors (Attribute a) = not (is_kept vendors a.id)
+is_noted vendors (BeginVendor name vendor) = is_none vendor
+is_noted vendors (BeginTlv name) = true
+is_noted vendors (End noted) = noted
+is_noted vendors _ = false
+
+abbrev pub note_of : Reading → Note
+note_of r = record { file = r.file; line = r.line }
+
+-- ---- the lines, one after the other
+
+abbrev pub with_note : Dictionary → Reading → Dictionary
+with_note dictionary r = record {
+  attributes = dictionary.attributes;
+  values = dictionary.values;
+  vendors = dictionary.vendors;
+  notes = dictionary.notes ++ note_of r ∷ [];
+}
+
+-- the name of a number that a line gives, or a note
+abbrev pub with_value : Dictionary → Reading → Option ValueLine → Dictionary
+with_value dictionary r None = with_note dictionary r
+with_value dictionary r (Some v) = record {
+  attributes = dictionary.attributes;
+  values = dictionary.values ++ v ∷ [];
+  vendors = dictionary.vendors;
+  notes = dictionary.notes;
+}
+
+-- the dictionary with what a line adds; skipped are the names on skipped ATTRIBUTE lines
+unfoldable pub with_line : List (List ℕ) → Dictionary → Reading → Result Dictionary DictFault
+with_line skipped dictionary r = elim r.meaning [
+  | Value attribute name number ↦ refused_at r.file r.line (value_of skipped dictionary attribute name number (id_named attribute dictionary.attributes)) >>= λ value. Ok (with_value dictionary r value)
+  | m ↦ Ok (if is_noted dictionary.vendors m then with_note dictionary r else dictionary)
+]
+
+-- the dictionary with what the lines add, or the first refusal
+unfoldable pub resolve : List (List ℕ) → Dictionary → List Reading → Result Dictionary DictFault
+resolve skipped dictionary [] = Ok dictionary
+resolve skipped dictionary (r ∷ rs) = with_line skipped dictionary r >>= λ more. resolve skipped more rs

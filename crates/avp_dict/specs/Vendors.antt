@@ -1,16 +1,15 @@
 -- VENDOR lines: a name, a number, and how many octets the vendor's attributes have for type and length.
-use Rattle.std.specs.Prelude.{codes, ℕ, Bool, true, false, ◌&&◌, ◌||◌, ◌==◌, nat_lt, nat_le, if◌then◌else◌, List, [], ◌∷◌, length, take, drop, Option, Some, None, Result, Ok, Err}
-use Rattle.std.specs.List.{list_any, list_all, slice_split}
+use Rattle.std.specs.Prelude.{codes, ℕ, Bool, true, false, not, ◌&&◌, ◌||◌, ◌==◌, nat_lt, nat_le, if◌then◌else◌, List, [], ◌∷◌, length, take, drop, Option, Some, None, Result, Ok, Err}
+use Rattle.std.specs.List.{list_all, slice_split}
 use Rattle.avp_dict.specs.declared.faults.DictKind.{DictKind}
 use Rattle.avp_dict.specs.declared.faults.DictKind.TheVariants.{Unreadable, OutOfRange, OtherNumber}
-use Rattle.avp_dict.specs.declared.readings.VendorFormat.{VendorFormat}
-use Rattle.avp_dict.specs.declared.readings.Meaning.{Meaning}
-use Rattle.avp_dict.specs.declared.readings.Meaning.TheVariants.{Vendor}
-use Rattle.avp_dict.specs.declared.readings.Reading.{Reading}
+use Rattle.avp_dict.specs.declared.entries.VendorFormat.{VendorFormat}
+use Rattle.avp_dict.specs.declared.entries.VendorLine.{VendorLine}
+use Rattle.avp_dict.specs.Meanings.{Meaning, Vendor}
 use Rattle.avp_dict.specs.Words.{same_name, number_of}
 use Rattle.avp_dict.specs.Letters.{is_comma, is_visible}
 use Rattle.avp_dict.specs.Steps.{◌>>=◌}
-use Rattle.avp_dict.specs.Definitions.{names_other_vendor}
+use Rattle.avp_dict.specs.Dictionary.{vendor_named}
 
 abbrev pub at_most : ℕ → ℕ → Result ℕ DictKind
 at_most most n = if nat_le n most then Ok n else Err OutOfRange
@@ -42,15 +41,20 @@ format_word word = if nat_lt (length word) 7 then None else (if same_name (take 
 abbrev pub standard_format : VendorFormat
 standard_format = record { t = 1; l = 1; third = false }
 
+-- an earlier line gave the name another number: the last one tells, since each line of a name agreed with those before it
+abbrev pub is_other_vendor : ℕ → Option ℕ → Bool
+is_other_vendor number None = false
+is_other_vendor number (Some other) = not (other == number)
+
 -- a name and a number that are good, and the format
-unfoldable pub vendor_numbered : List Reading → List ℕ → VendorFormat → ℕ → Result Meaning DictKind
-vendor_numbered before name f n = if list_any (names_other_vendor name n) before then Err OtherNumber else Ok (Vendor name n f)
+unfoldable pub vendor_numbered : List VendorLine → List ℕ → VendorFormat → ℕ → Result Meaning DictKind
+vendor_numbered vendors name f n = if is_other_vendor n (vendor_named name vendors) then Err OtherNumber else Ok (Vendor (record { name = name; number = n; format = f }))
 
-unfoldable pub vendor_line : List Reading → List ℕ → List ℕ → Option VendorFormat → Result Meaning DictKind
-vendor_line before name number None = Err Unreadable
-vendor_line before name number (Some f) = if is_vendor_name name then (bounded 4294967295 number >>= vendor_numbered before name f) else Err Unreadable
+unfoldable pub vendor_line : List VendorLine → List ℕ → List ℕ → Option VendorFormat → Result Meaning DictKind
+vendor_line vendors name number None = Err Unreadable
+vendor_line vendors name number (Some f) = if is_vendor_name name then (bounded 4294967295 number >>= vendor_numbered vendors name f) else Err Unreadable
 
-unfoldable pub vendor : List Reading → List (List ℕ) → Result Meaning DictKind
-vendor before (name ∷ number ∷ []) = vendor_line before name number (Some standard_format)
-vendor before (name ∷ number ∷ format ∷ []) = vendor_line before name number (format_word format)
-vendor before _ = Err Unreadable
+unfoldable pub vendor : List VendorLine → List (List ℕ) → Result Meaning DictKind
+vendor vendors (name ∷ number ∷ []) = vendor_line vendors name number (Some standard_format)
+vendor vendors (name ∷ number ∷ format ∷ []) = vendor_line vendors name number (format_word format)
+vendor vendors _ = Err Unreadable

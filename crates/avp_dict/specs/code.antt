@@ -1,9 +1,12 @@
+pub mod Contents
 pub mod Entries
 pub mod Gathered
 pub mod LineReading
+pub mod Meanings
 pub mod Numbers
 pub mod Outcomes
 pub mod Ranges
+pub mod Refused
 pub mod RequestTokens
-pub mod Shapes
+pub mod Tables
 pub mod Views

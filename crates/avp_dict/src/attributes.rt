@@ -3,19 +3,20 @@
 ghost use Rattle.std.specs.Prelude.{◌≡◌, ◌≤◌, ℕ, Option, Some, None, if◌then◌else◌, IsTrue};
 ghost use Rattle.std.specs.List.{list_all};
 ghost use Rattle.avp_lists.specs.declared.attributes.AttrId.TheVariants.{Extended};
-ghost use Rattle.avp_dict.specs.Attributes.{attribute, attribute_line, attribute_of, dotted_word, id_word, is_attribute_name, is_extended, is_held, is_number, many_words, most_in, number_id, number_word, vendor_id};
+ghost use Rattle.avp_dict.specs.Attributes.{attribute, attribute_line, attribute_of, dotted_word, id_word, is_attribute_name, is_extended, is_held, is_number, is_of_other_id, many_words, most_in, number_id, number_word, vendor_id};
 ghost use Rattle.avp_dict.specs.Letters.{begins_as_attr, is_decimal, is_letter, is_name_octet};
 ghost use Rattle.avp_dict.specs.code.Numbers.{Reads};
-ghost use Rattle.avp_dict.specs.code.Outcomes.{Gives};
+ghost use Rattle.avp_dict.specs.code.Meanings.{context_view};
+ghost use Rattle.avp_dict.specs.code.Outcomes.{Gives, Means};
 ghost use Rattle.avp_dict.specs.code.Views.{views};
 
+use crate::context::Context;
+use crate::entries::VendorFormat;
 use crate::faults::{DictKind, LineError};
-use crate::lookups::{any_other_id, find_format};
+use crate::meanings::Meaning;
 use crate::numbers::{MOST_NUMBER, Number, read_number};
-use crate::octets::copy_of;
 use crate::parts::parts_between;
-use crate::readings::{Meaning, Reading, VendorFormat};
-use crate::shapes::{Shape, shape_of};
+use crate::tables::{Attributes, Vendors};
 use crate::types::{are_known, typing_for};
 use crate::words::is_same_name;
 use avp_lists::AttrId;
@@ -33,7 +34,7 @@ fn most_held(octets: u8) -> u64
 }
 
 /// Whether the octets of a vendor's numbers hold this one.
-pub fn is_held_in(number: u64, format: VendorFormat) -> bool
+pub fn is_held(number: u64, format: VendorFormat) -> bool
     ensures test { result ≡ is_held number format }
     ensures within { IsTrue result → number ≤ MOST_NUMBER }
 {
@@ -46,7 +47,7 @@ fn id_in_format(vendor: u32, number: u32, format: Option<VendorFormat>) -> Optio
     match format {
         None => None,
         Some(format) => {
-            if is_held_in(u64::from(number), format) {
+            if is_held(u64::from(number), format) {
                 Some(AttrId::Vendor(vendor, number))
             } else {
                 None
@@ -56,29 +57,29 @@ fn id_in_format(vendor: u32, number: u32, format: Option<VendorFormat>) -> Optio
 }
 
 #[tactic(auto, unfolding(crate::specs::Attributes::number_id))]
-fn id_by_number(before: &[Reading], block: Option<u32>, number: u32) -> Option<AttrId>
-    ensures { result ≡ number_id before.now block number }
+fn id_by_number(vendors: &Vendors, block: Option<u32>, number: u32) -> Option<AttrId>
+    ensures { result ≡ number_id vendors.now block number }
 {
     match block {
         None => Some(AttrId::Plain(number)),
-        Some(vendor) => id_in_format(vendor, number, find_format(before, u64::from(vendor))),
+        Some(vendor) => id_in_format(vendor, number, vendors.format_of(vendor)),
     }
 }
 
 #[tactic(auto, unfolding(crate::specs::Attributes::number_word))]
 fn read_plain_id(
-    before: &[Reading],
+    vendors: &Vendors,
     block: Option<u32>,
     number: Number,
 ) -> Result<Option<AttrId>, LineError>
-    ensures { (n : Option ℕ) → Reads number n → Gives result (number_word before.now block n) }
+    ensures { (n : Option ℕ) → Reads number n → Gives result (number_word vendors.now block n) }
 {
     match number {
         Number::Unreadable => Err(LineError::Refused(DictKind::Unreadable)),
         Number::TooGreat => Err(LineError::Refused(DictKind::OutOfRange)),
         Number::Is(number) => {
             if number <= MOST_NUMBER {
-                Ok(id_by_number(before, block, number as u32))
+                Ok(id_by_number(vendors, block, number as u32))
             } else {
                 Err(LineError::Refused(DictKind::OutOfRange))
             }
@@ -156,19 +157,16 @@ fn read_many(parts: &[&[u8]]) -> Result<Option<AttrId>, LineError>
 
 #[tactic(auto, unfolding(crate::specs::Attributes::id_word))]
 fn read_id(
-    before: &[Reading],
+    vendors: &Vendors,
     block: Option<u32>,
     parts: &[&[u8]],
 ) -> Result<Option<AttrId>, LineError>
-    ensures { Gives result (id_word before.now block (views parts.now)) }
+    ensures { Gives result (id_word vendors.now block (views parts.now)) }
 {
-    match shape_of(parts) {
-        Shape::One(number) => read_plain_id(before, block, read_number(number)),
-        Shape::Two(t, x) => read_dotted_id(block, read_number(t), read_number(x)),
-        Shape::Zero => read_many(parts),
-        Shape::Three(_, _, _) => read_many(parts),
-        Shape::Four(_, _, _, _) => read_many(parts),
-        Shape::More(_, _, _, _, _, _) => read_many(parts),
+    match parts {
+        [number] => read_plain_id(vendors, block, read_number(number)),
+        [t, x] => read_dotted_id(block, read_number(t), read_number(x)),
+        _ => read_many(parts),
     }
 }
 
@@ -215,74 +213,72 @@ fn names_attribute(name: &[u8]) -> bool
     are_octets_of_name(name) && name.len() <= 128 && !has_attr_front(name)
 }
 
+fn is_of_other_id(id: AttrId, found: Option<AttrId>) -> bool
+    ensures { result ≡ is_of_other_id id found }
+{
+    match found {
+        Some(other) => !other.equals(id),
+        None => false,
+    }
+}
+
 #[tactic(auto, unfolding(crate::specs::Attributes::attribute_of))]
-fn read_attribute_of(
-    alloc: Global,
-    before: &[Reading],
-    name: &[u8],
+fn read_attribute_of<'a>(
+    attributes: &Attributes,
+    name: &'a [u8],
     kind: &[u8],
     flags: &[&[u8]],
     id: Option<AttrId>,
-) -> Result<Meaning, LineError>
-    ensures { Gives result (attribute_of before.now name.now kind.now (views flags.now) id) }
+) -> Result<Meaning<'a>, LineError>
+    ensures { Means result (attribute_of attributes.now name.now kind.now (views flags.now) id) }
 {
     match id {
-        None => Ok(Meaning::SkippedAttribute(copy_of(alloc, name)?)),
+        None => Ok(Meaning::SkippedAttribute(name)),
         Some(id) => {
             if !names_attribute(name) || !are_known(flags) {
-                return Ok(Meaning::SkippedAttribute(copy_of(alloc, name)?));
+                return Ok(Meaning::SkippedAttribute(name));
             }
-            if any_other_id(before, name, id) {
+            if is_of_other_id(id, attributes.id_named(name)) {
                 return Err(LineError::Refused(DictKind::OtherNumber));
             }
-            Ok(Meaning::Attribute(copy_of(alloc, name)?, id, typing_for(id, kind, flags)))
+            Ok(Meaning::Attribute(name, id, typing_for(id, kind, flags)))
         }
     }
 }
 
 #[tactic(auto, unfolding(crate::specs::Attributes::attribute_line))]
-fn read_attribute_line(
+fn read_attribute_line<'a>(
     alloc: Global,
-    before: &[Reading],
+    before: &Context<'_>,
     block: Option<u32>,
-    name: &[u8],
+    name: &'a [u8],
     number: &[u8],
     kind: &[u8],
     flags: &[&[u8]],
-) -> Result<Meaning, LineError>
-    ensures { Gives result (attribute_line before.now block name.now number.now kind.now (views flags.now)) }
+) -> Result<Meaning<'a>, LineError>
+    ensures { Means result (attribute_line (context_view before.now) block name.now number.now kind.now (views flags.now)) }
 {
     let parts = parts_between(alloc, b'.', number)?;
-    let id = read_id(before, block, &parts)?;
-    read_attribute_of(alloc, before, name, kind, flags, id)
+    let id = read_id(&before.vendors, block, &parts)?;
+    read_attribute_of(&before.attributes, name, kind, flags, id)
 }
 
+/// An ATTRIBUTE line after its keyword.
 #[tactic(auto, unfolding(crate::specs::Attributes::attribute))]
-pub fn read_attribute(
+pub fn read_attribute<'a>(
     alloc: Global,
-    before: &[Reading],
+    before: &Context<'_>,
     block: Option<u32>,
-    words: &[&[u8]],
-) -> Result<Meaning, LineError>
-    ensures { Gives result (attribute before.now block (views words.now)) }
+    words: &[&'a [u8]],
+) -> Result<Meaning<'a>, LineError>
+    ensures { Means result (attribute (context_view before.now) block (views words.now)) }
 {
-    match shape_of(words) {
-        Shape::Three(name, number, kind) => read_attribute_line(
-            alloc,
-            before,
-            block,
-            name,
-            number,
-            kind,
-            &[],
-        ),
-        Shape::Four(name, number, kind, flags) => {
+    match words {
+        [name, number, kind] => read_attribute_line(alloc, before, block, name, number, kind, &[]),
+        [name, number, kind, flags] => {
             let flags = parts_between(alloc, b',', flags)?;
             read_attribute_line(alloc, before, block, name, number, kind, &flags)
         }
-        Shape::Zero => Err(LineError::Refused(DictKind::Unreadable)),
-        Shape::One(_) => Err(LineError::Refused(DictKind::Unreadable)),
-        Shape::Two(_, _) => Err(LineError::Refused(DictKind::Unreadable)),
-        Shape::More(_, _, _, _, _, _) => Err(LineError::Refused(DictKind::Unreadable)),
+        _ => Err(LineError::Refused(DictKind::Unreadable)),
     }
 }

@@ -1,62 +1,53 @@
-ghost use Rattle.std.specs.Prelude.{◌≡◌, ◌<◌, length, All, IfOk, IfErr};
+ghost use Rattle.std.specs.Prelude.{◌≡◌, ◌<◌, ◌^◌, length, All, IfOk, IfErr};
 ghost use Rattle.std.specs.Option.{option_map, option_copied};
-ghost use Rattle.avp_dict.specs.Counts.{counts_of, notes_of};
-ghost use Rattle.avp_dict.specs.Dictionary.{dictionary_of, most_lines};
+ghost use Rattle.avp_dict.specs.Counts.{counts_of};
+ghost use Rattle.avp_dict.specs.Dictionary.{name_numbered, number_named, typing_of_id};
+ghost use Rattle.avp_dict.specs.DictionaryReading.{dictionary_of, most_lines};
 ghost use Rattle.avp_dict.specs.Lines.{HasDistinctNames};
-ghost use Rattle.avp_dict.specs.Names.{described, described_by, name_numbered, named, number_named, unless_three, vendor_format};
+ghost use Rattle.avp_dict.specs.Names.{described, named, unless_three, vendor_format};
 ghost use Rattle.avp_dict.specs.Outcomes.{Answers};
+ghost use Rattle.avp_dict.specs.Settled.{is_in_format};
 ghost use Rattle.avp_dict.specs.Soundness.{IsSound};
+ghost use Rattle.avp_dict.specs.code.Contents.{contents_view};
 ghost use Rattle.avp_dict.specs.code.Entries.{entry_view};
 
 use crate::attributes::has_attr_front;
-use crate::counts::{count_attributes, count_values, count_vendors};
-use crate::entries::{Counts, Entry, Format, Named, Note};
+use crate::contents::Contents;
+use crate::entries::{Counts, Entry, Format, Named, Note, Typing, VendorFormat};
 use crate::faults::DictFault;
-use crate::files::FileSet;
+use crate::files::{FileSet, NamedFile};
 use crate::gather::MOST_LINES;
-use crate::lookups::{
-    find_format, find_id, last_line_of_id, last_line_of_value, line_of_value, name_of_value,
-    number_of_value,
-};
 use crate::names::id_by_numbers;
-use crate::notes::gather_notes;
-use crate::passes::final_readings;
-use crate::readings::{Meaning, Reading, VendorFormat};
+use crate::reader::{ReadLines, read_set};
+use crate::settling::is_in_format;
+use crate::values::settle;
 use avp_lists::AttrId;
 use std::alloc::Global;
 use std::marker::Model;
 
-/// What the lines of dictionary files define, seen by contracts as the list of what each line was read as.
-#[derive(Debug, Drop)]
+/// What dictionary files define, seen by contracts as lists of what their lines say.
 pub struct Dictionary {
-    readings: Vec<Reading>,
-    notes: Vec<Note>,
+    contents: Contents,
+}
+
+// As a function, so that where a dictionary is dropped a proof sees one step and not those of each table.
+impl Drop for Dictionary {
+    fn drop(self) {
+        let Dictionary { contents: _ } = self;
+    }
 }
 
 impl Model for Dictionary {
-    ghost use Rattle.std.specs.Prelude.{List, ◌≡◌};
-    ghost use Rattle.avp_dict.specs.declared.readings.Reading.{Reading};
-    ghost use Rattle.avp_dict.specs.Counts.{notes_of};
+    ghost use Rattle.avp_dict.specs.Dictionary.{Dictionary as Defined};
+
+    ghost Value = { Defined };
+
+    ghost use Rattle.avp_dict.specs.code.Contents.{contents_view};
     ghost use Rattle.avp_dict.specs.Soundness.{IsSound};
 
-    ghost Value = { List Reading };
+    ghost view = { λ d. contents_view d.contents };
 
-    ghost view = { λ d. d.readings.items };
-
-    ghost invariant = { λ d. (d.notes.items ≡ notes_of d.readings.items) × IsSound d.readings.items };
-}
-
-fn entry_of(reading: &Reading) -> Option<Entry<'_>>
-    ensures { option_map entry_view result ≡ described_by reading.now }
-{
-    match &reading.meaning {
-        Meaning::Attribute(name, _, typing) => Some(Entry {
-            name: name.as_slice(),
-            kind: typing.kind,
-            hidden: typing.hidden,
-        }),
-        _ => None,
-    }
+    ghost invariant = { λ d. IsSound (contents_view d.contents) };
 }
 
 fn two_part_format(format: VendorFormat) -> Option<Format>
@@ -72,6 +63,21 @@ fn two_part_format(format: VendorFormat) -> Option<Format>
     }
 }
 
+/// What the files define; so many lines are read.
+pub(crate) fn read_up_to(
+    alloc: Global,
+    files: &[NamedFile],
+    limit: usize,
+) -> Result<Contents, DictFault>
+    requires { limit < 2 ^ 32 }
+    ensures { Answers contents_view result (dictionary_of limit files.now) }
+{
+    let mut read = ReadLines::new(alloc);
+    read_set(alloc, files, limit, &mut read)?;
+    let ReadLines { readings, context } = read;
+    settle(alloc, &readings, context)
+}
+
 impl Dictionary {
     /// Reads the lines of the main file, which is the first, each include followed by its file's lines. The first
     /// line that fails is refused, then a line too many, a block left open, and the first VALUE line that fails.
@@ -80,19 +86,17 @@ impl Dictionary {
         requires names { HasDistinctNames files.now }
         ensures read { Answers (λ dictionary. dictionary) result (dictionary_of most_lines files.now) }
         ensures placed { IfErr result (λ fault. fault.file < length files.now) }
-        ensures noted { IfOk result (λ dictionary. All (λ note. note.file < length files.now) (notes_of dictionary)) }
+        ensures noted { IfOk result (λ dictionary. All (λ note. note.file < length files.now) dictionary.notes) }
     {
-        let readings = final_readings(alloc, files.as_slice(), MOST_LINES)?;
-        let notes = gather_notes(alloc, &readings)?;
-        Ok(Dictionary { readings, notes })
+        let contents = read_up_to(alloc, files.as_slice(), MOST_LINES)?;
+        Ok(Dictionary { contents })
     }
 
-    /// What each line was read as.
-    pub(crate) fn readings(&self) -> &[Reading]
-        ensures lines { result.now ≡ self.now }
-        ensures sound { IsSound self.now }
+    // What holds of every dictionary that was read.
+    pub(crate) fn sound(&self)
+        ensures { IsSound self.now }
     {
-        self.readings.as_slice()
+        let _contents = &self.contents;
     }
 
     /// What a name stands for, its letters in either case.
@@ -101,12 +105,12 @@ impl Dictionary {
         ensures { result ≡ named name.now self.now }
     {
         if has_attr_front(name) {
-            match id_by_numbers(&self.readings, &name[5..]) {
+            match id_by_numbers(&self.contents.vendors, &name[5..]) {
                 Some(id) => Some(Named { id, raw: true }),
                 None => None,
             }
         } else {
-            match find_id(&self.readings, name) {
+            match self.contents.attributes.id_named(name) {
                 Some(id) => Some(Named { id, raw: false }),
                 None => None,
             }
@@ -118,8 +122,12 @@ impl Dictionary {
     pub fn by_id(&self, id: AttrId) -> Option<Entry<'_>>
         ensures { option_map entry_view result ≡ described id self.now }
     {
-        match last_line_of_id(&self.readings, id) {
-            Some(reading) => entry_of(reading),
+        match self.contents.attributes.by_id(id) {
+            Some(line) => Some(Entry {
+                name: line.name.as_slice(),
+                kind: line.typing.kind,
+                hidden: line.typing.hidden,
+            }),
             None => None,
         }
     }
@@ -129,7 +137,7 @@ impl Dictionary {
     pub fn vendor(&self, number: u32) -> Option<Format>
         ensures { result ≡ vendor_format number self.now }
     {
-        match find_format(&self.readings, u64::from(number)) {
+        match self.contents.vendors.format_of(number) {
             Some(format) => two_part_format(format),
             None => None,
         }
@@ -137,42 +145,48 @@ impl Dictionary {
 
     /// Where lines stand that were skipped, in the order of the lines.
     pub fn notes(&self) -> &[Note]
-        ensures { result.now ≡ notes_of self.now }
+        ensures { result.now ≡ self.now.notes }
     {
-        self.notes.as_slice()
+        self.contents.notes.as_slice()
     }
 
-    /// How many names the used lines define. The time grows with the square of their number.
+    /// How many names the used lines define.
     #[tactic(auto, unfolding(crate::specs::Counts::counts_of))]
     pub fn counts(&self) -> Counts
         ensures { result ≡ counts_of self.now }
     {
         Counts {
-            attributes: count_attributes(&self.readings),
-            values: count_values(&self.readings),
-            vendors: count_vendors(&self.readings),
+            attributes: self.contents.attributes.count(),
+            values: self.contents.values.count(),
+            vendors: self.contents.vendors.count(),
         }
     }
 
     /// The number that a VALUE line gives to a name of this attribute's values.
-    #[tactic(auto, unfolding(crate::specs::Names::number_named))]
     pub fn value_number(&self, id: AttrId, name: &[u8]) -> Option<u64>
-        ensures { result ≡ number_named id name.now self.now }
+        ensures { result ≡ number_named id name.now self.now.values }
     {
-        match line_of_value(&self.readings, id, name) {
-            Some(reading) => number_of_value(reading),
-            None => None,
-        }
+        self.contents.values.number_named(id, name)
     }
 
     /// The printed name of a number of this attribute's values: the last one that a VALUE line gives.
-    #[tactic(auto, unfolding(crate::specs::Names::name_numbered))]
     pub fn value_name(&self, id: AttrId, number: u64) -> Option<&[u8]>
-        ensures { option_copied result ≡ name_numbered id number self.now }
+        ensures { option_copied result ≡ name_numbered id number self.now.values }
     {
-        match last_line_of_value(&self.readings, id, number) {
-            Some(reading) => name_of_value(reading),
-            None => None,
-        }
+        self.contents.values.name_numbered(id, number)
+    }
+
+    // How the values of an id are read.
+    pub(crate) fn typing(&self, id: AttrId) -> Option<Typing>
+        ensures { result ≡ typing_of_id id self.now.attributes }
+    {
+        self.contents.attributes.typing_of_id(id)
+    }
+
+    // Whether the vendor's format has two parts and holds the number.
+    pub(crate) fn is_in_format(&self, vendor: u32, number: u32) -> bool
+        ensures { result ≡ is_in_format vendor number self.now.vendors }
+    {
+        is_in_format(&self.contents.vendors, vendor, u64::from(number))
     }
 }

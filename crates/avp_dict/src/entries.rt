@@ -1,5 +1,77 @@
-use crate::readings::Kind;
-use avp_lists::AttrId;
+//! What a dictionary has, and what is found in it.
+
+use avp_lists::{AttrId, Octets};
+
+/// The type of an attribute's values.
+#[derive(Clone, Copy, Debug, PartialEq, Eq)]
+pub enum Kind {
+    /// `string`
+    Text,
+    /// `octets`, and any type word that is none of the others
+    Bytes,
+    /// `ipaddr`
+    Addr,
+    /// `integer`, of 4 octets
+    Integer,
+    /// `date`, in seconds, of 4 octets
+    Date,
+    /// `byte`
+    Byte,
+    /// `short`, of 2 octets
+    Short,
+    /// `signed`, of 4 octets
+    Signed,
+    /// `integer64`, of 8 octets
+    Integer64,
+    /// `ether`
+    Ether,
+}
+
+/// What a VENDOR line says of its vendor's attributes (RFC 2865, section 5.26).
+#[derive(Clone, Copy, Debug, PartialEq, Eq)]
+pub struct VendorFormat {
+    /// Octets of the attribute's number: 1, 2 or 4.
+    pub t: u8,
+    /// Octets of the attribute's length: 0, 1 or 2.
+    pub l: u8,
+    /// Whether a third part follows, so that the attributes stay unread.
+    pub third: bool,
+}
+
+/// How the values of an attribute are read.
+#[derive(Clone, Copy, Debug, PartialEq, Eq)]
+pub struct Typing {
+    pub kind: Kind,
+    /// Whether the octets are hidden (RFC 2865, section 5.2).
+    pub hidden: bool,
+    /// Whether the line's own type word is string or octets, or stands for octets as that of attributes 26, 33, 80 and
+    /// 241 to 246 does.
+    pub by_text: bool,
+}
+
+/// What a used ATTRIBUTE line says.
+#[derive(Debug, Drop)]
+pub struct AttributeLine {
+    pub name: Octets,
+    pub id: AttrId,
+    pub typing: Typing,
+}
+
+/// What a used VALUE line says: a name of a number of this attribute's values.
+#[derive(Debug, Drop)]
+pub struct ValueLine {
+    pub id: AttrId,
+    pub name: Octets,
+    pub number: u64,
+}
+
+/// What a VENDOR line says.
+#[derive(Debug, Drop)]
+pub struct VendorLine {
+    pub name: Octets,
+    pub number: u32,
+    pub format: VendorFormat,
+}
 
 /// What a name stands for.
 #[derive(Clone, Copy, Debug, PartialEq, Eq)]

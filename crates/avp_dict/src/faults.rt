@@ -1,10 +1,7 @@
-ghost use Rattle.std.specs.Prelude.{◌≡◌, Result};
-ghost use Rattle.avp_dict.specs.declared.readings.Meaning.{Meaning};
-ghost use Rattle.avp_dict.specs.declared.faults.DictKind.{DictKind};
+ghost use Rattle.std.specs.Prelude.{◌≡◌};
 ghost use Rattle.avp_dict.specs.declared.faults.LineError.TheVariants.{Memory};
-ghost use Rattle.avp_dict.specs.Outcomes.{Refuses, is_memory, want_of_memory};
-ghost use Rattle.avp_dict.specs.Steps.{refused_at};
-ghost use Rattle.avp_dict.specs.code.Outcomes.{Fails};
+ghost use Rattle.avp_dict.specs.Outcomes.{is_memory, want_of_memory};
+ghost use Rattle.avp_dict.specs.code.Refused.{fault_at};
 
 use std::alloc::{AllocError, AllocFailed};
 use thiserror::Error;
@@ -115,7 +112,7 @@ impl DictKind {
 impl LineError {
     /// The refusal of the file set at that line.
     pub(crate) fn at(self, file: usize, line: usize) -> DictFault
-        ensures { (read : Result Meaning DictKind) → Fails self read → Refuses result (refused_at file line read) }
+        ensures { result ≡ fault_at file line self }
     {
         match self {
             LineError::Memory => OUT_OF_MEMORY,

@@ -1,6 +1,6 @@
 //! Laws of every dictionary, as calls that do nothing: their contracts are what they are for.
 
-ghost use Rattle.std.specs.Prelude.{◌≡◌, ℕ, List, Some, true, length, IfSome, IsTrue};
+ghost use Rattle.std.specs.Prelude.{◌≡◌, ℕ, List, Some, true, IfSome, IsTrue};
 ghost use Rattle.avp_dict.specs.Limits.{fits, is_known};
 ghost use Rattle.avp_dict.specs.Quotes.{between_quotes, double_quoted_octets};
 ghost use Rattle.avp_dict.specs.ReadingBack.{ReadsBack, is_writable, unquoted};
@@ -30,10 +30,6 @@ fn octets_in_range(octets: &[u8])
     ensures { AreOctets octets.now }
 {}
 
-fn four(address: &[u8; 4])
-    ensures { length address.now ≡ 4 }
-{}
-
 // What the type of a value keeps its numbers within.
 fn value_in_range(value: &Value)
     ensures { IsValueInRange value.now }
@@ -61,7 +57,7 @@ impl Dictionary {
         ensures names { (name : List ℕ) (found : Named) → named name self.now ≡ Some found → is_known found.id self.now ≡ true }
         ensures formats { (vendor : ℕ) → IfSome (vendor_format vendor self.now) (λ f. is_format f.t f.l ≡ true) }
     {
-        let _lines = self.readings();
+        self.sound();
     }
 
     /// What is printed for a pair is read back: the printed name names the attribute, and the printed text, a string's
@@ -70,7 +66,7 @@ impl Dictionary {
         requires { IsTrue (is_writable pair.now self.now) }
         ensures { ReadsBack pair.now self.now }
     {
-        let _lines = self.readings();
+        self.sound();
         id_in_range(pair.id);
         value_in_range(&pair.value);
     }
@@ -79,13 +75,13 @@ impl Dictionary {
     pub fn spelled_values_clean(&self)
         ensures { SpelledValuesClean self.now }
     {
-        let _lines = self.readings();
+        self.sound();
     }
 
     /// The pair of a name and a text that stands for a value under it fits.
     pub fn spelled_pairs_fit(&self)
         ensures { SpelledPairsFit self.now }
     {
-        let _lines = self.readings();
+        self.sound();
     }
 }

@@ -6,9 +6,7 @@ ghost use Rattle.avp_dict.specs.Limits.{extended_room, fits, greatest_length, is
 ghost use Rattle.avp_dict.specs.Octets.{ends_in_nul, number_octets, octets_of};
 
 use crate::dictionaries::Dictionary;
-use crate::entries::Format;
-use crate::readings::Kind;
-use crate::settling::is_in_last_format;
+use crate::entries::{Format, Kind};
 use crate::value_octets::{MOST_HIDDEN_OCTETS, is_last_nul};
 use crate::values::most_of_kind;
 use avp_lists::{AttrId, Pair, Value};
@@ -145,11 +143,7 @@ impl Dictionary {
     {
         match id {
             AttrId::Plain(_) => true,
-            AttrId::Vendor(vendor, number) => is_in_last_format(
-                self.readings(),
-                u64::from(vendor),
-                u64::from(number),
-            ),
+            AttrId::Vendor(vendor, number) => self.is_in_format(vendor, number),
             AttrId::Extended(t, _) => t >= 241 && t <= 246,
         }
     }

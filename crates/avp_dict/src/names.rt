@@ -9,8 +9,8 @@ ghost use Rattle.avp_dict.specs.code.Numbers.{Reads};
 use crate::attributes::extended_id;
 use crate::numbers::{MOST_NUMBER, Number, digits_of};
 use crate::parts::first_between;
-use crate::readings::Reading;
-use crate::settling::is_in_last_format;
+use crate::settling::is_in_format;
+use crate::tables::Vendors;
 use avp_lists::AttrId;
 
 fn plain_by_number(n: Number) -> Option<AttrId>
@@ -39,14 +39,14 @@ fn extended_by_number(t: Number, n: Number) -> Option<AttrId>
 }
 
 #[tactic(auto, using(crate::proofs::Numbered::number_past))]
-fn id_of_vendor(lines: &[Reading], v: u64, n: Number) -> Option<AttrId>
-    ensures { (number : Option ℕ) → Reads n number → result ≡ vendor_id_numbered lines.now (Some v) number }
+fn id_of_vendor(vendors: &Vendors, v: u64, n: Number) -> Option<AttrId>
+    ensures { (number : Option ℕ) → Reads n number → result ≡ vendor_id_numbered vendors.now (Some v) number }
 {
     match n {
         Number::Unreadable => None,
         Number::TooGreat => None,
         Number::Is(n) => {
-            if v <= MOST_NUMBER && is_in_last_format(lines, v, n) {
+            if v <= MOST_NUMBER && is_in_format(vendors, v as u32, n) {
                 Some(AttrId::Vendor(v as u32, n as u32))
             } else {
                 None
@@ -56,13 +56,13 @@ fn id_of_vendor(lines: &[Reading], v: u64, n: Number) -> Option<AttrId>
 }
 
 #[tactic(auto, using(crate::proofs::Numbered::vendor_past))]
-fn vendor_by_number(lines: &[Reading], v: Number, n: Number) -> Option<AttrId>
-    ensures { (vendor number : Option ℕ) → Reads v vendor → Reads n number → result ≡ vendor_id_numbered lines.now vendor number }
+fn vendor_by_number(vendors: &Vendors, v: Number, n: Number) -> Option<AttrId>
+    ensures { (vendor number : Option ℕ) → Reads v vendor → Reads n number → result ≡ vendor_id_numbered vendors.now vendor number }
 {
     match v {
         Number::Unreadable => None,
         Number::TooGreat => None,
-        Number::Is(v) => id_of_vendor(lines, v, n),
+        Number::Is(v) => id_of_vendor(vendors, v, n),
     }
 }
 
@@ -77,13 +77,13 @@ fn is_vendor_type(t: Number) -> bool
 }
 
 // The id of three parts or more, after the first two.
-fn id_by_parts(lines: &[Reading], t: &[u8], v: &[u8], rest: &[u8]) -> Option<AttrId>
-    ensures { result ≡ id_numbered lines.now (t.now ∷ (v.now ∷ slice_split is_dot rest.now)) }
+fn id_by_parts(vendors: &Vendors, t: &[u8], v: &[u8], rest: &[u8]) -> Option<AttrId>
+    ensures { result ≡ id_numbered vendors.now (t.now ∷ (v.now ∷ slice_split is_dot rest.now)) }
 {
     match first_between(b'.', rest) {
         None => {
             if is_vendor_type(digits_of(10, t)) {
-                vendor_by_number(lines, digits_of(10, v), digits_of(10, rest))
+                vendor_by_number(vendors, digits_of(10, v), digits_of(10, rest))
             } else {
                 None
             }
@@ -93,14 +93,14 @@ fn id_by_parts(lines: &[Reading], t: &[u8], v: &[u8], rest: &[u8]) -> Option<Att
 }
 
 /// The id of the numbers after `Attr-`.
-pub fn id_by_numbers(lines: &[Reading], numbers: &[u8]) -> Option<AttrId>
-    ensures { result ≡ id_numbered lines.now (slice_split is_dot numbers.now) }
+pub fn id_by_numbers(vendors: &Vendors, numbers: &[u8]) -> Option<AttrId>
+    ensures { result ≡ id_numbered vendors.now (slice_split is_dot numbers.now) }
 {
     match first_between(b'.', numbers) {
         None => plain_by_number(digits_of(10, numbers)),
         Some((t, rest)) => match first_between(b'.', rest) {
             None => extended_by_number(digits_of(10, t), digits_of(10, rest)),
-            Some((v, rest)) => id_by_parts(lines, t, v, rest),
+            Some((v, rest)) => id_by_parts(vendors, t, v, rest),
         },
     }
 }

@@ -3,14 +3,13 @@
 ghost use Rattle.std.specs.Prelude.{◌≡◌, ◌++◌, IfOk, IsTrue, OnOk, codes, decimal};
 ghost use Rattle.std.specs.Fmt.{signed_decimal};
 ghost use Rattle.avp_dict.specs.Limits.{fits};
-ghost use Rattle.avp_dict.specs.Names.{name_numbered};
 ghost use Rattle.avp_dict.specs.Octets.{octets};
 ghost use Rattle.avp_dict.specs.Printing.{address_text, attr_name, digit_pair_text, ether_text, hexadecimal, is_by_number, number_text, printed_name, printed_text, typed_text};
 ghost use Rattle.avp_dict.specs.Sent.{is_raw};
 
 use crate::dictionaries::Dictionary;
+use crate::entries::Kind;
 use crate::quotes::quote;
-use crate::readings::Kind;
 use crate::value_octets::octets_by_kind;
 use crate::value_texts::is_container;
 use avp_lists::{AttrId, Value};

@@ -194,7 +194,7 @@ impl Dictionary {
         ensures refused { IfErr result (λ fault. fault.kind ≢ LineKind.Memory → request_spelled text.now self.now ≡ None) }
     {
         // That each pair fits rests on what holds of the lines of every dictionary.
-        let _sound = self.readings();
+        self.sound();
         let mut pairs = Vec::new(alloc);
         let (mut number, mut rest) = without_idle_lines(text);
         while let Some((line, after)) = next_line(rest) {

@@ -1,86 +1,86 @@
-//! The lines by the vendors' final formats.
+//! Which ATTRIBUTE lines are used, by the vendors' last formats.
 
-ghost use Rattle.std.specs.Prelude.{◌≡◌, ◌≤◌, IfOk, IsTrue};
-ghost use Rattle.avp_dict.specs.Settled.{holds, is_in_format, is_kept, settled, settled_line, settled_meaning};
+ghost use Rattle.std.specs.Prelude.{◌≡◌, ◌≤◌, [], IfOk, OnOk, IsTrue};
+ghost use Rattle.std.specs.List.{list_all};
+ghost use Rattle.avp_dict.specs.Settled.{holds, is_in_format, is_kept, is_kept_line, used};
 
-use crate::attributes::is_held_in;
-use crate::lookups::find_format;
+use crate::attributes::is_held;
+use crate::entries::{AttributeLine, VendorFormat};
 use crate::numbers::MOST_NUMBER;
-use crate::readings::{Meaning, Reading, VendorFormat};
+use crate::tables::{Attributes, Vendors};
 use avp_lists::AttrId;
 use std::alloc::{AllocError, Global};
 
-fn holds_number(number: u64, format: Option<VendorFormat>) -> bool
+fn holds(number: u64, format: Option<VendorFormat>) -> bool
     ensures test { result ≡ holds number format }
     ensures within { IsTrue result → number ≤ MOST_NUMBER }
 {
     match format {
         None => false,
-        Some(format) => !format.third && is_held_in(number, format),
+        Some(format) => !format.third && is_held(number, format),
     }
 }
 
 /// Whether the vendor's last format has two parts and holds the number.
 #[tactic(auto, unfolding(crate::specs::Settled::is_in_format))]
-pub fn is_in_last_format(lines: &[Reading], vendor: u64, number: u64) -> bool
-    ensures test { result ≡ is_in_format vendor number lines.now }
+pub fn is_in_format(vendors: &Vendors, vendor: u32, number: u64) -> bool
+    ensures test { result ≡ is_in_format vendor number vendors.now }
     ensures within { IsTrue result → number ≤ MOST_NUMBER }
 {
-    holds_number(number, find_format(lines, vendor))
+    holds(number, vendors.format_of(vendor))
 }
 
-fn keeps(lines: &[Reading], id: AttrId) -> bool
-    ensures { result ≡ is_kept lines.now id }
+pub fn is_kept(vendors: &Vendors, id: AttrId) -> bool
+    ensures { result ≡ is_kept vendors.now id }
 {
     match id {
         AttrId::Plain(_) => true,
-        AttrId::Vendor(vendor, number) => is_in_last_format(
-            lines,
-            u64::from(vendor),
-            u64::from(number),
-        ),
+        AttrId::Vendor(vendor, number) => is_in_format(vendors, vendor, u64::from(number)),
         AttrId::Extended(_, _) => true,
     }
 }
 
-fn settle_meaning(
+fn are_kept(vendors: &Vendors, lines: &[AttributeLine]) -> bool
+    ensures { result ≡ list_all (is_kept_line vendors.now) lines.now }
+{
+    lines.iter().all(|line| is_kept(vendors, line.id))
+}
+
+// The lines that are kept, with tables of their own.
+#[tactic(auto, unfolding(crate::specs::Settled::used))]
+fn only_kept(
     alloc: Global,
-    lines: &[Reading],
-    meaning: &Meaning,
-) -> Result<Meaning, AllocError>
-    ensures { IfOk result (λ m. m ≡ settled_meaning lines.now meaning.now) }
+    vendors: &Vendors,
+    attributes: &Attributes,
+    kept: &mut Attributes,
+) -> Result<(), AllocError>
+    requires { kept.old ≡ [] }
+    ensures { OnOk result (kept.new ≡ used vendors.now attributes.now) }
 {
-    match meaning {
-        Meaning::Attribute(name, id, typing) => {
-            if keeps(lines, *id) {
-                Ok(Meaning::Attribute(name.copy(alloc)?, *id, *typing))
-            } else {
-                Ok(Meaning::SkippedAttribute(name.copy(alloc)?))
-            }
+    let lines = attributes.as_slice();
+    for line in lines {
+        if is_kept(vendors, line.id) {
+            let name = line.name.copy(alloc)?;
+            let id = line.id;
+            let typing = line.typing;
+            kept.push(alloc, AttributeLine { name, id, typing })?;
         }
-        _ => meaning.copy(alloc),
     }
+    Ok(())
 }
 
-fn settle_line(alloc: Global, lines: &[Reading], reading: &Reading) -> Result<Reading, AllocError>
-    ensures { IfOk result (λ r. r ≡ settled_line lines.now reading.now) }
+/// The used ATTRIBUTE lines: those that their vendors' last formats hold.
+pub fn used(
+    alloc: Global,
+    vendors: &Vendors,
+    attributes: Attributes,
+) -> Result<Attributes, AllocError>
+    ensures { IfOk result (λ kept. kept ≡ used vendors.now attributes) }
 {
-    let meaning = settle_meaning(alloc, lines, &reading.meaning)?;
-    Ok(Reading {
-        file: reading.file,
-        line: reading.line,
-        meaning,
-    })
-}
-
-/// The lines, an ATTRIBUTE line skipped where its vendor's last format doesn't hold its number.
-#[tactic(auto, unfolding(crate::specs::Settled::settled))]
-pub fn settle(alloc: Global, lines: &[Reading]) -> Result<Vec<Reading>, AllocError>
-    ensures { IfOk result (λ all. all.items ≡ settled lines.now) }
-{
-    let mut all = Vec::new(alloc);
-    for reading in lines {
-        all.push(settle_line(alloc, lines, reading)?)?;
+    if are_kept(vendors, attributes.as_slice()) {
+        return Ok(attributes);
     }
-    Ok(all)
+    let mut kept = Attributes::new(alloc);
+    only_kept(alloc, vendors, &attributes, &mut kept)?;
+    Ok(kept)
 }

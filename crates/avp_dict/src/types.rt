@@ -6,11 +6,11 @@ ghost use Rattle.avp_dict.specs.Letters.{word_before_bracket};
 ghost use Rattle.avp_dict.specs.Types.{are_flags, is_fixed, is_flag, is_hiding, is_opaque, is_text_kind, kind_word, typing_by, typing_of};
 ghost use Rattle.avp_dict.specs.code.Views.{views};
 
+use crate::entries::{Kind, Typing};
 use crate::keywords::{
     ARRAY, BYTE, CONCAT, DATE, ENCRYPT_1, ENCRYPT_2, ENCRYPT_3, ETHER, HAS_TAG, INTEGER, INTEGER64,
     IPADDR, OCTETS, SECRET, SHORT, SIGNED, STRING, VIRTUAL,
 };
-use crate::readings::{Kind, Typing};
 use crate::words::is_same_name;
 use avp_lists::AttrId;
 

@@ -6,8 +6,8 @@ ghost use Rattle.avp_dict.specs.Limits.{fits};
 ghost use Rattle.avp_dict.specs.Octets.{ends_in_nul, is_hidden, is_hideable, kind_of, number_octets, number_value, octets, octets_of, of_length, read_by, read_value, signed_value, value_of_octets, value_read};
 
 use crate::dictionaries::Dictionary;
+use crate::entries::Kind;
 use crate::octets::copy_of;
-use crate::readings::Kind;
 use avp_lists::{AttrId, Value};
 use std::alloc::{AllocError, Global};
 

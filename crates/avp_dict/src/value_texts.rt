@@ -11,12 +11,10 @@ ghost use Rattle.avp_dict.specs.Words.{digits};
 ghost use Rattle.avp_dict.specs.code.Numbers.{Reads};
 
 use crate::dictionaries::Dictionary;
-use crate::entries::Named;
-use crate::lookups::find_typing;
+use crate::entries::{Kind, Named, Typing};
 use crate::numbers::{Number, digits_of, read_number};
 use crate::octets::copy_of;
 use crate::parts::first_between;
-use crate::readings::{Kind, Typing};
 use crate::value_faults::ValueFault;
 use avp_lists::{AttrId, Octets, Value};
 use hex::FromHexError;
@@ -235,7 +233,7 @@ impl Dictionary {
                 None => Ok(None),
             }
         } else {
-            match find_typing(self.readings(), name.id) {
+            match self.typing(name.id) {
                 Some(typing) => self.value_by_typing(alloc, typing, name.id, text),
                 None => Ok(None),
             }

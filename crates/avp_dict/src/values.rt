@@ -1,24 +1,32 @@
-//! VALUE lines, resolved after the last line.
+//! VALUE lines and notes, after the last line.
 
-ghost use Rattle.std.specs.Prelude.{◌≡◌, ◌∷◌, [], ℕ, List, Option, is_some, OnOk, IfErr};
-ghost use Rattle.std.specs.Option.{option_and_then};
-ghost use Rattle.std.specs.List.{list_any, list_all};
-ghost use Rattle.avp_dict.specs.declared.readings.Reading.{Reading};
+ghost use Rattle.std.specs.Prelude.{◌≡◌, ◌∷◌, [], ℕ, List, Option, Ok, ◌≤◌, length, is_some, OnOk, IfErr, IfOk, IfSome};
+ghost use Rattle.std.specs.Option.{option_and_then, option_copied};
+ghost use Rattle.std.specs.List.{list_all};
+ghost use Rattle.avp_dict.specs.DictionaryReading.{outline_of, settled};
 ghost use Rattle.avp_dict.specs.Letters.{is_word_octet};
+ghost use Rattle.avp_dict.specs.Meanings.{Reading as SetReading, context_of};
 ghost use Rattle.avp_dict.specs.Outcomes.{Answers, Refuses};
-ghost use Rattle.avp_dict.specs.Values.{is_value_name, most_of, most_of_typing, names_other_value, reads_as_number, resolve, resolved_meaning, typing_of_id, value_of, value_up_to};
+ghost use Rattle.avp_dict.specs.Settled.{skipped_names};
+ghost use Rattle.avp_dict.specs.Values.{is_noted, is_of_other_number, is_value_name, most_of, most_of_typing, reads_as_number, resolve, value_of, value_up_to, with_line, with_note, with_value};
+ghost use Rattle.avp_dict.specs.Dictionary.{typing_of_id};
+ghost use Rattle.avp_dict.specs.code.Contents.{contents_view};
+ghost use Rattle.avp_dict.specs.code.Meanings.{context_view, meaning_view, name_if, reading_view, reading_views, skipped_name_of};
 ghost use Rattle.avp_dict.specs.code.Numbers.{Reads};
 ghost use Rattle.avp_dict.specs.code.Outcomes.{Gives};
 
 use crate::attributes::is_octet_of_name;
+use crate::contents::Contents;
+use crate::context::Context;
+use crate::entries::{Kind, Note, ValueLine};
 use crate::faults::{DictFault, DictKind, LineError};
-use crate::lookups::{find_id, find_typing, is_name_skipped};
+use crate::meanings::{Meaning, Reading};
 use crate::numbers::{Number, digits_of};
 use crate::octets::copy_of;
-use crate::readings::{Kind, Meaning, Reading};
-use crate::words::is_same_name;
+use crate::settling::{is_kept, used};
+use crate::tables::{Attributes, NameSet, Values, Vendors};
 use avp_lists::AttrId;
-use std::alloc::Global;
+use std::alloc::{AllocError, Global};
 
 fn is_octet_of_word(octet: u8) -> bool
     ensures { result ≡ is_word_octet octet }
@@ -71,79 +79,73 @@ pub fn most_of_kind(kind: Kind) -> Option<u64>
     }
 }
 
-fn most_of_id(all: &[Reading], id: AttrId) -> Option<u64>
-    ensures { result ≡ option_and_then most_of_typing (typing_of_id id all.now) }
+fn most_of_id(attributes: &Attributes, id: AttrId) -> Option<u64>
+    ensures { result ≡ option_and_then most_of_typing (typing_of_id id attributes.now) }
 {
-    match find_typing(all, id) {
+    match attributes.typing_of_id(id) {
         Some(typing) => most_of_kind(typing.kind),
         None => None,
     }
 }
 
-fn has_other_value(reading: &Reading, id: AttrId, name: &[u8], number: u64) -> bool
-    ensures { result ≡ names_other_value id name.now number reading.now }
+fn is_of_other_number(number: u64, found: Option<u64>) -> bool
+    ensures { result ≡ is_of_other_number number found }
 {
-    match &reading.meaning {
-        Meaning::Value(given, other, value) => {
-            given.equals(id) && is_same_name(other.as_slice(), name) && *value != number
-        }
-        _ => false,
+    match found {
+        Some(other) => other != number,
+        None => false,
     }
 }
 
-fn any_other_value(before: &[Reading], id: AttrId, name: &[u8], number: u64) -> bool
-    ensures { result ≡ list_any (names_other_value id name.now number) before.now }
-{
-    before
-        .iter()
-        .any(|reading| has_other_value(reading, id, name, number))
-}
-
 #[tactic(auto, unfolding(crate::specs::Values::value_up_to))]
-fn resolve_up_to(
+fn value_up_to(
     alloc: Global,
-    before: &[Reading],
+    values: &Values,
     id: AttrId,
     name: &[u8],
     number: u64,
     most: Option<u64>,
-) -> Result<Meaning, LineError>
-    ensures { Gives result (value_up_to before.now id name.now number most) }
+) -> Result<Option<ValueLine>, LineError>
+    ensures { Gives result (value_up_to values.now id name.now number most) }
 {
     match most {
-        None => Ok(Meaning::Skipped),
+        None => Ok(None),
         Some(most) => {
             if !names_value(name) {
-                return Ok(Meaning::Skipped);
+                return Ok(None);
             }
             if number > most {
                 return Err(LineError::Refused(DictKind::OutOfRange));
             }
-            if any_other_value(before, id, name, number) {
+            if is_of_other_number(number, values.number_named(id, name)) {
                 return Err(LineError::Refused(DictKind::OtherValue));
             }
-            Ok(Meaning::Value(id, copy_of(alloc, name)?, number))
+            let name = copy_of(alloc, name)?;
+            Ok(Some(ValueLine { id, name, number }))
         }
     }
 }
 
 #[tactic(auto, unfolding(crate::specs::Values::value_of))]
-fn resolve_value(
+fn value_of(
     alloc: Global,
-    all: &[Reading],
-    before: &[Reading],
+    skipped: &NameSet<'_>,
+    contents: &Contents,
     attribute: &[u8],
     name: &[u8],
     number: u64,
     id: Option<AttrId>,
-) -> Result<Meaning, LineError>
-    ensures { Gives result (value_of all.now before.now attribute.now name.now number id) }
+) -> Result<Option<ValueLine>, LineError>
+    ensures { Gives result (value_of skipped.now (contents_view contents.now) attribute.now name.now number id) }
 {
     match id {
-        Some(id) => resolve_up_to(alloc, before, id, name, number, most_of_id(all, id)),
+        Some(id) => {
+            let most = most_of_id(&contents.attributes, id);
+            value_up_to(alloc, &contents.values, id, name, number, most)
+        }
         None => {
-            if is_name_skipped(all, attribute) {
-                Ok(Meaning::Skipped)
+            if skipped.contains(alloc, attribute)? {
+                Ok(None)
             } else {
                 Err(LineError::Refused(DictKind::NoAttribute))
             }
@@ -151,58 +153,159 @@ fn resolve_value(
     }
 }
 
-#[tactic(auto, unfolding(crate::specs::Values::resolved_meaning))]
-fn resolve_meaning(
-    alloc: Global,
-    all: &[Reading],
-    before: &[Reading],
-    meaning: &Meaning,
-) -> Result<Meaning, LineError>
-    ensures { Gives result (resolved_meaning all.now before.now meaning.now) }
+fn is_noted(vendors: &Vendors, meaning: Meaning<'_>) -> bool
+    ensures { result ≡ is_noted vendors.now (meaning_view meaning.entry) }
 {
     match meaning {
-        Meaning::Unresolved(attribute, name, number) => {
-            let attribute = attribute.as_slice();
-            let id = find_id(all, attribute);
-            resolve_value(alloc, all, before, attribute, name.as_slice(), *number, id)
-        }
-        _ => Ok(meaning.copy(alloc)?),
+        Meaning::Skipped => true,
+        Meaning::SkippedAttribute(_) => true,
+        Meaning::Attribute(_, id, _) => !is_kept(vendors, id),
+        Meaning::BeginVendor(_, vendor) => vendor.is_none(),
+        Meaning::BeginTlv(_) => true,
+        Meaning::End(noted) => noted,
+        _ => false,
     }
 }
 
-// Resolves one line more.
-fn resolve_next(
+impl Contents {
+    // A note of this line.
+    fn add_note(&mut self, reading: Reading<'_>) -> Result<(), AllocError>
+        ensures { OnOk result (contents_view self.new ≡ with_note (contents_view self.old) (reading_view reading.entry)) }
+    {
+        self.notes.push(Note {
+            file: reading.file,
+            line: reading.line,
+        })?;
+        Ok(())
+    }
+
+    // What a VALUE line adds.
+    fn add_value(
+        &mut self,
+        alloc: Global,
+        reading: Reading<'_>,
+        value: Option<ValueLine>,
+    ) -> Result<(), AllocError>
+        requires { IfSome value (λ v. length v.name ≤ 128) }
+        ensures { OnOk result (contents_view self.new ≡ with_value (contents_view self.old) (reading_view reading.entry) value) }
+    {
+        match value {
+            Some(value) => self.values.push(alloc, value),
+            None => self.add_note(reading),
+        }
+    }
+
+    // What a line adds.
+    #[tactic(auto, unfolding(crate::specs::Values::with_line))]
+    fn add_line(
+        &mut self,
+        alloc: Global,
+        skipped: &NameSet<'_>,
+        reading: Reading<'_>,
+    ) -> Result<(), DictFault>
+        ensures step { OnOk result (with_line skipped.now (contents_view self.old) (reading_view reading.entry) ≡ Ok (contents_view self.new)) }
+        ensures refused { IfErr result (λ fault. Refuses fault (with_line skipped.now (contents_view self.old) (reading_view reading.entry))) }
+    {
+        if let Meaning::Value(attribute, name, number) = reading.meaning {
+            let id = self.attributes.id_named(attribute);
+            match value_of(alloc, skipped, self, attribute, name, number, id) {
+                Ok(value) => self.add_value(alloc, reading, value)?,
+                Err(error) => return Err(error.at(reading.file, reading.line)),
+            }
+        } else if is_noted(&self.vendors, reading.meaning) {
+            self.add_note(reading)?;
+        }
+        Ok(())
+    }
+
+    // What the lines add, one after the other.
+    fn add_lines(
+        &mut self,
+        alloc: Global,
+        skipped: &NameSet<'_>,
+        readings: &[Reading<'_>],
+    ) -> Result<(), DictFault>
+        ensures ok { OnOk result (resolve skipped.now (contents_view self.old) (reading_views readings.now) ≡ Ok (contents_view self.new)) }
+        ensures refused { IfErr result (λ fault. Refuses fault (resolve skipped.now (contents_view self.old) (reading_views readings.now))) }
+    {
+        for reading in readings {
+            self.add_line(alloc, skipped, *reading)?;
+        }
+        Ok(())
+    }
+}
+
+// The name on a skipped ATTRIBUTE line.
+fn skipped_name<'a>(vendors: &Vendors, meaning: Meaning<'a>) -> Option<&'a [u8]>
+    ensures { name_if (option_copied result) ≡ skipped_name_of vendors.now (meaning_view meaning.entry) }
+{
+    match meaning {
+        Meaning::SkippedAttribute(name) => Some(name),
+        Meaning::Attribute(name, id, _) => {
+            if is_kept(vendors, id) {
+                None
+            } else {
+                Some(name)
+            }
+        }
+        _ => None,
+    }
+}
+
+// The names on the skipped ATTRIBUTE lines.
+#[tactic(auto, unfolding(crate::specs::Settled::skipped_names))]
+fn add_skipped<'a>(
     alloc: Global,
-    all: &[Reading],
-    resolved: &mut Vec<Reading>,
-    reading: &Reading,
-) -> Result<(), DictFault>
-    ensures step { (rs : List Reading) → OnOk result (resolve all.now resolved.old.items (reading.now ∷ rs) ≡ resolve all.now resolved.new.items rs) }
-    ensures refused { (rs : List Reading) → IfErr result (λ fault. Refuses fault (resolve all.now resolved.old.items (reading.now ∷ rs))) }
+    vendors: &Vendors,
+    readings: &[Reading<'a>],
+    skipped: &mut NameSet<'a>,
+) -> Result<(), AllocError>
+    requires { skipped.old ≡ [] }
+    ensures { OnOk result (skipped.new ≡ skipped_names vendors.now (reading_views readings.now)) }
 {
-    match resolve_meaning(alloc, all, resolved, &reading.meaning) {
-        Ok(meaning) => {
-            resolved.push(Reading {
-                file: reading.file,
-                line: reading.line,
-                meaning,
-            })?;
-            Ok(())
+    for reading in readings {
+        if let Some(name) = skipped_name(vendors, reading.meaning) {
+            skipped.push(alloc, name)?;
         }
-        Err(error) => Err(error.at(reading.file, reading.line)),
     }
+    Ok(())
 }
 
-/// The settled lines with their VALUE lines resolved, each by all lines and by the VALUE lines before it.
-pub fn resolve_all(alloc: Global, all: &[Reading]) -> Result<Vec<Reading>, DictFault>
-    ensures { Answers (λ resolved. resolved.items) result (resolve all.now [] all.now) }
+fn add_all(
+    alloc: Global,
+    readings: &[Reading<'_>],
+    contents: &mut Contents,
+) -> Result<(), DictFault>
+    ensures ok { OnOk result (resolve (skipped_names contents.old.vendors (reading_views readings.now)) (contents_view contents.old) (reading_views readings.now) ≡ Ok (contents_view contents.new)) }
+    ensures refused { IfErr result (λ fault. Refuses fault (resolve (skipped_names contents.old.vendors (reading_views readings.now)) (contents_view contents.old) (reading_views readings.now))) }
 {
-    let mut resolved = Vec::new(alloc);
-    for reading in all {
-        match resolve_next(alloc, all, &mut resolved, reading) {
-            Ok(()) => {}
-            Err(fault) => return Err(fault),
-        }
-    }
-    Ok(resolved)
+    let mut skipped = NameSet::new(alloc);
+    add_skipped(alloc, &contents.vendors, readings, &mut skipped)?;
+    contents.add_lines(alloc, &skipped, readings)
+}
+
+/// The dictionary of lines that were read.
+#[tactic(auto, unfolding(crate::specs::DictionaryReading::settled))]
+pub fn settle(
+    alloc: Global,
+    readings: &[Reading<'_>],
+    context: Context<'_>,
+) -> Result<Contents, DictFault>
+    requires { context_view context ≡ context_of (reading_views readings.now) }
+    ensures { Answers contents_view result (settled (reading_views readings.now)) }
+{
+    let Context {
+        attributes,
+        vendors,
+        opened: _,
+    } = context;
+    let attributes = used(alloc, &vendors, attributes)?;
+    let mut contents = Contents {
+        attributes,
+        values: Values::new(alloc),
+        vendors,
+        notes: Vec::new(alloc),
+    };
+    add_all(alloc, readings, &mut contents)?;
+    Ok(contents)
 }

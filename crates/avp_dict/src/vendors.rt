@@ -3,19 +3,18 @@
 ghost use Rattle.std.specs.Prelude.{◌≡◌, ◌≤◌, ℕ, Option, IfOk};
 ghost use Rattle.std.specs.List.{list_all, slice_split};
 ghost use Rattle.avp_dict.specs.Letters.{is_comma, is_visible};
-ghost use Rattle.avp_dict.specs.Vendors.{format_parts, format_word, is_vendor_name, two_parts, vendor, vendor_line, vendor_numbered};
+ghost use Rattle.avp_dict.specs.Vendors.{format_parts, format_word, is_other_vendor, is_vendor_name, two_parts, vendor, vendor_line, vendor_numbered};
 ghost use Rattle.avp_dict.specs.code.Numbers.{Reads};
-ghost use Rattle.avp_dict.specs.code.Outcomes.{Gives};
+ghost use Rattle.avp_dict.specs.code.Outcomes.{Means};
 ghost use Rattle.avp_dict.specs.code.Views.{views};
 
+use crate::entries::VendorFormat;
 use crate::faults::{DictKind, LineError};
 use crate::keywords::FORMAT_KEY;
-use crate::lookups::any_other_vendor;
+use crate::meanings::Meaning;
 use crate::numbers::{MOST_NUMBER, Number, number_up_to, read_number};
-use crate::octets::copy_of;
 use crate::parts::parts_between;
-use crate::readings::{Meaning, Reading, VendorFormat};
-use crate::shapes::{Shape, shape_of};
+use crate::tables::Vendors;
 use crate::words::is_same_name;
 use std::alloc::{AllocError, Global};
 
@@ -45,33 +44,40 @@ fn names_vendor(name: &[u8]) -> bool
     are_visible(name) && name.len() <= 128
 }
 
+fn is_other_vendor(number: u32, found: Option<u32>) -> bool
+    ensures { result ≡ is_other_vendor number found }
+{
+    match found {
+        Some(other) => other != number,
+        None => false,
+    }
+}
+
 #[tactic(auto, unfolding(crate::specs::Vendors::vendor_numbered))]
-fn define_vendor(
-    alloc: Global,
-    before: &[Reading],
-    name: &[u8],
+fn define_vendor<'a>(
+    vendors: &Vendors,
+    name: &'a [u8],
     format: VendorFormat,
     number: u64,
-) -> Result<Meaning, LineError>
+) -> Result<Meaning<'a>, LineError>
     requires { number ≤ MOST_NUMBER }
-    ensures { Gives result (vendor_numbered before.now name.now format number) }
+    ensures { Means result (vendor_numbered vendors.now name.now format number) }
 {
     let number = number as u32;
-    if any_other_vendor(before, name, number) {
+    if is_other_vendor(number, vendors.vendor_named(name)) {
         return Err(LineError::Refused(DictKind::OtherNumber));
     }
-    Ok(Meaning::Vendor(copy_of(alloc, name)?, number, format))
+    Ok(Meaning::Vendor(name, number, format))
 }
 
 #[tactic(auto, unfolding(crate::specs::Vendors::vendor_line))]
-fn read_vendor_line(
-    alloc: Global,
-    before: &[Reading],
-    name: &[u8],
+fn read_vendor_line<'a>(
+    vendors: &Vendors,
+    name: &'a [u8],
     number: &[u8],
     format: Option<VendorFormat>,
-) -> Result<Meaning, LineError>
-    ensures { Gives result (vendor_line before.now name.now number.now format) }
+) -> Result<Meaning<'a>, LineError>
+    ensures { Means result (vendor_line vendors.now name.now number.now format) }
 {
     match format {
         None => Err(LineError::Refused(DictKind::Unreadable)),
@@ -80,7 +86,7 @@ fn read_vendor_line(
                 return Err(LineError::Refused(DictKind::Unreadable));
             }
             let number = number_up_to(MOST_NUMBER, number)?;
-            define_vendor(alloc, before, name, format, number)
+            define_vendor(vendors, name, format, number)
         }
     }
 }
@@ -107,13 +113,10 @@ fn format_of_numbers(third: bool, t: Number, l: Number) -> Option<VendorFormat>
 fn format_of_parts(parts: &[&[u8]]) -> Option<VendorFormat>
     ensures { result ≡ format_parts (views parts.now) }
 {
-    match shape_of(parts) {
-        Shape::Two(t, l) => format_of_numbers(false, read_number(t), read_number(l)),
-        Shape::Three(t, l, _) => format_of_numbers(true, read_number(t), read_number(l)),
-        Shape::Zero => None,
-        Shape::One(_) => None,
-        Shape::Four(_, _, _, _) => None,
-        Shape::More(_, _, _, _, _, _) => None,
+    match parts {
+        [t, l] => format_of_numbers(false, read_number(t), read_number(l)),
+        [t, l, _] => format_of_numbers(true, read_number(t), read_number(l)),
+        _ => None,
     }
 }
 
@@ -140,24 +143,19 @@ fn read_format(alloc: Global, word: &[u8]) -> Result<Option<VendorFormat>, Alloc
 
 /// A VENDOR line after its keyword.
 #[tactic(auto, unfolding(crate::specs::Vendors::vendor))]
-pub fn read_vendor(alloc: Global, before: &[Reading], words: &[&[u8]]) -> Result<Meaning, LineError>
-    ensures { Gives result (vendor before.now (views words.now)) }
+pub fn read_vendor<'a>(
+    alloc: Global,
+    vendors: &Vendors,
+    words: &[&'a [u8]],
+) -> Result<Meaning<'a>, LineError>
+    ensures { Means result (vendor vendors.now (views words.now)) }
 {
-    match shape_of(words) {
-        Shape::Two(name, number) => read_vendor_line(
-            alloc,
-            before,
-            name,
-            number,
-            Some(STANDARD_FORMAT),
-        ),
-        Shape::Three(name, number, format) => {
+    match words {
+        [name, number] => read_vendor_line(vendors, name, number, Some(STANDARD_FORMAT)),
+        [name, number, format] => {
             let format = read_format(alloc, format)?;
-            read_vendor_line(alloc, before, name, number, format)
+            read_vendor_line(vendors, name, number, format)
         }
-        Shape::Zero => Err(LineError::Refused(DictKind::Unreadable)),
-        Shape::One(_) => Err(LineError::Refused(DictKind::Unreadable)),
-        Shape::Four(_, _, _, _) => Err(LineError::Refused(DictKind::Unreadable)),
-        Shape::More(_, _, _, _, _, _) => Err(LineError::Refused(DictKind::Unreadable)),
+        _ => Err(LineError::Refused(DictKind::Unreadable)),
     }
 }

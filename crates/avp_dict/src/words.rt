@@ -72,7 +72,7 @@ pub fn words(alloc: Global, text: &[u8]) -> Result<Vec<&[u8]>, AllocError>
     words_between_blanks(alloc, without_comment(text))
 }
 
-fn to_lower(octet: u8) -> u8
+pub fn to_lower(octet: u8) -> u8
     ensures { result ≡ lower octet }
 {
     if octet >= b'A' && octet <= b'Z' {

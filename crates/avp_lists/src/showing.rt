@@ -1,9 +1,8 @@
 //! The pairs that slots show.
-ghost use Rattle.std.specs.Prelude.{◌≡◌, ◌<◌, OnOk, IfOk, true, false, length, take, filter, find};
+ghost use Rattle.std.specs.Prelude.{◌≡◌, ◌<◌, OnOk, IfOk, true, false, length, take, filter, find, slice_get};
 ghost use Rattle.std.specs.Option.{option_copied, IfSome, IfNone};
 ghost use Rattle.std.specs.List.{list_any};
 ghost use Rattle.avp_lists.specs.Instances.{has_id};
-ghost use Rattle.avp_lists.specs.Lending.{lent};
 ghost use Rattle.avp_lists.specs.code.Slots.{slot_at, PairsWithin};
 ghost use Rattle.avp_lists.specs.code.Shown.{shows, shows_id, pairs_of};
 
@@ -65,23 +64,26 @@ pub(crate) fn copy_shown(
     Ok(made)
 }
 
-// The pairs of a list, borrowed.
-pub(crate) fn lend_shown<'a>(
-    alloc: Global,
+// The pair at a place of a list.
+pub(crate) fn pair_shown<'a>(
     slots: &[Slot],
     pool: &'a [Pair],
     list: List,
-) -> Result<Vec<&'a Pair>, AllocError>
+    at: usize,
+) -> Option<&'a Pair>
     requires { PairsWithin (length pool.now) slots.now }
-    ensures { IfOk result (λ made. lent made.items ≡ pairs_of list pool.now slots.now) }
+    ensures { option_copied result ≡ slice_get (pairs_of list pool.now slots.now) at }
 {
-    let mut made = Vec::new(alloc);
+    let mut left = at;
     for slot in slots {
         if shows(slot, list) {
-            made.push(&pool[slot.mark.pair])?;
+            if left == 0 {
+                return Some(&pool[slot.mark.pair]);
+            }
+            left -= 1;
         }
     }
-    Ok(made)
+    None
 }
 
 // The first slot that shows an instance of the id.

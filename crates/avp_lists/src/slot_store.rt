@@ -14,7 +14,7 @@ use crate::edits::{Edit, EditFault, Op};
 use crate::history::Store;
 use crate::lists::{List, MOST_PAIRS};
 use crate::planning::{Plan, plan_edit};
-use crate::showing::{copy_shown, count_shown, first_shown, first_slot, lend_shown};
+use crate::showing::{copy_shown, count_shown, first_shown, first_slot, pair_shown};
 use crate::slots::{Mark, Slot, forget_dark, turn_slots};
 use crate::snapshots::ListsRefused;
 use crate::steps::{Change, Step, cut_and_push, make_room, make_room_beside, move_to, node};
@@ -311,8 +311,8 @@ impl Store for SlotStore {
         copy_shown(self.alloc, &self.slots, &self.pool, list)
     }
 
-    fn pairs(&self, list: List) -> Result<Vec<&Pair>, AllocError> {
-        lend_shown(self.alloc, &self.slots, &self.pool, list)
+    fn pair(&self, list: List, at: usize) -> Option<&Pair> {
+        pair_shown(&self.slots, &self.pool, list, at)
     }
 
     fn place(&self) -> usize {

@@ -6,7 +6,7 @@ ghost use Rattle.avp_lists.specs.Snapshots.{snapshot_at, state_of, states_of, ow
 use crate::attributes::{AttrId, Pair};
 use crate::edits::{Edit, EditFault};
 use crate::history::Store;
-use crate::lists::{List, MOST_PAIRS, Pairs, State, copies, lend};
+use crate::lists::{List, MOST_PAIRS, Pairs, State, copies};
 use crate::operators::{edited, find_instance, is_full};
 use std::alloc::{AllocError, Global};
 
@@ -160,8 +160,8 @@ impl Store for SnapshotStore {
         copies(self.alloc, self.present().list(list))
     }
 
-    fn pairs(&self, list: List) -> Result<Vec<&Pair>, AllocError> {
-        lend(self.alloc, self.present().list(list))
+    fn pair(&self, list: List, at: usize) -> Option<&Pair> {
+        self.present().list(list).get(at)
     }
 
     fn place(&self) -> usize {

@@ -5,7 +5,7 @@ use Rattle.std.proofs.lemmas.List.{length-append, take_at, drop_at, take_all}
 use Rattle.md5.specs.Md5.{md5}
 use Rattle.md5.proofs.StandardFacts.{length-md5}
 use Rattle.avp_lists.specs.declared.attributes.Pair.{Pair}
-use Rattle.avp_dict.specs.declared.readings.Reading.{Reading}
+use Rattle.avp_dict.specs.Dictionary.{Dictionary}
 use Rattle.std.specs.Int.{to_be_bytes, w16}
 use Rattle.std.specs.Str.{bytes_eq}
 use Rattle.avp_lists.specs.declared.attributes.Value.TheVariants.{Text}
@@ -27,17 +27,17 @@ pub length-request_authenticator : (code id : ℕ) (authenticator attributes sec
 length-request_authenticator code id authenticator attributes secret h =
     by_test (length (request_authenticator code id authenticator attributes secret) ≡ 16) (code == accounting_request) (λ e. rw e (length-digest_over code id zeros attributes secret)) (λ e. rw e h)
 
-module _ (lines : List Reading) (secret : List ℕ) (code id : ℕ) (authenticator : List ℕ) where
-  pub length_request : (pairs : List Pair) → length authenticator ≡ 16 → length (request lines secret code id authenticator pairs) ≡ 20 + length (request_attributes lines secret code authenticator pairs)
+module _ (dictionary : Dictionary) (secret : List ℕ) (code id : ℕ) (authenticator : List ℕ) where
+  pub length_request : (pairs : List Pair) → length authenticator ≡ 16 → length (request dictionary secret code id authenticator pairs) ≡ 20 + length (request_attributes dictionary secret code authenticator pairs)
   unfolding request
   length_request pairs h =
-      let attributes : List ℕ = request_attributes lines secret code authenticator pairs in
+      let attributes : List ℕ = request_attributes dictionary secret code authenticator pairs in
       length-packet code id (request_authenticator code id authenticator attributes secret) attributes (length-request_authenticator code id authenticator attributes secret h)
 
-  pub length_reply : (pairs proxy_states : List Pair) → length (reply lines secret code id authenticator pairs proxy_states) ≡ 20 + length (reply_attributes lines secret code authenticator pairs proxy_states)
+  pub length_reply : (pairs proxy_states : List Pair) → length (reply dictionary secret code id authenticator pairs proxy_states) ≡ 20 + length (reply_attributes dictionary secret code authenticator pairs proxy_states)
   unfolding reply
   length_reply pairs proxy_states =
-      let attributes : List ℕ = reply_attributes lines secret code authenticator pairs proxy_states in
+      let attributes : List ℕ = reply_attributes dictionary secret code authenticator pairs proxy_states in
       length-packet code id (digest_over code id authenticator attributes secret) attributes (length-digest_over code id authenticator attributes secret)
 
 -- ---- a packet taken apart

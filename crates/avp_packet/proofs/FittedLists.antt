@@ -11,10 +11,10 @@ use Rattle.avp_lists.specs.declared.attributes.AttrId.{AttrId}
 use Rattle.avp_lists.specs.declared.attributes.AttrId.TheVariants.{Plain, Vendor, Extended}
 use Rattle.avp_lists.specs.declared.attributes.Pair.{Pair}
 use Rattle.avp_dict.specs.declared.entries.Format.{Format}
-use Rattle.avp_dict.specs.declared.readings.Reading.{Reading}
-use Rattle.avp_dict.specs.declared.readings.VendorFormat.{VendorFormat}
+use Rattle.avp_dict.specs.Dictionary.{Dictionary}
+use Rattle.avp_dict.specs.declared.entries.VendorFormat.{VendorFormat}
 use Rattle.avp_dict.specs.Attributes.{is_held}
-use Rattle.avp_dict.specs.Definitions.{format_of}
+use Rattle.avp_dict.specs.Dictionary.{format_of}
 use Rattle.avp_dict.specs.Limits.{fits, is_known, most_octets, vendor_room}
 use Rattle.avp_dict.specs.Names.{unless_three, vendor_format}
 use Rattle.avp_dict.specs.Sent.{is_container}
@@ -205,8 +205,8 @@ subs_good f most zero (o ∷ os) bytes few =
 -- ---- pairs
 
 -- P holds of each pair of a known id and octets that the id's attributes hold
-abbrev pub HoldsOfMade : List Reading → List ℕ → List ℕ → (Pair → Type 0) → Type 0
-HoldsOfMade lines secret authenticator P = (id : AttrId) (os : List ℕ) → is_known id lines ≡ true → AreBytes os → length os ≤ most_octets id lines → P (pair_of lines secret authenticator id os)
+abbrev pub HoldsOfMade : Dictionary → List ℕ → List ℕ → (Pair → Type 0) → Type 0
+HoldsOfMade dictionary secret authenticator P = (id : AttrId) (os : List ℕ) → is_known id dictionary ≡ true → AreBytes os → length os ≤ most_octets id dictionary → P (pair_of dictionary secret authenticator id os)
 
 -- P holds of each attribute that holds others and is not looked into
 abbrev pub HoldsOfKept : (Pair → Type 0) → Type 0
@@ -219,7 +219,7 @@ extended_held n low high =
     let d : nat_le n 246 ≡ true = grind (arith, common_steps) in
     rw (a, b, d) refl
 
-module _ (lines : List Reading) (secret authenticator : List ℕ) (P : Pair → Type 0) (made : HoldsOfMade lines secret authenticator P) (kept : HoldsOfKept P) where
+module _ (dictionary : Dictionary) (secret authenticator : List ℕ) (P : Pair → Type 0) (made : HoldsOfMade dictionary secret authenticator P) (kept : HoldsOfKept P) where
   abbrev AllHold : List Pair → Type 0
   AllHold pairs = AllByRecursion P pairs
 
@@ -227,20 +227,20 @@ module _ (lines : List Reading) (secret authenticator : List ℕ) (P : Pair → 
   holds-append [] ys h k = k
   holds-append (x ∷ xs) ys h k = (h.0, holds-append xs ys h.1 k)
 
-  plain_good : (p : Part) → IsGood p → P (pair_of lines secret authenticator (Plain p.number) p.value)
+  plain_good : (p : Part) → IsGood p → P (pair_of dictionary secret authenticator (Plain p.number) p.value)
   unfolding is_known most_octets
   plain_good p good =
       let number : nat_le p.number 255 ≡ true = let low = good.number in grind (arith, common_steps) in
       made (Plain p.number) p.value refl good.bytes (rw number good.short)
 
-  extended_good : (p : Part) → IsGood p → 241 ≤ p.number → p.number ≤ 244 → P (extended_pair lines secret authenticator p)
+  extended_good : (p : Part) → IsGood p → 241 ≤ p.number → p.number ≤ 244 → P (extended_pair dictionary secret authenticator p)
   unfolding is_known most_octets
   extended_good p good low high = go p.value refl
     where
       held : is_container (Plain p.number) ≡ true
       held = extended_held p.number low (omega arith)
 
-      go : (value : List ℕ) → p.value ≡ value → P (extended_pair lines secret authenticator (record { number = p.number; value = value }))
+      go : (value : List ℕ) → p.value ≡ value → P (extended_pair dictionary secret authenticator (record { number = p.number; value = value }))
       go [] e = kept (record { number = p.number; value = [] }) (record { number = good.number; short = omega arith; bytes = tt }) held
       go (n ∷ []) e = kept (record { number = p.number; value = n ∷ [] }) (record { number = good.number; short = omega arith; bytes = rw e at good.bytes }) held
       go (n ∷ o ∷ os) e =
@@ -253,11 +253,11 @@ module _ (lines : List Reading) (secret authenticator : List ℕ) (P : Pair → 
           let short : length (o ∷ os) ≤ 252 = omega arith in
           made (Extended p.number n) (o ∷ os) (rw (a, b)) bytes.1 (rw (a, d) short)
 
-  long_good : (p : Part) (ps : List Part) → AreGood (p ∷ ps) → size (p ∷ ps) ≤ 4076 → 245 ≤ p.number → p.number ≤ 246 → P (long_pair lines secret authenticator p (first_run p ps))
+  long_good : (p : Part) (ps : List Part) → AreGood (p ∷ ps) → size (p ∷ ps) ≤ 4076 → 245 ≤ p.number → p.number ≤ 246 → P (long_pair dictionary secret authenticator p (first_run p ps))
   unfolding is_known most_octets
   long_good p ps good few low high = go (first_run p ps) (run_good p.number (extended_type p) (p ∷ ps) good)
     where
-      go : (o : Option Run) → IfSome o (IsRun (p ∷ ps)) → P (long_pair lines secret authenticator p o)
+      go : (o : Option Run) → IfSome o (IsRun (p ∷ ps)) → P (long_pair dictionary secret authenticator p o)
       go None h = kept p good.0 (extended_held p.number (omega arith) high)
       go (Some r) h =
           let short : length r.os ≤ 4012 = run_short (p ∷ ps) r h few in
@@ -268,66 +268,66 @@ module _ (lines : List Reading) (secret authenticator : List ℕ) (P : Pair → 
           made (Extended p.number (extended_type p)) r.os (rw (a, b)) h.bytes (rw (a, d, e, b) short)
 
   -- the pairs of a vendor's attributes
-  sub_good : (v : ℕ) (f : Format) (s : Sub) → known_format v lines ≡ Some f → IsSub f 249 s → P (sub_pair lines secret authenticator v s)
+  sub_good : (v : ℕ) (f : Format) (s : Sub) → known_format v dictionary ≡ Some f → IsSub f 249 s → P (sub_pair dictionary secret authenticator v s)
   unfolding is_known most_octets known_format vendor_format is_in_format
   sub_good v f s known is =
-      let x = known_of s.number f (format_of v lines) known in
+      let x = known_of s.number f (format_of v dictionary.vendors) known in
       let few = is.short in
       made (Vendor v s.number) s.value (x.holds is.number) is.bytes (rw x.room (omega arith))
 
-  subs_hold : (v : ℕ) (f : Format) (ss : List Sub) → known_format v lines ≡ Some f → AllByRecursion (IsSub f 249) ss → AllHold (map (sub_pair lines secret authenticator v) ss)
+  subs_hold : (v : ℕ) (f : Format) (ss : List Sub) → known_format v dictionary ≡ Some f → AllByRecursion (IsSub f 249) ss → AllHold (map (sub_pair dictionary secret authenticator v) ss)
   subs_hold v f [] known h = tt
   subs_hold v f (s ∷ ss) known h = (sub_good v f s known h.0, subs_hold v f ss known h.1)
 
-  vendor_good : (p : Part) → IsGood p → is_container (Plain p.number) ≡ true → AllHold (vendor_pairs lines secret authenticator p (vendor_subs lines p.value))
+  vendor_good : (p : Part) → IsGood p → is_container (Plain p.number) ≡ true → AllHold (vendor_pairs dictionary secret authenticator p (vendor_subs dictionary p.value))
   unfolding vendor_subs
   vendor_good p good held =
-      by_test (AllHold (vendor_pairs lines secret authenticator p (cond (nat_le 4 (length p.value)) (option_and_then (subs_by p.value) (known_format (vendor_of p.value) lines)) None))) (nat_le 4 (length p.value))
-      (λ e. let long : 4 ≤ length p.value = grind (arith, common_steps) in rw e (go (known_format (vendor_of p.value) lines) refl long))
+      by_test (AllHold (vendor_pairs dictionary secret authenticator p (cond (nat_le 4 (length p.value)) (option_and_then (subs_by p.value) (known_format (vendor_of p.value) dictionary)) None))) (nat_le 4 (length p.value))
+      (λ e. let long : 4 ≤ length p.value = grind (arith, common_steps) in rw e (go (known_format (vendor_of p.value) dictionary) refl long))
       (λ e. rw e (kept p good held, tt))
     where
-      go : (o : Option Format) → known_format (vendor_of p.value) lines ≡ o → 4 ≤ length p.value → AllHold (vendor_pairs lines secret authenticator p (option_and_then (subs_by p.value) o))
+      go : (o : Option Format) → known_format (vendor_of p.value) dictionary ≡ o → 4 ≤ length p.value → AllHold (vendor_pairs dictionary secret authenticator p (option_and_then (subs_by p.value) o))
       go None known long = (kept p good held, tt)
       go (Some f) known long =
           let rest = length-drop 4 p.value in
           let few = good.short in
           let short : length (drop 4 p.value) ≤ 249 = omega arith in
-          by_test (AllHold (vendor_pairs lines secret authenticator p (subs_by p.value f))) (are_subs f (drop 4 p.value))
+          by_test (AllHold (vendor_pairs dictionary secret authenticator p (subs_by p.value f))) (are_subs f (drop 4 p.value))
           (λ e. rw e (subs_hold (vendor_of p.value) f (subs f (drop 4 p.value)) known (subs_good f 249 0 (drop 4 p.value) (bytes-drop 4 p.value good.bytes) short)))
           (λ e. rw e (kept p good held, tt))
 
-  first_good_pairs : (p : Part) (ps : List Part) → AreGood (p ∷ ps) → size (p ∷ ps) ≤ 4076 → AllHold (first_pairs lines secret authenticator p ps)
+  first_good_pairs : (p : Part) (ps : List Part) → AreGood (p ∷ ps) → size (p ∷ ps) ≤ 4076 → AllHold (first_pairs dictionary secret authenticator p ps)
   first_good_pairs p ps good few =
-      by_test (AllHold (first_pairs lines secret authenticator p ps)) (p.number == 26)
+      by_test (AllHold (first_pairs dictionary secret authenticator p ps)) (p.number == 26)
       (λ e. let held : is_container (Plain p.number) ≡ true = rw e refl in rw e (vendor_good p good.0 held))
-      (λ e. by_test (AllHold (first_pairs lines secret authenticator p ps)) (nat_le 241 p.number && nat_le p.number 244)
+      (λ e. by_test (AllHold (first_pairs dictionary secret authenticator p ps)) (nat_le 241 p.number && nat_le p.number 244)
       (λ f. let low : 241 ≤ p.number = grind (arith, common_steps) in
       let high : p.number ≤ 244 = grind (arith, common_steps) in
       rw (e, f) (extended_good p good.0 low high, tt))
-      (λ f. by_test (AllHold (first_pairs lines secret authenticator p ps)) ((p.number == 245) || (p.number == 246))
+      (λ f. by_test (AllHold (first_pairs dictionary secret authenticator p ps)) ((p.number == 245) || (p.number == 246))
       (λ g. let low : 245 ≤ p.number = grind (arith, common_steps) in
       let high : p.number ≤ 246 = grind (arith, common_steps) in
       rw (e, f, g) (long_good p ps good few low high, tt))
       (λ g. rw (e, f, g) (plain_good p good.0, tt))))
 
-  meaning_holds : (k : ℕ) (ps : List Part) → AreGood ps → size ps ≤ 4076 → AllHold (meaning_behind lines secret authenticator k ps)
+  meaning_holds : (k : ℕ) (ps : List Part) → AreGood ps → size ps ≤ 4076 → AllHold (meaning_behind dictionary secret authenticator k ps)
   unfolding meaning_behind
   meaning_holds k [] good few = tt
   meaning_holds (suc k) (p ∷ ps) good few = meaning_holds k ps good.1 (omega arith)
   meaning_holds zero (p ∷ ps) good few =
-      holds-append (first_pairs lines secret authenticator p ps) (meaning_behind lines secret authenticator (others p ps) ps) (first_good_pairs p ps good few) (meaning_holds (others p ps) ps good.1 (omega arith))
+      holds-append (first_pairs dictionary secret authenticator p ps) (meaning_behind dictionary secret authenticator (others p ps) ps) (first_good_pairs p ps good few) (meaning_holds (others p ps) ps good.1 (omega arith))
 
   -- it holds of the pairs of a packet's attributes
-  pub octets_hold : (os : List ℕ) → AreBytes os → length os ≤ 4076 → All P (meaning lines secret authenticator (parts os))
+  pub octets_hold : (os : List ℕ) → AreBytes os → length os ≤ 4076 → All P (meaning dictionary secret authenticator (parts os))
   octets_hold os bytes short =
       let few = size_behind 0 os in
-      All-from_recursion P (meaning lines secret authenticator (parts os)) (meaning_holds 0 (parts os) (good_behind 0 os bytes) (omega arith))
+      All-from_recursion P (meaning dictionary secret authenticator (parts os)) (meaning_holds 0 (parts os) (good_behind 0 os bytes) (omega arith))
 
 -- ---- pairs that fit
 
-module _ (lines : List Reading) (secret authenticator : List ℕ) where
+module _ (dictionary : Dictionary) (secret authenticator : List ℕ) where
   abbrev Fits : Pair → Type 0
-  Fits p = fits p lines ≡ true
+  Fits p = fits p dictionary ≡ true
 
   raw_fits : (p : Part) → IsGood p → is_container (Plain p.number) ≡ true → Fits (raw_pair p)
   unfolding fits is_known most_octets
@@ -337,5 +337,5 @@ module _ (lines : List Reading) (secret authenticator : List ℕ) where
       rw (number, short)
 
   -- the pairs of a packet's attributes fit
-  pub octets_fit : (os : List ℕ) → AreBytes os → length os ≤ 4076 → All Fits (meaning lines secret authenticator (parts os))
-  octets_fit os bytes short = octets_hold lines secret authenticator Fits (pair_fits lines secret authenticator) raw_fits os bytes short
+  pub octets_fit : (os : List ℕ) → AreBytes os → length os ≤ 4076 → All Fits (meaning dictionary secret authenticator (parts os))
+  octets_fit os bytes short = octets_hold dictionary secret authenticator Fits (pair_fits dictionary secret authenticator) raw_fits os bytes short

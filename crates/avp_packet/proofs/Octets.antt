@@ -13,8 +13,8 @@ use Rattle.std.proofs.lemmas.Nat.{be_bytes_2, be_bytes_4, be_bytes_8, xor_of_8}
 use Rattle.md5.specs.Md5.{digest_bytes, md5}
 use Rattle.avp_lists.specs.declared.attributes.Value.{Value}
 use Rattle.avp_lists.specs.declared.attributes.Value.TheVariants.{Int, Signed, Addr, Ether}
-use Rattle.avp_dict.specs.declared.readings.Kind.{Kind}
-use Rattle.avp_dict.specs.declared.readings.Kind.TheVariants as kinds
+use Rattle.avp_dict.specs.declared.entries.Kind.{Kind}
+use Rattle.avp_dict.specs.declared.entries.Kind.TheVariants as kinds
 use Rattle.avp_dict.specs.Limits.{is_of_kind}
 use Rattle.avp_dict.specs.Octets.{ends_in_nul, is_hideable, is_nul, octets_of, of_length, value_read}
 use Rattle.avp_dict.specs.Sent.{is_block_length}

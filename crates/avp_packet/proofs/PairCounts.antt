@@ -7,7 +7,7 @@ use Rattle.std.proofs.lemmas.List.{length-append, length-drop, length-map}
 use Rattle.avp_lists.specs.declared.attributes.AttrId.TheVariants.{Plain}
 use Rattle.avp_lists.specs.declared.attributes.Pair.{Pair}
 use Rattle.avp_dict.specs.declared.entries.Format.{Format}
-use Rattle.avp_dict.specs.declared.readings.Reading.{Reading}
+use Rattle.avp_dict.specs.Dictionary.{Dictionary}
 use Rattle.avp_packet.specs.Meanings.{Sub, are_subs, begins_sub, extended_pair, first_pairs, first_run, first_sub, long_pair, meaning, meaning_behind, others, pair_of, sub_length, sub_pair, subs, subs_behind, subs_by, vendor_of, vendor_pairs, vendor_subs}
 use Rattle.avp_packet.specs.Splitting.{Part, left, part_octets, parts}
 use Rattle.avp_packet.specs.VendorFormats.{known_format}
@@ -25,14 +25,14 @@ subs_short f zero (o ∷ os) =
     let rest = subs_short f (sub_length f (o ∷ os) - 1) os in
     kept_short (begins_sub f (o ∷ os)) (first_sub f (o ∷ os) ∷ subs_behind f (sub_length f (o ∷ os) - 1) os) (suc (length os)) (omega (arith, rest))
 
-module _ (lines : List Reading) (secret authenticator : List ℕ) where
-  vendor_short : (part : Part) → length (vendor_pairs lines secret authenticator part (vendor_subs lines part.value)) ≤ 2 + length part.value
+module _ (dictionary : Dictionary) (secret authenticator : List ℕ) where
+  vendor_short : (part : Part) → length (vendor_pairs dictionary secret authenticator part (vendor_subs dictionary part.value)) ≤ 2 + length part.value
   unfolding vendor_subs
   vendor_short part = by_room (nat_le 4 (length part.value))
     where
-      of_subs : (o : Option (List Sub)) → IfSome o (λ ss. length ss ≤ length part.value) → length (vendor_pairs lines secret authenticator part o) ≤ 2 + length part.value
+      of_subs : (o : Option (List Sub)) → IfSome o (λ ss. length ss ≤ length part.value) → length (vendor_pairs dictionary secret authenticator part o) ≤ 2 + length part.value
       of_subs None h = omega arith
-      of_subs (Some ss) h = let same = length-map ss (sub_pair lines secret authenticator (vendor_of part.value)) in omega (arith, same, h)
+      of_subs (Some ss) h = let same = length-map ss (sub_pair dictionary secret authenticator (vendor_of part.value)) in omega (arith, same, h)
 
       kept : (b : Bool) (ss : List Sub) → length ss ≤ length part.value → IfSome (cond b (Some ss) None) (λ found. length found ≤ length part.value)
       kept true ss h = h
@@ -45,23 +45,23 @@ module _ (lines : List Reading) (secret authenticator : List ℕ) where
           let short = subs_short f 0 (drop 4 part.value) in
           kept (are_subs f (drop 4 part.value)) (subs f (drop 4 part.value)) (omega (arith, same, short))
 
-      by_room : (b : Bool) → length (vendor_pairs lines secret authenticator part (cond b (option_and_then (subs_by part.value) (known_format (vendor_of part.value) lines)) None)) ≤ 2 + length part.value
-      by_room true = of_subs (option_and_then (subs_by part.value) (known_format (vendor_of part.value) lines)) (by_format (known_format (vendor_of part.value) lines))
+      by_room : (b : Bool) → length (vendor_pairs dictionary secret authenticator part (cond b (option_and_then (subs_by part.value) (known_format (vendor_of part.value) dictionary)) None)) ≤ 2 + length part.value
+      by_room true = of_subs (option_and_then (subs_by part.value) (known_format (vendor_of part.value) dictionary)) (by_format (known_format (vendor_of part.value) dictionary))
       by_room false = omega arith
 
   chosen : (a b : List Pair) (test : Bool) (n : ℕ) → length a ≤ n → length b ≤ n → length (cond test a b) ≤ n
   chosen a b true n h g = h
   chosen a b false n h g = g
 
-  first_short : (part : Part) (ps : List Part) → length (first_pairs lines secret authenticator part ps) ≤ 2 + length part.value
+  first_short : (part : Part) (ps : List Part) → length (first_pairs dictionary secret authenticator part ps) ≤ 2 + length part.value
   first_short part ps =
       let n = 2 + length part.value in
       let one : (p : Pair) → length (p ∷ []) ≤ n = λ p. omega arith in
       chosen _ _ (part.number == 26) n (vendor_short part)
-      (chosen _ _ (nat_le 241 part.number && nat_le part.number 244) n (one (extended_pair lines secret authenticator part))
-      (chosen _ _ ((part.number == 245) || (part.number == 246)) n (one (long_pair lines secret authenticator part (first_run part ps))) (one (pair_of lines secret authenticator (Plain part.number) part.value))))
+      (chosen _ _ (nat_le 241 part.number && nat_le part.number 244) n (one (extended_pair dictionary secret authenticator part))
+      (chosen _ _ ((part.number == 245) || (part.number == 246)) n (one (long_pair dictionary secret authenticator part (first_run part ps))) (one (pair_of dictionary secret authenticator (Plain part.number) part.value))))
 
-  meaning_short : (k : ℕ) (ps : List Part) → length (meaning_behind lines secret authenticator k ps) ≤ length (flat_map part_octets ps)
+  meaning_short : (k : ℕ) (ps : List Part) → length (meaning_behind dictionary secret authenticator k ps) ≤ length (flat_map part_octets ps)
   unfolding meaning_behind
   meaning_short k [] = omega arith
   meaning_short (suc k) (part ∷ ps) =
@@ -71,12 +71,12 @@ module _ (lines : List Reading) (secret authenticator : List ℕ) where
   meaning_short zero (part ∷ ps) =
       let first = first_short part ps in
       let rest = meaning_short (others part ps) ps in
-      let here = length-append (first_pairs lines secret authenticator part ps) (meaning_behind lines secret authenticator (others part ps) ps) in
+      let here = length-append (first_pairs dictionary secret authenticator part ps) (meaning_behind dictionary secret authenticator (others part ps) ps) in
       let all = length-append (part_octets part) (flat_map part_octets ps) in
       omega (arith, first, rest, here, all)
 
   -- octets mean no more pairs than there are octets
-  pub few_pairs : (os : List ℕ) → length (meaning lines secret authenticator (parts os)) ≤ length os
+  pub few_pairs : (os : List ℕ) → length (meaning dictionary secret authenticator (parts os)) ≤ length os
   few_pairs os =
       let short = meaning_short 0 (parts os) in
       let whole = ap length ((is_split os).whole) ∙ length-append (flat_map part_octets (parts os)) (left os) in

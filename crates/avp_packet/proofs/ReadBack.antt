@@ -14,9 +14,9 @@ use Rattle.avp_lists.specs.declared.attributes.AttrId.TheVariants.{Plain, Vendor
 use Rattle.avp_lists.specs.declared.attributes.Pair.{Pair}
 use Rattle.avp_lists.specs.declared.attributes.Value.{Value}
 use Rattle.avp_dict.specs.declared.entries.Format.{Format}
-use Rattle.avp_dict.specs.declared.readings.Reading.{Reading}
-use Rattle.avp_dict.specs.declared.readings.VendorFormat.{VendorFormat}
-use Rattle.avp_dict.specs.Definitions.{format_of}
+use Rattle.avp_dict.specs.Dictionary.{Dictionary}
+use Rattle.avp_dict.specs.declared.entries.VendorFormat.{VendorFormat}
+use Rattle.avp_dict.specs.Dictionary.{format_of}
 use Rattle.avp_dict.specs.Limits.{fits, is_known}
 use Rattle.avp_dict.specs.Names.{unless_three, vendor_format}
 use Rattle.avp_dict.specs.Sent.{is_canonical, is_clean, is_clean_pair, is_container, is_internal, is_sent, sent}
@@ -154,16 +154,16 @@ known_by n (Some f) h formats =
 
 -- ---- the attributes of an id
 
-module _ (lines : List Reading) (sound : IsSound lines) (formats : HasKnownFormats lines) (secret authenticator : List ℕ) where
+module _ (dictionary : Dictionary) (sound : IsSound dictionary) (formats : HasKnownFormats dictionary) (secret authenticator : List ℕ) where
   abbrev means : List Part → List Pair
-  means ps = meaning lines secret authenticator ps
+  means ps = meaning dictionary secret authenticator ps
 
   abbrev pair_from : AttrId → List ℕ → Pair
-  pair_from id os = pair_of lines secret authenticator id os
+  pair_from id os = pair_of dictionary secret authenticator id os
 
-  known_format_of : (v n : ℕ) → is_in_format v n lines ≡ true → (f : Format) × (known_format v lines ≡ Some f) × (is_format f.t f.l ≡ true)
+  known_format_of : (v n : ℕ) → is_in_format v n dictionary.vendors ≡ true → (f : Format) × (known_format v dictionary ≡ Some f) × (is_format f.t f.l ≡ true)
   unfolding is_in_format known_format vendor_format
-  known_format_of v n h = known_by n (format_of v lines) h (formats v)
+  known_format_of v n h = known_by n (format_of v dictionary.vendors) h (formats v)
 
   -- a plain attribute
   plain_read : (n : ℕ) (os : List ℕ) (rest : List Part) → is_container (Plain n) ≡ false → means (part n os ∷ rest) ≡ pair_from (Plain n) os ∷ means rest
@@ -171,7 +171,7 @@ module _ (lines : List Reading) (sound : IsSound lines) (formats : HasKnownForma
       let a : (n == 26) ≡ false = grind (arith, common_steps) in
       let b : (nat_le 241 n && nat_le n 244) ≡ false = grind (arith, common_steps) in
       let d : ((n == 245) || (n == 246)) ≡ false = grind (arith, common_steps) in
-      meaning-cons lines secret authenticator (part n os) rest ∙ rw (a, b, d)
+      meaning-cons dictionary secret authenticator (part n os) rest ∙ rw (a, b, d)
 
   -- an extended attribute
   extended_read : (t n o : ℕ) (os : List ℕ) (rest : List Part) → 241 ≤ t → t ≤ 244 → means (part t (n ∷ o ∷ os) ∷ rest) ≡ pair_from (Extended t n) (o ∷ os) ∷ means rest
@@ -179,7 +179,7 @@ module _ (lines : List Reading) (sound : IsSound lines) (formats : HasKnownForma
       let a : (t == 26) ≡ false = grind (arith, common_steps) in
       let b : (nat_le 241 t && nat_le t 244) ≡ true = grind (arith, common_steps) in
       let d : ((t == 245) || (t == 246)) ≡ false = grind (arith, common_steps) in
-      meaning-cons lines secret authenticator (part t (n ∷ o ∷ os)) rest ∙ rw (a, b, d)
+      meaning-cons dictionary secret authenticator (part t (n ∷ o ∷ os)) rest ∙ rw (a, b, d)
 
   -- a long one
   long_read : (p : Part) (ps : List Part) (r : Run) → 245 ≤ p.number → p.number ≤ 246 → first_run p ps ≡ Some r → means (p ∷ ps) ≡ pair_from (Extended p.number (extended_type p)) r.os ∷ means r.rest
@@ -189,10 +189,10 @@ module _ (lines : List Reading) (sound : IsSound lines) (formats : HasKnownForma
       let b : (nat_le 241 t && nat_le t 244) ≡ false = grind (arith, common_steps) in
       let d : ((t == 245) || (t == 246)) ≡ true = grind (arith, common_steps) in
       let rest = run_rest p.number (extended_type p) p ps r h in
-      meaning-cons lines secret authenticator p ps ∙ rw (a, b, d, h) (ap (λ (qs : List Part). pair_from (Extended p.number (extended_type p)) r.os ∷ means qs) (sym rest))
+      meaning-cons dictionary secret authenticator p ps ∙ rw (a, b, d, h) (ap (λ (qs : List Part). pair_from (Extended p.number (extended_type p)) r.os ∷ means qs) (sym rest))
 
   -- a vendor's
-  vendor_subs_is : (v n : ℕ) (os : List ℕ) (f : Format) → v < 2 ^ 32 → known_format v lines ≡ Some f → is_format f.t f.l ≡ true → FitsFormat n os f → vendor_subs lines (vendor_value v n os f) ≡ Some (record { number = n; value = os } ∷ [])
+  vendor_subs_is : (v n : ℕ) (os : List ℕ) (f : Format) → v < 2 ^ 32 → known_format v dictionary ≡ Some f → is_format f.t f.l ≡ true → FitsFormat n os f → vendor_subs dictionary (vendor_value v n os f) ≡ Some (record { number = n; value = os } ∷ [])
   unfolding vendor_subs
   vendor_subs_is v n os f small known good held =
       let long = length-vendor_value v n os f in
@@ -200,10 +200,10 @@ module _ (lines : List Reading) (sound : IsSound lines) (formats : HasKnownForma
       let vendor : vendor_of (vendor_value v n os f) ≡ v = number_back 4 v (omega arith) (omega arith) in
       rw (four, vendor, known, are_subs_is f good n os held, subs_is f good n os held)
 
-  vendor_read : (v n : ℕ) (os : List ℕ) (f : Format) (rest : List Part) → v < 2 ^ 32 → known_format v lines ≡ Some f → is_format f.t f.l ≡ true → FitsFormat n os f → means (part 26 (vendor_value v n os f) ∷ rest) ≡ pair_from (Vendor v n) os ∷ means rest
+  vendor_read : (v n : ℕ) (os : List ℕ) (f : Format) (rest : List Part) → v < 2 ^ 32 → known_format v dictionary ≡ Some f → is_format f.t f.l ≡ true → FitsFormat n os f → means (part 26 (vendor_value v n os f) ∷ rest) ≡ pair_from (Vendor v n) os ∷ means rest
   vendor_read v n os f rest small known good held =
       let vendor : vendor_of (vendor_value v n os f) ≡ v = number_back 4 v (omega arith) (omega arith) in
-      meaning-cons lines secret authenticator (part 26 (vendor_value v n os f)) rest ∙ rw (vendor_subs_is v n os f small known good held, vendor)
+      meaning-cons dictionary secret authenticator (part 26 (vendor_value v n os f)) rest ∙ rw (vendor_subs_is v n os f small known good held, vendor)
 
   -- ---- pieces
 
@@ -232,7 +232,7 @@ module _ (lines : List Reading) (sound : IsSound lines) (formats : HasKnownForma
 
   -- ---- the attributes of any id
 
-  id_read : (id : AttrId) (os : List ℕ) (rest : List Part) → is_known id lines ≡ true → is_container id ≡ false → IsVendorInRange id → CanHold lines id os → 0 < length os → means (parts_holding lines id os ++ rest) ≡ pair_from id os ∷ means rest
+  id_read : (id : AttrId) (os : List ℕ) (rest : List Part) → is_known id dictionary ≡ true → is_container id ≡ false → IsVendorInRange id → CanHold dictionary id os → 0 < length os → means (parts_holding dictionary id os ++ rest) ≡ pair_from id os ∷ means rest
   unfolding parts_holding is_known
   id_read (Plain n) os rest known plain ranged held some = plain_read n os rest plain
   id_read (Vendor v n) os rest known plain ranged held some =
@@ -252,68 +252,68 @@ module _ (lines : List Reading) (sound : IsSound lines) (formats : HasKnownForma
 
   -- ---- pairs and lists
 
-  canonical_fits : (p : Pair) → is_canonical p lines ≡ true → fits p lines ≡ true
+  canonical_fits : (p : Pair) → is_canonical p dictionary ≡ true → fits p dictionary ≡ true
   unfolding is_canonical
-  canonical_fits p h = and_left (fits p lines) _ h
+  canonical_fits p h = and_left (fits p dictionary) _ h
 
   not_false : (b : Bool) → not b ≡ true → b ≡ false
   not_false true e = sym e
   not_false false e = refl
 
-  pair_read : (p : Pair) (rest : List Part) → is_clean_pair lines p ≡ true → IsVendorInRange p.id → is_sent lines p ≡ true → means (parts_of_pair lines secret authenticator p ++ rest) ≡ p ∷ means rest
+  pair_read : (p : Pair) (rest : List Part) → is_clean_pair dictionary p ≡ true → IsVendorInRange p.id → is_sent dictionary p ≡ true → means (parts_of_pair dictionary secret authenticator p ++ rest) ≡ p ∷ means rest
   pair_read p rest clean ranged is =
-      let canonical : is_canonical p lines ≡ true = and_left (is_canonical p lines) (not (is_container p.id)) clean in
-      let plain : is_container p.id ≡ false = not_false (is_container p.id) (and_right (is_canonical p lines) (not (is_container p.id)) clean) in
+      let canonical : is_canonical p dictionary ≡ true = and_left (is_canonical p dictionary) (not (is_container p.id)) clean in
+      let plain : is_container p.id ≡ false = not_false (is_container p.id) (and_right (is_canonical p dictionary) (not (is_container p.id)) clean) in
       let fitting = canonical_fits p canonical in
       let outside : is_internal p.id ≡ false = not_false (is_internal p.id) (and_left (not (is_internal p.id)) _ is) in
-      let os : List ℕ = sent_octets lines secret authenticator p in
-      let there : not (length os == 0) ≡ true = sym (sent_by lines secret authenticator p outside) ∙ is in
+      let os : List ℕ = sent_octets dictionary secret authenticator p in
+      let there : not (length os == 0) ≡ true = sym (sent_by dictionary secret authenticator p outside) ∙ is in
       let some : 0 < length os = grind (arith, common_steps) in
-      id_read p.id os rest (fits_known lines p fitting) plain ranged (sent_held lines secret authenticator p fitting outside) some
-      ∙ ap (λ (v : Value). record { id = p.id; value = v } ∷ means rest) (value_back lines sound secret authenticator p canonical)
+      id_read p.id os rest (fits_known dictionary p fitting) plain ranged (sent_held dictionary secret authenticator p fitting outside) some
+      ∙ ap (λ (v : Value). record { id = p.id; value = v } ∷ means rest) (value_back dictionary sound secret authenticator p canonical)
 
   abbrev AreInRange : List Pair → Type 0
   AreInRange pairs = AllByRecursion (λ p. IsVendorInRange p.id) pairs
 
   -- what is written of a clean list means the pairs that are sent, whatever follows
-  list_read : (pairs : List Pair) (rest : List Part) → list_all (is_clean_pair lines) pairs ≡ true → AreInRange pairs → means (parts_of lines secret authenticator pairs ++ rest) ≡ sent pairs lines ++ means rest
+  list_read : (pairs : List Pair) (rest : List Part) → list_all (is_clean_pair dictionary) pairs ≡ true → AreInRange pairs → means (parts_of dictionary secret authenticator pairs ++ rest) ≡ sent pairs dictionary ++ means rest
   unfolding parts_of sent
   list_read [] rest clean ranged = refl
   list_read (p ∷ ps) rest clean ranged =
-      let others = list_read ps rest (and_right (is_clean_pair lines p) (list_all (is_clean_pair lines) ps) clean) ranged.1 in
-      let this : is_clean_pair lines p ≡ true = and_left (is_clean_pair lines p) (list_all (is_clean_pair lines) ps) clean in
-      by_test (means (parts_of lines secret authenticator (p ∷ ps) ++ rest) ≡ sent (p ∷ ps) lines ++ means rest) (is_sent lines p)
-      (λ e. rw (e, append_assoc (parts_of_pair lines secret authenticator p) (parts_of lines secret authenticator ps) rest)
-      (pair_read p (parts_of lines secret authenticator ps ++ rest) this ranged.0 e ∙ ap (λ (xs : List Pair). p ∷ xs) others))
+      let others = list_read ps rest (and_right (is_clean_pair dictionary p) (list_all (is_clean_pair dictionary) ps) clean) ranged.1 in
+      let this : is_clean_pair dictionary p ≡ true = and_left (is_clean_pair dictionary p) (list_all (is_clean_pair dictionary) ps) clean in
+      by_test (means (parts_of dictionary secret authenticator (p ∷ ps) ++ rest) ≡ sent (p ∷ ps) dictionary ++ means rest) (is_sent dictionary p)
+      (λ e. rw (e, append_assoc (parts_of_pair dictionary secret authenticator p) (parts_of dictionary secret authenticator ps) rest)
+      (pair_read p (parts_of dictionary secret authenticator ps ++ rest) this ranged.0 e ∙ ap (λ (xs : List Pair). p ∷ xs) others))
       (λ e. rw e others)
 
-  pub clean_read : (pairs : List Pair) (rest : List Part) → is_clean pairs lines ≡ true → All (λ p. IsVendorInRange p.id) pairs → means (parts_of lines secret authenticator pairs ++ rest) ≡ sent pairs lines ++ means rest
+  pub clean_read : (pairs : List Pair) (rest : List Part) → is_clean pairs dictionary ≡ true → All (λ p. IsVendorInRange p.id) pairs → means (parts_of dictionary secret authenticator pairs ++ rest) ≡ sent pairs dictionary ++ means rest
   unfolding is_clean
   clean_read pairs rest clean ranged = list_read pairs rest clean (recursion_from_All (λ (p : Pair). IsVendorInRange p.id) pairs ranged)
 
   pub nothing_read : means [] ≡ []
-  nothing_read = meaning-nil lines secret authenticator
+  nothing_read = meaning-nil dictionary secret authenticator
 
   -- ---- octets
 
   -- no octets are left behind the attributes
-  pub written_whole : (pairs : List Pair) → left (attribute_octets lines secret authenticator pairs) ≡ []
+  pub written_whole : (pairs : List Pair) → left (attribute_octets dictionary secret authenticator pairs) ≡ []
   written_whole pairs =
-      let ps : List Part = parts_of lines secret authenticator pairs in
+      let ps : List Part = parts_of dictionary secret authenticator pairs in
       ap left (sym (append-nil (flat_map part_octets ps))) ∙ left-all ps [] ∙ left-none [] refl
 
-  pub both_whole : (pairs others : List Pair) → left (attribute_octets lines secret authenticator pairs ++ attribute_octets lines secret authenticator others) ≡ []
-  both_whole pairs others = left-all (parts_of lines secret authenticator pairs) (attribute_octets lines secret authenticator others) ∙ written_whole others
+  pub both_whole : (pairs others : List Pair) → left (attribute_octets dictionary secret authenticator pairs ++ attribute_octets dictionary secret authenticator others) ≡ []
+  both_whole pairs others = left-all (parts_of dictionary secret authenticator pairs) (attribute_octets dictionary secret authenticator others) ∙ written_whole others
 
-  pub written_means : (pairs : List Pair) → is_clean pairs lines ≡ true → All (λ p. IsVendorInRange p.id) pairs → means (parts (attribute_octets lines secret authenticator pairs)) ≡ sent pairs lines
+  pub written_means : (pairs : List Pair) → is_clean pairs dictionary ≡ true → All (λ p. IsVendorInRange p.id) pairs → means (parts (attribute_octets dictionary secret authenticator pairs)) ≡ sent pairs dictionary
   written_means pairs clean ranged =
-      let ps : List Part = parts_of lines secret authenticator pairs in
+      let ps : List Part = parts_of dictionary secret authenticator pairs in
       ap (λ (os : List ℕ). means (parts os)) (sym (append-nil (flat_map part_octets ps)))
-      ∙ ap means (parts-all ps []) ∙ clean_read pairs (parts []) clean ranged ∙ ap (λ (xs : List Pair). sent pairs lines ++ xs) (ap means (parts-none [] refl) ∙ nothing_read) ∙ append-nil (sent pairs lines)
+      ∙ ap means (parts-all ps []) ∙ clean_read pairs (parts []) clean ranged ∙ ap (λ (xs : List Pair). sent pairs dictionary ++ xs) (ap means (parts-none [] refl) ∙ nothing_read) ∙ append-nil (sent pairs dictionary)
 
-  pub both_mean : (pairs others : List Pair) → is_clean pairs lines ≡ true → is_clean others lines ≡ true → All (λ p. IsVendorInRange p.id) pairs → All (λ p. IsVendorInRange p.id) others
-      → means (parts (attribute_octets lines secret authenticator pairs ++ attribute_octets lines secret authenticator others)) ≡ sent pairs lines ++ sent others lines
+  pub both_mean : (pairs others : List Pair) → is_clean pairs dictionary ≡ true → is_clean others dictionary ≡ true → All (λ p. IsVendorInRange p.id) pairs → All (λ p. IsVendorInRange p.id) others
+      → means (parts (attribute_octets dictionary secret authenticator pairs ++ attribute_octets dictionary secret authenticator others)) ≡ sent pairs dictionary ++ sent others dictionary
   both_mean pairs others clean too ranged also =
-      let ps : List Part = parts_of lines secret authenticator pairs in
-      let os : List ℕ = attribute_octets lines secret authenticator others in
-      ap means (parts-all ps os) ∙ clean_read pairs (parts os) clean ranged ∙ ap (λ (xs : List Pair). sent pairs lines ++ xs) (written_means others too also)
+      let ps : List Part = parts_of dictionary secret authenticator pairs in
+      let os : List ℕ = attribute_octets dictionary secret authenticator others in
+      ap means (parts-all ps os) ∙ clean_read pairs (parts os) clean ranged ∙ ap (λ (xs : List Pair). sent pairs dictionary ++ xs) (written_means others too also)

@@ -1,6 +1,6 @@
 -- Where octets are refused as a packet.
 use Rattle.std.proofs.Common.{◌≡◌, ◌∙◌, ℕ, ◌+◌, ◌-◌, ◌<◌, ◌≤◌, true, false, nat_lt, List, [], ◌∷◌, ◌++◌, length, Result, Err, refl, ap, arith}
-use Rattle.avp_dict.specs.declared.readings.Reading.{Reading}
+use Rattle.avp_dict.specs.Dictionary.{Dictionary}
 use Rattle.avp_packet.specs.declared.faults.PacketFault.{PacketFault}
 use Rattle.avp_packet.specs.declared.faults.PacketFault.TheVariants.{BadAttribute}
 use Rattle.avp_packet.specs.declared.packets.Packet.{Packet}
@@ -13,14 +13,14 @@ bad_by end [] read some = absurd (omega arith)
 bad_by end (o ∷ os) read some = refl
 
 -- the first attribute that is not whole
-pub decoded_bad : (lines : List Reading) (secret os : List ℕ) (offset : ℕ) → nat_lt (length os) 20 ≡ false → is_length (length_of os) ≡ true → nat_lt (length os) (length_of os) ≡ false
-    → 0 < length (left (attributes_of os)) → offset ≡ length (attributes_of os) - length (left (attributes_of os)) → decoded lines secret os ≡ Err (BadAttribute (20 + offset))
+pub decoded_bad : (dictionary : Dictionary) (secret os : List ℕ) (offset : ℕ) → nat_lt (length os) 20 ≡ false → is_length (length_of os) ≡ true → nat_lt (length os) (length_of os) ≡ false
+    → 0 < length (left (attributes_of os)) → offset ≡ length (attributes_of os) - length (left (attributes_of os)) → decoded dictionary secret os ≡ Err (BadAttribute (20 + offset))
 unfolding decoded
-decoded_bad lines secret os offset a b d some e =
+decoded_bad dictionary secret os offset a b d some e =
     let attributes : List ℕ = attributes_of os in
     let within : length (left attributes) ≤ length attributes = left_short attributes in
     let same : 20 + length attributes - length (left attributes) ≡ 20 + offset = omega arith in
-    rw (a, b, d) (bad_by (20 + length attributes) (left attributes) (request_read lines secret os) some ∙ ap (λ n. Err (BadAttribute n)) same)
+    rw (a, b, d) (bad_by (20 + length attributes) (left attributes) (request_read dictionary secret os) some ∙ ap (λ n. Err (BadAttribute n)) same)
 
 -- behind a whole attribute
 pub left_more : (octets rest : List ℕ) (p : Part) → octets ≡ part_octets p ++ rest → left octets ≡ left rest

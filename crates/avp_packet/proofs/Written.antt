@@ -9,7 +9,7 @@ use Rattle.std.specs.Prelude.{nat_lt}
 use Rattle.avp_packet.specs.code.Ranges.{IsVendorInRange}
 use Rattle.std.proofs.lemmas.Grind.{flat_map-append}
 use Rattle.avp_lists.specs.declared.attributes.Pair.{Pair}
-use Rattle.avp_dict.specs.declared.readings.Reading.{Reading}
+use Rattle.avp_dict.specs.Dictionary.{Dictionary}
 use Rattle.avp_dict.specs.Sent.{is_sent, sent}
 use Rattle.avp_packet.proofs.Rooms.{by_test}
 use Rattle.avp_dict.specs.declared.entries.Format.{Format}
@@ -73,15 +73,15 @@ ranged_more i pairs p is within this before k d lt =
     let here : get_or pairs k d ≡ p = ap (λ n. get_or pairs n d) same ∙ get_or_default pairs i d p within ∙ sym is in
     rw here this)
 
-module _ (lines : List Reading) (secret authenticator : List ℕ) where
+module _ (dictionary : Dictionary) (secret authenticator : List ℕ) where
   abbrev written : List Pair → List ℕ
-  written pairs = attribute_octets lines secret authenticator pairs
+  written pairs = attribute_octets dictionary secret authenticator pairs
 
   pub written-cons : (p : Pair) (ps : List Pair) → written (p ∷ ps) ≡ written (p ∷ []) ++ written ps
   unfolding parts_of sent
   written-cons p ps =
-      by_test (written (p ∷ ps) ≡ written (p ∷ []) ++ written ps) (is_sent lines p)
-      (λ e. rw (e, append-nil (parts_of_pair lines secret authenticator p), flat_map-append part_octets (parts_of_pair lines secret authenticator p) (flat_map (parts_of_pair lines secret authenticator) (filter (is_sent lines) ps))))
+      by_test (written (p ∷ ps) ≡ written (p ∷ []) ++ written ps) (is_sent dictionary p)
+      (λ e. rw (e, append-nil (parts_of_pair dictionary secret authenticator p), flat_map-append part_octets (parts_of_pair dictionary secret authenticator p) (flat_map (parts_of_pair dictionary secret authenticator) (filter (is_sent dictionary) ps))))
       (λ e. rw e)
 
   -- one pair more

@@ -7,7 +7,7 @@ use Rattle.avp_lists.specs.declared.attributes.AttrId.{AttrId}
 use Rattle.avp_lists.specs.declared.attributes.AttrId.TheVariants.{Plain, Vendor, Extended}
 use Rattle.avp_lists.specs.declared.attributes.Pair.{Pair}
 use Rattle.avp_dict.specs.declared.entries.Format.{Format}
-use Rattle.avp_dict.specs.declared.readings.Reading.{Reading}
+use Rattle.avp_dict.specs.Dictionary.{Dictionary}
 use Rattle.avp_dict.specs.Octets.{is_hidden, octets}
 use Rattle.avp_dict.specs.Sent.{is_raw, sent}
 use Rattle.avp_packet.specs.Hiding.{hidden}
@@ -15,11 +15,11 @@ use Rattle.avp_packet.specs.Splitting.{Part, part_octets}
 use Rattle.avp_packet.specs.VendorFormats.{known_format}
 
 -- the octets of a pair's value: hidden where the attribute is, but for raw ones
-unfoldable pub sent_octets : List Reading → List ℕ → List ℕ → Pair → List ℕ
-sent_octets lines secret authenticator pair =
-    if is_hidden pair.id lines && not (is_raw pair.value)
-    then hidden secret authenticator (octets pair.id pair.value lines)
-    else octets pair.id pair.value lines
+unfoldable pub sent_octets : Dictionary → List ℕ → List ℕ → Pair → List ℕ
+sent_octets dictionary secret authenticator pair =
+    if is_hidden pair.id dictionary && not (is_raw pair.value)
+    then hidden secret authenticator (octets pair.id pair.value dictionary)
+    else octets pair.id pair.value dictionary
 
 abbrev pub part : ℕ → List ℕ → Part
 part number value = record { number = number; value = value }
@@ -41,19 +41,26 @@ abbrev pub is_long : ℕ → Bool
 is_long t = nat_le 245 t
 
 -- the attributes of an id that hold these octets
-unfoldable pub parts_holding : List Reading → AttrId → List ℕ → List Part
-parts_holding lines (Plain number) os = part number os ∷ []
-parts_holding lines (Vendor vendor number) os = option_map_or (vendor_part vendor number os) (known_format vendor lines) []
-parts_holding lines (Extended t number) os = if is_long t then fragments ((length os - 1) / 251) t number os else (part t (number ∷ os) ∷ [])
+unfoldable pub parts_holding : Dictionary → AttrId → List ℕ → List Part
+parts_holding dictionary (Plain number) os = part number os ∷ []
+parts_holding dictionary (Vendor vendor number) os =
+    option_map_or (vendor_part vendor number os) (known_format vendor dictionary) []
+parts_holding dictionary (Extended t number) os =
+    if is_long t
+    then fragments ((length os - 1) / 251) t number os
+    else (part t (number ∷ os) ∷ [])
 
 -- the attributes that a pair is sent in
-abbrev pub parts_of_pair : List Reading → List ℕ → List ℕ → Pair → List Part
-parts_of_pair lines secret authenticator pair = parts_holding lines pair.id (sent_octets lines secret authenticator pair)
+abbrev pub parts_of_pair : Dictionary → List ℕ → List ℕ → Pair → List Part
+parts_of_pair dictionary secret authenticator pair =
+    parts_holding dictionary pair.id (sent_octets dictionary secret authenticator pair)
 
 -- the attributes that a list is sent in
-unfoldable pub parts_of : List Reading → List ℕ → List ℕ → List Pair → List Part
-parts_of lines secret authenticator pairs = flat_map (parts_of_pair lines secret authenticator) (sent pairs lines)
+unfoldable pub parts_of : Dictionary → List ℕ → List ℕ → List Pair → List Part
+parts_of dictionary secret authenticator pairs =
+    flat_map (parts_of_pair dictionary secret authenticator) (sent pairs dictionary)
 
 -- the octets of a list
-abbrev pub attribute_octets : List Reading → List ℕ → List ℕ → List Pair → List ℕ
-attribute_octets lines secret authenticator pairs = flat_map part_octets (parts_of lines secret authenticator pairs)
+abbrev pub attribute_octets : Dictionary → List ℕ → List ℕ → List Pair → List ℕ
+attribute_octets dictionary secret authenticator pairs =
+    flat_map part_octets (parts_of dictionary secret authenticator pairs)

@@ -8,7 +8,7 @@ use Rattle.avp_lists.specs.declared.attributes.Pair.{Pair}
 use Rattle.avp_lists.specs.declared.attributes.Value.{Value}
 use Rattle.avp_lists.specs.declared.attributes.Value.TheVariants.{Raw}
 use Rattle.avp_dict.specs.declared.entries.Format.{Format}
-use Rattle.avp_dict.specs.declared.readings.Reading.{Reading}
+use Rattle.avp_dict.specs.Dictionary.{Dictionary}
 use Rattle.avp_dict.specs.Octets.{is_hidden, value_of_octets}
 use Rattle.avp_packet.specs.Hiding.{shown}
 use Rattle.avp_packet.specs.Splitting.{Part}
@@ -16,17 +16,20 @@ use Rattle.avp_packet.specs.VendorFormats.{known_format}
 
 -- ---- values
 
-abbrev pub value_shown : List Reading → AttrId → List ℕ → Option (List ℕ) → Value
-value_shown lines id os (Some password) = value_of_octets id password lines
-value_shown lines id os None = Raw os
+abbrev pub value_shown : Dictionary → AttrId → List ℕ → Option (List ℕ) → Value
+value_shown dictionary id os (Some password) = value_of_octets id password dictionary
+value_shown dictionary id os None = Raw os
 
 -- the value of an attribute's octets, shown first where they are hidden
-unfoldable pub value_of : List Reading → List ℕ → List ℕ → AttrId → List ℕ → Value
-value_of lines secret authenticator id os =
-    if is_hidden id lines then value_shown lines id os (shown secret authenticator os) else value_of_octets id os lines
+unfoldable pub value_of : Dictionary → List ℕ → List ℕ → AttrId → List ℕ → Value
+value_of dictionary secret authenticator id os =
+    if is_hidden id dictionary
+    then value_shown dictionary id os (shown secret authenticator os)
+    else value_of_octets id os dictionary
 
-abbrev pub pair_of : List Reading → List ℕ → List ℕ → AttrId → List ℕ → Pair
-pair_of lines secret authenticator id os = record { id = id; value = value_of lines secret authenticator id os }
+abbrev pub pair_of : Dictionary → List ℕ → List ℕ → AttrId → List ℕ → Pair
+pair_of dictionary secret authenticator id os =
+    record { id = id; value = value_of dictionary secret authenticator id os }
 
 -- an attribute whose octets are not looked into
 abbrev pub raw_pair : Part → Pair
@@ -76,21 +79,29 @@ abbrev pub subs_by : List ℕ → Format → Option (List Sub)
 subs_by os f = if are_subs f (drop 4 os) then Some (subs f (drop 4 os)) else None
 
 -- what stands behind the Vendor-Id, by the format of the vendor
-unfoldable pub vendor_subs : List Reading → List ℕ → Option (List Sub)
-vendor_subs lines os = if nat_le 4 (length os) then option_and_then (subs_by os) (known_format (vendor_of os) lines) else None
+unfoldable pub vendor_subs : Dictionary → List ℕ → Option (List Sub)
+vendor_subs dictionary os =
+    if nat_le 4 (length os)
+    then option_and_then (subs_by os) (known_format (vendor_of os) dictionary)
+    else None
 
-abbrev pub sub_pair : List Reading → List ℕ → List ℕ → ℕ → Sub → Pair
-sub_pair lines secret authenticator vendor sub = pair_of lines secret authenticator (Vendor vendor sub.number) sub.value
+abbrev pub sub_pair : Dictionary → List ℕ → List ℕ → ℕ → Sub → Pair
+sub_pair dictionary secret authenticator vendor sub =
+    pair_of dictionary secret authenticator (Vendor vendor sub.number) sub.value
 
 -- a pair for each of the vendor's attributes, else the attribute as it is
-abbrev pub vendor_pairs : List Reading → List ℕ → List ℕ → Part → Option (List Sub) → List Pair
-vendor_pairs lines secret authenticator part (Some subs) = map (sub_pair lines secret authenticator (vendor_of part.value)) subs
-vendor_pairs lines secret authenticator part None = raw_pair part ∷ []
+abbrev pub vendor_pairs : Dictionary → List ℕ → List ℕ → Part → Option (List Sub) → List Pair
+vendor_pairs dictionary secret authenticator part (Some subs) =
+    map (sub_pair dictionary secret authenticator (vendor_of part.value)) subs
+vendor_pairs dictionary secret authenticator part None = raw_pair part ∷ []
 
 -- ---- extended attributes (RFC 6929, section 2.1)
 
-abbrev pub extended_pair : List Reading → List ℕ → List ℕ → Part → Pair
-extended_pair lines secret authenticator part = elim part.value [ n ∷ o ∷ os ↦ pair_of lines secret authenticator (Extended part.number n) (o ∷ os) | _ ↦ raw_pair part ]
+abbrev pub extended_pair : Dictionary → List ℕ → List ℕ → Part → Pair
+extended_pair dictionary secret authenticator part = elim part.value [
+  | n ∷ o ∷ os ↦ pair_of dictionary secret authenticator (Extended part.number n) (o ∷ os)
+  | _ ↦ raw_pair part
+]
 
 -- ---- long extended attributes (RFC 6929, section 2.2)
 
@@ -133,19 +144,23 @@ extended_type part = slice_index part.value 0
 abbrev pub first_run : Part → List Part → Option Run
 first_run part parts = run part.number (extended_type part) (part ∷ parts)
 
-abbrev pub long_pair : List Reading → List ℕ → List ℕ → Part → Option Run → Pair
-long_pair lines secret authenticator part (Some run) = pair_of lines secret authenticator (Extended part.number (extended_type part)) run.os
-long_pair lines secret authenticator part None = raw_pair part
+abbrev pub long_pair : Dictionary → List ℕ → List ℕ → Part → Option Run → Pair
+long_pair dictionary secret authenticator part (Some run) =
+    pair_of dictionary secret authenticator (Extended part.number (extended_type part)) run.os
+long_pair dictionary secret authenticator part None = raw_pair part
 
 -- ---- attributes
 
 -- the pairs of the first attribute, with those that its value goes on in
-abbrev pub first_pairs : List Reading → List ℕ → List ℕ → Part → List Part → List Pair
-first_pairs lines secret authenticator part parts =
-    if part.number == 26 then vendor_pairs lines secret authenticator part (vendor_subs lines part.value)
-    else (if nat_le 241 part.number && nat_le part.number 244 then extended_pair lines secret authenticator part ∷ []
-    else (if (part.number == 245) || (part.number == 246) then long_pair lines secret authenticator part (first_run part parts) ∷ []
-    else (pair_of lines secret authenticator (Plain part.number) part.value ∷ [])))
+abbrev pub first_pairs : Dictionary → List ℕ → List ℕ → Part → List Part → List Pair
+first_pairs dictionary secret authenticator part parts =
+    if part.number == 26
+    then vendor_pairs dictionary secret authenticator part (vendor_subs dictionary part.value)
+    else (if nat_le 241 part.number && nat_le part.number 244
+    then extended_pair dictionary secret authenticator part ∷ []
+    else (if (part.number == 245) || (part.number == 246)
+    then long_pair dictionary secret authenticator part (first_run part parts) ∷ []
+    else (pair_of dictionary secret authenticator (Plain part.number) part.value ∷ [])))
 
 -- how many of the attributes behind the first its value goes on in
 abbrev pub others_in : List Part → Option Run → ℕ
@@ -156,12 +171,15 @@ abbrev pub others : Part → List Part → ℕ
 others part parts = if (part.number == 245) || (part.number == 246) then others_in parts (first_run part parts) else 0
 
 -- the pairs of the attributes behind the first so many
-unfoldable pub meaning_behind : List Reading → List ℕ → List ℕ → ℕ → List Part → List Pair
-meaning_behind lines secret authenticator k [] = []
-meaning_behind lines secret authenticator (suc k) (part ∷ parts) = meaning_behind lines secret authenticator k parts
-meaning_behind lines secret authenticator zero (part ∷ parts) =
-    first_pairs lines secret authenticator part parts ++ meaning_behind lines secret authenticator (others part parts) parts
+unfoldable pub meaning_behind : Dictionary → List ℕ → List ℕ → ℕ → List Part → List Pair
+meaning_behind dictionary secret authenticator k [] = []
+meaning_behind dictionary secret authenticator (suc k) (part ∷ parts) =
+    meaning_behind dictionary secret authenticator k parts
+meaning_behind dictionary secret authenticator zero (part ∷ parts) =
+    first_pairs dictionary secret authenticator part parts
+    ++ meaning_behind dictionary secret authenticator (others part parts) parts
 
 -- the pairs that attributes mean
-abbrev pub meaning : List Reading → List ℕ → List ℕ → List Part → List Pair
-meaning lines secret authenticator attributes = meaning_behind lines secret authenticator 0 attributes
+abbrev pub meaning : Dictionary → List ℕ → List ℕ → List Part → List Pair
+meaning dictionary secret authenticator attributes =
+    meaning_behind dictionary secret authenticator 0 attributes

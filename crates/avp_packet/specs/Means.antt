@@ -2,7 +2,7 @@
 use Rattle.std.specs.Prelude.{◌≡◌, ◌⊎◌, ℕ, ◌<◌, ◌≤◌, false, List, [], ◌∷◌, ◌++◌, length, map, Some, None}
 use Rattle.avp_lists.specs.declared.attributes.AttrId.TheVariants.{Plain, Extended}
 use Rattle.avp_lists.specs.declared.attributes.Pair.{Pair}
-use Rattle.avp_dict.specs.declared.readings.Reading.{Reading}
+use Rattle.avp_dict.specs.Dictionary.{Dictionary}
 use Rattle.avp_dict.specs.Sent.{is_container}
 use Rattle.avp_packet.specs.Meanings.{Run, Sub, extended_type, first_run, pair_of, raw_pair, sub_pair, vendor_of, vendor_subs}
 use Rattle.avp_packet.specs.Splitting.{Part}
@@ -15,20 +15,34 @@ abbrev pub IsLong : ℕ → Type 0
 IsLong t = (t ≡ 245) ⊎ (t ≡ 246)
 
 -- the first attribute holds others, and none of them is there to be read
-abbrev pub IsUnread : List Reading → Part → List Part → Type 0
-IsUnread lines part parts =
-    ((part.number ≡ 26) × (vendor_subs lines part.value ≡ None))
+abbrev pub IsUnread : Dictionary → Part → List Part → Type 0
+IsUnread dictionary part parts =
+    ((part.number ≡ 26) × (vendor_subs dictionary part.value ≡ None))
     ⊎ ((IsExtended part.number × (length part.value < 2)) ⊎ (IsLong part.number × (first_run part parts ≡ None)))
 
-pub data Means (lines : List Reading) (secret authenticator : List ℕ) : List Part → List Pair → Type 0 where
-  nothing : Means lines secret authenticator [] []
-  of_vendor : (part : Part) (parts : List Part) (subs : List Sub) (pairs : List Pair) → part.number ≡ 26 → vendor_subs lines part.value ≡ Some subs
-      → Means lines secret authenticator parts pairs → Means lines secret authenticator (part ∷ parts) (map (sub_pair lines secret authenticator (vendor_of part.value)) subs ++ pairs)
+pub data Means (dictionary : Dictionary) (secret authenticator : List ℕ)
+    : List Part → List Pair → Type 0 where
+  nothing : Means dictionary secret authenticator [] []
+  of_vendor : (part : Part) (parts : List Part) (subs : List Sub) (pairs : List Pair)
+      → part.number ≡ 26 → vendor_subs dictionary part.value ≡ Some subs
+      → Means dictionary secret authenticator parts pairs
+      → Means dictionary secret authenticator (part ∷ parts)
+      (map (sub_pair dictionary secret authenticator (vendor_of part.value)) subs ++ pairs)
   of_extended : (t n o : ℕ) (os : List ℕ) (parts : List Part) (pairs : List Pair) → IsExtended t
-      → Means lines secret authenticator parts pairs → Means lines secret authenticator (record { number = t; value = n ∷ o ∷ os } ∷ parts) (pair_of lines secret authenticator (Extended t n) (o ∷ os) ∷ pairs)
-  of_run : (part : Part) (parts : List Part) (run : Run) (pairs : List Pair) → IsLong part.number → first_run part parts ≡ Some run
-      → Means lines secret authenticator run.rest pairs → Means lines secret authenticator (part ∷ parts) (pair_of lines secret authenticator (Extended part.number (extended_type part)) run.os ∷ pairs)
-  as_raw : (part : Part) (parts : List Part) (pairs : List Pair) → IsUnread lines part parts
-      → Means lines secret authenticator parts pairs → Means lines secret authenticator (part ∷ parts) (raw_pair part ∷ pairs)
-  as_plain : (part : Part) (parts : List Part) (pairs : List Pair) → is_container (Plain part.number) ≡ false
-      → Means lines secret authenticator parts pairs → Means lines secret authenticator (part ∷ parts) (pair_of lines secret authenticator (Plain part.number) part.value ∷ pairs)
+      → Means dictionary secret authenticator parts pairs
+      → Means dictionary secret authenticator (record { number = t; value = n ∷ o ∷ os } ∷ parts)
+      (pair_of dictionary secret authenticator (Extended t n) (o ∷ os) ∷ pairs)
+  of_run : (part : Part) (parts : List Part) (run : Run) (pairs : List Pair)
+      → IsLong part.number → first_run part parts ≡ Some run
+      → Means dictionary secret authenticator run.rest pairs
+      → Means dictionary secret authenticator (part ∷ parts)
+      (pair_of dictionary secret authenticator (Extended part.number (extended_type part)) run.os
+      ∷ pairs)
+  as_raw : (part : Part) (parts : List Part) (pairs : List Pair) → IsUnread dictionary part parts
+      → Means dictionary secret authenticator parts pairs
+      → Means dictionary secret authenticator (part ∷ parts) (raw_pair part ∷ pairs)
+  as_plain : (part : Part) (parts : List Part) (pairs : List Pair)
+      → is_container (Plain part.number) ≡ false
+      → Means dictionary secret authenticator parts pairs
+      → Means dictionary secret authenticator (part ∷ parts)
+      (pair_of dictionary secret authenticator (Plain part.number) part.value ∷ pairs)

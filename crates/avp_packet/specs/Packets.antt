@@ -5,7 +5,7 @@ use Rattle.std.specs.Int.Digits.{number_from_digits}
 use Rattle.std.specs.Str.{bytes_eq}
 use Rattle.md5.specs.Md5.{md5}
 use Rattle.avp_lists.specs.declared.attributes.Pair.{Pair}
-use Rattle.avp_dict.specs.declared.readings.Reading.{Reading}
+use Rattle.avp_dict.specs.Dictionary.{Dictionary}
 use Rattle.avp_packet.specs.declared.faults.PacketFault.{PacketFault}
 use Rattle.avp_packet.specs.declared.faults.PacketFault.TheVariants.{TooShort, LengthOutOfRange, CutShort, BadAttribute, CodeNotTaken, WrongAuthenticator}
 use Rattle.avp_packet.specs.declared.packets.Packet.{Packet}
@@ -61,23 +61,25 @@ hiding_authenticator code authenticator = if (code == accounting_request) || (co
 
 -- ---- requests and replies
 
-abbrev pub request_attributes : List Reading → List ℕ → ℕ → List ℕ → List Pair → List ℕ
-request_attributes lines secret code authenticator pairs = attribute_octets lines secret (hiding_authenticator code authenticator) pairs
+abbrev pub request_attributes : Dictionary → List ℕ → ℕ → List ℕ → List Pair → List ℕ
+request_attributes dictionary secret code authenticator pairs =
+    attribute_octets dictionary secret (hiding_authenticator code authenticator) pairs
 
-unfoldable pub request : List Reading → List ℕ → ℕ → ℕ → List ℕ → List Pair → List ℕ
-request lines secret code id authenticator pairs =
-    let attributes = request_attributes lines secret code authenticator pairs in
+unfoldable pub request : Dictionary → List ℕ → ℕ → ℕ → List ℕ → List Pair → List ℕ
+request dictionary secret code id authenticator pairs =
+    let attributes = request_attributes dictionary secret code authenticator pairs in
     packet code id (request_authenticator code id authenticator attributes secret) attributes
 
 -- the reply list's, then the Proxy-States'
-abbrev pub reply_attributes : List Reading → List ℕ → ℕ → List ℕ → List Pair → List Pair → List ℕ
-reply_attributes lines secret code authenticator pairs proxy_states =
-    request_attributes lines secret code authenticator pairs ++ request_attributes lines secret code authenticator proxy_states
+abbrev pub reply_attributes : Dictionary → List ℕ → ℕ → List ℕ → List Pair → List Pair → List ℕ
+reply_attributes dictionary secret code authenticator pairs proxy_states =
+    request_attributes dictionary secret code authenticator pairs
+    ++ request_attributes dictionary secret code authenticator proxy_states
 
 -- the authenticator of a reply is the digest over that of the request
-unfoldable pub reply : List Reading → List ℕ → ℕ → ℕ → List ℕ → List Pair → List Pair → List ℕ
-reply lines secret code id authenticator pairs proxy_states =
-    let attributes = reply_attributes lines secret code authenticator pairs proxy_states in
+unfoldable pub reply : Dictionary → List ℕ → ℕ → ℕ → List ℕ → List Pair → List Pair → List ℕ
+reply dictionary secret code id authenticator pairs proxy_states =
+    let attributes = reply_attributes dictionary secret code authenticator pairs proxy_states in
     packet code id (digest_over code id authenticator attributes secret) attributes
 
 -- ---- octets handed in
@@ -114,20 +116,22 @@ is_reply os authenticator secret =
 abbrev pub is_accounting : List ℕ → List ℕ → Bool
 is_accounting os secret = bytes_eq (authenticator_of os) (md5 (take 4 os ++ zeros ++ attributes_of os ++ secret))
 
-abbrev pub packet_read : List Reading → List ℕ → List ℕ → Packet
-packet_read lines secret os = record {
+abbrev pub packet_read : Dictionary → List ℕ → List ℕ → Packet
+packet_read dictionary secret os = record {
   code = code_of os;
   id = id_of os;
   authenticator = authenticator_of os;
-  list = meaning lines secret (hiding_authenticator (code_of os) (authenticator_of os)) (parts (attributes_of os));
+  list =
+      meaning dictionary secret (hiding_authenticator (code_of os) (authenticator_of os))
+      (parts (attributes_of os));
 }
 
 -- an Access-Request, or an Accounting-Request with its authenticator
-abbrev pub request_read : List Reading → List ℕ → List ℕ → Result Packet PacketFault
-request_read lines secret os =
+abbrev pub request_read : Dictionary → List ℕ → List ℕ → Result Packet PacketFault
+request_read dictionary secret os =
     if not ((code_of os == access_request) || (code_of os == accounting_request)) then Err CodeNotTaken
     else (if (code_of os == accounting_request) && not (is_accounting os secret) then Err WrongAuthenticator
-    else Ok (packet_read lines secret os))
+    else Ok (packet_read dictionary secret os))
 
 -- what is left of attributes that end here begins with the first that is not whole
 abbrev pub unless_left : ℕ → List ℕ → Result Packet PacketFault → Result Packet PacketFault
@@ -139,9 +143,9 @@ abbrev pub unless_bad : List ℕ → Result Packet PacketFault → Result Packet
 unless_bad attributes read = unless_left (20 + length attributes) (left attributes) read
 
 -- what octets are read as, or the first refusal
-unfoldable pub decoded : List Reading → List ℕ → List ℕ → Result Packet PacketFault
-decoded lines secret os =
+unfoldable pub decoded : Dictionary → List ℕ → List ℕ → Result Packet PacketFault
+decoded dictionary secret os =
     if nat_lt (length os) 20 then Err TooShort
     else (if not (is_length (length_of os)) then Err LengthOutOfRange
     else (if nat_lt (length os) (length_of os) then Err CutShort
-    else unless_bad (attributes_of os) (request_read lines secret os)))
+    else unless_bad (attributes_of os) (request_read dictionary secret os)))

@@ -13,7 +13,7 @@ use Rattle.avp_unlang.specs.declared.tree.Branch.{Branch}
 use Rattle.avp_unlang.specs.Meaning.{Outcome, running, Edited, Refused, line_result}
 use Rattle.avp_unlang.specs.Meaning.{Meaning, Choice, meaning, meaning_of, statement_meaning, branch_meaning, all_lines, first_true, after_body, in_order, unless_stop}
 use Rattle.avp_step.specs.Trace.{Entry, Steps, Guarded, end_of, steps, guarded, statement_steps, guarded_steps, line_steps, line_step, branch_steps, all_steps, then_steps, unless_stopped, closed, tested, trace_of}
-use Rattle.avp_dict.specs.declared.readings.Reading.{Reading}
+use Rattle.avp_dict.specs.Dictionary.{Dictionary}
 use Rattle.avp_unlang.specs.Truth.{truth}
 use Rattle.avp_unlang.specs.Meaning.{after_line}
 
@@ -21,7 +21,7 @@ pub end_of-append : (o : Outcome) (a b : List Entry) → end_of o (a ++ b) ≡ e
 end_of-append o [] b = refl
 end_of-append o (e ∷ es) b = end_of-append e.outcome es b
 
-module _ (d : List Reading) where
+module _ (d : Dictionary) where
   -- a branch with what it means
   abbrev choice : Branch → Choice
   choice = fold-Branch Meaning Choice (statement_meaning d) branch_meaning

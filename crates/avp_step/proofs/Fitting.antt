@@ -13,7 +13,7 @@ use Rattle.avp_lists.specs.declared.edits.Op.TheVariants.{AddNew, Append, KeepEq
 use Rattle.avp_lists.specs.declared.lists.List.{List as Name}
 use Rattle.avp_lists.specs.declared.lists.List.TheVariants.{Control, Reply, Request}
 use Rattle.avp_lists.specs.declared.lists.State.{State}
-use Rattle.avp_dict.specs.declared.readings.Reading.{Reading}
+use Rattle.avp_dict.specs.Dictionary.{Dictionary}
 use Rattle.avp_dict.specs.Limits.{fits}
 use Rattle.avp_unlang.specs.Meaning.{Edited, Refused, edit_of, line_result, reason, result_from}
 use Rattle.avp_unlang.specs.Resolutions.{StateFits, line_suits, resolution}
@@ -36,7 +36,7 @@ use Rattle.avp_step.specs.code.Frames.{StaysSuited, frame_suits, frames_suit}
 use Rattle.avp_step.specs.declared.frames.Frame.{Frame}
 use Rattle.avp_step.specs.declared.frames.Frame.TheVariants.{Statements, Lines, End}
 
-module _ (d : List Reading) where
+module _ (d : Dictionary) where
   pub one_fits : (s : State) → StateFits d s → All (StateFits d) (s ∷ [])
   one_fits s h zero e within = h
   one_fits s h (suc k) e within = absurd (omega arith)
@@ -49,11 +49,11 @@ module _ (d : List Reading) where
   pub earlier_fits : (h : History) (k : ℕ) → k < length h.states → StatesFit d h → StateFits d (state_at h k)
   earlier_fits h k lt all = all k empty_state lt
 
-one_applies : (d : List Reading) (p : Pair) → IsTrue (fits p d) → All (λ q. IsTrue (fits q d)) (p ∷ [])
+one_applies : (d : Dictionary) (p : Pair) → IsTrue (fits p d) → All (λ q. IsTrue (fits q d)) (p ∷ [])
 one_applies d p h zero e within = h
 one_applies d p h (suc k) e within = absurd (omega arith)
 
-module _ (d : List Reading) where
+module _ (d : Dictionary) where
   abbrev AllFit : List Pair → Type 0
   AllFit pairs = All (λ q. IsTrue (fits q d)) pairs
 
@@ -96,7 +96,7 @@ module _ (d : List Reading) where
 
 -- ---- lines
 
-module _ (d : List Reading) (line : Line) (old : History) where
+module _ (d : Dictionary) (line : Line) (old : History) where
   -- a line whose pair is edited in
   pub line_edited : (new : History) (pair : Pair) → old.place < length old.states → resolution d line (present old) ≡ Ok pair → length (edited_list (edit_of line pair) (present old)) ≤ most_pairs → new ≡ continued (edited (edit_of line pair) (present old)) old → IsLineDone d line old new None
   unfolding line_result
@@ -129,7 +129,7 @@ pub entered_stays : (fs fs1 fs2 : List Frame) (n place : ℕ) (ss : Bor (List St
 entered_stays fs fs1 fs2 n place ss e1 e2 = put_stays _ fs1 fs2 (Statements ss) e2 (λ d. ap (λ b. b && policy_suits d ss.now) (sym (ap (frames_suit d) e1 ∙ frames_suit_push d fs (End n place) ∙ and_true (frames_suit d fs))))
 
 -- the block of a branch fits, and so do the other branches
-pub tested_stays : (bs : List Branch) (b : Branch) (others : List Branch) (or : Option (List Statement)) (fs new : List Frame) (g : Frame) → bs ≡ b ∷ others → new ≡ fs ++ g ∷ [] → ((d : List Reading) → (branch_suits d b && (branches_suit d others && else_suits d or)) ≡ true → frame_suits d g ≡ true) → StaysSuited (λ d. frames_suit d fs && (branches_suit d bs && else_suits d or)) None new
+pub tested_stays : (bs : List Branch) (b : Branch) (others : List Branch) (or : Option (List Statement)) (fs new : List Frame) (g : Frame) → bs ≡ b ∷ others → new ≡ fs ++ g ∷ [] → ((d : Dictionary) → (branch_suits d b && (branches_suit d others && else_suits d or)) ≡ true → frame_suits d g ≡ true) → StaysSuited (λ d. frames_suit d fs && (branches_suit d bs && else_suits d or)) None new
 tested_stays bs b others or fs new g split e h = record {
   kept = λ d k.
       let whole : (frames_suit d fs && ((branch_suits d b && branches_suit d others) && else_suits d or)) ≡ true = ap (λ l. frames_suit d fs && (branches_suit d l && else_suits d or)) (sym split) ∙ k in
@@ -140,12 +140,12 @@ tested_stays bs b others or fs new g split e h = record {
       rw all;
 }
 
-pub branch_block_fits : (b : Branch) (block : List Statement) → block ≡ (out-Branch b).block → (d : List Reading) (x : Bool) → (branch_suits d b && x) ≡ true → policy_suits d block ≡ true
+pub branch_block_fits : (b : Branch) (block : List Statement) → block ≡ (out-Branch b).block → (d : Dictionary) (x : Bool) → (branch_suits d b && x) ≡ true → policy_suits d block ≡ true
 branch_block_fits b block is d x h =
     ap (policy_suits d) is ∙ and_right (cond_suits d (out-Branch b).cond) (policy_suits d (out-Branch b).block) (sym (suits_Branch d b) ∙ and_left (branch_suits d b) x h)
 
 -- a branch's condition can be tested in the present state
-pub branch_testable : (d : List Reading) (h : History) (bs : List Branch) (b : Branch) (others : List Branch) → h.place < length h.states → StatesFit d h → bs ≡ b ∷ others → branches_suit d bs ≡ true → comparable (out-Branch b).cond (present h) ≡ true
+pub branch_testable : (d : Dictionary) (h : History) (bs : List Branch) (b : Branch) (others : List Branch) → h.place < length h.states → StatesFit d h → bs ≡ b ∷ others → branches_suit d bs ≡ true → comparable (out-Branch b).cond (present h) ≡ true
 branch_testable d h bs b others has all split fit =
     let own = and_left (branch_suits d b) (branches_suit d others) (ap (branches_suit d) (sym split) ∙ fit) in
     testable d (present h) (earlier_fits d h h.place has all) (out-Branch b).cond (and_left (cond_suits d (out-Branch b).cond) (policy_suits d (out-Branch b).block) (sym (suits_Branch d b) ∙ own))
@@ -161,12 +161,12 @@ lines_stay ls l others entry fs new split e = record {
       rw all;
 }
 
-pub lines_fit_first : (d : List Reading) (ls : List Line) (l : Line) (others : List Line) → ls ≡ l ∷ others → list_all (line_suits d) ls ≡ true → line_suits d l ≡ true
+pub lines_fit_first : (d : Dictionary) (ls : List Line) (l : Line) (others : List Line) → ls ≡ l ∷ others → list_all (line_suits d) ls ≡ true → line_suits d l ≡ true
 lines_fit_first d ls l others split h = and_left (line_suits d l) (list_all (line_suits d) others) (ap (list_all (line_suits d)) (sym split) ∙ h)
 
 -- what fits without the rest
-pub fits_alone : (before : List Reading → Bool) (fs : List Frame) → ((d : List Reading) → before d ≡ true → frames_suit d fs ≡ true) → StaysSuited before None fs
+pub fits_alone : (before : Dictionary → Bool) (fs : List Frame) → ((d : Dictionary) → before d ≡ true → frames_suit d fs ≡ true) → StaysSuited before None fs
 fits_alone before fs h = record { kept = λ d k. let all = h d k in rw all }
 
-pub fits_left : (d : List Reading) (fs : List Frame) (x : Bool) → (frames_suit d fs && x) ≡ true → frames_suit d fs ≡ true
+pub fits_left : (d : Dictionary) (fs : List Frame) (x : Bool) → (frames_suit d fs && x) ≡ true → frames_suit d fs ≡ true
 fits_left d fs x h = and_left (frames_suit d fs) x h

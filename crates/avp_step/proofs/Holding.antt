@@ -26,7 +26,7 @@ use Rattle.std.specs.Borrow.{Bor}
 use Rattle.avp_step.specs.declared.frames.Frame.TheVariants.{Statements}
 use Rattle.avp_step.specs.declared.labels.Label.TheVariants as label
 use Rattle.avp_unlang.specs.declared.codes.Code.TheVariants as code
-use Rattle.avp_dict.specs.declared.readings.Reading.{Reading}
+use Rattle.avp_dict.specs.Dictionary.{Dictionary}
 use Rattle.std.specs.Prelude.{IsTrue, ◌↔◌}
 use Rattle.std.specs.Bool.{OnTrue}
 use Rattle.avp_unlang.specs.Suiting.{policy_suits}
@@ -58,7 +58,7 @@ end_of_last o (e ∷ []) (suc k) d h = absurd (omega arith)
 end_of_last o (e ∷ f ∷ es) zero d h = absurd (omega arith)
 end_of_last o (e ∷ f ∷ es) (suc k) d h = end_of_last e.outcome (f ∷ es) k d (omega arith)
 
-module _ (d : List Reading) (ss : List Statement) (h : History) (left : ℕ) (ms : List Mark) (p : ℕ) (fs : List Frame) (r1 r2 : ℕ) (held : IsHeld d ss h left ms p fs r1 r2) where
+module _ (d : Dictionary) (ss : List Statement) (h : History) (left : ℕ) (ms : List Mark) (p : ℕ) (fs : List Frame) (r1 r2 : ℕ) (held : IsHeld d ss h left ms p fs r1 r2) where
   -- the trace at a position whose step was made
   pub held_at : (k : ℕ) (x : Entry) (m : Mark) (s : State) → k < length ms → get_or (trace_from d ss h) k x ≡ entry_of (get_or ms k m) (get_or h.states k s)
   held_at k x m s lt =
@@ -268,7 +268,7 @@ module _ (d : List Reading) (ss : List Statement) (h : History) (left : ℕ) (ms
         ∙ sym (ap (λ b. cond b (To (entry_at walk (p + 1)).label) AtEnd) (lt-ltb _ _ known_within))
 
 -- a stepper at its start
-pub start_held : (d : List Reading) (ss : Bor (List Statement)) (h : History) (left : ℕ) (s : State) (ms none : List Mark) (fs nothing : List Frame) (r1 r2 size : ℕ) → h ≡ starting s → none ≡ [] → ms ≡ none ++ (record { label = label.Start; code = code.Ok; stopped = false }) ∷ [] → nothing ≡ [] → fs ≡ nothing ++ Statements ss ∷ [] → size ≡ size_of ss.now → size ≤ left → size + 1 ≤ r1 → MOST_FRAMES ≤ r2 → depth_of ss.now + 1 ≤ MOST_FRAMES → IsTrue (policy_suits d ss.now) → StateFits d s → IsHeld d ss.now h left ms 0 fs r1 r2
+pub start_held : (d : Dictionary) (ss : Bor (List Statement)) (h : History) (left : ℕ) (s : State) (ms none : List Mark) (fs nothing : List Frame) (r1 r2 size : ℕ) → h ≡ starting s → none ≡ [] → ms ≡ none ++ (record { label = label.Start; code = code.Ok; stopped = false }) ∷ [] → nothing ≡ [] → fs ≡ nothing ++ Statements ss ∷ [] → size ≡ size_of ss.now → size ≤ left → size + 1 ≤ r1 → MOST_FRAMES ≤ r2 → depth_of ss.now + 1 ≤ MOST_FRAMES → IsTrue (policy_suits d ss.now) → StateFits d s → IsHeld d ss.now h left ms 0 fs r1 r2
 start_held d ss h left s ms none fs nothing r1 r2 size states no_marks marks no_frames frames is room marks_room frames_room deep fit fits =
     let m : Mark = record { label = label.Start; code = code.Ok; stopped = false } in
     let marks' = marks ∙ ap (λ l. l ++ m ∷ []) no_marks in

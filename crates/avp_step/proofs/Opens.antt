@@ -16,11 +16,11 @@ use Rattle.avp_step.specs.code.Frames.{States, else_steps, frame_steps, rest, Si
 use Rattle.avp_step.proofs.Equations.{steps_Update, steps_If}
 use Rattle.avp_step.specs.declared.frames.Next.{Next}
 use Rattle.avp_step.proofs.Rests.{then_cong, then_cong_right, then_assoc, goes_on, rest_push, Sit_push, all_skips_push, Sit_pop, frames_suit_push}
-use Rattle.avp_dict.specs.declared.readings.Reading.{Reading}
+use Rattle.avp_dict.specs.Dictionary.{Dictionary}
 use Rattle.avp_unlang.specs.Suiting.{policy_suits, statement_suits}
 
 -- a frame is put that has a statement's steps
-pub opened : (s : Statement) (fs new : List Frame) (g : Frame) (place : ℕ) → new ≡ fs ++ g ∷ [] → ((d : List Reading) (at : States) (o : Outcome) → o.stopped ≡ false → at place ≡ o.state → frame_steps d at g o ≡ steps d s o) → IsSame (λ d at. then_steps (steps d s) (rest d at fs)) None new false place
+pub opened : (s : Statement) (fs new : List Frame) (g : Frame) (place : ℕ) → new ≡ fs ++ g ∷ [] → ((d : Dictionary) (at : States) (o : Outcome) → o.stopped ≡ false → at place ≡ o.state → frame_steps d at g o ≡ steps d s o) → IsSame (λ d at. then_steps (steps d s) (rest d at fs)) None new false place
 opened s fs new g place e h = record {
   same = λ d at o run here.
       ap (λ l. rest d at l o) e ∙ rest_push d at fs g o ∙ then_cong (frame_steps d at g) (steps d s) (rest d at fs) o (h d at o run here);
@@ -86,7 +86,7 @@ taken place old new f e fits =
     record { others = p.others; room = omega (arith, p.room); entry = p.entry; skips = ap all_skips e ∙ all_skips_push new f }
 
 -- a frame is taken off and opened
-pub taken_same : (t : List Reading → States → Steps) (old mid new : List Frame) (f : Frame) (next : Option Next) (stopped : Bool) (place : ℕ) → old ≡ mid ++ f ∷ [] → IsSame t None old stopped place → IsSame (λ d at. then_steps (frame_steps d at f) (rest d at mid)) next new stopped place → IsSame t next new stopped place
+pub taken_same : (t : Dictionary → States → Steps) (old mid new : List Frame) (f : Frame) (next : Option Next) (stopped : Bool) (place : ℕ) → old ≡ mid ++ f ∷ [] → IsSame t None old stopped place → IsSame (λ d at. then_steps (frame_steps d at f) (rest d at mid)) next new stopped place → IsSame t next new stopped place
 taken_same t old mid new f next stopped place e before after = record {
   same = λ d at o stop here.
       after.same d at o stop here ∙ sym (rest_push d at mid f o) ∙ ap (λ l. rest d at l o) (sym e) ∙ before.same d at o stop here;
@@ -107,7 +107,7 @@ and_right true b h = h
 and_right false b h = cc
 
 -- a frame is put that fits where what it stands for does
-pub put_stays : (before : List Reading → Bool) (fs new : List Frame) (g : Frame) → new ≡ fs ++ g ∷ [] → ((d : List Reading) → before d ≡ (frames_suit d fs && frame_suits d g)) → StaysSuited before None new
+pub put_stays : (before : Dictionary → Bool) (fs new : List Frame) (g : Frame) → new ≡ fs ++ g ∷ [] → ((d : Dictionary) → before d ≡ (frames_suit d fs && frame_suits d g)) → StaysSuited before None new
 put_stays before fs new g e h = record {
   kept = λ d b.
       let all : frames_suit d new ≡ true = ap (frames_suit d) e ∙ frames_suit_push d fs g ∙ sym (h d) ∙ b in
@@ -128,7 +128,7 @@ block_stays all first others fs fs1 new next split e s = record {
 }
 
 -- a frame is taken off and opened
-pub taken_stays : (before : List Reading → Bool) (old mid new : List Frame) (f : Frame) (next : Option Next) → old ≡ mid ++ f ∷ [] → StaysSuited before None old → StaysSuited (λ d. frames_suit d mid && frame_suits d f) next new → StaysSuited before next new
+pub taken_stays : (before : Dictionary → Bool) (old mid new : List Frame) (f : Frame) (next : Option Next) → old ≡ mid ++ f ∷ [] → StaysSuited before None old → StaysSuited (λ d. frames_suit d mid && frame_suits d f) next new → StaysSuited before next new
 taken_stays before old mid new f next e s t = record {
   kept = λ d b. t.kept d (sym (frames_suit_push d mid f) ∙ ap (frames_suit d) (sym e) ∙ and_left (frames_suit d old) true (s.kept d b));
 }

@@ -1,6 +1,6 @@
 -- Laws of steps one after another, and of frames.
 use Rattle.std.proofs.Common.{◌≡◌, ℕ, ◌+◌, ◌≤◌, Bool, true, false, ◌&&◌, List, [], ◌∷◌, ◌++◌, length, refl, sym, ap, ◌∙◌, cond, append_assoc, arith}
-use Rattle.avp_dict.specs.declared.readings.Reading.{Reading}
+use Rattle.avp_dict.specs.Dictionary.{Dictionary}
 use Rattle.avp_unlang.specs.Meaning.{Outcome}
 use Rattle.avp_step.specs.Trace.{Entry, Steps, end_of, then_steps, unless_stopped}
 use Rattle.avp_step.specs.declared.frames.Frame.{Frame}
@@ -30,7 +30,7 @@ goes_on t o h = ap (λ b. cond b [] (t o)) h
 pub stays : (t : Steps) (o : Outcome) → o.stopped ≡ true → unless_stopped t o ≡ []
 stays t o h = ap (λ b. cond b [] (t o)) h
 
-module _ (d : List Reading) where
+module _ (d : Dictionary) where
   -- the steps of one more frame come first
   pub rest_push : (at : States) (fs : List Frame) (g : Frame) (o : Outcome) → rest d at (fs ++ g ∷ []) o ≡ then_steps (frame_steps d at g) (rest d at fs) o
   rest_push at [] g o = sym (append_nil (frame_steps d at g o))
@@ -72,6 +72,6 @@ pub and_assoc : (a b c : Bool) → (a && b && c) ≡ (a && (b && c))
 and_assoc true b c = refl
 and_assoc false b c = refl
 
-pub frames_suit_push : (d : List Reading) (fs : List Frame) (g : Frame) → frames_suit d (fs ++ g ∷ []) ≡ (frames_suit d fs && frame_suits d g)
+pub frames_suit_push : (d : Dictionary) (fs : List Frame) (g : Frame) → frames_suit d (fs ++ g ∷ []) ≡ (frames_suit d fs && frame_suits d g)
 frames_suit_push d [] g = and_true (frame_suits d g)
 frames_suit_push d (f ∷ fs) g = ap (λ b. frame_suits d f && b) (frames_suit_push d fs g) ∙ sym (and_assoc (frame_suits d f) (frames_suit d fs) (frame_suits d g))

@@ -11,10 +11,10 @@ use Rattle.avp_unlang.specs.declared.tree.Branch.{Branch}
 use Rattle.avp_unlang.specs.Meaning.{Outcome, running, Edited, Refused, line_result}
 use Rattle.avp_step.specs.Trace.{Steps, Guarded, end_of, steps, guarded, statement_steps, guarded_steps, line_steps, line_step, branch_steps, all_steps, then_steps, unless_stopped, closed, tested, entered, trace_of}
 use Rattle.avp_unlang.specs.Sizes.{size, size_of, size_of_branch, statement_size, branch_size, total}
-use Rattle.avp_dict.specs.declared.readings.Reading.{Reading}
+use Rattle.avp_dict.specs.Dictionary.{Dictionary}
 use Rattle.avp_unlang.specs.Truth.{truth}
 
-module _ (d : List Reading) where
+module _ (d : Dictionary) where
   abbrev IsAtMost : Steps → ℕ → Type 0
   IsAtMost t n = (o : Outcome) → length (t o) ≤ n
 

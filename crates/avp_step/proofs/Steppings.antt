@@ -27,7 +27,7 @@ use Rattle.avp_step.specs.code.Stepping.{standing, entry_of, Names, IsStep, IsOv
 use Rattle.avp_step.specs.Walk.{IsLineLabel}
 use Rattle.avp_unlang.specs.Truth.{truth}
 use Rattle.avp_step.proofs.Rests.{then_cong, then_cong_right, then_assoc, rest_push, goes_on, Sit_push, Sit_later}
-use Rattle.avp_dict.specs.declared.readings.Reading.{Reading}
+use Rattle.avp_dict.specs.Dictionary.{Dictionary}
 
 pub added_present : (old new : History) (s : State) → old.place < length old.states → new ≡ continued s old → present new ≡ s
 added_present old new s has a =
@@ -56,7 +56,7 @@ pub block_fits : (bs : List Branch) (b : Branch) (others : List Branch) (block :
 block_fits bs b others block split same =
     omega (arith, ap depth_of_branches split, ap depth_of same, depth_of_branch_out b)
 
-module _ (d : List Reading) where
+module _ (d : Dictionary) where
   -- a step from its equation
   pub stepped : (t : States → Steps) (last : Mark) (old new : History) (made : Mark) (frames : List Frame) (s : State) → old.place < length old.states → new ≡ continued s old → ((at : States) → Names at old → t at (standing last old) ≡ entry_of made s ∷ rest d at frames (record { state = s; code = made.code; stopped = made.stopped })) → IsStep d t last old new made frames
   stepped t last old new made frames s has a h =
@@ -154,19 +154,19 @@ module _ (d : List Reading) where
   }
 
   -- the step of what comes next is the next step
-  pub onward_step : (t : List Reading → States → Steps) (n : Next) (fs fs1 : List Frame) (last : Mark) (old new : History) (made : Mark) (place : ℕ) → place ≡ old.place → IsSame t (Some n) fs last.stopped place → IsStep d (λ at. then_steps (next_steps d at n) (rest d at fs)) last old new made fs1 → IsStep d (t d) last old new made fs1
+  pub onward_step : (t : Dictionary → States → Steps) (n : Next) (fs fs1 : List Frame) (last : Mark) (old new : History) (made : Mark) (place : ℕ) → place ≡ old.place → IsSame t (Some n) fs last.stopped place → IsStep d (λ at. then_steps (next_steps d at n) (rest d at fs)) last old new made fs1 → IsStep d (t d) last old new made fs1
   onward_step t n fs fs1 last old new made place is same s = record {
     same = λ at names. sym (same.same d at (standing last old) refl (ap at is ∙ names old.place (le_refl _))) ∙ s.same at names;
     added = s.added;
   }
 
-  pub onward_refused : (t : List Reading → States → Steps) (n : Next) (fs fs1 : List Frame) (last : Mark) (old : History) (place : ℕ) → place ≡ old.place → IsSame t (Some n) fs last.stopped place → IsRefused d (λ at. then_steps (next_steps d at n) (rest d at fs)) last old fs1 → IsRefused d (t d) last old fs1
+  pub onward_refused : (t : Dictionary → States → Steps) (n : Next) (fs fs1 : List Frame) (last : Mark) (old : History) (place : ℕ) → place ≡ old.place → IsSame t (Some n) fs last.stopped place → IsRefused d (λ at. then_steps (next_steps d at n) (rest d at fs)) last old fs1 → IsRefused d (t d) last old fs1
   onward_refused t n fs fs1 last old place is same s = record {
     same = λ at names. s.same at names ∙ same.same d at (standing last old) refl (ap at is ∙ names old.place (le_refl _));
     line = λ at names. let r = s.line at names in (r.0, r.1, sym (same.same d at (standing last old) refl (ap at is ∙ names old.place (le_refl _))) ∙ r.2, r.3);
   }
 
-  pub onward_over : (t : List Reading → States → Steps) (fs : List Frame) (last : Mark) (old : History) (place : ℕ) → place ≡ old.place → fs ≡ [] → IsSame t None fs last.stopped place → IsOver (t d) last old
+  pub onward_over : (t : Dictionary → States → Steps) (fs : List Frame) (last : Mark) (old : History) (place : ℕ) → place ≡ old.place → fs ≡ [] → IsSame t None fs last.stopped place → IsOver (t d) last old
   onward_over t fs last old place is none same = record {
     none = λ at names. sym (same.same d at (standing last old) refl (ap at is ∙ names old.place (le_refl _))) ∙ ap (λ l. rest d at l (standing last old)) none;
   }

@@ -1,7 +1,7 @@
 -- The steps of a run, by recursion over the policy's tree.
 use Rattle.std.specs.Prelude.{ℕ, Bool, true, false, if◌then◌else◌, List, [], ◌∷◌, ◌++◌, map, Option, Some, None}
 use Rattle.avp_lists.specs.declared.lists.State.{State}
-use Rattle.avp_dict.specs.declared.readings.Reading.{Reading}
+use Rattle.avp_dict.specs.Dictionary.{Dictionary}
 use Rattle.avp_unlang.specs.Meaning.{Outcome, running, after_word, after_failure, LineResult, Edited, Refused, line_result}
 use Rattle.avp_unlang.specs.Truth.{truth}
 use Rattle.avp_unlang.specs.declared.codes.Code.{Code}
@@ -51,7 +51,7 @@ line_step entry line (Edited s) c others =
 line_step entry line (Refused k) c others =
     record { label = label.Failed line.line k; outcome = after_failure entry } ∷ []
 
-abbrev pub line_steps : List Reading → State → List Line → Steps
+abbrev pub line_steps : Dictionary → State → List Line → Steps
 line_steps dictionary entry [] o = []
 line_steps dictionary entry (line ∷ others) o =
     line_step entry line (line_result dictionary line o.state) o.code (line_steps dictionary entry others)
@@ -97,7 +97,7 @@ word_step n word o = record { label = label.Word n; outcome = after_word word o.
 
 -- ---- statements
 
-abbrev pub statement_steps : List Reading → Statement-F Steps Guarded → Steps
+abbrev pub statement_steps : Dictionary → Statement-F Steps Guarded → Steps
 statement_steps dictionary (Update n lines) o = line_steps dictionary o.state lines o
 statement_steps dictionary (If branches otherwise) o = branch_steps branches (none_or otherwise) o
 statement_steps dictionary (Transaction n block) o =
@@ -108,13 +108,13 @@ abbrev pub guarded_steps : Branch-F Steps Guarded → Guarded
 guarded_steps b = record { line = b.line; cond = b.cond; block = all_steps b.block }
 
 -- the steps of a statement, each statement inside it with its steps
-abbrev pub steps : List Reading → Statement → Steps
+abbrev pub steps : Dictionary → Statement → Steps
 steps dictionary = fold-Statement Steps Guarded (statement_steps dictionary) guarded_steps
 
-abbrev pub guarded : List Reading → Branch → Guarded
+abbrev pub guarded : Dictionary → Branch → Guarded
 guarded dictionary = fold-Branch Steps Guarded (statement_steps dictionary) guarded_steps
 
-abbrev pub block_steps : List Reading → List Statement → Steps
+abbrev pub block_steps : Dictionary → List Statement → Steps
 block_steps dictionary statements = all_steps (map (steps dictionary) statements)
 
 -- where each run begins
@@ -122,5 +122,5 @@ abbrev pub start : State → Entry
 start s = record { label = label.Start; outcome = running s code.Ok }
 
 -- the trace of a policy from a state
-abbrev pub trace_of : List Reading → List Statement → State → List Entry
+abbrev pub trace_of : Dictionary → List Statement → State → List Entry
 trace_of dictionary statements s = start s ∷ block_steps dictionary statements (running s code.Ok)

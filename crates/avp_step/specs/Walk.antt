@@ -1,7 +1,7 @@
 -- Walks: the trace of a run with a position in it, and the moves that change the position.
 use Rattle.std.specs.Prelude.{◌≡◌, ◌≤◌, ◌<◌, ◌⊎◌, ℕ, ◌+◌, ◌-◌, Bool, if◌then◌else◌, nat_lt, List, [], ◌∷◌, length, slice_index_or}
 use Rattle.avp_lists.specs.States.{empty_state}
-use Rattle.avp_dict.specs.declared.readings.Reading.{Reading}
+use Rattle.avp_dict.specs.Dictionary.{Dictionary}
 use Rattle.avp_step.specs.Trace.{Entry, start}
 use Rattle.avp_step.specs.declared.labels.Label.{Label}
 use Rattle.avp_step.specs.declared.labels.Label.TheVariants as label
@@ -12,7 +12,7 @@ use Rattle.avp_step.specs.declared.labels.Moved.TheVariants.{To, AtEnd}
 
 -- the dictionary and the trace are fixed; the position moves
 pub record Walk : Type 0 where
-  pub dictionary : List Reading
+  pub dictionary : Dictionary
   pub trace : List Entry
   pub position : ℕ
 

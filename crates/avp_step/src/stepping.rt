@@ -3,7 +3,7 @@
 ghost use Rattle.std.specs.Prelude.{◌≡◌, ◌+◌, ◌<◌, ◌≤◌, ◌∷◌, ◌++◌, ◌&&◌, [], ℕ, false, true, length, max, vec_capacity, vec_len, IfOk, IfSome, IsTrue, OnErr, List, Some, None, Ok};
 ghost use Rattle.std.specs.List.{list_all};
 ghost use Rattle.avp_lists.specs.History.{after_rollback, continued, present, state_at};
-ghost use Rattle.avp_dict.specs.declared.readings.Reading.{Reading};
+ghost use Rattle.avp_dict.specs.Dictionary.{Dictionary};
 ghost use Rattle.avp_unlang.specs.Meaning.{stops};
 ghost use Rattle.avp_unlang.specs.Suiting.{branches_suit, else_suits, policy_suits};
 ghost use Rattle.avp_unlang.specs.Resolutions.{StateFits, line_suits};
@@ -60,7 +60,11 @@ fn stay<S: Store>(store: &mut S)
 // A word's step.
 fn step_word<S: Store>(store: &mut S, line: usize, word: Code) -> Mark
     requires { 0 < S.room store.old }
-    ensures made { (d : List Reading) (last : Mark) (frames : List Frame) → IsStep d (λ at. then_steps (next_steps d at (Next.Word line word)) (rest d at frames)) last (S.history store.old) (S.history store.new) result frames }
+    ensures made { (dictionary : Dictionary) (last : Mark) (frames : List Frame)
+        → IsStep dictionary
+        (λ at. then_steps (next_steps dictionary at (Next.Word line word))
+        (rest dictionary at frames))
+        last (S.history store.old) (S.history store.new) result frames }
     ensures fit { KeepsFit (S.history store.old) (S.history store.new) }
     ensures kept { (S.history store.old).place + S.room store.old ≤ (S.history store.new).place + S.room store.new }
 {
@@ -76,7 +80,11 @@ fn step_word<S: Store>(store: &mut S, line: usize, word: Code) -> Mark
 fn step_close<S: Store>(store: &mut S, last: Mark, line: usize, to: usize) -> Mark
     requires earlier { to ≤ (S.history store.old).place }
     requires room { 0 < S.room store.old }
-    ensures made { (d : List Reading) (frames : List Frame) → IsStep d (λ at. then_steps (next_steps d at (Next.Close line to)) (rest d at frames)) last (S.history store.old) (S.history store.new) result frames }
+    ensures made { (dictionary : Dictionary) (frames : List Frame)
+        → IsStep dictionary
+        (λ at. then_steps (next_steps dictionary at (Next.Close line to))
+        (rest dictionary at frames))
+        last (S.history store.old) (S.history store.new) result frames }
     ensures fit { KeepsFit (S.history store.old) (S.history store.new) }
     ensures kept { (S.history store.old).place + S.room store.old ≤ (S.history store.new).place + S.room store.new }
 {
@@ -142,7 +150,11 @@ fn step_enter<'a, S: Store>(
     requires frames_room { vec_len frames.old + (2 + depth_of block.now) ≤ MOST_FRAMES }
     requires capacity { MOST_FRAMES ≤ vec_capacity frames.old }
     requires sit { Sit (S.history store.old).place 0 frames.old.items }
-    ensures made { (d : List Reading) → IsStep d (λ at. then_steps (next_steps d at (Next.Enter line block.entry)) (rest d at frames.old.items)) last (S.history store.old) (S.history store.new) result frames.new.items }
+    ensures made { (dictionary : Dictionary)
+        → IsStep dictionary
+        (λ at. then_steps (next_steps dictionary at (Next.Enter line block.entry))
+        (rest dictionary at frames.old.items))
+        last (S.history store.old) (S.history store.new) result frames.new.items }
     ensures sit { Sit (S.history store.new).place 0 frames.new.items }
     ensures fit { StaysSuited (λ d. frames_suit d frames.old.items && policy_suits d block.now) None frames.new.items }
     ensures states { KeepsFit (S.history store.old) (S.history store.new) }

@@ -15,9 +15,9 @@ use Rattle.avp_dict.specs.Sent.{is_canonical, is_clean_pair, is_container}
 use Rattle.avp_dict.specs.SpelledValues.{SpelledValuesClean}
 use Rattle.avp_dict.specs.Spellings.{unless_long, value_spelled}
 use Rattle.avp_dict.specs.declared.entries.Named.{Named}
-use Rattle.avp_dict.specs.declared.readings.Kind.{Kind}
-use Rattle.avp_dict.specs.declared.readings.Kind.TheVariants as kinds
-use Rattle.avp_dict.specs.declared.readings.Reading.{Reading}
+use Rattle.avp_dict.specs.declared.entries.Kind.{Kind}
+use Rattle.avp_dict.specs.declared.entries.Kind.TheVariants as kinds
+use Rattle.avp_dict.specs.Dictionary.{Dictionary}
 use Rattle.avp_dict.specs.declared.value_faults.ValueFault.{ValueFault}
 use Rattle.avp_dict.specs.declared.value_faults.ValueFault.TheVariants.{TooLong}
 use Rattle.avp_dict.proofs.OwnValues.{raw_canonical, read_value_sized, typed_canonical}
@@ -47,82 +47,82 @@ paired_from : (id : AttrId) (r : Result Value Unresolved) (p : Pair) → paired 
 paired_from id (Ok v) p e = (v, refl, ok_is (pair_of id v) p e)
 paired_from id (Err fault) p e = absurd cc
 
-module _ (d : List Reading) where
+module _ (dictionary : Dictionary) where
   within_from : (b : Bool) (w v : Value) → cond b (Ok w) (Err TooLong) ≡ Ok v → w ≡ v
   within_from true w v e = ok_is w v e
   within_from false w v e = absurd cc
 
-  read_from : (id : AttrId) (o : Option Value) (v : Value) → unless_long id d o ≡ Ok v → o ≡ Some v
+  read_from : (id : AttrId) (o : Option Value) (v : Value) → unless_long id dictionary o ≡ Ok v → o ≡ Some v
   read_from id None v e = absurd cc
-  read_from id (Some w) v e = ap Some (within_from (is_within id w d) w v e)
+  read_from id (Some w) v e = ap Some (within_from (is_within id w dictionary) w v e)
 
-  known_of : (p : Pair) → fits p d ≡ true → is_known p.id d ≡ true
+  known_of : (p : Pair) → fits p dictionary ≡ true → is_known p.id dictionary ≡ true
   unfolding fits
-  known_of p h = (and_parts (is_known p.id d) (is_typed p.id p.value d) (and_parts (is_known p.id d && is_typed p.id p.value d) (is_within p.id p.value d) h).0).0
+  known_of p h = (and_parts (is_known p.id dictionary) (is_typed p.id p.value dictionary) (and_parts (is_known p.id dictionary && is_typed p.id p.value dictionary) (is_within p.id p.value dictionary) h).0).0
 
   -- a pair that is clean where it fits
   abbrev pub CleanWhereFits : Pair → Type 0
-  CleanWhereFits p = fits p d ≡ true → is_clean_pair d p ≡ true
+  CleanWhereFits p = fits p dictionary ≡ true → is_clean_pair dictionary p ≡ true
 
-  clean_from : (p : Pair) → is_container p.id ≡ false → (fits p d ≡ true → is_canonical p d ≡ true) → CleanWhereFits p
+  clean_from : (p : Pair) → is_container p.id ≡ false → (fits p dictionary ≡ true → is_canonical p dictionary ≡ true) → CleanWhereFits p
   clean_from p own canonical h = let same = canonical h in rw (same, own)
 
   -- each value that a source gives the name's attribute is clean where it fits
   abbrev SourceClean : Named → Source → Type 0
-  SourceClean name from = (s : State) (v : Value) → source_value d s name.id from ≡ Ok v → CleanWhereFits (pair_of name.id v)
+  SourceClean name from = (s : State) (v : Value) → source_value dictionary s name.id from ≡ Ok v → CleanWhereFits (pair_of name.id v)
 
-  module _ (clean : SpelledValuesClean d) where
+  module _ (clean : SpelledValuesClean dictionary) where
     -- ---- spelled values
 
-    spelled_clean : (name : Named) (text : List ℕ) (v : Value) → value_spelled name text d ≡ Ok v → CleanWhereFits (pair_of name.id v)
+    spelled_clean : (name : Named) (text : List ℕ) (v : Value) → value_spelled name text dictionary ≡ Ok v → CleanWhereFits (pair_of name.id v)
     spelled_clean name text v e h = clean name text v (known_of (pair_of name.id v) h) e
 
-    literal_clean : (name : Named) (text : List ℕ) (v : Value) → literal d name text ≡ Some v → SourceClean name (source.Literal v)
-    literal_clean name text v e s w is = spelled_clean name text w ((literal_is d name text v e).0 ∙ ap Ok (ok_is v w is))
+    literal_clean : (name : Named) (text : List ℕ) (v : Value) → literal dictionary name text ≡ Some v → SourceClean name (source.Literal v)
+    literal_clean name text v e s w is = spelled_clean name text w ((literal_is dictionary name text v e).0 ∙ ap Ok (ok_is v w is))
 
     text_clean : (name : Named) (parts : List Part) → SourceClean name (source.Text name.raw parts)
-    text_clean name parts s v e = spelled_clean name (parts_text d s parts) v (given_from (value_spelled name (parts_text d s parts) d) v e)
+    text_clean name parts s v e = spelled_clean name (parts_text dictionary s parts) v (given_from (value_spelled name (parts_text dictionary s parts) dictionary) v e)
 
     -- ---- values of other instances
 
     abbrev CanonicalWhereFits : AttrId → Value → Type 0
-    CanonicalWhereFits id v = fits (pair_of id v) d ≡ true → is_canonical (pair_of id v) d ≡ true
+    CanonicalWhereFits id v = fits (pair_of id v) dictionary ≡ true → is_canonical (pair_of id v) dictionary ≡ true
 
-    read_canonical : (id : AttrId) (os : List ℕ) (v : Value) → read_value id os d ≡ Some v → CanonicalWhereFits id v
-    read_canonical id os v e h = let of_type = read_value_sized d id os v e in typed_canonical d id v of_type.0 of_type.1 h
+    read_canonical : (id : AttrId) (os : List ℕ) (v : Value) → read_value id os dictionary ≡ Some v → CanonicalWhereFits id v
+    read_canonical id os v e h = let of_type = read_value_sized dictionary id os v e in typed_canonical dictionary id v of_type.0 of_type.1 h
 
-    kind_canonical : (kind : Option Kind) (id : AttrId) (os : List ℕ) (v : Value) → kind_of id d ≡ kind → read_by_kind kind id os d ≡ Some v → CanonicalWhereFits id v
-    kind_canonical None id os v k e = subst (CanonicalWhereFits id) (some_is (values.Raw os) v e) (raw_canonical d id os k)
-    kind_canonical (Some kinds.Text) id os v k e = subst (CanonicalWhereFits id) (some_is (values.Text os) v e) (typed_canonical d id (values.Text os) refl tt)
-    kind_canonical (Some kinds.Bytes) id os v k e = subst (CanonicalWhereFits id) (some_is (values.Bytes os) v e) (typed_canonical d id (values.Bytes os) refl tt)
+    kind_canonical : (kind : Option Kind) (id : AttrId) (os : List ℕ) (v : Value) → kind_of id dictionary ≡ kind → read_by_kind kind id os dictionary ≡ Some v → CanonicalWhereFits id v
+    kind_canonical None id os v k e = subst (CanonicalWhereFits id) (some_is (values.Raw os) v e) (raw_canonical dictionary id os k)
+    kind_canonical (Some kinds.Text) id os v k e = subst (CanonicalWhereFits id) (some_is (values.Text os) v e) (typed_canonical dictionary id (values.Text os) refl tt)
+    kind_canonical (Some kinds.Bytes) id os v k e = subst (CanonicalWhereFits id) (some_is (values.Bytes os) v e) (typed_canonical dictionary id (values.Bytes os) refl tt)
     kind_canonical (Some _) id os v k e = read_canonical id os v e
 
-    instance_from : (id : AttrId) → is_container id ≡ false → (o : Option Pair) (v : Value) → instance_value d id o ≡ Ok v → CleanWhereFits (pair_of id v)
+    instance_from : (id : AttrId) → is_container id ≡ false → (o : Option Pair) (v : Value) → instance_value dictionary id o ≡ Ok v → CleanWhereFits (pair_of id v)
     instance_from id own None v e = absurd cc
     instance_from id own (Some p) v e =
-        let os = octets p.id p.value d in
-        let read = read_by_kind (kind_of id d) id os d in
-        clean_from (pair_of id v) own (kind_canonical (kind_of id d) id os v refl (read_from id read v (given_from (unless_long id d read) v e)))
+        let os = octets p.id p.value dictionary in
+        let read = read_by_kind (kind_of id dictionary) id os dictionary in
+        clean_from (pair_of id v) own (kind_canonical (kind_of id dictionary) id os v refl (read_from id read v (given_from (unless_long id dictionary read) v e)))
 
     instance_clean : (name : Named) → is_container name.id ≡ false → (list : Name) (other : AttrId) → SourceClean name (source.Instance list other)
     instance_clean name own list other s v e = instance_from name.id own (first_instance other (list_of list s)) v e
 
     -- ---- update lines
 
-    source_by_clean : (b : Bool) (name : Named) → b ≡ false → Holds (SourceClean name) (SourceBy b d name)
+    source_by_clean : (b : Bool) (name : Named) → b ≡ false → Holds (SourceClean name) (SourceBy b dictionary name)
     source_by_clean true name stays p from rest h = absurd cc
     source_by_clean false name stays p from rest h =
-        value_holds d name (SourceClean name) (literal_clean name) (text_clean name) (instance_clean name h.0) (next_token p).0 (next_token p).1 from rest h.1
+        value_holds dictionary name (SourceClean name) (literal_clean name) (text_clean name) (instance_clean name h.0) (next_token p).0 (next_token p).1 from rest h.1
 
-    line_clean : (line : Line) (name : Named) → name.id ≡ line.id → (is_removal line.op ≡ false → SourceClean name line.source) → Adds d CleanWhereFits line
+    line_clean : (line : Line) (name : Named) → name.id ≡ line.id → (is_removal line.op ≡ false → SourceClean name line.source) → Adds dictionary CleanWhereFits line
     unfolding resolution
     line_clean line name same values_clean s p stays e =
-        let made = paired_from line.id (source_value d s line.id line.source) p e in
-        subst CleanWhereFits made.2 (subst (λ (id : AttrId). source_value d s id line.source ≡ Ok made.0 → CleanWhereFits (pair_of id made.0)) same (values_clean stays s made.0) made.1)
+        let made = paired_from line.id (source_value dictionary s line.id line.source) p e in
+        subst CleanWhereFits made.2 (subst (λ (id : AttrId). source_value dictionary s id line.source ≡ Ok made.0 → CleanWhereFits (pair_of id made.0)) same (values_clean stays s made.0) made.1)
 
-    pub lines_clean : (own : Name) → Holds (Adds d CleanWhereFits) (LineIs d own)
+    pub lines_clean : (own : Name) → Holds (Adds dictionary CleanWhereFits) (LineIs dictionary own)
     lines_clean own p line rest h =
         let name = h.2.0.1 in
         let operation = h.2.3.0 in
-        subst (Adds d CleanWhereFits) (sym h.2.3.3.3.0)
+        subst (Adds dictionary CleanWhereFits) (sym h.2.3.3.3.0)
         (line_clean (line_of (next_token p).1.line h.2.0 operation h.2.3.3.0) name refl (λ stays. source_by_clean (is_removal operation) name stays h.2.3.1 h.2.3.3.0 h.2.3.3.1 h.2.3.3.2))

@@ -13,9 +13,9 @@ use Rattle.avp_lists.specs.declared.lists.List.{List as Name}
 use Rattle.avp_lists.specs.declared.lists.State.{State}
 use Rattle.avp_dict.specs.Limits.{fits, is_known, is_of_kind, is_typed, is_within}
 use Rattle.avp_dict.specs.Octets.{kind_of}
-use Rattle.avp_dict.specs.declared.readings.Kind.{Kind}
-use Rattle.avp_dict.specs.declared.readings.Kind.TheVariants as kinds
-use Rattle.avp_dict.specs.declared.readings.Reading.{Reading}
+use Rattle.avp_dict.specs.declared.entries.Kind.{Kind}
+use Rattle.avp_dict.specs.declared.entries.Kind.TheVariants as kinds
+use Rattle.avp_dict.specs.Dictionary.{Dictionary}
 use Rattle.avp_unlang.specs.Suiting.{cond_suits, cond_layer_suits, comparand_suits, comparison_suits, itself, same_kind}
 use Rattle.avp_unlang.specs.References.{type_of}
 use Rattle.avp_unlang.specs.Resolutions.{StateFits, pair_of}
@@ -61,55 +61,55 @@ or_right : (a b : Bool) → b ≡ true → (a || b) ≡ true
 or_right true b h = refl
 or_right false b h = h
 
-module _ (d : List Reading) where
-  alike_typed : (id : AttrId) (v : Value) → is_typed id v d ≡ true → is_alike (type_of d id) v ≡ true
+module _ (dictionary : Dictionary) where
+  alike_typed : (id : AttrId) (v : Value) → is_typed id v dictionary ≡ true → is_alike (type_of dictionary id) v ≡ true
   alike_typed id (values.Raw os) h = refl
-  alike_typed id (values.Text os) h = typed_alike (values.Text os) (kind_of id d) h
-  alike_typed id (values.Bytes os) h = typed_alike (values.Bytes os) (kind_of id d) h
-  alike_typed id (values.Int n) h = typed_alike (values.Int n) (kind_of id d) h
-  alike_typed id (values.Signed z) h = typed_alike (values.Signed z) (kind_of id d) h
-  alike_typed id (values.Addr os) h = typed_alike (values.Addr os) (kind_of id d) h
-  alike_typed id (values.Ether os) h = typed_alike (values.Ether os) (kind_of id d) h
+  alike_typed id (values.Text os) h = typed_alike (values.Text os) (kind_of id dictionary) h
+  alike_typed id (values.Bytes os) h = typed_alike (values.Bytes os) (kind_of id dictionary) h
+  alike_typed id (values.Int n) h = typed_alike (values.Int n) (kind_of id dictionary) h
+  alike_typed id (values.Signed z) h = typed_alike (values.Signed z) (kind_of id dictionary) h
+  alike_typed id (values.Addr os) h = typed_alike (values.Addr os) (kind_of id dictionary) h
+  alike_typed id (values.Ether os) h = typed_alike (values.Ether os) (kind_of id dictionary) h
 
-  alike_fits : (id : AttrId) (v : Value) → fits (pair_of id v) d ≡ true → is_alike (type_of d id) v ≡ true
+  alike_fits : (id : AttrId) (v : Value) → fits (pair_of id v) dictionary ≡ true → is_alike (type_of dictionary id) v ≡ true
   unfolding fits
-  alike_fits id v h = alike_typed id v (and_right (is_known id d) (is_typed id v d) (and_left (is_known id d && is_typed id v d) (is_within id v d) h))
+  alike_fits id v h = alike_typed id v (and_right (is_known id dictionary) (is_typed id v dictionary) (and_left (is_known id dictionary && is_typed id v dictionary) (is_within id v dictionary) h))
 
   -- ---- first instances
 
-  first_by : (id : AttrId) (p : Pair) (ps : List Pair) (b : Bool) → has_id id p ≡ b → fits p d ≡ true → IfSome (first_instance id ps) (λ q. (fits q d ≡ true) × (has_id id q ≡ true)) → IfSome (front (cond b (p ∷ filter (has_id id) ps) (filter (has_id id) ps))) (λ q. (fits q d ≡ true) × (has_id id q ≡ true))
+  first_by : (id : AttrId) (p : Pair) (ps : List Pair) (b : Bool) → has_id id p ≡ b → fits p dictionary ≡ true → IfSome (first_instance id ps) (λ q. (fits q dictionary ≡ true) × (has_id id q ≡ true)) → IfSome (front (cond b (p ∷ filter (has_id id) ps) (filter (has_id id) ps))) (λ q. (fits q dictionary ≡ true) × (has_id id q ≡ true))
   first_by id p ps true e h others = (h, e)
   first_by id p ps false e h others = others
 
-  first_both : (id : AttrId) (pairs : List Pair) → Each (λ p. fits p d ≡ true) pairs → IfSome (first_instance id pairs) (λ p. (fits p d ≡ true) × (has_id id p ≡ true))
+  first_both : (id : AttrId) (pairs : List Pair) → Each (λ p. fits p dictionary ≡ true) pairs → IfSome (first_instance id pairs) (λ p. (fits p dictionary ≡ true) × (has_id id p ≡ true))
   first_both id [] h = tt
   first_both id (p ∷ ps) h =
-      first_by id p ps (has_id id p) refl (All-head (λ q. fits q d ≡ true) p ps h) (first_both id ps (All-tail (λ q. fits q d ≡ true) p ps h))
+      first_by id p ps (has_id id p) refl (All-head (λ q. fits q dictionary ≡ true) p ps h) (first_both id ps (All-tail (λ q. fits q dictionary ≡ true) p ps h))
 
-  alike_of : (id : AttrId) (k : Kind) (o : Option Pair) → k ≡ type_of d id → IfSome o (λ p. (fits p d ≡ true) × (has_id id p ≡ true)) → option_map_or (is_alike k) (option_map value_in o) true ≡ true
+  alike_of : (id : AttrId) (k : Kind) (o : Option Pair) → k ≡ type_of dictionary id → IfSome o (λ p. (fits p dictionary ≡ true) × (has_id id p ≡ true)) → option_map_or (is_alike k) (option_map value_in o) true ≡ true
   alike_of id k None e h = refl
   alike_of id k (Some p) e h =
       let same : p.id ≡ id = same_id p.id id h.1 in
-      ap (λ x. is_alike x p.value) e ∙ alike_fits id p.value (ap (λ x. fits (pair_of x p.value) d) (sym same) ∙ h.0)
+      ap (λ x. is_alike x p.value) e ∙ alike_fits id p.value (ap (λ x. fits (pair_of x p.value) dictionary) (sym same) ∙ h.0)
 
-  first_alike : (s : State) (list : Name) (id : AttrId) (k : Kind) → StateFits d s → k ≡ type_of d id → option_map_or (is_alike k) (first_value list id s) true ≡ true
+  first_alike : (s : State) (list : Name) (id : AttrId) (k : Kind) → StateFits dictionary s → k ≡ type_of dictionary id → option_map_or (is_alike k) (first_value list id s) true ≡ true
   first_alike s list id k fit e = alike_of id k (first_instance id (list_of list s)) e (first_both id (list_of list s) (fit list))
 
-  compared_alike : (s : State) (c : Comparison) (with : Comparand) → StateFits d s → c.kind ≡ type_of d c.id → comparand_suits d c with ≡ true → option_map_or (is_alike c.kind) (compared_with with s) true ≡ true
+  compared_alike : (s : State) (c : Comparison) (with : Comparand) → StateFits dictionary s → c.kind ≡ type_of dictionary c.id → comparand_suits dictionary c with ≡ true → option_map_or (is_alike c.kind) (compared_with with s) true ≡ true
   compared_alike s c (Literal v) fit e h = ap (λ k. is_alike k v) e ∙ alike_fits c.id v h
-  compared_alike s c (Instance list id) fit e h = first_alike s list id c.kind fit (same_kinds c.kind (type_of d id) h)
+  compared_alike s c (Instance list id) fit e h = first_alike s list id c.kind fit (same_kinds c.kind (type_of dictionary id) h)
 
-  comparison_comparable : (s : State) (c : Comparison) → StateFits d s → comparison_suits d c ≡ true → is_comparable c s ≡ true
+  comparison_comparable : (s : State) (c : Comparison) → StateFits dictionary s → comparison_suits dictionary c ≡ true → is_comparable c s ≡ true
   comparison_comparable s c fit h =
-      let same : c.kind ≡ type_of d c.id = same_kinds c.kind (type_of d c.id) (and_left (same_kind c.kind (type_of d c.id)) (comparand_suits d c c.comparand) h) in
-      let other = and_right (same_kind c.kind (type_of d c.id)) (comparand_suits d c c.comparand) h in
+      let same : c.kind ≡ type_of dictionary c.id = same_kinds c.kind (type_of dictionary c.id) (and_left (same_kind c.kind (type_of dictionary c.id)) (comparand_suits dictionary c c.comparand) h) in
+      let other = and_right (same_kind c.kind (type_of dictionary c.id)) (comparand_suits dictionary c c.comparand) h in
       rw (first_alike s c.list c.id c.kind fit same) (compared_alike s c c.comparand fit same other)
 
   -- ---- conditions
 
-  module _ (s : State) (fit : StateFits d s) where
+  module _ (s : State) (fit : StateFits dictionary s) where
     abbrev IsTestable : Cond → Type 0
-    IsTestable c = cond_suits d c ≡ true → comparable c s ≡ true
+    IsTestable c = cond_suits dictionary c ≡ true → comparable c s ≡ true
 
     abbrev Such : Type 0
     Such = (c : Cond) × IsTestable c
@@ -120,13 +120,13 @@ module _ (d : List Reading) where
     abbrev layer : Cond-F Such → Cond-F Cond
     layer = map-Cond Such Cond (λ e. e.0)
 
-    all_testable : (es : List Such) → list_all itself (map (cond_suits d) (the_conds es)) ≡ true → list_all (λ (test : State → Bool). test s) (map comparable (the_conds es)) ≡ true
+    all_testable : (es : List Such) → list_all itself (map (cond_suits dictionary) (the_conds es)) ≡ true → list_all (λ (test : State → Bool). test s) (map comparable (the_conds es)) ≡ true
     all_testable [] h = refl
     all_testable (e ∷ es) h =
-        let rest = list_all itself (map (cond_suits d) (the_conds es)) in
-        rw (e.1 (and_left (cond_suits d e.0) rest h)) (all_testable es (and_right (cond_suits d e.0) rest h))
+        let rest = list_all itself (map (cond_suits dictionary) (the_conds es)) in
+        rw (e.1 (and_left (cond_suits dictionary e.0) rest h)) (all_testable es (and_right (cond_suits dictionary e.0) rest h))
 
-    layer_testable : (y : Cond-F Such) → cond_layer_suits d (map-Cond Cond Bool (cond_suits d) (layer y)) ≡ true → cond_comparable (map-Cond Cond (State → Bool) comparable (layer y)) s ≡ true
+    layer_testable : (y : Cond-F Such) → cond_layer_suits dictionary (map-Cond Cond Bool (cond_suits dictionary) (layer y)) ≡ true → cond_comparable (map-Cond Cond (State → Bool) comparable (layer y)) s ≡ true
     layer_testable (Any parts) h = all_testable parts h
     layer_testable (All parts) h = all_testable parts h
     layer_testable (Not part) h = part.1 h
@@ -134,12 +134,12 @@ module _ (d : List Reading) where
     layer_testable (Present list id) h = refl
     layer_testable (Compare c) h = comparison_comparable s c fit h
 
-    rolled : (x : Cond-F Cond) → (cond_layer_suits d (map-Cond Cond Bool (cond_suits d) x) ≡ true → cond_comparable (map-Cond Cond (State → Bool) comparable x) s ≡ true) → IsTestable (roll-Cond x)
+    rolled : (x : Cond-F Cond) → (cond_layer_suits dictionary (map-Cond Cond Bool (cond_suits dictionary) x) ≡ true → cond_comparable (map-Cond Cond (State → Bool) comparable x) s ≡ true) → IsTestable (roll-Cond x)
     unfolding cond_suits comparable
     rolled x h fitting =
         ap (λ (t : State → Bool). t s) (fold-roll-Cond (State → Bool) cond_comparable x)
-        ∙ h (sym (fold-roll-Cond Bool (cond_layer_suits d) x) ∙ fitting)
+        ∙ h (sym (fold-roll-Cond Bool (cond_layer_suits dictionary) x) ∙ fitting)
 
     -- each condition that fits can be tested
-    pub testable : (c : Cond) → cond_suits d c ≡ true → comparable c s ≡ true
+    pub testable : (c : Cond) → cond_suits dictionary c ≡ true → comparable c s ≡ true
     testable = ind-Cond IsTestable (λ x y is. subst (λ z. IsTestable (roll-Cond z)) is (rolled (layer y) (layer_testable y)))

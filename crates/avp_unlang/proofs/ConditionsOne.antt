@@ -3,7 +3,7 @@ use Rattle.std.proofs.Common.{◌≡◌, ℕ, zero, suc, List, Option, Some, Non
 use Rattle.std.specs.Option.{option_and_then, option_map}
 use Rattle.avp_lists.specs.declared.lists.List.{List as Name}
 use Rattle.avp_dict.specs.declared.entries.Named.{Named}
-use Rattle.avp_dict.specs.declared.readings.Reading.{Reading}
+use Rattle.avp_dict.specs.Dictionary.{Dictionary}
 use Rattle.avp_dict.specs.declared.quotes.QuoteMark.TheVariants.{Double, Single}
 use Rattle.avp_dict.specs.Quotes.{single_quoted_octets}
 use Rattle.avp_unlang.specs.declared.codes.Code.{Code}
@@ -49,76 +49,76 @@ closing_one c = after_one (Follows (Operator sign.Close)) (Gives c) (follows_sur
 pub closed_one : (form : Form Place Cond) → IsOne form → IsOne (Closed form)
 closed_one form one = then_one (Either form) Closing (either_one form one) closing_one
 
-module _ (lines : List Reading) where
+module _ (dictionary : Dictionary) where
   -- ---- comparisons
 
-  comparand_from_one : (name : Named) (token : Token) → IsOne (ComparandFrom lines name token)
-  comparand_from_one name (Word text) p x y r s h g = becomes_one (option_map Literal (literal lines name text)) p x y r s h g
-  comparand_from_one name (Quoted Single text) p x y r s h g = becomes_one (option_map Literal (literal lines name (single_quoted_octets text))) p x y r s h g
-  comparand_from_one name (Quoted Double text) p x y r s h g = becomes_one (option_map Literal (option_and_then (literal lines name) (plain_octets text))) p x y r s h g
+  comparand_from_one : (name : Named) (token : Token) → IsOne (ComparandFrom dictionary name token)
+  comparand_from_one name (Word text) p x y r s h g = becomes_one (option_map Literal (literal dictionary name text)) p x y r s h g
+  comparand_from_one name (Quoted Single text) p x y r s h g = becomes_one (option_map Literal (literal dictionary name (single_quoted_octets text))) p x y r s h g
+  comparand_from_one name (Quoted Double text) p x y r s h g = becomes_one (option_map Literal (option_and_then (literal dictionary name) (plain_octets text))) p x y r s h g
   comparand_from_one name (Operator sign.Reference) p x y r s h g =
-      let at = alike_one lines name.id p h.0 g.0 r s h.1 g.1 in
+      let at = alike_one dictionary name.id p h.0 g.0 r s h.1 g.1 in
       (h.2 ∙ ap (λ (n : Name × Named). Instance n.0 n.1.id) at.0 ∙ sym g.2, at.1)
   comparand_from_one name _ p x y r s h g = absurd h
 
-  comparand_one : (name : Named) → IsOne (ComparandIs lines name)
+  comparand_one : (name : Named) → IsOne (ComparandIs dictionary name)
   comparand_one name p x y r s h g = comparand_from_one name (next_token p).0 (next_token p).1 x y r s h g
 
-  compared_from_one : (found : Name × Named) (o : Option Relation) (p : Place) → IsOne (ComparedFrom lines found o p)
+  compared_from_one : (found : Name × Named) (o : Option Relation) (p : Place) → IsOne (ComparedFrom dictionary found o p)
   compared_from_one found None p after x y r s h g = gives_one (Present found.0 found.1.id) p x y r s h g
   compared_from_one found (Some relation) p after x y r s h g =
-      then_one (ComparandIs lines found.1) (λ c. Gives (Compare (comparison_of lines found relation c))) (comparand_one found.1) (λ c. gives_one (Compare (comparison_of lines found relation c))) after x y r s h g
+      then_one (ComparandIs dictionary found.1) (λ c. Gives (Compare (comparison_of dictionary found relation c))) (comparand_one found.1) (λ c. gives_one (Compare (comparison_of dictionary found relation c))) after x y r s h g
 
-  pub compared_one : (found : Name × Named) → IsOne (ComparedIs lines found)
+  pub compared_one : (found : Name × Named) → IsOne (ComparedIs dictionary found)
   compared_one found p x y r s h g = compared_from_one found (relation_of (next_token p).0) p (next_token p).1 x y r s h g
 
-  word_one : (o : Option Code) (word : List ℕ) → IsOne (WordFrom lines o word)
+  word_one : (o : Option Code) (word : List ℕ) → IsOne (WordFrom dictionary o word)
   word_one (Some code) word p x y r s h g = gives_one (Last code) p x y r s h g
   word_one None word p x y r s h g =
-      compared_one g.0 p x y r s (subst (λ (n : Name × Named). ComparedIs lines n p x r) (some_is h.0 g.0 (sym h.1 ∙ g.1)) h.2) g.2
+      compared_one g.0 p x y r s (subst (λ (n : Name × Named). ComparedIs dictionary n p x r) (some_is h.0 g.0 (sym h.1 ∙ g.1)) h.2) g.2
 
   -- a refusal of the reference that something is compared with
   pub alike_refused : (name : Named) (p : Place) (q : Token × Place) (e : PolicyFault) → q ≡ next_token p → q.0 ≡ Operator sign.Reference
-      → Refuses (AlikeIs lines name.id q.1) e → Refuses (ComparandIs lines name p) e
+      → Refuses (AlikeIs dictionary name.id q.1) e → Refuses (ComparandIs dictionary name p) e
   alike_refused name p q e is first refused =
-      let at : Refuses (ComparandFrom lines name (Operator sign.Reference) q.1) e = λ some x rest h. refused some h.0 rest h.1 in
-      subst (λ (k : Token × Place). Refuses (ComparandFrom lines name k.0 k.1) e) is (subst (λ k. Refuses (ComparandFrom lines name k q.1) e) (sym first) at)
+      let at : Refuses (ComparandFrom dictionary name (Operator sign.Reference) q.1) e = λ some x rest h. refused some h.0 rest h.1 in
+      subst (λ (k : Token × Place). Refuses (ComparandFrom dictionary name k.0 k.1) e) is (subst (λ k. Refuses (ComparandFrom dictionary name k q.1) e) (sym first) at)
 
   -- ---- operands
 
-  from_one : (inner : Form Place Cond) → IsOne inner → (token : Token) → IsOne (OperandFrom lines inner token)
+  from_one : (inner : Form Place Cond) → IsOne inner → (token : Token) → IsOne (OperandFrom dictionary inner token)
   from_one inner one (Operator sign.Not) p x y r s h g = negated_one inner one p x y r s h g
   from_one inner one (Operator sign.Open) p x y r s h g = closed_one inner one p x y r s h g
   from_one inner one (Operator sign.Reference) p x y r s h g =
-      then_one (ReadableIs lines) (ComparedIs lines) (readable_one lines) compared_one p x y r s h g
+      then_one (ReadableIs dictionary) (ComparedIs dictionary) (readable_one dictionary) compared_one p x y r s h g
   from_one inner one (Word word) p x y r s h g = word_one (code_named word) word p x y r s h g
   from_one inner one _ p x y r s h g = absurd h
 
-  pub within_one : (n : ℕ) → IsOne (Within lines n)
+  pub within_one : (n : ℕ) → IsOne (Within dictionary n)
   within_one zero p x y r s h g = absurd h
-  within_one (suc n) p x y r s h g = from_one (Within lines n) (within_one n) (next_token p).0 (next_token p).1 x y r s h g
+  within_one (suc n) p x y r s h g = from_one (Within dictionary n) (within_one n) (next_token p).0 (next_token p).1 x y r s h g
 
   -- an operand is read by what stands behind its first token
   pub operand_reads : (inner : Form Place Cond) (p : Place) (q : Token × Place) (token : Token) (r : Result (Cond × Place) PolicyFault) → q ≡ next_token p → q.0 ≡ token
-      → Reads (OperandFrom lines inner token q.1) r → Reads (OperandIs lines inner p) r
+      → Reads (OperandFrom dictionary inner token q.1) r → Reads (OperandIs dictionary inner p) r
   operand_reads inner p q token r is first reads =
-      subst (λ (k : Token × Place). Reads (OperandFrom lines inner k.0 k.1) r) is (subst (λ k. Reads (OperandFrom lines inner k q.1) r) (sym first) reads)
+      subst (λ (k : Token × Place). Reads (OperandFrom dictionary inner k.0 k.1) r) is (subst (λ k. Reads (OperandFrom dictionary inner k q.1) r) (sym first) reads)
 
   -- ---- refusals inside brackets and after `!`, where one sign fewer may be nested
 
-  pub negated_refused : (n m : ℕ) (p : Place) (e : PolicyFault) → m ≡ n → Refuses (Within lines m p) e → Refuses (Negated (Within lines n) p) e
+  pub negated_refused : (n m : ℕ) (p : Place) (e : PolicyFault) → m ≡ n → Refuses (Within dictionary m p) e → Refuses (Negated (Within dictionary n) p) e
   negated_refused n m p e same refused =
-      then_stops (Within lines n) (λ c. Gives (Not c)) p e (subst (λ k. Refuses (Within lines k p) e) same refused)
+      then_stops (Within dictionary n) (λ c. Gives (Not c)) p e (subst (λ k. Refuses (Within dictionary k p) e) same refused)
 
-  pub closed_refused : (n m : ℕ) (p : Place) (e : PolicyFault) → m ≡ n → Refuses (Either (Within lines m) p) e → Refuses (Closed (Within lines n) p) e
+  pub closed_refused : (n m : ℕ) (p : Place) (e : PolicyFault) → m ≡ n → Refuses (Either (Within dictionary m) p) e → Refuses (Closed (Within dictionary n) p) e
   closed_refused n m p e same refused =
-      then_stops (Either (Within lines n)) Closing p e (subst (λ k. Refuses (Either (Within lines k) p) e) same refused)
+      then_stops (Either (Within dictionary n)) Closing p e (subst (λ k. Refuses (Either (Within dictionary k) p) e) same refused)
 
-  pub unclosed_refused : (n m : ℕ) (p : Place) (c : Cond) (end : Place) (e : PolicyFault) → m ≡ n → Either (Within lines m) p c end
-      → ((rest : Place) → Follows (Operator sign.Close) end rest → ⊥) → Refuses (Closed (Within lines n) p) e
+  pub unclosed_refused : (n m : ℕ) (p : Place) (c : Cond) (end : Place) (e : PolicyFault) → m ≡ n → Either (Within dictionary m) p c end
+      → ((rest : Place) → Follows (Operator sign.Close) end rest → ⊥) → Refuses (Closed (Within dictionary n) p) e
   unclosed_refused n m p c end e same read open_end =
-      then_on (Either (Within lines n)) Closing (either_one (Within lines n) (within_one n)) p c end (subst (λ k. Either (Within lines k) p c end) same read) e
+      then_on (Either (Within dictionary n)) Closing (either_one (Within dictionary n) (within_one n)) p c end (subst (λ k. Either (Within dictionary k) p c end) same read) e
       (after_stops (Follows (Operator sign.Close)) (Gives c) end e open_end)
 
-  pub closed_reads : (n m : ℕ) (p : Place) (c : Cond) (end rest : Place) → m ≡ n → Either (Within lines m) p c end → Follows (Operator sign.Close) end rest → Closed (Within lines n) p c rest
-  closed_reads n m p c end rest same read close = (c, end, subst (λ k. Either (Within lines k) p c end) same read, (rest, close, (refl, refl)))
+  pub closed_reads : (n m : ℕ) (p : Place) (c : Cond) (end rest : Place) → m ≡ n → Either (Within dictionary m) p c end → Follows (Operator sign.Close) end rest → Closed (Within dictionary n) p c rest
+  closed_reads n m p c end rest same read close = (c, end, subst (λ k. Either (Within dictionary k) p c end) same read, (rest, close, (refl, refl)))

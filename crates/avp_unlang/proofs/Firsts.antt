@@ -9,7 +9,7 @@ use Rattle.avp_lists.specs.declared.attributes.Pair.{Pair}
 use Rattle.avp_lists.specs.declared.lists.List.{List as Name}
 use Rattle.avp_lists.specs.declared.lists.State.{State}
 use Rattle.avp_dict.specs.Limits.{fits}
-use Rattle.avp_dict.specs.declared.readings.Reading.{Reading}
+use Rattle.avp_dict.specs.Dictionary.{Dictionary}
 use Rattle.avp_unlang.specs.Resolutions.{StateFits}
 
 pub first_holds : (P : Pair → Type 0) (id : AttrId) (pairs : List Pair) → All P pairs → IfSome (first_instance id pairs) P
@@ -21,7 +21,7 @@ first_holds P id (p ∷ ps) h =
     ]
 
 -- a first instance fits where each pair does
-pub first_fits : (lines : List Reading) (s : State) (list : Name) (id : AttrId) (pair : Pair) → StateFits lines s → Some pair ≡ first_instance id (list_of list s) → IsTrue (fits pair lines)
-first_fits lines s list id pair h e =
-    let P : Pair → Type 0 = λ p. IsTrue (fits p lines) in
+pub first_fits : (dictionary : Dictionary) (s : State) (list : Name) (id : AttrId) (pair : Pair) → StateFits dictionary s → Some pair ≡ first_instance id (list_of list s) → IsTrue (fits pair dictionary)
+first_fits dictionary s list id pair h e =
+    let P : Pair → Type 0 = λ p. IsTrue (fits p dictionary) in
     subst (λ o. IfSome o P) (sym e) (first_holds P id (list_of list s) (h list))

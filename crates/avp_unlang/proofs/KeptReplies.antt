@@ -12,7 +12,7 @@ use Rattle.avp_lists.specs.declared.edits.Op.TheVariants.{AddNew, Append, KeepEq
 use Rattle.avp_lists.specs.declared.lists.List.{List as Name}
 use Rattle.avp_lists.specs.declared.lists.List.TheVariants.{Control, Reply, Request}
 use Rattle.avp_lists.specs.declared.lists.State.{State}
-use Rattle.avp_dict.specs.declared.readings.Reading.{Reading}
+use Rattle.avp_dict.specs.Dictionary.{Dictionary}
 use Rattle.avp_unlang.specs.Forms.{Form, Chain}
 use Rattle.avp_unlang.specs.Lines.{LineIs, begins_line}
 use Rattle.avp_unlang.specs.Meaning.{Choice, Edited, Meaning, Outcome, Refused, after_body, after_line, all_lines, branch_meaning, edit_of, first_true, if_given, line_result, meaning, meaning_of, result_from, running, statement_meaning, unless_stop}
@@ -40,7 +40,7 @@ use Rattle.avp_unlang.proofs.Spelled.{Holds, block_holds, chain_holds, while_hol
 
 -- ---- edits
 
-module _ (d : List Reading) (P : Pair → Type 0) where
+module _ (dictionary : Dictionary) (P : Pair → Type 0) where
   -- what an operator makes of pairs that have it, with one that has it unless the operator removes all
   applied : (op : Op) (p : Pair) (pairs : List Pair) → (is_removal op ≡ false → P p) → All P pairs → All P (apply op p pairs)
   applied AddNew p pairs h all = elim (has_instance p.id pairs) as (λ b. All P (cond b pairs (pairs ++ p ∷ []))) [ true ↦ all | false ↦ All-push P pairs p all (h refl) ]
@@ -66,13 +66,13 @@ module _ (d : List Reading) (P : Pair → Type 0) where
   Keeps m = (s : State) (code : Code) → All P s.reply → All P (m s code).state.reply
 
   abbrev StatementKeeps : Statement → Type 0
-  StatementKeeps statement = Keeps (meaning d statement)
+  StatementKeeps statement = Keeps (meaning dictionary statement)
 
   abbrev BlockKeeps : List Statement → Type 0
-  BlockKeeps block = Keeps (meaning_of d block)
+  BlockKeeps block = Keeps (meaning_of dictionary block)
 
   abbrev choice : Branch → Choice
-  choice = fold-Branch Meaning Choice (statement_meaning d) branch_meaning
+  choice = fold-Branch Meaning Choice (statement_meaning dictionary) branch_meaning
 
   abbrev BranchKeeps : Branch → Type 0
   BranchKeeps b = Keeps (choice b).block
@@ -82,10 +82,10 @@ module _ (d : List Reading) (P : Pair → Type 0) where
 
   -- each pair that a line adds has it
   abbrev pub Adds : Line → Type 0
-  Adds line = (s : State) (p : Pair) → is_removal line.op ≡ false → resolution d line s ≡ Ok p → P p
+  Adds line = (s : State) (p : Pair) → is_removal line.op ≡ false → resolution dictionary line s ≡ Ok p → P p
 
   abbrev LinesKeep : List Line → Type 0
-  LinesKeep ls = (entry : State) → All P entry.reply → Keeps (all_lines d entry ls)
+  LinesKeep ls = (entry : State) → All P entry.reply → Keeps (all_lines dictionary entry ls)
 
   none_keeps : BlockKeeps []
   none_keeps s code all = all
@@ -94,7 +94,7 @@ module _ (d : List Reading) (P : Pair → Type 0) where
   next_keeps o next keeps all = elim o.stopped as (λ b. All P (cond b o (next o.state o.code)).state.reply) [ true ↦ all | false ↦ keeps o.state o.code all ]
 
   more_keeps : (x : Statement) (xs : List Statement) → StatementKeeps x → BlockKeeps xs → BlockKeeps (x ∷ xs)
-  more_keeps x xs first others s code all = next_keeps (meaning d x s code) (meaning_of d xs) others (first s code all)
+  more_keeps x xs first others s code all = next_keeps (meaning dictionary x s code) (meaning_of dictionary xs) others (first s code all)
 
   no_branches : BranchesKeep []
   no_branches otherwise keeps = keeps
@@ -108,26 +108,26 @@ module _ (d : List Reading) (P : Pair → Type 0) where
 
   abbrev else_meaning : Option (List Statement) → Meaning
   else_meaning None = if_given None
-  else_meaning (Some block) = if_given (Some (map (meaning d) block))
+  else_meaning (Some block) = if_given (Some (map (meaning dictionary) block))
 
   no_lines : LinesKeep []
   no_lines entry kept s code all = all
 
   module _ (line : Line) (entry : State) (ls : List Line) (kept : All P entry.reply) (others : LinesKeep ls) where
     -- after an edit, unless its list would have too many pairs
-    edit_followed : (fit : Bool) (t : State) (code : Code) → All P t.reply → All P (after_line entry (cond fit (Edited t) (Refused 4)) code (all_lines d entry ls)).state.reply
+    edit_followed : (fit : Bool) (t : State) (code : Code) → All P t.reply → All P (after_line entry (cond fit (Edited t) (Refused 4)) code (all_lines dictionary entry ls)).state.reply
     edit_followed true t code all = others entry kept t code all
     edit_followed false t code all = kept
 
     line_followed : (r : Result Pair Unresolved) (s : State) (code : Code) → ((p : Pair) → is_removal line.op ≡ false → r ≡ Ok p → P p) → All P s.reply
-        → All P (after_line entry (result_from line s r) code (all_lines d entry ls)).state.reply
+        → All P (after_line entry (result_from line s r) code (all_lines dictionary entry ls)).state.reply
     line_followed (Ok p) s code adds all =
         edit_followed (nat_le (length (edited_list (edit_of line p) s)) most_pairs) (edited (edit_of line p) s) code (edit_keeps line.list line.op p s (λ stays. adds p stays refl) all)
     line_followed (Err why) s code adds all = kept
 
   more_lines : (line : Line) (ls : List Line) → Adds line → LinesKeep ls → LinesKeep (line ∷ ls)
   unfolding line_result
-  more_lines line ls adds others entry kept s code all = line_followed line entry ls kept others (resolution d line s) s code (adds s) all
+  more_lines line ls adds others entry kept s code all = line_followed line entry ls kept others (resolution dictionary line s) s code (adds s) all
 
   -- ---- each kind of statement
 
@@ -136,69 +136,69 @@ module _ (d : List Reading) (P : Pair → Type 0) where
 
   update_keeps : (n : ℕ) (ls : List Line) → LinesKeep ls → StatementKeeps (Update n ls)
   update_keeps n ls lines_keep =
-      keeps_same (meaning d (Update n ls)) (statement_meaning d (layer.Update n ls))
-      (ap (meaning d) (sym (rolls-Update n ls)) ∙ fold-roll-Statement Meaning Choice (statement_meaning d) branch_meaning (layer.Update n ls))
+      keeps_same (meaning dictionary (Update n ls)) (statement_meaning dictionary (layer.Update n ls))
+      (ap (meaning dictionary) (sym (rolls-Update n ls)) ∙ fold-roll-Statement Meaning Choice (statement_meaning dictionary) branch_meaning (layer.Update n ls))
       (λ s code all. lines_keep s all s code all)
 
   if_keeps : (bs : List Branch) (otherwise : Option (List Statement)) → BranchesKeep bs → Keeps (else_meaning otherwise) → StatementKeeps (If bs otherwise)
   if_keeps bs None branches last =
-      keeps_same (meaning d (If bs None)) (statement_meaning d (layer.If (map choice bs) None))
-      (ap (meaning d) (sym (rolls-If bs None)) ∙ fold-roll-Statement Meaning Choice (statement_meaning d) branch_meaning (layer.If bs None))
+      keeps_same (meaning dictionary (If bs None)) (statement_meaning dictionary (layer.If (map choice bs) None))
+      (ap (meaning dictionary) (sym (rolls-If bs None)) ∙ fold-roll-Statement Meaning Choice (statement_meaning dictionary) branch_meaning (layer.If bs None))
       (branches (if_given None) last)
   if_keeps bs (Some block) branches last =
-      keeps_same (meaning d (If bs (Some block))) (statement_meaning d (layer.If (map choice bs) (Some (map (meaning d) block))))
-      (ap (meaning d) (sym (rolls-If bs (Some block))) ∙ fold-roll-Statement Meaning Choice (statement_meaning d) branch_meaning (layer.If bs (Some block)))
-      (branches (if_given (Some (map (meaning d) block))) last)
+      keeps_same (meaning dictionary (If bs (Some block))) (statement_meaning dictionary (layer.If (map choice bs) (Some (map (meaning dictionary) block))))
+      (ap (meaning dictionary) (sym (rolls-If bs (Some block))) ∙ fold-roll-Statement Meaning Choice (statement_meaning dictionary) branch_meaning (layer.If bs (Some block)))
+      (branches (if_given (Some (map (meaning dictionary) block))) last)
 
   body_keeps : (entry : State) (o : Outcome) → All P entry.reply → All P o.state.reply → All P (after_body entry o).state.reply
   body_keeps entry o kept all = elim o.stopped as (λ b. All P (cond b (running entry o.code) o).state.reply) [ true ↦ kept | false ↦ all ]
 
   transaction_keeps : (n : ℕ) (block : List Statement) → BlockKeeps block → StatementKeeps (Transaction n block)
   transaction_keeps n block keeps =
-      keeps_same (meaning d (Transaction n block)) (statement_meaning d (layer.Transaction n (map (meaning d) block)))
-      (ap (meaning d) (sym (rolls-Transaction n block)) ∙ fold-roll-Statement Meaning Choice (statement_meaning d) branch_meaning (layer.Transaction n block))
-      (λ s code all. body_keeps s (meaning_of d block s code) all (keeps s code all))
+      keeps_same (meaning dictionary (Transaction n block)) (statement_meaning dictionary (layer.Transaction n (map (meaning dictionary) block)))
+      (ap (meaning dictionary) (sym (rolls-Transaction n block)) ∙ fold-roll-Statement Meaning Choice (statement_meaning dictionary) branch_meaning (layer.Transaction n block))
+      (λ s code all. body_keeps s (meaning_of dictionary block s code) all (keeps s code all))
 
   word_keeps : (n : ℕ) (word : Code) → StatementKeeps (Word n word)
   word_keeps n word =
-      keeps_same (meaning d (Word n word)) (statement_meaning d (layer.Word n word))
-      (ap (meaning d) (sym (rolls-Word n word)) ∙ fold-roll-Statement Meaning Choice (statement_meaning d) branch_meaning (layer.Word n word)) (λ s code all. all)
+      keeps_same (meaning dictionary (Word n word)) (statement_meaning dictionary (layer.Word n word))
+      (ap (meaning dictionary) (sym (rolls-Word n word)) ∙ fold-roll-Statement Meaning Choice (statement_meaning dictionary) branch_meaning (layer.Word n word)) (λ s code all. all)
 
   branch_keeps : (n : ℕ) (c : Cond) (block : List Statement) → BlockKeeps block → BranchKeeps (branch_of n c block)
   branch_keeps n c block keeps =
-      subst (λ (x : Choice). Keeps x.block) (sym (fold-roll-Branch Meaning Choice (statement_meaning d) branch_meaning (record { line = n; cond = c; block = block }))) keeps
+      subst (λ (x : Choice). Keeps x.block) (sym (fold-roll-Branch Meaning Choice (statement_meaning dictionary) branch_meaning (record { line = n; cond = c; block = block }))) keeps
 
   -- ---- what is spelled
 
-  module _ (adds : (own : Name) → Holds Adds (LineIs d own)) where
+  module _ (adds : (own : Name) → Holds Adds (LineIs dictionary own)) where
     module _ (n : ℕ) (inner : Form Place Statement) (each : Holds StatementKeeps inner) where
       blocks_keep : Holds BlockKeeps (BlockIs n begins_word inner)
       blocks_keep = block_holds StatementKeeps BlockKeeps none_keeps more_keeps inner each n begins_word
 
-      branches_keep : Holds BranchKeeps (BranchIs d n inner)
+      branches_keep : Holds BranchKeeps (BranchIs dictionary n inner)
       branches_keep p branch rest h =
           subst BranchKeeps (sym h.2.2.3.3.0) (branch_keeps p.line h.2.2.0 h.2.2.3.0 (blocks_keep h.2.2.1 h.2.2.3.0 h.2.2.3.1 h.2.2.3.2))
 
-      chosen_keep : Holds BranchesKeep (Chain (Follows (token.Word (codes "elsif"))) (BranchIs d n inner))
-      chosen_keep = chain_holds BranchKeeps BranchesKeep no_branches more_branches (BranchIs d n inner) branches_keep (Follows (token.Word (codes "elsif")))
+      chosen_keep : Holds BranchesKeep (Chain (Follows (token.Word (codes "elsif"))) (BranchIs dictionary n inner))
+      chosen_keep = chain_holds BranchKeeps BranchesKeep no_branches more_branches (BranchIs dictionary n inner) branches_keep (Follows (token.Word (codes "elsif")))
 
       ending_keeps : (o : Option (List Statement)) (p rest : Place) → Otherwise n inner p o rest → Keeps (else_meaning o)
       ending_keeps None p rest h = none_keeps
       ending_keeps (Some block) p rest h = blocks_keep h.0 block rest h.2
 
-      from_keeps : (k : Keyword) → Holds StatementKeeps (StatementFrom d n inner k)
+      from_keeps : (k : Keyword) → Holds StatementKeeps (StatementFrom dictionary n inner k)
       from_keeps keyword.Update p s rest h =
           subst StatementKeeps (sym h.3.0)
-          (update_keeps p.line h.0 (block_holds Adds LinesKeep no_lines more_lines (LineIs d (list_at p).0) (adds (list_at p).0) n begins_line (list_at p).1 h.0 h.1 h.2))
+          (update_keeps p.line h.0 (block_holds Adds LinesKeep no_lines more_lines (LineIs dictionary (list_at p).0) (adds (list_at p).0) n begins_line (list_at p).1 h.0 h.1 h.2))
       from_keeps keyword.If p s rest h = subst StatementKeeps (sym h.3.3.0) (if_keeps h.0 h.3.0 (chosen_keep p h.0 h.1 h.2) (ending_keeps h.3.0 h.1 h.3.1 h.3.2))
       from_keeps keyword.Transaction p s rest h = subst StatementKeeps (sym h.2.3.0) (transaction_keeps p.line h.2.0 (blocks_keep h.0 h.2.0 h.2.1 h.2.2))
       from_keeps (keyword.Code code) p s rest h = subst StatementKeeps (sym h.2.0) (word_keeps p.line code)
       from_keeps keyword.Other p s rest h = absurd h
 
-    nested_keeps : (n : ℕ) → Holds StatementKeeps (Nested d n)
+    nested_keeps : (n : ℕ) → Holds StatementKeeps (Nested dictionary n)
     nested_keeps zero p s rest h = absurd h
-    nested_keeps (suc n) p s rest h = from_keeps n (Nested d n) (nested_keeps n) (keyword_in (next_token p).0) (next_token p).1 s rest h
+    nested_keeps (suc n) p s rest h = from_keeps n (Nested dictionary n) (nested_keeps n) (keyword_in (next_token p).0) (next_token p).1 s rest h
 
     -- the pairs of a reply list go on having it under a policy that was read
-    pub policy_keeps : (text : List ℕ) (statements : List Statement) → SpellsPolicy d text statements → (s : State) (code : Code) → All P s.reply → All P (meaning_of d statements s code).state.reply
-    policy_keeps text statements h = while_holds StatementKeeps BlockKeeps none_keeps more_keeps (Nested d 65) (nested_keeps 65) begins_word (start_of text) statements h.0 h.2
+    pub policy_keeps : (text : List ℕ) (statements : List Statement) → SpellsPolicy dictionary text statements → (s : State) (code : Code) → All P s.reply → All P (meaning_of dictionary statements s code).state.reply
+    policy_keeps text statements h = while_holds StatementKeeps BlockKeeps none_keeps more_keeps (Nested dictionary 65) (nested_keeps 65) begins_word (start_of text) statements h.0 h.2

@@ -6,7 +6,7 @@ use Rattle.avp_lists.specs.declared.edits.Op.{Op}
 use Rattle.avp_lists.specs.declared.lists.List.{List as Name}
 use Rattle.avp_lists.specs.declared.attributes.AttrId.{AttrId}
 use Rattle.avp_dict.specs.declared.entries.Named.{Named}
-use Rattle.avp_dict.specs.declared.readings.Reading.{Reading}
+use Rattle.avp_dict.specs.Dictionary.{Dictionary}
 use Rattle.avp_dict.specs.declared.quotes.QuoteMark.TheVariants.{Double, Single}
 use Rattle.avp_dict.specs.Quotes.{single_quoted_octets}
 use Rattle.avp_dict.specs.Spellings.{is_barred}
@@ -48,61 +48,61 @@ words_one p w v r s h g = let at = pair_one (next_token p) (Word w) (Word v) r s
 none_some : {A : Type 0} (x : A) (o : Option A) → o ≡ None → o ≡ Some x → ⊥
 none_some x o e f = cc
 
-module _ (lines : List Reading) where
+module _ (dictionary : Dictionary) where
   -- ---- references
 
-  pub readable_one : IsOne (ReadableIs lines)
+  pub readable_one : IsOne (ReadableIs dictionary)
   readable_one p x y r s h g =
       let at = words_one p h.0 g.0 r s h.1 g.1 in
-      (some_is x y (sym (subst (λ w. readable lines w ≡ Some x) at.0 h.2) ∙ g.2), at.1)
+      (some_is x y (sym (subst (λ w. readable dictionary w ≡ Some x) at.0 h.2) ∙ g.2), at.1)
 
-  pub alike_one : (id : AttrId) → IsOne (AlikeIs lines id)
+  pub alike_one : (id : AttrId) → IsOne (AlikeIs dictionary id)
   alike_one id p x y r s h g = readable_one p x y r s h.0 g.0
 
-  pub target_one : (own : Name) → IsOne (TargetIs lines own)
+  pub target_one : (own : Name) → IsOne (TargetIs dictionary own)
   target_one own p x y r s h g =
       let at = words_one (after_reference p) h.0 g.0 r s h.1 g.1 in
-      (some_is x y (sym (subst (λ w. reference lines own w ≡ Some x) at.0 h.2) ∙ g.2), at.1)
+      (some_is x y (sym (subst (λ w. reference dictionary own w ≡ Some x) at.0 h.2) ∙ g.2), at.1)
 
   -- ---- sources
 
-  pub filled_reads : (name : Named) (text : List ℕ) (parts : List Part) → is_barred name lines ≡ false → PartsAre lines text parts → (r : Result Source PolicyFault)
-      → IfOk r (λ source. filled lines name parts ≡ Some source) → IfErr r (λ fault. fault.kind ≢ Memory → filled lines name parts ≡ None)
-      → ReadsAll (FilledIs lines name text) r
+  pub filled_reads : (name : Named) (text : List ℕ) (parts : List Part) → is_barred name dictionary ≡ false → PartsAre dictionary text parts → (r : Result Source PolicyFault)
+      → IfOk r (λ source. filled dictionary name parts ≡ Some source) → IfErr r (λ fault. fault.kind ≢ Memory → filled dictionary name parts ≡ None)
+      → ReadsAll (FilledIs dictionary name text) r
   filled_reads name text parts free are (Ok source) ok err = (free, parts, are, ok)
   filled_reads name text parts free are (Err fault) ok err = λ some source h.
-      let same = parts_one lines text h.1 parts h.2 are in
-      none_some source (filled lines name parts) (err some) (subst (λ ps. filled lines name ps ≡ Some source) same h.3)
+      let same = parts_one dictionary text h.1 parts h.2 are in
+      none_some source (filled dictionary name parts) (err some) (subst (λ ps. filled dictionary name ps ≡ Some source) same h.3)
 
-  filled_one : (name : Named) (text : List ℕ) (x y : Source) → FilledIs lines name text x → FilledIs lines name text y → x ≡ y
+  filled_one : (name : Named) (text : List ℕ) (x y : Source) → FilledIs dictionary name text x → FilledIs dictionary name text y → x ≡ y
   filled_one name text x y h g =
-      let same = parts_one lines text h.1 g.1 h.2 g.2 in
-      some_is x y (sym (subst (λ ps. filled lines name ps ≡ Some x) same h.3) ∙ g.3)
+      let same = parts_one dictionary text h.1 g.1 h.2 g.2 in
+      some_is x y (sym (subst (λ ps. filled dictionary name ps ≡ Some x) same h.3) ∙ g.3)
 
-  value_from_one : (name : Named) (token : Token) → IsOne (ValueFrom lines name token)
-  value_from_one name (Word text) p x y r s h g = becomes_one (option_map Literal (literal lines name text)) p x y r s h g
-  value_from_one name (Quoted Single text) p x y r s h g = becomes_one (option_map Literal (literal lines name (single_quoted_octets text))) p x y r s h g
+  value_from_one : (name : Named) (token : Token) → IsOne (ValueFrom dictionary name token)
+  value_from_one name (Word text) p x y r s h g = becomes_one (option_map Literal (literal dictionary name text)) p x y r s h g
+  value_from_one name (Quoted Single text) p x y r s h g = becomes_one (option_map Literal (literal dictionary name (single_quoted_octets text))) p x y r s h g
   value_from_one name (Quoted Double text) p x y r s h g = (filled_one name text x y h.0 g.0, h.1 ∙ sym g.1)
   value_from_one name (Operator sign.Reference) p x y r s h g =
       let at = alike_one name.id p h.0 g.0 r s h.1 g.1 in
       (h.2 ∙ ap (λ (n : Name × Named). Instance n.0 n.1.id) at.0 ∙ sym g.2, at.1)
   value_from_one name _ p x y r s h g = absurd h
 
-  pub value_one : (name : Named) → IsOne (ValueIs lines name)
+  pub value_one : (name : Named) → IsOne (ValueIs dictionary name)
   value_one name p x y r s h g = value_from_one name (next_token p).0 (next_token p).1 x y r s h g
 
   -- a refusal of what stands behind the first token of a source
   value_refused : (name : Named) (p : Place) (q : Token × Place) (token : Token) (e : PolicyFault) → q ≡ next_token p → q.0 ≡ token
-      → Refuses (ValueFrom lines name token q.1) e → Refuses (ValueIs lines name p) e
+      → Refuses (ValueFrom dictionary name token q.1) e → Refuses (ValueIs dictionary name p) e
   value_refused name p q token e is first refused =
-      subst (λ (k : Token × Place). Refuses (ValueFrom lines name k.0 k.1) e) is (subst (λ k. Refuses (ValueFrom lines name k q.1) e) (sym first) refused)
+      subst (λ (k : Token × Place). Refuses (ValueFrom dictionary name k.0 k.1) e) is (subst (λ k. Refuses (ValueFrom dictionary name k q.1) e) (sym first) refused)
 
   pub double_refused : (name : Named) (p : Place) (q : Token × Place) (text : List ℕ) (e : PolicyFault) → q ≡ next_token p → q.0 ≡ Quoted Double text
-      → (e.kind ≢ Memory → (source : Source) → FilledIs lines name text source → ⊥) → Refuses (ValueIs lines name p) e
+      → (e.kind ≢ Memory → (source : Source) → FilledIs dictionary name text source → ⊥) → Refuses (ValueIs dictionary name p) e
   double_refused name p q text e is first refused = value_refused name p q (Quoted Double text) e is first (λ some source rest h. refused some source h.0)
 
   pub reference_refused : (name : Named) (p : Place) (q : Token × Place) (e : PolicyFault) → q ≡ next_token p → q.0 ≡ Operator sign.Reference
-      → Refuses (AlikeIs lines name.id q.1) e → Refuses (ValueIs lines name p) e
+      → Refuses (AlikeIs dictionary name.id q.1) e → Refuses (ValueIs dictionary name p) e
   reference_refused name p q e is first refused = value_refused name p q (Operator sign.Reference) e is first (λ some source rest h. refused some h.0 rest h.1)
 
   ignored_from_sure : (token : Token) → IsSure (IgnoredFrom token)
@@ -114,11 +114,11 @@ module _ (lines : List Reading) where
   pub ignored_sure : IsSure IgnoredIs
   ignored_sure p r s h g = ignored_from_sure (next_token p).0 (next_token p).1 r s h g
 
-  source_by_one : (b : Bool) (name : Named) → IsOne (SourceBy b lines name)
+  source_by_one : (b : Bool) (name : Named) → IsOne (SourceBy b dictionary name)
   source_by_one true name p x y r s h g = (h.1 ∙ sym g.1, ignored_sure p r s h.0 g.0)
   source_by_one false name p x y r s h g = value_one name p x y r s h.1 g.1
 
-  pub source_one : (operation : Op) (name : Named) → IsOne (SourceIs lines operation name)
+  pub source_one : (operation : Op) (name : Named) → IsOne (SourceIs dictionary operation name)
   source_one operation name = source_by_one (is_removal operation) name
 
   -- ---- lines
@@ -133,23 +133,23 @@ module _ (lines : List Reading) where
   Ending first target operation source = Gives (line_of first target operation source)
 
   abbrev pub Sourced : ℕ → Name × Named → Op → Form Place Line
-  Sourced first target operation = Then (SourceIs lines operation target.1) (Ending first target operation)
+  Sourced first target operation = Then (SourceIs dictionary operation target.1) (Ending first target operation)
 
   abbrev pub Operated : ℕ → Name × Named → Form Place Line
   Operated first target = Then OpIs (Sourced first target)
 
   abbrev pub Targeted : ℕ → Name → Form Place Line
-  Targeted first own = Then (TargetIs lines own) (Operated first)
+  Targeted first own = Then (TargetIs dictionary own) (Operated first)
 
   sourced_one : (first : ℕ) (target : Name × Named) (operation : Op) → IsOne (Sourced first target operation)
   sourced_one first target operation =
-      then_one (SourceIs lines operation target.1) (Ending first target operation) (source_one operation target.1) (λ source. gives_one (line_of first target operation source))
+      then_one (SourceIs dictionary operation target.1) (Ending first target operation) (source_one operation target.1) (λ source. gives_one (line_of first target operation source))
 
   operated_one : (first : ℕ) (target : Name × Named) → IsOne (Operated first target)
   operated_one first target = then_one OpIs (Sourced first target) op_one (sourced_one first target)
 
   targeted_one : (first : ℕ) (own : Name) → IsOne (Targeted first own)
-  targeted_one first own = then_one (TargetIs lines own) (Operated first) (target_one own) (operated_one first)
+  targeted_one first own = then_one (TargetIs dictionary own) (Operated first) (target_one own) (operated_one first)
 
-  pub line_one : (own : Name) → IsOne (LineIs lines own)
+  pub line_one : (own : Name) → IsOne (LineIs dictionary own)
   line_one own p = after_one (Counts 1) (Targeted (next_token p).1.line own) (counts_sure 1) (targeted_one (next_token p).1.line own) p

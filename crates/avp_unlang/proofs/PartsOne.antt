@@ -3,7 +3,7 @@ use Rattle.std.proofs.Common.{◌≡◌, ℕ, ◌<◌, ◌⊎◌, inl, inr, Bool
 use Rattle.std.specs.Prelude.{is_some, IsTrue}
 use Rattle.avp_lists.specs.declared.lists.List.{List as Name}
 use Rattle.avp_dict.specs.declared.entries.Named.{Named}
-use Rattle.avp_dict.specs.declared.readings.Reading.{Reading}
+use Rattle.avp_dict.specs.Dictionary.{Dictionary}
 use Rattle.avp_unlang.specs.declared.tree.Part.{Part}
 use Rattle.avp_unlang.specs.declared.tree.Part.TheVariants.{Text, Instance}
 use Rattle.avp_unlang.specs.Parts.{octet_at, begins_octet, OctetIs, braced, InstanceIs, PartIs, PartsAre, is_left}
@@ -20,14 +20,14 @@ octet_one p x y r s h g = pair_is (octet_at p) x y r s h g
 not_both : (b : Bool) → b ≡ true → b ≡ false → ⊥
 not_both b e f = cc
 
-module _ (lines : List Reading) where
-  pub instance_one : IsOne (InstanceIs lines)
+module _ (dictionary : Dictionary) where
+  pub instance_one : IsOne (InstanceIs dictionary)
   instance_one p x y r s h g =
       let inner = some_is h.0 g.0 (sym h.1 ∙ g.1) in
       let closed = pair_is (braced g.0) h.2 g.2 r s (subst (λ i. braced i ≡ Some (h.2, r)) inner h.3) g.3 in
-      (some_is x y (sym (subst (λ w. readable lines w ≡ Some x) closed.0 h.4) ∙ g.4), closed.1)
+      (some_is x y (sym (subst (λ w. readable dictionary w ≡ Some x) closed.0 h.4) ∙ g.4), closed.1)
 
-  pub part_one : IsOne (PartIs lines)
+  pub part_one : IsOne (PartIs dictionary)
   part_one p (Text os) (Text qs) r s h g =
       let at = while_one begins_octet OctetIs octet_one p os qs r s h.1 g.1 in (ap Text at.0, at.1)
   part_one p (Text os) (Instance l i) r s h g = absurd (not_both (begins_octet p) h.0 g.0)
@@ -38,8 +38,8 @@ module _ (lines : List Reading) where
       let id = h.4 ∙ ap (λ (n : Name × Named). n.1.id) at.0 ∙ sym g.4 in
       (ap (λ (k : Name). Instance k i) list ∙ ap (λ k. Instance m k) id, at.1)
 
-  pub parts_one : (text : List ℕ) (xs ys : List Part) → PartsAre lines text xs → PartsAre lines text ys → xs ≡ ys
-  parts_one text xs ys h g = (while_one is_left (PartIs lines) part_one text xs ys h.0 g.0 h.1 g.1).0
+  pub parts_one : (text : List ℕ) (xs ys : List Part) → PartsAre dictionary text xs → PartsAre dictionary text ys → xs ≡ ys
+  parts_one text xs ys h g = (while_one is_left (PartIs dictionary) part_one text xs ys h.0 g.0 h.1 g.1).0
 
 -- where no octet follows any more, the first one was passed
 pub moved_on : (text rest : List ℕ) → (length rest < length text) ⊎ (rest ≡ text) → octet_at rest ≡ None → IsTrue (begins_octet text) → length rest < length text
@@ -51,7 +51,7 @@ moved_more text mid rest h lt =
     inl (elim h as (λ _. length rest < length text) [ inl moved ↦ omega arith | inr stays ↦ subst (λ (k : List ℕ). length rest < length k) stays lt ])
 
 -- a text that begins with no octet and no expansion has no first part
-pub no_part : (lines : List Reading) (text : List ℕ) → begins_octet text ≡ false → ((found : Name × Named) (rest : List ℕ) → InstanceIs lines text found rest → ⊥)
-    → (part : Part) (rest : List ℕ) → PartIs lines text part rest → ⊥
-no_part lines text none refused (Text os) rest h = not_both (begins_octet text) h.0 none
-no_part lines text none refused (Instance l i) rest h = refused h.1 rest h.2
+pub no_part : (dictionary : Dictionary) (text : List ℕ) → begins_octet text ≡ false → ((found : Name × Named) (rest : List ℕ) → InstanceIs dictionary text found rest → ⊥)
+    → (part : Part) (rest : List ℕ) → PartIs dictionary text part rest → ⊥
+no_part dictionary text none refused (Text os) rest h = not_both (begins_octet text) h.0 none
+no_part dictionary text none refused (Instance l i) rest h = refused h.1 rest h.2

@@ -11,7 +11,7 @@ use Rattle.avp_dict.specs.Requests.{pair_with}
 use Rattle.avp_dict.specs.Spellings.{value_spelled}
 use Rattle.avp_dict.specs.declared.entries.Named.{Named}
 use Rattle.avp_dict.specs.declared.quotes.QuoteMark.TheVariants.{Double, Single}
-use Rattle.avp_dict.specs.declared.readings.Reading.{Reading}
+use Rattle.avp_dict.specs.Dictionary.{Dictionary}
 use Rattle.avp_dict.specs.declared.value_faults.ValueFault.{ValueFault}
 use Rattle.avp_unlang.specs.Forms.{Form, Step, Chain, Others, While}
 use Rattle.avp_unlang.specs.Places.{Place}
@@ -53,38 +53,38 @@ pub mapped : {A B : Type 0} (f : A → B) (o : Option A) (z : B) → option_map 
 mapped f None z e = absurd cc
 mapped f (Some n) z e = (n, refl, some_is (f n) z e)
 
-module _ (lines : List Reading) (name : Named) where
+module _ (dictionary : Dictionary) (name : Named) where
   kept : (b : Bool) (w v : Value) → cond b (Some w) None ≡ Some v → (b ≡ true) × (w ≡ v)
   kept true w v e = (refl, some_is w v e)
   kept false w v e = absurd cc
 
-  fitting_is : (r : Result Value ValueFault) (v : Value) → option_and_then (fitting lines name) (result_ok r) ≡ Some v → (r ≡ Ok v) × (fits (pair_with name v) lines ≡ true)
+  fitting_is : (r : Result Value ValueFault) (v : Value) → option_and_then (fitting dictionary name) (result_ok r) ≡ Some v → (r ≡ Ok v) × (fits (pair_with name v) dictionary ≡ true)
   fitting_is (Ok w) v e =
-      let k = kept (fits (pair_with name w) lines) w v e in
-      (ap Ok k.1, subst (λ (x : Value). fits (pair_with name x) lines ≡ true) k.1 k.0)
+      let k = kept (fits (pair_with name w) dictionary) w v e in
+      (ap Ok k.1, subst (λ (x : Value). fits (pair_with name x) dictionary ≡ true) k.1 k.0)
   fitting_is (Err fault) v e = absurd cc
 
   -- a literal is spelled by its text, and fits
-  pub literal_is : (text : List ℕ) (v : Value) → literal lines name text ≡ Some v → (value_spelled name text lines ≡ Ok v) × (fits (pair_with name v) lines ≡ true)
+  pub literal_is : (text : List ℕ) (v : Value) → literal dictionary name text ≡ Some v → (value_spelled name text dictionary ≡ Ok v) × (fits (pair_with name v) dictionary ≡ true)
   unfolding literal
-  literal_is text v e = fitting_is (value_spelled name text lines) v e
+  literal_is text v e = fitting_is (value_spelled name text dictionary) v e
 
   -- ---- sources
 
-  module _ (P : Source → Type 0) (of_literal : (text : List ℕ) (v : Value) → literal lines name text ≡ Some v → P (source.Literal v)) (of_text : (parts : List Part) → P (source.Text name.raw parts)) (of_instance : (list : Name) (id : AttrId) → P (source.Instance list id)) where
-    literal_holds : (text : List ℕ) (s : Source) → option_map source.Literal (literal lines name text) ≡ Some s → P s
-    literal_holds text s e = let m = mapped source.Literal (literal lines name text) s e in subst P m.2 (of_literal text m.0 m.1)
+  module _ (P : Source → Type 0) (of_literal : (text : List ℕ) (v : Value) → literal dictionary name text ≡ Some v → P (source.Literal v)) (of_text : (parts : List Part) → P (source.Text name.raw parts)) (of_instance : (list : Name) (id : AttrId) → P (source.Instance list id)) where
+    literal_holds : (text : List ℕ) (s : Source) → option_map source.Literal (literal dictionary name text) ≡ Some s → P s
+    literal_holds text s e = let m = mapped source.Literal (literal dictionary name text) s e in subst P m.2 (of_literal text m.0 m.1)
 
     filled_by_holds : (parts : List Part) (o : Option (List ℕ)) (s : Source)
-        → elim o [ Some text ↦ option_map source.Literal (literal lines name text) | None ↦ Some (source.Text name.raw parts) ] ≡ Some s → P s
+        → elim o [ Some text ↦ option_map source.Literal (literal dictionary name text) | None ↦ Some (source.Text name.raw parts) ] ≡ Some s → P s
     filled_by_holds parts (Some text) s e = literal_holds text s e
     filled_by_holds parts None s e = subst P (some_is (source.Text name.raw parts) s e) (of_text parts)
 
-    filled_holds : (parts : List Part) (s : Source) → filled lines name parts ≡ Some s → P s
+    filled_holds : (parts : List Part) (s : Source) → filled dictionary name parts ≡ Some s → P s
     unfolding filled
     filled_holds parts s e = filled_by_holds parts (whole_text parts) s e
 
-    pub value_holds : (t : Token) → Holds P (ValueFrom lines name t)
+    pub value_holds : (t : Token) → Holds P (ValueFrom dictionary name t)
     value_holds (token.Word text) p s rest h = literal_holds text s h.0
     value_holds (token.Quoted Single text) p s rest h = literal_holds (single_quoted_octets text) s h.0
     value_holds (token.Quoted Double text) p s rest h = filled_holds h.0.1 s h.0.3

@@ -6,7 +6,7 @@ use Rattle.std.specs.Prelude.{codes}
 use Rattle.avp_lists.specs.declared.attributes.AttrId.{AttrId}
 use Rattle.avp_lists.specs.declared.lists.List.{List as Name}
 use Rattle.avp_dict.specs.declared.entries.Named.{Named}
-use Rattle.avp_dict.specs.declared.readings.Reading.{Reading}
+use Rattle.avp_dict.specs.Dictionary.{Dictionary}
 use Rattle.avp_dict.specs.declared.quotes.QuoteMark.TheVariants.{Double, Single}
 use Rattle.avp_dict.specs.Quotes.{single_quoted_octets}
 use Rattle.avp_unlang.specs.declared.codes.Code.{Code}
@@ -35,8 +35,8 @@ use Rattle.avp_unlang.specs.Resolutions.{line_suits, literal_fits}
 use Rattle.avp_unlang.specs.Suiting.{NamesKnown, branch_layer_suits, branches_suit, else_suits, branch_suits, comparand_suits, comparison_suits, cond_layer_suits, cond_suits, itself, policy_suits, same_kind, statement_layer_suits, statement_suits}
 use Rattle.avp_dict.specs.Limits.{is_known}
 use Rattle.avp_dict.specs.Names.{named}
-use Rattle.avp_dict.specs.declared.readings.Kind.{Kind}
-use Rattle.avp_dict.specs.declared.readings.Kind.TheVariants as kinds
+use Rattle.avp_dict.specs.declared.entries.Kind.{Kind}
+use Rattle.avp_dict.specs.declared.entries.Kind.TheVariants as kinds
 use Rattle.std.specs.List.{list_all}
 use Rattle.avp_unlang.specs.Forms.{Form, Step, While, Chain}
 use Rattle.avp_unlang.specs.Lines.{LineIs, begins_line, line_of}
@@ -73,34 +73,34 @@ all_itself f (x ∷ xs) = ap (λ b. f x && b) (all_itself f xs)
 
 -- ---- each kind of statement
 
-pub suits_Update : (lines : List Reading) (n : ℕ) (ls : List Line) → statement_suits lines (Update n ls) ≡ list_all (line_suits lines) ls
-suits_Update lines n ls = ap (statement_suits lines) (sym (rolls-Update n ls)) ∙ fold-roll-Statement Bool Bool (statement_layer_suits lines) (branch_layer_suits lines) (layer.Update n ls)
+pub suits_Update : (dictionary : Dictionary) (n : ℕ) (ls : List Line) → statement_suits dictionary (Update n ls) ≡ list_all (line_suits dictionary) ls
+suits_Update dictionary n ls = ap (statement_suits dictionary) (sym (rolls-Update n ls)) ∙ fold-roll-Statement Bool Bool (statement_layer_suits dictionary) (branch_layer_suits dictionary) (layer.Update n ls)
 
-pub suits_If : (lines : List Reading) (bs : List Branch) (otherwise : Option (List Statement)) → statement_suits lines (If bs otherwise) ≡ (branches_suit lines bs && else_suits lines otherwise)
-suits_If lines bs None =
-    ap (statement_suits lines) (sym (rolls-If bs None)) ∙ fold-roll-Statement Bool Bool (statement_layer_suits lines) (branch_layer_suits lines) (layer.If bs None)
-    ∙ ap (λ b. b && true) (all_itself (branch_suits lines) bs)
-suits_If lines bs (Some block) =
-    ap (statement_suits lines) (sym (rolls-If bs (Some block))) ∙ fold-roll-Statement Bool Bool (statement_layer_suits lines) (branch_layer_suits lines) (layer.If bs (Some block))
-    ∙ ap (λ b. b && list_all itself (map (statement_suits lines) block)) (all_itself (branch_suits lines) bs)
-    ∙ ap (λ b. branches_suit lines bs && b) (all_itself (statement_suits lines) block)
+pub suits_If : (dictionary : Dictionary) (bs : List Branch) (otherwise : Option (List Statement)) → statement_suits dictionary (If bs otherwise) ≡ (branches_suit dictionary bs && else_suits dictionary otherwise)
+suits_If dictionary bs None =
+    ap (statement_suits dictionary) (sym (rolls-If bs None)) ∙ fold-roll-Statement Bool Bool (statement_layer_suits dictionary) (branch_layer_suits dictionary) (layer.If bs None)
+    ∙ ap (λ b. b && true) (all_itself (branch_suits dictionary) bs)
+suits_If dictionary bs (Some block) =
+    ap (statement_suits dictionary) (sym (rolls-If bs (Some block))) ∙ fold-roll-Statement Bool Bool (statement_layer_suits dictionary) (branch_layer_suits dictionary) (layer.If bs (Some block))
+    ∙ ap (λ b. b && list_all itself (map (statement_suits dictionary) block)) (all_itself (branch_suits dictionary) bs)
+    ∙ ap (λ b. branches_suit dictionary bs && b) (all_itself (statement_suits dictionary) block)
 
-pub suits_Transaction : (lines : List Reading) (n : ℕ) (block : List Statement) → statement_suits lines (Transaction n block) ≡ policy_suits lines block
-suits_Transaction lines n block =
-    ap (statement_suits lines) (sym (rolls-Transaction n block)) ∙ fold-roll-Statement Bool Bool (statement_layer_suits lines) (branch_layer_suits lines) (layer.Transaction n block)
-    ∙ all_itself (statement_suits lines) block
+pub suits_Transaction : (dictionary : Dictionary) (n : ℕ) (block : List Statement) → statement_suits dictionary (Transaction n block) ≡ policy_suits dictionary block
+suits_Transaction dictionary n block =
+    ap (statement_suits dictionary) (sym (rolls-Transaction n block)) ∙ fold-roll-Statement Bool Bool (statement_layer_suits dictionary) (branch_layer_suits dictionary) (layer.Transaction n block)
+    ∙ all_itself (statement_suits dictionary) block
 
-suits_Word : (lines : List Reading) (n : ℕ) (code : Code) → statement_suits lines (Word n code) ≡ true
-suits_Word lines n code = ap (statement_suits lines) (sym (rolls-Word n code)) ∙ fold-roll-Statement Bool Bool (statement_layer_suits lines) (branch_layer_suits lines) (layer.Word n code)
+suits_Word : (dictionary : Dictionary) (n : ℕ) (code : Code) → statement_suits dictionary (Word n code) ≡ true
+suits_Word dictionary n code = ap (statement_suits dictionary) (sym (rolls-Word n code)) ∙ fold-roll-Statement Bool Bool (statement_layer_suits dictionary) (branch_layer_suits dictionary) (layer.Word n code)
 
-suits_branch : (lines : List Reading) (n : ℕ) (c : Cond) (block : List Statement) → branch_suits lines (branch_of n c block) ≡ (cond_suits lines c && policy_suits lines block)
-suits_branch lines n c block =
-    fold-roll-Branch Bool Bool (statement_layer_suits lines) (branch_layer_suits lines) (record { line = n; cond = c; block = block })
-    ∙ ap (λ b. cond_suits lines c && b) (all_itself (statement_suits lines) block)
+suits_branch : (dictionary : Dictionary) (n : ℕ) (c : Cond) (block : List Statement) → branch_suits dictionary (branch_of n c block) ≡ (cond_suits dictionary c && policy_suits dictionary block)
+suits_branch dictionary n c block =
+    fold-roll-Branch Bool Bool (statement_layer_suits dictionary) (branch_layer_suits dictionary) (record { line = n; cond = c; block = block })
+    ∙ ap (λ b. cond_suits dictionary c && b) (all_itself (statement_suits dictionary) block)
 
-pub suits_Branch : (lines : List Reading) (b : Branch) → branch_suits lines b ≡ (cond_suits lines (out-Branch b).cond && policy_suits lines (out-Branch b).block)
-suits_Branch lines b =
-    fold_out-Branch Bool Bool (statement_layer_suits lines) (branch_layer_suits lines) b ∙ ap (λ x. cond_suits lines (out-Branch b).cond && x) (all_itself (statement_suits lines) (out-Branch b).block)
+pub suits_Branch : (dictionary : Dictionary) (b : Branch) → branch_suits dictionary b ≡ (cond_suits dictionary (out-Branch b).cond && policy_suits dictionary (out-Branch b).block)
+suits_Branch dictionary b =
+    fold_out-Branch Bool Bool (statement_layer_suits dictionary) (branch_layer_suits dictionary) b ∙ ap (λ x. cond_suits dictionary (out-Branch b).cond && x) (all_itself (statement_suits dictionary) (out-Branch b).block)
 
 same_kind_self : (k : Kind) → same_kind k k ≡ true
 same_kind_self kinds.Text = refl
@@ -114,156 +114,156 @@ same_kind_self kinds.Signed = refl
 same_kind_self kinds.Integer64 = refl
 same_kind_self kinds.Ether = refl
 
-module _ (lines : List Reading) (known : NamesKnown lines) where
+module _ (dictionary : Dictionary) (known : NamesKnown dictionary) where
   -- ---- update lines
 
-  source_by_fits : (b : Bool) (name : Named) → Suits (literal_fits lines name.id) (SourceBy b lines name)
-  source_by_fits true name p s rest h = ap (literal_fits lines name.id) h.1
+  source_by_fits : (b : Bool) (name : Named) → Suits (literal_fits dictionary name.id) (SourceBy b dictionary name)
+  source_by_fits true name p s rest h = ap (literal_fits dictionary name.id) h.1
   source_by_fits false name p s rest h =
-      value_holds lines name (λ x. literal_fits lines name.id x ≡ true) (λ text v e. (literal_is lines name text v e).1) (λ parts. refl) (λ list id. refl)
+      value_holds dictionary name (λ x. literal_fits dictionary name.id x ≡ true) (λ text v e. (literal_is dictionary name text v e).1) (λ parts. refl) (λ list id. refl)
       (next_token p).0 (next_token p).1 s rest h.1
 
-  target_known : (o : Option Named) (in_list : Name) (target : Name × Named) → ((n : Named) → o ≡ Some n → is_known n.id lines ≡ true) → option_map (λ n. (in_list, n)) o ≡ Some target → is_known target.1.id lines ≡ true
+  target_known : (o : Option Named) (in_list : Name) (target : Name × Named) → ((n : Named) → o ≡ Some n → is_known n.id dictionary ≡ true) → option_map (λ n. (in_list, n)) o ≡ Some target → is_known target.1.id dictionary ≡ true
   target_known None in_list target h e = absurd cc
-  target_known (Some n) in_list target h e = ap (λ (t : Name × Named). is_known t.1.id lines) (sym (some_is (in_list, n) target e)) ∙ h n refl
+  target_known (Some n) in_list target h e = ap (λ (t : Name × Named). is_known t.1.id dictionary) (sym (some_is (in_list, n) target e)) ∙ h n refl
 
-  reference_known : (own : Name) (word : List ℕ) (target : Name × Named) → reference lines own word ≡ Some target → is_known target.1.id lines ≡ true
+  reference_known : (own : Name) (word : List ℕ) (target : Name × Named) → reference dictionary own word ≡ Some target → is_known target.1.id dictionary ≡ true
   unfolding reference
   reference_known own word target e =
-      target_known (named (target_in own word).1 lines) (target_in own word).0 target (λ n. known (target_in own word).1 n) e
+      target_known (named (target_in own word).1 dictionary) (target_in own word).0 target (λ n. known (target_in own word).1 n) e
 
-  line_parts : (line : Line) → is_known line.id lines ≡ true → literal_fits lines line.id line.source ≡ true → line_suits lines line ≡ true
+  line_parts : (line : Line) → is_known line.id dictionary ≡ true → literal_fits dictionary line.id line.source ≡ true → line_suits dictionary line ≡ true
   unfolding line_suits
-  line_parts line k f = both_true (is_known line.id lines) (literal_fits lines line.id line.source) k f
+  line_parts line k f = both_true (is_known line.id dictionary) (literal_fits dictionary line.id line.source) k f
 
-  lines_suit : (own : Name) → Suits (line_suits lines) (LineIs lines own)
+  lines_suit : (own : Name) → Suits (line_suits dictionary) (LineIs dictionary own)
   lines_suit own p line rest h =
-      ap (line_suits lines) h.2.3.3.3.0
+      ap (line_suits dictionary) h.2.3.3.3.0
       ∙ line_parts (line_of (next_token p).1.line h.2.0 h.2.3.0 h.2.3.3.0) (reference_known own h.2.2.0 h.2.0 h.2.2.2)
       (source_by_fits (is_removal h.2.3.0) h.2.0.1 h.2.3.1 h.2.3.3.0 h.2.3.3.1 h.2.3.3.2)
 
   -- ---- conditions
 
-  fits_Any : (cs : List Cond) → cond_suits lines (Any cs) ≡ list_all (cond_suits lines) cs
+  fits_Any : (cs : List Cond) → cond_suits dictionary (Any cs) ≡ list_all (cond_suits dictionary) cs
   unfolding cond_suits
-  fits_Any cs = ap (cond_suits lines) (sym (rolls-Any cs)) ∙ fold-roll-Cond Bool (cond_layer_suits lines) (open_cond.Any cs) ∙ all_itself (cond_suits lines) cs
+  fits_Any cs = ap (cond_suits dictionary) (sym (rolls-Any cs)) ∙ fold-roll-Cond Bool (cond_layer_suits dictionary) (open_cond.Any cs) ∙ all_itself (cond_suits dictionary) cs
 
-  fits_All : (cs : List Cond) → cond_suits lines (All cs) ≡ list_all (cond_suits lines) cs
+  fits_All : (cs : List Cond) → cond_suits dictionary (All cs) ≡ list_all (cond_suits dictionary) cs
   unfolding cond_suits
-  fits_All cs = ap (cond_suits lines) (sym (rolls-All cs)) ∙ fold-roll-Cond Bool (cond_layer_suits lines) (open_cond.All cs) ∙ all_itself (cond_suits lines) cs
+  fits_All cs = ap (cond_suits dictionary) (sym (rolls-All cs)) ∙ fold-roll-Cond Bool (cond_layer_suits dictionary) (open_cond.All cs) ∙ all_itself (cond_suits dictionary) cs
 
-  fits_Not : (c : Cond) → cond_suits lines (Not c) ≡ cond_suits lines c
+  fits_Not : (c : Cond) → cond_suits dictionary (Not c) ≡ cond_suits dictionary c
   unfolding cond_suits
-  fits_Not c = ap (cond_suits lines) (sym (rolls-Not c)) ∙ fold-roll-Cond Bool (cond_layer_suits lines) (open_cond.Not c)
+  fits_Not c = ap (cond_suits dictionary) (sym (rolls-Not c)) ∙ fold-roll-Cond Bool (cond_layer_suits dictionary) (open_cond.Not c)
 
-  fits_Last : (code : Code) → cond_suits lines (Last code) ≡ true
+  fits_Last : (code : Code) → cond_suits dictionary (Last code) ≡ true
   unfolding cond_suits
-  fits_Last code = ap (cond_suits lines) (sym (rolls-Last code)) ∙ fold-roll-Cond Bool (cond_layer_suits lines) (open_cond.Last code)
+  fits_Last code = ap (cond_suits dictionary) (sym (rolls-Last code)) ∙ fold-roll-Cond Bool (cond_layer_suits dictionary) (open_cond.Last code)
 
-  fits_Present : (list : Name) (id : AttrId) → cond_suits lines (Present list id) ≡ true
+  fits_Present : (list : Name) (id : AttrId) → cond_suits dictionary (Present list id) ≡ true
   unfolding cond_suits
-  fits_Present list id = ap (cond_suits lines) (sym (rolls-Present list id)) ∙ fold-roll-Cond Bool (cond_layer_suits lines) (open_cond.Present list id)
+  fits_Present list id = ap (cond_suits dictionary) (sym (rolls-Present list id)) ∙ fold-roll-Cond Bool (cond_layer_suits dictionary) (open_cond.Present list id)
 
-  fits_Compare : (x : Comparison) → cond_suits lines (Compare x) ≡ comparison_suits lines x
+  fits_Compare : (x : Comparison) → cond_suits dictionary (Compare x) ≡ comparison_suits dictionary x
   unfolding cond_suits
-  fits_Compare x = ap (cond_suits lines) (sym (rolls-Compare x)) ∙ fold-roll-Cond Bool (cond_layer_suits lines) (open_cond.Compare x)
+  fits_Compare x = ap (cond_suits dictionary) (sym (rolls-Compare x)) ∙ fold-roll-Cond Bool (cond_layer_suits dictionary) (open_cond.Compare x)
 
-  any_fits : (cs : List Cond) → list_all (cond_suits lines) cs ≡ true → cond_suits lines (any_of cs) ≡ true
+  any_fits : (cs : List Cond) → list_all (cond_suits dictionary) cs ≡ true → cond_suits dictionary (any_of cs) ≡ true
   any_fits [] h = fits_Any [] ∙ h
-  any_fits (c ∷ []) h = (and_parts (cond_suits lines c) true h).0
+  any_fits (c ∷ []) h = (and_parts (cond_suits dictionary c) true h).0
   any_fits (c ∷ d ∷ cs) h = fits_Any (c ∷ d ∷ cs) ∙ h
 
-  all_fits : (cs : List Cond) → list_all (cond_suits lines) cs ≡ true → cond_suits lines (all_of cs) ≡ true
+  all_fits : (cs : List Cond) → list_all (cond_suits dictionary) cs ≡ true → cond_suits dictionary (all_of cs) ≡ true
   all_fits [] h = fits_All [] ∙ h
-  all_fits (c ∷ []) h = (and_parts (cond_suits lines c) true h).0
+  all_fits (c ∷ []) h = (and_parts (cond_suits dictionary c) true h).0
   all_fits (c ∷ d ∷ cs) h = fits_All (c ∷ d ∷ cs) ∙ h
 
   module _ (found : Name × Named) (relation : Relation) (y : Comparand) where
     abbrev against : Comparand → Bool
-    against x = comparand_suits lines (comparison_of lines found relation y) x
+    against x = comparand_suits dictionary (comparison_of dictionary found relation y) x
 
-    literal_suits : (text : List ℕ) (x : Comparand) → option_map comparand.Literal (literal lines found.1 text) ≡ Some x → against x ≡ true
+    literal_suits : (text : List ℕ) (x : Comparand) → option_map comparand.Literal (literal dictionary found.1 text) ≡ Some x → against x ≡ true
     literal_suits text x e =
-        let m = mapped comparand.Literal (literal lines found.1 text) x e in
-        subst (λ (z : Comparand). against z ≡ true) m.2 (literal_is lines found.1 text m.0 m.1).1
+        let m = mapped comparand.Literal (literal dictionary found.1 text) x e in
+        subst (λ (z : Comparand). against z ≡ true) m.2 (literal_is dictionary found.1 text m.0 m.1).1
 
-    plain_suits : (o : Option (List ℕ)) (x : Comparand) → option_map comparand.Literal (option_and_then (literal lines found.1) o) ≡ Some x → against x ≡ true
+    plain_suits : (o : Option (List ℕ)) (x : Comparand) → option_map comparand.Literal (option_and_then (literal dictionary found.1) o) ≡ Some x → against x ≡ true
     plain_suits None x e = absurd cc
     plain_suits (Some text) x e = literal_suits text x e
 
-    comparand_from_suits : (t : Token) → Suits (λ x. against x) (ComparandFrom lines found.1 t)
+    comparand_from_suits : (t : Token) → Suits (λ x. against x) (ComparandFrom dictionary found.1 t)
     comparand_from_suits (token.Word text) p x rest h = literal_suits text x h.0
     comparand_from_suits (token.Quoted Single text) p x rest h = literal_suits (single_quoted_octets text) x h.0
     comparand_from_suits (token.Quoted Double text) p x rest h = plain_suits (plain_octets text) x h.0
     comparand_from_suits (token.Operator sign.Reference) p x rest h =
-        ap (λ (z : Comparand). against z) h.2 ∙ ap (same_kind (type_of lines found.1.id)) (sym h.1.1) ∙ same_kind_self (type_of lines found.1.id)
+        ap (λ (z : Comparand). against z) h.2 ∙ ap (same_kind (type_of dictionary found.1.id)) (sym h.1.1) ∙ same_kind_self (type_of dictionary found.1.id)
     comparand_from_suits _ p x rest h = absurd h
 
-  compared_from_fits : (found : Name × Named) (o : Option Relation) (p : Place) → Suits (cond_suits lines) (ComparedFrom lines found o p)
-  compared_from_fits found None p after c rest h = ap (cond_suits lines) h.0 ∙ fits_Present found.0 found.1.id
+  compared_from_fits : (found : Name × Named) (o : Option Relation) (p : Place) → Suits (cond_suits dictionary) (ComparedFrom dictionary found o p)
+  compared_from_fits found None p after c rest h = ap (cond_suits dictionary) h.0 ∙ fits_Present found.0 found.1.id
   compared_from_fits found (Some relation) p after c rest h =
-      ap (cond_suits lines) h.3.0 ∙ fits_Compare (comparison_of lines found relation h.0)
-      ∙ both_true (same_kind (type_of lines found.1.id) (type_of lines found.1.id)) (comparand_suits lines (comparison_of lines found relation h.0) h.0) (same_kind_self (type_of lines found.1.id))
+      ap (cond_suits dictionary) h.3.0 ∙ fits_Compare (comparison_of dictionary found relation h.0)
+      ∙ both_true (same_kind (type_of dictionary found.1.id) (type_of dictionary found.1.id)) (comparand_suits dictionary (comparison_of dictionary found relation h.0) h.0) (same_kind_self (type_of dictionary found.1.id))
       (comparand_from_suits found relation h.0 (next_token after).0 (next_token after).1 h.0 h.1 h.2)
 
-  compared_fits : (found : Name × Named) → Suits (cond_suits lines) (ComparedIs lines found)
+  compared_fits : (found : Name × Named) → Suits (cond_suits dictionary) (ComparedIs dictionary found)
   compared_fits found p c rest h = compared_from_fits found (relation_of (next_token p).0) p (next_token p).1 c rest h
 
-  word_fits : (o : Option Code) (word : List ℕ) → Suits (cond_suits lines) (WordFrom lines o word)
-  word_fits (Some code) word p c rest h = ap (cond_suits lines) h.0 ∙ fits_Last code
+  word_fits : (o : Option Code) (word : List ℕ) → Suits (cond_suits dictionary) (WordFrom dictionary o word)
+  word_fits (Some code) word p c rest h = ap (cond_suits dictionary) h.0 ∙ fits_Last code
   word_fits None word p c rest h = compared_fits h.0 p c rest h.2
 
-  both_fit : (form : Form Place Cond) → Suits (cond_suits lines) form → Suits (cond_suits lines) (Both form)
+  both_fit : (form : Form Place Cond) → Suits (cond_suits dictionary) form → Suits (cond_suits dictionary) (Both form)
   both_fit form each p c rest h =
-      ap (cond_suits lines) h.3.0 ∙ all_fits h.0 (chain_fits (cond_suits lines) (Follows (token.Operator sign.And)) form each p h.0 h.1 h.2)
+      ap (cond_suits dictionary) h.3.0 ∙ all_fits h.0 (chain_fits (cond_suits dictionary) (Follows (token.Operator sign.And)) form each p h.0 h.1 h.2)
 
-  either_fits : (form : Form Place Cond) → Suits (cond_suits lines) form → Suits (cond_suits lines) (Either form)
+  either_fits : (form : Form Place Cond) → Suits (cond_suits dictionary) form → Suits (cond_suits dictionary) (Either form)
   either_fits form each p c rest h =
-      ap (cond_suits lines) h.3.0 ∙ any_fits h.0 (chain_fits (cond_suits lines) (Follows (token.Operator sign.Or)) (Both form) (both_fit form each) p h.0 h.1 h.2)
+      ap (cond_suits dictionary) h.3.0 ∙ any_fits h.0 (chain_fits (cond_suits dictionary) (Follows (token.Operator sign.Or)) (Both form) (both_fit form each) p h.0 h.1 h.2)
 
-  closed_fits : (form : Form Place Cond) → Suits (cond_suits lines) form → Suits (cond_suits lines) (Closed form)
-  closed_fits form each p c rest h = ap (cond_suits lines) h.3.2.0 ∙ either_fits form each p h.0 h.1 h.2
+  closed_fits : (form : Form Place Cond) → Suits (cond_suits dictionary) form → Suits (cond_suits dictionary) (Closed form)
+  closed_fits form each p c rest h = ap (cond_suits dictionary) h.3.2.0 ∙ either_fits form each p h.0 h.1 h.2
 
-  operand_fits : (inner : Form Place Cond) → Suits (cond_suits lines) inner → (t : Token) → Suits (cond_suits lines) (OperandFrom lines inner t)
-  operand_fits inner each (token.Operator sign.Not) p c rest h = ap (cond_suits lines) h.3.0 ∙ fits_Not h.0 ∙ each p h.0 h.1 h.2
+  operand_fits : (inner : Form Place Cond) → Suits (cond_suits dictionary) inner → (t : Token) → Suits (cond_suits dictionary) (OperandFrom dictionary inner t)
+  operand_fits inner each (token.Operator sign.Not) p c rest h = ap (cond_suits dictionary) h.3.0 ∙ fits_Not h.0 ∙ each p h.0 h.1 h.2
   operand_fits inner each (token.Operator sign.Open) p c rest h = closed_fits inner each p c rest h
   operand_fits inner each (token.Operator sign.Reference) p c rest h = compared_fits h.0 h.1 c rest h.3
   operand_fits inner each (token.Word word) p c rest h = word_fits (code_named word) word p c rest h
   operand_fits inner each _ p c rest h = absurd h
 
-  within_fits : (n : ℕ) → Suits (cond_suits lines) (Within lines n)
+  within_fits : (n : ℕ) → Suits (cond_suits dictionary) (Within dictionary n)
   within_fits zero p c rest h = absurd h
-  within_fits (suc n) p c rest h = operand_fits (Within lines n) (within_fits n) (next_token p).0 (next_token p).1 c rest h
+  within_fits (suc n) p c rest h = operand_fits (Within dictionary n) (within_fits n) (next_token p).0 (next_token p).1 c rest h
 
   -- ---- statements
 
-  module _ (n : ℕ) (inner : Form Place Statement) (each : Suits (statement_suits lines) inner) where
-    branches_fit : Suits (branch_suits lines) (BranchIs lines n inner)
+  module _ (n : ℕ) (inner : Form Place Statement) (each : Suits (statement_suits dictionary) inner) where
+    branches_fit : Suits (branch_suits dictionary) (BranchIs dictionary n inner)
     branches_fit p branch rest h =
-        ap (branch_suits lines) h.2.2.3.3.0 ∙ suits_branch lines p.line h.2.2.0 h.2.2.3.0
-        ∙ both_true (cond_suits lines h.2.2.0) (policy_suits lines h.2.2.3.0) (closed_fits (Within lines n) (within_fits n) h.2.0 h.2.2.0 h.2.2.1 h.2.2.2)
-        (block_fits (statement_suits lines) n begins_word inner each h.2.2.1 h.2.2.3.0 h.2.2.3.1 h.2.2.3.2)
+        ap (branch_suits dictionary) h.2.2.3.3.0 ∙ suits_branch dictionary p.line h.2.2.0 h.2.2.3.0
+        ∙ both_true (cond_suits dictionary h.2.2.0) (policy_suits dictionary h.2.2.3.0) (closed_fits (Within dictionary n) (within_fits n) h.2.0 h.2.2.0 h.2.2.1 h.2.2.2)
+        (block_fits (statement_suits dictionary) n begins_word inner each h.2.2.1 h.2.2.3.0 h.2.2.3.1 h.2.2.3.2)
 
-    ending_fits : (bs : List Branch) → list_all (branch_suits lines) bs ≡ true → (o : Option (List Statement)) (p rest : Place) → Otherwise n inner p o rest → statement_suits lines (If bs o) ≡ true
-    ending_fits bs fit None p rest h = suits_If lines bs None ∙ both_true (list_all (branch_suits lines) bs) true fit refl
+    ending_fits : (bs : List Branch) → list_all (branch_suits dictionary) bs ≡ true → (o : Option (List Statement)) (p rest : Place) → Otherwise n inner p o rest → statement_suits dictionary (If bs o) ≡ true
+    ending_fits bs fit None p rest h = suits_If dictionary bs None ∙ both_true (list_all (branch_suits dictionary) bs) true fit refl
     ending_fits bs fit (Some block) p rest h =
-        suits_If lines bs (Some block) ∙ both_true (list_all (branch_suits lines) bs) (policy_suits lines block) fit (block_fits (statement_suits lines) n begins_word inner each h.0 block rest h.2)
+        suits_If dictionary bs (Some block) ∙ both_true (list_all (branch_suits dictionary) bs) (policy_suits dictionary block) fit (block_fits (statement_suits dictionary) n begins_word inner each h.0 block rest h.2)
 
-    from_fits : (k : Keyword) → Suits (statement_suits lines) (StatementFrom lines n inner k)
+    from_fits : (k : Keyword) → Suits (statement_suits dictionary) (StatementFrom dictionary n inner k)
     from_fits keyword.Update p s rest h =
-        ap (statement_suits lines) h.3.0 ∙ suits_Update lines p.line h.0
-        ∙ block_fits (line_suits lines) n begins_line (LineIs lines (list_at p).0) (lines_suit (list_at p).0) (list_at p).1 h.0 h.1 h.2
+        ap (statement_suits dictionary) h.3.0 ∙ suits_Update dictionary p.line h.0
+        ∙ block_fits (line_suits dictionary) n begins_line (LineIs dictionary (list_at p).0) (lines_suit (list_at p).0) (list_at p).1 h.0 h.1 h.2
     from_fits keyword.If p s rest h =
-        ap (statement_suits lines) h.3.3.0
-        ∙ ending_fits h.0 (chain_fits (branch_suits lines) (Follows (token.Word (codes "elsif"))) (BranchIs lines n inner) branches_fit p h.0 h.1 h.2) h.3.0 h.1 h.3.1 h.3.2
+        ap (statement_suits dictionary) h.3.3.0
+        ∙ ending_fits h.0 (chain_fits (branch_suits dictionary) (Follows (token.Word (codes "elsif"))) (BranchIs dictionary n inner) branches_fit p h.0 h.1 h.2) h.3.0 h.1 h.3.1 h.3.2
     from_fits keyword.Transaction p s rest h =
-        ap (statement_suits lines) h.2.3.0 ∙ suits_Transaction lines p.line h.2.0 ∙ block_fits (statement_suits lines) n begins_word inner each h.0 h.2.0 h.2.1 h.2.2
-    from_fits (keyword.Code code) p s rest h = ap (statement_suits lines) h.2.0 ∙ suits_Word lines p.line code
+        ap (statement_suits dictionary) h.2.3.0 ∙ suits_Transaction dictionary p.line h.2.0 ∙ block_fits (statement_suits dictionary) n begins_word inner each h.0 h.2.0 h.2.1 h.2.2
+    from_fits (keyword.Code code) p s rest h = ap (statement_suits dictionary) h.2.0 ∙ suits_Word dictionary p.line code
     from_fits keyword.Other p s rest h = absurd h
 
-  nested_fits : (n : ℕ) → Suits (statement_suits lines) (Nested lines n)
+  nested_fits : (n : ℕ) → Suits (statement_suits dictionary) (Nested dictionary n)
   nested_fits zero p s rest h = absurd h
-  nested_fits (suc n) p s rest h = from_fits n (Nested lines n) (nested_fits n) (keyword_in (next_token p).0) (next_token p).1 s rest h
+  nested_fits (suc n) p s rest h = from_fits n (Nested dictionary n) (nested_fits n) (keyword_in (next_token p).0) (next_token p).1 s rest h
 
-  pub spelled_policy_suits : (text : List ℕ) (statements : List Statement) → SpellsPolicy lines text statements → policy_suits lines statements ≡ true
-  spelled_policy_suits text statements h = while_fits (statement_suits lines) begins_word (Nested lines 65) (nested_fits 65) (start_of text) statements h.0 h.2
+  pub spelled_policy_suits : (text : List ℕ) (statements : List Statement) → SpellsPolicy dictionary text statements → policy_suits dictionary statements ≡ true
+  spelled_policy_suits text statements h = while_fits (statement_suits dictionary) begins_word (Nested dictionary 65) (nested_fits 65) (start_of text) statements h.0 h.2

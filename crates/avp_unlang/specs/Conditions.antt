@@ -4,7 +4,7 @@ use Rattle.std.specs.Option.{option_and_then, option_map}
 use Rattle.avp_lists.specs.declared.lists.List.{List as Name}
 use Rattle.avp_dict.specs.declared.entries.Named.{Named}
 use Rattle.avp_dict.specs.declared.quotes.QuoteMark.TheVariants.{Double, Single}
-use Rattle.avp_dict.specs.declared.readings.Reading.{Reading}
+use Rattle.avp_dict.specs.Dictionary.{Dictionary}
 use Rattle.avp_dict.specs.Quotes.{double_quoted_octets, single_quoted_octets}
 use Rattle.avp_unlang.specs.declared.codes.Code.{Code}
 use Rattle.avp_unlang.specs.declared.tokens.Sign.TheVariants as sign
@@ -51,34 +51,49 @@ abbrev pub plain_octets : List ℕ → Option (List ℕ)
 plain_octets text = if has_expansion false text then None else Some (double_quoted_octets text)
 
 -- what an attribute is compared with: a literal by its type, or after `&` a reference to values of its type
-abbrev pub ComparandFrom : List Reading → Named → Token → Form Place Comparand
-ComparandFrom lines name (Word text) after x rest = Becomes (option_map Literal (literal lines name text)) after x rest
-ComparandFrom lines name (Quoted Single text) after x rest = Becomes (option_map Literal (literal lines name (single_quoted_octets text))) after x rest
-ComparandFrom lines name (Quoted Double text) after x rest = Becomes (option_map Literal (option_and_then (literal lines name) (plain_octets text))) after x rest
-ComparandFrom lines name (Operator sign.Reference) after x rest =
-    (found : Name × Named) × AlikeIs lines name.id after found rest × (x ≡ Instance found.0 found.1.id)
-ComparandFrom lines name _ after x rest = ⊥
+abbrev pub ComparandFrom : Dictionary → Named → Token → Form Place Comparand
+ComparandFrom dictionary name (Word text) after x rest =
+    Becomes (option_map Literal (literal dictionary name text)) after x rest
+ComparandFrom dictionary name (Quoted Single text) after x rest =
+    Becomes (option_map Literal (literal dictionary name (single_quoted_octets text))) after x rest
+ComparandFrom dictionary name (Quoted Double text) after x rest =
+    Becomes (option_map Literal (option_and_then (literal dictionary name) (plain_octets text)))
+    after x rest
+ComparandFrom dictionary name (Operator sign.Reference) after x rest =
+    (found : Name × Named) × AlikeIs dictionary name.id after found rest
+    × (x ≡ Instance found.0 found.1.id)
+ComparandFrom dictionary name _ after x rest = ⊥
 
-abbrev pub ComparandIs : List Reading → Named → Form Place Comparand
-ComparandIs lines name p x rest = ComparandFrom lines name (next_token p).0 (next_token p).1 x rest
+abbrev pub ComparandIs : Dictionary → Named → Form Place Comparand
+ComparandIs dictionary name p x rest =
+    ComparandFrom dictionary name (next_token p).0 (next_token p).1 x rest
 
-abbrev pub comparison_of : List Reading → Name × Named → Relation → Comparand → Comparison
-comparison_of lines found relation x =
-    record { list = found.0; id = found.1.id; kind = type_of lines found.1.id; relation = relation; comparand = x }
+abbrev pub comparison_of : Dictionary → Name × Named → Relation → Comparand → Comparison
+comparison_of dictionary found relation x = record {
+  list = found.0;
+  id = found.1.id;
+  kind = type_of dictionary found.1.id;
+  relation = relation;
+  comparand = x;
+}
 
 -- after a reference: nothing more, or an operator that compares and what it compares with
-abbrev pub ComparedFrom : List Reading → Name × Named → Option Relation → Place → Form Place Cond
-ComparedFrom lines found None p after c rest = Gives (Present found.0 found.1.id) p c rest
-ComparedFrom lines found (Some relation) p after c rest =
-    Then (ComparandIs lines found.1) (λ x. Gives (Compare (comparison_of lines found relation x))) after c rest
+abbrev pub ComparedFrom : Dictionary → Name × Named → Option Relation → Place → Form Place Cond
+ComparedFrom dictionary found None p after c rest = Gives (Present found.0 found.1.id) p c rest
+ComparedFrom dictionary found (Some relation) p after c rest =
+    Then (ComparandIs dictionary found.1)
+    (λ x. Gives (Compare (comparison_of dictionary found relation x))) after c rest
 
-abbrev pub ComparedIs : List Reading → Name × Named → Form Place Cond
-ComparedIs lines found p c rest = ComparedFrom lines found (relation_of (next_token p).0) p (next_token p).1 c rest
+abbrev pub ComparedIs : Dictionary → Name × Named → Form Place Cond
+ComparedIs dictionary found p c rest =
+    ComparedFrom dictionary found (relation_of (next_token p).0) p (next_token p).1 c rest
 
 -- a word that is a code stands for it, and any other for a reference
-abbrev pub WordFrom : List Reading → Option Code → List ℕ → Form Place Cond
-WordFrom lines (Some code) word p c rest = Gives (Last code) p c rest
-WordFrom lines None word p c rest = (found : Name × Named) × (readable lines word ≡ Some found) × ComparedIs lines found p c rest
+abbrev pub WordFrom : Dictionary → Option Code → List ℕ → Form Place Cond
+WordFrom dictionary (Some code) word p c rest = Gives (Last code) p c rest
+WordFrom dictionary None word p c rest =
+    (found : Name × Named) × (readable dictionary word ≡ Some found)
+    × ComparedIs dictionary found p c rest
 
 -- ---- operands
 
@@ -105,17 +120,20 @@ abbrev pub Closed : Form Place Cond → Form Place Cond
 Closed inner = Then (Either inner) (λ c. After (Follows (Operator sign.Close)) (Gives c))
 
 -- an operand by its first token; inner spells the operands inside a `!` or brackets
-abbrev pub OperandFrom : List Reading → Form Place Cond → Token → Form Place Cond
-OperandFrom lines inner (Operator sign.Not) after c rest = Negated inner after c rest
-OperandFrom lines inner (Operator sign.Open) after c rest = Closed inner after c rest
-OperandFrom lines inner (Operator sign.Reference) after c rest = Then (ReadableIs lines) (ComparedIs lines) after c rest
-OperandFrom lines inner (Word word) after c rest = WordFrom lines (code_named word) word after c rest
-OperandFrom lines inner _ after c rest = ⊥
+abbrev pub OperandFrom : Dictionary → Form Place Cond → Token → Form Place Cond
+OperandFrom dictionary inner (Operator sign.Not) after c rest = Negated inner after c rest
+OperandFrom dictionary inner (Operator sign.Open) after c rest = Closed inner after c rest
+OperandFrom dictionary inner (Operator sign.Reference) after c rest =
+    Then (ReadableIs dictionary) (ComparedIs dictionary) after c rest
+OperandFrom dictionary inner (Word word) after c rest =
+    WordFrom dictionary (code_named word) word after c rest
+OperandFrom dictionary inner _ after c rest = ⊥
 
-abbrev pub OperandIs : List Reading → Form Place Cond → Form Place Cond
-OperandIs lines inner p c rest = OperandFrom lines inner (next_token p).0 (next_token p).1 c rest
+abbrev pub OperandIs : Dictionary → Form Place Cond → Form Place Cond
+OperandIs dictionary inner p c rest =
+    OperandFrom dictionary inner (next_token p).0 (next_token p).1 c rest
 
 -- an operand inside which fewer than n signs `!` and `(` are open at once
-abbrev pub Within : List Reading → ℕ → Form Place Cond
-Within lines zero p c rest = ⊥
-Within lines (suc n) p c rest = OperandIs lines (Within lines n) p c rest
+abbrev pub Within : Dictionary → ℕ → Form Place Cond
+Within dictionary zero p c rest = ⊥
+Within dictionary (suc n) p c rest = OperandIs dictionary (Within dictionary n) p c rest

@@ -4,7 +4,7 @@ use Rattle.avp_lists.specs.declared.edits.Op.{Op}
 use Rattle.avp_lists.specs.declared.edits.Op.TheVariants as op
 use Rattle.avp_lists.specs.declared.lists.List.{List as Name}
 use Rattle.avp_dict.specs.declared.entries.Named.{Named}
-use Rattle.avp_dict.specs.declared.readings.Reading.{Reading}
+use Rattle.avp_dict.specs.Dictionary.{Dictionary}
 use Rattle.avp_unlang.specs.declared.tokens.Sign.TheVariants as sign
 use Rattle.avp_unlang.specs.declared.tokens.Token.{Token}
 use Rattle.avp_unlang.specs.declared.tokens.Token.TheVariants.{Operator, Word}
@@ -26,8 +26,10 @@ unfoldable pub after_reference : Place → Place
 after_reference p = after_reference_from p (next_token p)
 
 -- a target, with `&` or without: its list and what its name stands for
-abbrev pub TargetIs : List Reading → Name → Form Place (Name × Named)
-TargetIs lines own p target rest = (word : List ℕ) × Follows (Word word) (after_reference p) rest × (reference lines own word ≡ Some target)
+abbrev pub TargetIs : Dictionary → Name → Form Place (Name × Named)
+TargetIs dictionary own p target rest =
+    (word : List ℕ) × Follows (Word word) (after_reference p) rest
+    × (reference dictionary own word ≡ Some target)
 
 -- the edit that an operator stands for
 unfoldable pub op_of : Token → Option Op
@@ -46,10 +48,13 @@ abbrev pub line_of : ℕ → Name × Named → Op → Source → Line
 line_of line target operation source = record { line = line; list = target.0; id = target.1.id; op = operation; source = source }
 
 -- an update line, on the line of its first token; it adds one to the size
-abbrev pub LineIs : List Reading → Name → Form Place Line
-LineIs lines own p line rest =
-    After (Counts 1) (Then (TargetIs lines own) (λ target. Then OpIs (λ operation. Then (SourceIs lines operation target.1)
-    (λ source. Gives (line_of (next_token p).1.line target operation source))))) p line rest
+abbrev pub LineIs : Dictionary → Name → Form Place Line
+LineIs dictionary own p line rest =
+    After (Counts 1)
+    (Then (TargetIs dictionary own) (λ target.
+    Then OpIs (λ operation.
+    Then (SourceIs dictionary operation target.1) (λ source.
+    Gives (line_of (next_token p).1.line target operation source))))) p line rest
 
 -- an update line begins with `&` or a word
 abbrev pub is_line_start : Token → Bool

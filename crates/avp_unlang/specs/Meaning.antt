@@ -4,7 +4,7 @@ use Rattle.avp_lists.specs.States.{edited, edited_list, most_pairs}
 use Rattle.avp_lists.specs.declared.attributes.Pair.{Pair}
 use Rattle.avp_lists.specs.declared.edits.Edit.{Edit}
 use Rattle.avp_lists.specs.declared.lists.State.{State}
-use Rattle.avp_dict.specs.declared.readings.Reading.{Reading}
+use Rattle.avp_dict.specs.Dictionary.{Dictionary}
 use Rattle.avp_unlang.specs.Resolutions.{resolution}
 use Rattle.avp_unlang.specs.Truth.{truth}
 use Rattle.avp_unlang.specs.declared.codes.Code.{Code}
@@ -69,8 +69,8 @@ abbrev pub result_from : Line → State → Result Pair Unresolved → LineResul
 result_from line s (Ok pair) = edit_result (edit_of line pair) s
 result_from line s (Err why) = Refused (reason why)
 
-unfoldable pub line_result : List Reading → Line → State → LineResult
-line_result lines line s = result_from line s (resolution lines line s)
+unfoldable pub line_result : Dictionary → Line → State → LineResult
+line_result dictionary line s = result_from line s (resolution dictionary line s)
 
 -- ---- meanings
 
@@ -97,7 +97,7 @@ abbrev pub after_line : State → LineResult → Code → Meaning → Outcome
 after_line entry (Edited s) c others = others s c
 after_line entry (Refused k) c others = after_failure entry
 
-abbrev pub all_lines : List Reading → State → List Line → Meaning
+abbrev pub all_lines : Dictionary → State → List Line → Meaning
 all_lines dictionary entry [] s c = running s c
 all_lines dictionary entry (line ∷ others) s c = after_line entry (line_result dictionary line s) c (all_lines dictionary entry others)
 
@@ -114,7 +114,7 @@ if_given (Some block) s c = in_order block s c
 abbrev pub after_body : State → Outcome → Outcome
 after_body entry o = if o.stopped then running entry o.code else o
 
-abbrev pub statement_meaning : List Reading → Statement-F Meaning Choice → Meaning
+abbrev pub statement_meaning : Dictionary → Statement-F Meaning Choice → Meaning
 statement_meaning dictionary (Update n lines) s c = all_lines dictionary s lines s c
 statement_meaning dictionary (If branches otherwise) s c = first_true branches (if_given otherwise) s c
 statement_meaning dictionary (Transaction n block) s c = after_body s (in_order block s c)
@@ -124,9 +124,9 @@ abbrev pub branch_meaning : Branch-F Meaning Choice → Choice
 branch_meaning b = record { cond = b.cond; block = in_order b.block }
 
 -- what a statement means, each statement inside it with its meaning
-abbrev pub meaning : List Reading → Statement → Meaning
+abbrev pub meaning : Dictionary → Statement → Meaning
 meaning dictionary = fold-Statement Meaning Choice (statement_meaning dictionary) branch_meaning
 
 -- what a policy means
-abbrev pub meaning_of : List Reading → List Statement → Meaning
+abbrev pub meaning_of : Dictionary → List Statement → Meaning
 meaning_of dictionary statements = in_order (map (meaning dictionary) statements)

@@ -2,7 +2,7 @@
 use Rattle.std.specs.Prelude.{◌≡◌, ℕ, zero, Bool, true, false, ◌==◌, if◌then◌else◌, List, [], ◌∷◌, drop, take, Option, Some, None, is_some}
 use Rattle.avp_lists.specs.declared.lists.List.{List as Name}
 use Rattle.avp_dict.specs.declared.entries.Named.{Named}
-use Rattle.avp_dict.specs.declared.readings.Reading.{Reading}
+use Rattle.avp_dict.specs.Dictionary.{Dictionary}
 use Rattle.avp_dict.specs.Quotes.{double_escape}
 use Rattle.avp_unlang.specs.declared.tree.Part.{Part}
 use Rattle.avp_unlang.specs.declared.tree.Part.TheVariants.{Text, Instance}
@@ -44,21 +44,23 @@ abbrev pub braced : List ℕ → Option (List ℕ × List ℕ)
 braced text = closed_after (word_length text) text (drop (word_length text) text)
 
 -- `%{`, a word that refers to values, and `}`
-abbrev pub InstanceIs : List Reading → Form (List ℕ) (Name × Named)
-InstanceIs lines text found rest =
+abbrev pub InstanceIs : Dictionary → Form (List ℕ) (Name × Named)
+InstanceIs dictionary text found rest =
     (inner : List ℕ) × (after_opening text ≡ Some inner)
-    × (word : List ℕ) × (braced inner ≡ Some (word, rest)) × (readable lines word ≡ Some found)
+    × (word : List ℕ) × (braced inner ≡ Some (word, rest)) × (readable dictionary word ≡ Some found)
 
 -- as many octets as follow one another, or a value that is put in
-abbrev pub PartIs : List Reading → Form (List ℕ) Part
-PartIs lines text (Text octets) rest = (begins_octet text ≡ true) × While begins_octet OctetIs text octets rest
-PartIs lines text (Instance list id) rest =
-    (begins_octet text ≡ false) × (found : Name × Named) × InstanceIs lines text found rest × (list ≡ found.0) × (id ≡ found.1.id)
+abbrev pub PartIs : Dictionary → Form (List ℕ) Part
+PartIs dictionary text (Text octets) rest =
+    (begins_octet text ≡ true) × While begins_octet OctetIs text octets rest
+PartIs dictionary text (Instance list id) rest =
+    (begins_octet text ≡ false) × (found : Name × Named) × InstanceIs dictionary text found rest
+    × (list ≡ found.0) × (id ≡ found.1.id)
 
 abbrev pub is_left : List ℕ → Bool
 is_left [] = false
 is_left (c ∷ cs) = true
 
 -- the parts of a whole text
-abbrev pub PartsAre : List Reading → List ℕ → List Part → Type 0
-PartsAre lines text parts = (end : List ℕ) × While is_left (PartIs lines) text parts end
+abbrev pub PartsAre : Dictionary → List ℕ → List Part → Type 0
+PartsAre dictionary text parts = (end : List ℕ) × While is_left (PartIs dictionary) text parts end

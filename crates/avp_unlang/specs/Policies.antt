@@ -1,6 +1,6 @@
 -- The policy that a text spells.
 use Rattle.std.specs.Prelude.{ℕ, List}
-use Rattle.avp_dict.specs.declared.readings.Reading.{Reading}
+use Rattle.avp_dict.specs.Dictionary.{Dictionary}
 use Rattle.avp_unlang.specs.declared.tokens.Token.TheVariants.{End}
 use Rattle.avp_unlang.specs.declared.tree.Statement.{Statement}
 use Rattle.avp_unlang.specs.Forms.{While}
@@ -9,6 +9,7 @@ use Rattle.avp_unlang.specs.Statements.{Nested, begins_word}
 use Rattle.avp_unlang.specs.Steps.{Follows}
 
 -- Statement after statement up to the end of the text, with a size of at most 65535 and at most 64 open signs.
-abbrev pub SpellsPolicy : List Reading → List ℕ → List Statement → Type 0
-SpellsPolicy lines text statements =
-    (end : Place) × (rest : Place) × While begins_word (Nested lines 65) (start_of text) statements end × Follows End end rest
+abbrev pub SpellsPolicy : Dictionary → List ℕ → List Statement → Type 0
+SpellsPolicy dictionary text statements =
+    (end : Place) × (rest : Place)
+    × While begins_word (Nested dictionary 65) (start_of text) statements end × Follows End end rest

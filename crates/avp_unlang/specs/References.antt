@@ -5,9 +5,9 @@ use Rattle.avp_lists.specs.declared.attributes.AttrId.{AttrId}
 use Rattle.avp_lists.specs.declared.lists.List.{List as Name}
 use Rattle.avp_lists.specs.declared.lists.List.TheVariants as lists
 use Rattle.avp_dict.specs.declared.entries.Named.{Named}
-use Rattle.avp_dict.specs.declared.readings.Kind.{Kind}
-use Rattle.avp_dict.specs.declared.readings.Kind.TheVariants.{Bytes}
-use Rattle.avp_dict.specs.declared.readings.Reading.{Reading}
+use Rattle.avp_dict.specs.declared.entries.Kind.{Kind}
+use Rattle.avp_dict.specs.declared.entries.Kind.TheVariants.{Bytes}
+use Rattle.avp_dict.specs.Dictionary.{Dictionary}
 use Rattle.avp_dict.specs.Names.{named}
 use Rattle.avp_dict.specs.Octets.{kind_of}
 use Rattle.avp_dict.specs.Sent.{is_container}
@@ -41,25 +41,29 @@ target_in own word =
     ]
 
 -- the list, and what the name stands for
-unfoldable pub reference : List Reading → Name → List ℕ → Option (Name × Named)
-reference lines own word = option_map (λ name. ((target_in own word).0, name)) (named (target_in own word).1 lines)
+unfoldable pub reference : Dictionary → Name → List ℕ → Option (Name × Named)
+reference dictionary own word =
+    option_map (λ name. ((target_in own word).0, name)) (named (target_in own word).1 dictionary)
 
 -- attributes that only hold others have no values to look at (RFC 2865, section 5.26; RFC 6929, section 2)
 abbrev pub unless_container : Name × Named → Option (Name × Named)
 unless_container r = if is_container r.1.id then None else Some r
 
 -- a reference to values; without a list it is of the request
-unfoldable pub readable : List Reading → List ℕ → Option (Name × Named)
-readable lines word = option_and_then unless_container (reference lines lists.Request word)
+unfoldable pub readable : Dictionary → List ℕ → Option (Name × Named)
+readable dictionary word =
+    option_and_then unless_container (reference dictionary lists.Request word)
 
 -- a word that refers to values
-abbrev pub ReadableIs : List Reading → Form Place (Name × Named)
-ReadableIs lines p found rest = (word : List ℕ) × Follows (Word word) p rest × (readable lines word ≡ Some found)
+abbrev pub ReadableIs : Dictionary → Form Place (Name × Named)
+ReadableIs dictionary p found rest =
+    (word : List ℕ) × Follows (Word word) p rest × (readable dictionary word ≡ Some found)
 
 -- the type of an id's values: octets where no line gives one
-abbrev pub type_of : List Reading → AttrId → Kind
-type_of lines id = unwrap_or (kind_of id lines) Bytes
+abbrev pub type_of : Dictionary → AttrId → Kind
+type_of dictionary id = unwrap_or (kind_of id dictionary) Bytes
 
 -- a reference to values of the same type as this attribute's
-abbrev pub AlikeIs : List Reading → AttrId → Form Place (Name × Named)
-AlikeIs lines id p found rest = ReadableIs lines p found rest × (type_of lines id ≡ type_of lines found.1.id)
+abbrev pub AlikeIs : Dictionary → AttrId → Form Place (Name × Named)
+AlikeIs dictionary id p found rest =
+    ReadableIs dictionary p found rest × (type_of dictionary id ≡ type_of dictionary found.1.id)

@@ -14,9 +14,9 @@ use Rattle.avp_dict.specs.Limits.{fits, is_known}
 use Rattle.avp_dict.specs.Octets.{kind_of, octets, read_value}
 use Rattle.avp_dict.specs.Printing.{printed_text}
 use Rattle.avp_dict.specs.Spellings.{unless_long, value_spelled}
-use Rattle.avp_dict.specs.declared.readings.Kind.{Kind}
-use Rattle.avp_dict.specs.declared.readings.Kind.TheVariants as kinds
-use Rattle.avp_dict.specs.declared.readings.Reading.{Reading}
+use Rattle.avp_dict.specs.declared.entries.Kind.{Kind}
+use Rattle.avp_dict.specs.declared.entries.Kind.TheVariants as kinds
+use Rattle.avp_dict.specs.Dictionary.{Dictionary}
 use Rattle.avp_dict.specs.declared.value_faults.ValueFault.{ValueFault}
 use Rattle.avp_dict.specs.declared.value_faults.ValueFault.TheVariants as faults
 use Rattle.avp_unlang.specs.declared.resolving.Unresolved.{Unresolved}
@@ -30,32 +30,33 @@ use Rattle.avp_unlang.specs.declared.tree.Source.TheVariants.{Literal, Text, Ins
 -- ---- texts with values put in
 
 -- a string is put in as its own octets, and another value as it is printed: raw octets as 0x and hexadecimal digits
-abbrev pub value_put : List Reading → AttrId → Value → List ℕ
-value_put lines id (values.Text os) = os
-value_put lines id value = printed_text id value lines
+abbrev pub value_put : Dictionary → AttrId → Value → List ℕ
+value_put dictionary id (values.Text os) = os
+value_put dictionary id value = printed_text id value dictionary
 
-abbrev pub pair_put : List Reading → Pair → List ℕ
-pair_put lines pair = value_put lines pair.id pair.value
+abbrev pub pair_put : Dictionary → Pair → List ℕ
+pair_put dictionary pair = value_put dictionary pair.id pair.value
 
 -- octets as they stand, or the first instance; nothing is put in where there is none
-abbrev pub part_text : List Reading → State → Part → List ℕ
-part_text lines s (part.Text os) = os
-part_text lines s (part.Instance list id) = option_map_or (pair_put lines) (first_instance id (list_of list s)) []
+abbrev pub part_text : Dictionary → State → Part → List ℕ
+part_text dictionary s (part.Text os) = os
+part_text dictionary s (part.Instance list id) =
+    option_map_or (pair_put dictionary) (first_instance id (list_of list s)) []
 
-abbrev pub parts_text : List Reading → State → List Part → List ℕ
-parts_text lines s parts = flat_map (part_text lines s) parts
+abbrev pub parts_text : Dictionary → State → List Part → List ℕ
+parts_text dictionary s parts = flat_map (part_text dictionary s) parts
 
 -- ---- values
 
 -- Octets read by a type: string and octets read all, and an attribute without a type keeps them as they are.
-abbrev pub read_by_kind : Option Kind → AttrId → List ℕ → List Reading → Option Value
-read_by_kind None id os lines = Some (values.Raw os)
-read_by_kind (Some kinds.Text) id os lines = Some (values.Text os)
-read_by_kind (Some kinds.Bytes) id os lines = Some (values.Bytes os)
-read_by_kind (Some kind) id os lines = read_value id os lines
+abbrev pub read_by_kind : Option Kind → AttrId → List ℕ → Dictionary → Option Value
+read_by_kind None id os dictionary = Some (values.Raw os)
+read_by_kind (Some kinds.Text) id os dictionary = Some (values.Text os)
+read_by_kind (Some kinds.Bytes) id os dictionary = Some (values.Bytes os)
+read_by_kind (Some kind) id os dictionary = read_value id os dictionary
 
-abbrev pub read_by_type : AttrId → List ℕ → List Reading → Option Value
-read_by_type id os lines = read_by_kind (kind_of id lines) id os lines
+abbrev pub read_by_type : AttrId → List ℕ → Dictionary → Option Value
+read_by_type id os dictionary = read_by_kind (kind_of id dictionary) id os dictionary
 
 abbrev pub unresolved : ValueFault → Unresolved
 unresolved faults.NotWritable = NotValue
@@ -69,17 +70,21 @@ given (Ok value) = Ok value
 given (Err fault) = Err (unresolved fault)
 
 -- the value of an id with the octets of this instance
-abbrev pub instance_value : List Reading → AttrId → Option Pair → Result Value Unresolved
-instance_value lines id None = Err Absent
-instance_value lines id (Some pair) = given (unless_long id lines (read_by_type id (octets pair.id pair.value lines) lines))
+abbrev pub instance_value : Dictionary → AttrId → Option Pair → Result Value Unresolved
+instance_value dictionary id None = Err Absent
+instance_value dictionary id (Some pair) =
+    given (unless_long id dictionary
+    (read_by_type id (octets pair.id pair.value dictionary) dictionary))
 
 -- A literal is its value, a text with values put in is read as a text, and a reference gives the octets of its first
 -- instance. What follows `!*` gives raw octets, none of them.
-abbrev pub source_value : List Reading → State → AttrId → Source → Result Value Unresolved
-source_value lines s id (Literal value) = Ok value
-source_value lines s id (Text raw parts) = given (value_spelled (record { id = id; raw = raw }) (parts_text lines s parts) lines)
-source_value lines s id (Instance list other) = instance_value lines id (first_instance other (list_of list s))
-source_value lines s id Any = Ok (values.Raw [])
+abbrev pub source_value : Dictionary → State → AttrId → Source → Result Value Unresolved
+source_value dictionary s id (Literal value) = Ok value
+source_value dictionary s id (Text raw parts) =
+    given (value_spelled (record { id = id; raw = raw }) (parts_text dictionary s parts) dictionary)
+source_value dictionary s id (Instance list other) =
+    instance_value dictionary id (first_instance other (list_of list s))
+source_value dictionary s id Any = Ok (values.Raw [])
 
 abbrev pub pair_of : AttrId → Value → Pair
 pair_of id value = record { id = id; value = value }
@@ -89,8 +94,8 @@ paired id (Ok value) = Ok (pair_of id value)
 paired id (Err fault) = Err fault
 
 -- the pair of an update line
-unfoldable pub resolution : List Reading → Line → State → Result Pair Unresolved
-resolution lines line s = paired line.id (source_value lines s line.id line.source)
+unfoldable pub resolution : Dictionary → Line → State → Result Pair Unresolved
+resolution dictionary line s = paired line.id (source_value dictionary s line.id line.source)
 
 -- a pair, and a fault other than want of memory, is the one that the definition gives
 abbrev pub Resolves : {A : Type 0} → Result A Unresolved → Result A Unresolved → Type 0
@@ -101,13 +106,15 @@ Resolves (Err fault) right = right ≡ Err fault
 -- ---- what a line is resolved with
 
 -- each pair of each list fits the dictionary
-abbrev pub StateFits : List Reading → State → Type 0
-StateFits lines s = (list : Name) → All (λ pair. IsTrue (fits pair lines)) (list_of list s)
+abbrev pub StateFits : Dictionary → State → Type 0
+StateFits dictionary s =
+    (list : Name) → All (λ pair. IsTrue (fits pair dictionary)) (list_of list s)
 
-abbrev pub literal_fits : List Reading → AttrId → Source → Bool
-literal_fits lines id (Literal value) = fits (pair_of id value) lines
-literal_fits lines id _ = true
+abbrev pub literal_fits : Dictionary → AttrId → Source → Bool
+literal_fits dictionary id (Literal value) = fits (pair_of id value) dictionary
+literal_fits dictionary id _ = true
 
 -- the line's attribute is known, and its literal fits
-unfoldable pub line_suits : List Reading → Line → Bool
-line_suits lines line = is_known line.id lines && literal_fits lines line.id line.source
+unfoldable pub line_suits : Dictionary → Line → Bool
+line_suits dictionary line =
+    is_known line.id dictionary && literal_fits dictionary line.id line.source

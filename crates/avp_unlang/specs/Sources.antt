@@ -8,7 +8,7 @@ use Rattle.avp_lists.specs.declared.edits.Op.TheVariants as op
 use Rattle.avp_lists.specs.declared.lists.List.{List as Name}
 use Rattle.avp_dict.specs.declared.entries.Named.{Named}
 use Rattle.avp_dict.specs.declared.quotes.QuoteMark.TheVariants.{Double, Single}
-use Rattle.avp_dict.specs.declared.readings.Reading.{Reading}
+use Rattle.avp_dict.specs.Dictionary.{Dictionary}
 use Rattle.avp_dict.specs.Limits.{fits}
 use Rattle.avp_dict.specs.Quotes.{single_quoted_octets}
 use Rattle.avp_dict.specs.Requests.{pair_with}
@@ -30,12 +30,13 @@ use Rattle.avp_unlang.specs.Tokens.{next_token}
 
 -- ---- literals
 
-abbrev pub fitting : List Reading → Named → Value → Option Value
-fitting lines name value = if fits (pair_with name value) lines then Some value else None
+abbrev pub fitting : Dictionary → Named → Value → Option Value
+fitting dictionary name value = if fits (pair_with name value) dictionary then Some value else None
 
 -- the value that a text stands for under a name; it fits the name's attribute
-unfoldable pub literal : List Reading → Named → List ℕ → Option Value
-literal lines name text = option_and_then (fitting lines name) (result_ok (value_spelled name text lines))
+unfoldable pub literal : Dictionary → Named → List ℕ → Option Value
+literal dictionary name text =
+    option_and_then (fitting dictionary name) (result_ok (value_spelled name text dictionary))
 
 -- ---- texts between double quotes
 
@@ -46,26 +47,36 @@ whole_text (part.Text octets ∷ []) = Some octets
 whole_text _ = None
 
 -- such a text is a literal, and any other is kept, with whether the name is one by number
-unfoldable pub filled : List Reading → Named → List Part → Option Source
-filled lines name parts =
-    elim (whole_text parts) [ Some text ↦ option_map Literal (literal lines name text) | None ↦ Some (Text name.raw parts) ]
+unfoldable pub filled : Dictionary → Named → List Part → Option Source
+filled dictionary name parts = elim (whole_text parts) [
+  | Some text ↦ option_map Literal (literal dictionary name text)
+  | None ↦ Some (Text name.raw parts)
+]
 
-abbrev pub FilledIs : List Reading → Named → List ℕ → Source → Type 0
-FilledIs lines name text source = (is_barred name lines ≡ false) × (parts : List Part) × PartsAre lines text parts × (filled lines name parts ≡ Some source)
+abbrev pub FilledIs : Dictionary → Named → List ℕ → Source → Type 0
+FilledIs dictionary name text source =
+    (is_barred name dictionary ≡ false) × (parts : List Part) × PartsAre dictionary text parts
+    × (filled dictionary name parts ≡ Some source)
 
 -- ---- sources
 
 -- by its first token: a literal, a text with parts, or after `&` a reference to values of the name's type
-abbrev pub ValueFrom : List Reading → Named → Token → Form Place Source
-ValueFrom lines name (Word text) after source rest = Becomes (option_map Literal (literal lines name text)) after source rest
-ValueFrom lines name (Quoted Single text) after source rest = Becomes (option_map Literal (literal lines name (single_quoted_octets text))) after source rest
-ValueFrom lines name (Quoted Double text) after source rest = FilledIs lines name text source × (rest ≡ after)
-ValueFrom lines name (Operator sign.Reference) after source rest =
-    (found : Name × Named) × AlikeIs lines name.id after found rest × (source ≡ Instance found.0 found.1.id)
-ValueFrom lines name _ after source rest = ⊥
+abbrev pub ValueFrom : Dictionary → Named → Token → Form Place Source
+ValueFrom dictionary name (Word text) after source rest =
+    Becomes (option_map Literal (literal dictionary name text)) after source rest
+ValueFrom dictionary name (Quoted Single text) after source rest =
+    Becomes (option_map Literal (literal dictionary name (single_quoted_octets text)))
+    after source rest
+ValueFrom dictionary name (Quoted Double text) after source rest =
+    FilledIs dictionary name text source × (rest ≡ after)
+ValueFrom dictionary name (Operator sign.Reference) after source rest =
+    (found : Name × Named) × AlikeIs dictionary name.id after found rest
+    × (source ≡ Instance found.0 found.1.id)
+ValueFrom dictionary name _ after source rest = ⊥
 
-abbrev pub ValueIs : List Reading → Named → Form Place Source
-ValueIs lines name p source rest = ValueFrom lines name (next_token p).0 (next_token p).1 source rest
+abbrev pub ValueIs : Dictionary → Named → Form Place Source
+ValueIs dictionary name p source rest =
+    ValueFrom dictionary name (next_token p).0 (next_token p).1 source rest
 
 -- a source by its tokens alone
 abbrev pub IgnoredFrom : Token → Step Place
@@ -82,9 +93,10 @@ is_removal op.RemoveAll = true
 is_removal _ = false
 
 -- After `!*` the source is not looked at; the other operators stand only after an attribute that has values of its own.
-abbrev pub SourceBy : Bool → List Reading → Named → Form Place Source
-SourceBy true lines name p source rest = IgnoredIs p rest × (source ≡ Any)
-SourceBy false lines name p source rest = (is_container name.id ≡ false) × ValueIs lines name p source rest
+abbrev pub SourceBy : Bool → Dictionary → Named → Form Place Source
+SourceBy true dictionary name p source rest = IgnoredIs p rest × (source ≡ Any)
+SourceBy false dictionary name p source rest =
+    (is_container name.id ≡ false) × ValueIs dictionary name p source rest
 
-abbrev pub SourceIs : List Reading → Op → Named → Form Place Source
-SourceIs lines operation name = SourceBy (is_removal operation) lines name
+abbrev pub SourceIs : Dictionary → Op → Named → Form Place Source
+SourceIs dictionary operation name = SourceBy (is_removal operation) dictionary name

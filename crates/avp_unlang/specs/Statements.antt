@@ -2,7 +2,7 @@
 use Rattle.std.specs.Prelude.{◌≡◌, ℕ, zero, suc, ◌<◌, Bool, true, false, List, Option, Some, None, codes, bytes_eq, if◌then◌else◌}
 use Rattle.avp_lists.specs.declared.lists.List.{List as Name}
 use Rattle.avp_lists.specs.declared.lists.List.TheVariants.{Request}
-use Rattle.avp_dict.specs.declared.readings.Reading.{Reading}
+use Rattle.avp_dict.specs.Dictionary.{Dictionary}
 use Rattle.avp_unlang.specs.declared.statements.Keyword.{Keyword}
 use Rattle.avp_unlang.specs.declared.statements.Keyword.TheVariants as keyword
 use Rattle.avp_unlang.specs.declared.tokens.Sign.TheVariants as sign
@@ -59,10 +59,13 @@ abbrev pub branch_of : ℕ → Cond → List Statement → Branch
 branch_of line cond block = roll-Branch (record { line = line; cond = cond; block = block })
 
 -- after `if` or `elsif`: a condition in brackets, and a block; it adds one to the size
-abbrev pub BranchIs : List Reading → ℕ → Form Place Statement → Form Place Branch
-BranchIs lines n inner p branch rest =
-    After (Counts 1) (After (Follows (token.Operator sign.Open)) (Then (Closed (Within lines n)) (λ cond. Then (BlockIs n begins_word inner)
-    (λ block. Gives (branch_of p.line cond block))))) p branch rest
+abbrev pub BranchIs : Dictionary → ℕ → Form Place Statement → Form Place Branch
+BranchIs dictionary n inner p branch rest =
+    After (Counts 1)
+    (After (Follows (token.Operator sign.Open))
+    (Then (Closed (Within dictionary n)) (λ cond.
+    Then (BlockIs n begins_word inner) (λ block.
+    Gives (branch_of p.line cond block))))) p branch rest
 
 -- `else` and a block, or nothing
 abbrev pub Otherwise : ℕ → Form Place Statement → Form Place (Option (List Statement))
@@ -70,20 +73,25 @@ Otherwise n inner p None rest = ((next : Place) → Follows (token.Word (codes "
 Otherwise n inner p (Some block) rest = After (Follows (token.Word (codes "else"))) (BlockIs n begins_word inner) p block rest
 
 -- a statement after its first word, on whose line p is; a transaction adds two to the size, and a code one
-abbrev pub StatementFrom : List Reading → ℕ → Form Place Statement → Keyword → Form Place Statement
-StatementFrom lines n inner keyword.Update p s rest =
-    Then (BlockIs n begins_line (LineIs lines (list_at p).0)) (λ ls. Gives (Update p.line ls)) (list_at p).1 s rest
-StatementFrom lines n inner keyword.If p s rest =
-    Then (Chain (Follows (token.Word (codes "elsif"))) (BranchIs lines n inner)) (λ bs. Then (Otherwise n inner) (λ o. Gives (If bs o))) p s rest
-StatementFrom lines n inner keyword.Transaction p s rest =
+abbrev pub StatementFrom : Dictionary → ℕ → Form Place Statement → Keyword → Form Place Statement
+StatementFrom dictionary n inner keyword.Update p s rest =
+    Then (BlockIs n begins_line (LineIs dictionary (list_at p).0)) (λ ls.
+    Gives (Update p.line ls)) (list_at p).1 s rest
+StatementFrom dictionary n inner keyword.If p s rest =
+    Then (Chain (Follows (token.Word (codes "elsif"))) (BranchIs dictionary n inner)) (λ bs.
+    Then (Otherwise n inner) (λ o.
+    Gives (If bs o))) p s rest
+StatementFrom dictionary n inner keyword.Transaction p s rest =
     After (Counts 2) (Then (BlockIs n begins_word inner) (λ block. Gives (Transaction p.line block))) p s rest
-StatementFrom lines n inner (keyword.Code code) p s rest = After (Counts 1) (Gives (Word p.line code)) p s rest
-StatementFrom lines n inner keyword.Other p s rest = ⊥
+StatementFrom dictionary n inner (keyword.Code code) p s rest =
+    After (Counts 1) (Gives (Word p.line code)) p s rest
+StatementFrom dictionary n inner keyword.Other p s rest = ⊥
 
-abbrev pub StatementIs : List Reading → ℕ → Form Place Statement → Form Place Statement
-StatementIs lines n inner p s rest = StatementFrom lines n inner (keyword_in (next_token p).0) (next_token p).1 s rest
+abbrev pub StatementIs : Dictionary → ℕ → Form Place Statement → Form Place Statement
+StatementIs dictionary n inner p s rest =
+    StatementFrom dictionary n inner (keyword_in (next_token p).0) (next_token p).1 s rest
 
 -- a statement inside which fewer than n signs `{`, `(` and `!` are open at once
-abbrev pub Nested : List Reading → ℕ → Form Place Statement
-Nested lines zero p s rest = ⊥
-Nested lines (suc n) p s rest = StatementIs lines n (Nested lines n) p s rest
+abbrev pub Nested : Dictionary → ℕ → Form Place Statement
+Nested dictionary zero p s rest = ⊥
+Nested dictionary (suc n) p s rest = StatementIs dictionary n (Nested dictionary n) p s rest

@@ -1,7 +1,7 @@
 //! Whole policies.
 
 ghost use Rattle.std.specs.Prelude.{◌≡◌, ◌≤◌, ℕ, List, IfOk, IsTrue};
-ghost use Rattle.avp_dict.specs.declared.readings.Reading.{Reading};
+ghost use Rattle.avp_dict.specs.Dictionary.{Dictionary};
 ghost use Rattle.avp_unlang.specs.declared.tree.Statement.{Statement as Tree};
 ghost use Rattle.avp_unlang.specs.Cleanness.{KeepsReplyClean};
 ghost use Rattle.avp_unlang.specs.Forms.{ReadsAll};
@@ -86,7 +86,8 @@ pub fn read_policy(
 
 /// A text spells at most one policy by a dictionary.
 pub fn one_policy()
-    ensures { (lines : List Reading) (text : List ℕ) (xs ys : List Tree) → SpellsPolicy lines text xs → SpellsPolicy lines text ys → xs ≡ ys }
+    ensures { (dictionary : Dictionary) (text : List ℕ) (xs ys : List Tree)
+        → SpellsPolicy dictionary text xs → SpellsPolicy dictionary text ys → xs ≡ ys }
 {}
 
 /// A policy that was read by a dictionary keeps reply lists clean: what is written of them is read back as they are.

@@ -58,9 +58,11 @@ fn limit_session<S: Store>(rt: &HostRuntime, store: &mut S) -> io::Result<()> {
 // The first pairs of the reply list, and how many there are.
 fn print_reply<S: Store>(rt: &HostRuntime, store: &S) -> io::Result<()> {
     println!(rt; "reply: {} pairs", store.count(List::Reply))?;
-    for pair in store.pairs(List::Reply)?.iter().take(2) {
-        if let (AttrId::Plain(number), Value::Int(seconds)) = (pair.id, &pair.value) {
-            println!(rt; "  Attr-{number} = {seconds}")?;
+    for at in 0..2 {
+        if let Some(pair) = store.pair(List::Reply, at) {
+            if let (AttrId::Plain(number), Value::Int(seconds)) = (pair.id, &pair.value) {
+                println!(rt; "  Attr-{number} = {seconds}")?;
+            }
         }
     }
     Ok(())

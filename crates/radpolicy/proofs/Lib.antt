@@ -3,6 +3,7 @@ pub mod DistinctFiles
 pub mod Names
 pub mod OneReport
 pub mod PacketRoom
+pub mod PresentLists
 pub mod Refusals
 pub mod Replying
 pub mod ReplyReads

@@ -1,6 +1,6 @@
 -- A job has at most one report, and none if it is refused.
 use Rattle.std.proofs.Common.{◌≡◌, ◌∙◌, ◌≢◌, ◌⊎◌, ℕ, inl, inr, Option, Some, None, Result, Ok, Err, List, ap, ap₂, subst, sym, refl}
-use Rattle.avp_dict.specs.declared.readings.Reading.{Reading}
+use Rattle.avp_dict.specs.Dictionary.{Dictionary}
 use Rattle.avp_packet.specs.declared.packets.Packet.{Packet}
 use Rattle.radpolicy.specs.declared.faults.Fault.{Fault}
 use Rattle.radpolicy.specs.declared.faults.Fault.TheVariants as fault
@@ -31,7 +31,7 @@ not_both_some a o h g = cc
 
 -- ---- what a job is made from
 
-abbrev opened : List Reading → Option (List ℕ) → Opened
+abbrev opened : Dictionary → Option (List ℕ) → Opened
 opened dictionary secret = record { dictionary = dictionary; secret = secret }
 
 module _ (job : Job) where
@@ -41,7 +41,7 @@ module _ (job : Job) where
       let secret = the_some a.secret b.secret (secret_for job) h.secret g.secret in
       ap₂ opened dictionary secret
 
-  one_statements : (d : List Reading) (a b : List Statement) → IsPolicy job d a → IsPolicy job d b → a ≡ b
+  one_statements : (d : Dictionary) (a b : List Statement) → IsPolicy job d a → IsPolicy job d b → a ≡ b
   one_statements d a b h g = one_policy d (policy_of job) a b h g
 
   one_request : (o : Opened) (a b : Packet) → IsReceived job o a → IsReceived job o b → a ≡ b
@@ -72,7 +72,7 @@ module _ (job : Job) where
         let request = one_request o r.0 g.request r.1 g.received in
         the_some a b (made_of o g.request) (sym (ap (made_of o) request) ∙ r.2) g.made
 
-  one_size : (policy : Option (List ℕ)) (d : List Reading) (a b : Option ℕ) → IsSizeOf policy job d a → IsSizeOf policy job d b → a ≡ b
+  one_size : (policy : Option (List ℕ)) (d : Dictionary) (a b : Option ℕ) → IsSizeOf policy job d a → IsSizeOf policy job d b → a ≡ b
   one_size None d a b h g = h ∙ sym g
   one_size (Some text) d a b h g =
       let statements = one_policy d _ h.0 g.0 h.1 g.1 in
@@ -81,7 +81,7 @@ module _ (job : Job) where
   one_check_report : (a b : Report) → IsCheckReport job a → IsCheckReport job b → a ≡ b
   one_check_report a b h g =
       let same = the_ok h.dictionary g.dictionary (dictionary_for job) h.read g.read in
-      let size = one_size job.policy g.dictionary h.size g.size (subst (λ (d : List Reading). IsSizeOf job.policy job d h.size) same h.policy) g.policy in
+      let size = one_size job.policy g.dictionary h.size g.size (subst (λ (d : Dictionary). IsSizeOf job.policy job d h.size) same h.policy) g.policy in
       h.text ∙ ap₂ (λ d n. check_report job.files d n) same size ∙ sym g.text
 
   step_of_other : (o : Opened) (a : Report) (h : IsStepReport job a) → h.opened ≡ o → (statements : List Statement) × (request : Packet) × IsPolicy job o.dictionary statements × IsReceived job o request × (a ≡ step_report h.script (walk_of o.dictionary statements request))
@@ -106,7 +106,7 @@ module _ (job : Job) where
 
   -- ---- no report of a refused job
 
-  dictionary_read : (d : List Reading) (f : Fault) → dictionary_for job ≡ Ok d → IsDictionaryRefusal job f → ⊥
+  dictionary_read : (d : Dictionary) (f : Fault) → dictionary_for job ≡ Ok d → IsDictionaryRefusal job f → ⊥
   dictionary_read d (fault.Dictionary g) read refused = not_both_ok d g (dictionary_for job) read refused
   dictionary_read d _ read refused = refused
 
@@ -170,7 +170,7 @@ module _ (job : Job) where
           let request = one_request o r.0 long.0 r.1 long.1 in
           not_both_some report (made_of o long.0) (sym (ap (made_of o) request) ∙ r.2) long.2
 
-  spelled_by : (policy : Option (List ℕ)) (d : List Reading) (size : Option ℕ) → policy ≢ None → IsSizeOf policy job d size → (statements : List Statement) × IsPolicy job d statements
+  spelled_by : (policy : Option (List ℕ)) (d : Dictionary) (size : Option ℕ) → policy ≢ None → IsSizeOf policy job d size → (statements : List Statement) × IsPolicy job d statements
   spelled_by None d size given h = absurd (given refl)
   spelled_by (Some text) d size given h = (h.0, h.1)
 
@@ -178,7 +178,7 @@ module _ (job : Job) where
   check_not report f h (inl refused) = dictionary_read h.dictionary f h.read refused
   check_not report f h (inr refused) =
       let same = the_ok h.dictionary refused.dictionary (dictionary_for job) h.read refused.read in
-      let spelled = spelled_by job.policy refused.dictionary h.size refused.given (subst (λ (d : List Reading). IsSizeOf job.policy job d h.size) same h.policy) in
+      let spelled = spelled_by job.policy refused.dictionary h.size refused.given (subst (λ (d : Dictionary). IsSizeOf job.policy job d h.size) same h.policy) in
       refused.none spelled.0 spelled.1
 
   not_both_of : (command : Command) (report : Report) (f : Fault) → ReportOf command job report → RefusalOf command job f → ⊥

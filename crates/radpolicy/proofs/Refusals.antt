@@ -4,7 +4,7 @@ use Rattle.radpolicy.specs.declared.faults.Fault.TheVariants.{Memory}
 use Rattle.avp_unlang.specs.declared.faults.PolicyFault.{PolicyFault}
 use Rattle.avp_unlang.specs.declared.faults.PolicyKind.{PolicyKind}
 use Rattle.avp_unlang.specs.declared.faults.PolicyKind.TheVariants as kind
-use Rattle.avp_dict.specs.declared.readings.Reading.{Reading}
+use Rattle.avp_dict.specs.Dictionary.{Dictionary}
 use Rattle.avp_unlang.specs.declared.tree.Statement.{Statement}
 use Rattle.radpolicy.specs.declared.jobs.Job.{Job}
 use Rattle.radpolicy.specs.Faults.{fault_of_policy}
@@ -28,7 +28,7 @@ policy_refused job f o opens none = elim (is_policy_fault f.line f.kind) [
   | inr found ↦ inr (record { opened = o; opens = opens; none = none found.1; fault = found.0 })
 ]
 
-pub checked_refused : (job : Job) (f : PolicyFault) (d : List Reading) → dictionary_for job ≡ Ok d → job.policy ≢ None → (f.kind ≢ kind.Memory → (statements : List Statement) → IsPolicy job d statements → ⊥) → (fault_of_policy f ≡ Memory) ⊎ IsCheckedPolicyRefusal job (fault_of_policy f)
+pub checked_refused : (job : Job) (f : PolicyFault) (d : Dictionary) → dictionary_for job ≡ Ok d → job.policy ≢ None → (f.kind ≢ kind.Memory → (statements : List Statement) → IsPolicy job d statements → ⊥) → (fault_of_policy f ≡ Memory) ⊎ IsCheckedPolicyRefusal job (fault_of_policy f)
 checked_refused job f d read given none = elim (is_policy_fault f.line f.kind) [
   | inl memory ↦ inl memory
   | inr found ↦ inr (record { dictionary = d; read = read; given = given; none = none found.1; fault = found.0 })

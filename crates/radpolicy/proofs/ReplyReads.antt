@@ -2,7 +2,7 @@
 use Rattle.std.proofs.Common.{◌≡◌, ◌∙◌, ℕ, Bool, true, false, nat_le, cond, List, [], ◌++◌, length, Option, Some, None, refl, sym, ap, subst}
 use Rattle.avp_lists.specs.declared.attributes.Pair.{Pair}
 use Rattle.avp_dict.specs.Sent.{sent}
-use Rattle.avp_dict.specs.declared.readings.Reading.{Reading}
+use Rattle.avp_dict.specs.Dictionary.{Dictionary}
 use Rattle.avp_packet.specs.Means.{Means}
 use Rattle.avp_packet.specs.Packets.{attributes_of, code_of, hiding_authenticator, is_reply, packet, reply}
 use Rattle.avp_packet.specs.Splitting.{left, parts}
@@ -20,34 +20,34 @@ within_by : (b : Bool) (os octets : List ℕ) → cond b (Some os) None ≡ Some
 within_by true os octets e = cc
 within_by false os octets e = absurd (cc)
 
-code_of_reply : (lines : List Reading) (key : List ℕ) (code id : ℕ) (authenticator : List ℕ) (pairs proxies : List Pair) → code_of (reply lines key code id authenticator pairs proxies) ≡ code
+code_of_reply : (dictionary : Dictionary) (key : List ℕ) (code id : ℕ) (authenticator : List ℕ) (pairs proxies : List Pair) → code_of (reply dictionary key code id authenticator pairs proxies) ≡ code
 unfolding reply packet
-code_of_reply lines key code id authenticator pairs proxies = refl
+code_of_reply dictionary key code id authenticator pairs proxies = refl
 
-module _ (lines : List Reading) (head : ReplyHead) (last : Code) (pairs : List Pair) where
+module _ (dictionary : Dictionary) (head : ReplyHead) (last : Code) (pairs : List Pair) where
   -- nothing is sent without a code
-  pub nothing_read : reply_code head.code last ≡ None → AnswerIsRead lines head last pairs
+  pub nothing_read : reply_code head.code last ≡ None → AnswerIsRead dictionary head last pairs
   unfolding AnswerIsRead answered_by
   nothing_read none = λ authenticator octets e sends. absurd (let nothing : Nothing ≡ Sent octets = rw none at sends in cc)
 
   module _ (code : ℕ) (authenticator os : List ℕ) (coded : reply_code head.code last ≡ Some code) (known : head.authenticator ≡ Some authenticator) where
     abbrev made : List ℕ
-    made = reply lines head.secret.now code head.id authenticator (reply_pairs last pairs) head.proxy_states.items
+    made = reply dictionary head.secret.now code head.id authenticator (reply_pairs last pairs) head.proxy_states.items
 
     pub sent_read : os ≡ made → is_reply os authenticator head.secret.now ≡ true → left (attributes_of os) ≡ []
-        → Means lines head.secret.now (hiding_authenticator code authenticator) (parts (attributes_of os)) (sent (reply_pairs last pairs) lines ++ sent head.proxy_states.items lines)
-        → AnswerIsRead lines head last pairs
+        → Means dictionary head.secret.now (hiding_authenticator code authenticator) (parts (attributes_of os)) (sent (reply_pairs last pairs) dictionary ++ sent head.proxy_states.items dictionary)
+        → AnswerIsRead dictionary head last pairs
     unfolding AnswerIsRead answered_by
     sent_read is accepted whole means = λ a octets e sends.
         let same_authenticator : authenticator ≡ a = cc in
         let within : sent_or_too_long (within_packet made) ≡ Sent octets = rw (coded, known) at sends in
         let same : os ≡ octets = is ∙ within_by (nat_le (length made) 4096) made octets (sent_inverts (within_packet made) octets within) in
-        let own : code_of os ≡ code = ap code_of is ∙ code_of_reply lines head.secret.now code head.id authenticator (reply_pairs last pairs) head.proxy_states.items in
-        let read : IsRead lines head.secret.now authenticator os (pairs_sent lines (reply_pairs last pairs) head.proxy_states.items) = record {
+        let own : code_of os ≡ code = ap code_of is ∙ code_of_reply dictionary head.secret.now code head.id authenticator (reply_pairs last pairs) head.proxy_states.items in
+        let read : IsRead dictionary head.secret.now authenticator os (pairs_sent dictionary (reply_pairs last pairs) head.proxy_states.items) = record {
           accepted = accepted;
           whole = whole;
           means =
-              subst (λ (c : ℕ). Means lines head.secret.now (hiding_authenticator c authenticator) (parts (attributes_of os)) (sent (reply_pairs last pairs) lines ++ sent head.proxy_states.items lines)) (sym own) means;
+              subst (λ (c : ℕ). Means dictionary head.secret.now (hiding_authenticator c authenticator) (parts (attributes_of os)) (sent (reply_pairs last pairs) dictionary ++ sent head.proxy_states.items dictionary)) (sym own) means;
         } in
-        let by_octets = subst (λ (xs : List ℕ). IsRead lines head.secret.now authenticator xs (pairs_sent lines (reply_pairs last pairs) head.proxy_states.items)) same read in
-        subst (λ (x : List ℕ). IsRead lines head.secret.now x octets (pairs_sent lines (reply_pairs last pairs) head.proxy_states.items)) same_authenticator by_octets
+        let by_octets = subst (λ (xs : List ℕ). IsRead dictionary head.secret.now authenticator xs (pairs_sent dictionary (reply_pairs last pairs) head.proxy_states.items)) same read in
+        subst (λ (x : List ℕ). IsRead dictionary head.secret.now x octets (pairs_sent dictionary (reply_pairs last pairs) head.proxy_states.items)) same_authenticator by_octets

@@ -9,7 +9,7 @@ use Rattle.avp_lists.specs.Instances.{has_id, instances}
 use Rattle.avp_lists.proofs.Equality.{same_id}
 use Rattle.avp_dict.specs.Limits.{fits}
 use Rattle.avp_dict.specs.Sent.{is_clean, is_clean_pair, is_container}
-use Rattle.avp_dict.specs.declared.readings.Reading.{Reading}
+use Rattle.avp_dict.specs.Dictionary.{Dictionary}
 use Rattle.avp_lists.specs.declared.attributes.AttrId.TheVariants.{Plain}
 use Rattle.avp_packet.specs.Own.{IsOwn}
 use Rattle.avp_unlang.specs.declared.codes.Code.{Code}
@@ -23,18 +23,18 @@ use Rattle.radpolicy.specs.Replies.{Sent, answer_of, answered_authenticator, pro
 use Rattle.avp_unlang.specs.Meaning.{Outcome as End}
 use Rattle.radpolicy.specs.code.ReplyHeads.{AnswerIsRead, IsHeadOf, IsLineHead, LineIsRead, answered_by}
 
-module _ (lines : List Reading) (pairs : List Pair) where
-  same_reply : (key : List ℕ) (id : ℕ) (a b : Option (List ℕ)) (proxies others : List Pair) (code : Option ℕ) → a ≡ b → proxies ≡ others → reply_with lines key id a pairs proxies code ≡ reply_with lines key id b pairs others code
+module _ (dictionary : Dictionary) (pairs : List Pair) where
+  same_reply : (key : List ℕ) (id : ℕ) (a b : Option (List ℕ)) (proxies others : List Pair) (code : Option ℕ) → a ≡ b → proxies ≡ others → reply_with dictionary key id a pairs proxies code ≡ reply_with dictionary key id b pairs others code
   same_reply key id a b proxies others code e f = rw (e, f) refl
 
-pub head_answers : (lines : List Reading) (head : ReplyHead) (form : Form) (r : Packet) → head.code ≡ r.code → head.id ≡ r.id → head.authenticator ≡ answered_authenticator form lines head.secret.now r → head.proxy_states.items ≡ proxy_states r → (end : End) → answered_by lines head end.code end.state.reply ≡ answer_of form lines head.secret.now r end
+pub head_answers : (dictionary : Dictionary) (head : ReplyHead) (form : Form) (r : Packet) → head.code ≡ r.code → head.id ≡ r.id → head.authenticator ≡ answered_authenticator form dictionary head.secret.now r → head.proxy_states.items ≡ proxy_states r → (end : End) → answered_by dictionary head end.code end.state.reply ≡ answer_of form dictionary head.secret.now r end
 unfolding answered_by answer_of
-head_answers lines head form r code id authenticator proxies end =
+head_answers dictionary head form r code id authenticator proxies end =
     let pairs = reply_pairs end.code end.state.reply in
     let key = head.secret.now in
-    same_reply lines pairs key head.id head.authenticator (answered_authenticator form lines key r) head.proxy_states.items (proxy_states r) (reply_code head.code end.code) authenticator proxies
-    ∙ ap (λ n. reply_with lines key head.id (answered_authenticator form lines key r) pairs (proxy_states r) (reply_code n end.code)) code
-    ∙ ap (λ n. reply_with lines key n (answered_authenticator form lines key r) pairs (proxy_states r) (reply_code r.code end.code)) id
+    same_reply dictionary pairs key head.id head.authenticator (answered_authenticator form dictionary key r) head.proxy_states.items (proxy_states r) (reply_code head.code end.code) authenticator proxies
+    ∙ ap (λ n. reply_with dictionary key head.id (answered_authenticator form dictionary key r) pairs (proxy_states r) (reply_code n end.code)) code
+    ∙ ap (λ n. reply_with dictionary key n (answered_authenticator form dictionary key r) pairs (proxy_states r) (reply_code r.code end.code)) id
 
 -- instances are of their id
 pub instances_are : (id : AttrId) (pairs : List Pair) → All (λ (p : Pair). p.id ≡ id) (instances id pairs)
@@ -46,12 +46,12 @@ instances_are id (q ∷ pairs) = by_test (has_id id q) refl (instances_are id pa
     by_test false e rest = rest
 
 -- instances of pairs that fit
-pub instances_fit : (lines : List Reading) (id : AttrId) (pairs : List Pair) → AllFit lines pairs → AllFit lines (instances id pairs)
-instances_fit lines id pairs all = All-filter (has_id id) (λ p. IsTrue (fits p lines)) pairs all
+pub instances_fit : (dictionary : Dictionary) (id : AttrId) (pairs : List Pair) → AllFit dictionary pairs → AllFit dictionary (instances id pairs)
+instances_fit dictionary id pairs all = All-filter (has_id id) (λ p. IsTrue (fits p dictionary)) pairs all
 
 -- ---- what is read back
 
-module _ (lines : List Reading) where
+module _ (dictionary : Dictionary) where
   both : (a b : Bool) → a ≡ true → b ≡ true → (a && b) ≡ true
   both a b e f = rw (e, f)
 
@@ -64,74 +64,74 @@ module _ (lines : List Reading) where
   and_right false b h = absurd (cc)
 
   -- instances of a clean list
-  pub instances_clean : (id : AttrId) (pairs : List Pair) → is_clean pairs lines ≡ true → is_clean (instances id pairs) lines ≡ true
+  pub instances_clean : (id : AttrId) (pairs : List Pair) → is_clean pairs dictionary ≡ true → is_clean (instances id pairs) dictionary ≡ true
   unfolding is_clean
   instances_clean id [] h = refl
   instances_clean id (q ∷ pairs) h =
-      by_test (has_id id q) (and_left (is_clean_pair lines q) (list_all (is_clean_pair lines) pairs) h)
-      (instances_clean id pairs (and_right (is_clean_pair lines q) (list_all (is_clean_pair lines) pairs) h))
+      by_test (has_id id q) (and_left (is_clean_pair dictionary q) (list_all (is_clean_pair dictionary) pairs) h)
+      (instances_clean id pairs (and_right (is_clean_pair dictionary q) (list_all (is_clean_pair dictionary) pairs) h))
     where
-      by_test : (b : Bool) → is_clean_pair lines q ≡ true → list_all (is_clean_pair lines) (filter (has_id id) pairs) ≡ true → list_all (is_clean_pair lines) (cond b (q ∷ filter (has_id id) pairs) (filter (has_id id) pairs)) ≡ true
-      by_test true own rest = both (is_clean_pair lines q) (list_all (is_clean_pair lines) (filter (has_id id) pairs)) own rest
+      by_test : (b : Bool) → is_clean_pair dictionary q ≡ true → list_all (is_clean_pair dictionary) (filter (has_id id) pairs) ≡ true → list_all (is_clean_pair dictionary) (cond b (q ∷ filter (has_id id) pairs) (filter (has_id id) pairs)) ≡ true
+      by_test true own rest = both (is_clean_pair dictionary q) (list_all (is_clean_pair dictionary) (filter (has_id id) pairs)) own rest
       by_test false own rest = rest
 
-  own_clean : (q : Pair) → q.id ≡ Plain 33 → IsOwn lines q → is_clean_pair lines q ≡ true
+  own_clean : (q : Pair) → q.id ≡ Plain 33 → IsOwn dictionary q → is_clean_pair dictionary q ≡ true
   own_clean q e own =
       let free : is_container q.id ≡ false = ap is_container e in
       let canonical = own free in
       rw (canonical, free)
 
   -- the Proxy-States of pairs that are read from a packet
-  pub proxies_clean : (pairs : List Pair) → All (IsOwn lines) pairs → is_clean (instances (Plain 33) pairs) lines ≡ true
+  pub proxies_clean : (pairs : List Pair) → All (IsOwn dictionary) pairs → is_clean (instances (Plain 33) pairs) dictionary ≡ true
   unfolding is_clean
   proxies_clean [] all = refl
-  proxies_clean (q ∷ pairs) all = by_test (has_id (Plain 33) q) refl (proxies_clean pairs (All-tail (IsOwn lines) q pairs all))
+  proxies_clean (q ∷ pairs) all = by_test (has_id (Plain 33) q) refl (proxies_clean pairs (All-tail (IsOwn dictionary) q pairs all))
     where
-      by_test : (b : Bool) → has_id (Plain 33) q ≡ b → list_all (is_clean_pair lines) (filter (has_id (Plain 33)) pairs) ≡ true
-          → list_all (is_clean_pair lines) (cond b (q ∷ filter (has_id (Plain 33)) pairs) (filter (has_id (Plain 33)) pairs)) ≡ true
+      by_test : (b : Bool) → has_id (Plain 33) q ≡ b → list_all (is_clean_pair dictionary) (filter (has_id (Plain 33)) pairs) ≡ true
+          → list_all (is_clean_pair dictionary) (cond b (q ∷ filter (has_id (Plain 33)) pairs) (filter (has_id (Plain 33)) pairs)) ≡ true
       by_test true e rest =
-          both (is_clean_pair lines q) (list_all (is_clean_pair lines) (filter (has_id (Plain 33)) pairs)) (own_clean q (same_id q.id (Plain 33) e) (All-head (IsOwn lines) q pairs all)) rest
+          both (is_clean_pair dictionary q) (list_all (is_clean_pair dictionary) (filter (has_id (Plain 33)) pairs)) (own_clean q (same_id q.id (Plain 33) e) (All-head (IsOwn dictionary) q pairs all)) rest
       by_test false e rest = rest
 
-  pub reply_clean : (last : Code) (pairs : List Pair) → is_clean pairs lines ≡ true → is_clean (reply_pairs last pairs) lines ≡ true
+  pub reply_clean : (last : Code) (pairs : List Pair) → is_clean pairs dictionary ≡ true → is_clean (reply_pairs last pairs) dictionary ≡ true
   unfolding is_clean
   reply_clean codes.Fail pairs h = refl
   reply_clean _ pairs h = h
 
   -- what a head's reply is read as is what the run's is
-  pub read_by : (head : ReplyHead) (form : Form) (key : List ℕ) (r : Packet) (end : End) (last : Code) (pairs : List Pair) → IsHeadOf form lines key r head → end.code ≡ last → pairs ≡ end.state.reply
-      → AnswerIsRead lines head last pairs → ReplyIsRead form lines key r end
+  pub read_by : (head : ReplyHead) (form : Form) (key : List ℕ) (r : Packet) (end : End) (last : Code) (pairs : List Pair) → IsHeadOf form dictionary key r head → end.code ≡ last → pairs ≡ end.state.reply
+      → AnswerIsRead dictionary head last pairs → ReplyIsRead form dictionary key r end
   unfolding AnswerIsRead
   read_by head form key r end last pairs is code reply read = λ authenticator octets answered sends.
-      let own : answered_by lines head end.code end.state.reply ≡ answer_of form lines head.secret.now r end =
-      head_answers lines head form r is.code is.id (is.authenticator ∙ ap (λ k. answered_authenticator form lines k r) (sym is.secret)) is.proxies end in
-      let sent_by : answered_by lines head last pairs ≡ Sent octets =
-      ap (λ c. answered_by lines head c pairs) (sym code) ∙ ap (λ ps. answered_by lines head end.code ps) reply ∙ own ∙ ap (λ k. answer_of form lines k r end) is.secret ∙ sends in
+      let own : answered_by dictionary head end.code end.state.reply ≡ answer_of form dictionary head.secret.now r end =
+      head_answers dictionary head form r is.code is.id (is.authenticator ∙ ap (λ k. answered_authenticator form dictionary k r) (sym is.secret)) is.proxies end in
+      let sent_by : answered_by dictionary head last pairs ≡ Sent octets =
+      ap (λ c. answered_by dictionary head c pairs) (sym code) ∙ ap (λ ps. answered_by dictionary head end.code ps) reply ∙ own ∙ ap (λ k. answer_of form dictionary k r end) is.secret ∙ sends in
       let known = read authenticator octets (is.authenticator ∙ answered) sent_by in
-      let by_key = subst (λ (k : List ℕ). IsRead lines k authenticator octets (pairs_sent lines (reply_pairs last pairs) head.proxy_states.items)) is.secret known in
-      let by_proxies = subst (λ (ps : List Pair). IsRead lines key authenticator octets (pairs_sent lines (reply_pairs last pairs) ps)) is.proxies by_key in
-      let by_code = subst (λ (c : Code). IsRead lines key authenticator octets (pairs_sent lines (reply_pairs c pairs) (proxy_states r))) (sym code) by_proxies in
-      subst (λ (ps : List Pair). IsRead lines key authenticator octets (pairs_sent lines (reply_pairs end.code ps) (proxy_states r))) reply by_code
+      let by_key = subst (λ (k : List ℕ). IsRead dictionary k authenticator octets (pairs_sent dictionary (reply_pairs last pairs) head.proxy_states.items)) is.secret known in
+      let by_proxies = subst (λ (ps : List Pair). IsRead dictionary key authenticator octets (pairs_sent dictionary (reply_pairs last pairs) ps)) is.proxies by_key in
+      let by_code = subst (λ (c : Code). IsRead dictionary key authenticator octets (pairs_sent dictionary (reply_pairs c pairs) (proxy_states r))) (sym code) by_proxies in
+      subst (λ (ps : List Pair). IsRead dictionary key authenticator octets (pairs_sent dictionary (reply_pairs end.code ps) (proxy_states r))) reply by_code
 
   -- the same where there may be no secret
-  pub line_read_by : (head : Option ReplyHead) (form : Form) (key : Option (List ℕ)) (r : Packet) (end : End) (last : Code) (pairs : List Pair) → IsLineHead form lines key r head → end.code ≡ last → pairs ≡ end.state.reply
-      → LineIsRead lines head last pairs → (secret : List ℕ) → key ≡ Some secret → ReplyIsRead form lines secret r end
+  pub line_read_by : (head : Option ReplyHead) (form : Form) (key : Option (List ℕ)) (r : Packet) (end : End) (last : Code) (pairs : List Pair) → IsLineHead form dictionary key r head → end.code ≡ last → pairs ≡ end.state.reply
+      → LineIsRead dictionary head last pairs → (secret : List ℕ) → key ≡ Some secret → ReplyIsRead form dictionary secret r end
   unfolding LineIsRead
   line_read_by head form None r end last pairs is code reply read secret e = absurd (cc)
   line_read_by None form (Some k) r end last pairs is code reply read secret e = absurd is
   line_read_by (Some head) form (Some k) r end last pairs is code reply read secret e =
       let same : k ≡ secret = cc in
-      subst (λ (s : List ℕ). ReplyIsRead form lines s r end) same (read_by head form k r end last pairs is code reply (read head refl))
+      subst (λ (s : List ℕ). ReplyIsRead form dictionary s r end) same (read_by head form k r end last pairs is code reply (read head refl))
 
-  pub none_clean : is_clean [] lines ≡ true
+  pub none_clean : is_clean [] dictionary ≡ true
   unfolding is_clean
   none_clean = refl
 
-  pub head_read : (head : Option ReplyHead) (own : ReplyHead) (last : Code) (pairs : List Pair) → head ≡ Some own → AnswerIsRead lines own last pairs → LineIsRead lines head last pairs
+  pub head_read : (head : Option ReplyHead) (own : ReplyHead) (last : Code) (pairs : List Pair) → head ≡ Some own → AnswerIsRead dictionary own last pairs → LineIsRead dictionary head last pairs
   unfolding LineIsRead
-  head_read head own last pairs is read = λ other e. let same : own ≡ other = cc in subst (λ (h : ReplyHead). AnswerIsRead lines h last pairs) same read
+  head_read head own last pairs is read = λ other e. let same : own ≡ other = cc in subst (λ (h : ReplyHead). AnswerIsRead dictionary h last pairs) same read
 
-  pub none_read : (head : Option ReplyHead) (last : Code) (pairs : List Pair) → head ≡ None → LineIsRead lines head last pairs
+  pub none_read : (head : Option ReplyHead) (last : Code) (pairs : List Pair) → head ≡ None → LineIsRead dictionary head last pairs
   unfolding LineIsRead
   none_read head last pairs is = λ other e. absurd (cc)
 

@@ -4,8 +4,8 @@ use Rattle.std.specs.Option.{option_map, unwrap_or}
 use Rattle.avp_lists.specs.declared.attributes.Pair.{Pair}
 use Rattle.avp_lists.specs.declared.lists.State.{State}
 use Rattle.avp_dict.specs.declared.faults.DictFault.{DictFault}
-use Rattle.avp_dict.specs.declared.readings.Reading.{Reading}
-use Rattle.avp_dict.specs.Dictionary.{dictionary_of, most_lines}
+use Rattle.avp_dict.specs.Dictionary.{Dictionary}
+use Rattle.avp_dict.specs.DictionaryReading.{dictionary_of, most_lines}
 use Rattle.avp_packet.specs.declared.packets.Packet.{Packet}
 use Rattle.radpolicy.specs.declared.faults.Fault.{Fault}
 use Rattle.radpolicy.specs.declared.faults.Fault.TheVariants as fault
@@ -31,12 +31,12 @@ use Rattle.radpolicy.specs.declared.scripts.ScriptWord.{ScriptWord}
 -- ---- what a job is made from
 
 -- the dictionary of the job's files, or the first refusal
-abbrev pub dictionary_for : Job → Result (List Reading) DictFault
+abbrev pub dictionary_for : Job → Result Dictionary DictFault
 dictionary_for job = dictionary_of most_lines job.files
 
 -- the dictionary and the secret of a job
 pub record Opened : Type 0 where
-  pub dictionary : List Reading
+  pub dictionary : Dictionary
   pub secret : Option (List ℕ)
 
 pub record IsOpened (job : Job) (opened : Opened) : Type 0 where
@@ -56,7 +56,7 @@ abbrev pub policy_of : Job → List ℕ
 policy_of job = unwrap_or job.policy []
 
 -- the job's policy spells these statements
-abbrev pub IsPolicy : Job → List Reading → List Statement → Type 0
+abbrev pub IsPolicy : Job → Dictionary → List Statement → Type 0
 IsPolicy job dictionary statements = SpellsPolicy dictionary (policy_of job) statements
 
 -- ---- runs
@@ -66,7 +66,7 @@ abbrev pub entry_state : List Pair → State
 entry_state pairs = record { request = pairs; reply = []; control = [] }
 
 -- what the policy means from the request's pairs, two empty lists and the code `ok`
-abbrev pub run_of : List Reading → List Statement → Packet → End
+abbrev pub run_of : Dictionary → List Statement → Packet → End
 run_of dictionary statements request = meaning_of dictionary statements (entry_state request.list) Code.Ok
 
 -- the line of what the run sends: nothing is said of it without a secret; none where a packet is too long
@@ -99,7 +99,7 @@ abbrev pub IsScript : Job → List ScriptWord → Type 0
 IsScript job script = script_spelled (script_of job) ≡ Ok script
 
 -- the walk over the policy's trace, at its start
-abbrev pub walk_of : List Reading → List Statement → Packet → Walk
+abbrev pub walk_of : Dictionary → List Statement → Packet → Walk
 walk_of dictionary statements request = record { dictionary = dictionary; trace = trace_of dictionary statements (entry_state request.list); position = 0 }
 
 -- the report of a walk by a script
@@ -141,13 +141,13 @@ pub record IsPacketReport (made_of : Opened → Packet → Option Report) (job :
 -- ---- checks
 
 -- the size of the job's policy, where it has one
-abbrev pub IsSizeOf : Option (List ℕ) → Job → List Reading → Option ℕ → Type 0
+abbrev pub IsSizeOf : Option (List ℕ) → Job → Dictionary → Option ℕ → Type 0
 IsSizeOf None job dictionary size = size ≡ None
 IsSizeOf (Some text) job dictionary size = (statements : List Statement) × IsPolicy job dictionary statements × (size ≡ Some (size_of statements))
 
 -- the report of a check: what the dictionary holds, and how large the policy is
 pub record IsCheckReport (job : Job) (report : Report) : Type 0 where
-  pub dictionary : List Reading
+  pub dictionary : Dictionary
   pub size : Option ℕ
   pub read : dictionary_for job ≡ Ok dictionary
   pub policy : IsSizeOf job.policy job dictionary size
@@ -173,7 +173,7 @@ IsDictionaryRefusal job _ = ⊥
 
 -- a secret's file that holds no secret
 pub record IsSecretRefusal (job : Job) (f : Fault) : Type 0 where
-  pub dictionary : List Reading
+  pub dictionary : Dictionary
   pub read : dictionary_for job ≡ Ok dictionary
   pub secret : secret_for job ≡ None
   pub fault : f ≡ fault.EmptySecret
@@ -233,7 +233,7 @@ IsPacketRefusal made_of job f = IsOpenRefusal job f ⊎ IsMakingRefusal made_of 
 
 -- the policy of a check spells no statements
 pub record IsCheckedPolicyRefusal (job : Job) (f : Fault) : Type 0 where
-  pub dictionary : List Reading
+  pub dictionary : Dictionary
   pub read : dictionary_for job ≡ Ok dictionary
   pub given : job.policy ≢ None
   pub none : (statements : List Statement) → IsPolicy job dictionary statements → ⊥

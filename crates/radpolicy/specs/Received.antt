@@ -5,7 +5,7 @@ use Rattle.std.specs.Result.{result_ok}
 use Rattle.hex.specs.Hex.{decode_of}
 use Rattle.avp_lists.specs.declared.attributes.Pair.{Pair}
 use Rattle.avp_dict.specs.declared.line_faults.LineKind.TheVariants as line
-use Rattle.avp_dict.specs.declared.readings.Reading.{Reading}
+use Rattle.avp_dict.specs.Dictionary.{Dictionary}
 use Rattle.avp_dict.specs.Requests.{request_spelled}
 use Rattle.avp_packet.specs.declared.faults.PacketFault.{PacketFault}
 use Rattle.avp_packet.specs.declared.packets.Packet.{Packet}
@@ -38,7 +38,7 @@ unread_packet (Ok packet) = Ok packet
 unread_packet (Err fault) = Err (BadPacket fault)
 
 -- a packet in hexadecimal digits
-abbrev pub packet_for : List Reading → List ℕ → Option (List ℕ) → Result Packet Unread
+abbrev pub packet_for : Dictionary → List ℕ → Option (List ℕ) → Result Packet Unread
 packet_for dictionary secret None = Err NotHex
 packet_for dictionary secret (Some octets) = unread_packet (decoded dictionary secret octets)
 
@@ -48,12 +48,12 @@ lines_for code job None = Err BadLines
 lines_for code job (Some pairs) = Ok (record { code = code; id = job.identifier; authenticator = unwrap_or job.authenticator zeros; list = pairs })
 
 -- the request of a job, by its form
-abbrev pub request_of : Form → List Reading → Option (List ℕ) → Job → Result Packet Unread
+abbrev pub request_of : Form → Dictionary → Option (List ℕ) → Job → Result Packet Unread
 request_of Hex dictionary secret job = packet_for dictionary (unwrap_or secret []) (hex_octets job.request)
 request_of Access dictionary secret job = lines_for 1 job (request_spelled job.request dictionary)
 request_of Accounting dictionary secret job = lines_for 4 job (request_spelled job.request dictionary)
 
-abbrev pub request_for : List Reading → Option (List ℕ) → Job → Result Packet Unread
+abbrev pub request_for : Dictionary → Option (List ℕ) → Job → Result Packet Unread
 request_for dictionary secret job = request_of job.form dictionary secret job
 
 -- The fault of a request that is none. Which fault of lines comes, and its line, is left open.

@@ -4,7 +4,7 @@ use Rattle.std.specs.Option.{option_and_then, option_map}
 use Rattle.avp_lists.specs.declared.attributes.AttrId.TheVariants.{Plain}
 use Rattle.avp_lists.specs.declared.attributes.Pair.{Pair}
 use Rattle.avp_lists.specs.Instances.{instances}
-use Rattle.avp_dict.specs.declared.readings.Reading.{Reading}
+use Rattle.avp_dict.specs.Dictionary.{Dictionary}
 use Rattle.avp_packet.specs.declared.packets.Packet.{Packet}
 use Rattle.avp_packet.specs.Packets.{authenticator_of, reply, request}
 use Rattle.avp_unlang.specs.declared.codes.Code.{Code}
@@ -18,7 +18,7 @@ abbrev pub within_packet : List ℕ → Option (List ℕ)
 within_packet octets = if nat_le (length octets) 4096 then Some octets else None
 
 -- the packet of a request
-abbrev pub request_packet : List Reading → List ℕ → Packet → Option (List ℕ)
+abbrev pub request_packet : Dictionary → List ℕ → Packet → Option (List ℕ)
 request_packet dictionary secret r = within_packet (request dictionary secret r.code r.id r.authenticator r.list)
 
 -- the code of an Access-Request's reply: an Access-Accept, or an Access-Reject
@@ -46,7 +46,7 @@ abbrev pub proxy_states : Packet → List Pair
 proxy_states r = instances (Plain 33) r.list
 
 -- the authenticator that a reply answers: that of the request, which for the lines of an Accounting-Request is that of its packet
-abbrev pub answered_authenticator : Form → List Reading → List ℕ → Packet → Option (List ℕ)
+abbrev pub answered_authenticator : Form → Dictionary → List ℕ → Packet → Option (List ℕ)
 answered_authenticator Accounting dictionary secret r = option_map authenticator_of (request_packet dictionary secret r)
 answered_authenticator _ dictionary secret r = Some r.authenticator
 
@@ -63,12 +63,13 @@ sent_or_too_long (Some octets) = Sent octets
 sent_or_too_long None = TooLong
 
 -- the reply of this code with these pairs and Proxy-States, if there is one, to a request with this identifier and authenticator
-abbrev pub reply_with : List Reading → List ℕ → ℕ → Option (List ℕ) → List Pair → List Pair → Option ℕ → Answer
+abbrev pub reply_with : Dictionary → List ℕ → ℕ → Option (List ℕ) → List Pair → List Pair → Option ℕ
+    → Answer
 reply_with dictionary secret id authenticator pairs proxies None = Nothing
 reply_with dictionary secret id authenticator pairs proxies (Some code) =
     sent_or_too_long (option_and_then (λ a. within_packet (reply dictionary secret code id a pairs proxies)) authenticator)
 
 -- what a run sends that ended so
-unfoldable pub answer_of : Form → List Reading → List ℕ → Packet → End → Answer
+unfoldable pub answer_of : Form → Dictionary → List ℕ → Packet → End → Answer
 answer_of form dictionary secret r end =
     reply_with dictionary secret r.id (answered_authenticator form dictionary secret r) (reply_pairs end.code end.state.reply) (proxy_states r) (reply_code r.code end.code)

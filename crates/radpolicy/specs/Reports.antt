@@ -5,8 +5,8 @@ use Rattle.avp_lists.specs.declared.attributes.Pair.{Pair}
 use Rattle.avp_lists.specs.declared.lists.State.{State}
 use Rattle.avp_dict.specs.declared.entries.Note.{Note}
 use Rattle.avp_dict.specs.declared.files.NamedFile.{NamedFile}
-use Rattle.avp_dict.specs.declared.readings.Reading.{Reading}
-use Rattle.avp_dict.specs.Counts.{counts_of, notes_of}
+use Rattle.avp_dict.specs.Dictionary.{Dictionary}
+use Rattle.avp_dict.specs.Counts.{counts_of}
 use Rattle.avp_dict.specs.Printing.{printed_name, printed_text}
 use Rattle.avp_unlang.specs.declared.codes.Code.{Code}
 use Rattle.avp_unlang.specs.declared.codes.Code.TheVariants as code
@@ -18,15 +18,15 @@ use Rattle.radpolicy.specs.Replies.{Answer, Nothing, Sent, TooLong}
 use Rattle.avp_unlang.specs.Meaning.{Outcome as End}
 
 -- the line of a pair, by a dictionary
-abbrev pub pair_line : List Reading → Pair → List ℕ
+abbrev pub pair_line : Dictionary → Pair → List ℕ
 pair_line dictionary pair = codes "  " ++ printed_name pair.id pair.value dictionary ++ codes " = " ++ printed_text pair.id pair.value dictionary ++ codes "\n"
 
 -- a list: its name on a line, then a line for each pair
-abbrev pub list_text : List Reading → List ℕ → List Pair → List ℕ
+abbrev pub list_text : Dictionary → List ℕ → List Pair → List ℕ
 list_text dictionary name pairs = name ++ codes "\n" ++ flat_map (pair_line dictionary) pairs
 
 -- the three lists
-abbrev pub state_text : List Reading → State → List ℕ
+abbrev pub state_text : Dictionary → State → List ℕ
 state_text dictionary state =
     list_text dictionary (codes "request") state.request ++ list_text dictionary (codes "reply") state.reply ++ list_text dictionary (codes "control") state.control
 
@@ -59,7 +59,7 @@ answer_line (Sent octets) = Some (packet_line octets)
 answer_line TooLong = None
 
 -- the report of a run that ended so, with what it sends
-abbrev pub run_report : List Reading → End → List ℕ → Report
+abbrev pub run_report : Dictionary → End → List ℕ → Report
 run_report dictionary end line = record {
   text = state_text dictionary end.state ++ result_line end.code end.stopped ++ line;
   outcome = record { code = Some end.code; stopped = end.stopped };
@@ -76,7 +76,7 @@ abbrev pub plain_report : List ℕ → Report
 plain_report text = record { text = text; outcome = record { code = None; stopped = false } }
 
 -- a packet's head, and the request list
-abbrev pub packet_text : List Reading → Packet → List ℕ
+abbrev pub packet_text : Dictionary → Packet → List ℕ
 packet_text dictionary packet =
     count_line (codes "code") packet.code ++ count_line (codes "identifier") packet.id
     ++ codes "authenticator " ++ encode_lower packet.authenticator ++ codes "\n"
@@ -89,14 +89,14 @@ abbrev pub note_line : List NamedFile → Note → List ℕ
 note_line files note = codes "note " ++ name_at files note.file ++ codes ":" ++ decimal note.line ++ codes "\n"
 
 -- the files handed in, the names that they define, and the notes in the order of their lines
-abbrev pub dictionary_text : List NamedFile → List Reading → List ℕ
+abbrev pub dictionary_text : List NamedFile → Dictionary → List ℕ
 dictionary_text files dictionary =
     count_line (codes "files") (length files)
     ++ count_line (codes "attributes") (counts_of dictionary).attributes
     ++ count_line (codes "values") (counts_of dictionary).values
     ++ count_line (codes "vendors") (counts_of dictionary).vendors
-    ++ count_line (codes "notes") (length (notes_of dictionary))
-    ++ flat_map (note_line files) (notes_of dictionary)
+    ++ count_line (codes "notes") (length dictionary.notes)
+    ++ flat_map (note_line files) dictionary.notes
 
 -- the line of a policy's size, where a policy was given
 abbrev pub size_text : Option ℕ → List ℕ
@@ -104,5 +104,5 @@ size_text None = []
 size_text (Some size) = count_line (codes "size") size
 
 -- the report of a check
-abbrev pub check_report : List NamedFile → List Reading → Option ℕ → Report
+abbrev pub check_report : List NamedFile → Dictionary → Option ℕ → Report
 check_report files dictionary size = plain_report (dictionary_text files dictionary ++ size_text size)

@@ -3,7 +3,6 @@
 ghost use Rattle.std.specs.Prelude.{All, ◌≡◌, ◌≢◌, ◌≤◌, ◌⊎◌, ◌<◌, List, None, Ok, Some, true, false, length, IfOk, IfErr, IfSome, IsErrOf, OnOk};
 ghost use Rattle.std.specs.Io.KnownBytes.{Appends};
 ghost use Rattle.std.specs.Option.{option_copied};
-ghost use Rattle.avp_dict.specs.Counts.{notes_of};
 ghost use Rattle.radpolicy.specs.Faults.{IsPrintedWith};
 ghost use Rattle.radpolicy.specs.JobReports.{IsCheckRefusal, IsCheckReport, IsCheckedPolicyRefusal, IsDictionaryRefusal, IsOpened, IsMakingRefusal, IsOpenRefusal, IsPacketReport, IsPolicy, IsPolicyRefusal, IsRefused, IsReport, IsRequestOrReplyRefusal, IsRunReport, IsScript, IsScriptOrRequestRefusal, IsSizeOf, IsStepReport, decode_report, dictionary_for, encode_report, policy_of, script_of};
 ghost use Rattle.radpolicy.specs.Scripts.{IsUnknownWord, script_spelled};
@@ -52,7 +51,8 @@ fn policy_of(job: &Job) -> &[u8]
 fn dictionary_of(alloc: Global, job: &Job) -> Result<Dictionary, Fault>
     requires sound { IsSound (asked_by_job job.now) }
     ensures ok { IfOk result (λ dictionary. dictionary_for job.now ≡ Ok dictionary) }
-    ensures noted { IfOk result (λ dictionary. All (λ note. note.file < length job.now.files) (notes_of dictionary)) }
+    ensures noted { IfOk result (λ dictionary.
+        All (λ note. note.file < length job.now.files) dictionary.notes) }
     ensures refused { IfErr result (λ f. (f ≡ fault.Memory) ⊎ IsDictionaryRefusal job.now f) }
     ensures printed { IfErr result (λ f. IsPrintedWith job.now.files f) }
 {

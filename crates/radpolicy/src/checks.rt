@@ -2,7 +2,6 @@
 
 ghost use Rattle.std.specs.Prelude.{◌≡◌, ◌<◌, ◌++◌, All, codes, decimal, length, IfOk, OnOk};
 ghost use Rattle.std.specs.List.{flat_map};
-ghost use Rattle.avp_dict.specs.Counts.{notes_of};
 ghost use Rattle.radpolicy.specs.Faults.{name_at};
 ghost use Rattle.radpolicy.specs.Reports.{count_line, dictionary_text, note_line, size_text};
 
@@ -69,7 +68,7 @@ pub(crate) fn text_of_check(
     dictionary: &Dictionary,
     size: Option<usize>,
 ) -> Result<Vec<u8>, AllocError>
-    requires { All (λ note. note.file < length files.now) (notes_of dictionary.now) }
+    requires { All (λ note. note.file < length files.now) dictionary.now.notes }
     ensures { IfOk result (λ text. text.items ≡ dictionary_text files.now dictionary.now ++ size_text size) }
 {
     let counts = dictionary.counts();

@@ -2,7 +2,7 @@
 
 ghost use Rattle.std.specs.Prelude.{◌≡◌, ◌++◌, codes, IfOk, IsTrue, OnOk};
 ghost use Rattle.avp_lists.specs.History.{present};
-ghost use Rattle.avp_lists.specs.Lending.{lent};
+ghost use Rattle.avp_lists.specs.States.{list_of};
 ghost use Rattle.avp_lists.specs.declared.lists.State.{State};
 ghost use Rattle.avp_dict.specs.Limits.{fits};
 ghost use Rattle.avp_unlang.specs.Resolutions.{StateFits};
@@ -11,7 +11,7 @@ ghost use Rattle.radpolicy.specs.Reports.{code_text, list_text, packet_line, pac
 
 use crate::checks::push_count;
 use avp_dict::Dictionary;
-use avp_lists::{List, Pair, Store, lend};
+use avp_lists::{List, Pair, Store};
 use avp_packet::Packet;
 use avp_unlang::Code;
 use std::alloc::{AllocError, Global};
@@ -35,15 +35,36 @@ fn push_list(
     text: &mut Vec<u8>,
     dictionary: &Dictionary,
     name: &str,
-    pairs: &[&Pair],
+    pairs: &[Pair],
 ) -> Result<(), AllocError>
-    requires { AllFit dictionary.now (lent pairs.now) }
-    ensures { OnOk result (text.new.items ≡ text.old.items ++ list_text dictionary.now name.now (lent pairs.now)) }
+    requires { AllFit dictionary.now pairs.now }
+    ensures { OnOk result (text.new.items ≡ text.old.items ++ list_text dictionary.now name.now pairs.now) }
 {
     text.extend_from_slice(name.as_bytes())?;
     text.extend_from_slice(b"\n")?;
     for pair in pairs {
         push_pair(text, dictionary, pair)?;
+    }
+    Ok(())
+}
+
+// A present list under its name, its pairs read where they are.
+fn push_present<S: Store>(
+    text: &mut Vec<u8>,
+    dictionary: &Dictionary,
+    name: &str,
+    store: &S,
+    list: List,
+) -> Result<(), AllocError>
+    requires { AllFit dictionary.now (list_of list (present (S.history store.now))) }
+    ensures { OnOk result (text.new.items ≡ text.old.items ++ list_text dictionary.now name.now (list_of list (present (S.history store.now)))) }
+{
+    text.extend_from_slice(name.as_bytes())?;
+    text.extend_from_slice(b"\n")?;
+    for at in 0..store.count(list) {
+        if let Some(pair) = store.pair(list, at) {
+            push_pair(text, dictionary, pair)?;
+        }
     }
     Ok(())
 }
@@ -57,24 +78,9 @@ pub(crate) fn push_lists<S: Store>(
     requires { StateFits dictionary.now (present (S.history store.now)) }
     ensures { OnOk result (text.new.items ≡ text.old.items ++ state_text dictionary.now (present (S.history store.now))) }
 {
-    push_list(
-        text,
-        dictionary,
-        "request",
-        store.pairs(List::Request)?.as_slice(),
-    )?;
-    push_list(
-        text,
-        dictionary,
-        "reply",
-        store.pairs(List::Reply)?.as_slice(),
-    )?;
-    push_list(
-        text,
-        dictionary,
-        "control",
-        store.pairs(List::Control)?.as_slice(),
-    )?;
+    push_present(text, dictionary, "request", store, List::Request)?;
+    push_present(text, dictionary, "reply", store, List::Reply)?;
+    push_present(text, dictionary, "control", store, List::Control)?;
     Ok(())
 }
 
@@ -153,7 +159,6 @@ pub(crate) fn text_of_packet(
     text.extend_from_slice(b"authenticator ")?;
     text.extend_from_slice(hex::encode(alloc, packet.authenticator)?.as_bytes())?;
     text.extend_from_slice(b"\n")?;
-    let request = lend(alloc, packet.list.as_slice())?;
-    push_list(&mut text, dictionary, "request", request.as_slice())?;
+    push_list(&mut text, dictionary, "request", packet.list.as_slice())?;
     Ok(text)
 }

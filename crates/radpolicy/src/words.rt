@@ -1,4 +1,4 @@
-//! The words of the command line. All calls of `clap` stand here.
+//! The words of the command line, with all calls of `clap`.
 
 ghost use Rattle.std.specs.Prelude.{◌≡◌, ◌<◌, length, is_some, true, false, IfOk, IfErr};
 ghost use Rattle.radpolicy.specs.declared.jobs.Form.TheVariants.{Hex};
@@ -44,27 +44,35 @@ const SCRIPT: &str = "script";
 
 const DICTIONARY: &str = "dictionary";
 
-fn file_option<'a>(alloc: Global, name: &'a str, help: &'a str) -> Arg<'a> {
+fn file_option<'a>(
+    alloc: Global,
+    name: &'a str,
+    value_name: &'a str,
+    help: &'a str,
+) -> Arg<'a> {
     Arg::new(alloc, name)
-        .value_name("FILE")
+        .value_name(value_name)
         .action(ArgAction::Set)
         .help(help)
 }
 
 fn request_option<'a>(alloc: Global) -> Arg<'a> {
-    file_option(alloc, REQUEST, "The request; standard input if left out").short('f')
+    let help = "The request [default: standard input]";
+    file_option(alloc, REQUEST, "REQUEST", help).short('f')
 }
 
 fn policy_option<'a>(alloc: Global) -> Arg<'a> {
-    file_option(alloc, POLICY, "The policy").long(POLICY)
+    file_option(alloc, POLICY, "POLICY", "The policy").long(POLICY)
 }
 
 fn script_option<'a>(alloc: Global) -> Arg<'a> {
-    file_option(alloc, SCRIPT, "The script: forward, back, start, end, show").long(SCRIPT)
+    let help = "The script, a file of the words forward, back, start, end and show";
+    file_option(alloc, SCRIPT, "SCRIPT", help).long(SCRIPT)
 }
 
 fn secret_option<'a>(alloc: Global) -> Arg<'a> {
-    file_option(alloc, SECRET, "The shared secret, in the file's first line").short('S')
+    let help = "The file whose first line is the shared secret";
+    file_option(alloc, SECRET, "SECRET-FILE", help).short('S')
 }
 
 fn hex_option<'a>(alloc: Global) -> Arg<'a> {
@@ -78,7 +86,7 @@ fn accounting_option<'a>(alloc: Global) -> Arg<'a> {
     Arg::new(alloc, ACCOUNTING)
         .long(ACCOUNTING)
         .action(ArgAction::SetTrue)
-        .help("The request's lines are an Accounting-Request")
+        .help("The request lines are an Accounting-Request")
 }
 
 fn identifier_option<'a>(alloc: Global) -> Arg<'a> {
@@ -86,7 +94,7 @@ fn identifier_option<'a>(alloc: Global) -> Arg<'a> {
         .short('i')
         .value_name("NUMBER")
         .action(ArgAction::Set)
-        .help("The packet's Identifier, 0 to 255; 0 if left out")
+        .help("The packet's Identifier, 0 to 255 [default: 0]")
 }
 
 fn authenticator_option<'a>(alloc: Global) -> Arg<'a> {
@@ -103,12 +111,12 @@ fn dictionary_files<'a>(alloc: Global) -> Arg<'a> {
         .value_name("DICTIONARY")
         .num_args(1..)
         .action(ArgAction::Append)
-        .help("Dictionary files, the main one first")
+        .help("Dictionary files, the main one first, as in /usr/share/freeradius/dictionary*")
 }
 
 fn run_command<'a>(alloc: Global) -> Result<clap::Command<'a>, AllocError> {
     clap::Command::new(alloc, RUN)
-        .about("Runs a policy over a request")
+        .about("Runs a policy on a request")
         .arg(request_option(alloc))?
         .arg(hex_option(alloc))?
         .arg(accounting_option(alloc))?
@@ -121,7 +129,7 @@ fn run_command<'a>(alloc: Global) -> Result<clap::Command<'a>, AllocError> {
 
 fn step_command<'a>(alloc: Global) -> Result<clap::Command<'a>, AllocError> {
     clap::Command::new(alloc, STEP)
-        .about("Walks through a run of a policy forward and back")
+        .about("Steps through the run of a policy, forward and backward")
         .arg(request_option(alloc))?
         .arg(hex_option(alloc))?
         .arg(secret_option(alloc))?
@@ -132,7 +140,7 @@ fn step_command<'a>(alloc: Global) -> Result<clap::Command<'a>, AllocError> {
 
 fn encode_command<'a>(alloc: Global) -> Result<clap::Command<'a>, AllocError> {
     clap::Command::new(alloc, ENCODE)
-        .about("Makes the packet of a request's lines")
+        .about("Makes the packet of request lines")
         .arg(request_option(alloc))?
         .arg(accounting_option(alloc))?
         .arg(identifier_option(alloc))?
@@ -143,7 +151,7 @@ fn encode_command<'a>(alloc: Global) -> Result<clap::Command<'a>, AllocError> {
 
 fn decode_command<'a>(alloc: Global) -> Result<clap::Command<'a>, AllocError> {
     clap::Command::new(alloc, DECODE)
-        .about("Shows a request's packet in hexadecimal digits as lines")
+        .about("Shows a packet, given in hexadecimal digits, as lines")
         .arg(request_option(alloc))?
         .arg(secret_option(alloc).required(true))?
         .arg(dictionary_files(alloc))
@@ -151,7 +159,7 @@ fn decode_command<'a>(alloc: Global) -> Result<clap::Command<'a>, AllocError> {
 
 fn check_command<'a>(alloc: Global) -> Result<clap::Command<'a>, AllocError> {
     clap::Command::new(alloc, CHECK)
-        .about("Reads dictionary files and a policy, and counts what they hold")
+        .about("Checks dictionaries and a policy, and counts what they define")
         .arg(policy_option(alloc))?
         .arg(dictionary_files(alloc))
 }
@@ -159,7 +167,7 @@ fn check_command<'a>(alloc: Global) -> Result<clap::Command<'a>, AllocError> {
 fn program<'a>(alloc: Global) -> Result<clap::Command<'a>, AllocError> {
     clap::Command::new(alloc, "radpolicy")
         .bin_name("radpolicy")?
-        .about("Applies a policy to a RADIUS request")
+        .about("Runs an unlang policy on a RADIUS request")
         .subcommand_required(true)
         .disable_help_subcommand(true)
         .subcommand(run_command(alloc)?)?

@@ -5,7 +5,7 @@ use Rattle.avp_lists.specs.declared.attributes.Pair.{Pair}
 use Rattle.avp_dict.specs.declared.entries.Named.{Named}
 use Rattle.avp_dict.specs.declared.line_faults.LineKind.{LineKind}
 use Rattle.avp_dict.specs.declared.line_faults.LineKind.TheVariants as kinds
-use Rattle.avp_dict.specs.declared.readings.Reading.{Reading}
+use Rattle.avp_dict.specs.Dictionary.{Dictionary}
 use Rattle.avp_dict.specs.declared.value_faults.ValueFault.{ValueFault}
 use Rattle.avp_dict.specs.declared.value_faults.ValueFault.TheVariants as faults
 use Rattle.avp_dict.specs.RequestLines.{Assignment, Token, Comma, joined, packet_assignments, pairs_of, value_text}
@@ -28,8 +28,8 @@ ReadsLine (Ok x) read = read ≡ Some x
 ReadsLine (Err kind) read = RefusesLine kind read
 
 -- the pair of a name and the token of its value
-abbrev pub pair_of_token : List Reading → Named → Token → Option Pair
-pair_of_token lines name token = option_and_then (λ text. pair_named lines text name) (value_text token)
+abbrev pub pair_of_token : Dictionary → Named → Token → Option Pair
+pair_of_token dictionary name token = option_and_then (λ text. pair_named dictionary text name) (value_text token)
 
 -- what is assigned after a pair
 abbrev pub assigned_after : List Token → Option (List Assignment)
@@ -38,15 +38,15 @@ assigned_after (Comma ∷ tokens) = pairs_of tokens
 assigned_after _ = None
 
 -- the pairs that tokens spell, and those that tokens after a pair do
-unfoldable pub pairs_at : List Reading → List Token → Option (List Pair)
-pairs_at lines tokens = option_and_then (pairs_spelled lines) (pairs_of tokens)
+unfoldable pub pairs_at : Dictionary → List Token → Option (List Pair)
+pairs_at dictionary tokens = option_and_then (pairs_spelled dictionary) (pairs_of tokens)
 
-unfoldable pub pairs_after : List Reading → List Token → Option (List Pair)
-pairs_after lines tokens = option_and_then (pairs_spelled lines) (assigned_after tokens)
+unfoldable pub pairs_after : Dictionary → List Token → Option (List Pair)
+pairs_after dictionary tokens = option_and_then (pairs_spelled dictionary) (assigned_after tokens)
 
 -- the pairs that the lines of a packet spell
-unfoldable pub packet_pairs : List Reading → List (List ℕ) → Option (List Pair)
-packet_pairs lines texts = option_and_then (pairs_spelled lines) (packet_assignments texts)
+unfoldable pub packet_pairs : Dictionary → List (List ℕ) → Option (List Pair)
+packet_pairs dictionary texts = option_and_then (pairs_spelled dictionary) (packet_assignments texts)
 
 -- pairs that were read, before others
 unfoldable pub after_pairs : List Pair → Option (List Pair) → Option (List Pair)

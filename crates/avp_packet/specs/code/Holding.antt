@@ -3,13 +3,14 @@ use Rattle.std.specs.Prelude.{ℕ, ◌+◌, ◌^◌, ◌<◌, ◌≤◌, List, l
 use Rattle.avp_lists.specs.declared.attributes.AttrId.{AttrId}
 use Rattle.avp_lists.specs.declared.attributes.AttrId.TheVariants.{Plain, Vendor, Extended}
 use Rattle.avp_dict.specs.declared.entries.Format.{Format}
-use Rattle.avp_dict.specs.declared.readings.Reading.{Reading}
+use Rattle.avp_dict.specs.Dictionary.{Dictionary}
 use Rattle.avp_packet.specs.VendorFormats.{known_format}
 
 abbrev pub FitsFormat : ℕ → List ℕ → Format → Type 0
 FitsFormat number os f = (number < 256 ^ f.t) × (6 + f.t + f.l + length os ≤ 255)
 
-abbrev pub CanHold : List Reading → AttrId → List ℕ → Type 0
-CanHold lines (Plain number) os = (number ≤ 255) × (length os ≤ 253)
-CanHold lines (Vendor vendor number) os = IfSome (known_format vendor lines) (FitsFormat number os)
-CanHold lines (Extended t number) os = (t ≤ 244 → length os ≤ 252)
+abbrev pub CanHold : Dictionary → AttrId → List ℕ → Type 0
+CanHold dictionary (Plain number) os = (number ≤ 255) × (length os ≤ 253)
+CanHold dictionary (Vendor vendor number) os =
+    IfSome (known_format vendor dictionary) (FitsFormat number os)
+CanHold dictionary (Extended t number) os = (t ≤ 244 → length os ≤ 252)

@@ -2,7 +2,7 @@
 use Rattle.std.specs.Prelude.{◌≡◌, ◌≤◌, ℕ, ◌+◌, max, Bool, true, false, ◌&&◌, List, [], ◌∷◌, length, map, Option, Some, None}
 use Rattle.std.specs.List.{list_all}
 use Rattle.avp_lists.specs.declared.lists.State.{State}
-use Rattle.avp_dict.specs.declared.readings.Reading.{Reading}
+use Rattle.avp_dict.specs.Dictionary.{Dictionary}
 use Rattle.avp_unlang.specs.Meaning.{Outcome, running}
 use Rattle.avp_unlang.specs.Suiting.{branches_suit, else_suits, policy_suits}
 use Rattle.avp_unlang.specs.Resolutions.{line_suits}
@@ -22,9 +22,9 @@ States = ℕ → State
 
 -- ---- the last block of an `if`
 
-abbrev pub else_steps : List Reading → Option (List Statement) → Steps
-else_steps d None o = []
-else_steps d (Some block) o = block_steps d block o
+abbrev pub else_steps : Dictionary → Option (List Statement) → Steps
+else_steps dictionary None o = []
+else_steps dictionary (Some block) o = block_steps dictionary block o
 
 abbrev pub else_skips : Option (List Statement) → ℕ
 else_skips None = 0
@@ -32,16 +32,19 @@ else_skips (Some block) = 1 + skips_of block
 
 -- ---- frames
 
-abbrev pub frame_steps : List Reading → States → Frame → Steps
-frame_steps d at (Statements ss) o = unless_stopped (block_steps d ss.now) o
-frame_steps d at (Lines ls entry) o = unless_stopped (line_steps d (at entry) ls.now) o
-frame_steps d at (Branches bs otherwise) o = unless_stopped (branch_steps (map (guarded d) bs.now) (else_steps d otherwise.now)) o
-frame_steps d at (End n entry) o = closed n (at entry) o ∷ []
+abbrev pub frame_steps : Dictionary → States → Frame → Steps
+frame_steps dictionary at (Statements ss) o = unless_stopped (block_steps dictionary ss.now) o
+frame_steps dictionary at (Lines ls entry) o =
+    unless_stopped (line_steps dictionary (at entry) ls.now) o
+frame_steps dictionary at (Branches bs otherwise) o =
+    unless_stopped
+    (branch_steps (map (guarded dictionary) bs.now) (else_steps dictionary otherwise.now)) o
+frame_steps dictionary at (End n entry) o = closed n (at entry) o ∷ []
 
 -- the steps of all frames, the last frame's first
-abbrev pub rest : List Reading → States → List Frame → Steps
-rest d at [] o = []
-rest d at (f ∷ fs) o = then_steps (rest d at fs) (frame_steps d at f) o
+abbrev pub rest : Dictionary → States → List Frame → Steps
+rest dictionary at [] o = []
+rest dictionary at (f ∷ fs) o = then_steps (rest dictionary at fs) (frame_steps dictionary at f) o
 
 -- how many frames a frame may need above it
 abbrev pub frame_depth : Frame → ℕ
@@ -58,14 +61,15 @@ frame_entry (Branches bs otherwise) = 0
 frame_entry (End n entry) = entry
 
 -- what is still to come of it fits the dictionary
-abbrev pub frame_suits : List Reading → Frame → Bool
-frame_suits d (Statements ss) = policy_suits d ss.now
-frame_suits d (Lines ls entry) = list_all (line_suits d) ls.now
-frame_suits d (Branches bs otherwise) = branches_suit d bs.now && else_suits d otherwise.now
-frame_suits d (End n entry) = true
+abbrev pub frame_suits : Dictionary → Frame → Bool
+frame_suits dictionary (Statements ss) = policy_suits dictionary ss.now
+frame_suits dictionary (Lines ls entry) = list_all (line_suits dictionary) ls.now
+frame_suits dictionary (Branches bs otherwise) =
+    branches_suit dictionary bs.now && else_suits dictionary otherwise.now
+frame_suits dictionary (End n entry) = true
 
-abbrev pub frames_suit : List Reading → List Frame → Bool
-frames_suit d fs = list_all (frame_suits d) fs
+abbrev pub frames_suit : Dictionary → List Frame → Bool
+frames_suit dictionary fs = list_all (frame_suits dictionary) fs
 
 -- a frame at this height has the room that it may need, and names a position up to the place
 pub record Sits (place height : ℕ) (f : Frame) : Type 0 where
@@ -79,21 +83,28 @@ Sit place height (f ∷ fs) = Sits place height f × Sit place (height + 1) fs
 
 -- ---- what comes next
 
-abbrev pub next_steps : List Reading → States → Next → Steps
-next_steps d at (next.Lines ls entry) o = line_steps d (at entry) ls.now o
-next_steps d at (next.Test bs otherwise) o = branch_steps (map (guarded d) bs.now) (else_steps d otherwise.now) o
-next_steps d at (next.Enter n ss) o =
-    entered n o ∷ then_steps (block_steps d ss.now) (λ r. closed n o.state r ∷ []) (running o.state o.code)
-next_steps d at (next.Word n word) o = word_step n word o ∷ []
-next_steps d at (next.Close n entry) o = closed n (at entry) o ∷ []
+abbrev pub next_steps : Dictionary → States → Next → Steps
+next_steps dictionary at (next.Lines ls entry) o = line_steps dictionary (at entry) ls.now o
+next_steps dictionary at (next.Test bs otherwise) o =
+    branch_steps (map (guarded dictionary) bs.now) (else_steps dictionary otherwise.now) o
+next_steps dictionary at (next.Enter n ss) o =
+    entered n o
+    ∷ then_steps (block_steps dictionary ss.now) (λ r. closed n o.state r ∷ [])
+    (running o.state o.code)
+next_steps dictionary at (next.Word n word) o = word_step n word o ∷ []
+next_steps dictionary at (next.Close n entry) o = closed n (at entry) o ∷ []
 
-abbrev pub onward : List Reading → States → Option Next → List Frame → Steps
-onward d at None fs o = rest d at fs o
-onward d at (Some n) fs o = then_steps (next_steps d at n) (rest d at fs) o
+abbrev pub onward : Dictionary → States → Option Next → List Frame → Steps
+onward dictionary at None fs o = rest dictionary at fs o
+onward dictionary at (Some n) fs o =
+    then_steps (next_steps dictionary at n) (rest dictionary at fs) o
 
 -- from where a run stands with this stop, and with the state at this place, the steps are the same
-pub record IsSame (t : List Reading → States → Steps) (next : Option Next) (new : List Frame) (stopped : Bool) (place : ℕ) : Type 0 where
-  pub same : (d : List Reading) (at : States) (o : Outcome) → o.stopped ≡ stopped → at place ≡ o.state → onward d at next new o ≡ t d at o
+pub record IsSame (t : Dictionary → States → Steps) (next : Option Next) (new : List Frame)
+    (stopped : Bool) (place : ℕ) : Type 0 where
+  pub same : (dictionary : Dictionary) (at : States) (o : Outcome)
+      → o.stopped ≡ stopped → at place ≡ o.state
+      → onward dictionary at next new o ≡ t dictionary at o
 
 abbrev pub next_depth : Next → ℕ
 next_depth (next.Lines ls entry) = 1
@@ -109,20 +120,23 @@ next_entry (next.Enter n ss) = 0
 next_entry (next.Word n word) = 0
 next_entry (next.Close n entry) = entry
 
-abbrev pub next_suits : List Reading → Next → Bool
-next_suits d (next.Lines ls entry) = list_all (line_suits d) ls.now
-next_suits d (next.Test bs otherwise) = branches_suit d bs.now && else_suits d otherwise.now
-next_suits d (next.Enter n ss) = policy_suits d ss.now
-next_suits d (next.Word n word) = true
-next_suits d (next.Close n entry) = true
+abbrev pub next_suits : Dictionary → Next → Bool
+next_suits dictionary (next.Lines ls entry) = list_all (line_suits dictionary) ls.now
+next_suits dictionary (next.Test bs otherwise) =
+    branches_suit dictionary bs.now && else_suits dictionary otherwise.now
+next_suits dictionary (next.Enter n ss) = policy_suits dictionary ss.now
+next_suits dictionary (next.Word n word) = true
+next_suits dictionary (next.Close n entry) = true
 
-abbrev pub next_suit : List Reading → Option Next → Bool
-next_suit d None = true
-next_suit d (Some n) = next_suits d n
+abbrev pub next_suit : Dictionary → Option Next → Bool
+next_suit dictionary None = true
+next_suit dictionary (Some n) = next_suits dictionary n
 
 -- what fits before fits afterwards
-pub record StaysSuited (before : List Reading → Bool) (next : Option Next) (new : List Frame) : Type 0 where
-  pub kept : (d : List Reading) → before d ≡ true → (frames_suit d new && next_suit d next) ≡ true
+pub record StaysSuited (before : Dictionary → Bool) (next : Option Next) (new : List Frame)
+    : Type 0 where
+  pub kept : (dictionary : Dictionary) → before dictionary ≡ true
+      → (frames_suit dictionary new && next_suit dictionary next) ≡ true
 
 -- what comes next has the room that it may need above the frames, and names a position up to the place
 pub record NextSits (place : ℕ) (n : Next) (fs : List Frame) : Type 0 where

@@ -3,7 +3,7 @@ use Rattle.std.specs.Prelude.{◌≡◌, ◌≤◌, ◌<◌, ℕ, ◌+◌, ◌-�
 use Rattle.avp_lists.specs.History.{History, state_at}
 use Rattle.avp_lists.specs.States.{empty_state}
 use Rattle.avp_lists.specs.declared.lists.State.{State}
-use Rattle.avp_dict.specs.declared.readings.Reading.{Reading}
+use Rattle.avp_dict.specs.Dictionary.{Dictionary}
 use Rattle.avp_unlang.specs.Meaning.{Outcome, running}
 use Rattle.avp_unlang.specs.declared.codes.Code.TheVariants as code
 use Rattle.avp_unlang.specs.declared.tree.Statement.{Statement}
@@ -16,11 +16,15 @@ use Rattle.avp_step.specs.declared.frames.TheConstants.{MOST_FRAMES}
 use Rattle.avp_step.specs.declared.marks.Mark.{Mark}
 
 -- the trace from the store's first state
-abbrev pub trace_from : List Reading → List Statement → History → List Entry
-trace_from d statements h = trace_of d statements (state_at h 0)
+abbrev pub trace_from : Dictionary → List Statement → History → List Entry
+trace_from dictionary statements h = trace_of dictionary statements (state_at h 0)
 
-abbrev pub walk_of : List Reading → List Statement → History → ℕ → Walk
-walk_of d statements h position = record { dictionary = d; trace = trace_from d statements h; position = position }
+abbrev pub walk_of : Dictionary → List Statement → History → ℕ → Walk
+walk_of dictionary statements h position = record {
+  dictionary = dictionary;
+  trace = trace_from dictionary statements h;
+  position = position;
+}
 
 -- the steps that were made, by the marks and the store's states
 abbrev pub made : List Mark → List State → List Entry
@@ -37,14 +41,19 @@ abbrev pub nowhere : Outcome
 nowhere = running empty_state code.Ok
 
 -- the store has a state for each mark, one for each step; the frames have the steps that were never made
-pub record IsHeld (d : List Reading) (statements : List Statement) (h : History) (left : ℕ) (marks : List Mark) (position : ℕ) (frames : List Frame) (marks_room frames_room : ℕ) : Type 0 where
-  pub trace : made marks h.states ++ rest d (states_of (walk_of d statements h position)) frames (end_of nowhere (made marks h.states)) ≡ trace_from d statements h
+pub record IsHeld (dictionary : Dictionary) (statements : List Statement) (h : History) (left : ℕ)
+    (marks : List Mark) (position : ℕ) (frames : List Frame) (marks_room frames_room : ℕ)
+    : Type 0 where
+  pub trace : made marks h.states
+      ++ rest dictionary (states_of (walk_of dictionary statements h position)) frames
+      (end_of nowhere (made marks h.states))
+      ≡ trace_from dictionary statements h
   pub each : length h.states ≡ length marks
   pub place : h.place ≡ position
   pub within : position < length marks
   pub sit : Sit (length marks - 1) 0 frames
-  pub fit : IsTrue (frames_suit d frames)
-  pub states : StatesFit d h
+  pub fit : IsTrue (frames_suit dictionary frames)
+  pub states : StatesFit dictionary h
   pub room_of_frames : MOST_FRAMES ≤ frames_room
-  pub room_of_marks : length (trace_from d statements h) ≤ marks_room
-  pub room_of_store : length (trace_from d statements h) ≤ h.place + left + 1
+  pub room_of_marks : length (trace_from dictionary statements h) ≤ marks_room
+  pub room_of_store : length (trace_from dictionary statements h) ≤ h.place + left + 1

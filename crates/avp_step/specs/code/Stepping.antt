@@ -3,7 +3,7 @@ use Rattle.std.specs.Prelude.{◌≡◌, ◌≤◌, ◌<◌, ℕ, List, [], ◌�
 use Rattle.std.specs.List.{All}
 use Rattle.avp_lists.specs.History.{History, continued, present, state_at}
 use Rattle.avp_lists.specs.declared.lists.State.{State}
-use Rattle.avp_dict.specs.declared.readings.Reading.{Reading}
+use Rattle.avp_dict.specs.Dictionary.{Dictionary}
 use Rattle.avp_unlang.specs.Meaning.{Outcome, Edited, Refused, line_result}
 use Rattle.avp_unlang.specs.Resolutions.{StateFits}
 use Rattle.avp_unlang.specs.declared.tree.Line.{Line}
@@ -26,8 +26,11 @@ abbrev pub Names : States → History → Type 0
 Names at h = (k : ℕ) → k ≤ h.place → at k ≡ state_at h k
 
 -- the first of these steps was made, and the frames have the others
-pub record IsStep (d : List Reading) (t : States → Steps) (last : Mark) (old new : History) (made : Mark) (frames : List Frame) : Type 0 where
-  pub same : (at : States) → Names at old → t at (standing last old) ≡ entry_of made (present new) ∷ rest d at frames (standing made new)
+pub record IsStep (dictionary : Dictionary) (t : States → Steps) (last : Mark) (old new : History)
+    (made : Mark) (frames : List Frame) : Type 0 where
+  pub same : (at : States) → Names at old
+      → t at (standing last old)
+      ≡ entry_of made (present new) ∷ rest dictionary at frames (standing made new)
   pub added : new ≡ continued (present new) old
 
 -- there are no steps
@@ -35,25 +38,32 @@ pub record IsOver (t : States → Steps) (last : Mark) (old : History) : Type 0 
   pub none : (at : States) → Names at old → t at (standing last old) ≡ []
 
 -- the first of these steps is of an update line, and the frames have them all
-pub record IsRefused (d : List Reading) (t : States → Steps) (last : Mark) (old : History) (frames : List Frame) : Type 0 where
-  pub same : (at : States) → Names at old → rest d at frames (standing last old) ≡ t at (standing last old)
+pub record IsRefused (dictionary : Dictionary) (t : States → Steps) (last : Mark) (old : History)
+    (frames : List Frame) : Type 0 where
+  pub same : (at : States) → Names at old
+      → rest dictionary at frames (standing last old) ≡ t at (standing last old)
   pub line : (at : States) → Names at old → (e : Entry) × (es : List Entry) × (t at (standing last old) ≡ e ∷ es) × IsLineLabel e.label
 
 -- there is room in the store for the next step, if there is one
-pub record HasRoom (d : List Reading) (frames : List Frame) (last : Mark) (h : History) (left : ℕ) : Type 0 where
+pub record HasRoom (dictionary : Dictionary) (frames : List Frame) (last : Mark) (h : History)
+    (left : ℕ) : Type 0 where
   pub at : States
   pub names : Names at h
-  pub room : (e : Entry) (es : List Entry) → rest d at frames (standing last h) ≡ e ∷ es → 0 < left
+  pub room : (e : Entry) (es : List Entry)
+      → rest dictionary at frames (standing last h) ≡ e ∷ es → 0 < left
 
 -- each state fits the dictionary
-abbrev pub StatesFit : List Reading → History → Type 0
-StatesFit d h = All (StateFits d) h.states
+abbrev pub StatesFit : Dictionary → History → Type 0
+StatesFit dictionary h = All (StateFits dictionary) h.states
 
 -- the states of a store go on fitting
 pub record KeepsFit (old new : History) : Type 0 where
-  pub kept : (d : List Reading) → StatesFit d old → StatesFit d new
+  pub kept : (dictionary : Dictionary) → StatesFit dictionary old → StatesFit dictionary new
 
 -- a line was edited by, or failed by this reason
-abbrev pub IsLineDone : List Reading → Line → History → History → Option ℕ → Type 0
-IsLineDone d line old new None = (line_result d line (present old) ≡ Edited (present new)) × (new ≡ continued (present new) old)
-IsLineDone d line old new (Some k) = (line_result d line (present old) ≡ Refused k) × (new ≡ old)
+abbrev pub IsLineDone : Dictionary → Line → History → History → Option ℕ → Type 0
+IsLineDone dictionary line old new None =
+    (line_result dictionary line (present old) ≡ Edited (present new))
+    × (new ≡ continued (present new) old)
+IsLineDone dictionary line old new (Some k) =
+    (line_result dictionary line (present old) ≡ Refused k) × (new ≡ old)

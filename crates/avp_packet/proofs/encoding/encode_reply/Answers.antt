@@ -26,13 +26,13 @@ returns-clause-whole c =
 
 pub returns-clause-means : goal.returns-clause-means
 returns-clause-means c = λ clean too.
-    let lines = c.args.dictionary.now in
+    let dictionary = c.args.dictionary.now in
     let by = hiding_authenticator c.args.code c.args.request_authenticator.now in
     let attributes = c.in-Ok.attributes.items in
     let digest = digest_over c.args.code c.args.id c.args.request_authenticator.now attributes c.args.secret.now in
     let made : c.in_ok-octets.octets.items ≡ packet c.args.code c.args.id digest attributes =
     cc (c.in_ok-octets.ensures, c.digest_of_packet-authenticator.ensures, c.deref.ensures.value, c.deref-2.ensures.value) in
     let apart = attributes_of-packet c.args.code c.args.id digest attributes (length-digest_over c.args.code c.args.id c.args.request_authenticator.now attributes c.args.secret.now) c.in-Ok.ensures.short in
-    meant_by lines c.args.secret.now by (parts (attributes_of c.in_ok-octets.octets.items)) _ (
-    ap (λ (os : List ℕ). meaning lines c.args.secret.now by (parts os)) (ap attributes_of made ∙ apart ∙ c.in-Ok.ensures.octets)
-    ∙ both_mean lines c.is_sound.ensures.sound c.is_sound.ensures.formats c.args.secret.now by c.args.list.now c.args.proxy_states.now clean too c.in-Ok.ensures.ranged c.in-Ok.ensures.proxies_ranged)
+    meant_by dictionary c.args.secret.now by (parts (attributes_of c.in_ok-octets.octets.items)) _ (
+    ap (λ (os : List ℕ). meaning dictionary c.args.secret.now by (parts os)) (ap attributes_of made ∙ apart ∙ c.in-Ok.ensures.octets)
+    ∙ both_mean dictionary c.is_sound.ensures.sound c.is_sound.ensures.formats c.args.secret.now by c.args.list.now c.args.proxy_states.now clean too c.in-Ok.ensures.ranged c.in-Ok.ensures.proxies_ranged)

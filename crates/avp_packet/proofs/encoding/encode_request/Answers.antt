@@ -19,7 +19,7 @@ returns-clause-whole c =
 
 pub returns-clause-means : goal.returns-clause-means
 returns-clause-means c = λ clean.
-    let lines = c.args.dictionary.now in
+    let dictionary = c.args.dictionary.now in
     let by = hiding_authenticator c.args.code c.args.authenticator.now in
     let attributes = c.in-Ok.attributes.items in
     let own = request_authenticator c.args.code c.args.id c.args.authenticator.now attributes c.args.secret.now in
@@ -27,6 +27,6 @@ returns-clause-means c = λ clean.
     cc (c.in_ok-octets.ensures, c.authenticator_of_request-authenticator.ensures, c.deref.ensures.value, c.deref-2.ensures.value) in
     let long = length-request_authenticator c.args.code c.args.id c.args.authenticator.now attributes c.args.secret.now c.told-authenticator in
     let apart = attributes_of-packet c.args.code c.args.id own attributes long c.in-Ok.ensures.short in
-    meant_by lines c.args.secret.now by (parts (attributes_of c.in_ok-octets.octets.items)) _ (
-    ap (λ (os : List ℕ). meaning lines c.args.secret.now by (parts os)) (ap attributes_of made ∙ apart ∙ c.in-Ok.ensures.octets)
-    ∙ written_means lines c.is_sound.ensures.sound c.is_sound.ensures.formats c.args.secret.now by c.args.list.now clean c.in-Ok.ensures.ranged)
+    meant_by dictionary c.args.secret.now by (parts (attributes_of c.in_ok-octets.octets.items)) _ (
+    ap (λ (os : List ℕ). meaning dictionary c.args.secret.now by (parts os)) (ap attributes_of made ∙ apart ∙ c.in-Ok.ensures.octets)
+    ∙ written_means dictionary c.is_sound.ensures.sound c.is_sound.ensures.formats c.args.secret.now by c.args.list.now clean c.in-Ok.ensures.ranged)

@@ -2,12 +2,12 @@ use Rattle.std.proofs.Common.{List, subst, sym}
 use Rattle.avp_lists.specs.History.{present}
 use Rattle.avp_lists.specs.declared.attributes.Pair.{Pair}
 use Rattle.avp_lists.specs.declared.lists.List.TheVariants.{Reply}
-use Rattle.avp_dict.specs.declared.readings.Reading.{Reading}
+use Rattle.avp_dict.specs.Dictionary.{Dictionary}
 use Rattle.avp_unlang.specs.Resolutions.{StateFits}
 use Rattle.radpolicy.specs.Fitting.{AllFit}
 use Rattle.radpolicy.proofs.running.reply_at.Goals as goal
 
 pub returns-clause-fit : goal.returns-clause-fit
 returns-clause-fit g c =
-    let all = subst (λ (d : List Reading). StateFits d (present (g.S.Store.history c.store.result.now))) c.requires c.store.ensures.fits in
+    let all = subst (λ (d : Dictionary). StateFits d (present (g.S.Store.history c.store.result.now))) c.requires c.store.ensures.fits in
     subst (λ (pairs : List Pair). AllFit c.args.dictionary.now pairs) (sym c.in_ok-reply.ensures) (all Reply)

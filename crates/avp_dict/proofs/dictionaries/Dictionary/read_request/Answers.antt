@@ -34,11 +34,11 @@ returns-then-is_blank_line-clause-fits c =
     let blank : is_blank_line c.in-Some.line.now ≡ true = search rules in
     let end = packet_ends c.args.self.now c.in-Some.line.now (texts_of c.in-Some.after.now) blank c.in_ok-end_of_packet.ensures.ok in
     let read = request_ends c.args.text.now c.args.self.now c.loop-line.pairs.items (texts_of c.loop-line.rest.now) c.loop-line.invariant.read (ap (packet_pairs c.args.self.now) c.in-Some.ensures.cut ∙ end) c.loop-line.invariant.few in
-    request_fits c.args.self.now c.readings-sound.ensures.sound c.args.text.now c.loop-line.pairs.items read
+    request_fits c.args.self.now c.sound.ensures c.args.text.now c.loop-line.pairs.items read
 
 pub returns-then-is_blank_line-clause-clean : goal.returns-then-is_blank_line-clause-clean
 returns-then-is_blank_line-clause-clean c =
-    request_clean c.args.self.now c.readings-sound.ensures.sound c.args.text.now c.loop-line.pairs.items (returns-then-is_blank_line-clause-read c)
+    request_clean c.args.self.now c.sound.ensures c.args.text.now c.loop-line.pairs.items (returns-then-is_blank_line-clause-read c)
 
 pub returns-then-is_blank_line-clause-only : goal.returns-then-is_blank_line-clause-only
 returns-then-is_blank_line-clause-only c = λ other spelled.
@@ -67,10 +67,10 @@ returns-clause-read c =
 pub returns-clause-fits : goal.returns-clause-fits
 returns-clause-fits c =
     let read = request_ends c.args.text.now c.args.self.now c.loop-line.pairs.items (texts_of c.loop-line.rest.now) c.loop-line.invariant.read (ap (packet_pairs c.args.self.now) c.in_default.ensures.cut ∙ packet_none c.args.self.now) c.loop-line.invariant.few in
-    request_fits c.args.self.now c.readings-sound.ensures.sound c.args.text.now c.loop-line.pairs.items read
+    request_fits c.args.self.now c.sound.ensures c.args.text.now c.loop-line.pairs.items read
 
 pub returns-clause-clean : goal.returns-clause-clean
-returns-clause-clean c = request_clean c.args.self.now c.readings-sound.ensures.sound c.args.text.now c.loop-line.pairs.items (returns-clause-read c)
+returns-clause-clean c = request_clean c.args.self.now c.sound.ensures c.args.text.now c.loop-line.pairs.items (returns-clause-read c)
 
 pub returns-clause-only : goal.returns-clause-only
 returns-clause-only c = λ other spelled. only_one (request_spelled c.args.text.now c.args.self.now) c.loop-line.pairs.items other (returns-clause-read c) spelled

@@ -1,0 +1,24 @@
+-- Names are the same where their octets in lower case are.
+use Rattle.std.proofs.Common.{◌≡◌, ◌≢◌, ◌≤◌, ◌<◌, ℕ, suc, Bool, true, false, ◌&&◌, ◌==◌, List, [], ◌∷◌, length, map, refl, ap, arith}
+use Rattle.std.specs.Str.{bytes_eq}
+use Rattle.avp_dict.specs.Words.{lower, same_name}
+
+pub same_folded : (a b : List ℕ) → same_name a b ≡ bytes_eq (map lower a) (map lower b)
+same_folded [] [] = refl
+same_folded [] (y ∷ ys) = refl
+same_folded (x ∷ xs) [] = refl
+same_folded (x ∷ xs) (y ∷ ys) = ap (λ c. (lower x == lower y) && c) (same_folded xs ys)
+
+and_false : (b c : Bool) → c ≡ false → (b && c) ≡ false
+and_false true c h = h
+and_false false c h = refl
+
+other_length : (a b : List ℕ) → length a ≢ length b → same_name a b ≡ false
+other_length [] [] h = absurd (h refl)
+other_length [] (y ∷ ys) h = refl
+other_length (x ∷ xs) [] h = refl
+other_length (x ∷ xs) (y ∷ ys) h = and_false (lower x == lower y) (same_name xs ys) (other_length xs ys (λ e. h (ap suc e)))
+
+-- a name that is longer than any name
+pub too_long : (a b : List ℕ) → length a ≤ 128 → 128 < length b → same_name a b ≡ false
+too_long a b short long = other_length a b (λ e. omega (arith, e, short, long))

@@ -1,0 +1,37 @@
+-- The dictionary that the lines of a file set define, or the first refusal.
+use Rattle.std.specs.Prelude.{ℕ, List, [], Option, Some, None, Result, Ok, Err}
+use Rattle.avp_dict.specs.declared.files.NamedFile.{NamedFile}
+use Rattle.avp_dict.specs.declared.faults.DictFault.{DictFault}
+use Rattle.avp_dict.specs.declared.faults.DictKind.TheVariants.{Unmatched}
+use Rattle.avp_dict.specs.Blocks.{innermost}
+use Rattle.avp_dict.specs.Dictionary.{Dictionary}
+use Rattle.avp_dict.specs.Lines.{lines_of}
+use Rattle.avp_dict.specs.Meanings.{Reading, Context, context_of}
+use Rattle.avp_dict.specs.Readings.{read_lines}
+use Rattle.avp_dict.specs.Settled.{used, skipped_names}
+use Rattle.avp_dict.specs.Steps.{◌>>=◌}
+use Rattle.avp_dict.specs.Values.{resolve}
+
+-- a block left open, at the line that opened it
+abbrev pub unless_open : {A : Type 0} → Option Reading → A → Result A DictFault
+unless_open None x = Ok x
+unless_open (Some r) x = Err (record { file = r.file; line = r.line; kind = Unmatched })
+
+-- so many lines are read
+abbrev pub most_lines : ℕ
+most_lines = 200000
+
+-- what the lines define before the names of values
+abbrev pub outline_of : Context → Dictionary
+outline_of context = record { attributes = used context.vendors context.attributes; values = []; vendors = context.vendors; notes = [] }
+
+-- the used attributes and the vendors of all lines, and what the lines add one after the other: the names of values, and notes
+unfoldable pub settled : List Reading → Result Dictionary DictFault
+settled lines = resolve (skipped_names (context_of lines).vendors lines) (outline_of (context_of lines)) lines
+
+-- first the lines, so many at most, one after the other; then a block left open, and the VALUE lines
+unfoldable pub dictionary_of : ℕ → List NamedFile → Result Dictionary DictFault
+dictionary_of limit files = do
+  lines ← read_lines limit files [] (lines_of files)
+  closed ← unless_open (innermost (context_of lines).opened) lines
+  settled closed

@@ -1,0 +1,191 @@
+//! Keys of tables: names without regard to case, and ids.
+
+ghost use Rattle.std.specs.Prelude.{◌≡◌, ◌≤◌, ◌<◌, length, map, take, IfOk, IfSome, IfNone};
+ghost use Rattle.avp_dict.specs.Words.{lower};
+ghost use Rattle.avp_dict.specs.code.Tables.{id_key};
+
+use crate::words::to_lower;
+use avp_lists::AttrId;
+use std::alloc::{AllocError, Global};
+use std::hash::{Hash, Hasher};
+use std::marker::Model;
+
+/// A name has so many octets at most.
+pub const MOST_NAME: usize = 128;
+
+/// A name in lower case, which takes no memory of an allocator.
+#[derive(Drop)]
+pub struct FoldedName {
+    octets: [u8; MOST_NAME],
+    size: usize,
+}
+
+impl Model for FoldedName {
+    ghost use Rattle.std.specs.Prelude.{◌≤◌, ℕ, List, take};
+
+    ghost Value = { List ℕ };
+
+    ghost view = { λ f. take f.size f.octets };
+
+    ghost invariant = { λ f. f.size ≤ 128 };
+}
+
+// The name in lower case, in the first octets of the buffer.
+fn fold(buffer: &mut [u8; MOST_NAME], name: &[u8])
+    requires { length name.now ≤ 128 }
+    ensures { take (length name.now) buffer.new ≡ map lower name.now }
+{
+    let mut i = 0;
+    while i < name.len() {
+        buffer[i] = to_lower(name[i]);
+        i += 1;
+    }
+}
+
+impl FoldedName {
+    /// The name in lower case, where it is no longer than a name can be.
+    pub fn of(name: &[u8]) -> Option<FoldedName>
+        ensures folded { IfSome result (λ f. f ≡ map lower name.now) }
+        ensures long { IfNone result (128 < length name.now) }
+    {
+        if name.len() > MOST_NAME {
+            return None;
+        }
+        Some(FoldedName::of_short(name))
+    }
+
+    /// The name in lower case.
+    pub fn of_short(name: &[u8]) -> FoldedName
+        requires { length name.now ≤ 128 }
+        ensures { result ≡ map lower name.now }
+    {
+        let mut octets = [0; MOST_NAME];
+        fold(&mut octets, name);
+        FoldedName {
+            octets,
+            size: name.len(),
+        }
+    }
+
+    fn as_slice(&self) -> &[u8]
+        ensures { result.now ≡ self.now }
+    {
+        &self.octets[..self.size]
+    }
+}
+
+impl PartialEq for FoldedName {
+    ghost use Rattle.std.specs.Str.{bytes_eq};
+    ghost use Rattle.std.proofs.Common.{rules};
+    ghost use Rattle.std.specs.Cmp.Rules.{comparing};
+
+    ghost eq = { bytes_eq };
+
+    ghost laws = { Prim.search (comparing, rules) };
+
+    fn eq(&self, other: &FoldedName) -> bool {
+        self.as_slice() == other.as_slice()
+    }
+}
+
+impl Eq for FoldedName {
+    ghost use Rattle.std.proofs.Common.{rules};
+    ghost use Rattle.std.specs.Cmp.Rules.{comparing};
+
+    ghost laws = { Prim.search (comparing, rules) };
+}
+
+impl Hash for FoldedName {
+    ghost use Rattle.std.specs.Prelude.{List, ℕ, ◌≡◌, [], ◌∷◌};
+    ghost use Rattle.std.proofs.Common.{ap};
+    ghost use Rattle.std.specs.Cmp.Lexicographic.{bytes_decides};
+
+    ghost hash_input = { λ f. f ∷ [] };
+
+    ghost respects_eq = { λ x y h. ap (λ (f : List ℕ). f ∷ []) ((bytes_decides x y).0 h) };
+
+    fn hash<H: Hasher>(&self, state: &mut H) {
+        state.write(self.as_slice());
+    }
+}
+
+/// A name of any length in lower case.
+#[derive(Drop)]
+pub struct FoldedText {
+    octets: Vec<u8>,
+}
+
+impl Model for FoldedText {
+    ghost use Rattle.std.specs.Prelude.{ℕ, List};
+
+    ghost Value = { List ℕ };
+
+    ghost view = { λ f. f.octets.items };
+}
+
+impl FoldedText {
+    /// The name in lower case.
+    pub fn of(alloc: Global, name: &[u8]) -> Result<FoldedText, AllocError>
+        ensures { IfOk result (λ f. f ≡ map lower name.now) }
+    {
+        let mut octets = Vec::with_capacity(alloc, name.len())?;
+        for octet in name {
+            octets.push(to_lower(*octet))?;
+        }
+        Ok(FoldedText { octets })
+    }
+
+    fn as_slice(&self) -> &[u8]
+        ensures { result.now ≡ self.now }
+    {
+        self.octets.as_slice()
+    }
+}
+
+impl PartialEq for FoldedText {
+    ghost use Rattle.std.specs.Str.{bytes_eq};
+    ghost use Rattle.std.proofs.Common.{rules};
+    ghost use Rattle.std.specs.Cmp.Rules.{comparing};
+
+    ghost eq = { bytes_eq };
+
+    ghost laws = { Prim.search (comparing, rules) };
+
+    fn eq(&self, other: &FoldedText) -> bool {
+        self.as_slice() == other.as_slice()
+    }
+}
+
+impl Eq for FoldedText {
+    ghost use Rattle.std.proofs.Common.{rules};
+    ghost use Rattle.std.specs.Cmp.Rules.{comparing};
+
+    ghost laws = { Prim.search (comparing, rules) };
+}
+
+impl Hash for FoldedText {
+    ghost use Rattle.std.specs.Prelude.{List, ℕ, ◌≡◌, [], ◌∷◌};
+    ghost use Rattle.std.proofs.Common.{ap};
+    ghost use Rattle.std.specs.Cmp.Lexicographic.{bytes_decides};
+
+    ghost hash_input = { λ f. f ∷ [] };
+
+    ghost respects_eq = { λ x y h. ap (λ (f : List ℕ). f ∷ []) ((bytes_decides x y).0 h) };
+
+    fn hash<H: Hasher>(&self, state: &mut H) {
+        state.write(self.as_slice());
+    }
+}
+
+/// An id as a key: its kind, and its numbers.
+pub type IdKey = (u8, (u32, u32));
+
+pub fn id_key(id: AttrId) -> IdKey
+    ensures { result ≡ id_key id }
+{
+    match id {
+        AttrId::Plain(number) => (0, (number, 0)),
+        AttrId::Vendor(vendor, number) => (1, (vendor, number)),
+        AttrId::Extended(t, number) => (2, (u32::from(t), u32::from(number))),
+    }
+}

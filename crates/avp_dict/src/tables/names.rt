@@ -1,0 +1,78 @@
+ghost use Rattle.std.specs.Prelude.{◌≡◌, ◌++◌, ◌∷◌, [], ℕ, List, Some, if◌then◌else◌, length, map, OnOk, IfOk};
+ghost use Rattle.std.specs.List.{list_any};
+ghost use Rattle.std.specs.Str.{bytes_eq};
+ghost use Rattle.avp_dict.specs.Values.{is_same_name};
+ghost use Rattle.avp_dict.specs.Words.{lower};
+ghost use Rattle.avp_dict.specs.code.Tables.{place_of};
+ghost use Rattle.avp_dict.specs.code.Views.{views};
+
+use crate::tables::keys::FoldedText;
+use crate::tables::places::Places;
+use std::alloc::{AllocError, Global};
+use std::marker::Model;
+
+/// Names, found without regard to ASCII case.
+#[derive(Drop)]
+pub struct NameSet<'a> {
+    names: Vec<&'a [u8]>,
+    table: Places<FoldedText>,
+}
+
+impl<'a> Model for NameSet<'a> {
+    ghost use Rattle.std.specs.Prelude.{List, ℕ};
+    ghost use Rattle.avp_dict.specs.code.Tables.{IsNameTable};
+    ghost use Rattle.avp_dict.specs.code.Views.{views};
+
+    ghost Value = { List (List ℕ) };
+
+    ghost view = { λ s. views s.names.items };
+
+    ghost invariant = { λ s. IsNameTable s.table (views s.names.items) };
+}
+
+// One more name, and its key.
+fn add_name<'a>(
+    alloc: Global,
+    names: &mut Vec<&'a [u8]>,
+    table: &mut Places<FoldedText>,
+    name: &'a [u8],
+) -> Result<(), AllocError>
+    ensures names { OnOk result (views names.new.items ≡ views names.old.items ++ name.now ∷ []) }
+    ensures table { OnOk result ((q : List ℕ) → place_of bytes_eq table.new q ≡ (if bytes_eq (map lower name.now) q then Some (length names.old.items) else place_of bytes_eq table.old q)) }
+{
+    table.put(FoldedText::of(alloc, name)?, names.len())?;
+    names.push(name)?;
+    Ok(())
+}
+
+impl<'a> NameSet<'a> {
+    pub fn new(alloc: Global) -> NameSet<'a>
+        ensures { result ≡ [] }
+    {
+        NameSet {
+            names: Vec::new(alloc),
+            table: Places::new(alloc),
+        }
+    }
+
+    /// One more name. For want of memory no name is left.
+    pub fn push(&mut self, alloc: Global, name: &'a [u8]) -> Result<(), AllocError>
+        ensures { OnOk result (self.new ≡ self.old ++ name.now ∷ []) }
+    {
+        match add_name(alloc, &mut self.names, &mut self.table, name) {
+            Ok(()) => Ok(()),
+            Err(error) => {
+                *self = NameSet::new(alloc);
+                Err(error)
+            }
+        }
+    }
+
+    /// Whether the name is one of the set.
+    pub fn contains(&self, alloc: Global, name: &[u8]) -> Result<bool, AllocError>
+        ensures { IfOk result (λ found. found ≡ list_any (is_same_name name.now) self.now) }
+    {
+        let folded = FoldedText::of(alloc, name)?;
+        Ok(self.table.place(&folded).is_some())
+    }
+}
