@@ -4,7 +4,7 @@ from typing import List, Sequence
 
 from fuzz.vocabulary import Attribute, Valued, attributes, value
 
-OPERATORS = ["=", ":=", "+=", "+=", "+=", "-=", "==", "!*"]
+OPERATORS = ["=", ":=", "+=", "+=", "+=", "^=", "-=", "==", "!*"]
 RELATIONS = ["==", "!=", "<", "<=", ">", ">="]
 CODES = ["ok", "noop", "updated", "fail", "reject"]
 LISTS = ["request", "reply", "control"]

@@ -15,7 +15,8 @@ OUT_OF_MEMORY = b"Error: Kind(OutOfMemory)\n"
 # Every operator, with an effect and without; edits from the middle; rollbacks until there is no room, and their undo.
 EDITS = [
     *("reply += 25 9", "undo", "reply += 25 8", "redo", "list reply", "reply := 25 5", "reply = 7 1", "reply = 7 2"),
-    *("reply -= 25 5", "undo", "undo", "reply == 25 2", "control := 4 4", "request !* 1 0", "list request"),
+    *("reply -= 25 5", "undo", "undo", "reply == 25 2", "reply ^= 25 6", "control := 4 4"),
+    *("request !* 1 0", "list request"),
 ]
 ROLLBACKS = [
     *("rollback 1", "rollback 0", "undo", "rollback 2", *["rollback 0"] * 8, "undo", "undo", "rollback 9", "redo"),
@@ -34,7 +35,7 @@ SCRIPTS = {
     "rollbacks": EDITS[:4] + ROLLBACKS + TO_BOTH_ENDS,
     "settled": EDITS[:6] + SETTLED + TO_BOTH_ENDS,
 }
-KINDS = {"new", "list", "reserve", "rollback", *(f"edit {it}" for it in ("=", ":=", "+=", "-=", "==", "!*"))}
+KINDS = {"new", "list", "reserve", "rollback", *(f"edit {it}" for it in ("=", ":=", "+=", "^=", "-=", "==", "!*"))}
 
 
 class Followed(NamedTuple):

@@ -27,7 +27,8 @@ fn tells_the_size_of_a_policy(rt: HostRuntime) -> Result<(), Fail> {
 
 #[test]
 fn loads_whole_policies(rt: HostRuntime) -> Result<(), Fail> {
-    let cases: [(&[u8], &[u8]); 3] = [
+    let cases: [(&[u8], &[u8]); 4] = [
+        (b"update reply { Class ^= 0x01 }", b"1"),
         (b"update { Vendor-Specific !* ANY }", b"1"),
         (b"update { Reply-Message := \"50%%\" }", b"1"),
         (b"if (&Class) { } elsif (ok) { } else { noop }", b"3"),
@@ -42,7 +43,7 @@ fn loads_whole_policies(rt: HostRuntime) -> Result<(), Fail> {
 fn refuses_policies_with_their_line(rt: HostRuntime) -> Result<(), Fail> {
     let cases: [(&[u8], &[u8]); 8] = [
         (
-            b"update reply { Class ^= 0x01 }",
+            b"update reply { Class ^ 0x01 }",
             b"radpolicy: E50 policy:1: unreadable token\n",
         ),
         (

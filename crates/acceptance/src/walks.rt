@@ -33,6 +33,14 @@ transaction {
 update reply { Class := 0x05 }
 ";
 
+const PREPENDING_TRANSACTION: &[u8] = b"update reply { Class ^= 0x01 }
+transaction {
+  update reply { Class ^= 0x02 Class += 0x03 }
+  fail
+}
+update reply { Class ^= 0x04 }
+";
+
 /// The walk by the script over the policy's run on request lines prints this.
 pub fn expect_walk<'a>(
     rt: &impl Abort,
@@ -172,6 +180,33 @@ control
 8 word 6 fail
 request
 reply
+  Class = 0x03
+control
+",
+    )
+}
+
+#[test]
+fn walks_back_to_pairs_at_both_ends(rt: HostRuntime) -> Result<(), Fail> {
+    expect_walk(
+        &rt,
+        rt.alloc(),
+        b"end show back back back show",
+        b"",
+        PREPENDING_TRANSACTION,
+        b"7 line 6 fail
+request
+reply
+  Class = 0x04
+  Class = 0x01
+control
+6 rollback 2 fail
+5 word 4 fail
+4 line 3 ok
+request
+reply
+  Class = 0x02
+  Class = 0x01
   Class = 0x03
 control
 ",

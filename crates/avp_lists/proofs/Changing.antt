@@ -26,7 +26,7 @@ added-firsts : (o : Option Slot) → ((s : Slot) → o ≡ Some s → (s.mark.li
 added-firsts None h = refl
 added-firsts (Some s) h =
     let a = h s refl in
-    ap (λ (m : Mark). let t : Slot = record { list = s.list; mark = m; first = s.first } in t ∷ []) a.1
+    ap (λ (m : Mark). let t : Slot = record { list = s.list; end = s.end; mark = m; first = s.first } in t ∷ []) a.1
 
 added-dark : (o : Option Slot) → ((s : Slot) → o ≡ Some s → (s.mark.live ≡ false) × (s.first ≡ s.mark)) → (i : ℕ) → (slot_at (option_to_list o) i).mark.live ≡ true → ⊥
 added-dark None h i live = cc

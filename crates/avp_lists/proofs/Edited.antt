@@ -7,7 +7,7 @@ use Rattle.avp_lists.specs.declared.attributes.AttrId.{AttrId}
 use Rattle.avp_lists.specs.declared.attributes.Pair.{Pair}
 use Rattle.avp_lists.specs.declared.edits.Edit.{Edit}
 use Rattle.avp_lists.specs.declared.edits.Op.{Op}
-use Rattle.avp_lists.specs.declared.edits.Op.TheVariants.{AddNew, Replace, Append, RemoveEqual, KeepEqual, RemoveAll}
+use Rattle.avp_lists.specs.declared.edits.Op.TheVariants.{AddNew, Replace, Append, Prepend, RemoveEqual, KeepEqual, RemoveAll}
 use Rattle.avp_lists.specs.declared.lists.List.{List as WhichList}
 use Rattle.avp_lists.specs.declared.lists.List.TheVariants.{Request, Reply, Control}
 use Rattle.avp_lists.specs.declared.slots.Slot.{Slot}
@@ -15,13 +15,14 @@ use Rattle.avp_lists.specs.Growth.{adds_one, removes}
 use Rattle.avp_lists.specs.Instances.{has_id, is_other}
 use Rattle.avp_lists.specs.Operators.{agrees, replace, apply}
 use Rattle.avp_lists.specs.Pairs.{pair_eq}
-use Rattle.avp_lists.specs.code.Plans.{goes, taken, names_in}
+use Rattle.avp_lists.specs.code.Plans.{end_of, goes, taken, names_in}
 use Rattle.avp_lists.specs.code.Shown.{same_list, shows, shows_id, no_pair, pair_of, pairs_of, state_of}
 use Rattle.avp_lists.specs.code.Slots.{no_slot, slot_at, flipped, PairsWithin}
 use Rattle.avp_lists.specs.States.{with_list, edited, edited_list}
-use Rattle.avp_lists.proofs.Editing.{turned_if, taken_away}
+use Rattle.avp_lists.proofs.Editing.{turned_if, end-turned, taken_away}
+use Rattle.avp_lists.proofs.InOrder.{in_order, shown_of, in_order-map, any-in_order, pairs_of-in_order}
 use Rattle.avp_lists.proofs.Lengths.{none_first}
-use Rattle.avp_lists.proofs.ShownPairs.{list_of-state_of}
+use Rattle.avp_lists.proofs.ShownPairs.{list_of-state_of, beside}
 
 -- an edit's list, and the other two
 by_list : (w : WhichList) (L : List Pair) (pool other : List Pair) (c d : List Slot) → pairs_of w other d ≡ L → ((which : WhichList) → same_list which w ≡ false → pairs_of which other d ≡ pairs_of which pool c) → state_of other d ≡ with_list w L (state_of pool c)
@@ -65,15 +66,15 @@ pub hidden_elsewhere : (which w : WhichList) (b : Bool) (s : Slot) → same_list
 hidden_elsewhere which w b s ne shown = and_false b (same_list which s.list) (other_list which w s.list ne (and_second s.mark.live (same_list w s.list) shown))
 
 -- turned slots of one list leave the others
-pub others_stay : (which w : WhichList) (pool : List Pair) (q : Slot → Bool) (c : List Slot) → same_list which w ≡ false → pairs_of which pool (map (turned_if (λ s. shows w s && q s)) c) ≡ pairs_of which pool c
-others_stay which w pool q [] ne = refl
-others_stay which w pool q (s ∷ ss) ne =
+pub shown_stay : (which w : WhichList) (pool : List Pair) (q : Slot → Bool) (c : List Slot) → same_list which w ≡ false → shown_of which pool (map (turned_if (λ s. shows w s && q s)) c) ≡ shown_of which pool c
+shown_stay which w pool q [] ne = refl
+shown_stay which w pool q (s ∷ ss) ne =
     let p : Slot → Bool = λ t. shows w t && q t in
-    let rest = others_stay which w pool q ss ne in
+    let rest = shown_stay which w pool q ss ne in
     let turned = map (turned_if p) ss in
-    let skip : (t : Slot) → shows which t ≡ false → pairs_of which pool (t ∷ turned) ≡ pairs_of which pool turned = λ t h. rw h refl in
-    let same : shows which s ≡ false → pairs_of which pool (s ∷ ss) ≡ pairs_of which pool ss = λ h. rw h refl in
-    elim (p s) as (λ b. p s ≡ b → pairs_of which pool (cond b (flipped s) s ∷ turned) ≡ pairs_of which pool (s ∷ ss)) [
+    let skip : (t : Slot) → shows which t ≡ false → shown_of which pool (t ∷ turned) ≡ shown_of which pool turned = λ t h. rw h refl in
+    let same : shows which s ≡ false → shown_of which pool (s ∷ ss) ≡ shown_of which pool ss = λ h. rw h refl in
+    elim (p s) as (λ b. p s ≡ b → shown_of which pool (cond b (flipped s) s ∷ turned) ≡ shown_of which pool (s ∷ ss)) [
       | true ↦ λ h.
           let shown = and_first (shows w s) (q s) h in
           skip (flipped s) (hidden_elsewhere which w (not s.mark.live) s ne shown) ∙ rest ∙ sym (same (hidden_elsewhere which w s.mark.live s ne shown))
@@ -82,6 +83,14 @@ others_stay which w pool q (s ∷ ss) ne =
         | false ↦ rest
       ]
     ] refl
+
+pub others_stay : (which w : WhichList) (pool : List Pair) (q : Slot → Bool) (c : List Slot) → same_list which w ≡ false → pairs_of which pool (map (turned_if (λ s. shows w s && q s)) c) ≡ pairs_of which pool c
+others_stay which w pool q c ne =
+    let f = turned_if (λ s. shows w s && q s) in
+    pairs_of-in_order which pool (map f c)
+    ∙ ap (shown_of which pool) (in_order-map f (end-turned (λ s. shows w s && q s)) c)
+    ∙ shown_stay which w pool q (in_order c) ne
+    ∙ sym (pairs_of-in_order which pool c)
 
 -- what is turned off shows no pair
 turned-within : (n : ℕ) (p : Slot → Bool) (c : List Slot) → ((s : Slot) → p s ≡ true → s.mark.live ≡ true) → PairsWithin n c → PairsWithin n (map (turned_if p) c)
@@ -135,6 +144,7 @@ taken-applied RemoveEqual p xs h = refl
 taken-applied KeepEqual p xs h = filter_same (λ x. not (goes KeepEqual p x)) (agrees p) xs (λ x. not_and (has_id p.id x) (pair_eq x p))
 taken-applied RemoveAll p xs h = refl
 taken-applied Append p xs h = cc
+taken-applied Prepend p xs h = cc
 taken-applied AddNew p xs h = cc
 taken-applied Replace p xs h = cc
 
@@ -146,16 +156,22 @@ state-removed e pool c h =
     (λ which ne. others_stay which e.list pool (λ s. goes e.op e.pair (pair_of pool s)) c ne)
 
 -- whether there is an instance
-pub any-shown : (w : WhichList) (id : AttrId) (pool : List Pair) (c : List Slot) → list_any (shows_id w id pool) c ≡ list_any (has_id id) (pairs_of w pool c)
-any-shown w id pool [] = refl
-any-shown w id pool (s ∷ ss) =
-    let rest = any-shown w id pool ss in
+pub any_of_shown : (w : WhichList) (id : AttrId) (pool : List Pair) (c : List Slot) → list_any (shows_id w id pool) c ≡ list_any (has_id id) (shown_of w pool c)
+any_of_shown w id pool [] = refl
+any_of_shown w id pool (s ∷ ss) =
+    let rest = any_of_shown w id pool ss in
     elim (shows w s) as (λ b. ((b && has_id id (pair_of pool s)) || list_any (shows_id w id pool) ss) ≡ list_any (has_id id) (map (pair_of pool) (cond b (s ∷ filter (shows w) ss) (filter (shows w) ss)))) [
       | true ↦ ap (λ (t : Bool). has_id id (pair_of pool s) || t) rest
       | false ↦ rest
     ]
 
--- an operator that adds one adds it at the end
+pub any-shown : (w : WhichList) (id : AttrId) (pool : List Pair) (c : List Slot) → list_any (shows_id w id pool) c ≡ list_any (has_id id) (pairs_of w pool c)
+any-shown w id pool c =
+    sym (any-in_order (shows_id w id pool) c)
+    ∙ any_of_shown w id pool (in_order c)
+    ∙ sym (ap (list_any (has_id id)) (pairs_of-in_order w pool c))
+
+-- an operator that adds one adds it at its end
 replace-none : (p : Pair) (xs : List Pair) → list_any (has_id p.id) xs ≡ false → replace p xs ≡ xs ++ p ∷ []
 replace-none p xs h =
     let first = none_first (has_id p.id) xs h in
@@ -163,10 +179,11 @@ replace-none p xs h =
     let past : length xs ≤ position_or_len (has_id p.id) xs + 1 = omega (arith, first) in
     ap₂ (λ (a b : List Pair). a ++ p ∷ filter (is_other p.id) b) (take_all (position_or_len (has_id p.id) xs) xs all) (drop_all (position_or_len (has_id p.id) xs + 1) xs past)
 
-pub added-applied : (op : Op) (p : Pair) (xs : List Pair) → adds_one op p.id xs ≡ true → apply op p xs ≡ xs ++ p ∷ []
+pub added-applied : (op : Op) (p : Pair) (xs : List Pair) → adds_one op p.id xs ≡ true → apply op p xs ≡ beside (end_of op) (p ∷ []) xs
 added-applied AddNew p xs h = elim (list_any (has_id p.id) xs) as (λ b. not b ≡ true → cond b xs (xs ++ p ∷ []) ≡ xs ++ p ∷ []) [ true ↦ λ e. cc | false ↦ λ e. refl ] h
 added-applied Replace p xs h = replace-none p xs (elim (list_any (has_id p.id) xs) as (λ b. not b ≡ true → b ≡ false) [ true ↦ λ e. cc | false ↦ λ e. refl ] h)
 added-applied Append p xs h = refl
+added-applied Prepend p xs h = refl
 added-applied RemoveEqual p xs h = cc
 added-applied KeepEqual p xs h = cc
 added-applied RemoveAll p xs h = cc

@@ -1,38 +1,41 @@
--- A pair that enters a list: at its end, or in the place of the first instance.
-use Rattle.std.proofs.Common.{◌≡◌, ℕ, zero, suc, ◌+◌, ◌≤◌, Bool, true, false, not, ◌&&◌, ◌||◌, cond, List, [], ◌∷◌, ◌++◌, Some, length, get_or, set, map, take, drop, refl, sym, ap, ap₂, ◌∙◌, arith, append-nil}
+-- A pair that enters a list: at an end, or in the place of the first instance.
+use Rattle.std.proofs.Common.{◌≡◌, ℕ, zero, suc, ◌+◌, ◌<◌, ◌≤◌, Bool, true, false, not, ◌&&◌, ◌||◌, cond, List, [], ◌∷◌, ◌++◌, Some, length, get_or, set, map, take, drop, refl, sym, ap, ap₂, ◌∙◌, subst, arith, append-nil}
 use Rattle.std.specs.List.{filter, list_any, before_first, after_first, position_or_len}
-use Rattle.std.proofs.lemmas.List.{append_assoc, get_or_at, get_or_push, set_at, length_push, take_at, drop_at}
+use Rattle.std.proofs.lemmas.List.{append_assoc, get_or_at, get_or_push, set_at, length-map, length_push, take_at, drop_at}
 use Rattle.avp_lists.specs.declared.attributes.Pair.{Pair}
 use Rattle.avp_lists.specs.declared.edits.Edit.{Edit}
 use Rattle.avp_lists.specs.declared.edits.Op.{Op}
 use Rattle.avp_lists.specs.declared.edits.Op.TheVariants.{Replace}
 use Rattle.avp_lists.specs.declared.lists.List.{List as WhichList}
+use Rattle.avp_lists.specs.declared.slots.End.{End}
 use Rattle.avp_lists.specs.declared.slots.Slot.{Slot}
 use Rattle.avp_lists.specs.declared.slots.Swap.{Swap}
 use Rattle.avp_lists.specs.Growth.{adds_one}
 use Rattle.avp_lists.specs.Instances.{has_id, is_other}
 use Rattle.avp_lists.specs.Operators.{replace, apply}
-use Rattle.avp_lists.specs.code.Plans.{goes, taken, names_in}
-use Rattle.avp_lists.specs.code.Shown.{same_list, shows, shows_id, no_pair, pair_of, pairs_of, state_of}
-use Rattle.avp_lists.specs.code.Slots.{no_slot, flipped, turn_all, swap_at, forward, other_pair, with_other, PairsWithin}
+use Rattle.avp_lists.specs.code.Plans.{end_of, goes, taken, names_in}
+use Rattle.avp_lists.specs.code.Shown.{same_list, shows, shows_id, no_pair, pair_of, pairs_of, ahead, state_of}
+use Rattle.avp_lists.specs.code.Slots.{no_slot, flipped, turn, turn_all, swap_at, forward, other_pair, with_other, PairsWithin}
 use Rattle.avp_lists.specs.States.{edited}
-use Rattle.avp_lists.proofs.Editing.{turned_if, turned_where, taken_away, turn_at}
-use Rattle.avp_lists.proofs.Edited.{state_edited, same_itself, hidden_elsewhere, and_first, and_second, others_stay, taken-within, any-shown, added-applied, agree-more, within-more, within-append, within-one}
-use Rattle.avp_lists.proofs.ShownPairs.{pairs_of-append, pairs_of-agree}
+use Rattle.avp_lists.proofs.Editing.{turned_if, turned_where, end-turned, shown_taken, turn_at}
+use Rattle.avp_lists.proofs.Edited.{state_edited, same_itself, hidden_elsewhere, and_first, and_second, shown_stay, names_in-within, taken-within, any_of_shown, added-applied, agree-more, within-more, within-append, within-one}
+use Rattle.avp_lists.proofs.Growing.{turn_all-grown}
+use Rattle.avp_lists.proofs.InOrder.{in_order, shown_of, in_order-middle, behind, ahead-map, behind-map, all-in_order, pairs_of-in_order}
+use Rattle.avp_lists.proofs.ShownPairs.{shown-append, shown-agree, beside, beside_none, pairs_of-more, pairs_of-agree}
 
 -- the pair is in the pool of one more
 there : (pool : List Pair) (p : Pair) → get_or (pool ++ p ∷ []) (length pool) no_pair ≡ p
 there pool p = get_or_push pool p no_pair (length pool) refl
 
 -- what one slot shows
-one_shown : (which : WhichList) (pool : List Pair) (s : Slot) → shows which s ≡ true → pairs_of which pool (s ∷ []) ≡ pair_of pool s ∷ []
+one_shown : (which : WhichList) (pool : List Pair) (s : Slot) → shows which s ≡ true → shown_of which pool (s ∷ []) ≡ pair_of pool s ∷ []
 one_shown which pool s h = rw h refl
 
-one_hidden : (which : WhichList) (pool : List Pair) (s : Slot) → shows which s ≡ false → pairs_of which pool (s ∷ []) ≡ []
+one_hidden : (which : WhichList) (pool : List Pair) (s : Slot) → shows which s ≡ false → shown_of which pool (s ∷ []) ≡ []
 one_hidden which pool s h = rw h refl
 
--- at the end: the slot is the last one, shows the pair, and its list is the edit's
-module _ (e : Edit) (pool : List Pair) (c : List Slot) (s : Slot) (pooled : PairsWithin (length pool) c) (adds : adds_one e.op e.pair.id (pairs_of e.list pool c) ≡ true) (of_list : s.list ≡ e.list) (off : s.mark.live ≡ false) (pair : s.mark.pair ≡ length pool) where
+-- at an end: the slot is the last one, shows the pair, its list is the edit's, and its end is that of the operator
+module _ (e : Edit) (pool : List Pair) (c : List Slot) (s : Slot) (pooled : PairsWithin (length pool) c) (adds : adds_one e.op e.pair.id (pairs_of e.list pool c) ≡ true) (of_list : s.list ≡ e.list) (at_end : s.end ≡ end_of e.op) (off : s.mark.live ≡ false) (pair : s.mark.pair ≡ length pool) where
   pub added-turned : turn_all (length c ∷ []) (c ++ s ∷ []) ≡ c ++ flipped s ∷ []
   added-turned = turn_at c [] s ∙ append-nil (c ++ flipped s ∷ [])
 
@@ -46,18 +49,19 @@ module _ (e : Edit) (pool : List Pair) (c : List Slot) (s : Slot) (pooled : Pair
   state-added =
       let other = pool ++ e.pair ∷ [] in
       let d = c ++ flipped s ∷ [] in
-      let kept : (which : WhichList) → pairs_of which other d ≡ pairs_of which pool c ++ pairs_of which other (flipped s ∷ []) = λ which.
-      pairs_of-append which other c (flipped s ∷ []) ∙ ap (λ (xs : List Pair). xs ++ pairs_of which other (flipped s ∷ [])) (pairs_of-agree which other pool c (agree-more pool e.pair c pooled)) in
+      let kept : (which : WhichList) → pairs_of which other d ≡ beside (end_of e.op) (shown_of which other (flipped s ∷ [])) (pairs_of which pool c) = λ which.
+      pairs_of-more which other c (flipped s)
+      ∙ ap₂ (λ (end : End) (xs : List Pair). beside end (shown_of which other (flipped s ∷ [])) xs) at_end (pairs_of-agree which other pool c (agree-more pool e.pair c pooled)) in
       state_edited e pool other c d
       (
       kept e.list
-      ∙ ap (λ (xs : List Pair). pairs_of e.list pool c ++ xs) (one_shown e.list other (flipped s) (last_shows e.list ∙ same_itself e.list) ∙ ap (λ (x : Pair). x ∷ []) last_pair)
+      ∙ ap (λ (xs : List Pair). beside (end_of e.op) xs (pairs_of e.list pool c)) (one_shown e.list other (flipped s) (last_shows e.list ∙ same_itself e.list) ∙ ap (λ (x : Pair). x ∷ []) last_pair)
       ∙ sym (added-applied e.op e.pair (pairs_of e.list pool c) adds)
       )
       (λ which ne.
       kept which
-      ∙ ap (λ (xs : List Pair). pairs_of which pool c ++ xs) (one_hidden which other (flipped s) (last_shows which ∙ ne))
-      ∙ append-nil (pairs_of which pool c))
+      ∙ ap (λ (xs : List Pair). beside (end_of e.op) xs (pairs_of which pool c)) (one_hidden which other (flipped s) (last_shows which ∙ ne))
+      ∙ beside_none (end_of e.op) (pairs_of which pool c))
 
   pub added-within : PairsWithin (length (pool ++ e.pair ∷ [])) (c ++ flipped s ∷ [])
   added-within =
@@ -96,22 +100,49 @@ within-right n (s ∷ ss) d h = within-right n ss d (λ j. h (suc j))
 same_now : (n m : ℕ) → other_pair m n m ≡ n
 same_now n m = grind arith
 
+-- names of the slots before a place, and of those after it
+turn_all-both : (a b : List ℕ) (c : List Slot) → turn_all (a ++ b) c ≡ turn_all b (turn_all a c)
+turn_all-both [] b c = refl
+turn_all-both (i ∷ is) b c = turn_all-both is b (turn c i)
+
+turned_before : (p : Slot → Bool) (before rest : List Slot) → turn_all (names_in p 0 before) (before ++ rest) ≡ map (turned_if p) before ++ rest
+turned_before p before rest =
+    turn_all-grown (names_in p 0 before) before rest (λ i h. omega (arith, names_in-within p 0 before i h))
+    ∙ ap (λ (xs : List Slot). xs ++ rest) (turned_where p [] before)
+
+turned_after : (p : Slot → Bool) (before after : List Slot) (s : Slot) → turn_all (names_in p (length before + 1) after) (before ++ s ∷ after) ≡ before ++ s ∷ map (turned_if p) after
+turned_after p before after s =
+    ap (λ (n : ℕ). turn_all (names_in p n after) (before ++ s ∷ after)) (sym (length_push before s))
+    ∙ ap (turn_all (names_in p (length (before ++ s ∷ [])) after)) (sym (append_assoc before (s ∷ []) after))
+    ∙ turned_where p (before ++ s ∷ []) after
+    ∙ append_assoc before (s ∷ []) (map (turned_if p) after)
+
+none_filtered : (q : Pair → Bool) (xs : List Pair) → list_any q xs ≡ false → filter (λ x. not (q x)) xs ≡ xs
+none_filtered q [] none = refl
+none_filtered q (x ∷ xs) none =
+    elim (q x) as (λ b. (b || list_any q xs) ≡ false → cond (not b) (x ∷ filter (λ y. not (q y)) xs) (filter (λ y. not (q y)) xs) ≡ x ∷ xs) [
+      | true ↦ λ h. cc
+      | false ↦ λ h. ap (λ (ys : List Pair). x ∷ ys) (none_filtered q xs h)
+    ] none
+
 -- in the place of the first instance
-module _ (e : Edit) (pool : List Pair) (before after : List Slot) (s : Slot) (w : Swap) (op : e.op ≡ Replace) (pooled : PairsWithin (length pool) (before ++ s ∷ after)) (first : shows_id e.list e.pair.id pool s ≡ true) (none : list_any (shows_id e.list e.pair.id pool) before ≡ false) (at : w.slot ≡ length before) (old : w.old ≡ s.mark.pair) (new : w.new ≡ length pool) where
-  pub replaced-turned : forward (names_in (taken e pool) (length before + 1) after) (Some w) (before ++ s ∷ after) ≡ (before ++ with_other w s ∷ []) ++ map (turned_if (taken e pool)) after
+module _ (e : Edit) (pool : List Pair) (before after : List Slot) (s : Slot) (w : Swap) (op : e.op ≡ Replace) (pooled : PairsWithin (length pool) (before ++ s ∷ after)) (first : shows_id e.list e.pair.id pool s ≡ true) (none : list_any (shows_id e.list e.pair.id pool) (ahead s.end before after) ≡ false) (at : w.slot ≡ length before) (old : w.old ≡ s.mark.pair) (new : w.new ≡ length pool) where
+  pub replaced-turned : forward (names_in (taken e pool) 0 before ++ names_in (taken e pool) (length before + 1) after) (Some w) (before ++ s ∷ after) ≡ (map (turned_if (taken e pool)) before ++ with_other w s ∷ []) ++ map (turned_if (taken e pool)) after
   replaced-turned =
       let p = taken e pool in
+      let left = map (turned_if p) before in
       let rest = map (turned_if p) after in
-      let names : names_in p (length before + 1) after ≡ names_in p (length (before ++ s ∷ [])) after = ap (λ (n : ℕ). names_in p n after) (sym (length_push before s)) in
-      let turned : turn_all (names_in p (length before + 1) after) (before ++ s ∷ after) ≡ before ++ s ∷ rest =
-      ap (λ (ns : List ℕ). turn_all ns (before ++ s ∷ after)) names
-      ∙ ap (turn_all (names_in p (length (before ++ s ∷ [])) after)) (sym (append_assoc before (s ∷ []) after))
-      ∙ turned_where p (before ++ s ∷ []) after
-      ∙ append_assoc before (s ∷ []) rest in
+      let long : length left ≡ length before = length-map before (turned_if p) in
+      let here : length left ≡ w.slot = long ∙ sym at in
+      let turned : turn_all (names_in p 0 before ++ names_in p (length before + 1) after) (before ++ s ∷ after) ≡ left ++ s ∷ rest =
+      turn_all-both (names_in p 0 before) (names_in p (length before + 1) after) (before ++ s ∷ after)
+      ∙ ap (turn_all (names_in p (length before + 1) after)) (turned_before p before (s ∷ after))
+      ∙ ap (λ (n : ℕ). turn_all (names_in p (n + 1) after) (left ++ s ∷ after)) (sym long)
+      ∙ turned_after p left after s in
       ap (swap_at (Some w)) turned
-      ∙ ap (λ (x : Slot). set (before ++ s ∷ rest) w.slot (with_other w x)) (get_or_at before s rest no_slot w.slot (sym at))
-      ∙ set_at before s rest (with_other w s) w.slot (sym at)
-      ∙ sym (append_assoc before (with_other w s ∷ []) rest)
+      ∙ ap (λ (x : Slot). set (left ++ s ∷ rest) w.slot (with_other w x)) (get_or_at left s rest no_slot w.slot here)
+      ∙ set_at left s rest (with_other w s) w.slot here
+      ∙ sym (append_assoc left (with_other w s ∷ []) rest)
 
   shown_here : shows e.list s ≡ true
   shown_here = and_first (shows e.list s) (has_id e.pair.id (pair_of pool s)) first
@@ -119,49 +150,98 @@ module _ (e : Edit) (pool : List Pair) (before after : List Slot) (s : Slot) (w 
   new_pair : (with_other w s).mark.pair ≡ length pool
   new_pair = ap (λ (n : ℕ). other_pair n w.new s.mark.pair) old ∙ same_now w.new s.mark.pair ∙ new
 
-  before_within : PairsWithin (length pool) before
-  before_within = within-left (length pool) before (s ∷ after) pooled
+  left_within : PairsWithin (length pool) (map (turned_if (taken e pool)) before)
+  left_within = taken-within e pool (length pool) before (within-left (length pool) before (s ∷ after) pooled)
 
   rest_within : PairsWithin (length pool) (map (turned_if (taken e pool)) after)
   rest_within =
       let all : PairsWithin (length pool) (s ∷ after) = within-right (length pool) before (s ∷ after) pooled in
       taken-within e pool (length pool) after (λ i. all (suc i))
 
-  pub replaced-within : PairsWithin (length (pool ++ e.pair ∷ [])) ((before ++ with_other w s ∷ []) ++ map (turned_if (taken e pool)) after)
+  pub replaced-within : PairsWithin (length (pool ++ e.pair ∷ [])) ((map (turned_if (taken e pool)) before ++ with_other w s ∷ []) ++ map (turned_if (taken e pool)) after)
   replaced-within =
       let n = length (pool ++ e.pair ∷ []) in
       let long = length_push pool e.pair in
       let le : length pool ≤ n = omega (arith, long) in
+      let left = map (turned_if (taken e pool)) before in
       let rest = map (turned_if (taken e pool)) after in
       let one : PairsWithin n (with_other w s ∷ []) = within-one n (with_other w s) (λ live. omega (arith, new_pair, long)) in
-      within-append n (before ++ with_other w s ∷ []) rest (within-append n before (with_other w s ∷ []) (within-more (length pool) n before le before_within) one) (within-more (length pool) n rest le rest_within)
+      within-append n (left ++ with_other w s ∷ []) rest (within-append n left (with_other w s ∷ []) (within-more (length pool) n left le left_within) one) (within-more (length pool) n rest le rest_within)
 
-  pub state-replaced : state_of (pool ++ e.pair ∷ []) ((before ++ with_other w s ∷ []) ++ map (turned_if (taken e pool)) after) ≡ edited e (state_of pool (before ++ s ∷ after))
-  state-replaced =
+  -- the same slots in order
+  abbrev first_slots : List Slot
+  first_slots = ahead s.end before after
+
+  abbrev last_slots : List Slot
+  last_slots = behind s.end before after
+
+  was_in_order : in_order (before ++ s ∷ after) ≡ first_slots ++ s ∷ last_slots
+  was_in_order = in_order-middle before after s
+
+  is_in_order : in_order ((map (turned_if (taken e pool)) before ++ with_other w s ∷ []) ++ map (turned_if (taken e pool)) after) ≡ (map (turned_if (taken e pool)) first_slots ++ with_other w s ∷ []) ++ map (turned_if (taken e pool)) last_slots
+  is_in_order =
+      let g = turned_if (taken e pool) in
+      let s' = with_other w s in
+      ap in_order (append_assoc (map g before) (s' ∷ []) (map g after))
+      ∙ in_order-middle (map g before) (map g after) s'
+      ∙ ap₂ (λ (xs ys : List Slot). xs ++ s' ∷ ys) (ahead-map g (end-turned (taken e pool)) s.end before after) (behind-map g (end-turned (taken e pool)) s.end before after)
+      ∙ sym (append_assoc (map g first_slots) (s' ∷ []) (map g last_slots))
+
+  order_within : PairsWithin (length pool) (first_slots ++ s ∷ last_slots)
+  order_within =
+      let P : Slot → Type 0 = λ t. t.mark.live ≡ true → t.mark.pair < length pool in
+      let Q : List Slot → Type 0 = λ c. PairsWithin (length pool) c in
+      subst Q was_in_order (all-in_order P (before ++ s ∷ after) pooled)
+
+  firsts_within : PairsWithin (length pool) (map (turned_if (taken e pool)) first_slots)
+  firsts_within = taken-within e pool (length pool) first_slots (within-left (length pool) first_slots (s ∷ last_slots) order_within)
+
+  lasts_within : PairsWithin (length pool) (map (turned_if (taken e pool)) last_slots)
+  lasts_within =
+      let all : PairsWithin (length pool) (s ∷ last_slots) = within-right (length pool) first_slots (s ∷ last_slots) order_within in
+      taken-within e pool (length pool) last_slots (λ i. all (suc i))
+
+  parts : (which : WhichList) → pairs_of which (pool ++ e.pair ∷ []) ((map (turned_if (taken e pool)) before ++ with_other w s ∷ []) ++ map (turned_if (taken e pool)) after) ≡ (shown_of which pool (map (turned_if (taken e pool)) first_slots) ++ shown_of which (pool ++ e.pair ∷ []) (with_other w s ∷ [])) ++ shown_of which pool (map (turned_if (taken e pool)) last_slots)
+  parts which =
+      let g = turned_if (taken e pool) in
       let other = pool ++ e.pair ∷ [] in
       let s' = with_other w s in
-      let rest = map (turned_if (taken e pool)) after in
-      let d = (before ++ s' ∷ []) ++ rest in
-      let parts : (which : WhichList) → pairs_of which other d ≡ (pairs_of which pool before ++ pairs_of which other (s' ∷ [])) ++ pairs_of which pool rest = λ which.
-      pairs_of-append which other (before ++ s' ∷ []) rest
-      ∙ ap (λ (xs : List Pair). xs ++ pairs_of which other rest) (pairs_of-append which other before (s' ∷ []))
-      ∙ ap₂ (λ (xs ys : List Pair). (xs ++ pairs_of which other (s' ∷ [])) ++ ys) (pairs_of-agree which other pool before (agree-more pool e.pair before before_within)) (pairs_of-agree which other pool rest (agree-more pool e.pair rest rest_within)) in
+      let left = map g first_slots in
+      let rest = map g last_slots in
+      pairs_of-in_order which other ((map g before ++ s' ∷ []) ++ map g after)
+      ∙ ap (shown_of which other) is_in_order
+      ∙ shown-append which other (left ++ s' ∷ []) rest
+      ∙ ap (λ (xs : List Pair). xs ++ shown_of which other rest) (shown-append which other left (s' ∷ []))
+      ∙ ap₂ (λ (xs ys : List Pair). (xs ++ shown_of which other (s' ∷ [])) ++ ys) (shown-agree which other pool left (agree-more pool e.pair left firsts_within)) (shown-agree which other pool rest (agree-more pool e.pair rest lasts_within))
+
+  pub state-replaced : state_of (pool ++ e.pair ∷ []) ((map (turned_if (taken e pool)) before ++ with_other w s ∷ []) ++ map (turned_if (taken e pool)) after) ≡ edited e (state_of pool (before ++ s ∷ after))
+  state-replaced =
+      let g = turned_if (taken e pool) in
+      let other = pool ++ e.pair ∷ [] in
+      let s' = with_other w s in
+      let d = (map g before ++ s' ∷ []) ++ map g after in
       let x = pair_of pool s in
-      let B = pairs_of e.list pool before in
-      let A = pairs_of e.list pool after in
+      let B = shown_of e.list pool first_slots in
+      let A = shown_of e.list pool last_slots in
       let is_pair : pair_of other s' ≡ e.pair = ap (λ (n : ℕ). get_or other n no_pair) new_pair ∙ there pool e.pair in
-      let old_list : pairs_of e.list pool (before ++ s ∷ after) ≡ B ++ x ∷ A = pairs_of-append e.list pool before (s ∷ after) ∙ ap (λ (xs : List Pair). B ++ xs) (rw shown_here refl) in
-      let gone : pairs_of e.list pool rest ≡ filter (is_other e.pair.id) A = taken_away e.list pool (goes e.op e.pair) after ∙ ap (λ (o : Op). filter (λ y. not (goes o e.pair y)) A) op in
+      let old_list : (which : WhichList) → pairs_of which pool (before ++ s ∷ after) ≡ shown_of which pool first_slots ++ shown_of which pool (s ∷ last_slots) = λ which.
+      pairs_of-in_order which pool (before ++ s ∷ after) ∙ ap (shown_of which pool) was_in_order ∙ shown-append which pool first_slots (s ∷ last_slots) in
+      let none_shown : list_any (has_id e.pair.id) B ≡ false = sym (any_of_shown e.list e.pair.id pool first_slots) ∙ none in
+      let kept : shown_of e.list pool (map g first_slots) ≡ B = shown_taken e.list pool (goes e.op e.pair) first_slots ∙ ap (λ (o : Op). filter (λ y. not (goes o e.pair y)) B) op ∙ none_filtered (has_id e.pair.id) B none_shown in
+      let gone : shown_of e.list pool (map g last_slots) ≡ filter (is_other e.pair.id) A = shown_taken e.list pool (goes e.op e.pair) last_slots ∙ ap (λ (o : Op). filter (λ y. not (goes o e.pair y)) A) op in
       let own : pairs_of e.list other d ≡ apply e.op e.pair (pairs_of e.list pool (before ++ s ∷ after)) =
       parts e.list
-      ∙ ap₂ (λ (xs ys : List Pair). (B ++ xs) ++ ys) (one_shown e.list other s' shown_here ∙ ap (λ (y : Pair). y ∷ []) is_pair) gone
+      ∙ ap₂ (λ (xs ys : List Pair). (xs ++ shown_of e.list other (s' ∷ [])) ++ ys) kept gone
+      ∙ ap (λ (xs : List Pair). (B ++ xs) ++ filter (is_other e.pair.id) A) (one_shown e.list other s' shown_here ∙ ap (λ (y : Pair). y ∷ []) is_pair)
       ∙ append_assoc B (e.pair ∷ []) (filter (is_other e.pair.id) A)
-      ∙ sym (replace_at e.pair B A x (sym (any-shown e.list e.pair.id pool before) ∙ none) (and_second (shows e.list s) (has_id e.pair.id x) first))
-      ∙ sym (ap (replace e.pair) old_list)
+      ∙ sym (replace_at e.pair B A x none_shown (and_second (shows e.list s) (has_id e.pair.id x) first))
+      ∙ sym (ap (replace e.pair) (old_list e.list ∙ ap (λ (xs : List Pair). B ++ xs) (rw shown_here refl)))
       ∙ sym (ap (λ (o : Op). apply o e.pair (pairs_of e.list pool (before ++ s ∷ after))) op) in
       state_edited e pool other (before ++ s ∷ after) d own (λ which ne.
       let hidden : shows which s ≡ false = hidden_elsewhere which e.list s.mark.live s ne shown_here in
+      let stay : (c : List Slot) → shown_of which pool (map g c) ≡ shown_of which pool c = λ c. shown_stay which e.list pool (λ t. goes e.op e.pair (pair_of pool t)) c ne in
       parts which
-      ∙ ap₂ (λ (xs ys : List Pair). (pairs_of which pool before ++ xs) ++ ys) (one_hidden which other s' hidden) (others_stay which e.list pool (λ t. goes e.op e.pair (pair_of pool t)) after ne)
-      ∙ ap (λ (xs : List Pair). xs ++ pairs_of which pool after) (append-nil (pairs_of which pool before))
-      ∙ sym (pairs_of-append which pool before (s ∷ after) ∙ ap (λ (xs : List Pair). pairs_of which pool before ++ xs) (rw hidden refl)))
+      ∙ ap₂ (λ (xs ys : List Pair). (xs ++ shown_of which other (s' ∷ [])) ++ ys) (stay first_slots) (stay last_slots)
+      ∙ ap (λ (xs : List Pair). (shown_of which pool first_slots ++ xs) ++ shown_of which pool last_slots) (one_hidden which other s' hidden)
+      ∙ ap (λ (xs : List Pair). xs ++ shown_of which pool last_slots) (append-nil (shown_of which pool first_slots))
+      ∙ sym (old_list which ∙ ap (λ (xs : List Pair). shown_of which pool first_slots ++ xs) (rw hidden refl)))

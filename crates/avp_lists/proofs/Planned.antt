@@ -13,8 +13,8 @@ use Rattle.avp_lists.specs.declared.slots.Swap.{Swap}
 use Rattle.avp_lists.specs.Growth.{adds_one, removes}
 use Rattle.avp_lists.specs.Instances.{has_id}
 use Rattle.avp_lists.specs.Operators.{apply}
-use Rattle.avp_lists.specs.code.Plans.{taken, names_in, IsPlan}
-use Rattle.avp_lists.specs.code.Shown.{shows_id, pairs_of, state_of}
+use Rattle.avp_lists.specs.code.Plans.{end_of, taken, names_in, IsPlan}
+use Rattle.avp_lists.specs.code.Shown.{shows_id, ahead_at, pairs_of, state_of}
 use Rattle.avp_lists.specs.code.Slots.{no_slot, slot_at, flipped, turn_all, with_other, forward, NamesWithin, PairsWithin}
 use Rattle.avp_lists.specs.States.{edited}
 use Rattle.avp_lists.proofs.Editing.{turned_if, turned_where}
@@ -29,9 +29,9 @@ none_added : (s : Slot) → None ≡ Some s → ⊥
 none_added s h = cc
 
 -- the pair gets a slot of its own
-pub plan-added : (e : Edit) (pool : List Pair) (c : List Slot) (s : Slot) (v : Vec ℕ Global) → PairsWithin (length pool) c → adds_one e.op e.pair.id (pairs_of e.list pool c) ≡ true → s.list ≡ e.list → s.mark.live ≡ false → s.mark.pair ≡ length pool → s.first ≡ s.mark → v.items ≡ length c ∷ [] → IsPlan e pool c (record { turned = v; swap = None; added = Some s })
-plan-added e pool c s v fits adds of_list off pair first N =
-    let turned : turn_all v.items (c ++ s ∷ []) ≡ c ++ flipped s ∷ [] = ap (λ (ns : List ℕ). turn_all ns (c ++ s ∷ [])) N ∙ added-turned e pool c s fits adds of_list off pair in
+pub plan-added : (e : Edit) (pool : List Pair) (c : List Slot) (s : Slot) (v : Vec ℕ Global) → PairsWithin (length pool) c → adds_one e.op e.pair.id (pairs_of e.list pool c) ≡ true → s.list ≡ e.list → s.end ≡ end_of e.op → s.mark.live ≡ false → s.mark.pair ≡ length pool → s.first ≡ s.mark → v.items ≡ length c ∷ [] → IsPlan e pool c (record { turned = v; swap = None; added = Some s })
+plan-added e pool c s v fits adds of_list at_end off pair first N =
+    let turned : turn_all v.items (c ++ s ∷ []) ≡ c ++ flipped s ∷ [] = ap (λ (ns : List ℕ). turn_all ns (c ++ s ∷ [])) N ∙ added-turned e pool c s fits adds of_list at_end off pair in
     let P : List Slot → Type 0 = λ d. PairsWithin (length (pool ++ e.pair ∷ [])) d in
     let Q : List ℕ → Type 0 = λ ns. NamesWithin (length (c ++ s ∷ [])) ns in
     let R : Slot → Type 0 = λ t. (t.mark.live ≡ false) × (t.first ≡ t.mark) in
@@ -39,8 +39,8 @@ plan-added e pool c s v fits adds of_list off pair first N =
       names = subst Q (sym N) (one_name (length c) (length (c ++ s ∷ [])) (omega (arith, length_push c s)));
       swap = omega arith;
       added = λ t is. let same : s ≡ t = cc in subst R same (off, first);
-      within = subst P (sym turned) (added-within e pool c s fits adds of_list off pair);
-      state = ap (state_of (pool ++ e.pair ∷ [])) turned ∙ state-added e pool c s fits adds of_list off pair;
+      within = subst P (sym turned) (added-within e pool c s fits adds of_list at_end off pair);
+      state = ap (state_of (pool ++ e.pair ∷ [])) turned ∙ state-added e pool c s fits adds of_list at_end off pair;
     }
 
 -- what is turned without a swap and without a slot more
@@ -80,21 +80,28 @@ plan-kept e pool c v fits op none N =
     plain e pool c c v (subst Q (sym N) (λ i h. absurd (omega (arith, h)))) (ap (λ (ns : List ℕ). turn_all ns c) N) fits
     (state_edited e pool pool c c (sym (kept_applied e.op e.pair (pairs_of e.list pool c) op none)) (λ which ne. refl))
 
+-- names of two parts
+names_both : (n : ℕ) (a b : List ℕ) → NamesWithin n a → NamesWithin n b → NamesWithin n (a ++ b)
+names_both n [] b left right i h = right i h
+names_both n (x ∷ xs) b left right zero h = left 0 (omega arith)
+names_both n (x ∷ xs) b left right (suc i) h = names_both n xs b (λ j lt. left (suc j) (omega (arith, lt))) right i (omega (arith, h))
+
 -- the pair takes the place of another
-pub plan-replaced : (e : Edit) (pool : List Pair) (c : List Slot) (first : ℕ) (w : Swap) (v : Vec ℕ Global) → PairsWithin (length pool) c → e.op ≡ Replace → first < length c → shows_id e.list e.pair.id pool (slot_at c first) ≡ true → list_any (shows_id e.list e.pair.id pool) (take first c) ≡ false → w.slot ≡ first → w.old ≡ (slot_at c first).mark.pair → w.new ≡ length pool → v.items ≡ names_in (taken e pool) (first + 1) (drop (first + 1) c) → IsPlan e pool c (record { turned = v; swap = Some w; added = None })
+pub plan-replaced : (e : Edit) (pool : List Pair) (c : List Slot) (first : ℕ) (w : Swap) (v : Vec ℕ Global) → PairsWithin (length pool) c → e.op ≡ Replace → first < length c → shows_id e.list e.pair.id pool (slot_at c first) ≡ true → list_any (shows_id e.list e.pair.id pool) (ahead_at first c) ≡ false → w.slot ≡ first → w.old ≡ (slot_at c first).mark.pair → w.new ≡ length pool → v.items ≡ names_in (taken e pool) 0 (take first c) ++ names_in (taken e pool) (first + 1) (drop (first + 1) c) → IsPlan e pool c (record { turned = v; swap = Some w; added = None })
 plan-replaced e pool c first w v fits op within shown none at old new N =
     let before = take first c in
     let s = slot_at c first in
     let after = drop (first + 1) c in
     let other = pool ++ e.pair ∷ [] in
+    let p = taken e pool in
     let le : first ≤ length c = omega (arith, within) in
     let long : length before ≡ first = length-take-le first c le in
     let whole : c ≡ before ++ s ∷ after = sym (take-append-drop first c) ∙ ap (λ (xs : List Slot). before ++ xs) (drop_more c first no_slot within) in
     let P : List Slot → Type 0 = λ x. PairsWithin (length pool) x in
     let parts_fit : PairsWithin (length pool) (before ++ s ∷ after) = subst P whole fits in
     let here : w.slot ≡ length before = at ∙ sym long in
-    let d = (before ++ with_other w s ∷ []) ++ map (turned_if (taken e pool)) after in
-    let names : v.items ≡ names_in (taken e pool) (length before + 1) after = N ∙ ap (λ (n : ℕ). names_in (taken e pool) (n + 1) after) (sym long) in
+    let d = (map (turned_if p) before ++ with_other w s ∷ []) ++ map (turned_if p) after in
+    let names : v.items ≡ names_in p 0 before ++ names_in p (length before + 1) after = N ∙ ap (λ (n : ℕ). names_in p 0 before ++ names_in p (n + 1) after) (sym long) in
     let turned : forward v.items (Some w) (c ++ []) ≡ d =
     ap (forward v.items (Some w)) (append-nil c ∙ whole)
     ∙ ap (λ (ns : List ℕ). forward ns (Some w) (before ++ s ∷ after)) names
@@ -102,8 +109,10 @@ plan-replaced e pool c first w v fits op within shown none at old new N =
     let A : List Slot → Type 0 = λ x. PairsWithin (length other) x in
     let Q : List ℕ → Type 0 = λ ns. NamesWithin (length (c ++ [])) ns in
     let end : length (c ++ []) ≡ length c = ap length (append-nil c) in
-    let all : NamesWithin (length (c ++ [])) (names_in (taken e pool) (first + 1) after) = λ i h.
-    omega (arith, names_in-within (taken e pool) (first + 1) after i h, length-drop (first + 1) c, end, within) in
+    let left : NamesWithin (length (c ++ [])) (names_in p 0 before) = λ i h. omega (arith, names_in-within p 0 before i h, long, end, within) in
+    let right : NamesWithin (length (c ++ [])) (names_in p (first + 1) after) = λ i h.
+    omega (arith, names_in-within p (first + 1) after i h, length-drop (first + 1) c, end, within) in
+    let all : NamesWithin (length (c ++ [])) (names_in p 0 before ++ names_in p (first + 1) after) = names_both (length (c ++ [])) (names_in p 0 before) (names_in p (first + 1) after) left right in
     record {
       names = subst Q (sym N) all;
       swap = omega (arith, at, end, within);

@@ -17,18 +17,26 @@ use Rattle.avp_lists.specs.States.{empty_state, IsLimited}
 use Rattle.avp_lists.specs.code.Slots.{no_slot, slot_at, is_live, at_first, kept, turn_all, Housed, PairsWithin}
 use Rattle.avp_lists.specs.code.Steps.{states_of, after, every, slots_at, step_at, change_at, turns, BacksBelow, NamesCounted, AllCounted, CountsWithin, CountsGrow, AllHoused, StatesLimited}
 use Rattle.avp_lists.specs.code.Shown.{shows, pair_of, pairs_of, state_of}
+use Rattle.avp_lists.proofs.InOrder.{in_order, shown_of, in_order-map, in_order-filter, pairs_of-in_order}
 
 pub firsts-kept : (c : List Slot) → map at_first (map kept c) ≡ map kept c
 firsts-kept [] = refl
 firsts-kept (s ∷ ss) = ap (λ (xs : List Slot). kept s ∷ xs) (firsts-kept ss)
 
-pairs_of-kept : (which : WhichList) (pool : List Pair) (c : List Slot) → pairs_of which pool (map kept c) ≡ pairs_of which pool c
-pairs_of-kept which pool [] = refl
-pairs_of-kept which pool (s ∷ ss) =
+shown-kept : (which : WhichList) (pool : List Pair) (c : List Slot) → shown_of which pool (map kept c) ≡ shown_of which pool c
+shown-kept which pool [] = refl
+shown-kept which pool (s ∷ ss) =
     elim (shows which s) as (λ b. map (pair_of pool) (cond b (kept s ∷ filter (shows which) (map kept ss)) (filter (shows which) (map kept ss))) ≡ map (pair_of pool) (cond b (s ∷ filter (shows which) ss) (filter (shows which) ss))) [
-      | true ↦ ap (λ (xs : List Pair). pair_of pool s ∷ xs) (pairs_of-kept which pool ss)
-      | false ↦ pairs_of-kept which pool ss
+      | true ↦ ap (λ (xs : List Pair). pair_of pool s ∷ xs) (shown-kept which pool ss)
+      | false ↦ shown-kept which pool ss
     ]
+
+pairs_of-kept : (which : WhichList) (pool : List Pair) (c : List Slot) → pairs_of which pool (map kept c) ≡ pairs_of which pool c
+pairs_of-kept which pool c =
+    pairs_of-in_order which pool (map kept c)
+    ∙ ap (shown_of which pool) (in_order-map kept (λ s. refl) c)
+    ∙ shown-kept which pool (in_order c)
+    ∙ sym (pairs_of-in_order which pool c)
 
 state_of-kept : (pool : List Pair) (c : List Slot) → state_of pool (map kept c) ≡ state_of pool c
 state_of-kept pool c = rw (pairs_of-kept Request pool c, pairs_of-kept Reply pool c, pairs_of-kept Control pool c) refl
@@ -48,17 +56,24 @@ kept-housed n c pooled i = elim (cases_lt i (length c)) [
 live-shows : (which : WhichList) (s : Slot) → is_live s ≡ false → shows which s ≡ false
 live-shows which s h = rw h refl
 
-pairs_of-live : (which : WhichList) (pool : List Pair) (c : List Slot) → pairs_of which pool (filter is_live c) ≡ pairs_of which pool c
-pairs_of-live which pool [] = refl
-pairs_of-live which pool (s ∷ ss) =
-    let rest = pairs_of-live which pool ss in
-    elim (is_live s) as (λ b. is_live s ≡ b → pairs_of which pool (cond b (s ∷ filter is_live ss) (filter is_live ss)) ≡ pairs_of which pool (s ∷ ss)) [
+shown-live : (which : WhichList) (pool : List Pair) (c : List Slot) → shown_of which pool (filter is_live c) ≡ shown_of which pool c
+shown-live which pool [] = refl
+shown-live which pool (s ∷ ss) =
+    let rest = shown-live which pool ss in
+    elim (is_live s) as (λ b. is_live s ≡ b → shown_of which pool (cond b (s ∷ filter is_live ss) (filter is_live ss)) ≡ shown_of which pool (s ∷ ss)) [
       | true ↦ λ h. elim (shows which s) as (λ b. map (pair_of pool) (cond b (s ∷ filter (shows which) (filter is_live ss)) (filter (shows which) (filter is_live ss))) ≡ map (pair_of pool) (cond b (s ∷ filter (shows which) ss) (filter (shows which) ss))) [
         | true ↦ ap (λ (xs : List Pair). pair_of pool s ∷ xs) rest
         | false ↦ rest
       ]
       | false ↦ λ h. rest ∙ sym (ap (λ (b : Bool). map (pair_of pool) (cond b (s ∷ filter (shows which) ss) (filter (shows which) ss))) (live-shows which s h))
     ] refl
+
+pairs_of-live : (which : WhichList) (pool : List Pair) (c : List Slot) → pairs_of which pool (filter is_live c) ≡ pairs_of which pool c
+pairs_of-live which pool c =
+    pairs_of-in_order which pool (filter is_live c)
+    ∙ ap (shown_of which pool) (in_order-filter is_live c)
+    ∙ shown-live which pool (in_order c)
+    ∙ sym (pairs_of-in_order which pool c)
 
 live-within : (n : ℕ) (c : List Slot) → PairsWithin n c → PairsWithin n (filter is_live c)
 live-within n [] pooled = pooled

@@ -1,20 +1,25 @@
 -- The pairs that slots show.
-use Rattle.std.proofs.Common.{◌≡◌, ℕ, suc, ◌<◌, ◌≤◌, Bool, true, false, ◌&&◌, not, cond, Option, Some, None, List, [], ◌∷◌, ◌++◌, length, get_or, map, refl, sym, ap, ap₂, ◌∙◌, subst, arith}
+use Rattle.std.proofs.Common.{◌≡◌, ℕ, suc, ◌<◌, ◌≤◌, true, false, ◌&&◌, not, cond, Option, Some, None, List, [], ◌∷◌, ◌++◌, length, get_or, map, refl, sym, ap, ap₂, ◌∙◌, subst, arith}
+use Rattle.std.specs.Prelude.{reverse}
 use Rattle.std.specs.List.{filter, list_any}
 use Rattle.std.specs.Option.{is_none, IfSome, IfNone}
 use Rattle.std.proofs.lemmas.List.Folds.{list_any_at}
 use Rattle.avp_lists.specs.declared.attributes.AttrId.{AttrId}
-use Rattle.std.proofs.lemmas.List.{get_or-map, map-append}
+use Rattle.std.proofs.lemmas.List.{append-nil, get_or-map, length-map, map-append}
+use Rattle.std.proofs.lemmas.List.Elements.{filter-append}
 use Rattle.avp_lists.specs.declared.attributes.Pair.{Pair}
 use Rattle.avp_lists.specs.declared.lists.List.{List as WhichList}
 use Rattle.avp_lists.specs.declared.lists.List.TheVariants.{Request, Reply, Control}
+use Rattle.avp_lists.specs.declared.slots.End.{End}
+use Rattle.avp_lists.specs.declared.slots.End.TheVariants.{Head, Tail}
 use Rattle.avp_lists.specs.declared.slots.Slot.{Slot}
 use Rattle.avp_lists.specs.declared.steps.Step.{Step}
 use Rattle.avp_lists.specs.code.Slots.{no_slot, slot_at, Housed, PairsWithin}
 use Rattle.avp_lists.specs.States.{empty_state, list_of}
 use Rattle.avp_lists.specs.code.Steps.{every, slots_at, states_of, step_at, AllHoused, CountsWithin}
-use Rattle.avp_lists.specs.code.Shown.{same_list, shows, shows_id, pair_of, pairs_of, state_of}
+use Rattle.avp_lists.specs.code.Shown.{same_list, shows, shows_id, pair_of, same_end, entered_at, pairs_of, state_of}
 use Rattle.avp_lists.specs.code.SlotLaws.{length-every}
+use Rattle.avp_lists.proofs.InOrder.{in_order, shown_of, in_order-append, in_order-filter, all-filter, all-reverse, all-in_order, length-in_order, pairs_of-in_order}
 
 pub list_of-state_of : (which : WhichList) (pool : List Pair) (c : List Slot) → list_of which (state_of pool c) ≡ pairs_of which pool c
 list_of-state_of Request pool c = refl
@@ -40,17 +45,50 @@ pairs-now m n slots steps place housed counts standing i live =
     let le : (step_at steps place).pairs ≤ n = all.1 in
     omega arith
 
--- one slot more
-pub filter-append : (p : Slot → Bool) (xs ys : List Slot) → filter p (xs ++ ys) ≡ filter p xs ++ filter p ys
-filter-append p [] ys = refl
-filter-append p (x ∷ xs) ys =
-    elim (p x) as (λ b. cond b (x ∷ filter p (xs ++ ys)) (filter p (xs ++ ys)) ≡ cond b (x ∷ filter p xs) (filter p xs) ++ filter p ys) [
-      | true ↦ ap (λ (zs : List Slot). x ∷ zs) (filter-append p xs ys)
-      | false ↦ filter-append p xs ys
-    ]
+-- slots more
+pub shown-append : (which : WhichList) (pool : List Pair) (xs ys : List Slot) → shown_of which pool (xs ++ ys) ≡ shown_of which pool xs ++ shown_of which pool ys
+shown-append which pool xs ys = ap (map (pair_of pool)) (filter-append (shows which) xs ys) ∙ map-append (pair_of pool) (filter (shows which) xs) (filter (shows which) ys)
 
-pub pairs_of-append : (which : WhichList) (pool : List Pair) (xs ys : List Slot) → pairs_of which pool (xs ++ ys) ≡ pairs_of which pool xs ++ pairs_of which pool ys
-pairs_of-append which pool xs ys = ap (map (pair_of pool)) (filter-append (shows which) xs ys) ∙ map-append (pair_of pool) (filter (shows which) xs) (filter (shows which) ys)
+-- the pairs that are put at one end of others
+abbrev pub beside : End → List Pair → List Pair → List Pair
+beside Head xs pairs = xs ++ pairs
+beside Tail xs pairs = pairs ++ xs
+
+pub beside_none : (end : End) (pairs : List Pair) → beside end [] pairs ≡ pairs
+beside_none Head pairs = refl
+beside_none Tail pairs = append-nil pairs
+
+alone : (s : Slot) (at end : End) → s.end ≡ end → filter (entered_at at) (s ∷ []) ≡ cond (same_end at end) (s ∷ []) []
+alone s at end h = ap (λ (e : End). cond (same_end at e) (s ∷ []) []) h
+
+one_order : (end : End) (c : List Slot) (s : Slot) (which : WhichList) (pool : List Pair) → s.end ≡ end → shown_of which pool (in_order (c ++ s ∷ [])) ≡ beside end (shown_of which pool (s ∷ [])) (shown_of which pool (in_order c))
+one_order Head c s which pool h =
+    ap (shown_of which pool) (in_order-append c (s ∷ []) ∙ ap₂ (λ (xs ys : List Slot). reverse xs ++ (in_order c ++ ys)) (alone s Head Head h) (alone s Tail Head h) ∙ ap (λ (xs : List Slot). s ∷ xs) (append-nil (in_order c)))
+    ∙ shown-append which pool (s ∷ []) (in_order c)
+one_order Tail c s which pool h =
+    ap (shown_of which pool) (in_order-append c (s ∷ []) ∙ ap₂ (λ (xs ys : List Slot). reverse xs ++ (in_order c ++ ys)) (alone s Head Tail h) (alone s Tail Tail h))
+    ∙ shown-append which pool (in_order c) (s ∷ [])
+
+pub pairs_of-more : (which : WhichList) (pool : List Pair) (c : List Slot) (s : Slot) → pairs_of which pool (c ++ s ∷ []) ≡ beside s.end (shown_of which pool (s ∷ [])) (pairs_of which pool c)
+pairs_of-more which pool c s =
+    pairs_of-in_order which pool (c ++ s ∷ [])
+    ∙ one_order s.end c s which pool refl
+    ∙ ap (beside s.end (shown_of which pool (s ∷ []))) (sym (pairs_of-in_order which pool c))
+
+pub pairs_of-tails : (which : WhichList) (pool : List Pair) (c d : List Slot) → filter (entered_at Head) d ≡ [] → filter (entered_at Tail) d ≡ d → pairs_of which pool (c ++ d) ≡ pairs_of which pool c ++ shown_of which pool d
+pairs_of-tails which pool c d heads tails =
+    pairs_of-in_order which pool (c ++ d)
+    ∙ ap (shown_of which pool) (in_order-append c d ∙ ap₂ (λ (xs ys : List Slot). reverse xs ++ (in_order c ++ ys)) heads tails)
+    ∙ shown-append which pool (in_order c) d
+    ∙ ap (λ (xs : List Pair). xs ++ shown_of which pool d) (sym (pairs_of-in_order which pool c))
+
+-- the number of pairs
+pub length-pairs_of : (which : WhichList) (pool : List Pair) (c : List Slot) → length (pairs_of which pool c) ≡ length (filter (shows which) c)
+length-pairs_of which pool c =
+    ap length (pairs_of-in_order which pool c)
+    ∙ length-map (filter (shows which) (in_order c)) (pair_of pool)
+    ∙ ap length (sym (in_order-filter (shows which) c))
+    ∙ length-in_order (filter (shows which) c)
 
 -- whether a slot was found
 pub none_where : (which : WhichList) (id : AttrId) (pool : List Pair) (c : List Slot) (o : Option ℕ) → IfSome o (λ at. (at < length c) × (shows_id which id pool (slot_at c at) ≡ true)) → IfNone o (list_any (shows_id which id pool) c ≡ false) → is_none o ≡ not (list_any (shows_id which id pool) c)
@@ -58,20 +96,20 @@ none_where which id pool c None some none = rw none refl
 none_where which id pool c (Some at) some none = rw (list_any_at (shows_id which id pool) c at no_slot some.0 some.1) refl
 
 -- slots that show nothing
-pub pairs_of-dark : (which : WhichList) (pool : List Pair) (c : List Slot) → ((i : ℕ) → (slot_at c i).mark.live ≡ true → ⊥) → pairs_of which pool c ≡ []
-pairs_of-dark which pool [] dark = refl
-pairs_of-dark which pool (s ∷ ss) dark =
-    let rest = pairs_of-dark which pool ss (λ i live. dark (suc i) live) in
+pub shown-dark : (which : WhichList) (pool : List Pair) (c : List Slot) → ((i : ℕ) → (slot_at c i).mark.live ≡ true → ⊥) → shown_of which pool c ≡ []
+shown-dark which pool [] dark = refl
+shown-dark which pool (s ∷ ss) dark =
+    let rest = shown-dark which pool ss (λ i live. dark (suc i) live) in
     elim s.mark.live as (λ b. s.mark.live ≡ b → map (pair_of pool) (cond (b && same_list which s.list) (s ∷ filter (shows which) ss) (filter (shows which) ss)) ≡ []) [
       | true ↦ λ h. absurd (dark 0 h)
       | false ↦ λ h. rest
     ] refl
 
 -- pools that agree on what is shown
-pub pairs_of-agree : (which : WhichList) (pool other : List Pair) (c : List Slot) → ((i : ℕ) → (slot_at c i).mark.live ≡ true → pair_of pool (slot_at c i) ≡ pair_of other (slot_at c i)) → pairs_of which pool c ≡ pairs_of which other c
-pairs_of-agree which pool other [] agree = refl
-pairs_of-agree which pool other (s ∷ ss) agree =
-    let rest = pairs_of-agree which pool other ss (λ i live. agree (suc i) live) in
+pub shown-agree : (which : WhichList) (pool other : List Pair) (c : List Slot) → ((i : ℕ) → (slot_at c i).mark.live ≡ true → pair_of pool (slot_at c i) ≡ pair_of other (slot_at c i)) → shown_of which pool c ≡ shown_of which other c
+shown-agree which pool other [] agree = refl
+shown-agree which pool other (s ∷ ss) agree =
+    let rest = shown-agree which pool other ss (λ i live. agree (suc i) live) in
     elim s.mark.live as (λ b. s.mark.live ≡ b → map (pair_of pool) (cond (b && same_list which s.list) (s ∷ filter (shows which) ss) (filter (shows which) ss)) ≡ map (pair_of other) (cond (b && same_list which s.list) (s ∷ filter (shows which) ss) (filter (shows which) ss))) [
       | true ↦ λ h. elim (same_list which s.list) as (λ b. map (pair_of pool) (cond b (s ∷ filter (shows which) ss) (filter (shows which) ss)) ≡ map (pair_of other) (cond b (s ∷ filter (shows which) ss) (filter (shows which) ss))) [
         | true ↦ ap₂ (λ (x : Pair) (xs : List Pair). x ∷ xs) (agree 0 h) rest
@@ -80,15 +118,30 @@ pairs_of-agree which pool other (s ∷ ss) agree =
       | false ↦ λ h. rest
     ] refl
 
+pub pairs_of-agree : (which : WhichList) (pool other : List Pair) (c : List Slot) → ((i : ℕ) → (slot_at c i).mark.live ≡ true → pair_of pool (slot_at c i) ≡ pair_of other (slot_at c i)) → pairs_of which pool c ≡ pairs_of which other c
+pairs_of-agree which pool other c agree =
+    let P : Slot → Type 0 = λ s. s.mark.live ≡ true → pair_of pool s ≡ pair_of other s in
+    pairs_of-in_order which pool c ∙ shown-agree which pool other (in_order c) (all-in_order P c agree) ∙ sym (pairs_of-in_order which other c)
+
+-- slots more that show nothing
+dark_more : (which : WhichList) (pool : List Pair) (c d : List Slot) → ((i : ℕ) → (slot_at d i).mark.live ≡ true → ⊥) → pairs_of which pool (c ++ d) ≡ pairs_of which pool c
+dark_more which pool c d dark =
+    let P : Slot → Type 0 = λ s. s.mark.live ≡ true → ⊥ in
+    let heads = filter (entered_at Head) d in
+    let tails = filter (entered_at Tail) d in
+    let none_before : shown_of which pool (reverse heads) ≡ [] = shown-dark which pool (reverse heads) (all-reverse P heads (all-filter P (entered_at Head) d dark)) in
+    let none_after : shown_of which pool tails ≡ [] = shown-dark which pool tails (all-filter P (entered_at Tail) d dark) in
+    pairs_of-in_order which pool (c ++ d)
+    ∙ ap (shown_of which pool) (in_order-append c d)
+    ∙ shown-append which pool (reverse heads) (in_order c ++ tails)
+    ∙ ap₂ (λ (a b : List Pair). a ++ b) none_before (shown-append which pool (in_order c) tails ∙ ap (λ (a : List Pair). shown_of which pool (in_order c) ++ a) none_after ∙ append-nil (shown_of which pool (in_order c)))
+    ∙ sym (pairs_of-in_order which pool c)
+
 -- what is shown is not changed by slots that show nothing, nor by another pool that has the same pairs there
-module _ (pool other : List Pair) (c d more : List Slot) (dark : (i : ℕ) → (slot_at d i).mark.live ≡ true → ⊥) (dark_more : (i : ℕ) → (slot_at more i).mark.live ≡ true → ⊥) (agree : (i : ℕ) → (slot_at c i).mark.live ≡ true → pair_of other (slot_at c i) ≡ pair_of pool (slot_at c i)) where
+module _ (pool other : List Pair) (c d more : List Slot) (dark : (i : ℕ) → (slot_at d i).mark.live ≡ true → ⊥) (dark_more_slots : (i : ℕ) → (slot_at more i).mark.live ≡ true → ⊥) (agree : (i : ℕ) → (slot_at c i).mark.live ≡ true → pair_of other (slot_at c i) ≡ pair_of pool (slot_at c i)) where
   pairs_of-same : (which : WhichList) → pairs_of which other (c ++ more) ≡ pairs_of which pool (c ++ d)
   pairs_of-same which =
-      pairs_of-append which other c more
-      ∙ ap (λ (xs : List Pair). pairs_of which other c ++ xs) (pairs_of-dark which other more dark_more)
-      ∙ ap (λ (xs : List Pair). xs ++ []) (pairs_of-agree which other pool c agree)
-      ∙ sym (ap (λ (xs : List Pair). pairs_of which pool c ++ xs) (pairs_of-dark which pool d dark))
-      ∙ sym (pairs_of-append which pool c d)
+      dark_more which other c more dark_more_slots ∙ pairs_of-agree which other pool c agree ∙ sym (dark_more which pool c d dark)
 
   pub state_of-same : state_of other (c ++ more) ≡ state_of pool (c ++ d)
   state_of-same = rw (pairs_of-same Request, pairs_of-same Reply, pairs_of-same Control) refl

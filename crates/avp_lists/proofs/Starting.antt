@@ -5,11 +5,13 @@ use Rattle.std.proofs.lemmas.List.{drop_more, drop_at, take_all, map-append, get
 use Rattle.avp_lists.specs.declared.attributes.Pair.{Pair}
 use Rattle.avp_lists.specs.declared.lists.List.{List as WhichList}
 use Rattle.avp_lists.specs.declared.lists.List.TheVariants.{Request, Reply, Control}
+use Rattle.avp_lists.specs.declared.slots.End.TheVariants.{Head, Tail}
 use Rattle.avp_lists.specs.declared.slots.Slot.{Slot}
-use Rattle.avp_lists.specs.code.Shown.{same_list, shows, no_pair, pair_of, pairs_of, state_of}
+use Rattle.avp_lists.specs.code.Shown.{same_list, shows, no_pair, pair_of, entered_at, pairs_of, state_of}
 use Rattle.avp_lists.specs.code.Slots.{slot_at, at_first, PairsWithin}
 use Rattle.avp_lists.proofs.Edited.{same_itself, within-append, within-more}
-use Rattle.avp_lists.proofs.ShownPairs.{pairs_of-append, pairs_of-agree}
+use Rattle.avp_lists.proofs.InOrder.{shown_of}
+use Rattle.avp_lists.proofs.ShownPairs.{pairs_of-tails, pairs_of-agree}
 use Rattle.avp_lists.specs.code.Plans.{fresh_slot, fresh}
 
 pub fresh_more : (which : WhichList) (at n : ℕ) → fresh which at (suc n) ≡ fresh which at n ++ fresh_slot which (at + n) ∷ []
@@ -45,6 +47,15 @@ fresh-of Request Request h at n = fresh-shown Request at n
 fresh-of Reply Reply h at n = fresh-shown Reply at n
 fresh-of Control Control h at n = fresh-shown Control at n
 fresh-of _ _ h at n = cc
+
+-- and entered at its tail
+fresh-heads : (which : WhichList) (at n : ℕ) → filter (entered_at Head) (fresh which at n) ≡ []
+fresh-heads which at zero = refl
+fresh-heads which at (suc n) = fresh-heads which (at + 1) n
+
+fresh-tails : (which : WhichList) (at n : ℕ) → filter (entered_at Tail) (fresh which at n) ≡ fresh which at n
+fresh-tails which at zero = refl
+fresh-tails which at (suc n) = ap (λ (xs : List Slot). fresh_slot which at ∷ xs) (fresh-tails which (at + 1) n)
 
 -- and stand for a part of the pool
 pub fresh-pairs : (pool : List Pair) (which : WhichList) (at n : ℕ) → at + n ≤ length pool → map (pair_of pool) (fresh which at n) ≡ take n (drop at pool)
@@ -86,7 +97,7 @@ module _ (which : WhichList) (pool xs other : List Pair) (slots more : List Slot
       let end = fresh which (length pool) (length xs) in
       let long : length other ≡ length pool + length xs = ap length P ∙ length-append pool xs in
       let agree : (i : ℕ) → (slot_at slots i).mark.live ≡ true → pair_of other (slot_at slots i) ≡ pair_of pool (slot_at slots i) = λ i live. ap (λ (x : List Pair). pair_of x (slot_at slots i)) P ∙ get_or_append_left pool xs no_pair (slot_at slots i).mark.pair (within i live) in
-      let new : pairs_of one other end ≡ cond (same_list one which) xs [] = elim (same_list one which) as (λ b. same_list one which ≡ b → pairs_of one other end ≡ cond b xs []) [
+      let new : shown_of one other end ≡ cond (same_list one which) xs [] = elim (same_list one which) as (λ b. same_list one which ≡ b → shown_of one other end ≡ cond b xs []) [
         | true ↦ λ h.
             ap (map (pair_of other)) (fresh-of one which h (length pool) (length xs))
             ∙ fresh-pairs other which (length pool) (length xs) (omega (arith, long))
@@ -96,7 +107,7 @@ module _ (which : WhichList) (pool xs other : List Pair) (slots more : List Slot
         | false ↦ λ h. ap (map (pair_of other)) (fresh-hidden one which h (length pool) (length xs))
       ] refl in
       ap (pairs_of one other) N
-      ∙ pairs_of-append one other slots end
+      ∙ pairs_of-tails one other slots end (fresh-heads which (length pool) (length xs)) (fresh-tails which (length pool) (length xs))
       ∙ ap₂ (λ (a b : List Pair). a ++ b) (pairs_of-agree one other pool slots agree) new
 
 -- the three lists

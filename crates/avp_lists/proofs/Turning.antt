@@ -29,10 +29,10 @@ not-not true = refl
 not-not false = refl
 
 slot_of : Bool → Slot → Slot
-slot_of b s = record { list = s.list; mark = record { live = b; pair = s.mark.pair }; first = s.first }
+slot_of b s = record { list = s.list; end = s.end; mark = record { live = b; pair = s.mark.pair }; first = s.first }
 
 flipped-flipped : (s : Slot) → flipped (flipped s) ≡ s
-flipped-flipped s = ap (λ (b : Bool). let r : Slot = record { list = s.list; mark = record { live = b; pair = s.mark.pair }; first = s.first } in r) (not-not s.mark.live)
+flipped-flipped s = ap (λ (b : Bool). let r : Slot = record { list = s.list; end = s.end; mark = record { live = b; pair = s.mark.pair }; first = s.first } in r) (not-not s.mark.live)
 
 pub set_twice : (f : Slot → Slot) → ((s : Slot) → f (f s) ≡ s) → (c : List Slot) (i : ℕ) → set (set c i (f (slot_at c i))) i (f (slot_at (set c i (f (slot_at c i))) i)) ≡ c
 set_twice f back c i =
@@ -82,7 +82,7 @@ other_pair-twice : (old new at : ℕ) → other_pair old new (other_pair old new
 other_pair-twice old new at = grind arith
 
 with_other-twice : (w : Swap) (s : Slot) → with_other w (with_other w s) ≡ s
-with_other-twice w s = ap (λ (n : ℕ). let r : Slot = record { list = s.list; mark = record { live = s.mark.live; pair = n }; first = s.first } in r) (other_pair-twice w.old w.new s.mark.pair)
+with_other-twice w s = ap (λ (n : ℕ). let r : Slot = record { list = s.list; end = s.end; mark = record { live = s.mark.live; pair = n }; first = s.first } in r) (other_pair-twice w.old w.new s.mark.pair)
 
 pub swap_at-twice : (by : Option Swap) (c : List Slot) → swap_at by (swap_at by c) ≡ c
 swap_at-twice None c = refl

@@ -3,7 +3,7 @@ use Rattle.std.specs.Prelude.{Bool, true, false, not, List}
 use Rattle.avp_lists.specs.declared.attributes.AttrId.{AttrId}
 use Rattle.avp_lists.specs.declared.attributes.Pair.{Pair}
 use Rattle.avp_lists.specs.declared.edits.Op.{Op}
-use Rattle.avp_lists.specs.declared.edits.Op.TheVariants.{AddNew, Replace, Append, RemoveEqual, KeepEqual, RemoveAll}
+use Rattle.avp_lists.specs.declared.edits.Op.TheVariants.{AddNew, Replace, Append, Prepend, RemoveEqual, KeepEqual, RemoveAll}
 use Rattle.avp_lists.specs.Instances.{has_instance}
 
 -- an operator with a pair of this id makes the list longer
@@ -11,6 +11,7 @@ abbrev pub adds_one : Op → AttrId → List Pair → Bool
 adds_one AddNew id pairs = not (has_instance id pairs)
 adds_one Replace id pairs = not (has_instance id pairs)
 adds_one Append id pairs = true
+adds_one Prepend id pairs = true
 adds_one RemoveEqual id pairs = false
 adds_one KeepEqual id pairs = false
 adds_one RemoveAll id pairs = false
@@ -20,6 +21,7 @@ abbrev pub removes : Op → Bool
 removes AddNew = false
 removes Replace = false
 removes Append = false
+removes Prepend = false
 removes RemoveEqual = true
 removes KeepEqual = true
 removes RemoveAll = true

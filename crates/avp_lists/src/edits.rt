@@ -13,6 +13,8 @@ pub enum Op {
     Replace,
     /// `+=` adds the pair at the tail.
     Append,
+    /// `^=` adds the pair at the head, whether or not its id has an instance.
+    Prepend,
     /// `-=` drops each pair that is equal to this one.
     RemoveEqual,
     /// `==` drops each instance of the id that is not equal to this pair.

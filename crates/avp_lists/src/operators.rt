@@ -104,6 +104,10 @@ fn apply(alloc: Global, op: Op, pair: Pair, pairs: &[Pair]) -> Result<Vec<Pair>,
             push_copies(&mut made, pairs)?;
             made.push(pair)?;
         }
+        Op::Prepend => {
+            made.push(pair)?;
+            push_copies(&mut made, pairs)?;
+        }
         Op::RemoveEqual => push_unequal(&mut made, pairs, &pair)?,
         Op::KeepEqual => push_agreeing(&mut made, pairs, &pair)?,
         Op::RemoveAll => push_others(&mut made, pairs, pair.id)?,
@@ -116,7 +120,7 @@ fn adds_one(op: Op, id: AttrId, pairs: &[Pair]) -> bool
     ensures { result ≡ adds_one op id pairs.now }
 {
     match op {
-        Op::Append => true,
+        Op::Append | Op::Prepend => true,
         Op::AddNew | Op::Replace => !has_instance(pairs, id),
         Op::RemoveEqual | Op::KeepEqual | Op::RemoveAll => false,
     }

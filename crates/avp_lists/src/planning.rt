@@ -2,16 +2,16 @@
 ghost use Rattle.std.specs.Prelude.{◌≡◌, ◌≤◌, ◌<◌, ◌++◌, true, false, IfOk, OnOk, length, drop, take};
 ghost use Rattle.std.specs.List.{list_any};
 ghost use Rattle.avp_lists.specs.code.Slots.{slot_at, PairsWithin};
-ghost use Rattle.avp_lists.specs.code.Shown.{shows_id, pairs_of};
+ghost use Rattle.avp_lists.specs.code.Shown.{shows_id, ahead_at, pairs_of};
 ghost use Rattle.avp_lists.specs.Growth.{adds_one, removes};
-ghost use Rattle.avp_lists.specs.code.Plans.{enters, goes, taken, names_in, IsPlan};
+ghost use Rattle.avp_lists.specs.code.Plans.{enters, end_of, goes, taken, names_in, IsPlan};
 ghost use Rattle.avp_lists.specs.declared.edits.Op.TheVariants.{AddNew, Replace};
 
 use crate::attributes::Pair;
 use crate::edits::{Edit, Op};
 use crate::lists::List;
 use crate::showing::{first_slot, shows};
-use crate::slots::{Mark, Slot, Swap};
+use crate::slots::{End, Mark, Slot, Swap};
 use std::alloc::{AllocError, Global};
 
 // What an edit turns, as names of slots.
@@ -21,7 +21,7 @@ pub(crate) struct Plan {
     pub turned: Vec<usize>,
     // The slot where the edit's pair takes the place of the first instance.
     pub swap: Option<Swap>,
-    // A slot at the end for the edit's pair, which shows nothing yet.
+    // A slot for the edit's pair, which shows nothing yet.
     pub added: Option<Slot>,
 }
 
@@ -39,7 +39,7 @@ fn goes(op: Op, pair: &Pair, other: &Pair) -> bool
     ensures { result ≡ goes op pair.now other.now }
 {
     match op {
-        Op::AddNew | Op::Append => false,
+        Op::AddNew | Op::Append | Op::Prepend => false,
         Op::RemoveEqual => other.equals(pair),
         Op::KeepEqual => other.id.equals(pair.id) && !other.equals(pair),
         Op::Replace | Op::RemoveAll => other.id.equals(pair.id),
@@ -67,7 +67,17 @@ fn push_going(
     Ok(())
 }
 
-// The pair gets a slot of its own at the end.
+// The end at which an operator adds its pair.
+fn end_of(op: Op) -> End
+    ensures { result ≡ end_of op }
+{
+    match op {
+        Op::Prepend => End::Head,
+        _ => End::Tail,
+    }
+}
+
+// The pair gets a slot of its own.
 fn plan_addition(
     alloc: Global,
     slots: &[Slot],
@@ -86,6 +96,7 @@ fn plan_addition(
     };
     let added = Slot {
         list: edit.list,
+        end: end_of(edit.op),
         mark,
         first: mark,
     };
@@ -96,7 +107,7 @@ fn plan_addition(
     })
 }
 
-// The pair takes the place of the first instance, and the later ones go.
+// The pair takes the place of the first instance, and the others go.
 fn plan_replacement(
     alloc: Global,
     slots: &[Slot],
@@ -107,10 +118,11 @@ fn plan_replacement(
     requires pooled { PairsWithin (length pool.now) slots.now }
     requires op { edit.now.op ≡ Replace }
     requires first { (first < length slots.now) × (shows_id edit.now.list edit.now.pair.id pool.now (slot_at slots.now first) ≡ true) }
-    requires none_before { list_any (shows_id edit.now.list edit.now.pair.id pool.now) (take first slots.now) ≡ false }
+    requires none_before { list_any (shows_id edit.now.list edit.now.pair.id pool.now) (ahead_at first slots.now) ≡ false }
     ensures { IfOk result (λ plan. IsPlan edit.now pool.now slots.now plan) }
 {
     let mut turned = Vec::new(alloc);
+    push_going(&mut turned, &slots[..first], pool, 0, edit)?;
     push_going(&mut turned, slots, pool, first + 1, edit)?;
     let swap = Swap {
         slot: first,
@@ -155,7 +167,7 @@ pub(crate) fn plan_edit(
     ensures { IfOk result (λ plan. IsPlan edit.now pool.now slots.now plan) }
 {
     match edit.op {
-        Op::Append => plan_addition(alloc, slots, pool, edit),
+        Op::Append | Op::Prepend => plan_addition(alloc, slots, pool, edit),
         Op::AddNew => match first_slot(slots, pool, edit.list, edit.pair.id) {
             None => plan_addition(alloc, slots, pool, edit),
             Some(_) => Ok(Plan {

@@ -15,7 +15,7 @@ use crate::history::Store;
 use crate::lists::{List, MOST_PAIRS};
 use crate::planning::{Plan, plan_edit};
 use crate::showing::{copy_shown, count_shown, first_shown, first_slot, pair_shown};
-use crate::slots::{Mark, Slot, forget_dark, turn_slots};
+use crate::slots::{End, Mark, Slot, forget_dark, turn_slots};
 use crate::snapshots::ListsRefused;
 use crate::steps::{Change, Step, cut_and_push, make_room, make_room_beside, move_to, node};
 use std::alloc::{AllocError, Global};
@@ -80,6 +80,7 @@ fn push_firsts(slots: &mut Vec<Slot>, list: List, from: usize, end: usize)
         let mark = Mark { live: true, pair };
         let slot = Slot {
             list,
+            end: End::Tail,
             mark,
             first: mark,
         };
@@ -229,7 +230,7 @@ impl SlotStore {
         ensures { result ≡ adds_one op id (list_of list (present (⟦<SlotStore as Store>⟧.history self.now))) }
     {
         match op {
-            Op::Append => true,
+            Op::Append | Op::Prepend => true,
             Op::AddNew | Op::Replace => self.has_none(list, id),
             Op::RemoveEqual | Op::KeepEqual | Op::RemoveAll => false,
         }

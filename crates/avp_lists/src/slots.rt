@@ -1,7 +1,7 @@
 //! The slots of a store's lists, and how a step turns their marks.
 ghost use Rattle.std.specs.Prelude.{◌≡◌, ◌<◌, length, map, filter};
 ghost use Rattle.avp_lists.specs.code.Slots.{is_live, kept, turn, turn_all, swap_at, forward, backward, NamesWithin, SwapWithin};
-ghost use Rattle.avp_lists.specs.code.Shown.{same_list};
+ghost use Rattle.avp_lists.specs.code.Shown.{same_list, entered_at};
 
 use crate::lists::List;
 
@@ -12,10 +12,18 @@ pub(crate) struct Mark {
     pub pair: usize,
 }
 
-// A place of a list: its mark in the present state, and in the first one.
+// An end of a list.
+#[derive(Clone, Copy)]
+pub(crate) enum End {
+    Head,
+    Tail,
+}
+
+// A place of a list: the end at which it entered, its mark in the present state, and in the first one.
 #[derive(Clone, Copy)]
 pub(crate) struct Slot {
     pub list: List,
+    pub end: End,
     pub mark: Mark,
     pub first: Mark,
 }
@@ -39,6 +47,17 @@ pub(crate) fn same_list(a: List, b: List) -> bool
     }
 }
 
+// Whether the slot entered its list at that end.
+pub(crate) fn entered_at(slot: &Slot, end: End) -> bool
+    ensures { result ≡ entered_at end slot.now }
+{
+    match (end, slot.end) {
+        (End::Head, End::Head) => true,
+        (End::Tail, End::Tail) => true,
+        _ => false,
+    }
+}
+
 fn turn(slots: &mut [Slot], name: usize)
     requires { name < length slots.old }
     ensures { slots.new ≡ turn slots.old name }
@@ -46,6 +65,7 @@ fn turn(slots: &mut [Slot], name: usize)
     let slot = slots[name];
     slots[name] = Slot {
         list: slot.list,
+        end: slot.end,
         mark: Mark {
             live: !slot.mark.live,
             pair: slot.mark.pair,
@@ -78,6 +98,7 @@ fn put_other(slots: &mut [Slot], swap: Option<Swap>)
         };
         slots[swap.slot] = Slot {
             list: slot.list,
+            end: slot.end,
             mark: Mark {
                 live: slot.mark.live,
                 pair,

@@ -108,6 +108,79 @@ pub(crate) fn replaces_the_first_instance_in_its_place<S: Store>(
     Ok(())
 }
 
+pub(crate) fn adds_a_pair_at_the_head<S: Store>(
+    rt: &impl Abort,
+    alloc: Global,
+    store: &mut S,
+) -> Result<(), Fail> {
+    try_edit(store, Op::Prepend, class(alloc, 5)?)?;
+    expect_reply(rt, alloc, store, b"51a21")?;
+    let first = store.first(List::Reply, CLASS).ok_or("no instance")?;
+    assert!(rt; first.equals(&class(alloc, 5)?));
+    try_edit(store, Op::Replace, class(alloc, 9)?)?;
+    expect_reply(rt, alloc, store, b"9a")?;
+    assert!(rt; store.undo());
+    expect_reply(rt, alloc, store, b"51a21")?;
+    assert!(rt; store.undo());
+    expect_reply(rt, alloc, store, b"1a21")?;
+    assert!(rt; !store.undo());
+    Ok(())
+}
+
+// Pairs at both ends, edits that find the one or the other first, and the state that is left.
+pub(crate) fn adds_pairs_at_both_ends<S: Store>(
+    rt: &impl Abort,
+    alloc: Global,
+    store: &mut S,
+) -> Result<(), Fail> {
+    try_edit(store, Op::RemoveAll, class(alloc, 0)?)?;
+    try_edit(store, Op::Prepend, class(alloc, 3)?)?;
+    try_edit(store, Op::Append, class(alloc, 4)?)?;
+    try_edit(store, Op::Prepend, class(alloc, 5)?)?;
+    try_edit(store, Op::Append, class(alloc, 5)?)?;
+    expect_reply(rt, alloc, store, b"53a45")?;
+    try_edit(store, Op::RemoveEqual, class(alloc, 5)?)?;
+    expect_reply(rt, alloc, store, b"3a4")?;
+    assert_eq!(rt; store.place(), 6);
+    store.rollback(5)?;
+    try_edit(store, Op::KeepEqual, class(alloc, 5)?)?;
+    expect_reply(rt, alloc, store, b"5a5")?;
+    try_edit(store, Op::Replace, class(alloc, 6)?)?;
+    expect_reply(rt, alloc, store, b"6a")?;
+    let wanted: [&[u8]; 9] = [
+        b"1a21", b"a", b"3a", b"3a4", b"53a4", b"53a45", b"3a4", b"53a45", b"5a5",
+    ];
+    for back in [8, 7, 6, 5, 4, 3, 2, 1, 0] {
+        assert!(rt; store.undo());
+        expect_reply(rt, alloc, store, wanted[back])?;
+    }
+    for ahead in [1, 2, 3, 4, 5, 6, 7, 8] {
+        assert!(rt; store.redo());
+        expect_reply(rt, alloc, store, wanted[ahead])?;
+    }
+    store.settle();
+    try_edit(store, Op::Prepend, class(alloc, 7)?)?;
+    expect_reply(rt, alloc, store, b"75a5")?;
+    try_edit(store, Op::AddNew, class(alloc, 8)?)?;
+    expect_reply(rt, alloc, store, b"75a5")
+}
+
+pub(crate) fn refuses_a_pair_past_the_limit_at_the_head<S: Store>(
+    rt: &impl Abort,
+    alloc: Global,
+    store: &mut S,
+) -> Result<(), Fail> {
+    let refused = try_edit(store, Op::Prepend, class(alloc, 2)?);
+    assert_eq!(rt; refused, Err(EditFault::Full));
+    assert_eq!(rt; (store.place(), store.steps()), (0, 0));
+    assert_eq!(rt; store.count(List::Reply), 4096);
+    let first = store.first(List::Reply, CLASS).ok_or("no instance")?;
+    assert!(rt; first.equals(&class(alloc, 1)?));
+    try_edit(store, Op::RemoveEqual, class(alloc, 1)?)?;
+    try_edit(store, Op::Prepend, class(alloc, 2)?)?;
+    expect_reply(rt, alloc, store, b"2")
+}
+
 pub(crate) fn removes_and_keeps_equal_pairs<S: Store>(
     rt: &impl Abort,
     alloc: Global,

@@ -19,6 +19,27 @@ fn replaces_the_first_instance_in_its_place(rt: HostRuntime) -> Result<(), Fail>
 }
 
 #[test]
+fn adds_a_pair_at_the_head(rt: HostRuntime) -> Result<(), Fail> {
+    let alloc = rt.alloc();
+    let mut store = store_of(&rt, alloc, rows::four_pairs(alloc)?)?;
+    rows::adds_a_pair_at_the_head(&rt, alloc, &mut store)
+}
+
+#[test]
+fn adds_pairs_at_both_ends(rt: HostRuntime) -> Result<(), Fail> {
+    let alloc = rt.alloc();
+    let mut store = store_of(&rt, alloc, rows::four_pairs(alloc)?)?;
+    rows::adds_pairs_at_both_ends(&rt, alloc, &mut store)
+}
+
+#[test]
+fn refuses_a_pair_past_the_limit_at_the_head(rt: HostRuntime) -> Result<(), Fail> {
+    let alloc = rt.alloc();
+    let mut store = store_of(&rt, alloc, rows::full_list(alloc)?)?;
+    rows::refuses_a_pair_past_the_limit_at_the_head(&rt, alloc, &mut store)
+}
+
+#[test]
 fn removes_and_keeps_equal_pairs(rt: HostRuntime) -> Result<(), Fail> {
     let alloc = rt.alloc();
     let mut store = store_of(&rt, alloc, rows::four_pairs(alloc)?)?;

@@ -9,7 +9,7 @@ use Rattle.avp_lists.specs.States.{IsFull, edited, edited_list, empty_state, lis
 use Rattle.avp_lists.specs.declared.attributes.Pair.{Pair}
 use Rattle.avp_lists.specs.declared.edits.Edit.{Edit}
 use Rattle.avp_lists.specs.declared.edits.Op.{Op}
-use Rattle.avp_lists.specs.declared.edits.Op.TheVariants.{AddNew, Append, KeepEqual, RemoveAll, RemoveEqual, Replace}
+use Rattle.avp_lists.specs.declared.edits.Op.TheVariants.{AddNew, Append, KeepEqual, Prepend, RemoveAll, RemoveEqual, Replace}
 use Rattle.avp_lists.specs.declared.lists.List.{List as Name}
 use Rattle.avp_lists.specs.declared.lists.List.TheVariants.{Control, Reply, Request}
 use Rattle.avp_lists.specs.declared.lists.State.{State}
@@ -70,6 +70,7 @@ module _ (d : Dictionary) where
       All-append P (take n pairs) (p ∷ filter (is_other p.id) (drop (n + 1) pairs)) (All-take P n pairs all)
       (All-append P (p ∷ []) (filter (is_other p.id) (drop (n + 1) pairs)) (one_applies d p h) later)
   applied Append p pairs h all = appended p pairs h all
+  applied Prepend p pairs h all = All-append (λ q. IsTrue (fits q d)) (p ∷ []) pairs (one_applies d p h) all
   applied RemoveEqual p pairs h all = All-filter (differs p) (λ q. IsTrue (fits q d)) pairs all
   applied KeepEqual p pairs h all = All-filter (agrees p) (λ q. IsTrue (fits q d)) pairs all
   applied RemoveAll p pairs h all = All-filter (is_other p.id) (λ q. IsTrue (fits q d)) pairs all

@@ -76,6 +76,29 @@ fn nested_transactions(rt: HostRuntime) -> Result<(), Fail> {
 }
 
 #[test]
+fn pairs_at_both_ends(rt: HostRuntime) -> Result<(), Fail> {
+    let labels = [
+        Label::Line(1),
+        Label::Enter(2),
+        Label::Line(3),
+        Label::Line(3),
+        Label::Word(4),
+        Label::Rollback(2),
+        Label::Line(6),
+    ];
+    runs(
+        &rt,
+        rt.alloc(),
+        b"",
+        b"update reply { Class ^= 0x01 }\ntransaction {\n  update reply { Class ^= 0x02 Class += 0x03 }\n  fail\n}\nupdate reply { Class ^= 0x04 }\n",
+        &labels,
+        Code::Fail,
+        false,
+        2,
+    )
+}
+
+#[test]
 fn failed_update(rt: HostRuntime) -> Result<(), Fail> {
     runs(
         &rt,

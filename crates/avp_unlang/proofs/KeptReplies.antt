@@ -8,7 +8,7 @@ use Rattle.avp_lists.specs.Operators.{agrees, apply, differs}
 use Rattle.avp_lists.specs.States.{edited, edited_list, most_pairs}
 use Rattle.avp_lists.specs.declared.attributes.Pair.{Pair}
 use Rattle.avp_lists.specs.declared.edits.Op.{Op}
-use Rattle.avp_lists.specs.declared.edits.Op.TheVariants.{AddNew, Append, KeepEqual, RemoveAll, RemoveEqual, Replace}
+use Rattle.avp_lists.specs.declared.edits.Op.TheVariants.{AddNew, Append, KeepEqual, Prepend, RemoveAll, RemoveEqual, Replace}
 use Rattle.avp_lists.specs.declared.lists.List.{List as Name}
 use Rattle.avp_lists.specs.declared.lists.List.TheVariants.{Control, Reply, Request}
 use Rattle.avp_lists.specs.declared.lists.State.{State}
@@ -50,6 +50,7 @@ module _ (dictionary : Dictionary) (P : Pair → Type 0) where
       All-append P (take n pairs) (p ∷ filter (is_other p.id) (drop (n + 1) pairs)) (All-take P n pairs all)
       (All-cons P p (filter (is_other p.id) (drop (n + 1) pairs)) (h refl) later)
   applied Append p pairs h all = All-push P pairs p all (h refl)
+  applied Prepend p pairs h all = All-cons P p pairs (h refl) all
   applied RemoveEqual p pairs h all = All-filter (differs p) P pairs all
   applied KeepEqual p pairs h all = All-filter (agrees p) P pairs all
   applied RemoveAll p pairs h all = All-filter (is_other p.id) P pairs all

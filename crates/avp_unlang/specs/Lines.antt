@@ -36,6 +36,7 @@ unfoldable pub op_of : Token → Option Op
 op_of (Operator sign.AddNew) = Some op.AddNew
 op_of (Operator sign.Replace) = Some op.Replace
 op_of (Operator sign.Append) = Some op.Append
+op_of (Operator sign.Prepend) = Some op.Prepend
 op_of (Operator sign.RemoveEqual) = Some op.RemoveEqual
 op_of (Operator sign.Equal) = Some op.KeepEqual
 op_of (Operator sign.RemoveAll) = Some op.RemoveAll

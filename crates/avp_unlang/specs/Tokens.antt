@@ -58,6 +58,7 @@ double a b =
     else if a == 61 then Some sign.Equal
     else if a == 58 then Some sign.Replace
     else if a == 43 then Some sign.Append
+    else if a == 94 then Some sign.Prepend
     else if a == 45 then Some sign.RemoveEqual
     else if a == 60 then Some sign.AtMost
     else if a == 62 then Some sign.AtLeast

@@ -55,6 +55,7 @@ fn op_of(token: &Token) -> Option<Op>
         Token::Operator(Sign::AddNew) => Some(Op::AddNew),
         Token::Operator(Sign::Replace) => Some(Op::Replace),
         Token::Operator(Sign::Append) => Some(Op::Append),
+        Token::Operator(Sign::Prepend) => Some(Op::Prepend),
         Token::Operator(Sign::RemoveEqual) => Some(Op::RemoveEqual),
         Token::Operator(Sign::Equal) => Some(Op::KeepEqual),
         Token::Operator(Sign::RemoveAll) => Some(Op::RemoveAll),

@@ -46,6 +46,8 @@ pub(crate) enum Sign {
     Replace,
     /// `+=`
     Append,
+    /// `^=`
+    Prepend,
     /// `-=`
     RemoveEqual,
     /// `!*`
@@ -161,6 +163,7 @@ fn double(first: u8, second: u8) -> Option<Sign>
         (b'=', b'=') => Some(Sign::Equal),
         (b':', b'=') => Some(Sign::Replace),
         (b'+', b'=') => Some(Sign::Append),
+        (b'^', b'=') => Some(Sign::Prepend),
         (b'-', b'=') => Some(Sign::RemoveEqual),
         (b'<', b'=') => Some(Sign::AtMost),
         (b'>', b'=') => Some(Sign::AtLeast),

@@ -52,6 +52,7 @@ fn small_policies(rt: HostRuntime) -> Result<(), Fail> {
         &[
             ("", 0),
             (" # nothing\r\n\t", 0),
+            ("update reply { Class ^= 0x01 }", 1),
             ("update { Vendor-Specific !* ANY }", 1),
             ("update { Reply-Message := \"50%%\" }", 1),
             ("if (&Class) { } elsif (ok) { } else { noop }", 3),
@@ -66,7 +67,8 @@ fn small_refusals(rt: HostRuntime) -> Result<(), Fail> {
         &rt,
         rt.alloc(),
         &[
-            ("update reply { Class ^= 0x01 }", PolicyKind::Unreadable, 1),
+            ("update reply { Class ^ 0x01 }", PolicyKind::Unreadable, 1),
+            ("if (&Class ^= 0x01) { }", PolicyKind::Misplaced, 1),
             ("switch &Class { }", PolicyKind::Misplaced, 1),
             ("update outer.reply { }", PolicyKind::Misplaced, 1),
             ("update { Nosuch := 1 }", PolicyKind::Unknown, 1),

@@ -38,6 +38,7 @@ fn op_signed(sign: &str) -> Option<Op> {
         "=" => Some(Op::AddNew),
         ":=" => Some(Op::Replace),
         "+=" => Some(Op::Append),
+        "^=" => Some(Op::Prepend),
         "-=" => Some(Op::RemoveEqual),
         "==" => Some(Op::KeepEqual),
         "!*" => Some(Op::RemoveAll),

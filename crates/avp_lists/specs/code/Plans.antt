@@ -3,16 +3,23 @@ use Rattle.std.specs.Prelude.{◌≡◌, zero, suc, ◌+◌, ℕ, Bool, true, fa
 use Rattle.std.specs.Option.{is_some, option_to_list}
 use Rattle.avp_lists.specs.declared.attributes.Pair.{Pair}
 use Rattle.avp_lists.specs.declared.edits.Op.{Op}
-use Rattle.avp_lists.specs.declared.edits.Op.TheVariants.{RemoveEqual, KeepEqual, RemoveAll, Replace}
+use Rattle.avp_lists.specs.declared.edits.Op.TheVariants.{Prepend, RemoveEqual, KeepEqual, RemoveAll, Replace}
 use Rattle.avp_lists.specs.declared.edits.Edit.{Edit}
 use Rattle.avp_lists.specs.declared.lists.List.{List as WhichList}
 use Rattle.avp_lists.specs.declared.planning.Plan.{Plan}
+use Rattle.avp_lists.specs.declared.slots.End.{End}
+use Rattle.avp_lists.specs.declared.slots.End.TheVariants.{Head, Tail}
 use Rattle.avp_lists.specs.declared.slots.Slot.{Slot}
 use Rattle.avp_lists.specs.Instances.{has_id}
 use Rattle.avp_lists.specs.Pairs.{pair_eq}
 use Rattle.avp_lists.specs.code.Shown.{shows, pair_of, state_of}
 use Rattle.avp_lists.specs.code.Slots.{forward, NamesWithin, SwapWithin, PairsWithin}
 use Rattle.avp_lists.specs.States.{edited}
+
+-- the end at which an operator adds its pair
+abbrev pub end_of : Op → End
+end_of Prepend = Head
+end_of _ = Tail
 
 -- an operator takes the other pair away, where it is not the first instance
 abbrev pub goes : Op → Pair → Pair → Bool
@@ -55,7 +62,7 @@ pub record IsPlan (e : Edit) (pool : List Pair) (c : List Slot) (p : Plan) : Typ
 
 -- n slots of the first state, from a place in the pool on
 abbrev pub fresh_slot : WhichList → ℕ → Slot
-fresh_slot which at = record { list = which; mark = record { live = true; pair = at }; first = record { live = true; pair = at } }
+fresh_slot which at = record { list = which; end = Tail; mark = record { live = true; pair = at }; first = record { live = true; pair = at } }
 
 abbrev pub fresh : WhichList → ℕ → ℕ → List Slot
 fresh which at zero = []

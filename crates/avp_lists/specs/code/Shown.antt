@@ -1,5 +1,5 @@
 -- The pairs and the lists that slots show.
-use Rattle.std.specs.Prelude.{Bool, true, false, ◌&&◌, List, map, filter, slice_index_or}
+use Rattle.std.specs.Prelude.{ℕ, ◌+◌, Bool, true, false, ◌&&◌, List, ◌++◌, map, filter, reverse, take, drop, slice_index_or}
 use Rattle.avp_lists.specs.declared.attributes.AttrId.{AttrId}
 use Rattle.avp_lists.specs.declared.attributes.AttrId.TheVariants.{Plain}
 use Rattle.avp_lists.specs.declared.attributes.Value.TheVariants.{Int}
@@ -7,8 +7,11 @@ use Rattle.avp_lists.specs.declared.attributes.Pair.{Pair}
 use Rattle.avp_lists.specs.declared.lists.List.{List as WhichList}
 use Rattle.avp_lists.specs.declared.lists.List.TheVariants.{Request, Reply, Control}
 use Rattle.avp_lists.specs.declared.lists.State.{State}
+use Rattle.avp_lists.specs.declared.slots.End.{End}
+use Rattle.avp_lists.specs.declared.slots.End.TheVariants.{Head, Tail}
 use Rattle.avp_lists.specs.declared.slots.Slot.{Slot}
 use Rattle.avp_lists.specs.Instances.{has_id}
+use Rattle.avp_lists.specs.code.Slots.{slot_at}
 
 abbrev pub same_list : WhichList → WhichList → Bool
 same_list Request Request = true
@@ -31,9 +34,37 @@ pair_of pool s = slice_index_or pool s.mark.pair no_pair
 abbrev pub shows_id : WhichList → AttrId → List Pair → Slot → Bool
 shows_id which id pool s = shows which s && has_id id (pair_of pool s)
 
--- the pairs of a list, in the order of their slots
+abbrev pub same_end : End → End → Bool
+same_end Head Head = true
+same_end Tail Tail = true
+same_end _ _ = false
+
+-- the slot entered its list at that end
+abbrev pub entered_at : End → Slot → Bool
+entered_at end s = same_end end s.end
+
+-- it shows a pair that entered the list at that end, or an instance of the id
+abbrev pub shows_at : End → WhichList → Slot → Bool
+shows_at end which s = entered_at end s && shows which s
+
+abbrev pub shows_id_at : End → WhichList → AttrId → List Pair → Slot → Bool
+shows_id_at end which id pool s = entered_at end s && shows_id which id pool s
+
+-- the pairs of a list that entered at one end, in the order of their slots
+abbrev pub pairs_at : End → WhichList → List Pair → List Slot → List Pair
+pairs_at end which pool c = map (pair_of pool) (filter (shows_at end which) c)
+
+-- the pairs of a list: those that entered at its head, the last one first, and then those that entered at its tail
 abbrev pub pairs_of : WhichList → List Pair → List Slot → List Pair
-pairs_of which pool c = map (pair_of pool) (filter (shows which) c)
+pairs_of which pool c = reverse (pairs_at Head which pool c) ++ pairs_at Tail which pool c
+
+-- the slots whose pairs come before that of a slot, which entered at this end and lies between these
+abbrev pub ahead : End → List Slot → List Slot → List Slot
+ahead Head before after = reverse (filter (entered_at Head) after)
+ahead Tail before after = reverse (filter (entered_at Head) (before ++ after)) ++ filter (entered_at Tail) before
+
+abbrev pub ahead_at : ℕ → List Slot → List Slot
+ahead_at i c = ahead (slot_at c i).end (take i c) (drop (i + 1) c)
 
 -- the state that the slots show
 abbrev pub state_of : List Pair → List Slot → State

@@ -1,6 +1,7 @@
 -- Slots, whose marks tell which pairs they show, and how a step turns the marks.
 use Rattle.std.specs.Prelude.{◌≡◌, ◌<◌, ◌≤◌, ◌+◌, length, ◌==◌, ℕ, Bool, true, false, not, if◌then◌else◌, List, [], ◌∷◌, slice_index_or, slice_set, Option, Some, None}
 use Rattle.avp_lists.specs.declared.lists.List.TheVariants.{Request}
+use Rattle.avp_lists.specs.declared.slots.End.TheVariants.{Head}
 use Rattle.avp_lists.specs.declared.slots.Mark.{Mark}
 use Rattle.avp_lists.specs.declared.slots.Slot.{Slot}
 use Rattle.avp_lists.specs.declared.slots.Swap.{Swap}
@@ -10,7 +11,7 @@ abbrev pub no_mark : Mark
 no_mark = record { live = false; pair = 0 }
 
 abbrev pub no_slot : Slot
-no_slot = record { list = Request; mark = no_mark; first = no_mark }
+no_slot = record { list = Request; end = Head; mark = no_mark; first = no_mark }
 
 -- the slot at a place; past the last one none
 abbrev pub slot_at : List Slot → ℕ → Slot
@@ -22,15 +23,15 @@ is_live s = s.mark.live
 
 -- the slot as it is in the first state
 abbrev pub at_first : Slot → Slot
-at_first s = record { list = s.list; mark = s.first; first = s.first }
+at_first s = record { list = s.list; end = s.end; mark = s.first; first = s.first }
 
 -- the slot with the present mark as that of the first state
 abbrev pub kept : Slot → Slot
-kept s = record { list = s.list; mark = s.mark; first = s.mark }
+kept s = record { list = s.list; end = s.end; mark = s.mark; first = s.mark }
 
 -- the slot with its mark turned
 abbrev pub flipped : Slot → Slot
-flipped s = record { list = s.list; mark = record { live = not s.mark.live; pair = s.mark.pair }; first = s.first }
+flipped s = record { list = s.list; end = s.end; mark = record { live = not s.mark.live; pair = s.mark.pair }; first = s.first }
 
 abbrev pub turn : List Slot → ℕ → List Slot
 turn c i = slice_set c i (flipped (slot_at c i))
@@ -44,7 +45,7 @@ abbrev pub other_pair : ℕ → ℕ → ℕ → ℕ
 other_pair old new at = if at == old then new else (if at == new then old else at)
 
 abbrev pub with_other : Swap → Slot → Slot
-with_other w s = record { list = s.list; mark = record { live = s.mark.live; pair = other_pair w.old w.new s.mark.pair }; first = s.first }
+with_other w s = record { list = s.list; end = s.end; mark = record { live = s.mark.live; pair = other_pair w.old w.new s.mark.pair }; first = s.first }
 
 abbrev pub swap_at : Option Swap → List Slot → List Slot
 swap_at None c = c

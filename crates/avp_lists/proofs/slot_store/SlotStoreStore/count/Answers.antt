@@ -1,9 +1,8 @@
 use Rattle.std.proofs.Common.{List, length, sym, ap, ◌∙◌}
 use Rattle.std.specs.List.{filter}
-use Rattle.std.proofs.lemmas.List.{length-map}
 use Rattle.avp_lists.specs.declared.slots.Slot.{Slot}
-use Rattle.avp_lists.specs.code.Shown.{shows, pair_of}
-use Rattle.avp_lists.proofs.ShownPairs.{present-list}
+use Rattle.avp_lists.specs.code.Shown.{shows}
+use Rattle.avp_lists.proofs.ShownPairs.{present-list, length-pairs_of}
 use Rattle.avp_lists.proofs.slot_store.SlotStoreStore.count.Goals as goal
 
 pub returns : goal.returns
@@ -12,5 +11,5 @@ returns c =
     let which = c.args.list in
     c.count_shown.ensures
     ∙ ap (λ (xs : List Slot). length (filter (shows which) xs)) c.deref.ensures.value
-    ∙ sym (length-map (filter (shows which) s.slots.items) (pair_of s.pool.items))
+    ∙ sym (length-pairs_of which s.pool.items s.slots.items)
     ∙ sym (ap length (present-list which s.pool.items s.slots.items s.steps.items s.place s.placed s.standing))

@@ -1,6 +1,0 @@
-use Rattle.std.proofs.Common.{◌≡◌, take}
-use Rattle.avp_lists.specs.code.Shown.{pairs_of}
-use Rattle.avp_lists.proofs.showing.copy_shown.Given as goal
-
-abbrev pub invariant-loop-slot : goal.invariant-loop-slot
-invariant-loop-slot l = l.made.items ≡ pairs_of l.list l.pool (take l.slot-index l.slots)

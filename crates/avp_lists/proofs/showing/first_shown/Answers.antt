@@ -1,0 +1,24 @@
+use Rattle.std.proofs.Common.{◌≡◌, ◌<◌, ◌∙◌, Some, true, length, sym, ap}
+use Rattle.std.proofs.lemmas.List.{get_or_read}
+use Rattle.avp_lists.specs.declared.attributes.Pair.{Pair}
+use Rattle.avp_lists.specs.Instances.{has_id}
+use Rattle.avp_lists.specs.code.Shown.{same_list, shows, no_pair, pair_of}
+use Rattle.avp_lists.specs.code.Slots.{slot_at}
+use Rattle.avp_lists.proofs.Edited.{and_first}
+use Rattle.avp_lists.proofs.Finding.{found-first, found-none}
+use Rattle.avp_lists.proofs.showing.first_shown.Goals as goal
+
+pub returns-in_err-name : goal.returns-in_err-name
+returns-in_err-name c = rw c.from_residual.ensures (sym (found-none c.args.list c.args.id c.args.pool.now c.args.slots.now c.in_err-name.ensures.none))
+
+pub returns : goal.returns
+returns c =
+    let which = c.args.list in
+    let pool = c.args.pool.now in
+    let name = c.in_ok-name.name in
+    let shown = c.in_ok-name.ensures.shown in
+    let s = slot_at c.args.slots.now name in
+    let live : s.mark.live ≡ true = and_first s.mark.live (same_list which s.list) (and_first (shows which s) (has_id c.args.id (pair_of pool s)) shown.1) in
+    let within : s.mark.pair < length pool = c.requires name live in
+    ap (λ (p : Pair). Some p) (get_or_read pool s.mark.pair c.index-pool-slots.result within c.index-pool-slots.is no_pair)
+    ∙ sym (found-first which c.args.id pool c.args.slots.now name shown.0 shown.1 c.in_ok-name.ensures.none_before)
