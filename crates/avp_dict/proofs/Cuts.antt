@@ -1,6 +1,6 @@
 -- What a place that `position` found says of the parts before and after it.
-use Rattle.std.proofs.Common.{◌≡◌, ℕ, ◌+◌, ◌<◌, ◌≤◌, Bool, true, false, not, cond, ltb, suc, ◌++◌, List, [], ◌∷◌, length, take, drop, Some, None, refl, arith}
-use Rattle.std.specs.List.{position, position_or_len, filter, slice_split, onto_first}
+use Rattle.std.proofs.Common.{◌≡◌, ℕ, ◌+◌, ◌<◌, ◌≤◌, Bool, true, false, not, cond, ltb, suc, List, [], ◌∷◌, length, take, drop, Some, None, refl, arith}
+use Rattle.std.specs.List.{position, position_or_len, slice_split, onto_first}
 use Rattle.std.proofs.lemmas.Grind.{common_steps}
 use Rattle.std.proofs.lemmas.Option.{cond_some}
 use Rattle.std.proofs.lemmas.List.Splits.{slice_split_first}
@@ -37,10 +37,3 @@ parts_more p xs i h =
 
 pub parts_last : (p : ℕ → Bool) (xs : List ℕ) → position p xs ≡ None → slice_split p xs ≡ xs ∷ []
 parts_last p xs h = one_part p xs (found_nothing p xs h)
-
-filter_first_by : (b : Bool) (w : List ℕ) (ws : List (List ℕ)) → cond b (w ∷ ws) ws ≡ cond b (w ∷ []) [] ++ ws
-filter_first_by true w ws = refl
-filter_first_by false w ws = refl
-
-pub filter_first : (p : List ℕ → Bool) (w : List ℕ) (ws : List (List ℕ)) → filter p (w ∷ ws) ≡ filter p (w ∷ []) ++ filter p ws
-filter_first p w ws = filter_first_by (p w) w (filter p ws)

@@ -1,7 +1,9 @@
 -- Names are the same where their octets in lower case are.
-use Rattle.std.proofs.Common.{◌≡◌, ◌≢◌, ◌≤◌, ◌<◌, ℕ, suc, Bool, true, false, ◌&&◌, ◌==◌, List, [], ◌∷◌, length, map, refl, ap, arith}
+use Rattle.std.proofs.Common.{◌≡◌, ◌≢◌, ◌≤◌, ◌<◌, ℕ, suc, Bool, true, false, ◌&&◌, ◌==◌, List, [], ◌∷◌, length, map, refl, sym, ap, arith, ◌∙◌}
 use Rattle.std.specs.Str.{bytes_eq}
+use Rattle.avp_dict.specs.Letters.{most_name}
 use Rattle.avp_dict.specs.Words.{lower, same_name}
+use Rattle.avp_dict.proofs.Agreement.{same_name_sym}
 
 pub same_folded : (a b : List ℕ) → same_name a b ≡ bytes_eq (map lower a) (map lower b)
 same_folded [] [] = refl
@@ -9,7 +11,11 @@ same_folded [] (y ∷ ys) = refl
 same_folded (x ∷ xs) [] = refl
 same_folded (x ∷ xs) (y ∷ ys) = ap (λ c. (lower x == lower y) && c) (same_folded xs ys)
 
-and_false : (b c : Bool) → c ≡ false → (b && c) ≡ false
+-- in either order
+pub folded_same : (a b : List ℕ) → bytes_eq (map lower a) (map lower b) ≡ same_name b a
+folded_same a b = sym (same_folded a b) ∙ same_name_sym a b
+
+pub and_false : (b c : Bool) → c ≡ false → (b && c) ≡ false
 and_false true c h = h
 and_false false c h = refl
 
@@ -20,5 +26,5 @@ other_length (x ∷ xs) [] h = refl
 other_length (x ∷ xs) (y ∷ ys) h = and_false (lower x == lower y) (same_name xs ys) (other_length xs ys (λ e. h (ap suc e)))
 
 -- a name that is longer than any name
-pub too_long : (a b : List ℕ) → length a ≤ 128 → 128 < length b → same_name a b ≡ false
+pub too_long : (a b : List ℕ) → length a ≤ most_name → most_name < length b → same_name a b ≡ false
 too_long a b short long = other_length a b (λ e. omega (arith, e, short, long))

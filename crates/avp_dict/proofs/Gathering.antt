@@ -15,7 +15,7 @@ front : (b : Bool) (o : ℕ) (os : List ℕ) (n : ℕ) → onto_first o (texts_o
 front true o os n h = refl
 front false o os n h = rw (one-add, add-one) (rw add-one at h)
 
--- the first text is what stands before the first line end
+-- the first text is what is before the first line end
 pub texts_of_first : (o : ℕ) (os : List ℕ) → texts_of (o ∷ os) ≡ before_first is_line_end (o ∷ os) ∷ texts_of (after_first is_line_end (o ∷ os))
 texts_of_first o [] = front (is_line_end o) o [] 0 refl
 texts_of_first o (x ∷ xs) = front (is_line_end o) o (x ∷ xs) (position_or_len is_line_end (x ∷ xs)) (ap (onto_first o) (texts_of_first x xs))
@@ -32,10 +32,6 @@ pub lines_in_none : (files : List NamedFile) (levels place : ℕ) → levels ≡
 unfolding lines_in
 lines_in_none files zero place h = refl
 lines_in_none files (suc levels) place h = absurd (omega arith)
-
-pub no_texts : (rest : List ℕ) → length rest ≡ 0 → texts_of rest ≡ []
-no_texts [] h = refl
-no_texts (o ∷ os) h = absurd (omega arith)
 
 pub first_text : (rest : List ℕ) → 0 < length rest → texts_of rest ≡ before_first is_line_end rest ∷ texts_of (after_first is_line_end rest)
 first_text [] h = absurd (omega arith)

@@ -1,4 +1,4 @@
--- The last place after one more line, and the line that stands there.
+-- The last place after one more line, and the line that is there.
 use Rattle.std.proofs.Common.{◌≡◌, ℕ, suc, Bool, true, false, cond, List, [], ◌∷◌, ◌++◌, length, reverse, slice_get, Option, Some, None, option_and_then, refl, sym, ap, subst, ◌∙◌, if◌then◌else◌}
 use Rattle.std.specs.List.{All, find}
 use Rattle.std.proofs.lemmas.List.Elements.{All-head, All-tail}
@@ -52,7 +52,7 @@ module _ {X : Type 0} (test : X → Bool) where
   found_by xs None line h = h
   found_by xs (Some i) line h = h.2 ∙ sym h.1
 
-  -- the last line stands at the last place
+  -- the last line is at the last place
   pub last_found : (xs : List X) → last_where test xs ≡ option_and_then (slice_get xs) (last_place test xs)
   last_found xs = found_by xs (last_place test xs) (last_where test xs) (agreeing xs)
 
@@ -65,7 +65,3 @@ module _ {X : Type 0} (test : X → Bool) where
   pub last_place_none : (xs : List X) → All (λ x. test x ≡ false) xs → last_place test xs ≡ None
   last_place_none [] h = refl
   last_place_none (x ∷ xs) h = ap (after x) (last_place_none xs (All-tail (λ y. test y ≡ false) x xs h)) ∙ ap (λ b. if b then Some 0 else None) (All-head (λ y. test y ≡ false) x xs h)
-
-  -- the line at the place that a table gives is the last that passes
-  pub last_at : {xs ys model : List X} {place : Option ℕ} {line : Option X} → ys ≡ xs → xs ≡ model → line ≡ option_and_then (slice_get ys) place → place ≡ last_place test xs → line ≡ last_where test model
-  last_at {xs} same seen at is = at ∙ (λ i. option_and_then (slice_get (same i)) (is i)) ∙ sym (last_found xs) ∙ ap (last_where test) seen

@@ -1,4 +1,4 @@
--- Which tokens stand at the front of a line.
+-- Which tokens are at the front of a line.
 use Rattle.std.proofs.Common.{◌≡◌, ℕ, suc, ◌+◌, ◌-◌, ◌<◌, ◌≤◌, Bool, true, false, not, cond, List, [], ◌∷◌, ◌++◌, length, get_or, take, drop, refl, append_assoc, ap, ◌∙◌, subst, arith, add-one, one-add, drop-cons, length-drop}
 use Rattle.std.specs.Prelude.{◌==◌}
 use Rattle.std.specs.List.{position_or_len}
@@ -54,9 +54,6 @@ rest_after n octets = take_all (length octets - n) (drop n octets) (omega (arith
 pub record IsTextAt (mark : QuoteMark) (octets : List ℕ) (i : ℕ) (place : Place) : Type 0 where
   pub unended : tokens_from place (drop i octets) ≡ Unended ∷ [] → tokens_from (Between mark) octets ≡ Unended ∷ []
   pub ended : (text : List ℕ) (tokens : List Token) → tokens_from place (drop i octets) ≡ Quoted mark text ∷ tokens → tokens_from (Between mark) octets ≡ Quoted mark (take i octets ++ text) ∷ tokens
-
-pub text_begins : (mark : QuoteMark) (octets : List ℕ) → IsTextAt mark octets 0 (Between mark)
-text_begins mark octets = record { unended = λ h. h; ended = λ text tokens h. h }
 
 text_goes_on : (mark : QuoteMark) (octets : List ℕ) (i : ℕ) (place next : Place) → i < length octets → ((rest : List ℕ) → tokens_from place (get_or octets i 0 ∷ rest) ≡ onto_quoted (get_or octets i 0) (tokens_from next rest)) → IsTextAt mark octets i place → IsTextAt mark octets (i + 1) next
 text_goes_on mark octets i place next within step at =

@@ -1,6 +1,5 @@
 pub mod Agreement
 pub mod Alone
-pub mod Counting
 pub mod Cuts
 pub mod Fitting
 pub mod Folding
@@ -11,6 +10,7 @@ pub mod Kept
 pub mod Keys
 pub mod Last
 pub mod Lexing
+pub mod LineTables
 pub mod Numbered
 pub mod Numerals
 pub mod OneMore

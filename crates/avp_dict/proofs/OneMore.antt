@@ -1,8 +1,8 @@
 -- One line more.
 use Rattle.std.proofs.Common.{◌≡◌, ℕ, Bool, true, false, ◌-◌, ◌∙◌, sym, ap, take, ◌<◌, List, [], ◌∷◌, ◌++◌, Result, Ok, Err, refl, length, if◌then◌else◌, nat_lt}
 use borrow.Author.Tests.{ltb-true}
-use Rattle.std.specs.List.{fold}
 use Rattle.std.proofs.lemmas.List.{length-map, take-map}
+use Rattle.std.proofs.lemmas.List.Sums.{fold_push}
 use Rattle.avp_dict.specs.declared.files.NamedFile.{NamedFile}
 use Rattle.avp_dict.specs.declared.faults.DictKind.{DictKind}
 use Rattle.avp_dict.specs.declared.faults.DictKind.TheVariants.{TooLong}
@@ -18,10 +18,6 @@ use Rattle.avp_dict.specs.Steps.{refused_at, ◌>>=◌}
 use Rattle.avp_dict.specs.code.Meanings.{reading_view, reading_views}
 use Rattle.avp_dict.specs.code.Outcomes.{Fails}
 use Rattle.avp_dict.specs.code.Refused.{fault_at}
-
-fold_push : {A B : Type 0} (f : B → A → B) (b : B) (xs : List A) (x : A) → fold f b (xs ++ x ∷ []) ≡ f (fold f b xs) x
-fold_push f b [] x = refl
-fold_push f b (y ∷ ys) x = fold_push f (f b y) ys x
 
 pub context_of_push : (lines : List Reading) (r : Reading) → context_of (lines ++ r ∷ []) ≡ after_line (context_of lines) r
 unfolding context_of
@@ -44,7 +40,7 @@ fails_through : (memory : Bool) (fault : DictFault) (A : Type 0) (B : Type 0) (r
 fails_through true fault A B r f h = h
 fails_through false fault A B r f h = rw h
 
--- a step that is refused refuses what it stands in
+-- a step that is refused refuses what it is a step of
 pub refuses_through : {A B : Type 0} (fault : DictFault) (r : Result A DictFault) (f : A → Result B DictFault) → Refuses fault r → Refuses fault (r >>= f)
 refuses_through {A} {B} fault r f h = fails_through (is_memory fault.kind) fault A B r f h
 

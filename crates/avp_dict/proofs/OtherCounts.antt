@@ -3,11 +3,9 @@ use Rattle.std.proofs.Common.{◌≡◌, ◌≢◌, ℕ, List, [], ◌∷◌, Op
 use Rattle.std.specs.Borrow.{Bor}
 use Rattle.avp_dict.specs.declared.entries.VendorLine.{VendorLine}
 use Rattle.avp_dict.specs.declared.faults.DictKind.TheVariants.{Unreadable}
-use Rattle.avp_dict.specs.Attributes.{attribute, id_word, many_words}
-use Rattle.avp_dict.specs.Blocks.{begin_vendor}
-use Rattle.avp_dict.specs.Meanings.{Context, Reading}
+use Rattle.avp_dict.specs.Attributes.{id_word, many_words}
 use Rattle.avp_dict.specs.Readings.{value}
-use Rattle.avp_dict.specs.Vendors.{format_parts, two_parts, vendor}
+use Rattle.avp_dict.specs.Vendors.{format_parts, two_parts}
 use Rattle.avp_dict.specs.Words.{number_of}
 use Rattle.avp_dict.specs.code.Views.{views}
 
@@ -18,15 +16,6 @@ many_ids vendors block (n ∷ []) one two = absurd (one refl)
 many_ids vendors block (t ∷ x ∷ []) one two = absurd (two refl)
 many_ids vendors block (t ∷ x ∷ y ∷ rest) one two = refl
 
-pub no_attribute : (before : Context) (block : Option ℕ) (words : List (Bor (List ℕ))) → length words ≢ 3 → length words ≢ 4 → attribute before block (views words) ≡ Err Unreadable
-unfolding attribute
-no_attribute before block [] three four = refl
-no_attribute before block (a ∷ []) three four = refl
-no_attribute before block (a ∷ b ∷ []) three four = refl
-no_attribute before block (a ∷ b ∷ c ∷ []) three four = absurd (three refl)
-no_attribute before block (a ∷ b ∷ c ∷ d ∷ []) three four = absurd (four refl)
-no_attribute before block (a ∷ b ∷ c ∷ d ∷ e ∷ rest) three four = refl
-
 pub no_value : (words : List (Bor (List ℕ))) → length words ≢ 3 → value (views words) ≡ Err Unreadable
 unfolding value
 no_value [] three = refl
@@ -34,21 +23,6 @@ no_value (a ∷ []) three = refl
 no_value (a ∷ b ∷ []) three = refl
 no_value (a ∷ b ∷ c ∷ []) three = absurd (three refl)
 no_value (a ∷ b ∷ c ∷ d ∷ rest) three = refl
-
-pub no_vendor : (vendors : List VendorLine) (words : List (Bor (List ℕ))) → length words ≢ 2 → length words ≢ 3 → vendor vendors (views words) ≡ Err Unreadable
-unfolding vendor
-no_vendor vendors [] two three = refl
-no_vendor vendors (a ∷ []) two three = refl
-no_vendor vendors (a ∷ b ∷ []) two three = absurd (two refl)
-no_vendor vendors (a ∷ b ∷ c ∷ []) two three = absurd (three refl)
-no_vendor vendors (a ∷ b ∷ c ∷ d ∷ rest) two three = refl
-
-pub no_block : (vendors : List VendorLine) (opened : List Reading) (words : List (Bor (List ℕ))) → length words ≢ 1 → length words ≢ 2 → begin_vendor vendors opened (views words) ≡ Err Unreadable
-unfolding begin_vendor
-no_block vendors opened [] one two = refl
-no_block vendors opened (a ∷ []) one two = absurd (one refl)
-no_block vendors opened (a ∷ b ∷ []) one two = absurd (two refl)
-no_block vendors opened (a ∷ b ∷ c ∷ rest) one two = refl
 
 pub three_parts : (parts : List (Bor (List ℕ))) (d e : Bor (List ℕ)) → length parts ≡ 3 → two_parts true (number_of (get_or parts 0 d).now) (number_of (get_or parts 1 e).now) ≡ format_parts (views parts)
 three_parts [] d e h = absurd (omega (arith, h))

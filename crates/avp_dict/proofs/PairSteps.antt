@@ -190,7 +190,7 @@ pub after_more : (pairs : List Pair) (pair : Pair) (others : Option (List Pair))
 unfolding after_pairs
 after_more pairs pair others = sym (joined_assoc (Some pairs) (Some (pair ∷ [])) others)
 
--- what stands here is none, and the pairs before it are those of the whole
+-- there is none here, and the pairs before it are those of the whole
 pub none_refused : (before pairs : List Pair) (whole here : Option (List Pair)) → after_pairs pairs here ≡ after_pairs before whole → here ≡ None → IsRefused before whole
 unfolding IsRefused
 none_refused before pairs whole here same none = λ more. rw (← same, after_none pairs here none)

@@ -11,7 +11,8 @@ use Rattle.avp_dict.specs.declared.entries.VendorFormat.{VendorFormat}
 use Rattle.avp_dict.specs.declared.entries.VendorLine.{VendorLine}
 use Rattle.avp_dict.specs.Meanings.{Meaning, Attribute, SkippedAttribute, Context}
 use Rattle.avp_dict.specs.Words.{number_of}
-use Rattle.avp_dict.specs.Letters.{is_dot, is_comma, is_name_octet, begins_as_attr}
+use Rattle.avp_dict.specs.AttributeNumbers.{greatest_number, is_extended_type}
+use Rattle.avp_dict.specs.Letters.{is_dot, is_comma, is_name_octet, begins_as_attr, most_name}
 use Rattle.avp_dict.specs.Steps.{◌>>=◌}
 use Rattle.avp_dict.specs.Dictionary.{format_of, id_named}
 use Rattle.avp_dict.specs.Types.{are_flags, typing_of}
@@ -20,11 +21,11 @@ use Rattle.avp_dict.specs.Types.{are_flags, typing_of}
 
 -- the types of extended attributes, which have a number of their own from this one on
 abbrev pub is_extended : ℕ → ℕ → ℕ → Bool
-is_extended least t x = nat_le 241 t && nat_le t 246 && nat_le least x && nat_le x 255
+is_extended least t x = is_extended_type t && nat_le least x && nat_le x 255
 
 -- the greatest number that 1, 2 or 4 octets hold
 abbrev pub most_in : ℕ → ℕ
-most_in t = if t == 1 then 255 else (if t == 2 then 65535 else 4294967295)
+most_in t = if t == 1 then 255 else (if t == 2 then 65535 else greatest_number)
 
 abbrev pub is_held : ℕ → VendorFormat → Bool
 is_held n f = nat_le n (most_in f.t)
@@ -41,7 +42,7 @@ number_id vendors (Some vendor) n = vendor_id vendor n (format_of vendor vendors
 -- the id of a number; none where the line is skipped
 unfoldable pub number_word : List VendorLine → Option ℕ → Option ℕ → Result (Option AttrId) DictKind
 number_word vendors block None = Err Unreadable
-number_word vendors block (Some n) = if nat_le n 4294967295 then Ok (number_id vendors block n) else Err OutOfRange
+number_word vendors block (Some n) = if nat_le n greatest_number then Ok (number_id vendors block n) else Err OutOfRange
 
 -- the id of two numbers with a dot between, outside a vendor block
 abbrev pub dotted_word : Option ℕ → Option ℕ → Option ℕ → Result (Option AttrId) DictKind
@@ -64,7 +65,7 @@ id_word vendors block parts = many_words parts
 -- ---- the line
 
 unfoldable pub is_attribute_name : List ℕ → Bool
-is_attribute_name name = list_all is_name_octet name && nat_le (length name) 128 && not (begins_as_attr name)
+is_attribute_name name = list_all is_name_octet name && nat_le (length name) most_name && not (begins_as_attr name)
 
 -- an earlier line gave the name to another id: the last one tells, since each line of a name agreed with those before it
 abbrev pub is_of_other_id : AttrId → Option AttrId → Bool

@@ -1,16 +1,11 @@
 -- How many names a dictionary has.
-use Rattle.std.specs.Prelude.{ℕ, ◌+◌, Bool, if◌then◌else◌, List, [], ◌∷◌}
-use Rattle.std.specs.List.{list_any}
+use Rattle.std.specs.Prelude.{Bool}
+use Rattle.std.specs.Set.{distinct_count}
 use Rattle.avp_dict.specs.declared.entries.AttributeLine.{AttributeLine}
 use Rattle.avp_dict.specs.declared.entries.ValueLine.{ValueLine}
 use Rattle.avp_dict.specs.declared.entries.VendorLine.{VendorLine}
 use Rattle.avp_dict.specs.declared.entries.Counts.{Counts}
 use Rattle.avp_dict.specs.Dictionary.{Dictionary, is_attribute_named, is_value_named, is_vendor_named}
-
--- how many lines have a name that no later line has
-unfoldable pub count_last : {X : Type 0} → (X → X → Bool) → List X → ℕ
-count_last same [] = 0
-count_last same (x ∷ xs) = (if list_any (same x) xs then 0 else 1) + count_last same xs
 
 abbrev pub same_attribute : AttributeLine → AttributeLine → Bool
 same_attribute a b = is_attribute_named a.name b
@@ -24,7 +19,7 @@ same_vendor v w = is_vendor_named v.name w
 -- the attributes' names, the values' names for each attribute, and the vendors' names
 unfoldable pub counts_of : Dictionary → Counts
 counts_of dictionary = record {
-  attributes = count_last same_attribute dictionary.attributes;
-  values = count_last same_value dictionary.values;
-  vendors = count_last same_vendor dictionary.vendors;
+  attributes = distinct_count same_attribute dictionary.attributes;
+  values = distinct_count same_value dictionary.values;
+  vendors = distinct_count same_vendor dictionary.vendors;
 }

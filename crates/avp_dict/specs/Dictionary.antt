@@ -1,7 +1,8 @@
 -- What dictionary files define: attributes, the names of their values, and vendors, each by a line of its own; and how they are found.
-use Rattle.std.specs.Prelude.{ℕ, Bool, ◌&&◌, ◌==◌, List, reverse, Option}
+use Rattle.std.specs.Prelude.{ℕ, Bool, ◌&&◌, ◌==◌, if◌then◌else◌, List, [], ◌∷◌, ◌++◌, map, reverse, Option}
 use Rattle.std.specs.Option.{option_map}
-use Rattle.std.specs.List.{find}
+use Rattle.std.specs.List.{find, fold, list_any}
+use Rattle.std.specs.Str.{bytes_eq}
 use Rattle.avp_lists.specs.declared.attributes.AttrId.{AttrId}
 use Rattle.avp_lists.specs.Pairs.{id_eq}
 use Rattle.avp_dict.specs.declared.entries.AttributeLine.{AttributeLine}
@@ -10,9 +11,9 @@ use Rattle.avp_dict.specs.declared.entries.VendorLine.{VendorLine}
 use Rattle.avp_dict.specs.declared.entries.VendorFormat.{VendorFormat}
 use Rattle.avp_dict.specs.declared.entries.Typing.{Typing}
 use Rattle.avp_dict.specs.declared.entries.Note.{Note}
-use Rattle.avp_dict.specs.Words.{same_name}
+use Rattle.avp_dict.specs.Words.{lower, same_name}
 
--- the used ATTRIBUTE lines, the used VALUE lines, the VENDOR lines, and where lines stand that were skipped, each in the order of the lines
+-- the used ATTRIBUTE lines, the used VALUE lines, the VENDOR lines, and where the skipped lines are, each in the order of the lines
 pub record Dictionary : Type 0 where
   pub attributes : List AttributeLine
   pub values : List ValueLine
@@ -22,6 +23,14 @@ pub record Dictionary : Type 0 where
 -- the last line that passes
 abbrev pub last_where : {X : Type 0} → (X → Bool) → List X → Option X
 last_where test lines = find test (reverse lines)
+
+-- a key goes last, where it is new
+abbrev pub with_key : {K : Type 0} → (K → K → Bool) → List K → K → List K
+with_key eq keys key = if list_any (eq key) keys then keys else keys ++ key ∷ []
+
+-- each key once, in the order of the first ones
+abbrev pub first_keys : {K : Type 0} → (K → K → Bool) → List K → List K
+first_keys eq keys = fold (with_key eq) [] keys
 
 -- ---- attributes
 
@@ -44,6 +53,14 @@ id_named name attributes = option_map id_of_line (last_where (is_attribute_named
 -- how the values of an id are read: as its last line says
 unfoldable pub typing_of_id : AttrId → List AttributeLine → Option Typing
 typing_of_id id attributes = option_map typing_of_line (last_where (is_attribute_of id) attributes)
+
+-- an attribute's name, in lower case
+abbrev pub attribute_key : AttributeLine → List ℕ
+attribute_key a = map lower a.name
+
+-- the attributes' names in lower case, each once, in the order of their first lines
+unfoldable pub first_names : List AttributeLine → List (List ℕ)
+first_names attributes = first_keys bytes_eq (map attribute_key attributes)
 
 -- ---- the names of values
 

@@ -1,7 +1,11 @@
--- Which octets names are made of.
+-- Which octets names are made of, and how long they may be.
 use Rattle.std.specs.Prelude.{codes, ℕ, ◌-◌, Bool, ◌&&◌, ◌||◌, ◌==◌, nat_le, if◌then◌else◌, List, take, length, slice_index}
 use Rattle.std.specs.List.{before_first}
 use Rattle.avp_dict.specs.Words.{lower, same_name}
+
+-- a name has so many octets at most
+abbrev pub most_name : ℕ
+most_name = 128
 
 abbrev pub is_dot : ℕ → Bool
 is_dot o = o == 46

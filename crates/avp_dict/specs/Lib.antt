@@ -1,3 +1,4 @@
+pub mod AttributeNumbers
 pub mod Attributes
 pub mod Blocks
 pub mod Counts

@@ -10,9 +10,10 @@ use Rattle.avp_lists.specs.declared.attributes.Pair.{Pair}
 use Rattle.avp_dict.specs.declared.entries.Format.{Format}
 use Rattle.avp_dict.specs.declared.entries.Kind.{Kind}
 use Rattle.avp_dict.specs.declared.entries.Kind.TheVariants as kinds
+use Rattle.avp_dict.specs.AttributeNumbers.{is_extended_type, most_plain}
 use Rattle.avp_dict.specs.Dictionary.{Dictionary}
 use Rattle.avp_dict.specs.Names.{vendor_format}
-use Rattle.avp_dict.specs.Octets.{kind_of, is_hidden, octets, ends_in_nul}
+use Rattle.avp_dict.specs.Octets.{kind_of, is_hidden, most_hidden, octets, ends_in_nul}
 use Rattle.avp_dict.specs.Settled.{is_in_format}
 use Rattle.avp_dict.specs.Values.{most_of}
 
@@ -28,13 +29,13 @@ extended_room t = if nat_le 241 t && nat_le t 244 then 252 else (if nat_le 245 t
 
 -- the most octets of an id's attribute; the vendor's format has to have two parts
 unfoldable pub most_octets : AttrId → Dictionary → ℕ
-most_octets (ids.Plain n) dictionary = if nat_le n 255 then 253 else 4012
+most_octets (ids.Plain n) dictionary = if nat_le n most_plain then 253 else 4012
 most_octets (ids.Vendor vendor n) dictionary = option_map_or vendor_room (vendor_format vendor dictionary) 0
 most_octets (ids.Extended t n) dictionary = extended_room t
 
 -- the most octets of a value of the id's type
 unfoldable pub greatest_length : AttrId → Dictionary → ℕ
-greatest_length id dictionary = if is_hidden id dictionary then min 128 (most_octets id dictionary) else most_octets id dictionary
+greatest_length id dictionary = if is_hidden id dictionary then min most_hidden (most_octets id dictionary) else most_octets id dictionary
 
 -- ---- fitting pairs
 
@@ -42,7 +43,7 @@ greatest_length id dictionary = if is_hidden id dictionary then min 128 (most_oc
 unfoldable pub is_known : AttrId → Dictionary → Bool
 is_known (ids.Plain n) dictionary = true
 is_known (ids.Vendor vendor n) dictionary = is_in_format vendor n dictionary.vendors
-is_known (ids.Extended t n) dictionary = nat_le 241 t && nat_le t 246
+is_known (ids.Extended t n) dictionary = is_extended_type t
 
 -- the greatest number of a type
 abbrev pub most_number : Kind → Option ℕ

@@ -18,7 +18,7 @@ abbrev pub texts_of : List ℕ → List (List ℕ)
 texts_of [] = []
 texts_of (o ∷ os) = if o == 10 then [] ∷ texts_of os else onto_first o (texts_of os)
 
--- what stands after the last slash of the octets, or else the last part so far
+-- what follows the last slash of the octets, or else the last part so far
 abbrev pub last_part : List ℕ → List ℕ → List ℕ
 last_part last [] = last
 last_part last (o ∷ os) = if o == 47 then last_part os os else last_part last os
@@ -63,16 +63,20 @@ file_included files text = option_and_then (λ name. file_named name files) (inc
 abbrev pub lines_below : List NamedFile → (ℕ → List Line) → List ℕ → List Line
 lines_below files lines_at text = option_map_or lines_at (file_included files text) []
 
--- the texts as lines from this number on, each followed by what stands below it
+-- the texts as lines from this number on, each followed by what is below it
 abbrev pub expanded : (List ℕ → List Line) → ℕ → ℕ → ℕ → List (List ℕ) → List Line
 expanded below file depth number [] = []
 expanded below file depth number (text ∷ texts) = record { file = file; number = number; depth = depth; text = text } ∷ (below text ++ expanded below file depth (number + 1) texts)
 
+-- includes go so many files deep
+abbrev pub most_depth : ℕ
+most_depth = 8
+
 -- the lines of a file, where so many levels of files may be open, itself included
 unfoldable pub lines_in : List NamedFile → ℕ → ℕ → List Line
 lines_in files zero place = []
-lines_in files (suc levels) place = expanded (lines_below files (lines_in files levels)) place (8 - levels) 1 (texts_of (octets_at files place))
+lines_in files (suc levels) place = expanded (lines_below files (lines_in files levels)) place (most_depth - levels) 1 (texts_of (octets_at files place))
 
--- all lines of the set: the main file is the first, and includes go eight files deep
+-- all lines of the set: the main file is the first
 unfoldable pub lines_of : List NamedFile → List Line
-lines_of files = lines_in files 9 0
+lines_of files = lines_in files (suc most_depth) 0

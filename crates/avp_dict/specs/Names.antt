@@ -13,6 +13,7 @@ use Rattle.avp_dict.specs.declared.entries.Named.{Named}
 use Rattle.avp_dict.specs.Words.{digits}
 use Rattle.avp_dict.specs.Letters.{is_dot, begins_as_attr}
 use Rattle.avp_dict.specs.Dictionary.{Dictionary, last_where, is_attribute_of, id_named, format_of}
+use Rattle.avp_dict.specs.AttributeNumbers.{greatest_number, most_plain, vendor_specific}
 use Rattle.avp_dict.specs.Attributes.{is_extended}
 use Rattle.avp_dict.specs.Settled.{is_in_format}
 
@@ -20,7 +21,7 @@ use Rattle.avp_dict.specs.Settled.{is_in_format}
 
 -- Attr-N
 abbrev pub plain_numbered : Option ℕ → Option AttrId
-plain_numbered (Some n) = if nat_le n 255 then Some (ids.Plain n) else None
+plain_numbered (Some n) = if nat_le n most_plain then Some (ids.Plain n) else None
 plain_numbered None = None
 
 -- Attr-T.N
@@ -30,11 +31,11 @@ extended_numbered _ _ = None
 
 -- Attr-26.V.N, where the vendor's format has two parts and holds N
 abbrev pub vendor_id_numbered : List VendorLine → Option ℕ → Option ℕ → Option AttrId
-vendor_id_numbered vendors (Some v) (Some n) = if nat_le v 4294967295 && is_in_format v n vendors then Some (ids.Vendor v n) else None
+vendor_id_numbered vendors (Some v) (Some n) = if nat_le v greatest_number && is_in_format v n vendors then Some (ids.Vendor v n) else None
 vendor_id_numbered vendors _ _ = None
 
 abbrev pub is_vendor_specific : Option ℕ → Bool
-is_vendor_specific (Some t) = t == 26
+is_vendor_specific (Some t) = t == vendor_specific
 is_vendor_specific None = false
 
 -- the id of the parts between the dots, in decimal digits

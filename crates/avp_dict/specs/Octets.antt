@@ -80,9 +80,13 @@ is_nul o = o == 0
 abbrev pub ends_in_nul : List ℕ → Bool
 ends_in_nul os = option_map_or is_nul (slice_get os (length os - 1)) false
 
+-- hidden octets are so many at most (RFC 2865, section 5.2)
+abbrev pub most_hidden : ℕ
+most_hidden = 128
+
 -- octets that can be hidden and shown again (RFC 2865, section 5.2)
 abbrev pub is_hideable : List ℕ → Bool
-is_hideable os = nat_le (length os) 128 && not (ends_in_nul os)
+is_hideable os = nat_le (length os) most_hidden && not (ends_in_nul os)
 
 abbrev pub read_by : List ℕ → Described → Option Value
 read_by os d = if d.hidden && not (is_hideable os) then None else value_read d.kind os

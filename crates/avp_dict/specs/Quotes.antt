@@ -25,7 +25,7 @@ quoted_octet o =
 unfoldable pub quoted : List ℕ → List ℕ
 quoted octets = 34 ∷ flat_map quoted_octet octets ++ 34 ∷ []
 
--- what stands between the quotes of a quoted text
+-- what is between the quotes of a quoted text
 abbrev pub between_quotes : List ℕ → List ℕ
 between_quotes text = take (length text - 2) (drop 1 text)
 

@@ -13,7 +13,7 @@ use Rattle.avp_dict.specs.Words.{is_blank, is_hash}
 
 -- ---- tokens
 
--- what stands in a line outside its comment: blanks, commas, the `=` between a name and its value, runs of other octets,
+-- what is in a line outside its comment: blanks, commas, the `=` between a name and its value, runs of other octets,
 -- texts between quotes, and a quote that nothing ends on its line
 pub data Token : Type 0 where
   Blank : Token
@@ -23,7 +23,7 @@ pub data Token : Type 0 where
   Quoted : QuoteMark → List ℕ → Token
   Unended : Token
 
--- where an octet stands: outside quotes, on the side of the name or of the value; between quotes; or there after a `\`
+-- where an octet is: outside quotes, on the side of the name or of the value; between quotes; or there after a `\`
 pub data Place : Type 0 where
   Outside : Side → Place
   Between : QuoteMark → Place
@@ -127,7 +127,7 @@ abbrev pub without_front : (List ℕ → Bool) → List (List ℕ) → List (Lis
 without_front test [] = []
 without_front test (line ∷ lines) = if test line then without_front test lines else line ∷ lines
 
--- the lines of a packet: the first line of blanks alone ends it, and no pair may stand after that
+-- the lines of a packet: the first line of blanks alone ends it, and no pair may come after that
 unfoldable pub packet_assignments : List (List ℕ) → Option (List Assignment)
 packet_assignments [] = Some []
 packet_assignments (line ∷ lines) =

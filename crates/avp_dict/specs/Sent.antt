@@ -7,8 +7,9 @@ use Rattle.avp_lists.specs.declared.attributes.Value.{Value}
 use Rattle.avp_lists.specs.declared.attributes.Value.TheVariants.{Raw}
 use Rattle.avp_lists.specs.declared.attributes.Pair.{Pair}
 use Rattle.avp_lists.specs.Pairs.{value_eq}
+use Rattle.avp_dict.specs.AttributeNumbers.{is_extended_type, most_plain, vendor_specific}
 use Rattle.avp_dict.specs.Dictionary.{Dictionary}
-use Rattle.avp_dict.specs.Octets.{is_hidden, octets, value_of_octets}
+use Rattle.avp_dict.specs.Octets.{is_hidden, most_hidden, octets, value_of_octets}
 use Rattle.avp_dict.specs.Limits.{fits}
 
 abbrev pub is_raw : Value → Bool
@@ -17,17 +18,17 @@ is_raw _ = false
 
 -- an attribute that only holds others (RFC 2865, section 5.26; RFC 6929, section 2)
 abbrev pub is_container : AttrId → Bool
-is_container (ids.Plain n) = (n == 26) || (nat_le 241 n && nat_le n 246)
+is_container (ids.Plain n) = (n == vendor_specific) || is_extended_type n
 is_container _ = false
 
 -- an attribute that is never sent
 abbrev pub is_internal : AttrId → Bool
-is_internal (ids.Plain n) = nat_lt 255 n
+is_internal (ids.Plain n) = nat_lt most_plain n
 is_internal _ = false
 
--- a length of hidden octets: 16, 32, .. 128 (RFC 2865, section 5.2)
+-- a length of hidden octets: 16, 32, .. up to the most (RFC 2865, section 5.2)
 abbrev pub is_block_length : ℕ → Bool
-is_block_length n = (n % 16 == 0) && nat_le 16 n && nat_le n 128
+is_block_length n = (n % 16 == 0) && nat_le 16 n && nat_le n most_hidden
 
 -- not what hidden octets are shown as
 abbrev pub is_shown : Value → Bool

@@ -1,5 +1,5 @@
 -- Type words and flags, and how the values of an attribute with them are read.
-use Rattle.std.specs.Prelude.{codes, ℕ, Bool, true, false, not, ◌&&◌, ◌||◌, ◌==◌, nat_le, if◌then◌else◌, List, Option, Some, None}
+use Rattle.std.specs.Prelude.{codes, ℕ, Bool, true, false, not, ◌&&◌, ◌||◌, ◌==◌, if◌then◌else◌, List, Option, Some, None}
 use Rattle.std.specs.Option.{unwrap_or}
 use Rattle.std.specs.List.{list_any, list_all}
 use Rattle.avp_lists.specs.declared.attributes.AttrId.{AttrId}
@@ -7,6 +7,7 @@ use Rattle.avp_lists.specs.declared.attributes.AttrId.TheVariants as ids
 use Rattle.avp_dict.specs.declared.entries.Kind.{Kind}
 use Rattle.avp_dict.specs.declared.entries.Kind.TheVariants as kinds
 use Rattle.avp_dict.specs.declared.entries.Typing.{Typing}
+use Rattle.avp_dict.specs.AttributeNumbers.{is_extended_type, message_authenticator, proxy_state, vendor_specific}
 use Rattle.avp_dict.specs.Words.{same_name}
 use Rattle.avp_dict.specs.Letters.{word_before_bracket}
 
@@ -45,7 +46,7 @@ is_text_kind _ = false
 
 -- Plain 26, 33, 80 and 241 to 246, whose line's type and flags are not looked at
 abbrev pub is_fixed : AttrId → Bool
-is_fixed (ids.Plain n) = (n == 26) || (n == 33) || (n == 80) || (nat_le 241 n && nat_le n 246)
+is_fixed (ids.Plain n) = (n == vendor_specific) || (n == proxy_state) || (n == message_authenticator) || is_extended_type n
 is_fixed _ = false
 
 abbrev pub typing_by : Option Kind → Bool → Bool → Typing

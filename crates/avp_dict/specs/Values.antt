@@ -13,7 +13,7 @@ use Rattle.avp_dict.specs.declared.faults.DictKind.{DictKind}
 use Rattle.avp_dict.specs.declared.faults.DictKind.TheVariants.{OutOfRange, NoAttribute, OtherValue}
 use Rattle.avp_dict.specs.declared.faults.DictFault.{DictFault}
 use Rattle.avp_dict.specs.Dictionary.{Dictionary, id_named, number_named, typing_of_id}
-use Rattle.avp_dict.specs.Letters.{is_word_octet}
+use Rattle.avp_dict.specs.Letters.{is_word_octet, most_name}
 use Rattle.avp_dict.specs.Meanings.{Meaning, Skipped, SkippedAttribute, Attribute, Value, BeginVendor, BeginTlv, End, Reading}
 use Rattle.avp_dict.specs.Settled.{is_kept}
 use Rattle.avp_dict.specs.Steps.{◌>>=◌, refused_at}
@@ -29,7 +29,7 @@ abbrev pub reads_as_number : List ℕ → Bool
 reads_as_number word = is_some (if begins_hexadecimal word then digits 16 (drop 2 word) else digits 10 word)
 
 unfoldable pub is_value_name : List ℕ → Bool
-is_value_name name = list_all is_word_octet name && nat_le (length name) 128 && not (reads_as_number name)
+is_value_name name = list_all is_word_octet name && nat_le (length name) most_name && not (reads_as_number name)
 
 -- ---- a VALUE line
 
@@ -61,7 +61,7 @@ value_up_to values id name number (Some most) =
 abbrev pub is_same_name : List ℕ → List ℕ → Bool
 is_same_name name other = same_name other name
 
--- a VALUE line of this attribute's name; without such an attribute a note if the name stands on a skipped ATTRIBUTE line
+-- a VALUE line of this attribute's name; without such an attribute a note if the name is that of a skipped ATTRIBUTE line
 unfoldable pub value_of : List (List ℕ) → Dictionary → List ℕ → List ℕ → ℕ → Option AttrId → Result (Option ValueLine) DictKind
 value_of skipped dictionary attribute name number (Some id) =
     value_up_to dictionary.values id name number (option_and_then most_of_typing (typing_of_id id dictionary.attributes))

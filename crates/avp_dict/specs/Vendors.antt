@@ -5,9 +5,10 @@ use Rattle.avp_dict.specs.declared.faults.DictKind.{DictKind}
 use Rattle.avp_dict.specs.declared.faults.DictKind.TheVariants.{Unreadable, OutOfRange, OtherNumber}
 use Rattle.avp_dict.specs.declared.entries.VendorFormat.{VendorFormat}
 use Rattle.avp_dict.specs.declared.entries.VendorLine.{VendorLine}
+use Rattle.avp_dict.specs.AttributeNumbers.{greatest_number}
 use Rattle.avp_dict.specs.Meanings.{Meaning, Vendor}
 use Rattle.avp_dict.specs.Words.{same_name, number_of}
-use Rattle.avp_dict.specs.Letters.{is_comma, is_visible}
+use Rattle.avp_dict.specs.Letters.{is_comma, is_visible, most_name}
 use Rattle.avp_dict.specs.Steps.{◌>>=◌}
 use Rattle.avp_dict.specs.Dictionary.{vendor_named}
 
@@ -19,7 +20,7 @@ abbrev pub bounded : ℕ → List ℕ → Result ℕ DictKind
 bounded most word = elim (number_of word) [ None ↦ Err Unreadable | Some n ↦ at_most most n ]
 
 unfoldable pub is_vendor_name : List ℕ → Bool
-is_vendor_name name = list_all is_visible name && nat_le (length name) 128
+is_vendor_name name = list_all is_visible name && nat_le (length name) most_name
 
 -- 1, 2 or 4 octets of type, and at most 2 of length
 abbrev pub is_format : ℕ → ℕ → Bool
@@ -52,7 +53,7 @@ vendor_numbered vendors name f n = if is_other_vendor n (vendor_named name vendo
 
 unfoldable pub vendor_line : List VendorLine → List ℕ → List ℕ → Option VendorFormat → Result Meaning DictKind
 vendor_line vendors name number None = Err Unreadable
-vendor_line vendors name number (Some f) = if is_vendor_name name then (bounded 4294967295 number >>= vendor_numbered vendors name f) else Err Unreadable
+vendor_line vendors name number (Some f) = if is_vendor_name name then (bounded greatest_number number >>= vendor_numbered vendors name f) else Err Unreadable
 
 unfoldable pub vendor : List VendorLine → List (List ℕ) → Result Meaning DictKind
 vendor vendors (name ∷ number ∷ []) = vendor_line vendors name number (Some standard_format)

@@ -10,6 +10,7 @@ ghost use Rattle.avp_dict.specs.code.Meanings.{context_view};
 ghost use Rattle.avp_dict.specs.code.Outcomes.{Gives, Means};
 ghost use Rattle.avp_dict.specs.code.Views.{views};
 
+use crate::attribute_numbers::is_extended_type;
 use crate::context::Context;
 use crate::entries::VendorFormat;
 use crate::faults::{DictKind, LineError};
@@ -17,12 +18,12 @@ use crate::meanings::Meaning;
 use crate::numbers::{MOST_NUMBER, Number, read_number};
 use crate::parts::parts_between;
 use crate::tables::{Attributes, Vendors};
-use crate::types::{are_known, typing_for};
-use crate::words::is_same_name;
+use crate::types::{are_flags, typing_of};
+use crate::words::{MOST_NAME, is_same_name};
 use avp_lists::AttrId;
 use std::alloc::Global;
 
-fn most_held(octets: u8) -> u64
+fn most_in(octets: u8) -> u64
     ensures most { result ≡ most_in octets }
     ensures within { result ≤ MOST_NUMBER }
 {
@@ -38,10 +39,10 @@ pub fn is_held(number: u64, format: VendorFormat) -> bool
     ensures test { result ≡ is_held number format }
     ensures within { IsTrue result → number ≤ MOST_NUMBER }
 {
-    number <= most_held(format.t)
+    number <= most_in(format.t)
 }
 
-fn id_in_format(vendor: u32, number: u32, format: Option<VendorFormat>) -> Option<AttrId>
+fn vendor_id(vendor: u32, number: u32, format: Option<VendorFormat>) -> Option<AttrId>
     ensures { result ≡ vendor_id vendor number format }
 {
     match format {
@@ -57,17 +58,17 @@ fn id_in_format(vendor: u32, number: u32, format: Option<VendorFormat>) -> Optio
 }
 
 #[tactic(auto, unfolding(crate::specs::Attributes::number_id))]
-fn id_by_number(vendors: &Vendors, block: Option<u32>, number: u32) -> Option<AttrId>
+fn number_id(vendors: &Vendors, block: Option<u32>, number: u32) -> Option<AttrId>
     ensures { result ≡ number_id vendors.now block number }
 {
     match block {
         None => Some(AttrId::Plain(number)),
-        Some(vendor) => id_in_format(vendor, number, vendors.format_of(vendor)),
+        Some(vendor) => vendor_id(vendor, number, vendors.format_of(vendor)),
     }
 }
 
 #[tactic(auto, unfolding(crate::specs::Attributes::number_word))]
-fn read_plain_id(
+fn number_word(
     vendors: &Vendors,
     block: Option<u32>,
     number: Number,
@@ -79,7 +80,7 @@ fn read_plain_id(
         Number::TooGreat => Err(LineError::Refused(DictKind::OutOfRange)),
         Number::Is(number) => {
             if number <= MOST_NUMBER {
-                Ok(id_by_number(vendors, block, number as u32))
+                Ok(number_id(vendors, block, number as u32))
             } else {
                 Err(LineError::Refused(DictKind::OutOfRange))
             }
@@ -91,14 +92,14 @@ fn read_plain_id(
 pub fn extended_id(least: u64, t: u64, x: u64) -> Option<AttrId>
     ensures { result ≡ if is_extended least t x then Some (Extended t x) else None }
 {
-    if t >= 241 && t <= 246 && x >= least && x <= 255 {
+    if is_extended_type(t) && x >= least && x <= 255 {
         Some(AttrId::Extended(t as u8, x as u8))
     } else {
         None
     }
 }
 
-fn read_dotted_id(block: Option<u32>, t: Number, x: Number) -> Result<Option<AttrId>, LineError>
+fn dotted_word(block: Option<u32>, t: Number, x: Number) -> Result<Option<AttrId>, LineError>
     ensures { (m n : Option ℕ) → Reads t m → Reads x n → Gives result (dotted_word block m n) }
 {
     match t {
@@ -122,7 +123,7 @@ fn read_dotted_id(block: Option<u32>, t: Number, x: Number) -> Result<Option<Att
     }
 }
 
-fn is_readable(word: &[u8]) -> bool
+fn is_number(word: &[u8]) -> bool
     ensures { result ≡ is_number word.now }
 {
     match read_number(word) {
@@ -137,7 +138,7 @@ fn are_readable(parts: &[&[u8]]) -> bool
 {
     let mut rest = parts;
     while let [part, after @ ..] = rest {
-        if !is_readable(part) {
+        if !is_number(part) {
             return false;
         }
         rest = after;
@@ -145,7 +146,7 @@ fn are_readable(parts: &[&[u8]]) -> bool
     true
 }
 
-fn read_many(parts: &[&[u8]]) -> Result<Option<AttrId>, LineError>
+fn many_words(parts: &[&[u8]]) -> Result<Option<AttrId>, LineError>
     ensures { Gives result (many_words (views parts.now)) }
 {
     if are_readable(parts) {
@@ -156,7 +157,7 @@ fn read_many(parts: &[&[u8]]) -> Result<Option<AttrId>, LineError>
 }
 
 #[tactic(auto, unfolding(crate::specs::Attributes::id_word))]
-fn read_id(
+fn id_word(
     vendors: &Vendors,
     block: Option<u32>,
     parts: &[&[u8]],
@@ -164,29 +165,29 @@ fn read_id(
     ensures { Gives result (id_word vendors.now block (views parts.now)) }
 {
     match parts {
-        [number] => read_plain_id(vendors, block, read_number(number)),
-        [t, x] => read_dotted_id(block, read_number(t), read_number(x)),
-        _ => read_many(parts),
+        [number] => number_word(vendors, block, read_number(number)),
+        [t, x] => dotted_word(block, read_number(t), read_number(x)),
+        _ => many_words(parts),
     }
 }
 
-fn is_letter_octet(octet: u8) -> bool
+fn is_letter(octet: u8) -> bool
     ensures { result ≡ is_letter octet }
 {
     (octet >= b'a' && octet <= b'z') || (octet >= b'A' && octet <= b'Z')
 }
 
-fn is_decimal_octet(octet: u8) -> bool
+fn is_decimal(octet: u8) -> bool
     ensures { result ≡ is_decimal octet }
 {
     octet >= b'0' && octet <= b'9'
 }
 
-pub fn is_octet_of_name(octet: u8) -> bool
+pub fn is_name_octet(octet: u8) -> bool
     ensures { result ≡ is_name_octet octet }
 {
-    is_letter_octet(octet)
-        || is_decimal_octet(octet)
+    is_letter(octet)
+        || is_decimal(octet)
         || octet == b'-'
         || octet == b'_'
         || octet == b'.'
@@ -196,21 +197,21 @@ pub fn is_octet_of_name(octet: u8) -> bool
 fn are_octets_of_name(name: &[u8]) -> bool
     ensures { result ≡ list_all is_name_octet name.now }
 {
-    name.iter().all(|octet| is_octet_of_name(*octet))
+    name.iter().all(|octet| is_name_octet(*octet))
 }
 
 /// Whether a name begins with `Attr-` and a digit.
-pub fn has_attr_front(name: &[u8]) -> bool
+pub fn begins_as_attr(name: &[u8]) -> bool
     ensures { result ≡ begins_as_attr name.now }
 {
-    name.len() >= 6 && is_same_name(&name[..5], b"attr-") && is_decimal_octet(name[5])
+    name.len() >= 6 && is_same_name(&name[..5], b"attr-") && is_decimal(name[5])
 }
 
 #[tactic(auto, unfolding(crate::specs::Attributes::is_attribute_name))]
-fn names_attribute(name: &[u8]) -> bool
+fn is_attribute_name(name: &[u8]) -> bool
     ensures { result ≡ is_attribute_name name.now }
 {
-    are_octets_of_name(name) && name.len() <= 128 && !has_attr_front(name)
+    are_octets_of_name(name) && name.len() <= MOST_NAME && !begins_as_attr(name)
 }
 
 fn is_of_other_id(id: AttrId, found: Option<AttrId>) -> bool
@@ -223,7 +224,7 @@ fn is_of_other_id(id: AttrId, found: Option<AttrId>) -> bool
 }
 
 #[tactic(auto, unfolding(crate::specs::Attributes::attribute_of))]
-fn read_attribute_of<'a>(
+fn attribute_of<'a>(
     attributes: &Attributes,
     name: &'a [u8],
     kind: &[u8],
@@ -235,19 +236,19 @@ fn read_attribute_of<'a>(
     match id {
         None => Ok(Meaning::SkippedAttribute(name)),
         Some(id) => {
-            if !names_attribute(name) || !are_known(flags) {
+            if !is_attribute_name(name) || !are_flags(flags) {
                 return Ok(Meaning::SkippedAttribute(name));
             }
             if is_of_other_id(id, attributes.id_named(name)) {
                 return Err(LineError::Refused(DictKind::OtherNumber));
             }
-            Ok(Meaning::Attribute(name, id, typing_for(id, kind, flags)))
+            Ok(Meaning::Attribute(name, id, typing_of(id, kind, flags)))
         }
     }
 }
 
 #[tactic(auto, unfolding(crate::specs::Attributes::attribute_line))]
-fn read_attribute_line<'a>(
+fn attribute_line<'a>(
     alloc: Global,
     before: &Context<'_>,
     block: Option<u32>,
@@ -259,8 +260,8 @@ fn read_attribute_line<'a>(
     ensures { Means result (attribute_line (context_view before.now) block name.now number.now kind.now (views flags.now)) }
 {
     let parts = parts_between(alloc, b'.', number)?;
-    let id = read_id(&before.vendors, block, &parts)?;
-    read_attribute_of(&before.attributes, name, kind, flags, id)
+    let id = id_word(&before.vendors, block, &parts)?;
+    attribute_of(&before.attributes, name, kind, flags, id)
 }
 
 /// An ATTRIBUTE line after its keyword.
@@ -274,10 +275,10 @@ pub fn read_attribute<'a>(
     ensures { Means result (attribute (context_view before.now) block (views words.now)) }
 {
     match words {
-        [name, number, kind] => read_attribute_line(alloc, before, block, name, number, kind, &[]),
+        [name, number, kind] => attribute_line(alloc, before, block, name, number, kind, &[]),
         [name, number, kind, flags] => {
             let flags = parts_between(alloc, b',', flags)?;
-            read_attribute_line(alloc, before, block, name, number, kind, &flags)
+            attribute_line(alloc, before, block, name, number, kind, &flags)
         }
         _ => Err(LineError::Refused(DictKind::Unreadable)),
     }

@@ -11,6 +11,7 @@ ghost use Rattle.avp_dict.specs.code.Views.{views};
 use crate::context::{innermost, is_skipping};
 use crate::entries::VendorFormat;
 use crate::faults::{DictKind, LineError};
+use crate::gather::MOST_DEPTH;
 use crate::keywords::DOLLAR_INCLUDE;
 use crate::meanings::{Meaning, Reading};
 use crate::tables::Vendors;
@@ -52,7 +53,7 @@ fn is_in_tlv(opened: &[Reading<'_>], name: &[u8]) -> bool
     }
 }
 
-fn end_if<'a>(fits: bool, opened: &[Reading<'_>]) -> Result<Meaning<'a>, LineError>
+fn ended<'a>(fits: bool, opened: &[Reading<'_>]) -> Result<Meaning<'a>, LineError>
     ensures { Means result (ended fits (reading_views opened.now)) }
 {
     if fits {
@@ -63,33 +64,27 @@ fn end_if<'a>(fits: bool, opened: &[Reading<'_>]) -> Result<Meaning<'a>, LineErr
 }
 
 #[tactic(auto, unfolding(crate::specs::Blocks::end_vendor))]
-pub fn read_end_vendor<'a>(
-    opened: &[Reading<'_>],
-    words: &[&'a [u8]],
-) -> Result<Meaning<'a>, LineError>
+pub fn end_vendor<'a>(opened: &[Reading<'_>], words: &[&'a [u8]]) -> Result<Meaning<'a>, LineError>
     ensures { Means result (end_vendor (reading_views opened.now) (views words.now)) }
 {
     match words {
-        [name] => end_if(is_in_vendor(opened, name), opened),
+        [name] => ended(is_in_vendor(opened, name), opened),
         _ => Err(LineError::Refused(DictKind::Unreadable)),
     }
 }
 
 #[tactic(auto, unfolding(crate::specs::Blocks::end_tlv))]
-pub fn read_end_tlv<'a>(
-    opened: &[Reading<'_>],
-    words: &[&'a [u8]],
-) -> Result<Meaning<'a>, LineError>
+pub fn end_tlv<'a>(opened: &[Reading<'_>], words: &[&'a [u8]]) -> Result<Meaning<'a>, LineError>
     ensures { Means result (end_tlv (reading_views opened.now) (views words.now)) }
 {
     match words {
-        [name] => end_if(is_in_tlv(opened, name), opened),
+        [name] => ended(is_in_tlv(opened, name), opened),
         _ => Err(LineError::Refused(DictKind::Unreadable)),
     }
 }
 
 #[tactic(auto, unfolding(crate::specs::Blocks::begin_tlv))]
-pub fn read_begin_tlv<'a>(words: &[&'a [u8]]) -> Result<Meaning<'a>, LineError>
+pub fn begin_tlv<'a>(words: &[&'a [u8]]) -> Result<Meaning<'a>, LineError>
     ensures { Means result (begin_tlv (views words.now)) }
 {
     match words {
@@ -121,7 +116,7 @@ fn begin_known<'a>(vendors: &Vendors, name: &'a [u8]) -> Result<Meaning<'a>, Lin
 }
 
 #[tactic(auto, unfolding(crate::specs::Blocks::begin_vendor))]
-pub fn read_begin_vendor<'a>(
+pub fn begin_vendor<'a>(
     vendors: &Vendors,
     opened: &[Reading<'_>],
     words: &[&'a [u8]],
@@ -141,7 +136,11 @@ pub fn read_begin_vendor<'a>(
     }
 }
 
-fn follow<'a>(required: bool, found: Option<usize>, depth: usize) -> Result<Meaning<'a>, LineError>
+fn include_line<'a>(
+    required: bool,
+    found: Option<usize>,
+    depth: usize,
+) -> Result<Meaning<'a>, LineError>
     ensures { Means result (include_line required found depth) }
 {
     match found {
@@ -153,7 +152,7 @@ fn follow<'a>(required: bool, found: Option<usize>, depth: usize) -> Result<Mean
             }
         }
         Some(_) => {
-            if depth < 8 {
+            if depth < MOST_DEPTH {
                 Ok(Meaning::Nothing)
             } else {
                 Err(LineError::Refused(DictKind::TooDeep))
@@ -163,7 +162,7 @@ fn follow<'a>(required: bool, found: Option<usize>, depth: usize) -> Result<Mean
 }
 
 #[tactic(auto, unfolding(crate::specs::Readings::include))]
-pub fn read_include<'a>(
+pub fn include<'a>(
     found: Option<usize>,
     depth: usize,
     head: &[u8],
@@ -172,7 +171,7 @@ pub fn read_include<'a>(
     ensures { Means result (include found depth head.now (views words.now)) }
 {
     match words {
-        [_] => follow(is_same_name(head, DOLLAR_INCLUDE), found, depth),
+        [_] => include_line(is_same_name(head, DOLLAR_INCLUDE), found, depth),
         _ => Err(LineError::Refused(DictKind::Unreadable)),
     }
 }

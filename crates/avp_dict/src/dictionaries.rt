@@ -1,7 +1,7 @@
-ghost use Rattle.std.specs.Prelude.{◌≡◌, ◌<◌, ◌^◌, length, All, IfOk, IfErr};
+ghost use Rattle.std.specs.Prelude.{◌≡◌, ◌<◌, ◌^◌, length, slice_get, All, IfOk, IfErr};
 ghost use Rattle.std.specs.Option.{option_map, option_copied};
 ghost use Rattle.avp_dict.specs.Counts.{counts_of};
-ghost use Rattle.avp_dict.specs.Dictionary.{name_numbered, number_named, typing_of_id};
+ghost use Rattle.avp_dict.specs.Dictionary.{first_names, name_numbered, number_named, typing_of_id};
 ghost use Rattle.avp_dict.specs.DictionaryReading.{dictionary_of, most_lines};
 ghost use Rattle.avp_dict.specs.Lines.{HasDistinctNames};
 ghost use Rattle.avp_dict.specs.Names.{described, named, unless_three, vendor_format};
@@ -11,7 +11,7 @@ ghost use Rattle.avp_dict.specs.Soundness.{IsSound};
 ghost use Rattle.avp_dict.specs.code.Contents.{contents_view};
 ghost use Rattle.avp_dict.specs.code.Entries.{entry_view};
 
-use crate::attributes::has_attr_front;
+use crate::attributes::begins_as_attr;
 use crate::contents::Contents;
 use crate::entries::{Counts, Entry, Format, Named, Note, Typing, VendorFormat};
 use crate::faults::DictFault;
@@ -104,7 +104,7 @@ impl Dictionary {
     pub fn by_name(&self, name: &[u8]) -> Option<Named>
         ensures { result ≡ named name.now self.now }
     {
-        if has_attr_front(name) {
+        if begins_as_attr(name) {
             match id_by_numbers(&self.contents.vendors, &name[5..]) {
                 Some(id) => Some(Named { id, raw: true }),
                 None => None,
@@ -132,6 +132,13 @@ impl Dictionary {
         }
     }
 
+    /// An attribute's name in lower case, by its place among the names in the order of their first used lines.
+    pub fn attribute_name(&self, at: usize) -> Option<&[u8]>
+        ensures { option_copied result ≡ slice_get (first_names self.now.attributes) at }
+    {
+        self.contents.attributes.name(at)
+    }
+
     /// The format of a vendor's attributes; none too where it has a third part.
     #[tactic(auto, unfolding(crate::specs::Names::vendor_format))]
     pub fn vendor(&self, number: u32) -> Option<Format>
@@ -143,7 +150,7 @@ impl Dictionary {
         }
     }
 
-    /// Where lines stand that were skipped, in the order of the lines.
+    /// Where the skipped lines are, in their order.
     pub fn notes(&self) -> &[Note]
         ensures { result.now ≡ self.now.notes }
     {

@@ -100,7 +100,7 @@ pub struct Format {
     pub l: u8,
 }
 
-/// Where a line stands that was skipped.
+/// Where a skipped line is.
 #[derive(Clone, Copy, Debug, PartialEq, Eq)]
 pub struct Note {
     /// The file's place in the set.

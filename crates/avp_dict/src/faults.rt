@@ -52,7 +52,7 @@ pub struct DictFault {
     pub kind: DictKind,
 }
 
-/// Why one line is not read: the line's own fault stands apart from want of memory.
+/// Why one line is not read: for want of memory, or by the line's own fault.
 #[derive(Clone, Copy, Debug)]
 pub(crate) enum LineError {
     Memory,

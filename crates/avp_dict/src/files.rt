@@ -66,7 +66,7 @@ impl FileSet {
     pub fn has_distinct_names(&self) -> bool
         ensures { IsTrue result ↔ HasDistinctNames self.now }
     {
-        are_distinct(&self.files)
+        names_differ(&self.files)
     }
 }
 
@@ -76,7 +76,7 @@ fn is_named(files: &[NamedFile], name: &[u8]) -> bool
     files.iter().any(|file| file.name.as_slice() == name)
 }
 
-fn are_distinct(files: &[NamedFile]) -> bool
+fn names_differ(files: &[NamedFile]) -> bool
     ensures { result ≡ names_differ files.now }
 {
     let mut rest = files;
@@ -89,7 +89,7 @@ fn are_distinct(files: &[NamedFile]) -> bool
     true
 }
 
-/// What stands after the last `/` of a path: the name by which a file is handed in and included.
+/// What follows the last `/` of a path: the name by which a file is given and included.
 pub fn last_component(path: &[u8]) -> &[u8]
     ensures { result.now ≡ last_component path.now }
 {

@@ -13,10 +13,12 @@ use crate::words::is_same_name;
 
 /// How many lines are read, counted as often as they are read.
 pub const MOST_LINES: usize = 200_000;
+/// Includes go so many files deep.
+pub const MOST_DEPTH: usize = 8;
 /// How many files may be open, each included by the one before it.
-pub const MOST_LEVELS: usize = 9;
+pub const MOST_LEVELS: usize = MOST_DEPTH + 1;
 
-/// A line, where it stands, and how many includes led to it.
+/// A line, where it is, and how many includes led to it.
 #[derive(Clone, Copy, Debug)]
 pub struct Line<'a> {
     pub file: usize,
@@ -42,14 +44,14 @@ pub fn split_line(text: &[u8]) -> (&[u8], &[u8])
     }
 }
 
-fn place_of(files: &[NamedFile], name: &[u8]) -> Option<usize>
+fn file_named(files: &[NamedFile], name: &[u8]) -> Option<usize>
     ensures place { result ≡ file_named name.now files.now }
     ensures within { IfSome result (λ place. place < length files.now) }
 {
     files.iter().position(|file| file.name.as_slice() == name)
 }
 
-pub fn is_include_word(word: &[u8]) -> bool
+pub fn is_include(word: &[u8]) -> bool
     ensures { result ≡ is_include word.now }
 {
     is_same_name(word, DOLLAR_INCLUDE) || is_same_name(word, DOLLAR_INCLUDE_IF_THERE)
@@ -59,7 +61,7 @@ fn included<'a>(words: &[&'a [u8]]) -> Option<&'a [u8]>
     ensures { option_copied result ≡ included_by (views words.now) }
 {
     match words {
-        [head, path] if is_include_word(head) => Some(last_component(path)),
+        [head, path] if is_include(head) => Some(last_component(path)),
         _ => None,
     }
 }
@@ -69,7 +71,7 @@ pub fn place_included(files: &[NamedFile], words: &[&[u8]]) -> Option<usize>
     ensures { result ≡ option_and_then (λ name. file_named name files.now) (included_by (views words.now)) }
 {
     match included(words) {
-        Some(name) => place_of(files, name),
+        Some(name) => file_named(files, name),
         None => None,
     }
 }

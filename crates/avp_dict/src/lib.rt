@@ -6,6 +6,7 @@
 //! [`text_of_value`](Dictionary::text_of_value)) and reads requests ([`read_request`](Dictionary::read_request)).
 #![tactic(auto)]
 
+mod attribute_numbers;
 mod attributes;
 mod blocks;
 mod contents;

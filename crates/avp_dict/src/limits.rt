@@ -5,16 +5,17 @@ ghost use Rattle.std.specs.Option.{option_map_or};
 ghost use Rattle.avp_dict.specs.Limits.{extended_room, fits, greatest_length, is_known, is_of_kind, is_typed, is_value_within, is_within, most_number, most_octets, vendor_room};
 ghost use Rattle.avp_dict.specs.Octets.{ends_in_nul, number_octets, octets_of};
 
+use crate::attribute_numbers::{MOST_PLAIN, is_extended_type};
 use crate::dictionaries::Dictionary;
 use crate::entries::{Format, Kind};
-use crate::value_octets::{MOST_HIDDEN_OCTETS, is_last_nul};
-use crate::values::most_of_kind;
+use crate::value_octets::{MOST_HIDDEN_OCTETS, ends_in_nul};
+use crate::values::most_of;
 use avp_lists::{AttrId, Pair, Value};
 
 // A packet has at most 4096 octets, and 4012 of one value in 16 fragments fill it (RFC 6929, section 2.2).
 const MOST_LONG_OCTETS: usize = 4012;
 
-fn room_of_vendor(format: Format) -> usize
+fn vendor_room(format: Format) -> usize
     ensures { result ≡ vendor_room format }
 {
     249usize
@@ -22,7 +23,7 @@ fn room_of_vendor(format: Format) -> usize
         .saturating_sub(usize::from(format.l))
 }
 
-fn room_of_extended(t: u8) -> usize
+fn extended_room(t: u8) -> usize
     ensures { result ≡ extended_room t }
 {
     match t {
@@ -33,25 +34,25 @@ fn room_of_extended(t: u8) -> usize
 }
 
 // The greatest number of a type.
-fn most_number_of(kind: Kind) -> Option<u64>
+fn most_number(kind: Kind) -> Option<u64>
     ensures { result ≡ most_number kind }
 {
     match kind {
         Kind::Date => Some(4_294_967_295),
-        other => most_of_kind(other),
+        other => most_of(other),
     }
 }
 
 fn is_number_of(number: u64, kind: Kind) -> bool
     ensures { result ≡ is_of_kind (Value.Int number) kind }
 {
-    match most_number_of(kind) {
+    match most_number(kind) {
         Some(most) => number <= most,
         None => false,
     }
 }
 
-fn is_value_of(value: &Value, kind: Kind) -> bool
+fn is_of_kind(value: &Value, kind: Kind) -> bool
     ensures { result ≡ is_of_kind value.now kind }
 {
     match (value, kind) {
@@ -97,13 +98,13 @@ fn ends_with_nul(kind: Option<Kind>, value: &Value) -> bool
     ensures { result ≡ ends_in_nul (octets_of kind value.now) }
 {
     match value {
-        Value::Text(octets) => is_last_nul(octets.as_slice()),
-        Value::Bytes(octets) => is_last_nul(octets.as_slice()),
+        Value::Text(octets) => ends_in_nul(octets.as_slice()),
+        Value::Bytes(octets) => ends_in_nul(octets.as_slice()),
         Value::Int(number) => number % 256 == 0,
-        Value::Signed(number) => is_last_nul(&number.cast_unsigned().to_be_bytes()),
-        Value::Addr(address) => is_last_nul(address),
-        Value::Ether(address) => is_last_nul(address),
-        Value::Raw(octets) => is_last_nul(octets.as_slice()),
+        Value::Signed(number) => ends_in_nul(&number.cast_unsigned().to_be_bytes()),
+        Value::Addr(address) => ends_in_nul(address),
+        Value::Ether(address) => ends_in_nul(address),
+        Value::Raw(octets) => ends_in_nul(octets.as_slice()),
     }
 }
 
@@ -114,12 +115,18 @@ impl Dictionary {
         ensures { result ≡ most_octets id self.now }
     {
         match id {
-            AttrId::Plain(number) => { if number <= 255 { 253 } else { MOST_LONG_OCTETS } }
+            AttrId::Plain(number) => {
+                if number <= MOST_PLAIN {
+                    253
+                } else {
+                    MOST_LONG_OCTETS
+                }
+            }
             AttrId::Vendor(vendor, _) => match self.vendor(vendor) {
-                Some(format) => room_of_vendor(format),
+                Some(format) => vendor_room(format),
                 None => 0,
             },
-            AttrId::Extended(t, _) => room_of_extended(t),
+            AttrId::Extended(t, _) => extended_room(t),
         }
     }
 
@@ -144,7 +151,7 @@ impl Dictionary {
         match id {
             AttrId::Plain(_) => true,
             AttrId::Vendor(vendor, number) => self.is_in_format(vendor, number),
-            AttrId::Extended(t, _) => t >= 241 && t <= 246,
+            AttrId::Extended(t, _) => is_extended_type(u64::from(t)),
         }
     }
 
@@ -155,7 +162,7 @@ impl Dictionary {
         match value {
             Value::Raw(_) => true,
             other => match self.kind(id) {
-                Some(kind) => is_value_of(other, kind),
+                Some(kind) => is_of_kind(other, kind),
                 None => false,
             },
         }

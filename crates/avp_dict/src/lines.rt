@@ -7,12 +7,10 @@ ghost use Rattle.avp_dict.specs.code.Outcomes.{Means};
 ghost use Rattle.avp_dict.specs.code.Views.{views};
 
 use crate::attributes::read_attribute;
-use crate::blocks::{
-    read_begin_tlv, read_begin_vendor, read_end_tlv, read_end_vendor, read_include,
-};
+use crate::blocks::{begin_tlv, begin_vendor, end_tlv, end_vendor, include};
 use crate::context::{Context, block_vendor, is_skipping};
 use crate::faults::{DictKind, LineError};
-use crate::gather::is_include_word;
+use crate::gather::is_include;
 use crate::keywords::{ATTRIBUTE, BEGIN_TLV, BEGIN_VENDOR, END_TLV, END_VENDOR, VALUE, VENDOR};
 use crate::meanings::Meaning;
 use crate::numbers::{MOST_VALUE, number_up_to};
@@ -20,7 +18,7 @@ use crate::vendors::read_vendor;
 use crate::words::is_same_name;
 use std::alloc::Global;
 
-fn define_value<'a>(
+fn value_words<'a>(
     attribute: &'a [u8],
     name: &'a [u8],
     number: &[u8],
@@ -36,7 +34,7 @@ fn read_value<'a>(words: &[&'a [u8]]) -> Result<Meaning<'a>, LineError>
     ensures { Means result (value (views words.now)) }
 {
     match words {
-        [attribute, name, number] => define_value(attribute, name, number),
+        [attribute, name, number] => value_words(attribute, name, number),
         _ => Err(LineError::Refused(DictKind::Unreadable)),
     }
 }
@@ -57,7 +55,7 @@ fn skip_line<'a>(head: &[u8], words: &[&'a [u8]]) -> Meaning<'a>
 }
 
 #[tactic(auto, unfolding(crate::specs::Readings::plain_line))]
-fn read_plain_line<'a>(
+fn plain_line<'a>(
     alloc: Global,
     before: &Context<'_>,
     block: Option<u32>,
@@ -79,7 +77,7 @@ fn read_plain_line<'a>(
 
 // The words of a line after the first.
 #[tactic(auto, unfolding(crate::specs::Readings::read_head))]
-fn read_by_head<'a>(
+fn read_head<'a>(
     alloc: Global,
     before: &Context<'_>,
     found: Option<usize>,
@@ -90,26 +88,26 @@ fn read_by_head<'a>(
     ensures { Means result (read_head (context_view before.now) found depth head.now (views words.now)) }
 {
     let opened = before.opened.as_slice();
-    if is_include_word(head) {
-        read_include(found, depth, head, words)
+    if is_include(head) {
+        include(found, depth, head, words)
     } else if is_same_name(head, BEGIN_VENDOR) {
-        read_begin_vendor(&before.vendors, opened, words)
+        begin_vendor(&before.vendors, opened, words)
     } else if is_same_name(head, END_VENDOR) {
-        read_end_vendor(opened, words)
+        end_vendor(opened, words)
     } else if is_same_name(head, BEGIN_TLV) {
-        read_begin_tlv(words)
+        begin_tlv(words)
     } else if is_same_name(head, END_TLV) {
-        read_end_tlv(opened, words)
+        end_tlv(opened, words)
     } else if is_skipping(opened) {
         Ok(skip_line(head, words))
     } else {
-        read_plain_line(alloc, before, block_vendor(opened), head, words)
+        plain_line(alloc, before, block_vendor(opened), head, words)
     }
 }
 
 /// What the words of a line are read as, by what the lines before it leave.
 #[tactic(auto, unfolding(crate::specs::Readings::read_words))]
-pub fn read_line_words<'a>(
+pub fn read_words<'a>(
     alloc: Global,
     before: &Context<'_>,
     found: Option<usize>,
@@ -120,6 +118,6 @@ pub fn read_line_words<'a>(
 {
     match words {
         [] => Ok(Meaning::Nothing),
-        [head, rest @ ..] => read_by_head(alloc, before, found, depth, head, rest),
+        [head, rest @ ..] => read_head(alloc, before, found, depth, head, rest),
     }
 }

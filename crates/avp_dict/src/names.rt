@@ -6,6 +6,7 @@ ghost use Rattle.avp_dict.specs.Letters.{is_dot};
 ghost use Rattle.avp_dict.specs.Names.{extended_numbered, id_numbered, is_vendor_specific, plain_numbered, vendor_id_numbered};
 ghost use Rattle.avp_dict.specs.code.Numbers.{Reads};
 
+use crate::attribute_numbers::{MOST_PLAIN, VENDOR_SPECIFIC};
 use crate::attributes::extended_id;
 use crate::numbers::{MOST_NUMBER, Number, digits_of};
 use crate::parts::first_between;
@@ -13,14 +14,14 @@ use crate::settling::is_in_format;
 use crate::tables::Vendors;
 use avp_lists::AttrId;
 
-fn plain_by_number(n: Number) -> Option<AttrId>
+fn plain_numbered(n: Number) -> Option<AttrId>
     ensures { (number : Option ℕ) → Reads n number → result ≡ plain_numbered number }
 {
     match n {
         Number::Unreadable => None,
         Number::TooGreat => None,
         Number::Is(n) => {
-            if n <= 255 {
+            if n <= u64::from(MOST_PLAIN) {
                 Some(AttrId::Plain(n as u32))
             } else {
                 None
@@ -29,7 +30,7 @@ fn plain_by_number(n: Number) -> Option<AttrId>
     }
 }
 
-fn extended_by_number(t: Number, n: Number) -> Option<AttrId>
+fn extended_numbered(t: Number, n: Number) -> Option<AttrId>
     ensures { (first second : Option ℕ) → Reads t first → Reads n second → result ≡ extended_numbered first second }
 {
     match (t, n) {
@@ -56,7 +57,7 @@ fn id_of_vendor(vendors: &Vendors, v: u64, n: Number) -> Option<AttrId>
 }
 
 #[tactic(auto, using(crate::proofs::Numbered::vendor_past))]
-fn vendor_by_number(vendors: &Vendors, v: Number, n: Number) -> Option<AttrId>
+fn vendor_id_numbered(vendors: &Vendors, v: Number, n: Number) -> Option<AttrId>
     ensures { (vendor number : Option ℕ) → Reads v vendor → Reads n number → result ≡ vendor_id_numbered vendors.now vendor number }
 {
     match v {
@@ -66,13 +67,13 @@ fn vendor_by_number(vendors: &Vendors, v: Number, n: Number) -> Option<AttrId>
     }
 }
 
-fn is_vendor_type(t: Number) -> bool
+fn is_vendor_specific(t: Number) -> bool
     ensures { (number : Option ℕ) → Reads t number → result ≡ is_vendor_specific number }
 {
     match t {
         Number::Unreadable => false,
         Number::TooGreat => false,
-        Number::Is(t) => t == 26,
+        Number::Is(t) => t == u64::from(VENDOR_SPECIFIC),
     }
 }
 
@@ -82,8 +83,8 @@ fn id_by_parts(vendors: &Vendors, t: &[u8], v: &[u8], rest: &[u8]) -> Option<Att
 {
     match first_between(b'.', rest) {
         None => {
-            if is_vendor_type(digits_of(10, t)) {
-                vendor_by_number(vendors, digits_of(10, v), digits_of(10, rest))
+            if is_vendor_specific(digits_of(10, t)) {
+                vendor_id_numbered(vendors, digits_of(10, v), digits_of(10, rest))
             } else {
                 None
             }
@@ -97,9 +98,9 @@ pub fn id_by_numbers(vendors: &Vendors, numbers: &[u8]) -> Option<AttrId>
     ensures { result ≡ id_numbered vendors.now (slice_split is_dot numbers.now) }
 {
     match first_between(b'.', numbers) {
-        None => plain_by_number(digits_of(10, numbers)),
+        None => plain_numbered(digits_of(10, numbers)),
         Some((t, rest)) => match first_between(b'.', rest) {
-            None => extended_by_number(digits_of(10, t), digits_of(10, rest)),
+            None => extended_numbered(digits_of(10, t), digits_of(10, rest)),
             Some((v, rest)) => id_by_parts(vendors, t, v, rest),
         },
     }

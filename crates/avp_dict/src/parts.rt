@@ -13,7 +13,7 @@ fn separator_at(separator: u8, text: &[u8]) -> Option<usize>
     text.iter().position(|octet| *octet == separator)
 }
 
-/// What stands before the first separator, and after it.
+/// What is before the first separator, and after it.
 pub fn first_between(separator: u8, text: &[u8]) -> Option<(&[u8], &[u8])>
     ensures cut { IfSome result (λ x. slice_split (λ o. o == separator) text.now ≡ x.0.now ∷ slice_split (λ o. o == separator) x.1.now) }
     ensures shorter { IfSome result (λ x. length x.1.now < length text.now) }

@@ -17,7 +17,7 @@ use crate::context::{Context, innermost};
 use crate::faults::{DictFault, DictKind, LineError};
 use crate::files::NamedFile;
 use crate::gather::{Line, MOST_LEVELS, octets_of, place_included, split_line};
-use crate::lines::read_line_words;
+use crate::lines::read_words;
 use crate::meanings::{Meaning, Reading};
 use crate::words::words;
 use std::alloc::Global;
@@ -58,7 +58,7 @@ impl<'a> ReadLines<'a> {
         if self.readings.len() >= limit {
             return Err(LineError::Refused(DictKind::TooLong));
         }
-        read_line_words(alloc, &self.context, included, line.depth, words)
+        read_words(alloc, &self.context, included, line.depth, words)
     }
 
     // Reads one line more.

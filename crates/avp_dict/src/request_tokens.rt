@@ -15,7 +15,7 @@ pub enum Side {
     Value,
 }
 
-/// What stands in a request line.
+/// What is in a request line.
 #[derive(Clone, Copy, Debug)]
 pub enum Token<'a> {
     Comma,
@@ -23,7 +23,7 @@ pub enum Token<'a> {
     Sign,
     /// Octets outside quotes.
     Run(&'a [u8]),
-    /// What stands between quotes.
+    /// What is between quotes.
     Quoted(QuoteMark, &'a [u8]),
     /// A quote that nothing ends on its line.
     Unended,
@@ -59,7 +59,7 @@ fn without_blanks(side: Side, line: &[u8]) -> &[u8]
     rest
 }
 
-fn is_run_end(side: Side, octet: u8) -> bool
+fn ends_run(side: Side, octet: u8) -> bool
     ensures { result ≡ ends_run side octet }
 {
     match octet {
@@ -72,7 +72,7 @@ fn is_run_end(side: Side, octet: u8) -> bool
 fn run_end(side: Side, octets: &[u8]) -> Option<usize>
     ensures { result ≡ position (ends_run side) octets.now }
 {
-    octets.iter().position(|octet| is_run_end(side, *octet))
+    octets.iter().position(|octet| ends_run(side, *octet))
 }
 
 // The run before the first octet that ends one, and the rest.
@@ -98,7 +98,7 @@ impl QuoteMark {
     }
 }
 
-// Where the text ends whose first quote stands before the octets: at its next quote with no `\` of its own before it.
+// Where the text ends whose first quote is before the octets: at its next quote with no `\` of its own before it.
 fn text_end(mark: QuoteMark, octets: &[u8]) -> Option<usize>
     ensures text { MatchOption result (tokens_from (Between mark) octets.now ≡ Unended ∷ []) (λ end. tokens_from (Between mark) octets.now ≡ Quoted mark (take end octets.now) ∷ tokens_from (Outside Side.Value) (drop (end + 1) octets.now)) }
     ensures within { IfSome result (λ end. end < length octets.now) }
@@ -116,7 +116,7 @@ fn text_end(mark: QuoteMark, octets: &[u8]) -> Option<usize>
     None
 }
 
-// The quoted text whose first quote stands before the octets, and what follows it.
+// The quoted text whose first quote is before the octets, and what follows it.
 fn cut_quoted(mark: QuoteMark, octets: &[u8]) -> (Token<'_>, &[u8])
     ensures token { (side : Side) → tokens_at side (quote_octet mark ∷ octets.now) ≡ token_view result.0 ∷ tokens_at (side_after side result.0) result.1.now }
     ensures shorter { length result.1.now ≤ length octets.now }

@@ -46,7 +46,7 @@ fn is_idle_line(line: &[u8]) -> bool
     is_blank_line(without_comment(line))
 }
 
-// The text from its first line on that holds more than blanks and a comment, and how many lines stand before it.
+// The text from its first line on that holds more than blanks and a comment, and how many lines are before it.
 fn without_idle_lines(text: &[u8]) -> (usize, &[u8])
     ensures lines { texts_of result.1.now ≡ without_front is_idle_line (texts_of text.now) }
     ensures count { result.0 + length result.1.now ≤ length text.now }
@@ -137,7 +137,7 @@ impl Dictionary {
         }
     }
 
-    // The pair of a name, the first token, and a value, and what stands after it.
+    // The pair of a name, the first token, and a value, and what follows it.
     #[tactic(auto, unfolding(crate::specs::RequestLines::pairs_of, crate::specs::code::LineReading::pairs_at))]
     fn read_pair<'a>(
         &self,

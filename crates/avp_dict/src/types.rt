@@ -6,6 +6,9 @@ ghost use Rattle.avp_dict.specs.Letters.{word_before_bracket};
 ghost use Rattle.avp_dict.specs.Types.{are_flags, is_fixed, is_flag, is_hiding, is_opaque, is_text_kind, kind_word, typing_by, typing_of};
 ghost use Rattle.avp_dict.specs.code.Views.{views};
 
+use crate::attribute_numbers::{
+    MESSAGE_AUTHENTICATOR, PROXY_STATE, VENDOR_SPECIFIC, is_extended_type,
+};
 use crate::entries::{Kind, Typing};
 use crate::keywords::{
     ARRAY, BYTE, CONCAT, DATE, ENCRYPT_1, ENCRYPT_2, ENCRYPT_3, ETHER, HAS_TAG, INTEGER, INTEGER64,
@@ -14,7 +17,7 @@ use crate::keywords::{
 use crate::words::is_same_name;
 use avp_lists::AttrId;
 
-fn is_known(flag: &[u8]) -> bool
+fn is_flag(flag: &[u8]) -> bool
     ensures { result ≡ is_flag flag.now }
 {
     is_same_name(flag, HAS_TAG)
@@ -28,12 +31,12 @@ fn is_known(flag: &[u8]) -> bool
 }
 
 /// Whether each flag is one of the list.
-pub fn are_known(flags: &[&[u8]]) -> bool
+pub fn are_flags(flags: &[&[u8]]) -> bool
     ensures { result ≡ are_flags (views flags.now) }
 {
     let mut rest = flags;
     while let [flag, after @ ..] = rest {
-        if !is_known(flag) {
+        if !is_flag(flag) {
             return false;
         }
         rest = after;
@@ -41,13 +44,13 @@ pub fn are_known(flags: &[&[u8]]) -> bool
     true
 }
 
-fn makes_octets(flag: &[u8]) -> bool
+fn is_opaque(flag: &[u8]) -> bool
     ensures { result ≡ is_opaque flag.now }
 {
     is_same_name(flag, HAS_TAG) || is_same_name(flag, ENCRYPT_2) || is_same_name(flag, ENCRYPT_3)
 }
 
-fn hides(flag: &[u8]) -> bool
+fn is_hiding(flag: &[u8]) -> bool
     ensures { result ≡ is_hiding flag.now }
 {
     is_same_name(flag, ENCRYPT_1)
@@ -58,7 +61,7 @@ fn any_makes_octets(flags: &[&[u8]]) -> bool
 {
     let mut rest = flags;
     while let [flag, after @ ..] = rest {
-        if makes_octets(flag) {
+        if is_opaque(flag) {
             return true;
         }
         rest = after;
@@ -71,7 +74,7 @@ fn any_hides(flags: &[&[u8]]) -> bool
 {
     let mut rest = flags;
     while let [flag, after @ ..] = rest {
-        if hides(flag) {
+        if is_hiding(flag) {
             return true;
         }
         rest = after;
@@ -79,7 +82,7 @@ fn any_hides(flags: &[&[u8]]) -> bool
     false
 }
 
-fn kind_of_word(word: &[u8]) -> Option<Kind>
+fn kind_word(word: &[u8]) -> Option<Kind>
     ensures { result ≡ kind_word word.now }
 {
     if is_same_name(word, STRING) {
@@ -133,17 +136,20 @@ fn without_bracket(word: &[u8]) -> &[u8]
     }
 }
 
-fn is_octets_always(id: AttrId) -> bool
+fn is_fixed(id: AttrId) -> bool
     ensures { result ≡ is_fixed id }
 {
     match id {
-        AttrId::Plain(n) => n == 26 || n == 33 || n == 80 || (n >= 241 && n <= 246),
+        AttrId::Plain(n) => n == VENDOR_SPECIFIC
+            || n == PROXY_STATE
+            || n == MESSAGE_AUTHENTICATOR
+            || is_extended_type(u64::from(n)),
         AttrId::Vendor(_, _) => false,
         AttrId::Extended(_, _) => false,
     }
 }
 
-fn is_by_text(own: Option<Kind>) -> bool
+fn is_text_kind(own: Option<Kind>) -> bool
     ensures { result ≡ is_text_kind own }
 {
     match own {
@@ -153,10 +159,10 @@ fn is_by_text(own: Option<Kind>) -> bool
     }
 }
 
-fn combine(own: Option<Kind>, opaque: bool, hiding: bool) -> Typing
+fn typing_by(own: Option<Kind>, opaque: bool, hiding: bool) -> Typing
     ensures { result ≡ typing_by own opaque hiding }
 {
-    let by_text = is_by_text(own);
+    let by_text = is_text_kind(own);
     let kind = if opaque || (hiding && !by_text) {
         Kind::Bytes
     } else {
@@ -170,18 +176,18 @@ fn combine(own: Option<Kind>, opaque: bool, hiding: bool) -> Typing
 }
 
 /// How the values of an ATTRIBUTE line are read, by its id, type word and flags.
-pub fn typing_for(id: AttrId, kind: &[u8], flags: &[&[u8]]) -> Typing
+pub fn typing_of(id: AttrId, kind: &[u8], flags: &[&[u8]]) -> Typing
     ensures { result ≡ typing_of id kind.now (views flags.now) }
 {
-    if is_octets_always(id) {
+    if is_fixed(id) {
         Typing {
             kind: Kind::Bytes,
             hidden: false,
             by_text: true,
         }
     } else {
-        combine(
-            kind_of_word(without_bracket(kind)),
+        typing_by(
+            kind_word(without_bracket(kind)),
             any_makes_octets(flags),
             any_hides(flags),
         )

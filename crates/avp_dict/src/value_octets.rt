@@ -127,7 +127,7 @@ fn read_by_kind(alloc: Global, kind: Kind, octets: &[u8]) -> Result<Option<Value
     }
 }
 
-pub(crate) fn is_last_nul(octets: &[u8]) -> bool
+pub(crate) fn ends_in_nul(octets: &[u8]) -> bool
     ensures { result ≡ ends_in_nul octets.now }
 {
     match octets.last() {
@@ -136,10 +136,10 @@ pub(crate) fn is_last_nul(octets: &[u8]) -> bool
     }
 }
 
-fn can_be_hidden(octets: &[u8]) -> bool
+fn is_hideable(octets: &[u8]) -> bool
     ensures { result ≡ is_hideable octets.now }
 {
-    octets.len() <= MOST_HIDDEN_OCTETS && !is_last_nul(octets)
+    octets.len() <= MOST_HIDDEN_OCTETS && !ends_in_nul(octets)
 }
 
 impl Dictionary {
@@ -189,7 +189,7 @@ impl Dictionary {
     {
         match self.by_id(id) {
             Some(entry) => {
-                if entry.hidden && !can_be_hidden(octets) {
+                if entry.hidden && !is_hideable(octets) {
                     Ok(None)
                 } else {
                     read_by_kind(alloc, entry.kind, octets)

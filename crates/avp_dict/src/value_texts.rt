@@ -10,6 +10,7 @@ ghost use Rattle.avp_dict.specs.Vendors.{vendor};
 ghost use Rattle.avp_dict.specs.Words.{digits};
 ghost use Rattle.avp_dict.specs.code.Numbers.{Reads};
 
+use crate::attribute_numbers::{VENDOR_SPECIFIC, is_extended_type};
 use crate::dictionaries::Dictionary;
 use crate::entries::{Kind, Named, Typing};
 use crate::numbers::{Number, digits_of, read_number};
@@ -57,7 +58,7 @@ pub fn is_container(id: AttrId) -> bool
     ensures { result ≡ is_container id }
 {
     match id {
-        AttrId::Plain(number) => number == 26 || (number >= 241 && number <= 246),
+        AttrId::Plain(number) => number == VENDOR_SPECIFIC || is_extended_type(u64::from(number)),
         _ => false,
     }
 }

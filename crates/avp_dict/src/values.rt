@@ -1,10 +1,10 @@
 //! VALUE lines and notes, after the last line.
 
-ghost use Rattle.std.specs.Prelude.{◌≡◌, ◌∷◌, [], ℕ, List, Option, Ok, ◌≤◌, length, is_some, OnOk, IfErr, IfOk, IfSome};
+ghost use Rattle.std.specs.Prelude.{◌≡◌, ◌∷◌, [], ℕ, List, Option, Ok, ◌≤◌, length, is_some, OnOk, IfErr, IfOk, IfSome, IsTrue};
 ghost use Rattle.std.specs.Option.{option_and_then, option_copied};
 ghost use Rattle.std.specs.List.{list_all};
 ghost use Rattle.avp_dict.specs.DictionaryReading.{outline_of, settled};
-ghost use Rattle.avp_dict.specs.Letters.{is_word_octet};
+ghost use Rattle.avp_dict.specs.Letters.{is_word_octet, most_name};
 ghost use Rattle.avp_dict.specs.Meanings.{Reading as SetReading, context_of};
 ghost use Rattle.avp_dict.specs.Outcomes.{Answers, Refuses};
 ghost use Rattle.avp_dict.specs.Settled.{skipped_names};
@@ -15,7 +15,7 @@ ghost use Rattle.avp_dict.specs.code.Meanings.{context_view, meaning_view, name_
 ghost use Rattle.avp_dict.specs.code.Numbers.{Reads};
 ghost use Rattle.avp_dict.specs.code.Outcomes.{Gives};
 
-use crate::attributes::is_octet_of_name;
+use crate::attributes::is_name_octet;
 use crate::contents::Contents;
 use crate::context::Context;
 use crate::entries::{Kind, Note, ValueLine};
@@ -25,19 +25,20 @@ use crate::numbers::{Number, digits_of};
 use crate::octets::copy_of;
 use crate::settling::{is_kept, used};
 use crate::tables::{Attributes, NameSet, Values, Vendors};
+use crate::words::MOST_NAME;
 use avp_lists::AttrId;
 use std::alloc::{AllocError, Global};
 
-fn is_octet_of_word(octet: u8) -> bool
+fn is_word_octet(octet: u8) -> bool
     ensures { result ≡ is_word_octet octet }
 {
-    is_octet_of_name(octet) || octet == b':' || octet == b'@'
+    is_name_octet(octet) || octet == b':' || octet == b'@'
 }
 
 fn are_octets_of_word(name: &[u8]) -> bool
     ensures { result ≡ list_all is_word_octet name.now }
 {
-    name.iter().all(|octet| is_octet_of_word(*octet))
+    name.iter().all(|octet| is_word_octet(*octet))
 }
 
 fn is_read(number: Number) -> bool
@@ -50,7 +51,7 @@ fn is_read(number: Number) -> bool
     }
 }
 
-fn is_like_number(word: &[u8]) -> bool
+fn reads_as_number(word: &[u8]) -> bool
     ensures { result ≡ reads_as_number word.now }
 {
     match word {
@@ -61,13 +62,14 @@ fn is_like_number(word: &[u8]) -> bool
 }
 
 #[tactic(auto, unfolding(crate::specs::Values::is_value_name))]
-fn names_value(name: &[u8]) -> bool
-    ensures { result ≡ is_value_name name.now }
+fn is_value_name(name: &[u8]) -> bool
+    ensures test { result ≡ is_value_name name.now }
+    ensures short { IsTrue result → length name.now ≤ most_name }
 {
-    are_octets_of_word(name) && name.len() <= 128 && !is_like_number(name)
+    are_octets_of_word(name) && name.len() <= MOST_NAME && !reads_as_number(name)
 }
 
-pub fn most_of_kind(kind: Kind) -> Option<u64>
+pub fn most_of(kind: Kind) -> Option<u64>
     ensures { result ≡ most_of kind }
 {
     match kind {
@@ -83,7 +85,7 @@ fn most_of_id(attributes: &Attributes, id: AttrId) -> Option<u64>
     ensures { result ≡ option_and_then most_of_typing (typing_of_id id attributes.now) }
 {
     match attributes.typing_of_id(id) {
-        Some(typing) => most_of_kind(typing.kind),
+        Some(typing) => most_of(typing.kind),
         None => None,
     }
 }
@@ -106,12 +108,13 @@ fn value_up_to(
     number: u64,
     most: Option<u64>,
 ) -> Result<Option<ValueLine>, LineError>
-    ensures { Gives result (value_up_to values.now id name.now number most) }
+    ensures value { Gives result (value_up_to values.now id name.now number most) }
+    ensures short { IfOk result (λ value. IfSome value (λ v. length v.name ≤ most_name)) }
 {
     match most {
         None => Ok(None),
         Some(most) => {
-            if !names_value(name) {
+            if !is_value_name(name) {
                 return Ok(None);
             }
             if number > most {
@@ -136,7 +139,8 @@ fn value_of(
     number: u64,
     id: Option<AttrId>,
 ) -> Result<Option<ValueLine>, LineError>
-    ensures { Gives result (value_of skipped.now (contents_view contents.now) attribute.now name.now number id) }
+    ensures value { Gives result (value_of skipped.now (contents_view contents.now) attribute.now name.now number id) }
+    ensures short { IfOk result (λ value. IfSome value (λ v. length v.name ≤ most_name)) }
 {
     match id {
         Some(id) => {
@@ -186,7 +190,7 @@ impl Contents {
         reading: Reading<'_>,
         value: Option<ValueLine>,
     ) -> Result<(), AllocError>
-        requires { IfSome value (λ v. length v.name ≤ 128) }
+        requires { IfSome value (λ v. length v.name ≤ most_name) }
         ensures { OnOk result (contents_view self.new ≡ with_value (contents_view self.old) (reading_view reading.entry) value) }
     {
         match value {

@@ -15,7 +15,7 @@ use crate::meanings::Meaning;
 use crate::numbers::{MOST_NUMBER, Number, number_up_to, read_number};
 use crate::parts::parts_between;
 use crate::tables::Vendors;
-use crate::words::is_same_name;
+use crate::words::{MOST_NAME, is_same_name};
 use std::alloc::{AllocError, Global};
 
 // The format of a VENDOR line that gives none.
@@ -25,7 +25,7 @@ const STANDARD_FORMAT: VendorFormat = VendorFormat {
     third: false,
 };
 
-fn is_visible_octet(octet: u8) -> bool
+fn is_visible(octet: u8) -> bool
     ensures { result ≡ is_visible octet }
 {
     octet >= 33 && octet <= 126
@@ -34,14 +34,14 @@ fn is_visible_octet(octet: u8) -> bool
 fn are_visible(name: &[u8]) -> bool
     ensures { result ≡ list_all is_visible name.now }
 {
-    name.iter().all(|octet| is_visible_octet(*octet))
+    name.iter().all(|octet| is_visible(*octet))
 }
 
 #[tactic(auto, unfolding(crate::specs::Vendors::is_vendor_name))]
-fn names_vendor(name: &[u8]) -> bool
+fn is_vendor_name(name: &[u8]) -> bool
     ensures { result ≡ is_vendor_name name.now }
 {
-    are_visible(name) && name.len() <= 128
+    are_visible(name) && name.len() <= MOST_NAME
 }
 
 fn is_other_vendor(number: u32, found: Option<u32>) -> bool
@@ -54,7 +54,7 @@ fn is_other_vendor(number: u32, found: Option<u32>) -> bool
 }
 
 #[tactic(auto, unfolding(crate::specs::Vendors::vendor_numbered))]
-fn define_vendor<'a>(
+fn vendor_line<'a>(
     vendors: &Vendors,
     name: &'a [u8],
     format: VendorFormat,
@@ -82,16 +82,16 @@ fn read_vendor_line<'a>(
     match format {
         None => Err(LineError::Refused(DictKind::Unreadable)),
         Some(format) => {
-            if !names_vendor(name) {
+            if !is_vendor_name(name) {
                 return Err(LineError::Refused(DictKind::Unreadable));
             }
             let number = number_up_to(MOST_NUMBER, number)?;
-            define_vendor(vendors, name, format, number)
+            vendor_line(vendors, name, format, number)
         }
     }
 }
 
-fn format_of_numbers(third: bool, t: Number, l: Number) -> Option<VendorFormat>
+fn two_parts(third: bool, t: Number, l: Number) -> Option<VendorFormat>
     ensures { (m n : Option ℕ) → Reads t m → Reads l n → result ≡ two_parts third m n }
 {
     match (t, l) {
@@ -110,12 +110,12 @@ fn format_of_numbers(third: bool, t: Number, l: Number) -> Option<VendorFormat>
     }
 }
 
-fn format_of_parts(parts: &[&[u8]]) -> Option<VendorFormat>
+fn format_parts(parts: &[&[u8]]) -> Option<VendorFormat>
     ensures { result ≡ format_parts (views parts.now) }
 {
     match parts {
-        [t, l] => format_of_numbers(false, read_number(t), read_number(l)),
-        [t, l, _] => format_of_numbers(true, read_number(t), read_number(l)),
+        [t, l] => two_parts(false, read_number(t), read_number(l)),
+        [t, l, _] => two_parts(true, read_number(t), read_number(l)),
         _ => None,
     }
 }
@@ -124,7 +124,7 @@ fn format_after_key(alloc: Global, rest: &[u8]) -> Result<Option<VendorFormat>, 
     ensures { IfOk result (λ format. format ≡ format_parts (slice_split is_comma rest.now)) }
 {
     let parts = parts_between(alloc, b',', rest)?;
-    Ok(format_of_parts(&parts))
+    Ok(format_parts(&parts))
 }
 
 #[tactic(auto, unfolding(crate::specs::Vendors::format_word))]

@@ -7,6 +7,9 @@ ghost use Rattle.avp_dict.specs.code.Views.{views};
 
 use std::alloc::{AllocError, Global};
 
+/// A name has so many octets at most.
+pub const MOST_NAME: usize = 128;
+
 fn comment_start(text: &[u8]) -> Option<usize>
     ensures { result ≡ position is_hash text.now }
 {
@@ -29,7 +32,7 @@ fn blank_at(text: &[u8]) -> Option<usize>
     text.iter().position(|octet| *octet == b' ' || *octet == b'\t' || *octet == b'\r')
 }
 
-// What stands before the first blank, and after it.
+// What is before the first blank, and after it.
 fn first_part(text: &[u8]) -> Option<(&[u8], &[u8])>
     ensures cut { IfSome result (λ x. slice_split is_blank text.now ≡ x.0.now ∷ slice_split is_blank x.1.now) }
     ensures shorter { IfSome result (λ x. length x.1.now < length text.now) }
@@ -51,7 +54,7 @@ fn push_part<'a>(words: &mut Vec<&'a [u8]>, part: &'a [u8]) -> Result<(), AllocE
     Ok(())
 }
 
-/// What stands between spaces, tabs and CRs.
+/// What is between spaces, tabs and CRs.
 pub fn words_between_blanks(alloc: Global, plain: &[u8]) -> Result<Vec<&[u8]>, AllocError>
     ensures { IfOk result (λ words. views words.items ≡ filter is_word (slice_split is_blank plain.now)) }
 {
@@ -72,7 +75,7 @@ pub fn words(alloc: Global, text: &[u8]) -> Result<Vec<&[u8]>, AllocError>
     words_between_blanks(alloc, without_comment(text))
 }
 
-pub fn to_lower(octet: u8) -> u8
+pub fn lower(octet: u8) -> u8
     ensures { result ≡ lower octet }
 {
     if octet >= b'A' && octet <= b'Z' {
@@ -97,7 +100,7 @@ pub fn is_same_name(a: &[u8], b: &[u8]) -> bool
         let [y, ys @ ..] = b else {
             return false;
         };
-        if to_lower(*x) != to_lower(*y) {
+        if lower(*x) != lower(*y) {
             return false;
         }
         a = xs;

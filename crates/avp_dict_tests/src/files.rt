@@ -124,6 +124,11 @@ VALUE V-B One 1
     let dictionary = read(alloc, &FileSet::from_vec(files))??;
     expect_counts(&rt, &dictionary, 3, 1, 1);
     expect_notes(&rt, &dictionary, &[(0, 2), (0, 5), (0, 8), (0, 9)]);
+    let names: [&[u8]; 3] = [b"x-a", b"x-b", b"v-b"];
+    for (at, name) in names.iter().enumerate() {
+        assert_eq!(rt; dictionary.attribute_name(at), Some(*name));
+    }
+    assert!(rt; dictionary.attribute_name(3).is_none());
     assert_eq!(rt; last_component(b"sub/x"), b"x".as_slice());
     Ok(())
 }

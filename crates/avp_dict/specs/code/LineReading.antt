@@ -18,7 +18,7 @@ line_kind faults.NotValue = kinds.NotValue
 line_kind faults.TooLong = kinds.TooLong
 line_kind faults.Memory = kinds.Memory
 
--- a fault other than want of memory stands only where nothing is spelled
+-- a fault other than want of memory comes only where nothing is spelled
 abbrev pub RefusesLine : {A : Type 0} → LineKind → Option A → Type 0
 RefusesLine kinds.Memory read = Unit {0}
 RefusesLine _ read = read ≡ None

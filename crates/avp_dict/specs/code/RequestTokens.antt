@@ -16,7 +16,7 @@ token_view (code.Run octets) = Run octets.now
 token_view (code.Quoted mark text) = Quoted mark text.now
 token_view code.Unended = Unended
 
--- the side on which the next token stands
+-- the side on which the next token is
 abbrev pub side_after : Side → CodeToken → Side
 side_after side code.Comma = Name
 side_after side (code.Run octets) = side

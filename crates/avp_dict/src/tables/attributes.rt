@@ -1,14 +1,14 @@
-ghost use Rattle.std.specs.Prelude.{◌≡◌, ◌++◌, ◌∷◌, ◌≤◌, [], ℕ, List, Some, if◌then◌else◌, length, map, All, OnOk};
+ghost use Rattle.std.specs.Prelude.{◌≡◌, ◌++◌, ◌∷◌, ◌≤◌, [], length, slice_get, All, OnOk};
 ghost use Rattle.std.specs.Option.{option_copied};
-ghost use Rattle.std.specs.Str.{bytes_eq};
-ghost use Rattle.avp_dict.specs.Counts.{count_last, same_attribute};
-ghost use Rattle.avp_dict.specs.Dictionary.{id_named, is_attribute_named, is_attribute_of, last_where, typing_of_id};
-ghost use Rattle.avp_dict.specs.Words.{lower};
-ghost use Rattle.avp_dict.specs.code.Tables.{is_place, last_place, id_key, place_of, same_id_key};
+ghost use Rattle.std.specs.Set.{distinct_count};
+ghost use Rattle.avp_dict.specs.Counts.{same_attribute};
+ghost use Rattle.avp_dict.specs.Dictionary.{first_names, id_named, is_attribute_named, is_attribute_of, last_where, typing_of_id};
+ghost use Rattle.avp_dict.specs.Letters.{most_name};
+ghost use Rattle.avp_dict.specs.code.Tables.{AreAttributeTables};
 
 use crate::entries::{AttributeLine, Typing};
 use crate::tables::keys::{FoldedName, IdKey, id_key};
-use crate::tables::places::{Places, line_at};
+use crate::tables::places::Places;
 use avp_lists::AttrId;
 use std::alloc::{AllocError, Global};
 use std::marker::Model;
@@ -40,10 +40,10 @@ fn add_line(
     ids: &mut Places<IdKey>,
     line: AttributeLine,
 ) -> Result<(), AllocError>
-    requires { length line.name ≤ 128 }
+    requires tables { AreAttributeTables names.old ids.old lines.old.items }
+    requires short { length line.name ≤ most_name }
     ensures lines { OnOk result (lines.new.items ≡ lines.old.items ++ line ∷ []) }
-    ensures names { OnOk result ((q : List ℕ) → place_of bytes_eq names.new q ≡ (if bytes_eq (map lower line.name) q then Some (length lines.old.items) else place_of bytes_eq names.old q)) }
-    ensures ids { OnOk result ((q : ℕ × (ℕ × ℕ)) → place_of same_id_key ids.new q ≡ (if same_id_key (id_key line.id) q then Some (length lines.old.items) else place_of same_id_key ids.old q)) }
+    ensures tables { OnOk result (AreAttributeTables names.new ids.new lines.new.items) }
 {
     let place = lines.len();
     names.put(FoldedName::of_short(line.name.as_slice()), place)?;
@@ -66,14 +66,14 @@ impl Attributes {
     /// The lines in their order.
     pub fn as_slice(&self) -> &[AttributeLine]
         ensures lines { result.now ≡ self.now }
-        ensures short { All (λ line. length line.name ≤ 128) self.now }
+        ensures short { All (λ line. length line.name ≤ most_name) self.now }
     {
         self.lines.as_slice()
     }
 
     /// One more line. For want of memory no line is left.
     pub fn push(&mut self, alloc: Global, line: AttributeLine) -> Result<(), AllocError>
-        requires { length line.name ≤ 128 }
+        requires { length line.name ≤ most_name }
         ensures { OnOk result (self.new ≡ self.old ++ line ∷ []) }
     {
         match add_line(&mut self.lines, &mut self.names, &mut self.ids, line) {
@@ -91,7 +91,7 @@ impl Attributes {
     {
         let lines = self.lines.as_slice();
         match FoldedName::of(name) {
-            Some(folded) => line_at(lines, self.names.place(&folded)),
+            Some(folded) => self.names.line(lines, &folded),
             None => None,
         }
     }
@@ -100,7 +100,7 @@ impl Attributes {
     pub fn by_id(&self, id: AttrId) -> Option<&AttributeLine>
         ensures { option_copied result ≡ last_where (is_attribute_of id) self.now }
     {
-        line_at(self.lines.as_slice(), self.ids.place(&id_key(id)))
+        self.ids.line(self.lines.as_slice(), &id_key(id))
     }
 
     /// The id that a name stands for.
@@ -125,28 +125,21 @@ impl Attributes {
         }
     }
 
-    // Whether the place is that of the last line with the name of this line.
-    fn is_last(&self, line: &AttributeLine, place: usize) -> bool
-        ensures { result ≡ is_place (last_place (same_attribute line.now) self.now) place }
-    {
-        let _lines = self.lines.as_slice();
-        match FoldedName::of(line.name.as_slice()) {
-            Some(folded) => self.names.place(&folded) == Some(place),
-            None => false,
-        }
-    }
-
     /// How many names the lines have.
     pub fn count(&self) -> usize
-        ensures { result ≡ count_last same_attribute self.now }
+        ensures { result ≡ distinct_count same_attribute self.now }
     {
-        let mut count = 0;
-        let lines = self.as_slice();
-        for (place, line) in lines.iter().enumerate() {
-            if self.is_last(line, place) {
-                count += 1;
-            }
+        self.names.count()
+    }
+
+    /// A name in lower case, by its place among the names in the order of their first lines.
+    #[tactic(auto, unfolding(crate::specs::Dictionary::first_names))]
+    pub fn name(&self, at: usize) -> Option<&[u8]>
+        ensures { option_copied result ≡ slice_get (first_names self.now) at }
+    {
+        match self.names.key(at) {
+            Some(name) => Some(name.as_slice()),
+            None => None,
         }
-        count
     }
 }

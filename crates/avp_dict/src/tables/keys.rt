@@ -1,17 +1,15 @@
 //! Keys of tables: names without regard to case, and ids.
 
 ghost use Rattle.std.specs.Prelude.{◌≡◌, ◌≤◌, ◌<◌, length, map, take, IfOk, IfSome, IfNone};
+ghost use Rattle.avp_dict.specs.Letters.{most_name};
 ghost use Rattle.avp_dict.specs.Words.{lower};
 ghost use Rattle.avp_dict.specs.code.Tables.{id_key};
 
-use crate::words::to_lower;
+use crate::words::{MOST_NAME, lower};
 use avp_lists::AttrId;
 use std::alloc::{AllocError, Global};
 use std::hash::{Hash, Hasher};
 use std::marker::Model;
-
-/// A name has so many octets at most.
-pub const MOST_NAME: usize = 128;
 
 /// A name in lower case, which takes no memory of an allocator.
 #[derive(Drop)]
@@ -22,22 +20,23 @@ pub struct FoldedName {
 
 impl Model for FoldedName {
     ghost use Rattle.std.specs.Prelude.{◌≤◌, ℕ, List, take};
+    ghost use Rattle.avp_dict.specs.Letters.{most_name};
 
     ghost Value = { List ℕ };
 
     ghost view = { λ f. take f.size f.octets };
 
-    ghost invariant = { λ f. f.size ≤ 128 };
+    ghost invariant = { λ f. f.size ≤ most_name };
 }
 
 // The name in lower case, in the first octets of the buffer.
 fn fold(buffer: &mut [u8; MOST_NAME], name: &[u8])
-    requires { length name.now ≤ 128 }
+    requires { length name.now ≤ most_name }
     ensures { take (length name.now) buffer.new ≡ map lower name.now }
 {
     let mut i = 0;
     while i < name.len() {
-        buffer[i] = to_lower(name[i]);
+        buffer[i] = lower(name[i]);
         i += 1;
     }
 }
@@ -46,7 +45,7 @@ impl FoldedName {
     /// The name in lower case, where it is no longer than a name can be.
     pub fn of(name: &[u8]) -> Option<FoldedName>
         ensures folded { IfSome result (λ f. f ≡ map lower name.now) }
-        ensures long { IfNone result (128 < length name.now) }
+        ensures long { IfNone result (most_name < length name.now) }
     {
         if name.len() > MOST_NAME {
             return None;
@@ -56,7 +55,7 @@ impl FoldedName {
 
     /// The name in lower case.
     pub fn of_short(name: &[u8]) -> FoldedName
-        requires { length name.now ≤ 128 }
+        requires { length name.now ≤ most_name }
         ensures { result ≡ map lower name.now }
     {
         let mut octets = [0; MOST_NAME];
@@ -67,7 +66,7 @@ impl FoldedName {
         }
     }
 
-    fn as_slice(&self) -> &[u8]
+    pub fn as_slice(&self) -> &[u8]
         ensures { result.now ≡ self.now }
     {
         &self.octets[..self.size]
@@ -130,7 +129,7 @@ impl FoldedText {
     {
         let mut octets = Vec::with_capacity(alloc, name.len())?;
         for octet in name {
-            octets.push(to_lower(*octet))?;
+            octets.push(lower(*octet))?;
         }
         Ok(FoldedText { octets })
     }

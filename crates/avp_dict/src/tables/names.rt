@@ -1,9 +1,9 @@
-ghost use Rattle.std.specs.Prelude.{◌≡◌, ◌++◌, ◌∷◌, [], ℕ, List, Some, if◌then◌else◌, length, map, OnOk, IfOk};
+ghost use Rattle.std.specs.Prelude.{◌≡◌, ◌++◌, ◌∷◌, [], map, OnOk, IfOk};
 ghost use Rattle.std.specs.List.{list_any};
 ghost use Rattle.std.specs.Str.{bytes_eq};
 ghost use Rattle.avp_dict.specs.Values.{is_same_name};
 ghost use Rattle.avp_dict.specs.Words.{lower};
-ghost use Rattle.avp_dict.specs.code.Tables.{place_of};
+ghost use Rattle.avp_dict.specs.code.Tables.{IsTable};
 ghost use Rattle.avp_dict.specs.code.Views.{views};
 
 use crate::tables::keys::FoldedText;
@@ -19,15 +19,17 @@ pub struct NameSet<'a> {
 }
 
 impl<'a> Model for NameSet<'a> {
-    ghost use Rattle.std.specs.Prelude.{List, ℕ};
-    ghost use Rattle.avp_dict.specs.code.Tables.{IsNameTable};
+    ghost use Rattle.std.specs.Prelude.{List, ℕ, map};
+    ghost use Rattle.std.specs.Str.{bytes_eq};
+    ghost use Rattle.avp_dict.specs.Words.{lower};
+    ghost use Rattle.avp_dict.specs.code.Tables.{IsTable};
     ghost use Rattle.avp_dict.specs.code.Views.{views};
 
     ghost Value = { List (List ℕ) };
 
     ghost view = { λ s. views s.names.items };
 
-    ghost invariant = { λ s. IsNameTable s.table (views s.names.items) };
+    ghost invariant = { λ s. IsTable bytes_eq s.table (map (map lower) (views s.names.items)) };
 }
 
 // One more name, and its key.
@@ -37,8 +39,9 @@ fn add_name<'a>(
     table: &mut Places<FoldedText>,
     name: &'a [u8],
 ) -> Result<(), AllocError>
+    requires { IsTable bytes_eq table.old (map (map lower) (views names.old.items)) }
     ensures names { OnOk result (views names.new.items ≡ views names.old.items ++ name.now ∷ []) }
-    ensures table { OnOk result ((q : List ℕ) → place_of bytes_eq table.new q ≡ (if bytes_eq (map lower name.now) q then Some (length names.old.items) else place_of bytes_eq table.old q)) }
+    ensures table { OnOk result (IsTable bytes_eq table.new (map (map lower) (views names.new.items))) }
 {
     table.put(FoldedText::of(alloc, name)?, names.len())?;
     names.push(name)?;
@@ -73,6 +76,6 @@ impl<'a> NameSet<'a> {
         ensures { IfOk result (λ found. found ≡ list_any (is_same_name name.now) self.now) }
     {
         let folded = FoldedText::of(alloc, name)?;
-        Ok(self.table.place(&folded).is_some())
+        Ok(self.table.contains(&folded))
     }
 }

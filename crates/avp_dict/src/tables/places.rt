@@ -1,6 +1,10 @@
-ghost use Rattle.std.specs.Prelude.{◌≡◌, Some, None, if◌then◌else◌, OnOk, OnErr, slice_get};
+ghost use Rattle.std.specs.Prelude.{◌≡◌, ◌++◌, ◌∷◌, [], ℕ, Bool, List, map, length, slice_get, OnOk};
+ghost use Rattle.std.specs.List.{list_any};
+ghost use Rattle.std.specs.Map.{keys_of};
 ghost use Rattle.std.specs.Option.{option_and_then, option_copied};
-ghost use Rattle.avp_dict.specs.code.Tables.{place_of};
+ghost use Rattle.std.specs.Set.{distinct_count};
+ghost use Rattle.avp_dict.specs.Dictionary.{last_where};
+ghost use Rattle.avp_dict.specs.code.Tables.{IsTable};
 
 use indexmap::IndexMap;
 use std::alloc::{AllocError, Global};
@@ -21,40 +25,67 @@ impl<K: Eq + Hash> Model for Places<K> {
     ghost view = { λ p. p.table.entries };
 }
 
+fn line_at<T>(lines: &[T], place: Option<usize>) -> Option<&T>
+    ensures { option_copied result ≡ option_and_then (slice_get lines.now) place }
+{
+    match place {
+        Some(place) => lines.get(place),
+        None => None,
+    }
+}
+
 impl<K: Eq + Hash> Places<K> {
     pub fn new(alloc: Global) -> Places<K>
-        ensures { (q : K) → place_of K.eq result q ≡ None }
+        ensures { IsTable K.eq result [] }
     {
         Places {
             table: IndexMap::new(alloc),
         }
     }
 
-    /// The place of this key.
-    pub fn place(&self, key: &K) -> Option<usize>
-        ensures { result ≡ place_of K.eq self.now key.now }
+    /// The last of the lines with this key.
+    pub fn line<'a, T>(&self, lines: &'a [T], key: &K) -> Option<&'a T>
+        ensures { (keys : T → K) (test : T → Bool) → IsTable K.eq self.now (map keys lines.now)
+            → ((line : T) → K.eq (keys line) key.now ≡ test line)
+            → option_copied result ≡ last_where test lines.now }
     {
-        self.table.get(key).copied()
+        line_at(lines, self.table.get(key).copied())
     }
 
-    /// Gives the key this place.
+    /// Whether a line has this key.
+    pub fn contains(&self, key: &K) -> bool
+        ensures { (keys : List K) → IsTable K.eq self.now keys
+            → result ≡ list_any (λ k. K.eq k key.now) keys }
+    {
+        self.table.contains_key(key)
+    }
+
+    /// How many keys there are.
+    pub fn count(&self) -> usize
+        ensures { (keys : List K) → IsTable K.eq self.now keys
+            → result ≡ distinct_count K.eq keys }
+    {
+        self.table.len()
+    }
+
+    /// The key at a place of the table.
+    pub fn key(&self, at: usize) -> Option<&K>
+        ensures { option_copied result ≡ slice_get (keys_of self.now) at }
+    {
+        match self.table.get_index(at) {
+            Some((key, _)) => Some(key),
+            None => None,
+        }
+    }
+
+    /// One more line's key, at the line's place.
     pub fn put(&mut self, key: K, place: usize) -> Result<(), AllocError>
     where
         K: Drop,
-        ensures put { OnOk result ((q : K) → place_of K.eq self.new q ≡ (if K.eq key q then Some place else place_of K.eq self.old q)) }
-        ensures err { OnErr result (self.new ≡ self.old) }
+        ensures { (keys : List K) → IsTable K.eq self.old keys → place ≡ length keys
+            → OnOk result (IsTable K.eq self.new (keys ++ key ∷ [])) }
     {
         self.table.insert(key, place)?;
         Ok(())
-    }
-}
-
-/// The line at a place, if there is one.
-pub fn line_at<T>(lines: &[T], place: Option<usize>) -> Option<&T>
-    ensures { option_copied result ≡ option_and_then (slice_get lines.now) place }
-{
-    match place {
-        Some(place) => lines.get(place),
-        None => None,
     }
 }

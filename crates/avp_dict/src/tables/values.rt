@@ -1,14 +1,14 @@
-ghost use Rattle.std.specs.Prelude.{◌≡◌, ◌++◌, ◌∷◌, ◌≤◌, [], ℕ, List, Some, if◌then◌else◌, length, map, OnOk};
+ghost use Rattle.std.specs.Prelude.{◌≡◌, ◌++◌, ◌∷◌, ◌≤◌, [], length, OnOk};
 ghost use Rattle.std.specs.Option.{option_copied};
-ghost use Rattle.std.specs.Str.{bytes_eq};
-ghost use Rattle.avp_dict.specs.Counts.{count_last, same_value};
+ghost use Rattle.std.specs.Set.{distinct_count};
+ghost use Rattle.avp_dict.specs.Counts.{same_value};
 ghost use Rattle.avp_dict.specs.Dictionary.{is_value_named, is_value_numbered, last_where, name_numbered, number_named};
-ghost use Rattle.avp_dict.specs.Words.{lower};
-ghost use Rattle.avp_dict.specs.code.Tables.{is_place, last_place, id_key, place_of, same_value_name, same_value_number};
+ghost use Rattle.avp_dict.specs.Letters.{most_name};
+ghost use Rattle.avp_dict.specs.code.Tables.{AreValueTables};
 
 use crate::entries::ValueLine;
 use crate::tables::keys::{FoldedName, IdKey, id_key};
-use crate::tables::places::{Places, line_at};
+use crate::tables::places::Places;
 use avp_lists::AttrId;
 use std::alloc::{AllocError, Global};
 use std::marker::Model;
@@ -40,10 +40,10 @@ fn add_line(
     numbers: &mut Places<(IdKey, u64)>,
     line: ValueLine,
 ) -> Result<(), AllocError>
-    requires { length line.name ≤ 128 }
+    requires tables { AreValueTables names.old numbers.old lines.old.items }
+    requires short { length line.name ≤ most_name }
     ensures lines { OnOk result (lines.new.items ≡ lines.old.items ++ line ∷ []) }
-    ensures names { OnOk result ((q : (ℕ × (ℕ × ℕ)) × List ℕ) → place_of same_value_name names.new q ≡ (if same_value_name (id_key line.id, map lower line.name) q then Some (length lines.old.items) else place_of same_value_name names.old q)) }
-    ensures numbers { OnOk result ((q : (ℕ × (ℕ × ℕ)) × ℕ) → place_of same_value_number numbers.new q ≡ (if same_value_number (id_key line.id, line.number) q then Some (length lines.old.items) else place_of same_value_number numbers.old q)) }
+    ensures tables { OnOk result (AreValueTables names.new numbers.new lines.new.items) }
 {
     let place = lines.len();
     names.put(
@@ -75,7 +75,7 @@ impl Values {
 
     /// One more line. For want of memory no line is left.
     pub fn push(&mut self, alloc: Global, line: ValueLine) -> Result<(), AllocError>
-        requires { length line.name ≤ 128 }
+        requires { length line.name ≤ most_name }
         ensures { OnOk result (self.new ≡ self.old ++ line ∷ []) }
     {
         match add_line(&mut self.lines, &mut self.names, &mut self.numbers, line) {
@@ -93,7 +93,7 @@ impl Values {
     {
         let lines = self.lines.as_slice();
         match FoldedName::of(name) {
-            Some(folded) => line_at(lines, self.names.place(&(id_key(id), folded))),
+            Some(folded) => self.names.line(lines, &(id_key(id), folded)),
             None => None,
         }
     }
@@ -102,10 +102,8 @@ impl Values {
     pub fn by_number(&self, id: AttrId, number: u64) -> Option<&ValueLine>
         ensures { option_copied result ≡ last_where (is_value_numbered id number) self.now }
     {
-        line_at(
-            self.lines.as_slice(),
-            self.numbers.place(&(id_key(id), number)),
-        )
+        self.numbers
+            .line(self.lines.as_slice(), &(id_key(id), number))
     }
 
     /// The number that a name of an attribute's values stands for.
@@ -130,28 +128,10 @@ impl Values {
         }
     }
 
-    // Whether the place is that of the last line with the name of this line.
-    fn is_last(&self, line: &ValueLine, place: usize) -> bool
-        ensures { result ≡ is_place (last_place (same_value line.now) self.now) place }
-    {
-        let _lines = self.lines.as_slice();
-        match FoldedName::of(line.name.as_slice()) {
-            Some(folded) => self.names.place(&(id_key(line.id), folded)) == Some(place),
-            None => false,
-        }
-    }
-
     /// How many names the lines have.
     pub fn count(&self) -> usize
-        ensures { result ≡ count_last same_value self.now }
+        ensures { result ≡ distinct_count same_value self.now }
     {
-        let mut count = 0;
-        let lines = self.as_slice();
-        for (place, line) in lines.iter().enumerate() {
-            if self.is_last(line, place) {
-                count += 1;
-            }
-        }
-        count
+        self.names.count()
     }
 }

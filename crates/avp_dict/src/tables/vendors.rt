@@ -1,14 +1,14 @@
-ghost use Rattle.std.specs.Prelude.{◌≡◌, ◌++◌, ◌∷◌, ◌≤◌, [], ℕ, nat_eq, List, Some, if◌then◌else◌, length, map, OnOk};
+ghost use Rattle.std.specs.Prelude.{◌≡◌, ◌++◌, ◌∷◌, ◌≤◌, [], length, OnOk};
 ghost use Rattle.std.specs.Option.{option_copied};
-ghost use Rattle.std.specs.Str.{bytes_eq};
-ghost use Rattle.avp_dict.specs.Counts.{count_last, same_vendor};
+ghost use Rattle.std.specs.Set.{distinct_count};
+ghost use Rattle.avp_dict.specs.Counts.{same_vendor};
 ghost use Rattle.avp_dict.specs.Dictionary.{format_of, is_vendor_named, is_vendor_numbered, last_where, vendor_named};
-ghost use Rattle.avp_dict.specs.Words.{lower};
-ghost use Rattle.avp_dict.specs.code.Tables.{is_place, last_place, place_of};
+ghost use Rattle.avp_dict.specs.Letters.{most_name};
+ghost use Rattle.avp_dict.specs.code.Tables.{AreVendorTables};
 
 use crate::entries::{VendorFormat, VendorLine};
 use crate::tables::keys::FoldedName;
-use crate::tables::places::{Places, line_at};
+use crate::tables::places::Places;
 use std::alloc::{AllocError, Global};
 use std::marker::Model;
 
@@ -39,10 +39,10 @@ fn add_line(
     numbers: &mut Places<u32>,
     line: VendorLine,
 ) -> Result<(), AllocError>
-    requires { length line.name ≤ 128 }
+    requires tables { AreVendorTables names.old numbers.old lines.old.items }
+    requires short { length line.name ≤ most_name }
     ensures lines { OnOk result (lines.new.items ≡ lines.old.items ++ line ∷ []) }
-    ensures names { OnOk result ((q : List ℕ) → place_of bytes_eq names.new q ≡ (if bytes_eq (map lower line.name) q then Some (length lines.old.items) else place_of bytes_eq names.old q)) }
-    ensures numbers { OnOk result ((q : ℕ) → place_of nat_eq numbers.new q ≡ (if nat_eq line.number q then Some (length lines.old.items) else place_of nat_eq numbers.old q)) }
+    ensures tables { OnOk result (AreVendorTables names.new numbers.new lines.new.items) }
 {
     let place = lines.len();
     names.put(FoldedName::of_short(line.name.as_slice()), place)?;
@@ -71,7 +71,7 @@ impl Vendors {
 
     /// One more line. For want of memory no line is left.
     pub fn push(&mut self, alloc: Global, line: VendorLine) -> Result<(), AllocError>
-        requires { length line.name ≤ 128 }
+        requires { length line.name ≤ most_name }
         ensures { OnOk result (self.new ≡ self.old ++ line ∷ []) }
     {
         match add_line(&mut self.lines, &mut self.names, &mut self.numbers, line) {
@@ -89,7 +89,7 @@ impl Vendors {
     {
         let lines = self.lines.as_slice();
         match FoldedName::of(name) {
-            Some(folded) => line_at(lines, self.names.place(&folded)),
+            Some(folded) => self.names.line(lines, &folded),
             None => None,
         }
     }
@@ -98,7 +98,7 @@ impl Vendors {
     pub fn by_number(&self, number: u32) -> Option<&VendorLine>
         ensures { option_copied result ≡ last_where (is_vendor_numbered number) self.now }
     {
-        line_at(self.lines.as_slice(), self.numbers.place(&number))
+        self.numbers.line(self.lines.as_slice(), &number)
     }
 
     /// The number of the vendor with this name.
@@ -123,28 +123,10 @@ impl Vendors {
         }
     }
 
-    // Whether the place is that of the last line with the name of this line.
-    fn is_last(&self, line: &VendorLine, place: usize) -> bool
-        ensures { result ≡ is_place (last_place (same_vendor line.now) self.now) place }
-    {
-        let _lines = self.lines.as_slice();
-        match FoldedName::of(line.name.as_slice()) {
-            Some(folded) => self.names.place(&folded) == Some(place),
-            None => false,
-        }
-    }
-
     /// How many names the lines have.
     pub fn count(&self) -> usize
-        ensures { result ≡ count_last same_vendor self.now }
+        ensures { result ≡ distinct_count same_vendor self.now }
     {
-        let mut count = 0;
-        let lines = self.as_slice();
-        for (place, line) in lines.iter().enumerate() {
-            if self.is_last(line, place) {
-                count += 1;
-            }
-        }
-        count
+        self.names.count()
     }
 }

@@ -1,8 +1,13 @@
-use Rattle.std.proofs.Common.{ap, ◌∙◌}
-use Rattle.avp_dict.specs.Dictionary.{is_value_numbered}
-use Rattle.avp_dict.specs.code.Tables.{place_of, same_value_number}
-use Rattle.avp_dict.proofs.Last.{last_at}
+use Rattle.std.proofs.Common.{ap, ◌&&◌, ◌==◌, ◌∙◌}
+use Rattle.avp_dict.specs.Dictionary.{is_value_numbered, last_where}
+use Rattle.avp_dict.specs.code.Tables.{same_value_number, value_number_key}
+use Rattle.avp_dict.proofs.Keys.{same_key}
 use Rattle.avp_dict.proofs.tables.values.Values.by_number.Goals as goal
 
 pub returns : goal.returns
-returns c = last_at (is_value_numbered c.args.id c.args.number) c.as_slice.ensures.value c.self.view_is c.line_at.ensures (c.place.ensures ∙ ap (λ k. place_of same_value_number c.self.inside.numbers (k, c.args.number)) c.id_key.ensures ∙ c.self.invariant.numbered c.args.id c.args.number)
+returns c =
+    let id = c.args.id in
+    let number = c.args.number in
+    c.line.ensures value_number_key (is_value_numbered id number) (rw c.as_slice.ensures.value c.self.invariant.by_number)
+    (λ v. ap (λ k. same_value_number (value_number_key v) (k, number)) c.id_key.ensures ∙ ap (λ b. b && (v.number == number)) (same_key v.id id))
+    ∙ ap (last_where (is_value_numbered id number)) (c.as_slice.ensures.value ∙ c.self.view_is)

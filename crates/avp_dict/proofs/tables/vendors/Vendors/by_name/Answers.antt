@@ -1,14 +1,16 @@
-use Rattle.std.proofs.Common.{ap, ◌∙◌}
+use Rattle.std.proofs.Common.{ap, sym, ◌∙◌}
 use Rattle.std.specs.Str.{bytes_eq}
 use Rattle.avp_dict.specs.Dictionary.{is_vendor_named, last_where}
-use Rattle.avp_dict.specs.code.Tables.{place_of}
-use Rattle.avp_dict.proofs.Last.{last_at}
+use Rattle.avp_dict.specs.code.Tables.{vendor_key}
+use Rattle.avp_dict.proofs.Folding.{same_folded}
 use Rattle.avp_dict.proofs.Short.{long_where}
 use Rattle.avp_dict.proofs.tables.vendors.Vendors.by_name.Goals as goal
 
 pub returns-in-Some : goal.returns-in-Some
-returns-in-Some c = last_at (is_vendor_named c.args.name.now) c.as_slice-lines.ensures.value c.self.view_is c.line_at.ensures
-    (c.place.ensures ∙ ap (place_of bytes_eq c.self.inside.names) c.in-Some.ensures.folded ∙ c.self.invariant.named c.args.name.now)
+returns-in-Some c =
+    let name = c.args.name.now in
+    c.line.ensures vendor_key (is_vendor_named name) (rw c.as_slice-lines.ensures.value c.self.invariant.by_name) (λ v. ap (bytes_eq (vendor_key v)) c.in-Some.ensures.folded ∙ sym (same_folded v.name name))
+    ∙ ap (last_where (is_vendor_named name)) (c.as_slice-lines.ensures.value ∙ c.self.view_is)
 
 pub returns-in-None : goal.returns-in-None
-returns-in-None c = long_where (λ a. a.name) c.args.name.now (is_vendor_named c.args.name.now) (λ a h. h) c.in-None.ensures.long c.self.inside.lines.items c.self.invariant.short ∙ ap (last_where (is_vendor_named c.args.name.now)) c.self.view_is
+returns-in-None c = long_where (λ v. v.name) c.args.name.now (is_vendor_named c.args.name.now) (λ v h. h) c.in-None.ensures.long c.self.inside.lines.items c.self.invariant.short ∙ ap (last_where (is_vendor_named c.args.name.now)) c.self.view_is

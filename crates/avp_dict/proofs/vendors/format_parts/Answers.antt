@@ -1,10 +1,10 @@
 use Rattle.std.proofs.Common.{sym, arith, ◌∙◌}
 use Rattle.avp_dict.proofs.OtherCounts.{no_format, three_parts}
-use Rattle.avp_dict.proofs.vendors.format_of_parts.Goals as goal
+use Rattle.avp_dict.proofs.vendors.format_parts.Goals as goal
 
 pub returns-in-len3 : goal.returns-in-len3
 returns-in-len3 c =
-    c.format_of_numbers-in-len3.ensures _ _ c.read_number-in-len3.ensures c.read_number-in-len3-2.ensures
+    c.two_parts-in-len3.ensures _ _ c.read_number-in-len3.ensures c.read_number-in-len3-2.ensures
     ∙ three_parts c.args.parts.now _ _ (omega arith)
 
 pub returns-in_default : goal.returns-in_default

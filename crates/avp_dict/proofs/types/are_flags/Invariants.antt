@@ -1,6 +1,6 @@
 use Rattle.std.proofs.Common.{◌≡◌, length}
 use Rattle.std.specs.List.{list_all}
-use Rattle.avp_dict.proofs.types.are_known.Given as goal
+use Rattle.avp_dict.proofs.types.are_flags.Given as goal
 use Rattle.avp_dict.specs.Types.{is_flag}
 use Rattle.avp_dict.specs.code.Views.{views}
 

@@ -1,5 +1,5 @@
 use Rattle.std.proofs.Common.{◌≡◌, length}
-use Rattle.avp_dict.proofs.files.are_distinct.Given as goal
+use Rattle.avp_dict.proofs.files.names_differ.Given as goal
 use Rattle.avp_dict.specs.Lines.{names_differ}
 
 abbrev pub invariant-loop-rest : goal.invariant-loop-rest

@@ -1,0 +1,23 @@
+use Rattle.std.proofs.Common.{◌≡◌, rules, ap, map, subst, sym, length, ◌≤◌, ◌∙◌}
+use Rattle.std.specs.List.{All}
+use Rattle.std.proofs.lemmas.List.Elements.{All-push}
+use Rattle.std.specs.Str.{bytes_eq}
+use Rattle.avp_dict.specs.Letters.{most_name}
+use Rattle.avp_dict.specs.Dictionary.{attribute_key}
+use Rattle.avp_dict.specs.code.Tables.{id_key, same_id_key}
+use Rattle.avp_dict.specs.Words.{lower}
+use Rattle.avp_dict.proofs.LineTables.{line_added}
+use Rattle.avp_dict.proofs.tables.attributes.add_line.Goals as goal
+
+pub returns-clause-tables : goal.returns-clause-tables
+returns-clause-tables c =
+    let tables = c.requires.tables in
+    let lines = c.args.lines.now.items in
+    let line = c.args.line in
+    let at : c.len-place.result ≡ length lines = search rules in
+    let grown = c.in_ok-push.ensures.items in
+    record {
+      by_name = line_added bytes_eq attribute_key lines line c.in_ok-put.ensures tables.by_name at (c.of_short.ensures ∙ ap (map lower) c.as_slice.ensures) grown;
+      by_id = line_added same_id_key (λ a. id_key a.id) lines line c.in_ok-put-2.ensures tables.by_id at c.id_key.ensures grown;
+      short = subst (All (λ a. length a.name ≤ most_name)) (sym grown) (All-push (λ a. length a.name ≤ most_name) lines line tables.short c.requires.short);
+    }
