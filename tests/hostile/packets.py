@@ -11,6 +11,7 @@ from common.subject import Subject, new_folder, on_all
 CASES = Path(__file__).parent.parent / "cases"
 HEAD = 20
 MOST = 4096
+MESSAGE_AUTHENTICATOR = 80
 
 
 def is_whole(octets: bytes) -> Optional[int]:
@@ -23,8 +24,17 @@ def is_whole(octets: bytes) -> Optional[int]:
     return None
 
 
+def types(octets: bytes) -> List[int]:
+    """The types of a packet's whole attributes."""
+    at, found = HEAD, []
+    while at < len(octets):
+        found.append(octets[at])
+        at += octets[at + 1]
+    return found
+
+
 def refusal(octets: bytes) -> Optional[str]:
-    """The refusal of a packet that is no Accounting-Request by its head and its attributes' lengths, with its place."""
+    """The refusal of a packet by its head and its attributes' types and lengths, where no digest in it is right."""
     length = int.from_bytes(octets[2:4], "big")
     if len(octets) < HEAD:
         return "E40"
@@ -35,7 +45,8 @@ def refusal(octets: bytes) -> Optional[str]:
     bad = is_whole(octets[:length])
     if bad is not None:
         return f"E43 offset {bad}"
-    return {1: None, 4: "E45"}.get(octets[0], "E44")
+    unsigned = "E47" if MESSAGE_AUTHENTICATOR in types(octets[:length]) else None
+    return {1: unsigned, 4: "E45"}.get(octets[0], "E44")
 
 
 def found(subject: Subject, folder: Path, octets: bytes) -> Ended:

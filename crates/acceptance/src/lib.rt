@@ -16,6 +16,8 @@ mod program;
 #[cfg(test)]
 mod runs;
 #[cfg(test)]
+mod signing;
+#[cfg(test)]
 mod unnamed_attributes;
 #[cfg(test)]
 mod values;

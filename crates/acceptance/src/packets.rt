@@ -180,8 +180,8 @@ fn answers_an_accounting_request(rt: HostRuntime) -> Result<(), Fail> {
     Ok(())
 }
 
-// An `update` of the reply with so many `Class` of 253 octets and one of `last` octets more.
-fn long_policy(alloc: Global, count: usize, last: usize) -> Result<Vec<u8>, Fail> {
+/// An `update` of the reply with so many `Class` of 253 octets and one of `last` octets more.
+pub fn long_policy(alloc: Global, count: usize, last: usize) -> Result<Vec<u8>, Fail> {
     let mut policy = Vec::from_slice(alloc, b"update reply {\n")?;
     for i in 0..=count {
         let octets = if i < count { 253 } else { last };

@@ -1,5 +1,5 @@
 -- Packets as they are put together, and what is read of them again.
-use Rattle.std.proofs.Common.{◌≡◌, ◌∙◌, ℕ, ◌+◌, ◌≤◌, true, nat_le, ◌==◌, List, ◌∷◌, ◌++◌, length, take, drop, refl, ap, arith}
+use Rattle.std.proofs.Common.{◌≡◌, ◌∙◌, ℕ, ◌+◌, ◌≤◌, Bool, true, nat_le, ◌==◌, List, [], ◌∷◌, ◌++◌, length, map, take, drop, refl, ap, arith}
 use Rattle.std.proofs.lemmas.Grind.{common_steps}
 use Rattle.std.proofs.lemmas.List.{length-append, take_at, drop_at, take_all}
 use Rattle.md5.specs.Md5.{md5}
@@ -7,10 +7,15 @@ use Rattle.md5.proofs.StandardFacts.{length-md5}
 use Rattle.avp_lists.specs.declared.attributes.Pair.{Pair}
 use Rattle.avp_dict.specs.Dictionary.{Dictionary}
 use Rattle.std.specs.Int.{to_be_bytes, w16}
+use Rattle.std.specs.List.{flat_map}
 use Rattle.std.specs.Str.{bytes_eq}
 use Rattle.avp_lists.specs.declared.attributes.Value.TheVariants.{Text}
 use Rattle.avp_lists.proofs.Equality.{value_eq-same}
-use Rattle.avp_packet.specs.Packets.{accounting_request, attributes_of, authenticator_of, digest_over, is_reply, length_of, packet, reply, reply_attributes, request, request_attributes, request_authenticator, zeros}
+use Rattle.avp_packet.specs.AttributeOctets.{part}
+use Rattle.avp_packet.specs.Hmac.{hmac}
+use Rattle.avp_packet.specs.Packets.{accounting_request, attributes_of, attributes_signed, authenticator_of, digest_over, is_reply, length_of, packet, reply, reply_content, request, request_authenticator, request_content, zeros}
+use Rattle.avp_packet.specs.Signed.{blanked, is_signed, signatures}
+use Rattle.avp_packet.specs.Splitting.{left, part_octets, parts}
 use Rattle.avp_packet.proofs.Rooms.{by_test}
 
 pub length-packet : (code id : ℕ) (authenticator attributes : List ℕ) → length authenticator ≡ 16 → length (packet code id authenticator attributes) ≡ 20 + length attributes
@@ -28,16 +33,16 @@ length-request_authenticator code id authenticator attributes secret h =
     by_test (length (request_authenticator code id authenticator attributes secret) ≡ 16) (code == accounting_request) (λ e. rw e (length-digest_over code id zeros attributes secret)) (λ e. rw e h)
 
 module _ (dictionary : Dictionary) (secret : List ℕ) (code id : ℕ) (authenticator : List ℕ) where
-  pub length_request : (pairs : List Pair) → length authenticator ≡ 16 → length (request dictionary secret code id authenticator pairs) ≡ 20 + length (request_attributes dictionary secret code authenticator pairs)
+  pub length_request : (pairs : List Pair) → length authenticator ≡ 16 → length (request dictionary secret code id authenticator pairs) ≡ 20 + length (attributes_signed dictionary secret code id authenticator (request_content code pairs))
   unfolding request
   length_request pairs h =
-      let attributes : List ℕ = request_attributes dictionary secret code authenticator pairs in
+      let attributes : List ℕ = attributes_signed dictionary secret code id authenticator (request_content code pairs) in
       length-packet code id (request_authenticator code id authenticator attributes secret) attributes (length-request_authenticator code id authenticator attributes secret h)
 
-  pub length_reply : (pairs proxy_states : List Pair) → length (reply dictionary secret code id authenticator pairs proxy_states) ≡ 20 + length (reply_attributes dictionary secret code authenticator pairs proxy_states)
+  pub length_reply : (signed : Bool) (pairs proxy_states : List Pair) → length (reply dictionary secret code id authenticator signed pairs proxy_states) ≡ 20 + length (attributes_signed dictionary secret code id authenticator (reply_content signed pairs proxy_states))
   unfolding reply
-  length_reply pairs proxy_states =
-      let attributes : List ℕ = reply_attributes dictionary secret code authenticator pairs proxy_states in
+  length_reply signed pairs proxy_states =
+      let attributes : List ℕ = attributes_signed dictionary secret code id authenticator (reply_content signed pairs proxy_states) in
       length-packet code id (digest_over code id authenticator attributes secret) attributes (length-digest_over code id authenticator attributes secret)
 
 -- ---- a packet taken apart
@@ -88,3 +93,19 @@ is_reply-packet code id request_authenticator attributes secret short =
     let e : nat_le (length_of os) (length os) ≡ true = grind (arith, common_steps) in
     rw (a, b, d, e, head-packet code id digest attributes long short, attributes_of-packet code id digest attributes long short, authenticator_of-packet code id digest attributes long short)
     (ap (bytes_eq digest) (over_request code id request_authenticator attributes secret) ∙ same_octets digest)
+
+-- the octets that sign are those that are looked for
+pub is_signed-packet : (code id : ℕ) (own authenticator attributes blank signature secret : List ℕ) → length own ≡ 16 → length attributes ≤ 4076 → length blank ≡ length attributes → left attributes ≡ []
+    → signatures (parts attributes) ≡ part 80 signature ∷ [] → flat_map part_octets (map blanked (parts attributes)) ≡ blank → signature ≡ hmac secret (packet code id authenticator blank)
+    → is_signed (packet code id own attributes) authenticator secret ≡ true
+unfolding is_signed packet
+is_signed-packet code id own authenticator attributes blank signature secret long short same whole one text made =
+    let os : List ℕ = packet code id own attributes in
+    let size : length os ≡ 20 + length attributes = length-packet code id own attributes long in
+    let told : length_of os ≡ 20 + length attributes = length_of-packet code id own attributes long short in
+    let apart : attributes_of os ≡ attributes = attributes_of-packet code id own attributes long short in
+    let a : nat_le 20 (length os) ≡ true = grind (arith, common_steps) in
+    let b : nat_le 20 (length_of os) ≡ true = grind (arith, common_steps) in
+    let d : nat_le (length_of os) 4096 ≡ true = grind (arith, common_steps) in
+    let e : nat_le (length_of os) (length os) ≡ true = grind (arith, common_steps) in
+    rw (a, b, d, e, apart, whole, one, text, ← same, ← made) (same_octets signature)

@@ -1,4 +1,6 @@
 pub mod Assembled
+pub mod Divided
+pub mod Filled
 pub mod Fitted
 pub mod FittedLists
 pub mod Masks
@@ -12,6 +14,8 @@ pub mod ReadBack
 pub mod Refused
 pub mod Rooms
 pub mod Runs
+pub mod SentLists
+pub mod Signatures
 pub mod Splits
 pub mod Subs
 pub mod Values

@@ -166,7 +166,7 @@ module _ (dictionary : Dictionary) (sound : IsSound dictionary) (formats : HasKn
   known_format_of v n h = known_by n (format_of v dictionary.vendors) h (formats v)
 
   -- a plain attribute
-  plain_read : (n : ℕ) (os : List ℕ) (rest : List Part) → is_container (Plain n) ≡ false → means (part n os ∷ rest) ≡ pair_from (Plain n) os ∷ means rest
+  pub plain_read : (n : ℕ) (os : List ℕ) (rest : List Part) → is_container (Plain n) ≡ false → means (part n os ∷ rest) ≡ pair_from (Plain n) os ∷ means rest
   plain_read n os rest h =
       let a : (n == 26) ≡ false = grind (arith, common_steps) in
       let b : (nat_le 241 n && nat_le n 244) ≡ false = grind (arith, common_steps) in

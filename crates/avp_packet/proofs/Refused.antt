@@ -4,7 +4,8 @@ use Rattle.avp_dict.specs.Dictionary.{Dictionary}
 use Rattle.avp_packet.specs.declared.faults.PacketFault.{PacketFault}
 use Rattle.avp_packet.specs.declared.faults.PacketFault.TheVariants.{BadAttribute}
 use Rattle.avp_packet.specs.declared.packets.Packet.{Packet}
-use Rattle.avp_packet.specs.Packets.{attributes_of, decoded, is_length, length_of, request_read, unless_left}
+use Rattle.avp_packet.specs.Decoded.{decoded, request_read, unless_left}
+use Rattle.avp_packet.specs.Packets.{attributes_of, is_length, length_of}
 use Rattle.avp_packet.specs.Splitting.{Part, begins_whole, left, part_octets}
 use Rattle.avp_packet.proofs.Splits.{left-none, left-octets, left_short}
 

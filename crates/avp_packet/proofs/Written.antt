@@ -1,5 +1,5 @@
 -- What is written of an attribute, piece by piece.
-use Rattle.std.proofs.Common.{◌≡◌, ◌∙◌, ℕ, zero, suc, ◌+◌, ◌-◌, ◌/◌, ◌<◌, ◌≤◌, List, [], ◌∷◌, ◌++◌, get_or, length, take, drop, refl, sym, ap, arith, append-nil, append_assoc}
+use Rattle.std.proofs.Common.{◌≡◌, ◌∙◌, ℕ, zero, suc, ◌+◌, ◌-◌, ◌/◌, ◌<◌, ◌≤◌, Bool, true, false, List, [], ◌∷◌, ◌++◌, get_or, length, take, drop, refl, sym, ap, arith, append-nil, append_assoc}
 use Rattle.std.specs.Prelude.{filter}
 use Rattle.std.specs.Int.{bytes_high_first}
 use Rattle.std.specs.List.{flat_map}
@@ -9,12 +9,15 @@ use Rattle.std.specs.Prelude.{nat_lt}
 use Rattle.avp_packet.specs.code.Ranges.{IsVendorInRange}
 use Rattle.std.proofs.lemmas.Grind.{flat_map-append}
 use Rattle.avp_lists.specs.declared.attributes.Pair.{Pair}
+use Rattle.avp_lists.specs.Instances.{is_other}
 use Rattle.avp_dict.specs.Dictionary.{Dictionary}
 use Rattle.avp_dict.specs.Sent.{is_sent, sent}
 use Rattle.avp_packet.proofs.Rooms.{by_test}
 use Rattle.avp_dict.specs.declared.entries.Format.{Format}
 use Rattle.avp_packet.specs.AttributeOctets.{attribute_octets, fragments, part, parts_of, parts_of_pair, vendor_part, vendor_value}
+use Rattle.avp_packet.specs.Sending.{message_authenticator}
 use Rattle.avp_packet.specs.Splitting.{part_octets}
+use Rattle.avp_packet.specs.code.Filling.{kept}
 
 -- ---- vendors
 
@@ -84,11 +87,23 @@ module _ (dictionary : Dictionary) (secret authenticator : List ℕ) where
       (λ e. rw (e, append-nil (parts_of_pair dictionary secret authenticator p), flat_map-append part_octets (parts_of_pair dictionary secret authenticator p) (flat_map (parts_of_pair dictionary secret authenticator) (filter (is_sent dictionary) ps))))
       (λ e. rw e)
 
-  -- one pair more
-  pub written-more : (old new : List ℕ) (pairs : List Pair) (i : ℕ) (d : Pair) → i < length pairs → new ≡ old ++ written (get_or pairs i d ∷ []) → new ++ written (drop (i + 1) pairs) ≡ old ++ written (drop i pairs)
-  written-more old new pairs i d lt e =
-      rw (e, append_assoc, drop_more pairs i d lt, written-cons (get_or pairs i d) (drop (i + 1) pairs))
-
   pub written-nil : written [] ≡ []
   unfolding parts_of sent
   written-nil = refl
+
+  -- those that are kept
+  pub kept-cons : (all : Bool) (p : Pair) (ps : List Pair) → written (kept all (p ∷ ps)) ≡ written (kept all (p ∷ [])) ++ written (kept all ps)
+  kept-cons true p ps = written-cons p ps
+  kept-cons false p ps =
+      by_test (written (kept false (p ∷ ps)) ≡ written (kept false (p ∷ [])) ++ written (kept false ps)) (is_other message_authenticator p)
+      (λ e. rw e (written-cons p (kept false ps)))
+      (λ e. rw (e, written-nil) refl)
+
+  -- one pair more
+  pub written-more : (all : Bool) (old new : List ℕ) (pairs : List Pair) (i : ℕ) (d : Pair) → i < length pairs → new ≡ old ++ written (kept all (get_or pairs i d ∷ [])) → new ++ written (kept all (drop (i + 1) pairs)) ≡ old ++ written (kept all (drop i pairs))
+  written-more all old new pairs i d lt e =
+      rw (e, append_assoc, drop_more pairs i d lt, kept-cons all (get_or pairs i d) (drop (i + 1) pairs))
+
+  pub kept-nil : (all : Bool) → written (kept all []) ≡ []
+  kept-nil true = written-nil
+  kept-nil false = written-nil

@@ -1,10 +1,14 @@
 pub mod AttributeOctets
+pub mod Decoded
 pub mod Hiding
+pub mod Hmac
 pub mod Meanings
 pub mod Means
 pub mod Outcomes
 pub mod Own
 pub mod Packets
+pub mod Sending
+pub mod Signed
 pub mod Splitting
 pub mod VendorFormats
 pub mod code

@@ -1,17 +1,18 @@
--- Packets, the digests in their authenticators, and what is refused of octets handed in as a packet (RFC 2865, section 3; RFC 2866, section 3).
-use Rattle.std.specs.Prelude.{◌≡◌, ◌⊎◌, ℕ, ◌+◌, ◌-◌, Bool, ◌&&◌, ◌||◌, not, ◌==◌, nat_lt, nat_le, if◌then◌else◌, List, [], ◌∷◌, ◌++◌, length, take, drop, slice_index, replicate, Result, Ok, Err}
+-- Packets and the digests in them (RFC 2865, section 3; RFC 2866, section 3; RFC 3579, section 3.2).
+use Rattle.std.specs.Prelude.{◌≡◌, ◌⊎◌, ℕ, ◌+◌, Bool, ◌&&◌, ◌||◌, ◌==◌, nat_le, if◌then◌else◌, List, [], ◌∷◌, ◌++◌, length, take, drop, slice_index, replicate}
 use Rattle.std.specs.Int.{to_be_bytes, w16}
 use Rattle.std.specs.Int.Digits.{number_from_digits}
+use Rattle.std.specs.List.{flat_map}
 use Rattle.std.specs.Str.{bytes_eq}
 use Rattle.md5.specs.Md5.{md5}
+use Rattle.avp_lists.specs.declared.attributes.AttrId.TheVariants.{Plain}
 use Rattle.avp_lists.specs.declared.attributes.Pair.{Pair}
 use Rattle.avp_dict.specs.Dictionary.{Dictionary}
-use Rattle.avp_packet.specs.declared.faults.PacketFault.{PacketFault}
-use Rattle.avp_packet.specs.declared.faults.PacketFault.TheVariants.{TooShort, LengthOutOfRange, CutShort, BadAttribute, CodeNotTaken, WrongAuthenticator}
-use Rattle.avp_packet.specs.declared.packets.Packet.{Packet}
-use Rattle.avp_packet.specs.AttributeOctets.{attribute_octets}
-use Rattle.avp_packet.specs.Meanings.{meaning}
-use Rattle.avp_packet.specs.Splitting.{left, parts}
+use Rattle.avp_packet.specs.AttributeOctets.{part, parts_of_pair}
+use Rattle.avp_packet.specs.Hmac.{hmac}
+use Rattle.avp_packet.specs.Meanings.{pair_of, raw_pair}
+use Rattle.avp_packet.specs.Sending.{Content, Kind, Access, Accounting, Reply, pairs_sent}
+use Rattle.avp_packet.specs.Splitting.{part_octets}
 
 -- ---- codes (RFC 2865, section 3; RFC 2866, section 3)
 
@@ -61,25 +62,55 @@ hiding_authenticator code authenticator = if (code == accounting_request) || (co
 
 -- ---- requests and replies
 
-abbrev pub request_attributes : Dictionary → List ℕ → ℕ → List ℕ → List Pair → List ℕ
-request_attributes dictionary secret code authenticator pairs =
-    attribute_octets dictionary secret (hiding_authenticator code authenticator) pairs
+-- the attributes of pairs that are sent
+abbrev pub octets_sent : Dictionary → List ℕ → List ℕ → List Pair → List ℕ
+octets_sent dictionary secret hide_by pairs =
+    flat_map part_octets (flat_map (parts_of_pair dictionary secret hide_by) pairs)
+
+-- the attributes of a packet with this authenticator, and with these octets as its Message-Authenticator
+abbrev pub attributes_with : Dictionary → List ℕ → ℕ → List ℕ → Content → List ℕ → List ℕ
+attributes_with dictionary secret code authenticator content signature =
+    octets_sent dictionary secret (hiding_authenticator code authenticator)
+    (pairs_sent dictionary content (raw_pair (part 80 signature)))
+
+-- the octets that sign it: the digest of the packet with zeros in their place (RFC 3579, section 3.2)
+unfoldable pub signature_of : Dictionary → List ℕ → ℕ → ℕ → List ℕ → Content → List ℕ
+signature_of dictionary secret code id authenticator content =
+    hmac secret (packet code id authenticator (attributes_with dictionary secret code authenticator content zeros))
+
+-- the attributes of a packet, signed
+abbrev pub attributes_signed : Dictionary → List ℕ → ℕ → ℕ → List ℕ → Content → List ℕ
+attributes_signed dictionary secret code id authenticator content =
+    attributes_with dictionary secret code authenticator content
+    (signature_of dictionary secret code id authenticator content)
+
+-- the pairs that these attributes mean
+abbrev pub pairs_meant : Dictionary → List ℕ → ℕ → ℕ → List ℕ → Content → List Pair
+pairs_meant dictionary secret code id authenticator content = pairs_sent dictionary content
+    (pair_of dictionary secret (hiding_authenticator code authenticator) (Plain 80)
+    (signature_of dictionary secret code id authenticator content))
+
+abbrev pub request_kind : ℕ → Kind
+request_kind code = if code == accounting_request then Accounting else Access
+
+abbrev pub request_content : ℕ → List Pair → Content
+request_content code pairs =
+    record { kind = request_kind code; pairs = pairs; proxy_states = [] }
 
 unfoldable pub request : Dictionary → List ℕ → ℕ → ℕ → List ℕ → List Pair → List ℕ
 request dictionary secret code id authenticator pairs =
-    let attributes = request_attributes dictionary secret code authenticator pairs in
+    let attributes = attributes_signed dictionary secret code id authenticator (request_content code pairs) in
     packet code id (request_authenticator code id authenticator attributes secret) attributes
 
 -- the reply list's, then the Proxy-States'
-abbrev pub reply_attributes : Dictionary → List ℕ → ℕ → List ℕ → List Pair → List Pair → List ℕ
-reply_attributes dictionary secret code authenticator pairs proxy_states =
-    request_attributes dictionary secret code authenticator pairs
-    ++ request_attributes dictionary secret code authenticator proxy_states
+abbrev pub reply_content : Bool → List Pair → List Pair → Content
+reply_content signed pairs proxy_states =
+    record { kind = Reply signed; pairs = pairs; proxy_states = proxy_states }
 
--- the authenticator of a reply is the digest over that of the request
-unfoldable pub reply : Dictionary → List ℕ → ℕ → ℕ → List ℕ → List Pair → List Pair → List ℕ
-reply dictionary secret code id authenticator pairs proxy_states =
-    let attributes = reply_attributes dictionary secret code authenticator pairs proxy_states in
+-- the authenticator of a reply is the digest over that of the request, and over the Message-Authenticator
+unfoldable pub reply : Dictionary → List ℕ → ℕ → ℕ → List ℕ → Bool → List Pair → List Pair → List ℕ
+reply dictionary secret code id authenticator signed pairs proxy_states =
+    let attributes = attributes_signed dictionary secret code id authenticator (reply_content signed pairs proxy_states) in
     packet code id (digest_over code id authenticator attributes secret) attributes
 
 -- ---- octets handed in
@@ -109,43 +140,3 @@ unfoldable pub is_reply : List ℕ → List ℕ → List ℕ → Bool
 is_reply os authenticator secret =
     nat_le 20 (length os) && is_length (length_of os) && nat_le (length_of os) (length os)
     && bytes_eq (authenticator_of os) (md5 (take 4 os ++ authenticator ++ attributes_of os ++ secret))
-
--- ---- requests read
-
--- the digest that the authenticator of an Accounting-Request has to be
-abbrev pub is_accounting : List ℕ → List ℕ → Bool
-is_accounting os secret = bytes_eq (authenticator_of os) (md5 (take 4 os ++ zeros ++ attributes_of os ++ secret))
-
-abbrev pub packet_read : Dictionary → List ℕ → List ℕ → Packet
-packet_read dictionary secret os = record {
-  code = code_of os;
-  id = id_of os;
-  authenticator = authenticator_of os;
-  list =
-      meaning dictionary secret (hiding_authenticator (code_of os) (authenticator_of os))
-      (parts (attributes_of os));
-}
-
--- an Access-Request, or an Accounting-Request with its authenticator
-abbrev pub request_read : Dictionary → List ℕ → List ℕ → Result Packet PacketFault
-request_read dictionary secret os =
-    if not ((code_of os == access_request) || (code_of os == accounting_request)) then Err CodeNotTaken
-    else (if (code_of os == accounting_request) && not (is_accounting os secret) then Err WrongAuthenticator
-    else Ok (packet_read dictionary secret os))
-
--- what is left of attributes that end here begins with the first that is not whole
-abbrev pub unless_left : ℕ → List ℕ → Result Packet PacketFault → Result Packet PacketFault
-unless_left end [] read = read
-unless_left end (o ∷ os) read = Err (BadAttribute (end - length (o ∷ os)))
-
--- the first attribute that is not whole, by its offset in the packet
-abbrev pub unless_bad : List ℕ → Result Packet PacketFault → Result Packet PacketFault
-unless_bad attributes read = unless_left (20 + length attributes) (left attributes) read
-
--- what octets are read as, or the first refusal
-unfoldable pub decoded : Dictionary → List ℕ → List ℕ → Result Packet PacketFault
-decoded dictionary secret os =
-    if nat_lt (length os) 20 then Err TooShort
-    else (if not (is_length (length_of os)) then Err LengthOutOfRange
-    else (if nat_lt (length os) (length_of os) then Err CutShort
-    else unless_bad (attributes_of os) (request_read dictionary secret os)))

@@ -1,3 +1,4 @@
+pub mod Filling
 pub mod Holding
 pub mod Ranges
 pub mod Views

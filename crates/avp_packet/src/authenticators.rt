@@ -1,9 +1,11 @@
 //! The digests that stand in authenticators (RFC 2865, section 3; RFC 2866, section 3).
 
-ghost use Rattle.std.specs.Prelude.{◌≡◌, ◌≤◌, ◌<◌, ◌++◌, length, take, drop};
+ghost use Rattle.std.specs.Prelude.{◌≡◌, ◌≤◌, ◌<◌, ◌+◌, ◌∷◌, ◌++◌, length, take, drop};
+ghost use Rattle.std.specs.Int.{to_be_bytes, w16};
 ghost use Rattle.std.specs.Str.{bytes_eq};
 ghost use Rattle.md5.specs.Md5.{md5};
-ghost use Rattle.avp_packet.specs.Packets.{authenticator_of, digest_over, is_accounting, is_length, is_reply, length_of, zeros};
+ghost use Rattle.avp_packet.specs.Decoded.{is_accounting};
+ghost use Rattle.avp_packet.specs.Packets.{authenticator_of, digest_over, is_length, is_reply, length_of, zeros};
 
 use crate::hiding::BLOCK_OCTETS;
 use md5::{Digest, Md5};
@@ -15,7 +17,7 @@ pub const HEAD_OCTETS: usize = 20;
 pub const MOST_OCTETS: usize = 4096;
 
 /// Where the authenticator begins.
-const AUTHENTICATOR_PLACE: usize = 4;
+pub(crate) const AUTHENTICATOR_PLACE: usize = 4;
 
 /// Octets of zero, in an authenticator's place.
 pub(crate) const ZEROS: [u8; BLOCK_OCTETS] = [0; BLOCK_OCTETS];
@@ -63,7 +65,8 @@ pub(crate) fn attributes_in(octets: &[u8], end: usize) -> &[u8]
     &whole[HEAD_OCTETS..]
 }
 
-fn are_equal(octets: &[u8], others: &[u8]) -> bool
+/// Whether octets are the same.
+pub(crate) fn are_equal(octets: &[u8], others: &[u8]) -> bool
     ensures { result ≡ bytes_eq octets.now others.now }
 {
     octets == others
@@ -110,6 +113,15 @@ pub fn check_reply(reply: &[u8], request_authenticator: &[u8; 16], secret: &[u8]
     has_digest(reply, length, request_authenticator, secret)
 }
 
+/// Code, Identifier and Length of a packet with so many octets of attributes.
+pub(crate) fn head_of(code: u8, id: u8, attributes: usize) -> [u8; 4]
+    requires { attributes ≤ MOST_OCTETS }
+    ensures { result ≡ code ∷ id ∷ to_be_bytes w16 (20 + attributes) }
+{
+    let length = ((HEAD_OCTETS + attributes) as u16).to_be_bytes();
+    [code, id, length[0], length[1]]
+}
+
 /// The digest over a packet with these octets as its authenticator, and over the secret.
 #[tactic(auto, unfolding(crate::specs::Packets::digest_over, crate::specs::Packets::packet))]
 pub(crate) fn digest_of_packet(
@@ -122,11 +134,6 @@ pub(crate) fn digest_of_packet(
     requires { length attributes.now ≤ MOST_OCTETS }
     ensures { result ≡ digest_over code id authenticator.now attributes.now secret.now }
 {
-    let length = ((HEAD_OCTETS + attributes.len()) as u16).to_be_bytes();
-    digest_of_four(
-        &[code, id, length[0], length[1]],
-        authenticator,
-        attributes,
-        secret,
-    )
+    let head = head_of(code, id, attributes.len());
+    digest_of_four(&head, authenticator, attributes, secret)
 }

@@ -1,6 +1,6 @@
 //! Requests read (RFC 2865, section 3; RFC 2866, section 3).
 
-ghost use Rattle.std.specs.Prelude.{◌≡◌, ◌≤◌, ◌<◌, ◌-◌, [], true, List, length, All, IfOk, IfSome, IfNone};
+ghost use Rattle.std.specs.Prelude.{◌≡◌, ◌≤◌, ◌<◌, true, List, length, All, IfOk};
 ghost use Rattle.avp_lists.specs.declared.attributes.Pair.{Pair};
 ghost use Rattle.avp_lists.specs.States.{most_pairs};
 ghost use Rattle.avp_dict.specs.Limits.{fits};
@@ -8,8 +8,9 @@ ghost use Rattle.avp_packet.specs.Meanings.{meaning};
 ghost use Rattle.avp_packet.specs.Means.{Means};
 ghost use Rattle.avp_packet.specs.Outcomes.{Gives};
 ghost use Rattle.avp_packet.specs.Own.{IsOwn};
-ghost use Rattle.avp_packet.specs.Packets.{IsRequestCode, attributes_of, authenticator_of, decoded, hiding_authenticator, length_of, packet_read, request_read};
-ghost use Rattle.avp_packet.specs.Splitting.{left, parts};
+ghost use Rattle.avp_packet.specs.Decoded.{decoded, is_wrongly_signed, packet_read, request_read};
+ghost use Rattle.avp_packet.specs.Packets.{IsRequestCode, attributes_of, authenticator_of, hiding_authenticator, length_of};
+ghost use Rattle.avp_packet.specs.Splitting.{parts};
 
 use crate::authenticators::{
     HEAD_OCTETS, MOST_OCTETS, ZEROS, attributes_in, authenticator_in, is_accounting_request,
@@ -19,27 +20,11 @@ use crate::encoding::authenticator_to_hide_by;
 use crate::faults::PacketFault;
 use crate::packets::{ACCESS_REQUEST, ACCOUNTING_REQUEST, Packet};
 use crate::pairs::read_pairs;
-use crate::splitting::first_attribute;
+use crate::signing::{check_message, has_signature};
+use crate::walking::bad_attribute;
 use avp_dict::Dictionary;
 use avp_lists::Pairs;
 use std::alloc::{AllocError, Global};
-
-// Where the first attribute begins that is not whole.
-fn bad_attribute(octets: &[u8]) -> Option<usize>
-    ensures bad { IfSome result (λ offset. offset ≡ length octets.now - length (left octets.now)) }
-    ensures some { IfSome result (λ offset. 0 < length (left octets.now)) }
-    ensures none { IfNone result (left octets.now ≡ []) }
-{
-    let mut rest = octets;
-    while let Some(front) = first_attribute(rest) {
-        rest = front.rest;
-    }
-    if rest.is_empty() {
-        None
-    } else {
-        Some(octets.len() - rest.len())
-    }
-}
 
 fn copy_authenticator(octets: &[u8]) -> [u8; 16]
     requires { HEAD_OCTETS ≤ length octets.now }
@@ -79,6 +64,18 @@ fn read_packet(
     })
 }
 
+// Whether an Access-Request has a Message-Authenticator that does not sign it.
+fn is_wrongly_signed(octets: &[u8], secret: &[u8]) -> bool
+    requires secret { 0 < length secret.now }
+    requires head { HEAD_OCTETS ≤ length_of octets.now }
+    requires whole { length_of octets.now ≤ length octets.now }
+    ensures { result ≡ is_wrongly_signed octets.now secret.now }
+{
+    octets[0] == ACCESS_REQUEST
+        && has_signature(attributes_in(octets, length_in(octets)))
+        && !check_message(octets, &copy_authenticator(octets), secret)
+}
+
 fn read_request(
     alloc: Global,
     dictionary: &Dictionary,
@@ -103,15 +100,19 @@ fn read_request(
     if code == ACCOUNTING_REQUEST && !is_accounting_request(octets, secret) {
         return Err(PacketFault::WrongAuthenticator);
     }
+    if is_wrongly_signed(octets, secret) {
+        return Err(PacketFault::WrongMessageAuthenticator);
+    }
     match read_packet(alloc, dictionary, secret, octets) {
         Ok(packet) => Ok(packet),
         Err(_) => Err(PacketFault::Memory),
     }
 }
 
-/// Reads an Access-Request, or an Accounting-Request whose authenticator is right; octets past Length are not looked at.
+/// Reads an Access-Request, which is signed where it has a Message-Authenticator, or an Accounting-Request whose
+/// authenticator is right; octets past Length are not looked at.
 /// The faults are tried in the order in which [`PacketFault`] has them.
-#[tactic(auto, unfolding(crate::specs::Packets::decoded))]
+#[tactic(auto, unfolding(crate::specs::Decoded::decoded))]
 pub fn decode(
     alloc: Global,
     dictionary: &Dictionary,

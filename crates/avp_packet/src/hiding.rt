@@ -26,11 +26,12 @@ fn mask_of(secret: &[u8], before: &[u8; 16]) -> [u8; 16]
     hasher.finalize()
 }
 
-fn masked_block(mask: &[u8; 16], block: &[u8; 16]) -> [u8; 16]
+/// Each octet exclusive-or the mask's octet.
+pub(crate) fn masked_block<const N: usize>(mask: &[u8; N], block: &[u8; N]) -> [u8; N]
     ensures { result ≡ masked mask.now block.now }
 {
     let mut octets = *mask;
-    for place in 0..BLOCK_OCTETS {
+    for place in 0..N {
         octets[place] ^= block[place];
     }
     octets

@@ -6,15 +6,18 @@
 
 mod authenticators;
 mod decoding;
+mod dividing;
 mod encoding;
 mod faults;
 mod formats;
 mod fragments;
 mod hiding;
+mod hmac;
 mod packets;
 mod pairs;
 mod reading;
 mod sending;
+mod signing;
 mod splitting;
 mod subattributes;
 mod walking;
@@ -28,5 +31,6 @@ pub use hiding::{hide, unhide};
 pub use packets::{
     ACCESS_ACCEPT, ACCESS_REJECT, ACCESS_REQUEST, ACCOUNTING_REQUEST, ACCOUNTING_RESPONSE, Packet,
 };
+pub use signing::check_message;
 pub use splitting::{Attribute, Attributes, BadLength};
 pub use walking::attributes;

@@ -1,15 +1,19 @@
 //! The octets of pairs and lists as they are sent.
 
-ghost use Rattle.std.specs.Prelude.{◌≡◌, ◌≤◌, ◌<◌, ◌+◌, ◌∷◌, ◌++◌, [], true, length, All, OnOk, IfOk, Err};
+ghost use Rattle.std.specs.Prelude.{◌≡◌, ◌≤◌, ◌<◌, ◌+◌, ◌∷◌, ◌++◌, ℕ, List, [], true, false, length, All, OnOk, IfOk, IsTrue, Err};
 ghost use Rattle.avp_dict.specs.Limits.{fits};
 ghost use Rattle.avp_dict.specs.Octets.{is_hidden};
 ghost use Rattle.avp_dict.specs.Sent.{is_internal, is_raw};
 ghost use Rattle.avp_packet.specs.AttributeOctets.{attribute_octets, sent_octets};
+ghost use Rattle.avp_packet.specs.Packets.{zeros};
+ghost use Rattle.avp_packet.specs.code.Filling.{IsPlace, divided_octets, filled, kept, place_if, signature_if};
 ghost use Rattle.avp_packet.specs.code.Ranges.{IsVendorInRange};
 
 use crate::authenticators::{HEAD_OCTETS, MOST_OCTETS};
+use crate::dividing::{Division, MESSAGE_AUTHENTICATOR};
 use crate::faults::EncodeFault;
 use crate::hiding::hide_short;
+use crate::hmac::BLANK;
 use crate::writing::push_holding;
 use avp_dict::Dictionary;
 use avp_lists::{AttrId, Pair, Value};
@@ -69,8 +73,8 @@ fn octets_to_send(
     Ok(plain)
 }
 
-/// Adds the attributes that a pair is sent in.
-pub(crate) fn push_pair(
+// Adds the attributes that a pair is sent in.
+fn push_pair(
     octets: &mut Vec<u8>,
     dictionary: &Dictionary,
     secret: &[u8],
@@ -92,26 +96,130 @@ pub(crate) fn push_pair(
     Ok(())
 }
 
-/// Adds the attributes that a list is sent in, unless the octets become too many.
-pub(crate) fn push_list(
+// Whether a pair is sent, where Message-Authenticators are left out but for all that are asked for.
+fn is_kept(pair: &Pair, all: bool) -> bool
+    ensures kept { IsTrue result → kept all (pair.now ∷ []) ≡ pair.now ∷ [] }
+    ensures left { result ≡ false → kept all (pair.now ∷ []) ≡ [] }
+    ensures ranged { result ≡ false → IsVendorInRange pair.now.id }
+{
+    all || !pair.id.equals(MESSAGE_AUTHENTICATOR)
+}
+
+// Adds the attributes that a pair is sent in, unless it is left out, or the octets become too many.
+fn push_kept(
+    octets: &mut Vec<u8>,
+    dictionary: &Dictionary,
+    secret: &[u8],
+    authenticator: &[u8; 16],
+    pair: &Pair,
+    all: bool,
+) -> Result<(), EncodeFault>
+    requires fits { fits pair.now dictionary.now ≡ true }
+    requires short { length octets.old.items ≤ MOST_ATTRIBUTE_OCTETS }
+    ensures ok { OnOk result (octets.new.items ≡ octets.old.items ++ attribute_octets dictionary.now secret.now authenticator.now (kept all (pair.now ∷ []))) }
+    ensures ranged { OnOk result (IsVendorInRange pair.now.id) }
+    ensures short { OnOk result (length octets.new.items ≤ MOST_ATTRIBUTE_OCTETS) }
+    ensures too_long { result ≡ Err EncodeFault.TooLong → MOST_ATTRIBUTE_OCTETS < length octets.old.items + length (attribute_octets dictionary.now secret.now authenticator.now (kept all (pair.now ∷ []))) }
+{
+    if !is_kept(pair, all) {
+        return Ok(());
+    }
+    push_pair(octets, dictionary, secret, authenticator, pair)?;
+    if octets.len() > MOST_ATTRIBUTE_OCTETS {
+        return Err(EncodeFault::TooLong);
+    }
+    Ok(())
+}
+
+// Adds the attributes that a list is sent in, with all of its Message-Authenticators or with none, unless the octets
+// become too many.
+fn push_list(
     octets: &mut Vec<u8>,
     dictionary: &Dictionary,
     secret: &[u8],
     authenticator: &[u8; 16],
     list: &[Pair],
+    all: bool,
 ) -> Result<(), EncodeFault>
     requires fits { All (λ pair. fits pair dictionary.now ≡ true) list.now }
     requires short { length octets.old.items ≤ MOST_ATTRIBUTE_OCTETS }
-    ensures ok { OnOk result (octets.new.items ≡ octets.old.items ++ attribute_octets dictionary.now secret.now authenticator.now list.now) }
+    ensures ok { OnOk result (octets.new.items ≡ octets.old.items ++ attribute_octets dictionary.now secret.now authenticator.now (kept all list.now)) }
     ensures ranged { OnOk result (All (λ pair. IsVendorInRange pair.id) list.now) }
     ensures short { OnOk result (length octets.new.items ≤ MOST_ATTRIBUTE_OCTETS) }
-    ensures too_long { result ≡ Err EncodeFault.TooLong → MOST_ATTRIBUTE_OCTETS < length octets.old.items + length (attribute_octets dictionary.now secret.now authenticator.now list.now) }
+    ensures too_long { result ≡ Err EncodeFault.TooLong → MOST_ATTRIBUTE_OCTETS < length octets.old.items + length (attribute_octets dictionary.now secret.now authenticator.now (kept all list.now)) }
 {
     for pair in list {
-        push_pair(octets, dictionary, secret, authenticator, pair)?;
-        if octets.len() > MOST_ATTRIBUTE_OCTETS {
-            return Err(EncodeFault::TooLong);
-        }
+        push_kept(octets, dictionary, secret, authenticator, pair, all)?;
     }
     Ok(())
+}
+
+// Adds a blank Message-Authenticator where there is to be one, and tells where it stands.
+fn push_blank(octets: &mut Vec<u8>, signed: bool) -> Result<Option<usize>, EncodeFault>
+    requires short { length octets.old.items ≤ MOST_ATTRIBUTE_OCTETS }
+    ensures ok { OnOk result (octets.new.items ≡ octets.old.items ++ signature_if signed zeros) }
+    ensures place { IfOk result (λ place. place ≡ place_if signed (length octets.old.items)) }
+    ensures short { OnOk result (length octets.new.items ≤ MOST_ATTRIBUTE_OCTETS) }
+    ensures too_long { result ≡ Err EncodeFault.TooLong → MOST_ATTRIBUTE_OCTETS < length octets.old.items + length (signature_if signed zeros) }
+{
+    if !signed {
+        return Ok(None);
+    }
+    let place = octets.len();
+    octets.extend_from_slice(&BLANK)?;
+    if octets.len() > MOST_ATTRIBUTE_OCTETS {
+        return Err(EncodeFault::TooLong);
+    }
+    Ok(Some(place))
+}
+
+/// Attributes as they were written, and where a blank Message-Authenticator stands among them.
+#[derive(Drop)]
+pub(crate) struct Written {
+    pub octets: Vec<u8>,
+    pub place: Option<usize>,
+}
+
+/// The attributes that a list is sent in and then its Proxy-States, with a blank Message-Authenticator, unless the octets
+/// become too many.
+pub(crate) fn write_attributes(
+    alloc: Global,
+    dictionary: &Dictionary,
+    secret: &[u8],
+    hide_by: &[u8; 16],
+    division: &Division<'_>,
+    proxy_states: &[Pair],
+) -> Result<Written, EncodeFault>
+    requires before_fit { All (λ pair. fits pair dictionary.now ≡ true) division.now.before.now }
+    requires behind_fit { All (λ pair. fits pair dictionary.now ≡ true) division.now.behind.now }
+    requires proxies_fit { All (λ pair. fits pair dictionary.now ≡ true) proxy_states.now }
+    ensures blank { IfOk result (λ w. w.octets.items ≡ divided_octets dictionary.now secret.now hide_by.now division.now proxy_states.now zeros) }
+    ensures filled { IfOk result (λ w. (signature : List ℕ) → filled w.octets.items w.place signature ≡ divided_octets dictionary.now secret.now hide_by.now division.now proxy_states.now signature) }
+    ensures place { IfOk result (λ w. IsPlace (length w.octets.items) w.place) }
+    ensures short { IfOk result (λ w. length w.octets.items ≤ MOST_ATTRIBUTE_OCTETS) }
+    ensures before_ranged { OnOk result (All (λ pair. IsVendorInRange pair.id) division.now.before.now) }
+    ensures behind_ranged { OnOk result (All (λ pair. IsVendorInRange pair.id) division.now.behind.now) }
+    ensures proxies_ranged { OnOk result (All (λ pair. IsVendorInRange pair.id) proxy_states.now) }
+    ensures too_long { result ≡ Err EncodeFault.TooLong → MOST_ATTRIBUTE_OCTETS < length (divided_octets dictionary.now secret.now hide_by.now division.now proxy_states.now zeros) }
+{
+    let mut octets = Vec::new(alloc);
+    push_list(
+        &mut octets,
+        dictionary,
+        secret,
+        hide_by,
+        division.before,
+        true,
+    )?;
+    let place = push_blank(&mut octets, division.signed)?;
+    push_list(
+        &mut octets,
+        dictionary,
+        secret,
+        hide_by,
+        division.behind,
+        false,
+    )?;
+    push_list(&mut octets, dictionary, secret, hide_by, proxy_states, true)?;
+    Ok(Written { octets, place })
 }

@@ -217,7 +217,7 @@ fn a_full_packet(rt: HostRuntime) -> Result<(), Fail> {
     let packet = decode(alloc, &d, b"s", &written)?;
     assert!(rt; packet.list.as_slice() == list.as_slice());
     if all_fit(&d, &list) {
-        let reply = encode_reply(alloc, &d, b"s", ACCESS_ACCEPT, 0, &ZEROS, &list, &[])?;
+        let reply = encode_reply(alloc, &d, b"s", ACCESS_ACCEPT, 0, &ZEROS, &list, &[], false)?;
         assert_eq!(rt; reply.len(), 4096);
     }
     Ok(())

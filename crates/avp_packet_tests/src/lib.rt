@@ -5,3 +5,5 @@
 mod attributes;
 #[cfg(test)]
 mod packets;
+#[cfg(test)]
+mod signing;

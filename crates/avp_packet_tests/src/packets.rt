@@ -171,6 +171,7 @@ fn writes_a_reply(rt: HostRuntime) -> Result<(), Fail> {
         &AUTHENTICATOR,
         &list,
         &[],
+        false,
     )?;
     assert_eq!(rt; octets.as_slice(), REPLY.as_slice());
     Ok(())

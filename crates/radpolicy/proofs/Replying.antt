@@ -12,29 +12,31 @@ use Rattle.avp_dict.specs.Sent.{is_clean, is_clean_pair, is_container}
 use Rattle.avp_dict.specs.Dictionary.{Dictionary}
 use Rattle.avp_lists.specs.declared.attributes.AttrId.TheVariants.{Plain}
 use Rattle.avp_packet.specs.Own.{IsOwn}
+use Rattle.avp_packet.specs.Packets.{reply_content}
 use Rattle.avp_unlang.specs.declared.codes.Code.{Code}
 use Rattle.avp_unlang.specs.declared.codes.Code.TheVariants as codes
-use Rattle.radpolicy.specs.ReplyMeaning.{IsRead, ReplyIsRead, pairs_sent}
+use Rattle.radpolicy.specs.ReplyMeaning.{IsRead, ReplyIsRead}
 use Rattle.avp_packet.specs.declared.packets.Packet.{Packet}
 use Rattle.radpolicy.specs.declared.jobs.Form.{Form}
 use Rattle.radpolicy.specs.declared.replies.ReplyHead.{ReplyHead}
 use Rattle.radpolicy.specs.Fitting.{AllFit}
-use Rattle.radpolicy.specs.Replies.{Sent, answer_of, answered_authenticator, proxy_states, reply_code, reply_pairs, reply_with}
+use Rattle.radpolicy.specs.Replies.{Sent, answer_of, answered_authenticator, proxy_states, reply_code, reply_pairs, reply_with, signs_reply}
 use Rattle.avp_unlang.specs.Meaning.{Outcome as End}
 use Rattle.radpolicy.specs.code.ReplyHeads.{AnswerIsRead, IsHeadOf, IsLineHead, LineIsRead, answered_by}
 
-module _ (dictionary : Dictionary) (pairs : List Pair) where
-  same_reply : (key : List ℕ) (id : ℕ) (a b : Option (List ℕ)) (proxies others : List Pair) (code : Option ℕ) → a ≡ b → proxies ≡ others → reply_with dictionary key id a pairs proxies code ≡ reply_with dictionary key id b pairs others code
+module _ (dictionary : Dictionary) (signed : Bool) (pairs : List Pair) where
+  same_reply : (key : List ℕ) (id : ℕ) (a b : Option (List ℕ)) (proxies others : List Pair) (code : Option ℕ) → a ≡ b → proxies ≡ others → reply_with dictionary key id a signed pairs proxies code ≡ reply_with dictionary key id b signed pairs others code
   same_reply key id a b proxies others code e f = rw (e, f) refl
 
-pub head_answers : (dictionary : Dictionary) (head : ReplyHead) (form : Form) (r : Packet) → head.code ≡ r.code → head.id ≡ r.id → head.authenticator ≡ answered_authenticator form dictionary head.secret.now r → head.proxy_states.items ≡ proxy_states r → (end : End) → answered_by dictionary head end.code end.state.reply ≡ answer_of form dictionary head.secret.now r end
+pub head_answers : (dictionary : Dictionary) (head : ReplyHead) (form : Form) (r : Packet) → head.code ≡ r.code → head.id ≡ r.id → head.authenticator ≡ answered_authenticator form dictionary head.secret.now r → head.proxy_states.items ≡ proxy_states r → head.signed ≡ signs_reply r → (end : End) → answered_by dictionary head end.code end.state.reply ≡ answer_of form dictionary head.secret.now r end
 unfolding answered_by answer_of
-head_answers dictionary head form r code id authenticator proxies end =
+head_answers dictionary head form r code id authenticator proxies signed end =
     let pairs = reply_pairs end.code end.state.reply in
     let key = head.secret.now in
-    same_reply dictionary pairs key head.id head.authenticator (answered_authenticator form dictionary key r) head.proxy_states.items (proxy_states r) (reply_code head.code end.code) authenticator proxies
-    ∙ ap (λ n. reply_with dictionary key head.id (answered_authenticator form dictionary key r) pairs (proxy_states r) (reply_code n end.code)) code
-    ∙ ap (λ n. reply_with dictionary key n (answered_authenticator form dictionary key r) pairs (proxy_states r) (reply_code r.code end.code)) id
+    ap (λ t. reply_with dictionary key head.id head.authenticator t pairs head.proxy_states.items (reply_code head.code end.code)) signed
+    ∙ same_reply dictionary (signs_reply r) pairs key head.id head.authenticator (answered_authenticator form dictionary key r) head.proxy_states.items (proxy_states r) (reply_code head.code end.code) authenticator proxies
+    ∙ ap (λ n. reply_with dictionary key head.id (answered_authenticator form dictionary key r) (signs_reply r) pairs (proxy_states r) (reply_code n end.code)) code
+    ∙ ap (λ n. reply_with dictionary key n (answered_authenticator form dictionary key r) (signs_reply r) pairs (proxy_states r) (reply_code r.code end.code)) id
 
 -- instances are of their id
 pub instances_are : (id : AttrId) (pairs : List Pair) → All (λ (p : Pair). p.id ≡ id) (instances id pairs)
@@ -104,14 +106,16 @@ module _ (dictionary : Dictionary) where
   unfolding AnswerIsRead
   read_by head form key r end last pairs is code reply read = λ authenticator octets answered sends.
       let own : answered_by dictionary head end.code end.state.reply ≡ answer_of form dictionary head.secret.now r end =
-      head_answers dictionary head form r is.code is.id (is.authenticator ∙ ap (λ k. answered_authenticator form dictionary k r) (sym is.secret)) is.proxies end in
+      head_answers dictionary head form r is.code is.id (is.authenticator ∙ ap (λ k. answered_authenticator form dictionary k r) (sym is.secret)) is.proxies is.signed end in
       let sent_by : answered_by dictionary head last pairs ≡ Sent octets =
       ap (λ c. answered_by dictionary head c pairs) (sym code) ∙ ap (λ ps. answered_by dictionary head end.code ps) reply ∙ own ∙ ap (λ k. answer_of form dictionary k r end) is.secret ∙ sends in
       let known = read authenticator octets (is.authenticator ∙ answered) sent_by in
-      let by_key = subst (λ (k : List ℕ). IsRead dictionary k authenticator octets (pairs_sent dictionary (reply_pairs last pairs) head.proxy_states.items)) is.secret known in
-      let by_proxies = subst (λ (ps : List Pair). IsRead dictionary key authenticator octets (pairs_sent dictionary (reply_pairs last pairs) ps)) is.proxies by_key in
-      let by_code = subst (λ (c : Code). IsRead dictionary key authenticator octets (pairs_sent dictionary (reply_pairs c pairs) (proxy_states r))) (sym code) by_proxies in
-      subst (λ (ps : List Pair). IsRead dictionary key authenticator octets (pairs_sent dictionary (reply_pairs end.code ps) (proxy_states r))) reply by_code
+      let by_id = subst (λ (n : ℕ). IsRead dictionary head.secret.now n authenticator octets (reply_content head.signed (reply_pairs last pairs) head.proxy_states.items)) is.id known in
+      let by_key = subst (λ (k : List ℕ). IsRead dictionary k r.id authenticator octets (reply_content head.signed (reply_pairs last pairs) head.proxy_states.items)) is.secret by_id in
+      let by_signed = subst (λ (t : Bool). IsRead dictionary key r.id authenticator octets (reply_content t (reply_pairs last pairs) head.proxy_states.items)) is.signed by_key in
+      let by_proxies = subst (λ (ps : List Pair). IsRead dictionary key r.id authenticator octets (reply_content (signs_reply r) (reply_pairs last pairs) ps)) is.proxies by_signed in
+      let by_code = subst (λ (c : Code). IsRead dictionary key r.id authenticator octets (reply_content (signs_reply r) (reply_pairs c pairs) (proxy_states r))) (sym code) by_proxies in
+      subst (λ (ps : List Pair). IsRead dictionary key r.id authenticator octets (reply_content (signs_reply r) (reply_pairs end.code ps) (proxy_states r))) reply by_code
 
   -- the same where there may be no secret
   pub line_read_by : (head : Option ReplyHead) (form : Form) (key : Option (List ℕ)) (r : Packet) (end : End) (last : Code) (pairs : List Pair) → IsLineHead form dictionary key r head → end.code ≡ last → pairs ≡ end.state.reply

@@ -74,6 +74,7 @@ packet_number packet.CutShort = 42
 packet_number (packet.BadAttribute offset) = 43
 packet_number packet.CodeNotTaken = 44
 packet_number packet.WrongAuthenticator = 45
+packet_number packet.WrongMessageAuthenticator = 47
 packet_number packet.Memory = memory_number
 
 abbrev pub packet_text : PacketFault → List ℕ
@@ -83,6 +84,7 @@ packet_text packet.CutShort = codes "packet cut short"
 packet_text (packet.BadAttribute offset) = codes "bad attribute length"
 packet_text packet.CodeNotTaken = codes "code not taken"
 packet_text packet.WrongAuthenticator = codes "wrong authenticator"
+packet_text packet.WrongMessageAuthenticator = codes "wrong Message-Authenticator"
 packet_text packet.Memory = codes "out of memory"
 
 abbrev pub policy_number : PolicyKind → ℕ

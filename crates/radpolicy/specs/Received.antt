@@ -9,7 +9,8 @@ use Rattle.avp_dict.specs.Dictionary.{Dictionary}
 use Rattle.avp_dict.specs.Requests.{request_spelled}
 use Rattle.avp_packet.specs.declared.faults.PacketFault.{PacketFault}
 use Rattle.avp_packet.specs.declared.packets.Packet.{Packet}
-use Rattle.avp_packet.specs.Packets.{decoded, zeros}
+use Rattle.avp_packet.specs.Decoded.{decoded}
+use Rattle.avp_packet.specs.Packets.{zeros}
 use Rattle.radpolicy.specs.declared.faults.Fault.{Fault}
 use Rattle.radpolicy.specs.declared.faults.Fault.TheVariants as fault
 use Rattle.radpolicy.specs.declared.jobs.Form.{Form}

@@ -1,12 +1,13 @@
--- The reply packet of a run (RFC 2865, sections 4.2, 4.3 and 5.33; RFC 2866, section 4.2).
-use Rattle.std.specs.Prelude.{ℕ, ◌==◌, nat_le, if◌then◌else◌, List, [], length, Option, Some, None}
+-- The reply packet of a run (RFC 2865, sections 4.2, 4.3 and 5.33; RFC 2866, section 4.2; RFC 3579, section 3.2).
+use Rattle.std.specs.Prelude.{ℕ, Bool, ◌&&◌, ◌==◌, nat_le, if◌then◌else◌, List, [], length, Option, Some, None}
 use Rattle.std.specs.Option.{option_and_then, option_map}
 use Rattle.avp_lists.specs.declared.attributes.AttrId.TheVariants.{Plain}
 use Rattle.avp_lists.specs.declared.attributes.Pair.{Pair}
-use Rattle.avp_lists.specs.Instances.{instances}
+use Rattle.avp_lists.specs.Instances.{has_instance, instances}
 use Rattle.avp_dict.specs.Dictionary.{Dictionary}
 use Rattle.avp_packet.specs.declared.packets.Packet.{Packet}
 use Rattle.avp_packet.specs.Packets.{authenticator_of, reply, request}
+use Rattle.avp_packet.specs.Sending.{message_authenticator}
 use Rattle.avp_unlang.specs.declared.codes.Code.{Code}
 use Rattle.avp_unlang.specs.declared.codes.Code.TheVariants as code
 use Rattle.radpolicy.specs.declared.jobs.Form.{Form}
@@ -45,6 +46,10 @@ reply_pairs _ pairs = pairs
 abbrev pub proxy_states : Packet → List Pair
 proxy_states r = instances (Plain 33) r.list
 
+-- the reply to an Access-Request with a Message-Authenticator is signed
+abbrev pub signs_reply : Packet → Bool
+signs_reply r = (r.code == 1) && has_instance message_authenticator r.list
+
 -- the authenticator that a reply answers: that of the request, which for the lines of an Accounting-Request is that of its packet
 abbrev pub answered_authenticator : Form → Dictionary → List ℕ → Packet → Option (List ℕ)
 answered_authenticator Accounting dictionary secret r = option_map authenticator_of (request_packet dictionary secret r)
@@ -62,14 +67,14 @@ abbrev pub sent_or_too_long : Option (List ℕ) → Answer
 sent_or_too_long (Some octets) = Sent octets
 sent_or_too_long None = TooLong
 
--- the reply of this code with these pairs and Proxy-States, if there is one, to a request with this identifier and authenticator
-abbrev pub reply_with : Dictionary → List ℕ → ℕ → Option (List ℕ) → List Pair → List Pair → Option ℕ
+-- the reply of this code, signed or not, with these pairs and Proxy-States, if there is one, to a request with this identifier and authenticator
+abbrev pub reply_with : Dictionary → List ℕ → ℕ → Option (List ℕ) → Bool → List Pair → List Pair → Option ℕ
     → Answer
-reply_with dictionary secret id authenticator pairs proxies None = Nothing
-reply_with dictionary secret id authenticator pairs proxies (Some code) =
-    sent_or_too_long (option_and_then (λ a. within_packet (reply dictionary secret code id a pairs proxies)) authenticator)
+reply_with dictionary secret id authenticator signed pairs proxies None = Nothing
+reply_with dictionary secret id authenticator signed pairs proxies (Some code) =
+    sent_or_too_long (option_and_then (λ a. within_packet (reply dictionary secret code id a signed pairs proxies)) authenticator)
 
 -- what a run sends that ended so
 unfoldable pub answer_of : Form → Dictionary → List ℕ → Packet → End → Answer
 answer_of form dictionary secret r end =
-    reply_with dictionary secret r.id (answered_authenticator form dictionary secret r) (reply_pairs end.code end.state.reply) (proxy_states r) (reply_code r.code end.code)
+    reply_with dictionary secret r.id (answered_authenticator form dictionary secret r) (signs_reply r) (reply_pairs end.code end.state.reply) (proxy_states r) (reply_code r.code end.code)

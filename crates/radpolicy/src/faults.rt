@@ -185,6 +185,7 @@ fn packet_number(fault: PacketFault) -> u8
         PacketFault::BadAttribute(_) => 43,
         PacketFault::CodeNotTaken => 44,
         PacketFault::WrongAuthenticator => 45,
+        PacketFault::WrongMessageAuthenticator => 47,
         PacketFault::Memory => MEMORY,
     }
 }
@@ -200,6 +201,7 @@ fn packet_text(fault: PacketFault) -> &'static str
         PacketFault::BadAttribute(_) => "bad attribute length",
         PacketFault::CodeNotTaken => "code not taken",
         PacketFault::WrongAuthenticator => "wrong authenticator",
+        PacketFault::WrongMessageAuthenticator => "wrong Message-Authenticator",
         PacketFault::Memory => "out of memory",
     }
 }

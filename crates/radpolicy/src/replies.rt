@@ -1,12 +1,13 @@
 //! The reply packet of a run.
 
-ghost use Rattle.std.specs.Prelude.{◌≡◌, ◌⊎◌, ◌<◌, ◌≤◌, true, All, IfOk, OnOk, IfSome, length};
+ghost use Rattle.std.specs.Prelude.{◌≡◌, ◌⊎◌, ◌<◌, ◌≤◌, true, false, All, IfOk, OnOk, IfSome, length};
 ghost use Rattle.std.specs.Option.{option_map};
-ghost use Rattle.avp_lists.specs.Instances.{instances};
+ghost use Rattle.avp_lists.specs.Instances.{has_instance, instances};
 ghost use Rattle.avp_lists.specs.declared.attributes.AttrId.TheVariants.{Plain};
 ghost use Rattle.radpolicy.specs.Fitting.{AllFit};
 ghost use Rattle.avp_packet.specs.Packets.{IsReplyCode, IsRequestCode, authenticator_of};
-ghost use Rattle.radpolicy.specs.Replies.{answer_of, answered_authenticator, proxy_states, reply_code, reply_pairs, request_packet};
+ghost use Rattle.avp_packet.specs.Sending.{message_authenticator};
+ghost use Rattle.radpolicy.specs.Replies.{answer_of, answered_authenticator, proxy_states, reply_code, reply_pairs, request_packet, signs_reply};
 ghost use Rattle.radpolicy.specs.code.ReplyHeads.{AnswerIsRead, IsAnswer, IsHeadOf, IsUsable, answered_by};
 ghost use Rattle.avp_dict.specs.Sent.{is_clean};
 ghost use Rattle.avp_unlang.specs.Meaning.{Outcome as End};
@@ -15,7 +16,7 @@ use crate::jobs::Form;
 use avp_dict::Dictionary;
 use avp_lists::{AttrId, Pair, copy_pair};
 use avp_packet::{
-    ACCESS_ACCEPT, ACCESS_REJECT, ACCOUNTING_REQUEST, ACCOUNTING_RESPONSE, EncodeFault, Packet,
+    ACCESS_ACCEPT, ACCESS_REJECT, ACCESS_REQUEST, ACCOUNTING_REQUEST, ACCOUNTING_RESPONSE, EncodeFault, Packet,
     encode_reply, encode_request,
 };
 use avp_unlang::Code;
@@ -23,6 +24,9 @@ use std::alloc::{AllocError, Global};
 
 /// The attribute that is sent back as it came (RFC 2865, section 5.33).
 const PROXY_STATE: AttrId = AttrId::Plain(33);
+
+/// The attribute by which a request asks for a signed reply.
+const MESSAGE_AUTHENTICATOR: AttrId = AttrId::Plain(80);
 
 /// What a reply takes of its request, and the secret.
 #[derive(Debug, Drop)]
@@ -33,6 +37,8 @@ pub(crate) struct ReplyHead<'a> {
     /// `None` where the packet of an Accounting-Request's lines would be too long.
     authenticator: Option<[u8; 16]>,
     proxy_states: Vec<Pair>,
+    /// Whether the reply has a Message-Authenticator (RFC 3579, section 3.2).
+    signed: bool,
 }
 
 // The Proxy-States among pairs, in order.
@@ -46,6 +52,26 @@ fn proxy_states_of(alloc: Global, pairs: &[Pair]) -> Result<Vec<Pair>, AllocErro
         }
     }
     Ok(found)
+}
+
+// Whether there is a Message-Authenticator among pairs.
+fn has_message_authenticator(pairs: &[Pair]) -> bool
+    ensures { result ≡ has_instance message_authenticator pairs.now }
+{
+    for pair in pairs {
+        if pair.id.equals(MESSAGE_AUTHENTICATOR) {
+            return true;
+        }
+    }
+    false
+}
+
+// Whether the reply to a request is signed.
+fn signs_reply(request: &Packet) -> bool
+    ensures test { result ≡ signs_reply request.now }
+    ensures accounting { request.now.code ≡ 4 → result ≡ false }
+{
+    request.code == ACCESS_REQUEST && has_message_authenticator(request.list.as_slice())
 }
 
 // The authenticator in the octets of a packet.
@@ -134,6 +160,7 @@ pub(crate) fn reply_head<'a>(
         id: request.id,
         authenticator: answered_authenticator(alloc, dictionary, secret, form, request)?,
         proxy_states: proxy_states_of(alloc, request.list.as_slice())?,
+        signed: signs_reply(request),
     })
 }
 
@@ -141,6 +168,7 @@ pub(crate) fn reply_head<'a>(
 fn reply_code(request_code: u8, last: Code) -> Option<u8>
     ensures code { result ≡ reply_code request_code last }
     ensures reply { IfSome result IsReplyCode }
+    ensures accounting { IfSome result (λ code. code ≡ 5 → request_code ≡ 4) }
 {
     match (request_code, last) {
         (ACCOUNTING_REQUEST, Code::Fail | Code::Reject) => None,
@@ -190,6 +218,7 @@ pub(crate) fn reply_of(
         &authenticator,
         reply_pairs(last, reply),
         head.proxy_states.as_slice(),
+        head.signed,
     );
     match made {
         Ok(octets) => Ok(Some(octets)),

@@ -1,5 +1,5 @@
 -- What a reply takes of its request, and the reply that is made of it.
-use Rattle.std.specs.Prelude.{◌≡◌, ◌<◌, ◌++◌, ℕ, true, All, List, [], length, Option, Some, None, Result, Ok, Err}
+use Rattle.std.specs.Prelude.{◌≡◌, ◌<◌, ◌++◌, ℕ, true, false, All, List, [], length, Option, Some, None, Result, Ok, Err}
 use Rattle.std.specs.declared.alloc.Global.{Global}
 use Rattle.std.specs.declared.vec.Vec.{Vec}
 use Rattle.avp_lists.specs.declared.attributes.AttrId.TheVariants.{Plain}
@@ -11,8 +11,9 @@ use Rattle.avp_packet.specs.declared.faults.EncodeFault.{EncodeFault}
 use Rattle.avp_packet.specs.declared.faults.EncodeFault.TheVariants as encode
 use Rattle.avp_unlang.specs.declared.codes.Code.{Code}
 use Rattle.radpolicy.specs.declared.replies.ReplyHead.{ReplyHead}
-use Rattle.radpolicy.specs.Replies.{Answer, Nothing, Sent, TooLong, answered_authenticator, proxy_states, reply_code, reply_pairs, reply_with}
-use Rattle.radpolicy.specs.ReplyMeaning.{IsRead, pairs_sent}
+use Rattle.radpolicy.specs.Replies.{Answer, Nothing, Sent, TooLong, answered_authenticator, proxy_states, reply_code, reply_pairs, reply_with, signs_reply}
+use Rattle.avp_packet.specs.Packets.{reply_content}
+use Rattle.radpolicy.specs.ReplyMeaning.{IsRead}
 use Rattle.radpolicy.specs.declared.jobs.Form.{Form}
 use Rattle.avp_packet.specs.declared.packets.Packet.{Packet}
 use Rattle.avp_dict.specs.Sent.{is_clean}
@@ -20,15 +21,15 @@ use Rattle.avp_dict.specs.Sent.{is_clean}
 -- what is sent after this code, with these pairs
 unfoldable pub answered_by : Dictionary → ReplyHead → Code → List Pair → Answer
 answered_by dictionary head last pairs =
-    reply_with dictionary head.secret.now head.id head.authenticator (reply_pairs last pairs)
+    reply_with dictionary head.secret.now head.id head.authenticator head.signed (reply_pairs last pairs)
     head.proxy_states.items (reply_code head.code last)
 
 -- a packet that is sent so is accepted and read as its pairs and Proxy-States
 unfoldable pub AnswerIsRead : Dictionary → ReplyHead → Code → List Pair → Type 0
 AnswerIsRead dictionary head last pairs = (authenticator octets : List ℕ)
     → head.authenticator ≡ Some authenticator → answered_by dictionary head last pairs ≡ Sent octets
-    → IsRead dictionary head.secret.now authenticator octets
-    (pairs_sent dictionary (reply_pairs last pairs) head.proxy_states.items)
+    → IsRead dictionary head.secret.now head.id authenticator octets
+    (reply_content head.signed (reply_pairs last pairs) head.proxy_states.items)
 
 -- the same where there is a head
 unfoldable pub LineIsRead : Dictionary → Option ReplyHead → Code → List Pair → Type 0
@@ -42,6 +43,7 @@ pub record IsHeadOf (form : Form) (dictionary : Dictionary) (key : List ℕ) (re
   pub code : head.code ≡ request.code
   pub id : head.id ≡ request.id
   pub authenticator : head.authenticator ≡ answered_authenticator form dictionary key request
+  pub signed : head.signed ≡ signs_reply request
   pub proxies : head.proxy_states.items ≡ proxy_states request
 
 -- the same where there is a secret, and no head where there is none
@@ -63,12 +65,13 @@ unfoldable pub line_by : Dictionary → Option ReplyHead → Code → List Pair 
 line_by dictionary None last pairs = Some []
 line_by dictionary (Some head) last pairs = answer_line (answered_by dictionary head last pairs)
 
--- a head is usable: with a secret, and Proxy-States that fit and are read back
+-- a head is usable: with a secret, and Proxy-States that fit and are read back, and no Accounting-Request's reply is signed
 pub record IsUsable (dictionary : Dictionary) (head : ReplyHead) : Type 0 where
   pub secret : 0 < length head.secret.now
   pub proxies : All (λ (pair : Pair). pair.id ≡ Plain 33) head.proxy_states.items
   pub fit : AllFit dictionary head.proxy_states.items
   pub clean : is_clean head.proxy_states.items dictionary ≡ true
+  pub signed : head.code ≡ 4 → head.signed ≡ false
 
 -- a line was added to a text, or there is none
 abbrev pub AddsLine : Result (Unit {0}) EncodeFault → Option (List ℕ) → List ℕ → List ℕ → Type 0

@@ -3,5 +3,5 @@ use Rattle.avp_packet.proofs.Masks.{masked_more}
 use Rattle.avp_packet.proofs.hiding.masked_block.Goals as goal
 
 pub loop-place-preserved : goal.loop-place-preserved
-loop-place-preserved c =
+loop-place-preserved g c =
     masked_more c.args.mask.now c.args.block.now c.loop-place.octets c.loop-place.place (omega arith) (omega arith) c.loop-place.invariant

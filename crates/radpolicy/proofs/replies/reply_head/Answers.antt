@@ -14,13 +14,14 @@ returns-clause-made c = record {
   code = refl;
   id = refl;
   authenticator = c.in_ok-answered_authenticator.ensures;
+  signed = c.signs_reply.ensures.test;
   proxies = c.in_ok-proxy_states_of.ensures ∙ ap (instances (Plain 33)) c.as_slice.ensures;
 }
 
 pub returns-clause-head : goal.returns-clause-head
 returns-clause-head c = λ end.
     let proxies = c.in_ok-proxy_states_of.ensures ∙ ap (instances (Plain 33)) c.as_slice.ensures in
-    head_answers c.args.dictionary.now _ c.args.form c.args.request.now refl refl c.in_ok-answered_authenticator.ensures proxies end
+    head_answers c.args.dictionary.now _ c.args.form c.args.request.now refl refl c.in_ok-answered_authenticator.ensures proxies c.signs_reply.ensures.test end
 
 pub returns-clause-usable : goal.returns-clause-usable
 returns-clause-usable c =
@@ -30,4 +31,5 @@ returns-clause-usable c =
       proxies = subst (λ (pairs : List Pair). All (λ (p : Pair). p.id ≡ Plain 33) pairs) (sym proxies) (instances_are (Plain 33) c.args.request.now.list);
       fit = subst (λ (pairs : List Pair). AllFit c.args.dictionary.now pairs) (sym proxies) (instances_fit c.args.dictionary.now (Plain 33) c.args.request.now.list c.requires.fit);
       clean = ap (λ pairs. is_clean pairs c.args.dictionary.now) proxies ∙ c.requires.proxies;
+      signed = c.signs_reply.ensures.accounting;
     }

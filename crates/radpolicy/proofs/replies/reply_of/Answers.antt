@@ -17,4 +17,4 @@ returns-in-Ok-clause-read c =
     let clean : is_clean (reply_pairs c.args.last c.args.reply.now) d ≡ true = reply_clean d c.args.last c.args.reply.now c.requires.clean in
     let made = rw (c.reply_pairs.ensures, c.as_slice.ensures.value) at c.in-Ok.ensures.octets in
     let means = (rw (c.reply_pairs.ensures, c.as_slice.ensures.value) at c.in-Ok.ensures.means) clean c.requires.usable.clean in
-    sent_read d c.args.head.now c.args.last c.args.reply.now c.in-Some.code c.in-Some-authenticator.authenticator c.in-Ok.octets.items coded c.in-Some-authenticator.is made c.in-Ok.ensures.accepted c.in-Ok.ensures.whole means
+    sent_read d c.args.head.now c.args.last c.args.reply.now c.in-Some.code c.in-Some-authenticator.authenticator c.in-Ok.octets.items coded c.in-Some-authenticator.is made c.in-Ok.ensures.accepted c.in-Ok.ensures.whole means c.in-Ok.ensures.signed

@@ -3,7 +3,7 @@ use Rattle.std.proofs.lemmas.Grind.{common_steps}
 use Rattle.avp_packet.specs.AttributeOctets.{part}
 use Rattle.avp_packet.proofs.Refused.{left_empty, left_more}
 use Rattle.avp_packet.proofs.Splits.{left-none}
-use Rattle.avp_packet.proofs.decoding.bad_attribute.Goals as goal
+use Rattle.avp_packet.proofs.walking.bad_attribute.Goals as goal
 
 pub loop-front-preserved : goal.loop-front-preserved
 loop-front-preserved c =

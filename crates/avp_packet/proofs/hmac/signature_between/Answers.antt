@@ -1,0 +1,21 @@
+use Rattle.std.proofs.Common.{◌≡◌, ◌∙◌, ◌++◌, List, ℕ, refl, ap, append_assoc}
+use Rattle.md5.specs.Md5.{md5}
+use Rattle.avp_packet.specs.AttributeOctets.{part}
+use Rattle.avp_packet.specs.Hiding.{masked}
+use Rattle.avp_packet.specs.Hmac.{hmac, inner_pad, key_block}
+use Rattle.avp_packet.specs.Packets.{zeros}
+use Rattle.avp_packet.specs.Splitting.{part_octets}
+use Rattle.avp_packet.proofs.hmac.signature_between.Goals as goal
+
+regrouped : (k a b d e f : List ℕ) → k ++ a ++ b ++ d ++ e ++ f ≡ k ++ (a ++ b ++ d ++ e ++ f)
+regrouped k a b d e f = simp append_assoc
+
+pub returns : goal.returns
+unfolding hmac
+returns c =
+    let block = key_block c.args.secret.now in
+    let inner = c.finalize.ensures _ (c.update-5.ensures _ (c.update-4.ensures _ (c.update-3.ensures _ (c.update-2.ensures _ (c.update.ensures _ c.keyed_hasher-inner.ensures))))) in
+    let outer = c.finalize-2.ensures _ (c.update-6.ensures _ c.keyed_hasher-outer.ensures) in
+    let text : c.finalize.result ≡ md5 (masked inner_pad block ++ (c.args.head.now ++ c.args.authenticator.now ++ c.args.before.now ++ part_octets (part 80 zeros) ++ c.args.after.now)) =
+    inner ∙ rw c.key_block-key.ensures (ap md5 (regrouped (masked inner_pad block) c.args.head.now c.args.authenticator.now c.args.before.now (part_octets (part 80 zeros)) c.args.after.now)) in
+    outer ∙ rw (c.key_block-key.ensures, text) refl

@@ -1,0 +1,58 @@
+-- A list divided at its packet's Message-Authenticator, and where the octets that sign are filled in.
+use Rattle.std.specs.Prelude.{◌≡◌, ◌≤◌, ℕ, ◌+◌, Bool, true, false, if◌then◌else◌, List, [], ◌++◌, take, drop, Option, Some, None}
+use Rattle.std.specs.List.{All}
+use Rattle.avp_lists.specs.declared.attributes.Pair.{Pair}
+use Rattle.avp_dict.specs.Dictionary.{Dictionary}
+use Rattle.avp_packet.specs.declared.dividing.Division.{Division}
+use Rattle.avp_packet.specs.AttributeOctets.{attribute_octets, part}
+use Rattle.avp_packet.specs.Hmac.{hmac}
+use Rattle.avp_packet.specs.Packets.{hiding_authenticator, packet, zeros}
+use Rattle.avp_packet.specs.Sending.{Kind, before_signature, behind_signature, is_to_sign, without_signatures}
+use Rattle.avp_packet.specs.Splitting.{part_octets}
+
+-- the pairs of a list, with its Message-Authenticators or without
+abbrev pub kept : Bool → List Pair → List Pair
+kept true pairs = pairs
+kept false pairs = without_signatures pairs
+
+-- what stands before and behind the Message-Authenticator, if there is one
+pub record IsDivided (kind : Kind) (pairs : List Pair) (division : Division) : Type 0 where
+  pub before : division.before.now ≡ before_signature kind pairs
+  pub signed : division.signed ≡ is_to_sign kind pairs
+  pub behind : without_signatures division.behind.now ≡ behind_signature kind pairs
+
+-- the pairs of a divided list pass this test
+pub record KeepsAll (q : Pair → Bool) (division : Division) : Type 0 where
+  pub before : All (λ p. q p ≡ true) division.before.now
+  pub behind : All (λ p. q p ≡ true) division.behind.now
+
+-- a Message-Authenticator of these octets, where there is one
+abbrev pub signature_if : Bool → List ℕ → List ℕ
+signature_if signed signature = if signed then part_octets (part 80 signature) else []
+
+abbrev pub place_if : Bool → ℕ → Option ℕ
+place_if signed place = if signed then Some place else None
+
+-- the attributes of a list so divided, with these octets as its Message-Authenticator
+abbrev pub divided_octets : Dictionary → List ℕ → List ℕ → Division → List Pair → List ℕ → List ℕ
+divided_octets dictionary secret hide_by division proxy_states signature =
+    attribute_octets dictionary secret hide_by division.before.now
+    ++ signature_if division.signed signature
+    ++ attribute_octets dictionary secret hide_by (without_signatures division.behind.now)
+    ++ attribute_octets dictionary secret hide_by proxy_states
+
+-- attributes, with these octets as the Message-Authenticator at its place
+abbrev pub filled : List ℕ → Option ℕ → List ℕ → List ℕ
+filled os None signature = os
+filled os (Some place) signature = take place os ++ part_octets (part 80 signature) ++ drop (place + 18) os
+
+-- the place is one of a Message-Authenticator in so many octets
+abbrev pub IsPlace : ℕ → Option ℕ → Type 0
+IsPlace n None = Unit {0}
+IsPlace n (Some place) = place + 18 ≤ n
+
+-- and with those that sign the packet
+abbrev pub divided_signed : Dictionary → List ℕ → ℕ → ℕ → List ℕ → Division → List Pair → List ℕ
+divided_signed dictionary secret code id authenticator division proxy_states =
+    let octets = divided_octets dictionary secret (hiding_authenticator code authenticator) division proxy_states in
+    octets (hmac secret (packet code id authenticator (octets zeros)))

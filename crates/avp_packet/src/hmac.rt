@@ -1,0 +1,73 @@
+//! The digest of a packet under the secret (RFC 2104, section 2; RFC 3579, section 3.2).
+
+ghost use Rattle.std.specs.Prelude.{◌≡◌, ◌++◌};
+ghost use Rattle.md5.specs.Md5.{Holds};
+ghost use Rattle.avp_packet.specs.AttributeOctets.{part};
+ghost use Rattle.avp_packet.specs.Hiding.{masked};
+ghost use Rattle.avp_packet.specs.Hmac.{hmac, key_block};
+ghost use Rattle.avp_packet.specs.Packets.{zeros};
+ghost use Rattle.avp_packet.specs.Splitting.{part_octets};
+
+use crate::hiding::masked_block;
+use md5::{Digest, Md5};
+
+/// The octets of a block of MD5.
+const KEY_OCTETS: usize = 64;
+
+const INNER_PAD: [u8; KEY_OCTETS] = [0x36; KEY_OCTETS];
+
+const OUTER_PAD: [u8; KEY_OCTETS] = [0x5c; KEY_OCTETS];
+
+/// The octets of a Message-Authenticator: Type, Length and 16 of Value.
+pub(crate) const SIGNATURE_OCTETS: usize = 18;
+
+/// A Message-Authenticator with zeros in its value's place.
+pub(crate) const BLANK: [u8; SIGNATURE_OCTETS] = [
+    80, 18, 0, 0, 0, 0, 0, 0, 0, 0, 0, 0, 0, 0, 0, 0, 0, 0,
+];
+
+// The key, or the digest of a long one, with zeros up to a block.
+fn key_block(key: &[u8]) -> [u8; KEY_OCTETS]
+    ensures { result ≡ key_block key.now }
+{
+    let mut block = [0; KEY_OCTETS];
+    if key.len() <= KEY_OCTETS {
+        block[..key.len()].copy_from_slice(key);
+    } else {
+        let digest = Md5::digest(key);
+        block[..digest.len()].copy_from_slice(&digest);
+    }
+    block
+}
+
+// A hasher of the key under a pad.
+fn keyed_hasher(pad: &[u8; KEY_OCTETS], key: &[u8; KEY_OCTETS]) -> Md5
+    ensures { Holds result (masked pad.now key.now) }
+{
+    let mut hasher = Md5::new();
+    hasher.update(&masked_block(pad, key));
+    hasher
+}
+
+/// The octets that sign a packet, whose Message-Authenticator stands between those before and those after.
+#[tactic(auto, unfolding(crate::specs::Hmac::hmac))]
+pub(crate) fn signature_between(
+    secret: &[u8],
+    head: &[u8],
+    authenticator: &[u8; 16],
+    before: &[u8],
+    after: &[u8],
+) -> [u8; 16]
+    ensures { result ≡ hmac secret.now (head.now ++ authenticator.now ++ before.now ++ part_octets (part 80 zeros) ++ after.now) }
+{
+    let key = key_block(secret);
+    let mut inner = keyed_hasher(&INNER_PAD, &key);
+    inner.update(head);
+    inner.update(authenticator);
+    inner.update(before);
+    inner.update(&BLANK);
+    inner.update(after);
+    let mut outer = keyed_hasher(&OUTER_PAD, &key);
+    outer.update(&inner.finalize());
+    outer.finalize()
+}

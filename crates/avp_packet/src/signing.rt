@@ -1,0 +1,98 @@
+//! Packets that are signed by a Message-Authenticator (RFC 3579, section 3.2).
+
+ghost use Rattle.std.specs.Prelude.{◌≡◌, ◌≤◌, ◌<◌, ◌++◌, [], length, map, IfSome, IfNone};
+ghost use Rattle.std.specs.List.{flat_map, list_any};
+ghost use Rattle.avp_packet.specs.AttributeOctets.{part};
+ghost use Rattle.avp_packet.specs.Hmac.{hmac};
+ghost use Rattle.avp_packet.specs.Signed.{blanked, is_only, is_signature, is_signed, signatures};
+ghost use Rattle.avp_packet.specs.Splitting.{left, part_octets, parts};
+
+use crate::authenticators::{
+    AUTHENTICATOR_PLACE, HEAD_OCTETS, are_equal, attributes_in, is_packet_length, length_in,
+};
+use crate::hmac::signature_between;
+use crate::splitting::first_attribute;
+use crate::walking::bad_attribute;
+
+/// The type of a Message-Authenticator.
+pub(crate) const MESSAGE_AUTHENTICATOR: u8 = 80;
+
+// A Message-Authenticator's value, and the octets before and behind the attribute.
+#[derive(Clone, Copy)]
+struct Found<'a> {
+    before: &'a [u8],
+    value: &'a [u8],
+    behind: &'a [u8],
+}
+
+// The first Message-Authenticator among attributes.
+fn find_signature(octets: &[u8]) -> Option<Found<'_>>
+    ensures octets { IfSome result (λ f. octets.now ≡ f.before.now ++ part_octets (part 80 f.value.now) ++ f.behind.now) }
+    ensures whole { IfSome result (λ f. left f.before.now ≡ []) }
+    ensures first { IfSome result (λ f. signatures (parts f.before.now) ≡ []) }
+    ensures none { IfNone result (signatures (parts octets.now) ≡ []) }
+{
+    let mut rest = octets;
+    while let Some(front) = first_attribute(rest) {
+        if front.number == MESSAGE_AUTHENTICATOR {
+            return Some(Found {
+                before: &octets[..octets.len() - rest.len()],
+                value: front.value,
+                behind: front.rest,
+            });
+        }
+        rest = front.rest;
+    }
+    None
+}
+
+/// Whether there is a Message-Authenticator among attributes.
+pub(crate) fn has_signature(attributes: &[u8]) -> bool
+    ensures { result ≡ list_any is_signature (parts attributes.now) }
+{
+    match find_signature(attributes) {
+        Some(_) => true,
+        None => false,
+    }
+}
+
+// Whether there is one Message-Authenticator among whole attributes, and it is the digest of the packet.
+fn is_signed_among(head: &[u8], authenticator: &[u8; 16], attributes: &[u8], secret: &[u8]) -> bool
+    requires { left attributes.now ≡ [] }
+    ensures { result ≡ is_only (hmac secret.now (head.now ++ authenticator.now ++ flat_map part_octets (map blanked (parts attributes.now)))) (signatures (parts attributes.now)) }
+{
+    let Some(found) = find_signature(attributes) else {
+        return false;
+    };
+    if has_signature(found.behind) {
+        return false;
+    }
+    let digest = signature_between(secret, head, authenticator, found.before, found.behind);
+    are_equal(found.value, &digest)
+}
+
+/// Whether a packet is signed by its Message-Authenticator: a request with its own authenticator, a reply with that of
+/// its request (RFC 3579, section 3.2). Octets past Length are not looked at.
+#[tactic(auto, unfolding(crate::specs::Signed::is_signed))]
+pub fn check_message(octets: &[u8], authenticator: &[u8; 16], secret: &[u8]) -> bool
+    requires { 0 < length secret.now }
+    ensures { result ≡ is_signed octets.now authenticator.now secret.now }
+{
+    if octets.len() < HEAD_OCTETS {
+        return false;
+    }
+    let length = length_in(octets);
+    if !is_packet_length(length) || length > octets.len() {
+        return false;
+    }
+    let attributes = attributes_in(octets, length);
+    if bad_attribute(attributes).is_some() {
+        return false;
+    }
+    is_signed_among(
+        &octets[..AUTHENTICATOR_PLACE],
+        authenticator,
+        attributes,
+        secret,
+    )
+}
