@@ -1,6 +1,7 @@
 # make run        builds the program and shows the README's example
-# make test       the gate, then the examples and the documents through the built program
-# make trials     the tests of tests/ on the built programs
+# make test       the gate, then the examples, the documents and the tests of tests/ through the built programs
+# make trials     the tests of tests/ alone
+# make bench      measures the program and packets, beside FreeRADIUS where it is installed (docs/SPEED.md)
 # make fuzz       changed cases through the built program, for so many SECONDS
 # make documents  the documents' links and commands, the completions and the manual pages, with the built program
 # make install    puts the program, the manual pages and the completions below PREFIX
@@ -10,7 +11,7 @@ RT ?= $(shell command -v rt || echo /opt/rattle/bin/rt)
 PREFIX ?= /usr/local
 PROGRAM = crates/radpolicy_cli/out/radpolicy_cli
 
-.PHONY: run build test trials fuzz documents install uninstall
+.PHONY: run build test trials bench fuzz documents install uninstall
 
 run: build
 	@scripts/show-example $(PROGRAM) examples/access-request
@@ -23,6 +24,10 @@ test:
 
 trials:
 	@tests/run $(PROGRAM)
+
+bench: build
+	@RT=$(RT) scripts/build bench_packets
+	@bench/run $(PROGRAM) crates/bench_packets/out/bench_packets
 
 SECONDS = 60
 

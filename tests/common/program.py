@@ -1,5 +1,6 @@
 """Runs a program once, with what it is given in files of memory, and tells how it ended."""
 import os
+import resource
 import select
 import signal
 import subprocess
@@ -8,11 +9,16 @@ from pathlib import Path
 from typing import Callable, Mapping, Optional, Sequence, Union
 
 Word = Union[str, bytes, Path]
+# Past so much of a processor's time a run is ended. By the clock it may take as long as a loaded machine needs; only
+# one that waits for something that does not come is ended by it.
+PROCESSOR_SECONDS = 20
+LAST_STOP = 300.0
 
 
 @dataclass(frozen=True)
 class Ended:
-    """How a run ended. A negative status is the number of the signal that ended it."""
+    """How a run ended, and the time of a processor and the memory that it took. A negative status is the number of the
+    signal that ended it."""
 
     status: int
     output: bytes
@@ -38,20 +44,28 @@ def written(file: int) -> bytes:
         return reader.read()
 
 
-def wait(process: "subprocess.Popen[bytes]", seconds: float) -> tuple:
-    """Waits for the end, or kills after so long. Gives the status, what was used, and whether it was killed."""
+def limit_processor(process: "subprocess.Popen[bytes]") -> None:
+    """Has the system end a process that has run so long, unless it has ended."""
+    try:
+        resource.prlimit(process.pid, resource.RLIMIT_CPU, (PROCESSOR_SECONDS, PROCESSOR_SECONDS + 1))
+    except ProcessLookupError:
+        pass
+
+
+def wait(process: "subprocess.Popen[bytes]") -> tuple:
+    """Waits for the end. Gives the status, what was used, and whether it was ended for its time."""
     ended = os.pidfd_open(process.pid)
     try:
         poll = select.poll()
         poll.register(ended, select.POLLIN)
-        timed_out = not poll.poll(seconds * 1000)
-        if timed_out:
+        is_stopped = not poll.poll(LAST_STOP * 1000)
+        if is_stopped:
             os.kill(process.pid, signal.SIGKILL)
         _, status, used = os.wait4(process.pid, 0)
     finally:
         os.close(ended)
     process.returncode = os.waitstatus_to_exitcode(status)
-    return process.returncode, used, timed_out
+    return process.returncode, used, is_stopped or process.returncode == -signal.SIGXCPU
 
 
 def run(
@@ -59,7 +73,6 @@ def run(
     folder: Path,
     stdin: bytes = b"",
     environment: Optional[Mapping[str, str]] = None,
-    seconds: float = 20.0,
     before: Optional[Callable[[], None]] = None,
     output: Optional[int] = None,
     errors: Optional[int] = None,
@@ -77,7 +90,8 @@ def run(
             stderr=files[2] if errors is None else errors,
             preexec_fn=before,
         )
-        status, used, timed_out = wait(process, seconds)
+        limit_processor(process)
+        status, used, timed_out = wait(process)
         return Ended(
             status,
             written(files[1]),

@@ -39,6 +39,6 @@ def new_folder() -> Iterator[Path]:
 
 
 def on_all(work: Callable[[Given], Made], given: Iterable[Given]) -> List[Made]:
-    """The work on each of the given, on all processors, in their order."""
-    with ThreadPoolExecutor(os.cpu_count()) as pool:
+    """The work on each of the given, on all processors that may be used, in their order."""
+    with ThreadPoolExecutor(len(os.sched_getaffinity(0))) as pool:
         return list(pool.map(work, given))

@@ -72,7 +72,7 @@ def job(root: Path, seed: int, number: int) -> Case:
 def tried(subject: Subject, case: Case) -> Ended:
     with new_folder() as folder:
         case.place(folder)
-        return run([subject.program, *case.words], folder, case.stdin, seconds=20)
+        return run([subject.program, *case.words], folder, case.stdin)
 
 
 def outcome(subject: Subject, table: Dict[str, Fault], seed: int, number: int) -> Outcome:

@@ -79,18 +79,16 @@ def change_lines(rng: Random, octets: bytes) -> bytes:
     return b"\n".join(lines)
 
 
-# How often lines are repeated: as often as passes limits of depth and number. A dictionary's time grows with the
-# square of its lines, and an include repeats whole files.
-REPEATED = {"dictionary": [2, 9, 17]}
-REPEATED_ELSE = [2, 17, 70, 600]
+# How often lines are repeated: as often as passes limits of depth and number.
+REPEATED = [2, 17, 70, 600]
 
 
-def repeat_lines(rng: Random, octets: bytes, role: str) -> bytes:
+def repeat_lines(rng: Random, octets: bytes) -> bytes:
     """A few lines many times."""
     lines = octets.split(b"\n")
     at = rng.randrange(len(lines))
     some = lines[at : at + rng.choice([1, 1, 1, 2, 4])]
-    return b"\n".join(lines[:at] + some * rng.choice(REPEATED.get(role, REPEATED_ELSE)) + lines[at:])
+    return b"\n".join(lines[:at] + some * rng.choice(REPEATED) + lines[at:])
 
 
 def change_token(rng: Random, octets: bytes, names: Sequence[bytes]) -> bytes:
@@ -110,13 +108,13 @@ def change_token(rng: Random, octets: bytes, names: Sequence[bytes]) -> bytes:
 OCTETS: List[Change] = [change_octet, flip_bit, drop_part, repeat_part, cut_off]
 
 
-def change_text(rng: Random, octets: bytes, role: str, names: Sequence[bytes]) -> bytes:
+def change_text(rng: Random, octets: bytes, names: Sequence[bytes]) -> bytes:
     """Mostly a token, else lines, and now and then octets."""
     drawn = rng.random()
     if drawn < 0.55:
         return change_token(rng, octets, names)
     if drawn < 0.65:
-        return repeat_lines(rng, octets, role)
+        return repeat_lines(rng, octets)
     return change_lines(rng, octets) if drawn < 0.85 else rng.choice(OCTETS)(rng, octets)
 
 
@@ -212,7 +210,7 @@ def change_file(rng: Random, case: Case, name: str, role: str) -> Case:
     elif role == "policy" and rng.random() < 0.2:
         octets += b"\n" + "\n".join(generate.policy(rng)).encode("latin-1")
     else:
-        octets = change_text(rng, octets, role, names_of(case))
+        octets = change_text(rng, octets, names_of(case))
     return case.with_file(name, octets)
 
 

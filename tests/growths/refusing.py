@@ -3,6 +3,8 @@ import mmap
 import os
 import struct
 import subprocess
+import tempfile
+import threading
 from pathlib import Path
 from typing import NamedTuple, Optional, Sequence
 
@@ -12,20 +14,28 @@ from common.subject import Subject
 NUMBERS = struct.Struct("4q")
 ALL_LATER = 2**62
 SOURCE = Path(__file__).with_name("refuse_growths.c")
+MADE = Path(__file__).parent / "out" / "refuse_growths.so"
+MAKING = threading.Lock()
+
+
+def make_library(subject: Subject) -> None:
+    """Makes the preloaded library by the kit's own clang. Another run of the tests may do so too: what is there is
+    always a whole one."""
+    MADE.parent.mkdir(exist_ok=True)
+    clang = subject.kit / "toolchain/bin/clang"
+    flags = ["--no-default-config", "-O2", "-shared", "-fPIC", "-nostdlib", "-fuse-ld=lld"]
+    with tempfile.TemporaryDirectory(dir=MADE.parent) as folder:
+        new = Path(folder) / MADE.name
+        subprocess.run([clang, *flags, "-o", new, SOURCE], check=True)
+        new.replace(MADE)
 
 
 def library(subject: Subject) -> Path:
-    """The preloaded library, made by the kit's own clang where it is not there yet."""
-    made = Path(__file__).parent / "out" / "refuse_growths.so"
-    if made.is_file() and made.stat().st_mtime > SOURCE.stat().st_mtime:
-        return made
-    made.parent.mkdir(exist_ok=True)
-    new = made.with_suffix(f".{os.getpid()}")
-    clang = subject.kit / "toolchain/bin/clang"
-    flags = ["--no-default-config", "-O2", "-shared", "-fPIC", "-nostdlib", "-fuse-ld=lld"]
-    subprocess.run([clang, *flags, "-o", new, SOURCE], check=True)
-    new.rename(made)
-    return made
+    """The preloaded library, which is made where it is not there yet. Several threads may ask for it."""
+    with MAKING:
+        if not MADE.is_file() or MADE.stat().st_mtime <= SOURCE.stat().st_mtime:
+            make_library(subject)
+    return MADE
 
 
 class Refused(NamedTuple):

@@ -5,11 +5,11 @@ from typing import Counter, Iterator, List, NamedTuple, Optional, Sequence, Tupl
 
 from common.program import Word
 from common.report import Report
-from common.subject import Subject, new_folder
+from common.subject import Subject, new_folder, on_all
 from growths.refusing import ALL_LATER, Refusals, Refused
 from growths.store_model import FIRST, NAMES, Store, told
 
-STORES = ("snapshots",)
+STORES = ("snapshots", "slots")
 OUT_OF_MEMORY = b"Error: Kind(OutOfMemory)\n"
 
 # Every operator, with an effect and without; edits from the middle; rollbacks until there is no room, and their undo.
@@ -35,7 +35,13 @@ SCRIPTS = {
     "rollbacks": EDITS[:4] + ROLLBACKS + TO_BOTH_ENDS,
     "settled": EDITS[:6] + SETTLED + TO_BOTH_ENDS,
 }
-KINDS = {"new", "list", "reserve", "rollback", *(f"edit {it}" for it in ("=", ":=", "+=", "^=", "-=", "==", "!*"))}
+# An edit before a state that was undone, which is still there where that edit is refused.
+BEFORE_LATER = ["reply += 25 9", "undo", "reply += 25 8", "redo", "list reply"]
+REFUSED_EDIT = 2
+# An append to as many pairs as leave room for one, after a call that takes memory.
+TO_MANY = ["reply !* 18 0", "reply !* 25 0", *["reply += 25 1"] * 4095, "list request", "reply += 25 2"]
+MOST_GROWTHS = 10
+KINDS = {"new", "list", "reserve", "rollback", *(f"edit {it}" for it in ("=", ":=", "+=", "-=", "==", "!*"))}
 
 
 class Followed(NamedTuple):
@@ -121,16 +127,51 @@ def check_without_memory(subject: Subject, report: Report, store: str) -> None:
     report.check(f"calls of {store} that take no memory, with every growth refused", wrong)
 
 
+def check_later_state(subject: Subject, report: Report, store: str) -> None:
+    """Wherever the edit asks for memory and is refused, the place and the states are those before: the state that was
+    undone is there, and `redo` goes to it."""
+    command = [str(subject.driver("drive_store")), store, *BEFORE_LATER]
+    held = 0
+    with new_folder() as folder:
+        for _, run in runs(Refusals(subject, folder), command, folder, False):
+            found = follow(BEFORE_LATER, run.ended.output.decode())
+            held += found == Followed(None, [REFUSED_EDIT])
+    name = f"an edit of {store} before a later state, refused in {held} runs"
+    report.check(name, [] if held else ["it was refused in none, or the later state was lost"])
+
+
+def check_append_to_many(subject: Subject, report: Report) -> None:
+    """An append to 4,095 pairs in slots is made with every growth after its tenth refused. With all from the eleventh
+    last on refused the call before it is refused already, so the append asks for ten at most."""
+    command = [str(subject.driver("drive_store")), "slots", *TO_MANY]
+    with new_folder() as folder:
+        refusals = Refusals(subject, folder)
+        whole = refusals.run(command, folder, 0)
+        few = refusals.run(command, folder, whole.asked - MOST_GROWTHS, ALL_LATER)
+    answer, state = whole.ended.output.decode().splitlines()[-2:]
+    wrong = [] if answer == "done" and " pairs 1 4096 0 " in state else [f"it answered {answer}, {state}"]
+    listed = few.ended.output.decode().splitlines()[-4]
+    wrong += [] if listed == "refused" else [f"it asks for more than {MOST_GROWTHS} growths"]
+    report.check("an append to 4,095 pairs in slots, with every growth after its tenth refused", wrong)
+
+
+def check_sweeps(subject: Subject, report: Report, store: str) -> None:
+    """Each script, each growth alone and with all later ones; every kind of call was refused in one of them."""
+    works = [(name, all_later) for name in SCRIPTS for all_later in (False, True)]
+    found = on_all(lambda work: swept(subject, store, SCRIPTS[work[0]], work[1]), works)
+    kinds = Counter[str]()
+    for (name, all_later), (wrong, refused) in zip(works, found):
+        kinds += refused
+        how = "with all later ones" if all_later else "alone"
+        report.check(f"growths of {store}, {name}, {how}: {sum(refused.values())} calls refused", wrong)
+    missed = sorted(KINDS - set(kinds))
+    report.check(f"calls of {store} that were refused: {dict(kinds)}", [f"none of {it}" for it in missed])
+
+
 def check(subject: Subject, report: Report) -> None:
-    """Every store, each script, each growth alone and with all later ones."""
+    """Every store."""
     for store in STORES:
-        kinds = Counter[str]()
-        for name, script in SCRIPTS.items():
-            for all_later in (False, True):
-                wrong, found = swept(subject, store, script, all_later)
-                kinds += found
-                how = "with all later ones" if all_later else "alone"
-                report.check(f"growths of {store}, {name}, {how}: {sum(found.values())} calls refused", wrong)
-        missed = sorted(KINDS - set(kinds))
-        report.check(f"calls of {store} that were refused: {dict(kinds)}", [f"none of {it}" for it in missed])
+        check_sweeps(subject, report, store)
         check_without_memory(subject, report, store)
+        check_later_state(subject, report, store)
+    check_append_to_many(subject, report)

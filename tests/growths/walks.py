@@ -5,7 +5,7 @@ from typing import List, NamedTuple, Optional, Set
 from common.cases import from_folder
 from common.program import Word
 from common.report import Report
-from common.subject import Subject, new_folder
+from common.subject import Subject, new_folder, on_all
 from growths.refusing import Refusals
 from growths.stores import STORES, runs
 from growths.walk_model import Answered, Stand, Walk, answers
@@ -30,6 +30,14 @@ class Walked(NamedTuple):
     fault: Optional[str]
     refused: List[int]
     told: List[Answered]
+
+
+class Swept(NamedTuple):
+    """What is wrong of the walks of a script, the labels of the steps that were refused, and how many were held up."""
+
+    wrong: List[str]
+    labels: Set[str]
+    held_up: int
 
 
 def command_of(subject: Subject, store: str, case: str, moves: List[str]) -> List[Word]:
@@ -72,36 +80,46 @@ def is_held_up_inside(moves: List[str], walked: Walked) -> bool:
     )
 
 
-def sweep(subject: Subject, report: Report, store: str, case: str, all_later: bool) -> Set[str]:
-    """Each growth of each script refused; gives the labels of the steps that were refused."""
-    trace, labels, held_up = trace_of(subject, store, case), set(), 0
-    for name, moves in SCRIPTS.items():
-        wrong: List[str] = []
-        command = command_of(subject, store, case, moves)
-        with new_folder() as folder:
-            for growth, run in runs(Refusals(subject, folder), command, folder, all_later):
-                ended = run.ended
-                if ended.status == 1 and b"at 0" not in ended.output:
-                    continue  # the program's own preparation was refused
-                walked = follow(trace, moves, ended.output.decode())
-                if ended.status or walked.fault:
-                    wrong.append(f"growth {growth}: status {ended.status}, {walked.fault}")
-                labels |= {trace[at].label for at in walked.refused}
-                held_up += not walked.fault and walked.refused == [5] and is_held_up_inside(moves, walked)
+def swept(subject: Subject, store: str, case: str, moves: List[str], all_later: bool) -> Swept:
+    """Each growth of a script refused in turn."""
+    trace, wrong, labels, held_up = trace_of(subject, store, case), [], set(), 0
+    command = command_of(subject, store, case, moves)
+    with new_folder() as folder:
+        for growth, run in runs(Refusals(subject, folder), command, folder, all_later):
+            ended = run.ended
+            if ended.status == 1 and b"at 0" not in ended.output:
+                continue  # the program's own preparation was refused
+            walked = follow(trace, moves, ended.output.decode())
+            if ended.status or walked.fault:
+                wrong.append(f"growth {growth}: status {ended.status}, {walked.fault}")
+            labels |= {trace[at].label for at in walked.refused}
+            held_up += not walked.fault and walked.refused == [5] and is_held_up_inside(moves, walked)
+    return Swept(wrong, labels, held_up)
+
+
+def check_case(subject: Subject, report: Report, store: str, case: str) -> None:
+    """Each script over a policy, each growth alone and with all later ones. Each line that adds is refused in one."""
+    works = [(name, all_later) for name in SCRIPTS for all_later in (False, True)]
+    found = on_all(lambda work: swept(subject, store, case, SCRIPTS[work[0]], work[1]), works)
+    for (name, all_later), it in zip(works, found):
         how = "with all later ones" if all_later else "alone"
-        report.check(f"growths of a walk over {case} on {store}, {name}, {how}", wrong)
-    if case == "nested-transactions" and not all_later:
+        report.check(f"growths of a walk over {case} on {store}, {name}, {how}", it.wrong)
+    if case == "nested-transactions":
+        held_up = sum(it.held_up for it in found)
         report.check(f"a walk on {store} held up inside two transactions", [] if held_up else ["none was"])
-    return labels
+    labels = set().union(*(it.labels for it in found))
+    missed = {f"Line({line})" for line in ADDING[case]} - labels
+    report.check(
+        f"steps of {case} on {store} that were refused: {sorted(labels)}", [f"not {label}" for label in sorted(missed)]
+    )
 
 
 def check(subject: Subject, report: Report) -> None:
-    """Every store and each policy."""
-    for store in STORES:
-        for case, adding in ADDING.items():
-            labels = sweep(subject, report, store, case, False) | sweep(subject, report, store, case, True)
-            missed = {f"Line({line})" for line in adding} - labels
-            report.check(
-                f"steps of {case} on {store} that were refused: {sorted(labels)}",
-                [f"not {label}" for label in sorted(missed)],
-            )
+    """Each policy on every store, and that the stores show one trace."""
+    for case in ADDING:
+        for store in STORES:
+            check_case(subject, report, store, case)
+        first, *others = [trace_of(subject, store, case) for store in STORES]
+        report.check(
+            f"the walk over {case} on each store", [f"{it} and not {first}" for it in others if it != first]
+        )

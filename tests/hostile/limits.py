@@ -22,7 +22,7 @@ def wrong(subject: Subject, row: Row) -> List[str]:
     with new_folder() as folder:
         for name, octets in row.files.items():
             (folder / name).write_bytes(octets)
-        ended = run([subject.program, *row.words.split()], folder, seconds=20, before=limit)
+        ended = run([subject.program, *row.words.split()], folder, before=limit)
     found = []
     if row.fault:
         number, _, place = row.fault.partition(" ")

@@ -30,7 +30,7 @@ def run_case(
     """A run of a case with its streams as given."""
     with new_folder() as folder:
         case.place(folder)
-        return run([subject.program, *case.words], folder, case.stdin, None, 20, before, output, errors)
+        return run([subject.program, *case.words], folder, case.stdin, None, before, output, errors)
 
 
 @contextmanager

@@ -5,7 +5,9 @@
 
 mod calls;
 
-use avp_lists::{AttrId, EditFault, List, ListsRefused, MOST_PAIRS, SnapshotStore, Store};
+use avp_lists::{
+    AttrId, EditFault, List, ListsRefused, MOST_PAIRS, SlotStore, SnapshotStore, Store,
+};
 use calls::{Call, call_of, pair_of};
 use std::alloc::{AllocError, Global};
 use std::{env, io};
@@ -130,6 +132,7 @@ fn main(rt: HostRuntime) -> io::Result<()> {
     }
     match store.as_str() {
         "snapshots" => follow_new!(&rt, SnapshotStore, lists, calls),
+        "slots" => follow_new!(&rt, SlotStore, lists, calls),
         _ => Err(io::ErrorKind::InvalidInput.into()),
     }
 }

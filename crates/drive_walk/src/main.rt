@@ -3,13 +3,15 @@
 //! request and of a policy, and then the moves.
 #![tactic(auto)]
 
-ghost use Rattle.std.specs.Prelude.{IfOk};
+ghost use Rattle.std.specs.Prelude.{IfOk, IsTrue, length, ◌≤◌};
+ghost use Rattle.std.specs.List.{All};
+ghost use Rattle.avp_dict.specs.Limits.{fits};
 ghost use Rattle.avp_lists.specs.History.{present};
 ghost use Rattle.avp_unlang.specs.Suiting.{IsSpelled};
 ghost use Rattle.avp_unlang.specs.Resolutions.{StateFits};
 
 use avp_dict::{Dictionary, FileSet, NamedFile};
-use avp_lists::{List, Octets, SnapshotStore, Store};
+use avp_lists::{List, MOST_PAIRS, Octets, Pair, SlotStore, SnapshotStore, Store};
 use avp_step::{Moved, Stepper};
 use avp_unlang::{Policy, read_policy};
 use std::alloc::{AllocError, Global};
@@ -92,17 +94,25 @@ fn walk<S: Store>(
     Ok(())
 }
 
-// A store whose request list the text spells.
-fn snapshots(alloc: Global, dictionary: &Dictionary, text: &str) -> io::Result<SnapshotStore>
-    ensures { IfOk result (λ store. StateFits dictionary.now (present (⟦<SnapshotStore as Store>⟧.history store))) }
+// The request that the text spells.
+fn request_of(alloc: Global, dictionary: &Dictionary, text: &str) -> io::Result<Vec<Pair>>
+    ensures fits { IfOk result (λ pairs. All (λ pair. IsTrue (fits pair dictionary.now)) pairs.items) }
+    ensures few { IfOk result (λ pairs. length pairs.items ≤ MOST_PAIRS) }
 {
-    let Ok(request) = dictionary.read_request(alloc, text.as_bytes()) else {
-        return Err(io::ErrorKind::InvalidData.into());
-    };
-    match SnapshotStore::new(alloc, request, Vec::new(alloc), Vec::new(alloc)) {
-        Ok(store) => Ok(store),
-        Err(_) => Err(AllocError.into()),
+    match dictionary.read_request(alloc, text.as_bytes()) {
+        Ok(pairs) => Ok(pairs),
+        Err(_) => Err(io::ErrorKind::InvalidData.into()),
     }
+}
+
+// Makes a store of the request, and walks over it.
+macro_rules! walk_over {
+    ($rt:expr, $dictionary:expr, $policy:expr, $store:ident, $request:expr, $moves:expr) => {
+        match $store::new($rt.alloc(), $request, Vec::new($rt.alloc()), Vec::new($rt.alloc())) {
+            Ok(store) => walk($rt, $dictionary, $policy, store, $moves),
+            Err(_) => Err(AllocError.into()),
+        }
+    };
 }
 
 fn main(rt: HostRuntime) -> io::Result<()> {
@@ -114,11 +124,10 @@ fn main(rt: HostRuntime) -> io::Result<()> {
     let Ok(policy) = read_policy(rt.alloc(), &dictionary, policy.as_bytes()) else {
         return Err(io::ErrorKind::InvalidData.into());
     };
+    let request = request_of(rt.alloc(), &dictionary, request.as_str())?;
     match store.as_str() {
-        "snapshots" => {
-            let store = snapshots(rt.alloc(), &dictionary, request.as_str())?;
-            walk(&rt, &dictionary, &policy, store, moves)
-        }
+        "snapshots" => walk_over!(&rt, &dictionary, &policy, SnapshotStore, request, moves),
+        "slots" => walk_over!(&rt, &dictionary, &policy, SlotStore, request, moves),
         _ => Err(io::ErrorKind::InvalidInput.into()),
     }
 }
