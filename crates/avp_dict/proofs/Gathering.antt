@@ -3,8 +3,7 @@ use Rattle.std.proofs.Common.{◌≡◌, ℕ, zero, suc, ◌+◌, ◌-◌, ◌<�
 use Rattle.std.specs.Bool.{if◌then◌else◌}
 use Rattle.std.specs.List.{before_first, after_first, onto_first, position_or_len}
 use Rattle.avp_dict.specs.declared.files.NamedFile.{NamedFile}
-use Rattle.avp_dict.specs.Lines.{Line, expanded, file_included, lines_below, lines_in, octets_at, texts_of}
-use Rattle.avp_dict.specs.code.Gathered.{is_line_end}
+use Rattle.avp_dict.specs.Lines.{is_line_end, Line, expanded, file_included, lines_below, lines_in, octets_at, texts_of}
 
 pub append_nil : {A : Type 0} (xs : List A) → xs ++ [] ≡ xs
 append_nil [] = refl

@@ -13,7 +13,7 @@ use Rattle.avp_dict.specs.Words.{same_name}
 abbrev pub innermost : List Reading → Option Reading
 innermost opened = slice_get opened (length opened - 1)
 
--- a block of a vendor whose attributes are not read, or of TLVs
+-- the line opens a skipped block: of a vendor whose attributes are not read, or of TLVs
 abbrev pub opens_skipped : Reading → Bool
 opens_skipped r = elim r.meaning [ BeginVendor n v ↦ is_none v | BeginTlv n ↦ true | _ ↦ false ]
 

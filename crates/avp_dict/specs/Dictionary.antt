@@ -13,7 +13,7 @@ use Rattle.avp_dict.specs.declared.entries.Typing.{Typing}
 use Rattle.avp_dict.specs.declared.entries.Note.{Note}
 use Rattle.avp_dict.specs.Words.{lower, same_name}
 
--- the used ATTRIBUTE lines, the used VALUE lines, the VENDOR lines, and where the skipped lines are, each in the order of the lines
+-- the used ATTRIBUTE lines, the used VALUE lines, the VENDOR lines outside skipped blocks, and where the skipped lines are, each in the order of the lines
 pub record Dictionary : Type 0 where
   pub attributes : List AttributeLine
   pub values : List ValueLine

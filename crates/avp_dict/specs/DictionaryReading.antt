@@ -21,7 +21,7 @@ unless_open (Some r) x = Err (record { file = r.file; line = r.line; kind = Unma
 abbrev pub most_lines : ℕ
 most_lines = 200000
 
--- what the lines define before the names of values
+-- what the lines define, without the names of values and the notes
 abbrev pub outline_of : Context → Dictionary
 outline_of context = record { attributes = used context.vendors context.attributes; values = []; vendors = context.vendors; notes = [] }
 

@@ -27,7 +27,7 @@ vendor_room f = 249 - f.t - f.l
 abbrev pub extended_room : ℕ → ℕ
 extended_room t = if nat_le 241 t && nat_le t 244 then 252 else (if nat_le 245 t && nat_le t 246 then 4012 else 0)
 
--- the most octets of an id's attribute; the vendor's format has to have two parts
+-- the most octets of an id's attribute; 0 where the vendor has no format of two parts
 unfoldable pub most_octets : AttrId → Dictionary → ℕ
 most_octets (ids.Plain n) dictionary = if nat_le n most_plain then 253 else 4012
 most_octets (ids.Vendor vendor n) dictionary = option_map_or vendor_room (vendor_format vendor dictionary) 0

@@ -13,6 +13,9 @@ pub record Line : Type 0 where
   pub depth : ℕ
   pub text : List ℕ
 
+abbrev pub is_line_end : ℕ → Bool
+is_line_end o = o == 10
+
 -- a line ends at LF, and an empty rest is no line
 abbrev pub texts_of : List ℕ → List (List ℕ)
 texts_of [] = []

@@ -5,8 +5,8 @@ use Rattle.avp_dict.specs.declared.entries.AttributeLine.{AttributeLine}
 use Rattle.avp_dict.specs.declared.entries.VendorLine.{VendorLine}
 
 -- a blank line or an include; a line that only gives a note; a skipped ATTRIBUTE line, by its name; a VENDOR line; an ATTRIBUTE
--- line that is not skipped; a VALUE line, its attribute, name and number; the beginning of a block, of a vendor that is read or
--- of none; of TLVs; and the end of a block, which says whether it gives a note
+-- line that is not skipped; a VALUE line, its attribute, name and number; a BEGIN-VENDOR line, with the vendor where the block is
+-- read and none where it is skipped; a BEGIN-TLV line; and the end of a block, which says whether it gives a note
 pub data Meaning : Type 0 where
   Nothing : Meaning
   Skipped : Meaning

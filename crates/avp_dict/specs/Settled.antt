@@ -15,7 +15,7 @@ abbrev pub holds : ℕ → Option VendorFormat → Bool
 holds n None = false
 holds n (Some f) = not f.third && is_held n f
 
--- the last format of the vendor holds the number
+-- the last format of the vendor has two parts and holds the number
 unfoldable pub is_in_format : ℕ → ℕ → List VendorLine → Bool
 is_in_format vendor n vendors = holds n (format_of vendor vendors)
 

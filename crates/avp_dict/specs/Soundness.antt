@@ -1,4 +1,4 @@
--- What holds of every dictionary that was read: a name stands for one thing, and for nothing that is written by number, and a vendor's format is one of those that there are.
+-- What holds of every dictionary that was read: a name stands for one thing and has no form of a name by number, and each vendor has one of the formats that exist.
 use Rattle.std.specs.Prelude.{◌≡◌, ℕ, Bool, true, false, not, ◌&&◌, ◌==◌, List, Some}
 use Rattle.std.specs.List.{All}
 use Rattle.avp_lists.specs.declared.attributes.AttrId.{AttrId}
@@ -24,11 +24,11 @@ pub record IsSoundAttribute (dictionary : Dictionary) (a : AttributeLine) : Type
   pub known : is_known a.id dictionary ≡ true
   pub hides : a.typing.hidden ≡ true → is_text_kind (Some a.typing.kind) ≡ true
 
--- a line that gives the attribute's name another number
+-- a line that gives the name of an attribute's value another number
 abbrev pub names_other_value : AttrId → List ℕ → ℕ → ValueLine → Bool
 names_other_value id name number v = is_value_named id name v && not (v.number == number)
 
--- the name is no number, and the attribute gives it no other number
+-- the name does not read as a number, and no line gives it another number for the attribute
 pub record IsSoundValue (values : List ValueLine) (v : ValueLine) : Type 0 where
   pub named : reads_as_number v.name ≡ false
   pub alone : All (λ w. names_other_value v.id v.name v.number w ≡ false) values

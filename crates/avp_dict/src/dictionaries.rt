@@ -80,7 +80,8 @@ pub(crate) fn read_up_to(
 
 impl Dictionary {
     /// Reads the lines of the main file, which is the first, each include followed by its file's lines. The first
-    /// line that fails is refused, then a line too many, a block left open, and the first VALUE line that fails.
+    /// line that fails is refused, the one past the limit included; then a block left open, and then the first VALUE
+    /// line that fails.
     pub fn read(alloc: Global, files: &FileSet) -> Result<Dictionary, DictFault>
         requires first { 0 < length files.now }
         requires names { HasDistinctNames files.now }
@@ -117,7 +118,7 @@ impl Dictionary {
         }
     }
 
-    /// What an id stands for.
+    /// What an id stands for, by its last used ATTRIBUTE line.
     #[tactic(auto, unfolding(crate::specs::Names::described))]
     pub fn by_id(&self, id: AttrId) -> Option<Entry<'_>>
         ensures { option_map entry_view result ≡ described id self.now }
@@ -139,7 +140,7 @@ impl Dictionary {
         self.contents.attributes.name(at)
     }
 
-    /// The format of a vendor's attributes; none too where it has a third part.
+    /// The format of a vendor's attributes, by its last VENDOR line; none too where it has a third part.
     #[tactic(auto, unfolding(crate::specs::Names::vendor_format))]
     pub fn vendor(&self, number: u32) -> Option<Format>
         ensures { result ≡ vendor_format number self.now }

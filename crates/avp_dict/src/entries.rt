@@ -81,7 +81,7 @@ pub struct Named {
     pub raw: bool,
 }
 
-/// What an id stands for, by its last ATTRIBUTE line.
+/// What an id stands for, by its last used ATTRIBUTE line.
 #[derive(Clone, Copy, Debug)]
 pub struct Entry<'a> {
     /// The printed name.

@@ -16,10 +16,10 @@ pub enum DictKind {
     /// type's greatest one.
     #[error("number out of range")]
     OutOfRange,
-    /// An earlier line that was not skipped gave the name to another vendor or attribute.
+    /// An earlier line, not skipped when it was read, gave the name to another vendor or attribute.
     #[error("name has another number")]
     OtherNumber,
-    /// BEGIN-VENDOR of a vendor without an earlier VENDOR line.
+    /// BEGIN-VENDOR, outside skipped blocks and without a format, of a vendor without an earlier VENDOR line.
     #[error("unknown vendor")]
     UnknownVendor,
     /// An END line that doesn't end the last open block, or a block that is left open.
@@ -34,7 +34,7 @@ pub enum DictKind {
     TooLong,
     #[error("VALUE of no ATTRIBUTE")]
     NoAttribute,
-    /// An earlier VALUE line gave the attribute's name to another number.
+    /// An earlier used VALUE line gave this name of the attribute's values another number.
     #[error("VALUE has another number")]
     OtherValue,
     #[error("out of memory")]

@@ -89,7 +89,7 @@ fn names_differ(files: &[NamedFile]) -> bool
     true
 }
 
-/// What follows the last `/` of a path: the name by which a file is given and included.
+/// What follows the last `/` of a path, or the whole path: the name by which a file is given and included.
 pub fn last_component(path: &[u8]) -> &[u8]
     ensures { result.now ≡ last_component path.now }
 {

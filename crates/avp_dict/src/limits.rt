@@ -130,8 +130,9 @@ impl Dictionary {
         }
     }
 
-    /// The most octets of a value of the id's type (RFC 2865, sections 5 and 5.26; RFC 6929, sections 2.1 and 2.2); 0
-    /// where its vendor has no format of two parts.
+    /// The most octets of a value of the id's type (RFC 2865, sections 5 and 5.26; RFC 6929, sections 2.1 and 2.2): 128
+    /// where it is hidden, 4012 where it is never sent, and 0 where its vendor has no format of two parts or its type
+    /// is none of 241 to 246.
     #[tactic(auto, unfolding(crate::specs::Limits::greatest_length))]
     pub fn greatest_length(&self, id: AttrId) -> usize
         ensures { result ≡ greatest_length id self.now }
@@ -188,7 +189,8 @@ impl Dictionary {
         }
     }
 
-    /// Whether the id's vendor is known, the value is one of the id's type or raw, and its length is allowed.
+    /// Whether the id is known (a vendor's by a format of two parts that holds its number, an extended one by a type of
+    /// 241 to 246), the value is one of the id's type or raw, and its length is allowed. A hidden value ends in no NUL.
     #[tactic(auto, unfolding(crate::specs::Limits::fits))]
     pub fn fits(&self, pair: &Pair) -> bool
         ensures { result ≡ fits pair.now self.now }

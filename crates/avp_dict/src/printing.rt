@@ -178,7 +178,8 @@ impl Dictionary {
         hexadecimal(alloc, &octets)
     }
 
-    /// The text that is printed for a value: a string in double quotes, and `0x` and the octets under a name by number.
+    /// The text that is printed for a value: its name where there is a VALUE line, a number, an address, a string in
+    /// double quotes; and `0x` and the octets under a name by number.
     #[tactic(auto, unfolding(crate::specs::Printing::printed_text))]
     pub fn text_of_value(
         &self,

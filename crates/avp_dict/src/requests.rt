@@ -1,12 +1,12 @@
 //! The request of a text of lines.
 
 ghost use Rattle.std.specs.Prelude.{◌≡◌, ◌≢◌, ◌≤◌, ◌<◌, ◌+◌, ◌^◌, ◌++◌, ◌∷◌, [], Some, None, true, false, IfOk, IfErr, OnOk, OnErr, IfSome, MatchOption, length, List, All, IsTrue};
-ghost use Rattle.std.specs.List.{list_all};
+ghost use Rattle.std.specs.List.{before_first, after_first, list_all};
 ghost use Rattle.std.specs.Option.{option_and_then};
 ghost use Rattle.avp_lists.specs.States.{most_pairs};
 ghost use Rattle.avp_lists.specs.declared.attributes.Pair.{Pair};
 ghost use Rattle.avp_dict.specs.Limits.{fits};
-ghost use Rattle.avp_dict.specs.Lines.{texts_of};
+ghost use Rattle.avp_dict.specs.Lines.{is_line_end, texts_of};
 ghost use Rattle.avp_dict.specs.RequestLines.{is_blank_line, is_idle_line, joined, pairs_of, tokens_at, without_front};
 ghost use Rattle.avp_dict.specs.Requests.{few_enough, pair_named, request_spelled};
 ghost use Rattle.avp_dict.specs.Sent.{is_clean};
@@ -26,6 +26,8 @@ use std::alloc::Global;
 /// The first line of a text without its end, and what follows it; none where nothing is left.
 pub fn next_line(text: &[u8]) -> Option<(&[u8], &[u8])>
     ensures cut { MatchOption result (texts_of text.now ≡ []) (λ x. texts_of text.now ≡ x.0.now ∷ texts_of x.1.now) }
+    ensures line { IfSome result (λ x. x.0.now ≡ before_first is_line_end text.now) }
+    ensures rest { IfSome result (λ x. x.1.now ≡ after_first is_line_end text.now) }
     ensures shorter { IfSome result (λ x. length x.1.now < length text.now) }
 {
     if text.is_empty() {

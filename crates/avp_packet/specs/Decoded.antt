@@ -1,4 +1,4 @@
--- What octets handed in as a packet are read as, and what is refused of them (RFC 2865, section 3; RFC 2866, section 3; RFC 3579, section 3.2).
+-- What octets given as a packet are read as, and what is refused of them (RFC 2865, section 3; RFC 2866, section 3; RFC 3579, section 3.2).
 use Rattle.std.specs.Prelude.{ℕ, ◌+◌, ◌-◌, Bool, ◌&&◌, ◌||◌, not, ◌==◌, nat_lt, if◌then◌else◌, List, [], ◌∷◌, ◌++◌, length, take, Result, Ok, Err}
 use Rattle.std.specs.List.{list_any}
 use Rattle.std.specs.Str.{bytes_eq}

@@ -113,7 +113,7 @@ reply dictionary secret code id authenticator signed pairs proxy_states =
     let attributes = attributes_signed dictionary secret code id authenticator (reply_content signed pairs proxy_states) in
     packet code id (digest_over code id authenticator attributes secret) attributes
 
--- ---- octets handed in
+-- ---- octets given
 
 abbrev pub code_of : List ℕ → ℕ
 code_of os = slice_index os 0

@@ -132,7 +132,7 @@ fn assemble(
 }
 
 /// An Access-Request or an Accounting-Request with the pairs of a list. The authenticator of an Accounting-Request is
-/// its digest, and the one handed in is not used. In an Access-Request the first Message-Authenticator, whatever its
+/// its digest, and the one given is not used. In an Access-Request the first Message-Authenticator, whatever its
 /// value, asks for one that signs the packet. [`EncodeFault::TooLong`] is found before the packet is put together.
 #[tactic(auto, unfolding(crate::specs::Packets::request), using(crate::proofs::Assembled::length_request))]
 pub fn encode_request(

@@ -133,7 +133,7 @@ impl<'a, S: Store> Stepper<'a, S> {
         self.marks[self.position].stopped
     }
 
-    /// The store, whose present lists are those of this position. It has one state for each step that was made.
+    /// The store. Its present lists are those of this position, and its place is the position.
     pub fn store(&self) -> &S
         ensures place { (S.history result.now).place ≡ self.now.position }
         ensures lists { present (S.history result.now) ≡ (entry self.now).outcome.state }

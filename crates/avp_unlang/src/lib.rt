@@ -1,6 +1,7 @@
-//! Policy texts: statements that set attributes, in the form of unlang(5), read into a tree.
+//! Policies: statements that set attributes, in the form of unlang(5), as a text and as a tree, and what they mean.
 //!
-//! [`read_policy`] reads a text by a dictionary, and [`Policy::statements`] lends what it spells.
+//! [`read_policy`] reads a text by a dictionary, and [`Policy::statements`] lends what it spells. [`holds`] decides a
+//! condition, and [`resolve`] makes the pair of an update line.
 #![tactic(auto)]
 
 mod boxed;

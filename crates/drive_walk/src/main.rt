@@ -3,15 +3,13 @@
 //! request and of a policy, and then the moves.
 #![tactic(auto)]
 
-ghost use Rattle.std.specs.Prelude.{IfOk, IsTrue, length, ◌≤◌};
-ghost use Rattle.std.specs.List.{All};
-ghost use Rattle.avp_dict.specs.Limits.{fits};
+ghost use Rattle.std.specs.Prelude.{IfOk};
 ghost use Rattle.avp_lists.specs.History.{present};
 ghost use Rattle.avp_unlang.specs.Suiting.{IsSpelled};
 ghost use Rattle.avp_unlang.specs.Resolutions.{StateFits};
 
 use avp_dict::{Dictionary, FileSet, NamedFile};
-use avp_lists::{List, MOST_PAIRS, Octets, Pair, SlotStore, SnapshotStore, Store};
+use avp_lists::{List, Octets, SlotStore, SnapshotStore, Store};
 use avp_step::{Moved, Stepper};
 use avp_unlang::{Policy, read_policy};
 use std::alloc::{AllocError, Global};
@@ -94,25 +92,69 @@ fn walk<S: Store>(
     Ok(())
 }
 
-// The request that the text spells.
-fn request_of(alloc: Global, dictionary: &Dictionary, text: &str) -> io::Result<Vec<Pair>>
-    ensures fits { IfOk result (λ pairs. All (λ pair. IsTrue (fits pair dictionary.now)) pairs.items) }
-    ensures few { IfOk result (λ pairs. length pairs.items ≤ MOST_PAIRS) }
+// A store of whole states whose request list the text spells.
+fn snapshots(alloc: Global, dictionary: &Dictionary, text: &str) -> io::Result<SnapshotStore>
+    ensures { IfOk result (λ store. StateFits dictionary.now (present (⟦<SnapshotStore as Store>⟧.history store))) }
 {
-    match dictionary.read_request(alloc, text.as_bytes()) {
-        Ok(pairs) => Ok(pairs),
-        Err(_) => Err(io::ErrorKind::InvalidData.into()),
+    let Ok(request) = dictionary.read_request(alloc, text.as_bytes()) else {
+        return Err(io::ErrorKind::InvalidData.into());
+    };
+    match SnapshotStore::new(alloc, request, Vec::new(alloc), Vec::new(alloc)) {
+        Ok(store) => Ok(store),
+        Err(_) => Err(AllocError.into()),
     }
 }
 
-// Makes a store of the request, and walks over it.
-macro_rules! walk_over {
-    ($rt:expr, $dictionary:expr, $policy:expr, $store:ident, $request:expr, $moves:expr) => {
-        match $store::new($rt.alloc(), $request, Vec::new($rt.alloc()), Vec::new($rt.alloc())) {
-            Ok(store) => walk($rt, $dictionary, $policy, store, $moves),
-            Err(_) => Err(AllocError.into()),
-        }
+// A store of slots, in the same way.
+fn slots(alloc: Global, dictionary: &Dictionary, text: &str) -> io::Result<SlotStore>
+    ensures { IfOk result (λ store. StateFits dictionary.now (present (⟦<SlotStore as Store>⟧.history store))) }
+{
+    let Ok(request) = dictionary.read_request(alloc, text.as_bytes()) else {
+        return Err(io::ErrorKind::InvalidData.into());
     };
+    match SlotStore::new(alloc, request, Vec::new(alloc), Vec::new(alloc)) {
+        Ok(store) => Ok(store),
+        Err(_) => Err(AllocError.into()),
+    }
+}
+
+// Walks over the run of a policy, with the store of this name.
+fn walk_over(
+    rt: &HostRuntime,
+    dictionary: &Dictionary,
+    policy: &Policy,
+    store: &str,
+    request: &str,
+    words: &[String],
+) -> io::Result<()>
+    requires { IsSpelled dictionary.now policy.now }
+{
+    match store {
+        "snapshots" => {
+            let store = snapshots(rt.alloc(), dictionary, request)?;
+            walk(rt, dictionary, policy, store, words)
+        }
+        "slots" => {
+            let store = slots(rt.alloc(), dictionary, request)?;
+            walk(rt, dictionary, policy, store, words)
+        }
+        _ => Err(io::ErrorKind::InvalidInput.into()),
+    }
+}
+
+// Reads the policy, and walks over its run.
+fn walk_by(
+    rt: &HostRuntime,
+    dictionary: &Dictionary,
+    policy: &str,
+    store: &str,
+    request: &str,
+    words: &[String],
+) -> io::Result<()> {
+    let Ok(policy) = read_policy(rt.alloc(), dictionary, policy.as_bytes()) else {
+        return Err(io::ErrorKind::InvalidData.into());
+    };
+    walk_over(rt, dictionary, &policy, store, request, words)
 }
 
 fn main(rt: HostRuntime) -> io::Result<()> {
@@ -121,13 +163,6 @@ fn main(rt: HostRuntime) -> io::Result<()> {
         return Err(io::ErrorKind::InvalidInput.into());
     };
     let dictionary = dictionary_of(rt.alloc(), dictionary.as_str())?;
-    let Ok(policy) = read_policy(rt.alloc(), &dictionary, policy.as_bytes()) else {
-        return Err(io::ErrorKind::InvalidData.into());
-    };
-    let request = request_of(rt.alloc(), &dictionary, request.as_str())?;
-    match store.as_str() {
-        "snapshots" => walk_over!(&rt, &dictionary, &policy, SnapshotStore, request, moves),
-        "slots" => walk_over!(&rt, &dictionary, &policy, SlotStore, request, moves),
-        _ => Err(io::ErrorKind::InvalidInput.into()),
-    }
+    let (policy, store, request) = (policy.as_str(), store.as_str(), request.as_str());
+    walk_by(&rt, &dictionary, policy, store, request, moves)
 }

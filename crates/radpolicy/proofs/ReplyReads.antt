@@ -1,5 +1,5 @@
 -- A reply that is sent is accepted, and read as its pairs.
-use Rattle.std.proofs.Common.{◌≡◌, ◌∙◌, ℕ, Bool, true, false, nat_le, cond, List, [], ◌++◌, length, Option, Some, None, refl, sym, ap, subst}
+use Rattle.std.proofs.Common.{◌≡◌, ◌∙◌, ℕ, Bool, true, false, nat_le, cond, List, [], length, Option, Some, None, refl, sym, ap, subst}
 use Rattle.avp_lists.specs.declared.attributes.Pair.{Pair}
 use Rattle.avp_dict.specs.Dictionary.{Dictionary}
 use Rattle.avp_packet.specs.Means.{Means}

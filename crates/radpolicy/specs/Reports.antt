@@ -88,7 +88,7 @@ packet_text dictionary packet =
 abbrev pub note_line : List NamedFile → Note → List ℕ
 note_line files note = codes "note " ++ name_at files note.file ++ codes ":" ++ decimal note.line ++ codes "\n"
 
--- the files handed in, the names that they define, and the notes in the order of their lines
+-- the files given, the names that they define, and the notes in the order of their lines
 abbrev pub dictionary_text : List NamedFile → Dictionary → List ℕ
 dictionary_text files dictionary =
     count_line (codes "files") (length files)

@@ -1,6 +1,6 @@
-use Rattle.std.proofs.Common.{rules, IsTrue, ◌≡◌, ◌∙◌, ◌++◌, ◌+◌, ◌∷◌, [], ℕ, List, codes, take, ap, sym, Some, None}
-use Rattle.std.specs.List.{flat_map, slice_get}
-use Rattle.std.proofs.lemmas.List.{append_assoc, append-nil}
+use Rattle.std.proofs.Common.{IsTrue, ◌≡◌, ◌∙◌, ◌++◌, ◌+◌, ℕ, List, codes, take, ap, sym}
+use Rattle.std.specs.List.{flat_map}
+use Rattle.std.proofs.lemmas.List.{append-nil}
 use Rattle.std.specs.Option.{option_copied}
 use Rattle.avp_lists.specs.declared.attributes.Pair.{Pair}
 use Rattle.avp_lists.specs.History.{present}
