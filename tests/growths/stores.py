@@ -41,7 +41,7 @@ REFUSED_EDIT = 2
 # An append to as many pairs as leave room for one, after a call that takes memory.
 TO_MANY = ["reply !* 18 0", "reply !* 25 0", *["reply += 25 1"] * 4095, "list request", "reply += 25 2"]
 MOST_GROWTHS = 10
-KINDS = {"new", "list", "reserve", "rollback", *(f"edit {it}" for it in ("=", ":=", "+=", "-=", "==", "!*"))}
+KINDS = {"new", "list", "reserve", "rollback", *(f"edit {it}" for it in ("=", ":=", "+=", "^=", "-=", "==", "!*"))}
 
 
 class Followed(NamedTuple):

@@ -167,7 +167,7 @@ def full_rows() -> List[Row]:
         run_row("a policy of one word", fault="E51 policy:1", policy=b"n" * MOST_INPUT),
         Row("a script of one word", STEP, {**walk, "script": b"n" * MOST_INPUT}, "E06 script:1"),
         Row("a script of 3,355,443 shows", STEP, {**walk, "script": b"show " * (MOST_INPUT // 5)}, end=b"control\n"),
-        Row("a script of 200 shows of 4096 pairs", STEP, {**pairs, "script": b"show " * 200}, end=b"control\n"),
+        Row("a script of 20 shows of 4096 pairs", STEP, {**pairs, "script": b"show " * 20}, end=b"control\n"),
         Row("a script of 2,000 shows", STEP, {**pairs, "script": b"show " * 2000}, end=b"control\n", off=SHOWS),
     ]
 
