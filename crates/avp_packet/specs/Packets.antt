@@ -67,13 +67,13 @@ abbrev pub octets_sent : Dictionary → List ℕ → List ℕ → List Pair → 
 octets_sent dictionary secret hide_by pairs =
     flat_map part_octets (flat_map (parts_of_pair dictionary secret hide_by) pairs)
 
--- the attributes of a packet with this authenticator, and with these octets as its Message-Authenticator
+-- the attributes of a packet with this authenticator, and with these octets as its Message-Authenticator, where it has one
 abbrev pub attributes_with : Dictionary → List ℕ → ℕ → List ℕ → Content → List ℕ → List ℕ
 attributes_with dictionary secret code authenticator content signature =
     octets_sent dictionary secret (hiding_authenticator code authenticator)
     (pairs_sent dictionary content (raw_pair (part 80 signature)))
 
--- the octets that sign it: the digest of the packet with zeros in their place (RFC 3579, section 3.2)
+-- the octets that sign a packet: the digest of the packet with zeros in their place (RFC 3579, section 3.2)
 unfoldable pub signature_of : Dictionary → List ℕ → ℕ → ℕ → List ℕ → Content → List ℕ
 signature_of dictionary secret code id authenticator content =
     hmac secret (packet code id authenticator (attributes_with dictionary secret code authenticator content zeros))
@@ -84,7 +84,7 @@ attributes_signed dictionary secret code id authenticator content =
     attributes_with dictionary secret code authenticator content
     (signature_of dictionary secret code id authenticator content)
 
--- the pairs that these attributes mean
+-- the pairs that these attributes mean, where the lists are clean
 abbrev pub pairs_meant : Dictionary → List ℕ → ℕ → ℕ → List ℕ → Content → List Pair
 pairs_meant dictionary secret code id authenticator content = pairs_sent dictionary content
     (pair_of dictionary secret (hiding_authenticator code authenticator) (Plain 80)
@@ -121,14 +121,14 @@ code_of os = slice_index os 0
 abbrev pub id_of : List ℕ → ℕ
 id_of os = slice_index os 1
 
--- the Length that stands in a packet
+-- the Length in a packet
 abbrev pub length_of : List ℕ → ℕ
 length_of os = number_from_digits 256 (take 2 (drop 2 os))
 
 abbrev pub authenticator_of : List ℕ → List ℕ
 authenticator_of os = take 16 (drop 4 os)
 
--- what stands behind the authenticator, up to Length
+-- what is behind the authenticator, up to Length
 abbrev pub attributes_of : List ℕ → List ℕ
 attributes_of os = drop 20 (take (length_of os) os)
 

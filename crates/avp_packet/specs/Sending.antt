@@ -27,7 +27,7 @@ is_to_sign Access pairs = has_instance message_authenticator pairs
 is_to_sign Accounting pairs = false
 is_to_sign (Reply signed) pairs = signed
 
--- the list's pairs before the packet's Message-Authenticator, which stands where an Access-Request's list has its first, and first in a reply
+-- the list's pairs before the packet's Message-Authenticator, which is where an Access-Request's list has its first, and first in a reply; all pairs of an Accounting-Request, and of a request with none
 abbrev pub before_signature : Kind → List Pair → List Pair
 before_signature Access pairs = before_first (has_id message_authenticator) pairs
 before_signature Accounting pairs = pairs

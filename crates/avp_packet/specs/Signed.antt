@@ -27,7 +27,7 @@ abbrev pub is_only : List ℕ → List Part → Bool
 is_only digest (part ∷ []) = bytes_eq part.value digest
 is_only digest _ = false
 
--- whole attributes, and among them one Message-Authenticator, the digest under the secret; octets past Length are not looked at
+-- a Length of 20 to 4096 that the octets reach, whole attributes, and among them one Message-Authenticator, the digest under the secret; octets past Length are not looked at
 unfoldable pub is_signed : List ℕ → List ℕ → List ℕ → Bool
 is_signed os authenticator secret =
     nat_le 20 (length os) && is_length (length_of os) && nat_le (length_of os) (length os)

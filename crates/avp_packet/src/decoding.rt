@@ -109,9 +109,9 @@ fn read_request(
     }
 }
 
-/// Reads an Access-Request, which is signed where it has a Message-Authenticator, or an Accounting-Request whose
-/// authenticator is right; octets past Length are not looked at.
-/// The faults are tried in the order in which [`PacketFault`] has them.
+/// Reads an Access-Request, or an Accounting-Request whose authenticator is right; octets past Length are not looked at.
+/// An Access-Request that has a Message-Authenticator must be signed by it. The faults are tried in the order in which
+/// [`PacketFault`] has them; memory may be wanted before any of them.
 #[tactic(auto, unfolding(crate::specs::Decoded::decoded))]
 pub fn decode(
     alloc: Global,

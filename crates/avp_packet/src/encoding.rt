@@ -132,8 +132,9 @@ fn assemble(
 }
 
 /// An Access-Request or an Accounting-Request with the pairs of a list. The authenticator of an Accounting-Request is
-/// its digest, and the one given is not used. In an Access-Request the first Message-Authenticator, whatever its
-/// value, asks for one that signs the packet. [`EncodeFault::TooLong`] is found before the packet is put together.
+/// its digest, and the one given is not used. In an Access-Request the list's first Message-Authenticator, whatever its
+/// value, is sent in its place as one that signs the packet, and later ones are not sent; an Accounting-Request sends
+/// them as they are. [`EncodeFault::TooLong`] is found before the packet is put together.
 #[tactic(auto, unfolding(crate::specs::Packets::request), using(crate::proofs::Assembled::length_request))]
 pub fn encode_request(
     alloc: Global,
@@ -174,8 +175,8 @@ pub fn encode_request(
     Ok(octets)
 }
 
-/// A reply with the pairs of a list, but for its Message-Authenticators, and then the Proxy-States of the request. Where
-/// it is signed, a Message-Authenticator stands before them, made over the Request Authenticator; the Response
+/// A reply with the pairs of a list, but for the list's Message-Authenticators, and then the Proxy-States of the
+/// request. Where it is signed, a Message-Authenticator comes first, made over the Request Authenticator; the Response
 /// Authenticator is made over it.
 #[tactic(auto, unfolding(crate::specs::Packets::reply), using(crate::proofs::Assembled::length_reply))]
 pub fn encode_reply(
@@ -205,7 +206,7 @@ pub fn encode_reply(
     ensures means { IfOk result (λ octets. is_clean list.now dictionary.now ≡ true → is_clean proxy_states.now dictionary.now ≡ true
         → Means dictionary.now secret.now (hiding_authenticator code request_authenticator.now) (parts (attributes_of octets.items)) (pairs_meant dictionary.now secret.now code id request_authenticator.now (reply_content signed list.now proxy_states.now))) }
 
-    // A reply is found to be one to this request, and to be signed where it is.
+    // `check_reply` accepts the packet, and `check_message` where `signed` is true.
     ensures accepted { IfOk result (λ octets. is_reply octets.items request_authenticator.now secret.now ≡ true) }
     ensures signed { IfOk result (λ octets. signed ≡ true → is_signed octets.items request_authenticator.now secret.now ≡ true) }
     ensures too_long { result ≡ Err EncodeFault.TooLong → MOST_OCTETS < length (reply dictionary.now secret.now code id request_authenticator.now signed list.now proxy_states.now) }

@@ -47,7 +47,8 @@ pub enum PacketFault {
     /// An Accounting-Request whose authenticator is not the digest (RFC 2866, section 3).
     #[error("wrong authenticator")]
     WrongAuthenticator,
-    /// An Access-Request with a Message-Authenticator that does not sign it (RFC 3579, section 3.2).
+    /// An Access-Request with a Message-Authenticator that does not sign it, or with more than one (RFC 3579, section
+    /// 3.2).
     #[error("wrong Message-Authenticator")]
     WrongMessageAuthenticator,
     #[error("out of memory")]

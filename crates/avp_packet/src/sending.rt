@@ -96,7 +96,7 @@ fn push_pair(
     Ok(())
 }
 
-// Whether a pair is sent, where Message-Authenticators are left out but for all that are asked for.
+// Whether a pair is sent: a Message-Authenticator only where all are.
 fn is_kept(pair: &Pair, all: bool) -> bool
     ensures kept { IsTrue result → kept all (pair.now ∷ []) ≡ pair.now ∷ [] }
     ensures left { result ≡ false → kept all (pair.now ∷ []) ≡ [] }

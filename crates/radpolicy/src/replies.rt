@@ -16,8 +16,8 @@ use crate::jobs::Form;
 use avp_dict::Dictionary;
 use avp_lists::{AttrId, Pair, copy_pair};
 use avp_packet::{
-    ACCESS_ACCEPT, ACCESS_REJECT, ACCESS_REQUEST, ACCOUNTING_REQUEST, ACCOUNTING_RESPONSE, EncodeFault, Packet,
-    encode_reply, encode_request,
+    ACCESS_ACCEPT, ACCESS_REJECT, ACCESS_REQUEST, ACCOUNTING_REQUEST, ACCOUNTING_RESPONSE,
+    EncodeFault, Packet, encode_reply, encode_request,
 };
 use avp_unlang::Code;
 use std::alloc::{AllocError, Global};

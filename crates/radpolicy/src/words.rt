@@ -44,12 +44,7 @@ const SCRIPT: &str = "script";
 
 const DICTIONARY: &str = "dictionary";
 
-fn file_option<'a>(
-    alloc: Global,
-    name: &'a str,
-    value_name: &'a str,
-    help: &'a str,
-) -> Arg<'a> {
+fn file_option<'a>(alloc: Global, name: &'a str, value_name: &'a str, help: &'a str) -> Arg<'a> {
     Arg::new(alloc, name)
         .value_name(value_name)
         .action(ArgAction::Set)
