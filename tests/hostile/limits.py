@@ -3,12 +3,14 @@ import resource
 from typing import List
 
 from common.documents import faults, line_of
-from common.program import run
+from common.program import Ended, run
 from common.report import Report
 from common.subject import Subject, new_folder
 from hostile.sizes import Row, rows
 
 SECONDS = 2.0
+# A busy machine slows single runs down, so one that took too long is made again.
+TRIES = 3
 OCTETS = 512 << 20
 
 
@@ -17,12 +19,21 @@ def limit() -> None:
     resource.setrlimit(resource.RLIMIT_AS, (OCTETS, OCTETS))
 
 
-def wrong(subject: Subject, row: Row) -> List[str]:
-    """What is wrong of a row's run."""
+def end_of(subject: Subject, row: Row) -> Ended:
+    """How a row's run ends."""
     with new_folder() as folder:
         for name, octets in row.files.items():
             (folder / name).write_bytes(octets)
-        ended = run([subject.program, *row.words.split()], folder, before=limit)
+        for _ in range(TRIES):
+            ended = run([subject.program, *row.words.split()], folder, before=limit)
+            if ended.seconds <= SECONDS:
+                break
+    return ended
+
+
+def wrong(subject: Subject, row: Row) -> List[str]:
+    """What is wrong of a row's run."""
+    ended = end_of(subject, row)
     found = []
     if row.fault:
         number, _, place = row.fault.partition(" ")

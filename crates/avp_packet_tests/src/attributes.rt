@@ -1,10 +1,10 @@
 //! Attributes of each form, read and written.
 
+use crate::written::{write_accept, write_request};
 use avp_dict::Dictionary;
 use avp_lists::{AttrId, Pair, Value};
 use avp_packet::{
-    ACCESS_ACCEPT, ACCESS_REQUEST, ACCOUNTING_REQUEST, BadLength, PacketFault, attributes, decode,
-    encode_reply, encode_request,
+    ACCESS_REQUEST, ACCOUNTING_REQUEST, BadLength, PacketFault, attributes, decode, encode_request,
 };
 use samples::{TEST_DICTIONARY, all_fit, octets, read_dictionary};
 use std::alloc::Global;
@@ -216,10 +216,8 @@ fn a_full_packet(rt: HostRuntime) -> Result<(), Fail> {
     assert_eq!(rt; written.len(), 4096);
     let packet = decode(alloc, &d, b"s", &written)?;
     assert!(rt; packet.list.as_slice() == list.as_slice());
-    if all_fit(&d, &list) {
-        let reply = encode_reply(alloc, &d, b"s", ACCESS_ACCEPT, 0, &ZEROS, &list, &[], false)?;
-        assert_eq!(rt; reply.len(), 4096);
-    }
+    let reply = write_accept(alloc, &d, b"s", &ZEROS, &list, false)?;
+    assert_eq!(rt; reply.len(), 4096);
     Ok(())
 }
 
@@ -229,10 +227,7 @@ fn accounting(rt: HostRuntime) -> Result<(), Fail> {
     let alloc = rt.alloc();
     let d = test_dictionary(alloc)?;
     let list = pairs_of(alloc, AttrId::Plain(2), Value::Text(octets(alloc, b"p")?))?;
-    if !all_fit(&d, &list) {
-        return Err(Fail::new("no fit"));
-    }
-    let mut written = encode_request(alloc, &d, b"s", ACCOUNTING_REQUEST, 7, &[1; 16], &list)?;
+    let mut written = write_request(alloc, &d, b"s", ACCOUNTING_REQUEST, 7, &[1; 16], &list)?;
     let packet = decode(alloc, &d, b"s", &written)?;
     assert!(rt; packet.list.as_slice() == list.as_slice());
     written.push(0)?;

@@ -7,3 +7,5 @@ mod attributes;
 mod packets;
 #[cfg(test)]
 mod signing;
+#[cfg(test)]
+mod written;

@@ -1,13 +1,11 @@
 //! Digests, hiding, and packets from outside.
 
+use crate::written::{write_accept, write_request};
 use avp_dict::Dictionary;
 use avp_lists::{AttrId, Pair, Value};
-use avp_packet::{
-    ACCESS_ACCEPT, ACCESS_REQUEST, HideFault, PacketFault, check_reply, decode, encode_reply,
-    encode_request, hide, unhide,
-};
+use avp_packet::{ACCESS_REQUEST, HideFault, PacketFault, check_reply, decode, hide, unhide};
 use md5::{Digest, Md5};
-use samples::{all_fit, octets, read_dictionary, test_dictionary};
+use samples::{octets, read_dictionary, test_dictionary};
 use std::alloc::Global;
 use std::process::Abort;
 use std::test::Fail;
@@ -138,10 +136,7 @@ fn writes_a_request(rt: HostRuntime) -> Result<(), Fail> {
     let alloc = rt.alloc();
     let dictionary = test_dictionary(alloc)?;
     let list = request_of_four(alloc)?;
-    if !all_fit(&dictionary, &list) {
-        return Err(Fail::new("no fit"));
-    }
-    let octets = encode_request(
+    let octets = write_request(
         alloc,
         &dictionary,
         SECRET,
@@ -159,20 +154,7 @@ fn writes_a_reply(rt: HostRuntime) -> Result<(), Fail> {
     let alloc = rt.alloc();
     let dictionary = test_dictionary(alloc)?;
     let list = reply_of_three(alloc)?;
-    if !all_fit(&dictionary, &list) {
-        return Err(Fail::new("no fit"));
-    }
-    let octets = encode_reply(
-        alloc,
-        &dictionary,
-        SECRET,
-        ACCESS_ACCEPT,
-        0,
-        &AUTHENTICATOR,
-        &list,
-        &[],
-        false,
-    )?;
+    let octets = write_accept(alloc, &dictionary, SECRET, &AUTHENTICATOR, &list, false)?;
     assert_eq!(rt; octets.as_slice(), REPLY.as_slice());
     Ok(())
 }

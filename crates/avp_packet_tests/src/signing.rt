@@ -1,12 +1,11 @@
 //! Message-Authenticators: packets that are signed, and what is refused of them.
 
-use avp_dict::Dictionary;
+use crate::written::{write_accept, write_request};
 use avp_lists::{AttrId, Pair, Value};
 use avp_packet::{
-    ACCESS_ACCEPT, ACCESS_REQUEST, ACCOUNTING_REQUEST, PacketFault, check_message, check_reply,
-    decode, encode_reply, encode_request,
+    ACCESS_REQUEST, ACCOUNTING_REQUEST, PacketFault, check_message, check_reply, decode,
 };
-use samples::{all_fit, octets, test_dictionary};
+use samples::{octets, test_dictionary};
 use std::alloc::Global;
 use std::process::Abort;
 use std::test::Fail;
@@ -41,28 +40,13 @@ fn request_to_sign(alloc: Global) -> Result<Vec<Pair>, Fail> {
     Ok(pairs)
 }
 
-fn write(
-    alloc: Global,
-    dictionary: &Dictionary,
-    secret: &[u8],
-    code: u8,
-    list: &[Pair],
-) -> Result<Vec<u8>, Fail> {
-    if secret.is_empty() || !all_fit(dictionary, list) {
-        return Err(Fail::new("no fit"));
-    }
-    if code == ACCOUNTING_REQUEST {
-        return Ok(encode_request(
-            alloc,
-            dictionary,
-            secret,
-            ACCOUNTING_REQUEST,
-            0,
-            &ZEROS,
-            list,
-        )?);
-    }
-    Ok(encode_request(alloc, dictionary, secret, ACCESS_REQUEST, 0, &ZEROS, list)?)
+// The octets of an Access-Request with this Length and an authenticator of zeros.
+fn packet_of(alloc: Global, length: u8, attributes: &[u8], behind: &[u8]) -> Result<Vec<u8>, Fail> {
+    let mut octets = Vec::from_slice(alloc, &[1, 0, 0, length])?;
+    octets.extend_from_slice(&ZEROS)?;
+    octets.extend_from_slice(attributes)?;
+    octets.extend_from_slice(behind)?;
+    Ok(octets)
 }
 
 // The signed request under a secret, whose digest is computed elsewhere.
@@ -72,26 +56,25 @@ fn expect_signed(
     secret: &[u8],
     digest: [u8; 16],
 ) -> Result<(), Fail> {
-    let dictionary = test_dictionary(alloc)?;
     if secret.is_empty() {
         return Err(Fail::new("no secret"));
     }
+    let dictionary = test_dictionary(alloc)?;
     let list = request_to_sign(alloc)?;
-    let mut written = write(alloc, &dictionary, secret, ACCESS_REQUEST, &list)?;
-    assert_eq!(rt; written.len(), 41);
-    assert_eq!(rt; &written[..4], [1, 0, 0, 0x29].as_slice());
-    assert_eq!(rt; &written[4..20], ZEROS.as_slice());
-    assert_eq!(rt; &written[20..25], [1, 3, 0x75, 0x50, 0x12].as_slice());
-    assert_eq!(rt; &written[25..], digest.as_slice());
+    let code = ACCESS_REQUEST;
+    let written = write_request(alloc, &dictionary, secret, code, 0, &ZEROS, &list)?;
+    let wanted = packet_of(alloc, 41, &[1, 3, 0x75, 0x50, 0x12], &digest)?;
+    assert_eq!(rt; written.as_slice(), wanted.as_slice());
     assert!(rt; check_message(&written, &ZEROS, secret));
     assert!(rt; !check_message(&written, &[1; 16], secret));
     let packet = decode(alloc, &dictionary, secret, &written)?;
     assert_eq!(rt; packet.list.as_slice().len(), 2);
-    let last = written.len() - 1;
-    written[last] ^= 1;
-    assert!(rt; !check_message(&written, &ZEROS, secret));
+    let mut other = digest;
+    other[15] ^= 1;
+    let turned = packet_of(alloc, 41, &[1, 3, 0x75, 0x50, 0x12], &other)?;
+    assert!(rt; !check_message(&turned, &ZEROS, secret));
     assert_eq!(rt;
-        decode(alloc, &dictionary, secret, &written).err(),
+        decode(alloc, &dictionary, secret, &turned).err(),
         Some(PacketFault::WrongMessageAuthenticator)
     );
     Ok(())
@@ -143,7 +126,7 @@ fn signs_once(rt: HostRuntime) -> Result<(), Fail> {
     push_raw(alloc, &mut pairs, MESSAGE_AUTHENTICATOR, &[])?;
     push_raw(alloc, &mut pairs, AttrId::Plain(25), &[7])?;
     push_raw(alloc, &mut pairs, MESSAGE_AUTHENTICATOR, &[1, 2])?;
-    let written = write(alloc, &dictionary, b"s", ACCESS_REQUEST, &pairs)?;
+    let written = write_request(alloc, &dictionary, b"s", ACCESS_REQUEST, 0, &ZEROS, &pairs)?;
     assert_eq!(rt; written.len(), 41);
     assert_eq!(rt; &written[20..22], [0x50, 0x12].as_slice());
     assert_eq!(rt; &written[38..], [0x19, 3, 7].as_slice());
@@ -156,24 +139,14 @@ fn signs_once(rt: HostRuntime) -> Result<(), Fail> {
 fn refuses_two_and_short_ones(rt: HostRuntime) -> Result<(), Fail> {
     let alloc = rt.alloc();
     let dictionary = test_dictionary(alloc)?;
-    let mut twice = write(
-        alloc,
-        &dictionary,
-        b"s",
-        ACCESS_REQUEST,
-        &request_to_sign(alloc)?,
-    )?;
-    assert_eq!(rt; twice.len(), 41);
-    let mut short = Vec::from_slice(alloc, &twice[..23])?;
-    let again = Vec::from_slice(alloc, &twice[23..])?;
-    twice.extend_from_slice(&again)?;
-    twice[3] = 59;
+    let mut twice = packet_of(alloc, 59, &[1, 3, 0x75, 0x50, 0x12], &ZEROS)?;
+    twice.extend_from_slice(&[0x50, 0x12])?;
+    twice.extend_from_slice(&ZEROS)?;
     assert_eq!(rt;
         decode(alloc, &dictionary, b"s", &twice).err(),
         Some(PacketFault::WrongMessageAuthenticator)
     );
-    short.extend_from_slice(&[0x50, 3, 0])?;
-    short[3] = 26;
+    let short = packet_of(alloc, 26, &[1, 3, 0x75], &[0x50, 3, 0])?;
     assert_eq!(rt;
         decode(alloc, &dictionary, b"s", &short).err(),
         Some(PacketFault::WrongMessageAuthenticator)
@@ -187,7 +160,15 @@ fn accounting_is_not_signed(rt: HostRuntime) -> Result<(), Fail> {
     let alloc = rt.alloc();
     let dictionary = test_dictionary(alloc)?;
     let list = request_to_sign(alloc)?;
-    let written = write(alloc, &dictionary, b"s", ACCOUNTING_REQUEST, &list)?;
+    let written = write_request(
+        alloc,
+        &dictionary,
+        b"s",
+        ACCOUNTING_REQUEST,
+        0,
+        &ZEROS,
+        &list,
+    )?;
     assert_eq!(rt; written.len(), 26);
     assert_eq!(rt; &written[20..], [1, 3, 0x75, 0x50, 3, 0].as_slice());
     assert!(rt; !check_message(&written, &ZEROS, b"s"));
@@ -202,15 +183,11 @@ fn signs_a_reply(rt: HostRuntime) -> Result<(), Fail> {
     let dictionary = test_dictionary(alloc)?;
     let mut list = Vec::new(alloc);
     push_raw(alloc, &mut list, MESSAGE_AUTHENTICATOR, &[1])?;
-    if !all_fit(&dictionary, &list) {
-        return Err(Fail::new("no fit"));
-    }
-    let code = ACCESS_ACCEPT;
-    let signed = encode_reply(alloc, &dictionary, b"s", code, 0, &ZEROS, &list, &[], true)?;
+    let signed = write_accept(alloc, &dictionary, b"s", &ZEROS, &list, true)?;
     assert_eq!(rt; signed.as_slice(), REPLY.as_slice());
     assert!(rt; check_reply(&signed, &ZEROS, b"s"));
     assert!(rt; check_message(&signed, &ZEROS, b"s"));
-    let plain = encode_reply(alloc, &dictionary, b"s", code, 0, &ZEROS, &list, &[], false)?;
+    let plain = write_accept(alloc, &dictionary, b"s", &ZEROS, &list, false)?;
     assert_eq!(rt; plain.len(), 20);
     assert!(rt; check_reply(&plain, &ZEROS, b"s"));
     Ok(())
