@@ -58,12 +58,9 @@ fn proxy_states_of(alloc: Global, pairs: &[Pair]) -> Result<Vec<Pair>, AllocErro
 fn has_message_authenticator(pairs: &[Pair]) -> bool
     ensures { result ≡ has_instance message_authenticator pairs.now }
 {
-    for pair in pairs {
-        if pair.id.equals(MESSAGE_AUTHENTICATOR) {
-            return true;
-        }
-    }
-    false
+    pairs
+        .iter()
+        .any(|pair| pair.id.equals(MESSAGE_AUTHENTICATOR))
 }
 
 // Whether the reply to a request is signed.
