@@ -22,7 +22,7 @@ use Rattle.avp_dict.specs.declared.entries.Named.{Named}
 use Rattle.avp_dict.specs.declared.entries.Kind.{Kind}
 use Rattle.avp_dict.specs.declared.entries.Kind.TheVariants as kinds
 use Rattle.avp_dict.specs.declared.entries.Typing.{Typing}
-use Rattle.avp_dict.specs.declared.value_faults.ValueFault.TheVariants.{NotWritable, TooLong}
+use Rattle.avp_dict.specs.declared.value.faults.ValueFault.TheVariants.{NotWritable, TooLong}
 use Rattle.avp_dict.specs.Attributes.{is_extended}
 use Rattle.avp_dict.specs.declared.entries.Format.{Format}
 use Rattle.avp_dict.specs.declared.entries.AttributeLine.{AttributeLine}

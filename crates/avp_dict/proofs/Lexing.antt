@@ -5,10 +5,10 @@ use Rattle.std.specs.List.{position_or_len}
 use Rattle.std.proofs.lemmas.Grind.{common_steps}
 use Rattle.std.proofs.Math.Seq.{take-suc}
 use Rattle.std.proofs.lemmas.List.{append-nil, drop_all, take_all}
-use Rattle.avp_dict.specs.declared.quotes.QuoteMark.{QuoteMark}
-use Rattle.avp_dict.specs.declared.quotes.QuoteMark.TheVariants.{Double, Single}
-use Rattle.avp_dict.specs.declared.request_tokens.Side.{Side}
-use Rattle.avp_dict.specs.declared.request_tokens.Side.TheVariants.{Name, Value}
+use Rattle.avp_dict.specs.declared.value.quotes.QuoteMark.{QuoteMark}
+use Rattle.avp_dict.specs.declared.value.quotes.QuoteMark.TheVariants.{Double, Single}
+use Rattle.avp_dict.specs.declared.request.tokens.Side.{Side}
+use Rattle.avp_dict.specs.declared.request.tokens.Side.TheVariants.{Name, Value}
 use Rattle.avp_dict.specs.RequestLines.{Place, Outside, Between, Escaped, Token, Blank, Comma, Sign, Run, Quoted, Unended, is_filled, onto_quoted, onto_run, place_between, quote_octet, tokens_at, tokens_from}
 use Rattle.avp_dict.specs.Words.{is_blank}
 use Rattle.avp_dict.specs.code.RequestTokens.{ends_run}

@@ -2,7 +2,7 @@
 use Rattle.std.proofs.Common.{◌≡◌, ℕ, ◌<◌, ◌≤◌, ◌^◌, Bool, true, false, cond, arith, List, [], ◌∷◌, Option, Some, None, refl, nat_le}
 use Rattle.std.specs.List.{onto_first, slice_split}
 use Rattle.std.proofs.lemmas.Grind.{common_steps}
-use Rattle.avp_dict.specs.declared.numbers.TheConstants.{MOST_NUMBER}
+use Rattle.avp_dict.specs.declared.file.numbers.TheConstants.{MOST_NUMBER}
 use Rattle.avp_dict.specs.declared.entries.VendorFormat.{VendorFormat}
 use Rattle.avp_dict.specs.declared.entries.VendorLine.{VendorLine}
 use Rattle.avp_dict.specs.Attributes.{most_in}

@@ -3,12 +3,12 @@ use Rattle.std.proofs.Common.{◌≡◌, ℕ, Bool, true, false, ◌-◌, ◌∙
 use borrow.Author.Tests.{ltb-true}
 use Rattle.std.proofs.lemmas.List.{length-map, take-map}
 use Rattle.std.proofs.lemmas.List.Sums.{fold_push}
-use Rattle.avp_dict.specs.declared.files.NamedFile.{NamedFile}
+use Rattle.avp_dict.specs.declared.file.files.NamedFile.{NamedFile}
 use Rattle.avp_dict.specs.declared.faults.DictKind.{DictKind}
 use Rattle.avp_dict.specs.declared.faults.DictKind.TheVariants.{TooLong}
 use Rattle.avp_dict.specs.declared.faults.LineError.{LineError}
 use Rattle.avp_dict.specs.declared.faults.LineError.TheVariants.{Memory, Refused}
-use Rattle.avp_dict.specs.declared.meanings.Reading.{Reading as CodeReading}
+use Rattle.avp_dict.specs.declared.file.meanings.Reading.{Reading as CodeReading}
 use Rattle.avp_dict.specs.declared.faults.DictFault.{DictFault}
 use Rattle.avp_dict.specs.Lines.{Line}
 use Rattle.avp_dict.specs.Meanings.{Context, Meaning, Reading, after_line, context_of, no_context}

@@ -7,12 +7,12 @@ use Rattle.std.proofs.lemmas.List.{append-nil}
 use Rattle.avp_lists.specs.declared.attributes.Pair.{Pair}
 use Rattle.avp_lists.specs.States.{most_pairs}
 use Rattle.avp_dict.specs.declared.entries.Named.{Named}
-use Rattle.avp_dict.specs.declared.line_faults.LineKind.{LineKind}
-use Rattle.avp_dict.specs.declared.line_faults.LineKind.TheVariants as kinds
+use Rattle.avp_dict.specs.declared.request.faults.LineKind.{LineKind}
+use Rattle.avp_dict.specs.declared.request.faults.LineKind.TheVariants as kinds
 use Rattle.avp_dict.specs.Dictionary.{Dictionary}
-use Rattle.avp_dict.specs.declared.request_tokens.Side.TheVariants.{Name, Value}
-use Rattle.avp_dict.specs.declared.request_tokens.Token.{Token as CodeToken}
-use Rattle.avp_dict.specs.declared.request_tokens.Token.TheVariants as code
+use Rattle.avp_dict.specs.declared.request.tokens.Side.TheVariants.{Name, Value}
+use Rattle.avp_dict.specs.declared.request.tokens.Token.{Token as CodeToken}
+use Rattle.avp_dict.specs.declared.request.tokens.Token.TheVariants as code
 use Rattle.avp_dict.specs.Names.{named}
 use Rattle.avp_dict.specs.Lines.{texts_of}
 use Rattle.avp_dict.specs.RequestLines.{Assignment, Token, Blank, Comma, Sign, Run, Quoted, Unended, assigned, assignments_of, is_blank_line, is_idle_line, joined, packet_assignments, pairs_of, tokens_at, value_text, without_front}

@@ -1,8 +1,8 @@
 -- What one line more adds to a dictionary.
 use Rattle.std.proofs.Common.{◌≡◌, ℕ, zero, suc, arith, ◌+◌, ◌<◌, ◌≤◌, List, [], ◌∷◌, Ok, refl, length, drop, get_or, add-one, drop-cons}
 use Rattle.avp_dict.specs.declared.faults.DictFault.{DictFault}
-use Rattle.avp_dict.specs.declared.meanings.Meaning.TheVariants as meanings
-use Rattle.avp_dict.specs.declared.meanings.Reading.{Reading as CodeReading}
+use Rattle.avp_dict.specs.declared.file.meanings.Meaning.TheVariants as meanings
+use Rattle.avp_dict.specs.declared.file.meanings.Reading.{Reading as CodeReading}
 use Rattle.avp_dict.proofs.OneMore.{refuses_through}
 use Rattle.avp_dict.specs.Dictionary.{Dictionary}
 use Rattle.avp_dict.specs.Meanings.{Reading}

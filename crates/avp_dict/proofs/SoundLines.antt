@@ -18,9 +18,9 @@ use Rattle.avp_dict.specs.declared.entries.VendorLine.{VendorLine}
 use Rattle.avp_dict.specs.declared.faults.DictKind.{DictKind}
 use Rattle.avp_dict.specs.declared.faults.DictKind.TheVariants.{UnknownVendor}
 use Rattle.avp_dict.specs.declared.faults.DictFault.{DictFault}
-use Rattle.avp_dict.specs.declared.files.NamedFile.{NamedFile}
-use Rattle.avp_dict.specs.declared.meanings.Meaning.{Meaning as CodeMeaning}
-use Rattle.avp_dict.specs.declared.meanings.Meaning.TheVariants as code
+use Rattle.avp_dict.specs.declared.file.files.NamedFile.{NamedFile}
+use Rattle.avp_dict.specs.declared.file.meanings.Meaning.{Meaning as CodeMeaning}
+use Rattle.avp_dict.specs.declared.file.meanings.Meaning.TheVariants as code
 use Rattle.avp_dict.proofs.Agreement.{other_id_sym, same_name_refl}
 use Rattle.avp_dict.proofs.Alone.{AreAloneNames, alone_by_id}
 use Rattle.avp_dict.proofs.OneMore.{context_of_push, context_of_none}

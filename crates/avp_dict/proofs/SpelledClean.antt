@@ -15,8 +15,8 @@ use Rattle.avp_dict.specs.declared.entries.Kind.{Kind}
 use Rattle.avp_dict.specs.declared.entries.Kind.TheVariants as kinds
 use Rattle.avp_dict.specs.Dictionary.{Dictionary, typing_of_id}
 use Rattle.avp_dict.specs.declared.entries.Typing.{Typing}
-use Rattle.avp_dict.specs.declared.value_faults.ValueFault.{ValueFault}
-use Rattle.avp_dict.specs.declared.value_faults.ValueFault.TheVariants.{NotWritable, TooLong}
+use Rattle.avp_dict.specs.declared.value.faults.ValueFault.{ValueFault}
+use Rattle.avp_dict.specs.declared.value.faults.ValueFault.TheVariants.{NotWritable, TooLong}
 use Rattle.avp_dict.specs.Letters.{is_dot}
 use Rattle.avp_dict.specs.Limits.{fits, is_known, is_within}
 use Rattle.avp_dict.specs.Octets.{is_hidden, read_value, value_of_octets}

@@ -5,7 +5,7 @@ use Rattle.avp_dict.specs.declared.entries.Note.{Note}
 use Rattle.avp_dict.specs.declared.entries.ValueLine.{ValueLine}
 use Rattle.avp_dict.specs.declared.faults.DictFault.{DictFault}
 use Rattle.avp_dict.specs.declared.faults.DictKind.TheVariants.{Unmatched}
-use Rattle.avp_dict.specs.declared.files.NamedFile.{NamedFile}
+use Rattle.avp_dict.specs.declared.file.files.NamedFile.{NamedFile}
 use Rattle.avp_dict.proofs.Gathering.{append_nil}
 use Rattle.avp_dict.proofs.OneMore.{read_lines_none, refuses_through}
 use Rattle.avp_dict.specs.Blocks.{innermost}

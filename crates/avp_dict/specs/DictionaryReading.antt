@@ -1,6 +1,6 @@
 -- The dictionary that the lines of a file set define, or the first refusal.
 use Rattle.std.specs.Prelude.{ℕ, List, [], Option, Some, None, Result, Ok, Err}
-use Rattle.avp_dict.specs.declared.files.NamedFile.{NamedFile}
+use Rattle.avp_dict.specs.declared.file.files.NamedFile.{NamedFile}
 use Rattle.avp_dict.specs.declared.faults.DictFault.{DictFault}
 use Rattle.avp_dict.specs.declared.faults.DictKind.TheVariants.{Unmatched}
 use Rattle.avp_dict.specs.Blocks.{innermost}

@@ -3,7 +3,7 @@ use Rattle.std.specs.Prelude.{codes, IsTrue, ℕ, zero, suc, ◌+◌, ◌-◌, B
 use Rattle.std.specs.Option.{option_and_then, option_map_or}
 use Rattle.std.specs.List.{onto_first, position, list_any}
 use Rattle.std.specs.Str.{bytes_eq}
-use Rattle.avp_dict.specs.declared.files.NamedFile.{NamedFile}
+use Rattle.avp_dict.specs.declared.file.files.NamedFile.{NamedFile}
 use Rattle.avp_dict.specs.Words.{words_of, same_name}
 
 -- a line, its file's place in the set, its number there from 1 on, and how many includes led to it

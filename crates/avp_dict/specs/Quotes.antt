@@ -1,9 +1,9 @@
 -- Quoted texts: how octets are printed between double quotes, and which octets a text between quotes stands for.
 use Rattle.std.specs.Prelude.{ℕ, zero, suc, ◌+◌, ◌*◌, ◌-◌, ◌/◌, ◌%◌, Bool, ◌&&◌, ◌||◌, ◌==◌, nat_le, if◌then◌else◌, List, [], ◌∷◌, ◌++◌, length, take, drop, slice_index}
 use Rattle.std.specs.List.{flat_map}
-use Rattle.avp_dict.specs.declared.quotes.Escape.{Escape}
-use Rattle.avp_dict.specs.declared.quotes.QuoteMark.{QuoteMark}
-use Rattle.avp_dict.specs.declared.quotes.QuoteMark.TheVariants.{Double, Single}
+use Rattle.avp_dict.specs.declared.value.quotes.Escape.{Escape}
+use Rattle.avp_dict.specs.declared.value.quotes.QuoteMark.{QuoteMark}
+use Rattle.avp_dict.specs.declared.value.quotes.QuoteMark.TheVariants.{Double, Single}
 
 -- ---- printing
 

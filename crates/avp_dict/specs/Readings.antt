@@ -1,6 +1,6 @@
 -- What each line of a file set is read as, by the lines before it, or the first refusal.
 use Rattle.std.specs.Prelude.{codes, ℕ, Bool, nat_lt, if◌then◌else◌, List, [], ◌∷◌, ◌++◌, length, Option, Some, None, Result, Ok, Err}
-use Rattle.avp_dict.specs.declared.files.NamedFile.{NamedFile}
+use Rattle.avp_dict.specs.declared.file.files.NamedFile.{NamedFile}
 use Rattle.avp_dict.specs.declared.faults.DictKind.{DictKind}
 use Rattle.avp_dict.specs.declared.faults.DictKind.TheVariants.{Unreadable, NoFile, TooDeep, TooLong}
 use Rattle.avp_dict.specs.declared.faults.DictFault.{DictFault}

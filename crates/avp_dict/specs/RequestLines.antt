@@ -2,10 +2,10 @@
 use Rattle.std.specs.Prelude.{ℕ, Bool, true, false, ◌==◌, if◌then◌else◌, List, [], ◌∷◌, ◌++◌, filter, slice_index, Option, Some, None}
 use Rattle.std.specs.List.{before_first, list_all}
 use Rattle.std.specs.Option.{option_map}
-use Rattle.avp_dict.specs.declared.quotes.QuoteMark.{QuoteMark}
-use Rattle.avp_dict.specs.declared.quotes.QuoteMark.TheVariants.{Double, Single}
-use Rattle.avp_dict.specs.declared.request_tokens.Side.{Side}
-use Rattle.avp_dict.specs.declared.request_tokens.Side.TheVariants.{Name, Value}
+use Rattle.avp_dict.specs.declared.value.quotes.QuoteMark.{QuoteMark}
+use Rattle.avp_dict.specs.declared.value.quotes.QuoteMark.TheVariants.{Double, Single}
+use Rattle.avp_dict.specs.declared.request.tokens.Side.{Side}
+use Rattle.avp_dict.specs.declared.request.tokens.Side.TheVariants.{Name, Value}
 use Rattle.avp_dict.specs.Letters.{is_comma}
 use Rattle.avp_dict.specs.Lines.{texts_of}
 use Rattle.avp_dict.specs.Quotes.{octets_between}

@@ -13,8 +13,8 @@ use Rattle.avp_dict.specs.declared.entries.Kind.{Kind}
 use Rattle.avp_dict.specs.declared.entries.Kind.TheVariants as kinds
 use Rattle.avp_dict.specs.Dictionary.{Dictionary, number_named, typing_of_id}
 use Rattle.avp_dict.specs.declared.entries.Typing.{Typing}
-use Rattle.avp_dict.specs.declared.value_faults.ValueFault.{ValueFault}
-use Rattle.avp_dict.specs.declared.value_faults.ValueFault.TheVariants.{NotWritable, NotValue, TooLong, Memory}
+use Rattle.avp_dict.specs.declared.value.faults.ValueFault.{ValueFault}
+use Rattle.avp_dict.specs.declared.value.faults.ValueFault.TheVariants.{NotWritable, NotValue, TooLong, Memory}
 use Rattle.avp_dict.specs.Letters.{is_dot}
 use Rattle.avp_dict.specs.Limits.{is_within}
 use Rattle.avp_dict.specs.Octets.{is_hidden, value_of_octets}

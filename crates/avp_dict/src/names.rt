@@ -7,10 +7,10 @@ ghost use Rattle.avp_dict.specs.Names.{extended_numbered, id_numbered, is_vendor
 ghost use Rattle.avp_dict.specs.code.Numbers.{Reads};
 
 use crate::attribute_numbers::{MOST_PLAIN, VENDOR_SPECIFIC};
-use crate::attributes::extended_id;
-use crate::numbers::{MOST_NUMBER, Number, digits_of};
-use crate::parts::first_between;
-use crate::settling::is_in_format;
+use crate::file::attributes::extended_id;
+use crate::file::numbers::{MOST_NUMBER, Number, digits_of};
+use crate::file::parts::first_between;
+use crate::file::settling::is_in_format;
 use crate::tables::Vendors;
 use avp_lists::AttrId;
 

@@ -18,8 +18,8 @@ use Rattle.avp_dict.specs.declared.entries.Named.{Named}
 use Rattle.avp_dict.specs.declared.entries.Kind.{Kind}
 use Rattle.avp_dict.specs.declared.entries.Kind.TheVariants as kinds
 use Rattle.avp_dict.specs.Dictionary.{Dictionary}
-use Rattle.avp_dict.specs.declared.value_faults.ValueFault.{ValueFault}
-use Rattle.avp_dict.specs.declared.value_faults.ValueFault.TheVariants.{TooLong}
+use Rattle.avp_dict.specs.declared.value.faults.ValueFault.{ValueFault}
+use Rattle.avp_dict.specs.declared.value.faults.ValueFault.TheVariants.{TooLong}
 use Rattle.avp_dict.proofs.OwnValues.{raw_canonical, read_value_sized, typed_canonical}
 use Rattle.avp_unlang.specs.Lines.{LineIs, line_of}
 use Rattle.avp_unlang.specs.Resolutions.{given, instance_value, pair_of, paired, parts_text, read_by_kind, resolution, source_value}

@@ -4,7 +4,7 @@ use Rattle.std.proofs.lemmas.Grind.{common_steps}
 use Rattle.avp_lists.specs.declared.lists.List.{List as Name}
 use Rattle.avp_dict.specs.declared.entries.Named.{Named}
 use Rattle.avp_dict.specs.Dictionary.{Dictionary}
-use Rattle.avp_dict.specs.declared.quotes.QuoteMark.TheVariants.{Double, Single}
+use Rattle.avp_dict.specs.declared.value.quotes.QuoteMark.TheVariants.{Double, Single}
 use Rattle.avp_unlang.specs.declared.codes.Code.{Code}
 use Rattle.avp_unlang.specs.declared.statements.Keyword.{Keyword}
 use Rattle.avp_unlang.specs.declared.statements.Keyword.TheVariants as keyword

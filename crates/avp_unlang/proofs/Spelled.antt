@@ -10,9 +10,9 @@ use Rattle.avp_dict.specs.Quotes.{single_quoted_octets}
 use Rattle.avp_dict.specs.Requests.{pair_with}
 use Rattle.avp_dict.specs.Spellings.{value_spelled}
 use Rattle.avp_dict.specs.declared.entries.Named.{Named}
-use Rattle.avp_dict.specs.declared.quotes.QuoteMark.TheVariants.{Double, Single}
+use Rattle.avp_dict.specs.declared.value.quotes.QuoteMark.TheVariants.{Double, Single}
 use Rattle.avp_dict.specs.Dictionary.{Dictionary}
-use Rattle.avp_dict.specs.declared.value_faults.ValueFault.{ValueFault}
+use Rattle.avp_dict.specs.declared.value.faults.ValueFault.{ValueFault}
 use Rattle.avp_unlang.specs.Forms.{Form, Step, Chain, Others, While}
 use Rattle.avp_unlang.specs.Places.{Place}
 use Rattle.avp_unlang.specs.Sources.{ValueFrom, filled, fitting, literal, whole_text}

@@ -17,8 +17,8 @@ use Rattle.avp_dict.specs.Spellings.{unless_long, value_spelled}
 use Rattle.avp_dict.specs.declared.entries.Kind.{Kind}
 use Rattle.avp_dict.specs.declared.entries.Kind.TheVariants as kinds
 use Rattle.avp_dict.specs.Dictionary.{Dictionary}
-use Rattle.avp_dict.specs.declared.value_faults.ValueFault.{ValueFault}
-use Rattle.avp_dict.specs.declared.value_faults.ValueFault.TheVariants as faults
+use Rattle.avp_dict.specs.declared.value.faults.ValueFault.{ValueFault}
+use Rattle.avp_dict.specs.declared.value.faults.ValueFault.TheVariants as faults
 use Rattle.avp_unlang.specs.declared.resolving.Unresolved.{Unresolved}
 use Rattle.avp_unlang.specs.declared.resolving.Unresolved.TheVariants.{Absent, NotValue, TooLong, Memory}
 use Rattle.avp_unlang.specs.declared.tree.Line.{Line}

@@ -6,8 +6,8 @@ use Rattle.avp_unlang.specs.declared.tokens.Token.{Token}
 use Rattle.avp_unlang.specs.declared.tokens.Token.TheVariants.{Operator, Word, Quoted, Unreadable, End}
 use Rattle.avp_unlang.specs.declared.tokens.Sign.{Sign}
 use Rattle.avp_unlang.specs.declared.tokens.Sign.TheVariants as sign
-use Rattle.avp_dict.specs.declared.quotes.QuoteMark.{QuoteMark}
-use Rattle.avp_dict.specs.declared.quotes.QuoteMark.TheVariants as quote
+use Rattle.avp_dict.specs.declared.value.quotes.QuoteMark.{QuoteMark}
+use Rattle.avp_dict.specs.declared.value.quotes.QuoteMark.TheVariants as quote
 
 -- Between tokens: spaces, tabs, CR and LF, and comments from `#` to the end of the line. After one such octet,
 -- the line, and whether a comment goes on.

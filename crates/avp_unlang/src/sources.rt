@@ -1,7 +1,7 @@
 //! What update lines set their attributes to.
 
 ghost use Rattle.std.specs.Prelude.{◌≡◌, ◌≢◌, ◌≤◌, ◌<◌, length, Some, None, IfOk, IfErr, option_map};
-ghost use Rattle.avp_dict.specs.declared.value_faults.ValueFault.TheVariants as value_faults;
+ghost use Rattle.avp_dict.specs.declared.value.faults.ValueFault.TheVariants as value_faults;
 ghost use Rattle.avp_dict.specs.Quotes.{octets_between};
 ghost use Rattle.avp_unlang.specs.Forms.{Reads, ReadsAll, Takes};
 ghost use Rattle.avp_unlang.specs.Sources.{FilledIs, IgnoredIs, SourceIs, ValueIs, filled, is_removal, literal, whole_text};

@@ -1,12 +1,12 @@
 -- Faults: the number, the text and the place of each, the line that shows them, and the exit status.
 use Rattle.std.specs.Prelude.{ℕ, ◌+◌, ◌/◌, ◌%◌, ◌<◌, ◌==◌, ◌++◌, if◌then◌else◌, Bool, List, [], ◌∷◌, Option, None, Some, length, codes, decimal, slice_get}
-use Rattle.avp_dict.specs.declared.files.NamedFile.{NamedFile}
+use Rattle.avp_dict.specs.declared.file.files.NamedFile.{NamedFile}
 use Rattle.avp_dict.specs.declared.faults.DictKind.{DictKind}
 use Rattle.avp_dict.specs.declared.faults.DictKind.TheVariants as dict
 use Rattle.avp_dict.specs.declared.faults.DictFault.{DictFault}
-use Rattle.avp_dict.specs.declared.line_faults.LineKind.{LineKind}
-use Rattle.avp_dict.specs.declared.line_faults.LineKind.TheVariants as line
-use Rattle.avp_dict.specs.declared.line_faults.LineFault.{LineFault}
+use Rattle.avp_dict.specs.declared.request.faults.LineKind.{LineKind}
+use Rattle.avp_dict.specs.declared.request.faults.LineKind.TheVariants as line
+use Rattle.avp_dict.specs.declared.request.faults.LineFault.{LineFault}
 use Rattle.avp_packet.specs.declared.faults.PacketFault.{PacketFault}
 use Rattle.avp_packet.specs.declared.faults.PacketFault.TheVariants as packet
 use Rattle.avp_packet.specs.declared.faults.EncodeFault.{EncodeFault}

@@ -2,7 +2,7 @@
 use Rattle.std.specs.Prelude.{◌≡◌, ◌≢◌, ◌<◌, ℕ, Bool, true, false, List, length, map, is_some, AllPairs}
 use Rattle.std.specs.Borrow.{Bor}
 use Rattle.avp_dict.specs.Lines.{last_component}
-use Rattle.avp_dict.specs.declared.files.NamedFile.{NamedFile}
+use Rattle.avp_dict.specs.declared.file.files.NamedFile.{NamedFile}
 use Rattle.radpolicy.specs.declared.jobs.Command.{Command}
 use Rattle.radpolicy.specs.declared.jobs.Command.TheVariants.{Run, Step, Encode, Decode, Check}
 use Rattle.radpolicy.specs.declared.jobs.Form.{Form}

@@ -4,7 +4,7 @@ use Rattle.std.specs.List.{flat_map}
 use Rattle.avp_lists.specs.declared.attributes.Pair.{Pair}
 use Rattle.avp_lists.specs.declared.lists.State.{State}
 use Rattle.avp_dict.specs.declared.entries.Note.{Note}
-use Rattle.avp_dict.specs.declared.files.NamedFile.{NamedFile}
+use Rattle.avp_dict.specs.declared.file.files.NamedFile.{NamedFile}
 use Rattle.avp_dict.specs.Dictionary.{Dictionary}
 use Rattle.avp_dict.specs.Counts.{counts_of}
 use Rattle.avp_dict.specs.Printing.{printed_name, printed_text}

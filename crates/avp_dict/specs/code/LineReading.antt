@@ -3,11 +3,11 @@ use Rattle.std.specs.Prelude.{◌≡◌, ℕ, List, [], ◌∷◌, Option, Some,
 use Rattle.std.specs.Option.{option_and_then}
 use Rattle.avp_lists.specs.declared.attributes.Pair.{Pair}
 use Rattle.avp_dict.specs.declared.entries.Named.{Named}
-use Rattle.avp_dict.specs.declared.line_faults.LineKind.{LineKind}
-use Rattle.avp_dict.specs.declared.line_faults.LineKind.TheVariants as kinds
+use Rattle.avp_dict.specs.declared.request.faults.LineKind.{LineKind}
+use Rattle.avp_dict.specs.declared.request.faults.LineKind.TheVariants as kinds
 use Rattle.avp_dict.specs.Dictionary.{Dictionary}
-use Rattle.avp_dict.specs.declared.value_faults.ValueFault.{ValueFault}
-use Rattle.avp_dict.specs.declared.value_faults.ValueFault.TheVariants as faults
+use Rattle.avp_dict.specs.declared.value.faults.ValueFault.{ValueFault}
+use Rattle.avp_dict.specs.declared.value.faults.ValueFault.TheVariants as faults
 use Rattle.avp_dict.specs.RequestLines.{Assignment, Token, Comma, joined, packet_assignments, pairs_of, value_text}
 use Rattle.avp_dict.specs.Requests.{few_enough, pair_named, pairs_spelled}
 

@@ -3,10 +3,10 @@ use Rattle.std.specs.Prelude.{◌≤◌, ℕ, List, [], ◌∷◌, map, length, 
 use Rattle.avp_dict.specs.declared.entries.VendorLine.{VendorLine}
 use Rattle.avp_dict.specs.Letters.{most_name}
 use Rattle.avp_dict.specs.Settled.{is_kept}
-use Rattle.avp_dict.specs.declared.context.Context.{Context as CodeContext}
-use Rattle.avp_dict.specs.declared.meanings.Meaning.{Meaning as CodeMeaning}
-use Rattle.avp_dict.specs.declared.meanings.Meaning.TheVariants as code
-use Rattle.avp_dict.specs.declared.meanings.Reading.{Reading as CodeReading}
+use Rattle.avp_dict.specs.declared.file.context.Context.{Context as CodeContext}
+use Rattle.avp_dict.specs.declared.file.meanings.Meaning.{Meaning as CodeMeaning}
+use Rattle.avp_dict.specs.declared.file.meanings.Meaning.TheVariants as code
+use Rattle.avp_dict.specs.declared.file.meanings.Reading.{Reading as CodeReading}
 use Rattle.avp_dict.specs.Meanings.{Meaning, Nothing, Skipped, SkippedAttribute, Vendor, Attribute, Value, BeginVendor, BeginTlv, End, Reading, Context}
 
 -- a meaning without where its words lie in memory

@@ -3,7 +3,7 @@ use Rattle.std.specs.Prelude.{◌≡◌, Result, Ok, Err}
 use Rattle.avp_dict.specs.declared.faults.DictKind.{DictKind}
 use Rattle.avp_dict.specs.declared.faults.LineError.{LineError}
 use Rattle.avp_dict.specs.declared.faults.LineError.TheVariants.{Memory, Refused}
-use Rattle.avp_dict.specs.declared.meanings.Meaning.{Meaning as CodeMeaning}
+use Rattle.avp_dict.specs.declared.file.meanings.Meaning.{Meaning as CodeMeaning}
 use Rattle.avp_dict.specs.Meanings.{Meaning}
 use Rattle.avp_dict.specs.code.Meanings.{meaning_view}
 

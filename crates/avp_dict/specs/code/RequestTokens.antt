@@ -1,9 +1,9 @@
 -- What the code's tokens stand for.
 use Rattle.std.specs.Prelude.{ℕ, Bool, false, ◌||◌, ◌==◌, List, [], ◌∷◌}
-use Rattle.avp_dict.specs.declared.request_tokens.Side.{Side}
-use Rattle.avp_dict.specs.declared.request_tokens.Side.TheVariants.{Name, Value}
-use Rattle.avp_dict.specs.declared.request_tokens.Token.{Token as CodeToken}
-use Rattle.avp_dict.specs.declared.request_tokens.Token.TheVariants as code
+use Rattle.avp_dict.specs.declared.request.tokens.Side.{Side}
+use Rattle.avp_dict.specs.declared.request.tokens.Side.TheVariants.{Name, Value}
+use Rattle.avp_dict.specs.declared.request.tokens.Token.{Token as CodeToken}
+use Rattle.avp_dict.specs.declared.request.tokens.Token.TheVariants as code
 use Rattle.avp_dict.specs.Letters.{is_comma}
 use Rattle.avp_dict.specs.RequestLines.{Token, Comma, Sign, Run, Quoted, Unended, is_sign}
 use Rattle.avp_dict.specs.Words.{is_blank, is_hash}

@@ -5,7 +5,7 @@ ghost use Rattle.avp_dict.specs.Letters.{most_name};
 ghost use Rattle.avp_dict.specs.Words.{lower};
 ghost use Rattle.avp_dict.specs.code.Tables.{id_key};
 
-use crate::words::{MOST_NAME, lower};
+use crate::file::words::{MOST_NAME, lower};
 use avp_lists::AttrId;
 use std::alloc::{AllocError, Global};
 use std::hash::{Hash, Hasher};

@@ -1,5 +1,5 @@
 use Rattle.std.proofs.Common.{◌≡◌, rules}
-use Rattle.avp_dict.specs.declared.quotes.QuoteMark.TheVariants.{Double}
+use Rattle.avp_dict.specs.declared.value.quotes.QuoteMark.TheVariants.{Double}
 use Rattle.avp_unlang.specs.declared.tokens.Token.TheVariants.{Operator, Quoted}
 use Rattle.avp_unlang.specs.declared.tokens.Sign.TheVariants.{Reference}
 use Rattle.avp_unlang.proofs.LinesOne.{double_refused, reference_refused}

@@ -1,6 +1,6 @@
 use Rattle.std.proofs.Common.{sym, ◌∙◌}
 use Rattle.std.proofs.lemmas.Result.{err_from_is_err_and}
-use Rattle.avp_dict.specs.declared.request_tokens.Side.TheVariants.{Name}
+use Rattle.avp_dict.specs.declared.request.tokens.Side.TheVariants.{Name}
 use Rattle.avp_dict.specs.RequestLines.{tokens_at}
 use Rattle.avp_dict.proofs.PairSteps.{pair_read, pair_refused, refuses_whole, unknown_refused}
 use Rattle.avp_dict.proofs.dictionaries.Dictionary.read_pair.Goals as goal

@@ -1,0 +1,8 @@
+use Rattle.std.proofs.Common.{◌≡◌, take}
+use Rattle.std.specs.List.{flat_map}
+use Rattle.avp_dict.specs.Settled.{skipped_name}
+use Rattle.avp_dict.specs.code.Meanings.{reading_views}
+use Rattle.avp_dict.proofs.file.values.add_skipped.Given as goal
+
+abbrev pub invariant-loop-reading : goal.invariant-loop-reading
+invariant-loop-reading l = l.skipped ≡ flat_map (skipped_name l.vendors) (reading_views (take l.reading-index l.readings))

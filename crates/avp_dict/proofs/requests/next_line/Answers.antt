@@ -1,8 +1,0 @@
-use Rattle.std.proofs.Common.{◌<◌, length, rules}
-use Rattle.avp_dict.proofs.Gathering.{first_text}
-use Rattle.avp_dict.proofs.requests.next_line.Goals as goal
-
-pub returns-clause-cut : goal.returns-clause-cut
-returns-clause-cut c =
-    let some : 0 < length c.args.text.now = search rules in
-    rw (c.split_line.ensures.line, c.split_line.ensures.rest) (first_text c.args.text.now some)

@@ -1,7 +1,0 @@
-use Rattle.std.proofs.Common.{arith}
-use Rattle.avp_lists.specs.declared.attributes.Value.TheVariants.{Ether}
-use Rattle.avp_dict.proofs.Items.{of_length-items}
-use Rattle.avp_dict.proofs.value_octets.read_ether.Goals as goal
-
-pub returns-in-len6 : goal.returns-in-len6
-returns-in-len6 c = of_length-items 6 (λ os. Ether os) c.args.octets.now (omega arith)

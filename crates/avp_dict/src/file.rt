@@ -1,0 +1,18 @@
+//! Dictionary files: their lines, and what the lines are read as.
+
+pub mod attributes;
+pub mod blocks;
+pub mod context;
+pub mod files;
+pub mod gather;
+pub mod keywords;
+pub mod lines;
+pub mod meanings;
+pub mod numbers;
+pub mod parts;
+pub mod reader;
+pub mod settling;
+pub mod types;
+pub mod values;
+pub mod vendors;
+pub mod words;

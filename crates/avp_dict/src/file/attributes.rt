@@ -1,0 +1,285 @@
+//! ATTRIBUTE lines.
+
+ghost use Rattle.std.specs.Prelude.{◌≡◌, ◌≤◌, ℕ, Option, Some, None, if◌then◌else◌, IsTrue};
+ghost use Rattle.std.specs.List.{list_all};
+ghost use Rattle.avp_lists.specs.declared.attributes.AttrId.TheVariants.{Extended};
+ghost use Rattle.avp_dict.specs.Attributes.{attribute, attribute_line, attribute_of, dotted_word, id_word, is_attribute_name, is_extended, is_held, is_number, is_of_other_id, many_words, most_in, number_id, number_word, vendor_id};
+ghost use Rattle.avp_dict.specs.Letters.{begins_as_attr, is_decimal, is_letter, is_name_octet};
+ghost use Rattle.avp_dict.specs.code.Numbers.{Reads};
+ghost use Rattle.avp_dict.specs.code.Meanings.{context_view};
+ghost use Rattle.avp_dict.specs.code.Outcomes.{Gives, Means};
+ghost use Rattle.avp_dict.specs.code.Views.{views};
+
+use crate::attribute_numbers::is_extended_type;
+use crate::entries::VendorFormat;
+use crate::faults::{DictKind, LineError};
+use crate::file::context::Context;
+use crate::file::meanings::Meaning;
+use crate::file::numbers::{MOST_NUMBER, Number, read_number};
+use crate::file::parts::parts_between;
+use crate::file::types::{are_flags, typing_of};
+use crate::file::words::{MOST_NAME, is_same_name};
+use crate::tables::{Attributes, Vendors};
+use avp_lists::AttrId;
+use std::alloc::Global;
+
+fn most_in(octets: u8) -> u64
+    ensures most { result ≡ most_in octets }
+    ensures within { result ≤ MOST_NUMBER }
+{
+    match octets {
+        1 => 255,
+        2 => 65_535,
+        _ => MOST_NUMBER,
+    }
+}
+
+/// Whether the octets of a vendor's numbers hold this one.
+pub fn is_held(number: u64, format: VendorFormat) -> bool
+    ensures test { result ≡ is_held number format }
+    ensures within { IsTrue result → number ≤ MOST_NUMBER }
+{
+    number <= most_in(format.t)
+}
+
+fn vendor_id(vendor: u32, number: u32, format: Option<VendorFormat>) -> Option<AttrId>
+    ensures { result ≡ vendor_id vendor number format }
+{
+    match format {
+        None => None,
+        Some(format) => {
+            if is_held(u64::from(number), format) {
+                Some(AttrId::Vendor(vendor, number))
+            } else {
+                None
+            }
+        }
+    }
+}
+
+#[tactic(auto, unfolding(crate::specs::Attributes::number_id))]
+fn number_id(vendors: &Vendors, block: Option<u32>, number: u32) -> Option<AttrId>
+    ensures { result ≡ number_id vendors.now block number }
+{
+    match block {
+        None => Some(AttrId::Plain(number)),
+        Some(vendor) => vendor_id(vendor, number, vendors.format_of(vendor)),
+    }
+}
+
+#[tactic(auto, unfolding(crate::specs::Attributes::number_word))]
+fn number_word(
+    vendors: &Vendors,
+    block: Option<u32>,
+    number: Number,
+) -> Result<Option<AttrId>, LineError>
+    ensures { (n : Option ℕ) → Reads number n → Gives result (number_word vendors.now block n) }
+{
+    match number {
+        Number::Unreadable => Err(LineError::Refused(DictKind::Unreadable)),
+        Number::TooGreat => Err(LineError::Refused(DictKind::OutOfRange)),
+        Number::Is(number) => {
+            if number <= MOST_NUMBER {
+                Ok(number_id(vendors, block, number as u32))
+            } else {
+                Err(LineError::Refused(DictKind::OutOfRange))
+            }
+        }
+    }
+}
+
+/// The id of an extended attribute, whose own number is at least this.
+pub fn extended_id(least: u64, t: u64, x: u64) -> Option<AttrId>
+    ensures { result ≡ if is_extended least t x then Some (Extended t x) else None }
+{
+    if is_extended_type(t) && x >= least && x <= 255 {
+        Some(AttrId::Extended(t as u8, x as u8))
+    } else {
+        None
+    }
+}
+
+fn dotted_word(block: Option<u32>, t: Number, x: Number) -> Result<Option<AttrId>, LineError>
+    ensures { (m n : Option ℕ) → Reads t m → Reads x n → Gives result (dotted_word block m n) }
+{
+    match t {
+        Number::Unreadable => Err(LineError::Refused(DictKind::Unreadable)),
+        Number::TooGreat => match x {
+            Number::Unreadable => Err(LineError::Refused(DictKind::Unreadable)),
+            Number::TooGreat => Ok(None),
+            Number::Is(_) => Ok(None),
+        },
+        Number::Is(t) => match x {
+            Number::Unreadable => Err(LineError::Refused(DictKind::Unreadable)),
+            Number::TooGreat => Ok(None),
+            Number::Is(x) => {
+                if block.is_none() {
+                    Ok(extended_id(1, t, x))
+                } else {
+                    Ok(None)
+                }
+            }
+        },
+    }
+}
+
+fn is_number(word: &[u8]) -> bool
+    ensures { result ≡ is_number word.now }
+{
+    match read_number(word) {
+        Number::Unreadable => false,
+        Number::TooGreat => true,
+        Number::Is(_) => true,
+    }
+}
+
+fn are_readable(parts: &[&[u8]]) -> bool
+    ensures { result ≡ list_all is_number (views parts.now) }
+{
+    let mut rest = parts;
+    while let [part, after @ ..] = rest {
+        if !is_number(part) {
+            return false;
+        }
+        rest = after;
+    }
+    true
+}
+
+fn many_words(parts: &[&[u8]]) -> Result<Option<AttrId>, LineError>
+    ensures { Gives result (many_words (views parts.now)) }
+{
+    if are_readable(parts) {
+        Ok(None)
+    } else {
+        Err(LineError::Refused(DictKind::Unreadable))
+    }
+}
+
+#[tactic(auto, unfolding(crate::specs::Attributes::id_word))]
+fn id_word(
+    vendors: &Vendors,
+    block: Option<u32>,
+    parts: &[&[u8]],
+) -> Result<Option<AttrId>, LineError>
+    ensures { Gives result (id_word vendors.now block (views parts.now)) }
+{
+    match parts {
+        [number] => number_word(vendors, block, read_number(number)),
+        [t, x] => dotted_word(block, read_number(t), read_number(x)),
+        _ => many_words(parts),
+    }
+}
+
+fn is_letter(octet: u8) -> bool
+    ensures { result ≡ is_letter octet }
+{
+    (octet >= b'a' && octet <= b'z') || (octet >= b'A' && octet <= b'Z')
+}
+
+fn is_decimal(octet: u8) -> bool
+    ensures { result ≡ is_decimal octet }
+{
+    octet >= b'0' && octet <= b'9'
+}
+
+pub fn is_name_octet(octet: u8) -> bool
+    ensures { result ≡ is_name_octet octet }
+{
+    is_letter(octet)
+        || is_decimal(octet)
+        || octet == b'-'
+        || octet == b'_'
+        || octet == b'.'
+        || octet == b'/'
+}
+
+fn are_octets_of_name(name: &[u8]) -> bool
+    ensures { result ≡ list_all is_name_octet name.now }
+{
+    name.iter().all(|octet| is_name_octet(*octet))
+}
+
+/// Whether a name begins with `Attr-` and a digit.
+pub fn begins_as_attr(name: &[u8]) -> bool
+    ensures { result ≡ begins_as_attr name.now }
+{
+    name.len() >= 6 && is_same_name(&name[..5], b"attr-") && is_decimal(name[5])
+}
+
+#[tactic(auto, unfolding(crate::specs::Attributes::is_attribute_name))]
+fn is_attribute_name(name: &[u8]) -> bool
+    ensures { result ≡ is_attribute_name name.now }
+{
+    are_octets_of_name(name) && name.len() <= MOST_NAME && !begins_as_attr(name)
+}
+
+fn is_of_other_id(id: AttrId, found: Option<AttrId>) -> bool
+    ensures { result ≡ is_of_other_id id found }
+{
+    match found {
+        Some(other) => !other.equals(id),
+        None => false,
+    }
+}
+
+#[tactic(auto, unfolding(crate::specs::Attributes::attribute_of))]
+fn attribute_of<'a>(
+    attributes: &Attributes,
+    name: &'a [u8],
+    kind: &[u8],
+    flags: &[&[u8]],
+    id: Option<AttrId>,
+) -> Result<Meaning<'a>, LineError>
+    ensures { Means result (attribute_of attributes.now name.now kind.now (views flags.now) id) }
+{
+    match id {
+        None => Ok(Meaning::SkippedAttribute(name)),
+        Some(id) => {
+            if !is_attribute_name(name) || !are_flags(flags) {
+                return Ok(Meaning::SkippedAttribute(name));
+            }
+            if is_of_other_id(id, attributes.id_named(name)) {
+                return Err(LineError::Refused(DictKind::OtherNumber));
+            }
+            Ok(Meaning::Attribute(name, id, typing_of(id, kind, flags)))
+        }
+    }
+}
+
+#[tactic(auto, unfolding(crate::specs::Attributes::attribute_line))]
+fn attribute_line<'a>(
+    alloc: Global,
+    before: &Context<'_>,
+    block: Option<u32>,
+    name: &'a [u8],
+    number: &[u8],
+    kind: &[u8],
+    flags: &[&[u8]],
+) -> Result<Meaning<'a>, LineError>
+    ensures { Means result (attribute_line (context_view before.now) block name.now number.now kind.now (views flags.now)) }
+{
+    let parts = parts_between(alloc, b'.', number)?;
+    let id = id_word(&before.vendors, block, &parts)?;
+    attribute_of(&before.attributes, name, kind, flags, id)
+}
+
+/// An ATTRIBUTE line after its keyword.
+#[tactic(auto, unfolding(crate::specs::Attributes::attribute))]
+pub fn read_attribute<'a>(
+    alloc: Global,
+    before: &Context<'_>,
+    block: Option<u32>,
+    words: &[&'a [u8]],
+) -> Result<Meaning<'a>, LineError>
+    ensures { Means result (attribute (context_view before.now) block (views words.now)) }
+{
+    match words {
+        [name, number, kind] => attribute_line(alloc, before, block, name, number, kind, &[]),
+        [name, number, kind, flags] => {
+            let flags = parts_between(alloc, b',', flags)?;
+            attribute_line(alloc, before, block, name, number, kind, &flags)
+        }
+        _ => Err(LineError::Refused(DictKind::Unreadable)),
+    }
+}

@@ -1,0 +1,177 @@
+//! Lines that begin and end blocks, and includes.
+
+ghost use Rattle.std.specs.Prelude.{◌≡◌, false};
+ghost use Rattle.std.specs.Option.{option_map_or};
+ghost use Rattle.avp_dict.specs.Blocks.{begin_known, begin_tlv, begin_vendor, end_tlv, end_vendor, ended, innermost, opens_tlv_named, opens_vendor_named, unless_third};
+ghost use Rattle.avp_dict.specs.Readings.{include, include_line};
+ghost use Rattle.avp_dict.specs.code.Meanings.{reading_view, reading_views};
+ghost use Rattle.avp_dict.specs.code.Outcomes.{Means};
+ghost use Rattle.avp_dict.specs.code.Views.{views};
+
+use crate::entries::VendorFormat;
+use crate::faults::{DictKind, LineError};
+use crate::file::context::{innermost, is_skipping};
+use crate::file::gather::MOST_DEPTH;
+use crate::file::keywords::DOLLAR_INCLUDE;
+use crate::file::meanings::{Meaning, Reading};
+use crate::file::words::is_same_name;
+use crate::tables::Vendors;
+
+fn opens_vendor_named(reading: Reading<'_>, name: &[u8]) -> bool
+    ensures { result ≡ opens_vendor_named name.now (reading_view reading.entry) }
+{
+    match reading.meaning {
+        Meaning::BeginVendor(other, _) => is_same_name(other, name),
+        _ => false,
+    }
+}
+
+fn opens_tlv_named(reading: Reading<'_>, name: &[u8]) -> bool
+    ensures { result ≡ opens_tlv_named name.now (reading_view reading.entry) }
+{
+    match reading.meaning {
+        Meaning::BeginTlv(other) => is_same_name(other, name),
+        _ => false,
+    }
+}
+
+fn is_in_vendor(opened: &[Reading<'_>], name: &[u8]) -> bool
+    ensures { result ≡ option_map_or (opens_vendor_named name.now) (innermost (reading_views opened.now)) false }
+{
+    match innermost(opened) {
+        Some(reading) => opens_vendor_named(reading, name),
+        None => false,
+    }
+}
+
+fn is_in_tlv(opened: &[Reading<'_>], name: &[u8]) -> bool
+    ensures { result ≡ option_map_or (opens_tlv_named name.now) (innermost (reading_views opened.now)) false }
+{
+    match innermost(opened) {
+        Some(reading) => opens_tlv_named(reading, name),
+        None => false,
+    }
+}
+
+fn ended<'a>(fits: bool, opened: &[Reading<'_>]) -> Result<Meaning<'a>, LineError>
+    ensures { Means result (ended fits (reading_views opened.now)) }
+{
+    if fits {
+        Ok(Meaning::End(is_skipping(opened)))
+    } else {
+        Err(LineError::Refused(DictKind::Unmatched))
+    }
+}
+
+#[tactic(auto, unfolding(crate::specs::Blocks::end_vendor))]
+pub fn end_vendor<'a>(opened: &[Reading<'_>], words: &[&'a [u8]]) -> Result<Meaning<'a>, LineError>
+    ensures { Means result (end_vendor (reading_views opened.now) (views words.now)) }
+{
+    match words {
+        [name] => ended(is_in_vendor(opened, name), opened),
+        _ => Err(LineError::Refused(DictKind::Unreadable)),
+    }
+}
+
+#[tactic(auto, unfolding(crate::specs::Blocks::end_tlv))]
+pub fn end_tlv<'a>(opened: &[Reading<'_>], words: &[&'a [u8]]) -> Result<Meaning<'a>, LineError>
+    ensures { Means result (end_tlv (reading_views opened.now) (views words.now)) }
+{
+    match words {
+        [name] => ended(is_in_tlv(opened, name), opened),
+        _ => Err(LineError::Refused(DictKind::Unreadable)),
+    }
+}
+
+#[tactic(auto, unfolding(crate::specs::Blocks::begin_tlv))]
+pub fn begin_tlv<'a>(words: &[&'a [u8]]) -> Result<Meaning<'a>, LineError>
+    ensures { Means result (begin_tlv (views words.now)) }
+{
+    match words {
+        [name] => Ok(Meaning::BeginTlv(name)),
+        _ => Err(LineError::Refused(DictKind::Unreadable)),
+    }
+}
+
+fn unless_third(vendor: u32, format: Option<VendorFormat>) -> Option<u32>
+    ensures { result ≡ unless_third vendor format }
+{
+    match format {
+        None => Some(vendor),
+        Some(format) => { if format.third { None } else { Some(vendor) } }
+    }
+}
+
+#[tactic(auto, unfolding(crate::specs::Blocks::begin_known))]
+fn begin_known<'a>(vendors: &Vendors, name: &'a [u8]) -> Result<Meaning<'a>, LineError>
+    ensures { Means result (begin_known vendors.now name.now) }
+{
+    match vendors.vendor_named(name) {
+        None => Err(LineError::Refused(DictKind::UnknownVendor)),
+        Some(vendor) => Ok(Meaning::BeginVendor(
+            name,
+            unless_third(vendor, vendors.format_of(vendor)),
+        )),
+    }
+}
+
+#[tactic(auto, unfolding(crate::specs::Blocks::begin_vendor))]
+pub fn begin_vendor<'a>(
+    vendors: &Vendors,
+    opened: &[Reading<'_>],
+    words: &[&'a [u8]],
+) -> Result<Meaning<'a>, LineError>
+    ensures { Means result (begin_vendor vendors.now (reading_views opened.now) (views words.now)) }
+{
+    match words {
+        [name] => {
+            if is_skipping(opened) {
+                Ok(Meaning::BeginVendor(name, None))
+            } else {
+                begin_known(vendors, name)
+            }
+        }
+        [name, _] => Ok(Meaning::BeginVendor(name, None)),
+        _ => Err(LineError::Refused(DictKind::Unreadable)),
+    }
+}
+
+fn include_line<'a>(
+    required: bool,
+    found: Option<usize>,
+    depth: usize,
+) -> Result<Meaning<'a>, LineError>
+    ensures { Means result (include_line required found depth) }
+{
+    match found {
+        None => {
+            if required {
+                Err(LineError::Refused(DictKind::NoFile))
+            } else {
+                Ok(Meaning::Skipped)
+            }
+        }
+        Some(_) => {
+            if depth < MOST_DEPTH {
+                Ok(Meaning::Nothing)
+            } else {
+                Err(LineError::Refused(DictKind::TooDeep))
+            }
+        }
+    }
+}
+
+#[tactic(auto, unfolding(crate::specs::Readings::include))]
+pub fn include<'a>(
+    found: Option<usize>,
+    depth: usize,
+    head: &[u8],
+    words: &[&'a [u8]],
+) -> Result<Meaning<'a>, LineError>
+    ensures { Means result (include found depth head.now (views words.now)) }
+{
+    match words {
+        [_] => include_line(is_same_name(head, DOLLAR_INCLUDE), found, depth),
+        _ => Err(LineError::Refused(DictKind::Unreadable)),
+    }
+}

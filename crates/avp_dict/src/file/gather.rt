@@ -1,0 +1,86 @@
+//! The lines of a file set.
+
+ghost use Rattle.std.specs.Prelude.{◌≡◌, ◌<◌, length, IfSome};
+ghost use Rattle.std.specs.Option.{option_and_then, option_copied};
+ghost use Rattle.std.specs.List.{before_first, after_first, position};
+ghost use Rattle.avp_dict.specs.Lines.{file_named, included_by, is_include, is_line_end, octets_at};
+ghost use Rattle.avp_dict.specs.code.Views.{views};
+
+use crate::file::files::{NamedFile, last_component};
+use crate::file::keywords::{DOLLAR_INCLUDE, DOLLAR_INCLUDE_IF_THERE};
+use crate::file::words::is_same_name;
+
+/// How many lines are read, counted as often as they are read.
+pub const MOST_LINES: usize = 200_000;
+/// Includes go so many files deep.
+pub const MOST_DEPTH: usize = 8;
+/// How many files may be open, each included by the one before it.
+pub const MOST_LEVELS: usize = MOST_DEPTH + 1;
+
+/// A line, where it is, and how many includes led to it.
+#[derive(Clone, Copy, Debug)]
+pub struct Line<'a> {
+    pub file: usize,
+    pub number: usize,
+    pub depth: usize,
+    pub text: &'a [u8],
+}
+
+fn line_end(text: &[u8]) -> Option<usize>
+    ensures { result ≡ position is_line_end text.now }
+{
+    text.iter().position(|octet| *octet == b'\n')
+}
+
+/// The first line of a text, and what follows it.
+pub fn split_line(text: &[u8]) -> (&[u8], &[u8])
+    ensures line { result.0.now ≡ before_first is_line_end text.now }
+    ensures rest { result.1.now ≡ after_first is_line_end text.now }
+{
+    match line_end(text) {
+        Some(end) => (&text[..end], &text[end + 1..]),
+        None => (text, &text[text.len()..]),
+    }
+}
+
+fn file_named(files: &[NamedFile], name: &[u8]) -> Option<usize>
+    ensures place { result ≡ file_named name.now files.now }
+    ensures within { IfSome result (λ place. place < length files.now) }
+{
+    files.iter().position(|file| file.name.as_slice() == name)
+}
+
+pub fn is_include(word: &[u8]) -> bool
+    ensures { result ≡ is_include word.now }
+{
+    is_same_name(word, DOLLAR_INCLUDE) || is_same_name(word, DOLLAR_INCLUDE_IF_THERE)
+}
+
+fn included<'a>(words: &[&'a [u8]]) -> Option<&'a [u8]>
+    ensures { option_copied result ≡ included_by (views words.now) }
+{
+    match words {
+        [head, path] if is_include(head) => Some(last_component(path)),
+        _ => None,
+    }
+}
+
+/// The place of the file that a line of these words includes.
+pub fn place_included(files: &[NamedFile], words: &[&[u8]]) -> Option<usize>
+    ensures { result ≡ option_and_then (λ name. file_named name files.now) (included_by (views words.now)) }
+{
+    match included(words) {
+        Some(name) => file_named(files, name),
+        None => None,
+    }
+}
+
+/// What a file of the set holds.
+pub fn octets_of(files: &[NamedFile], place: usize) -> &[u8]
+    ensures { result.now ≡ octets_at files.now place }
+{
+    match files.get(place) {
+        Some(file) => file.octets.as_slice(),
+        None => &[],
+    }
+}

@@ -1,0 +1,177 @@
+//! The lines of a file set, read one after the other.
+
+ghost use Rattle.std.specs.Prelude.{◌≡◌, ◌∷◌, ◌++◌, ◌+◌, ◌<◌, ◌≤◌, ◌^◌, [], Err, None, List, OnOk, IfErr, length};
+ghost use Rattle.avp_dict.specs.Blocks.{innermost};
+ghost use Rattle.avp_dict.specs.DictionaryReading.{dictionary_of, settled, unless_open};
+ghost use Rattle.avp_dict.specs.Lines.{Line as SetLine, file_included, lines_in};
+ghost use Rattle.avp_dict.specs.Meanings.{Reading as SetReading, context_of};
+ghost use Rattle.avp_dict.specs.Outcomes.{Refuses};
+ghost use Rattle.avp_dict.specs.Readings.{read_line, read_lines, within};
+ghost use Rattle.avp_dict.specs.Words.{words_of};
+ghost use Rattle.avp_dict.specs.code.Gathered.{line_view};
+ghost use Rattle.avp_dict.specs.code.Meanings.{context_view, reading_views};
+ghost use Rattle.avp_dict.specs.code.Outcomes.{Means};
+ghost use Rattle.avp_dict.specs.code.Views.{views};
+
+use crate::faults::{DictFault, DictKind, LineError};
+use crate::file::context::{Context, innermost};
+use crate::file::files::NamedFile;
+use crate::file::gather::{Line, MOST_LEVELS, octets_of, place_included, split_line};
+use crate::file::lines::read_words;
+use crate::file::meanings::{Meaning, Reading};
+use crate::file::words::words;
+use std::alloc::Global;
+
+/// Lines as they were read, and what they leave for the next one.
+#[derive(Drop)]
+pub struct ReadLines<'a> {
+    pub readings: Vec<Reading<'a>>,
+    pub context: Context<'a>,
+}
+
+impl<'a> ReadLines<'a> {
+    pub fn new(alloc: Global) -> ReadLines<'a>
+        ensures read { reading_views result.readings.items ≡ [] }
+        ensures tracked { context_view result.context ≡ context_of [] }
+    {
+        ReadLines {
+            readings: Vec::new(alloc),
+            context: Context::new(alloc),
+        }
+    }
+
+    // What one line more is read as, whose words these are; so many lines are read.
+    #[tactic(auto, unfolding(crate::specs::Readings::read_line))]
+    fn read_one(
+        &self,
+        alloc: Global,
+        files: &[NamedFile],
+        limit: usize,
+        line: Line<'a>,
+        words: &[&'a [u8]],
+        included: Option<usize>,
+    ) -> Result<Meaning<'a>, LineError>
+        requires words { views words.now ≡ words_of line.text.now }
+        requires included { included ≡ file_included files.now line.text.now }
+        ensures { Means result (within limit (reading_views self.now.readings.items) (read_line files.now (context_view self.now.context) (line_view line.entry))) }
+    {
+        if self.readings.len() >= limit {
+            return Err(LineError::Refused(DictKind::TooLong));
+        }
+        read_words(alloc, &self.context, included, line.depth, words)
+    }
+
+    // Reads one line more.
+    fn read_next(
+        &mut self,
+        alloc: Global,
+        files: &[NamedFile],
+        limit: usize,
+        line: Line<'a>,
+        words: &[&'a [u8]],
+        included: Option<usize>,
+    ) -> Result<(), DictFault>
+        requires tracked { context_view self.old.context ≡ context_of (reading_views self.old.readings.items) }
+        requires words { views words.now ≡ words_of line.text.now }
+        requires included { included ≡ file_included files.now line.text.now }
+        requires room { length self.old.readings.items ≤ limit }
+        ensures tracked { OnOk result (context_view self.new.context ≡ context_of (reading_views self.new.readings.items)) }
+        ensures room { OnOk result (length self.new.readings.items ≤ limit) }
+        ensures longer { OnOk result (length self.new.readings.items ≡ length self.old.readings.items + 1) }
+        ensures step { (ls : List SetLine) → OnOk result (read_lines limit files.now (reading_views self.old.readings.items) (line_view line.entry ∷ ls) ≡ read_lines limit files.now (reading_views self.new.readings.items) ls) }
+        ensures refused { (ls : List SetLine) → IfErr result (λ e. Refuses e (read_lines limit files.now (reading_views self.old.readings.items) (line_view line.entry ∷ ls))) }
+    {
+        match self.read_one(alloc, files, limit, line, words, included) {
+            Ok(meaning) => {
+                let reading = Reading {
+                    file: line.file,
+                    line: line.number,
+                    meaning,
+                };
+                self.context.add(alloc, reading)?;
+                self.readings.push(reading)?;
+                Ok(())
+            }
+            Err(error) => Err(error.at(line.file, line.number)),
+        }
+    }
+
+    // Reads the lines of a file, each followed by those of the file that it includes.
+    fn read_file(
+        &mut self,
+        alloc: Global,
+        files: &'a [NamedFile],
+        limit: usize,
+        levels: usize,
+        place: usize,
+    ) -> Result<(), DictFault>
+        requires levels { levels ≤ MOST_LEVELS }
+        requires limit { limit < 2 ^ 32 }
+        requires tracked { context_view self.old.context ≡ context_of (reading_views self.old.readings.items) }
+        requires room { length self.old.readings.items ≤ limit }
+        ensures tracked { OnOk result (context_view self.new.context ≡ context_of (reading_views self.new.readings.items)) }
+        ensures room { OnOk result (length self.new.readings.items ≤ limit) }
+        ensures longer { OnOk result (length self.old.readings.items ≤ length self.new.readings.items) }
+        ensures step { (ls : List SetLine) → OnOk result (read_lines limit files.now (reading_views self.old.readings.items) (lines_in files.now levels place ++ ls) ≡ read_lines limit files.now (reading_views self.new.readings.items) ls) }
+        ensures refused { (ls : List SetLine) → IfErr result (λ e. Refuses e (read_lines limit files.now (reading_views self.old.readings.items) (lines_in files.now levels place ++ ls))) }
+    {
+        if levels == 0 {
+            return Ok(());
+        }
+        let depth = MOST_LEVELS - levels;
+        let mut rest = octets_of(files, place);
+        let mut number = 1;
+        while !rest.is_empty() {
+            let (text, after) = split_line(rest);
+            let words = words(alloc, text)?;
+            let included = place_included(files, &words);
+            let line = Line {
+                file: place,
+                number,
+                depth,
+                text,
+            };
+            self.read_next(alloc, files, limit, line, &words, included)?;
+            if let Some(below) = included {
+                self.read_file(alloc, files, limit, levels - 1, below)?;
+            }
+            number += 1;
+            rest = after;
+        }
+        Ok(())
+    }
+}
+
+// Refuses the last of the lines that opened blocks.
+fn refuse_open(opened: &[Reading<'_>]) -> Result<(), DictFault>
+    ensures closed { OnOk result (innermost (reading_views opened.now) ≡ None) }
+    ensures left { (all : List SetReading) → IfErr result (λ fault. unless_open (innermost (reading_views opened.now)) all ≡ Err fault) }
+{
+    match innermost(opened) {
+        Some(reading) => Err(DictFault {
+            file: reading.file,
+            line: reading.line,
+            kind: DictKind::Unmatched,
+        }),
+        None => Ok(()),
+    }
+}
+
+/// Reads the lines of the set, so many at most, up to the first that is refused, and refuses a block left open.
+pub fn read_set<'a>(
+    alloc: Global,
+    files: &'a [NamedFile],
+    limit: usize,
+    read: &mut ReadLines<'a>,
+) -> Result<(), DictFault>
+    requires limit { limit < 2 ^ 32 }
+    requires read { reading_views read.old.readings.items ≡ [] }
+    requires tracked { context_view read.old.context ≡ context_of [] }
+    ensures tracked { OnOk result (context_view read.new.context ≡ context_of (reading_views read.new.readings.items)) }
+    ensures read { OnOk result (dictionary_of limit files.now ≡ settled (reading_views read.new.readings.items)) }
+    ensures refused { IfErr result (λ fault. Refuses fault (dictionary_of limit files.now)) }
+{
+    read.read_file(alloc, files, limit, MOST_LEVELS, 0)?;
+    refuse_open(&read.context.opened)?;
+    Ok(())
+}

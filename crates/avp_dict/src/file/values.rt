@@ -1,0 +1,315 @@
+//! VALUE lines and notes, after the last line.
+
+ghost use Rattle.std.specs.Prelude.{◌≡◌, ◌∷◌, [], ℕ, List, Option, Ok, ◌≤◌, length, is_some, OnOk, IfErr, IfOk, IfSome, IsTrue};
+ghost use Rattle.std.specs.Option.{option_and_then, option_copied};
+ghost use Rattle.std.specs.List.{list_all};
+ghost use Rattle.avp_dict.specs.DictionaryReading.{outline_of, settled};
+ghost use Rattle.avp_dict.specs.Letters.{is_word_octet, most_name};
+ghost use Rattle.avp_dict.specs.Meanings.{Reading as SetReading, context_of};
+ghost use Rattle.avp_dict.specs.Outcomes.{Answers, Refuses};
+ghost use Rattle.avp_dict.specs.Settled.{skipped_names};
+ghost use Rattle.avp_dict.specs.Values.{is_noted, is_of_other_number, is_value_name, most_of, most_of_typing, reads_as_number, resolve, value_of, value_up_to, with_line, with_note, with_value};
+ghost use Rattle.avp_dict.specs.Dictionary.{typing_of_id};
+ghost use Rattle.avp_dict.specs.code.Contents.{contents_view};
+ghost use Rattle.avp_dict.specs.code.Meanings.{context_view, meaning_view, name_if, reading_view, reading_views, skipped_name_of};
+ghost use Rattle.avp_dict.specs.code.Numbers.{Reads};
+ghost use Rattle.avp_dict.specs.code.Outcomes.{Gives};
+
+use crate::contents::Contents;
+use crate::entries::{Kind, Note, ValueLine};
+use crate::faults::{DictFault, DictKind, LineError};
+use crate::file::attributes::is_name_octet;
+use crate::file::context::Context;
+use crate::file::meanings::{Meaning, Reading};
+use crate::file::numbers::{Number, digits_of};
+use crate::file::settling::{is_kept, used};
+use crate::file::words::MOST_NAME;
+use crate::octets::copy_of;
+use crate::tables::{Attributes, NameSet, Values, Vendors};
+use avp_lists::AttrId;
+use std::alloc::{AllocError, Global};
+
+fn is_word_octet(octet: u8) -> bool
+    ensures { result ≡ is_word_octet octet }
+{
+    is_name_octet(octet) || octet == b':' || octet == b'@'
+}
+
+fn are_octets_of_word(name: &[u8]) -> bool
+    ensures { result ≡ list_all is_word_octet name.now }
+{
+    name.iter().all(|octet| is_word_octet(*octet))
+}
+
+fn is_read(number: Number) -> bool
+    ensures { (n : Option ℕ) → Reads number n → result ≡ is_some n }
+{
+    match number {
+        Number::Unreadable => false,
+        Number::TooGreat => true,
+        Number::Is(_) => true,
+    }
+}
+
+fn reads_as_number(word: &[u8]) -> bool
+    ensures { result ≡ reads_as_number word.now }
+{
+    match word {
+        [b'0', b'x', rest @ ..] => is_read(digits_of(16, rest)),
+        [b'0', b'X', rest @ ..] => is_read(digits_of(16, rest)),
+        _ => is_read(digits_of(10, word)),
+    }
+}
+
+#[tactic(auto, unfolding(crate::specs::Values::is_value_name))]
+fn is_value_name(name: &[u8]) -> bool
+    ensures test { result ≡ is_value_name name.now }
+    ensures short { IsTrue result → length name.now ≤ most_name }
+{
+    are_octets_of_word(name) && name.len() <= MOST_NAME && !reads_as_number(name)
+}
+
+pub fn most_of(kind: Kind) -> Option<u64>
+    ensures { result ≡ most_of kind }
+{
+    match kind {
+        Kind::Byte => Some(255),
+        Kind::Short => Some(65_535),
+        Kind::Integer => Some(4_294_967_295),
+        Kind::Integer64 => Some(18_446_744_073_709_551_615),
+        _ => None,
+    }
+}
+
+fn most_of_id(attributes: &Attributes, id: AttrId) -> Option<u64>
+    ensures { result ≡ option_and_then most_of_typing (typing_of_id id attributes.now) }
+{
+    match attributes.typing_of_id(id) {
+        Some(typing) => most_of(typing.kind),
+        None => None,
+    }
+}
+
+fn is_of_other_number(number: u64, found: Option<u64>) -> bool
+    ensures { result ≡ is_of_other_number number found }
+{
+    match found {
+        Some(other) => other != number,
+        None => false,
+    }
+}
+
+#[tactic(auto, unfolding(crate::specs::Values::value_up_to))]
+fn value_up_to(
+    alloc: Global,
+    values: &Values,
+    id: AttrId,
+    name: &[u8],
+    number: u64,
+    most: Option<u64>,
+) -> Result<Option<ValueLine>, LineError>
+    ensures value { Gives result (value_up_to values.now id name.now number most) }
+    ensures short { IfOk result (λ value. IfSome value (λ v. length v.name ≤ most_name)) }
+{
+    match most {
+        None => Ok(None),
+        Some(most) => {
+            if !is_value_name(name) {
+                return Ok(None);
+            }
+            if number > most {
+                return Err(LineError::Refused(DictKind::OutOfRange));
+            }
+            if is_of_other_number(number, values.number_named(id, name)) {
+                return Err(LineError::Refused(DictKind::OtherValue));
+            }
+            let name = copy_of(alloc, name)?;
+            Ok(Some(ValueLine { id, name, number }))
+        }
+    }
+}
+
+#[tactic(auto, unfolding(crate::specs::Values::value_of))]
+fn value_of(
+    alloc: Global,
+    skipped: &NameSet<'_>,
+    contents: &Contents,
+    attribute: &[u8],
+    name: &[u8],
+    number: u64,
+    id: Option<AttrId>,
+) -> Result<Option<ValueLine>, LineError>
+    ensures value { Gives result (value_of skipped.now (contents_view contents.now) attribute.now name.now number id) }
+    ensures short { IfOk result (λ value. IfSome value (λ v. length v.name ≤ most_name)) }
+{
+    match id {
+        Some(id) => {
+            let most = most_of_id(&contents.attributes, id);
+            value_up_to(alloc, &contents.values, id, name, number, most)
+        }
+        None => {
+            if skipped.contains(alloc, attribute)? {
+                Ok(None)
+            } else {
+                Err(LineError::Refused(DictKind::NoAttribute))
+            }
+        }
+    }
+}
+
+fn is_noted(vendors: &Vendors, meaning: Meaning<'_>) -> bool
+    ensures { result ≡ is_noted vendors.now (meaning_view meaning.entry) }
+{
+    match meaning {
+        Meaning::Skipped => true,
+        Meaning::SkippedAttribute(_) => true,
+        Meaning::Attribute(_, id, _) => !is_kept(vendors, id),
+        Meaning::BeginVendor(_, vendor) => vendor.is_none(),
+        Meaning::BeginTlv(_) => true,
+        Meaning::End(noted) => noted,
+        _ => false,
+    }
+}
+
+impl Contents {
+    // A note of this line.
+    fn add_note(&mut self, reading: Reading<'_>) -> Result<(), AllocError>
+        ensures { OnOk result (contents_view self.new ≡ with_note (contents_view self.old) (reading_view reading.entry)) }
+    {
+        self.notes.push(Note {
+            file: reading.file,
+            line: reading.line,
+        })?;
+        Ok(())
+    }
+
+    // What a VALUE line adds.
+    fn add_value(
+        &mut self,
+        alloc: Global,
+        reading: Reading<'_>,
+        value: Option<ValueLine>,
+    ) -> Result<(), AllocError>
+        requires { IfSome value (λ v. length v.name ≤ most_name) }
+        ensures { OnOk result (contents_view self.new ≡ with_value (contents_view self.old) (reading_view reading.entry) value) }
+    {
+        match value {
+            Some(value) => self.values.push(alloc, value),
+            None => self.add_note(reading),
+        }
+    }
+
+    // What a line adds.
+    #[tactic(auto, unfolding(crate::specs::Values::with_line))]
+    fn add_line(
+        &mut self,
+        alloc: Global,
+        skipped: &NameSet<'_>,
+        reading: Reading<'_>,
+    ) -> Result<(), DictFault>
+        ensures step { OnOk result (with_line skipped.now (contents_view self.old) (reading_view reading.entry) ≡ Ok (contents_view self.new)) }
+        ensures refused { IfErr result (λ fault. Refuses fault (with_line skipped.now (contents_view self.old) (reading_view reading.entry))) }
+    {
+        if let Meaning::Value(attribute, name, number) = reading.meaning {
+            let id = self.attributes.id_named(attribute);
+            match value_of(alloc, skipped, self, attribute, name, number, id) {
+                Ok(value) => self.add_value(alloc, reading, value)?,
+                Err(error) => return Err(error.at(reading.file, reading.line)),
+            }
+        } else if is_noted(&self.vendors, reading.meaning) {
+            self.add_note(reading)?;
+        }
+        Ok(())
+    }
+
+    // What the lines add, one after the other.
+    fn add_lines(
+        &mut self,
+        alloc: Global,
+        skipped: &NameSet<'_>,
+        readings: &[Reading<'_>],
+    ) -> Result<(), DictFault>
+        ensures ok { OnOk result (resolve skipped.now (contents_view self.old) (reading_views readings.now) ≡ Ok (contents_view self.new)) }
+        ensures refused { IfErr result (λ fault. Refuses fault (resolve skipped.now (contents_view self.old) (reading_views readings.now))) }
+    {
+        for reading in readings {
+            self.add_line(alloc, skipped, *reading)?;
+        }
+        Ok(())
+    }
+}
+
+// The name on a skipped ATTRIBUTE line.
+fn skipped_name<'a>(vendors: &Vendors, meaning: Meaning<'a>) -> Option<&'a [u8]>
+    ensures { name_if (option_copied result) ≡ skipped_name_of vendors.now (meaning_view meaning.entry) }
+{
+    match meaning {
+        Meaning::SkippedAttribute(name) => Some(name),
+        Meaning::Attribute(name, id, _) => {
+            if is_kept(vendors, id) {
+                None
+            } else {
+                Some(name)
+            }
+        }
+        _ => None,
+    }
+}
+
+// The names on the skipped ATTRIBUTE lines.
+#[tactic(auto, unfolding(crate::specs::Settled::skipped_names))]
+fn add_skipped<'a>(
+    alloc: Global,
+    vendors: &Vendors,
+    readings: &[Reading<'a>],
+    skipped: &mut NameSet<'a>,
+) -> Result<(), AllocError>
+    requires { skipped.old ≡ [] }
+    ensures { OnOk result (skipped.new ≡ skipped_names vendors.now (reading_views readings.now)) }
+{
+    for reading in readings {
+        if let Some(name) = skipped_name(vendors, reading.meaning) {
+            skipped.push(alloc, name)?;
+        }
+    }
+    Ok(())
+}
+
+fn add_all(
+    alloc: Global,
+    readings: &[Reading<'_>],
+    contents: &mut Contents,
+) -> Result<(), DictFault>
+    ensures ok { OnOk result (resolve (skipped_names contents.old.vendors (reading_views readings.now)) (contents_view contents.old) (reading_views readings.now) ≡ Ok (contents_view contents.new)) }
+    ensures refused { IfErr result (λ fault. Refuses fault (resolve (skipped_names contents.old.vendors (reading_views readings.now)) (contents_view contents.old) (reading_views readings.now))) }
+{
+    let mut skipped = NameSet::new(alloc);
+    add_skipped(alloc, &contents.vendors, readings, &mut skipped)?;
+    contents.add_lines(alloc, &skipped, readings)
+}
+
+/// The dictionary of lines that were read.
+#[tactic(auto, unfolding(crate::specs::DictionaryReading::settled))]
+pub fn settle(
+    alloc: Global,
+    readings: &[Reading<'_>],
+    context: Context<'_>,
+) -> Result<Contents, DictFault>
+    requires { context_view context ≡ context_of (reading_views readings.now) }
+    ensures { Answers contents_view result (settled (reading_views readings.now)) }
+{
+    let Context {
+        attributes,
+        vendors,
+        opened: _,
+    } = context;
+    let attributes = used(alloc, &vendors, attributes)?;
+    let mut contents = Contents {
+        attributes,
+        values: Values::new(alloc),
+        vendors,
+        notes: Vec::new(alloc),
+    };
+    add_all(alloc, readings, &mut contents)?;
+    Ok(contents)
+}

@@ -1,0 +1,161 @@
+//! VENDOR lines.
+
+ghost use Rattle.std.specs.Prelude.{◌≡◌, ◌≤◌, ℕ, Option, IfOk};
+ghost use Rattle.std.specs.List.{list_all, slice_split};
+ghost use Rattle.avp_dict.specs.Letters.{is_comma, is_visible};
+ghost use Rattle.avp_dict.specs.Vendors.{format_parts, format_word, is_other_vendor, is_vendor_name, two_parts, vendor, vendor_line, vendor_numbered};
+ghost use Rattle.avp_dict.specs.code.Numbers.{Reads};
+ghost use Rattle.avp_dict.specs.code.Outcomes.{Means};
+ghost use Rattle.avp_dict.specs.code.Views.{views};
+
+use crate::entries::VendorFormat;
+use crate::faults::{DictKind, LineError};
+use crate::file::keywords::FORMAT_KEY;
+use crate::file::meanings::Meaning;
+use crate::file::numbers::{MOST_NUMBER, Number, number_up_to, read_number};
+use crate::file::parts::parts_between;
+use crate::file::words::{MOST_NAME, is_same_name};
+use crate::tables::Vendors;
+use std::alloc::{AllocError, Global};
+
+// The format of a VENDOR line that gives none.
+const STANDARD_FORMAT: VendorFormat = VendorFormat {
+    t: 1,
+    l: 1,
+    third: false,
+};
+
+fn is_visible(octet: u8) -> bool
+    ensures { result ≡ is_visible octet }
+{
+    octet >= 33 && octet <= 126
+}
+
+fn are_visible(name: &[u8]) -> bool
+    ensures { result ≡ list_all is_visible name.now }
+{
+    name.iter().all(|octet| is_visible(*octet))
+}
+
+#[tactic(auto, unfolding(crate::specs::Vendors::is_vendor_name))]
+fn is_vendor_name(name: &[u8]) -> bool
+    ensures { result ≡ is_vendor_name name.now }
+{
+    are_visible(name) && name.len() <= MOST_NAME
+}
+
+fn is_other_vendor(number: u32, found: Option<u32>) -> bool
+    ensures { result ≡ is_other_vendor number found }
+{
+    match found {
+        Some(other) => other != number,
+        None => false,
+    }
+}
+
+#[tactic(auto, unfolding(crate::specs::Vendors::vendor_numbered))]
+fn vendor_line<'a>(
+    vendors: &Vendors,
+    name: &'a [u8],
+    format: VendorFormat,
+    number: u64,
+) -> Result<Meaning<'a>, LineError>
+    requires { number ≤ MOST_NUMBER }
+    ensures { Means result (vendor_numbered vendors.now name.now format number) }
+{
+    let number = number as u32;
+    if is_other_vendor(number, vendors.vendor_named(name)) {
+        return Err(LineError::Refused(DictKind::OtherNumber));
+    }
+    Ok(Meaning::Vendor(name, number, format))
+}
+
+#[tactic(auto, unfolding(crate::specs::Vendors::vendor_line))]
+fn read_vendor_line<'a>(
+    vendors: &Vendors,
+    name: &'a [u8],
+    number: &[u8],
+    format: Option<VendorFormat>,
+) -> Result<Meaning<'a>, LineError>
+    ensures { Means result (vendor_line vendors.now name.now number.now format) }
+{
+    match format {
+        None => Err(LineError::Refused(DictKind::Unreadable)),
+        Some(format) => {
+            if !is_vendor_name(name) {
+                return Err(LineError::Refused(DictKind::Unreadable));
+            }
+            let number = number_up_to(MOST_NUMBER, number)?;
+            vendor_line(vendors, name, format, number)
+        }
+    }
+}
+
+fn two_parts(third: bool, t: Number, l: Number) -> Option<VendorFormat>
+    ensures { (m n : Option ℕ) → Reads t m → Reads l n → result ≡ two_parts third m n }
+{
+    match (t, l) {
+        (Number::Is(t), Number::Is(l)) => {
+            if (t == 1 || t == 2 || t == 4) && l <= 2 {
+                Some(VendorFormat {
+                    t: t as u8,
+                    l: l as u8,
+                    third,
+                })
+            } else {
+                None
+            }
+        }
+        _ => None,
+    }
+}
+
+fn format_parts(parts: &[&[u8]]) -> Option<VendorFormat>
+    ensures { result ≡ format_parts (views parts.now) }
+{
+    match parts {
+        [t, l] => two_parts(false, read_number(t), read_number(l)),
+        [t, l, _] => two_parts(true, read_number(t), read_number(l)),
+        _ => None,
+    }
+}
+
+fn format_after_key(alloc: Global, rest: &[u8]) -> Result<Option<VendorFormat>, AllocError>
+    ensures { IfOk result (λ format. format ≡ format_parts (slice_split is_comma rest.now)) }
+{
+    let parts = parts_between(alloc, b',', rest)?;
+    Ok(format_parts(&parts))
+}
+
+#[tactic(auto, unfolding(crate::specs::Vendors::format_word))]
+fn read_format(alloc: Global, word: &[u8]) -> Result<Option<VendorFormat>, AllocError>
+    ensures { IfOk result (λ format. format ≡ format_word word.now) }
+{
+    if word.len() < 7 {
+        return Ok(None);
+    }
+    let (key, rest) = word.split_at(7);
+    if !is_same_name(key, FORMAT_KEY) {
+        return Ok(None);
+    }
+    format_after_key(alloc, rest)
+}
+
+/// A VENDOR line after its keyword.
+#[tactic(auto, unfolding(crate::specs::Vendors::vendor))]
+pub fn read_vendor<'a>(
+    alloc: Global,
+    vendors: &Vendors,
+    words: &[&'a [u8]],
+) -> Result<Meaning<'a>, LineError>
+    ensures { Means result (vendor vendors.now (views words.now)) }
+{
+    match words {
+        [name, number] => read_vendor_line(vendors, name, number, Some(STANDARD_FORMAT)),
+        [name, number, format] => {
+            let format = read_format(alloc, format)?;
+            read_vendor_line(vendors, name, number, format)
+        }
+        _ => Err(LineError::Refused(DictKind::Unreadable)),
+    }
+}

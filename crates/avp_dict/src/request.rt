@@ -1,0 +1,5 @@
+//! Request lines.
+
+pub mod faults;
+pub mod lines;
+pub mod tokens;

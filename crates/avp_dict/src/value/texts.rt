@@ -1,0 +1,278 @@
+//! Texts of values.
+
+ghost use Rattle.std.specs.Prelude.{◌≡◌, ◌∷◌, IfOk, ℕ, Option, Result, Ok, Err, pos};
+ghost use Rattle.std.specs.List.{slice_split};
+ghost use Rattle.std.specs.Option.{option_map};
+ghost use Rattle.avp_dict.specs.Letters.{is_dot};
+ghost use Rattle.avp_dict.specs.Sent.{is_container};
+ghost use Rattle.avp_dict.specs.Spellings.{address_spelled, bytes_spelled, decimal_octet, digit_pair, ether_spelled, is_barred, AnswersValue, is_colon, negated, number_spelled, octets_spelled, signed_spelled, spelled, spelled_by, up_to, value_spelled};
+ghost use Rattle.avp_dict.specs.Vendors.{vendor};
+ghost use Rattle.avp_dict.specs.Words.{digits};
+ghost use Rattle.avp_dict.specs.code.Numbers.{Reads};
+
+use crate::attribute_numbers::{VENDOR_SPECIFIC, is_extended_type};
+use crate::dictionaries::Dictionary;
+use crate::entries::{Kind, Named, Typing};
+use crate::file::numbers::{Number, digits_of, read_number};
+use crate::file::parts::first_between;
+use crate::octets::copy_of;
+use crate::value::faults::ValueFault;
+use avp_lists::{AttrId, Octets, Value};
+use hex::FromHexError;
+use std::alloc::{AllocError, Global};
+
+// The octets that `0x` and hexadecimal digits stand for.
+#[tactic(auto, unfolding(crate::specs::Spellings::octets_spelled))]
+fn octets_of_text(alloc: Global, text: &[u8]) -> Result<Option<Octets>, AllocError>
+    ensures { IfOk result (λ octets. octets ≡ octets_spelled text.now) }
+{
+    match text {
+        [b'0', b'x', digits @ ..] => match hex::decode(alloc, digits) {
+            Ok(octets) => Ok(Some(Octets::from_vec(octets))),
+            Err(FromHexError::OutOfMemory) => Err(AllocError),
+            Err(_) => Ok(None),
+        },
+        _ => Ok(None),
+    }
+}
+
+// The octets of a text, and those of `0x` and hexadecimal digits.
+#[tactic(auto, unfolding(crate::specs::Spellings::bytes_spelled))]
+fn bytes_of_text(alloc: Global, by_text: bool, text: &[u8]) -> Result<Option<Octets>, AllocError>
+    ensures { IfOk result (λ octets. octets ≡ bytes_spelled by_text text.now) }
+{
+    match text {
+        [b'0', b'x', ..] => octets_of_text(alloc, text),
+        _ => {
+            if by_text {
+                Ok(Some(copy_of(alloc, text)?))
+            } else {
+                octets_of_text(alloc, text)
+            }
+        }
+    }
+}
+
+/// Whether the attribute only holds others (RFC 2865, section 5.26; RFC 6929, section 2).
+pub fn is_container(id: AttrId) -> bool
+    ensures { result ≡ is_container id }
+{
+    match id {
+        AttrId::Plain(number) => number == VENDOR_SPECIFIC || is_extended_type(u64::from(number)),
+        _ => false,
+    }
+}
+
+impl Number {
+    // The number, if it isn't above the greatest one.
+    fn up_to(self, most: u64) -> Option<u64>
+        ensures { (number : Option ℕ) → Reads self number → result ≡ up_to most number }
+    {
+        match self {
+            Number::Unreadable => None,
+            Number::TooGreat => None,
+            Number::Is(number) => { if number <= most { Some(number) } else { None } }
+        }
+    }
+}
+
+fn positive(text: &[u8]) -> Option<i32>
+    ensures { result ≡ option_map pos (up_to 2147483647 (digits 10 text.now)) }
+{
+    match digits_of(10, text).up_to(2_147_483_647) {
+        Some(number) => Some(number as i32),
+        None => None,
+    }
+}
+
+fn negative(text: &[u8]) -> Option<i32>
+    ensures { result ≡ option_map negated (up_to 2147483648 (digits 10 text.now)) }
+{
+    match digits_of(10, text).up_to(2_147_483_648) {
+        Some(number) => Some(-(number as i64) as i32),
+        None => None,
+    }
+}
+
+#[tactic(auto, unfolding(crate::specs::Spellings::signed_spelled))]
+fn signed_of_text(text: &[u8]) -> Option<i32>
+    ensures { result ≡ signed_spelled text.now }
+{
+    match text {
+        [b'-', digits @ ..] => negative(digits),
+        _ => positive(text),
+    }
+}
+
+#[tactic(auto, unfolding(crate::specs::Spellings::decimal_octet))]
+fn decimal_octet(part: &[u8]) -> Option<u8>
+    ensures { result ≡ decimal_octet part.now }
+{
+    if part.len() > 3 {
+        return None;
+    }
+    match digits_of(10, part).up_to(255) {
+        Some(number) => Some(number as u8),
+        None => None,
+    }
+}
+
+#[tactic(auto, using(crate::proofs::Spelling::two_digits), unfolding(crate::specs::Spellings::digit_pair))]
+fn digit_pair(part: &[u8]) -> Option<u8>
+    ensures { result ≡ digit_pair part.now }
+{
+    if part.len() != 2 {
+        return None;
+    }
+    match digits_of(16, part).up_to(255) {
+        Some(number) => Some(number as u8),
+        None => None,
+    }
+}
+
+#[tactic(auto, unfolding(crate::specs::Spellings::each_number))]
+fn address_of_text(text: &[u8]) -> Option<[u8; 4]>
+    ensures { result ≡ address_spelled text.now }
+{
+    let (a, rest) = first_between(b'.', text)?;
+    let (b, rest) = first_between(b'.', rest)?;
+    let (c, d) = first_between(b'.', rest)?;
+    match first_between(b'.', d) {
+        Some(_) => None,
+        None => Some([
+            decimal_octet(a)?,
+            decimal_octet(b)?,
+            decimal_octet(c)?,
+            decimal_octet(d)?,
+        ]),
+    }
+}
+
+#[tactic(auto, unfolding(crate::specs::Spellings::each_number))]
+fn ether_of_text(text: &[u8]) -> Option<[u8; 6]>
+    ensures { result ≡ ether_spelled text.now }
+{
+    let (a, rest) = first_between(b':', text)?;
+    let (b, rest) = first_between(b':', rest)?;
+    let (c, rest) = first_between(b':', rest)?;
+    let (d, rest) = first_between(b':', rest)?;
+    let (e, f) = first_between(b':', rest)?;
+    match first_between(b':', f) {
+        Some(_) => None,
+        None => Some([
+            digit_pair(a)?,
+            digit_pair(b)?,
+            digit_pair(c)?,
+            digit_pair(d)?,
+            digit_pair(e)?,
+            digit_pair(f)?,
+        ]),
+    }
+}
+
+impl Dictionary {
+    // A number, or the name of one.
+    #[tactic(auto, unfolding(crate::specs::Spellings::number_spelled))]
+    fn number_of_text(&self, most: u64, id: AttrId, text: &[u8]) -> Option<u64>
+        ensures { result ≡ number_spelled most id text.now self.now }
+    {
+        match read_number(text) {
+            Number::Unreadable => match self.value_number(id, text) {
+                Some(number) => Number::Is(number).up_to(most),
+                None => None,
+            },
+            number => number.up_to(most),
+        }
+    }
+
+    // The number that a text stands for, as a value.
+    fn number_value(&self, most: u64, id: AttrId, text: &[u8]) -> Option<Value>
+        ensures { result ≡ option_map Value.Int (number_spelled most id text.now self.now) }
+    {
+        match self.number_of_text(most, id, text) {
+            Some(number) => Some(Value::Int(number)),
+            None => None,
+        }
+    }
+
+    fn value_by_typing(
+        &self,
+        alloc: Global,
+        typing: Typing,
+        id: AttrId,
+        text: &[u8],
+    ) -> Result<Option<Value>, AllocError>
+        ensures { IfOk result (λ value. value ≡ spelled_by id text.now self.now typing) }
+    {
+        match typing.kind {
+            Kind::Text => Ok(Some(Value::Text(copy_of(alloc, text)?))),
+            Kind::Bytes => Ok(bytes_of_text(alloc, typing.by_text, text)?.map(Value::Bytes)),
+            Kind::Addr => Ok(address_of_text(text).map(Value::Addr)),
+            Kind::Ether => Ok(ether_of_text(text).map(Value::Ether)),
+            Kind::Byte => Ok(self.number_value(255, id, text)),
+            Kind::Short => Ok(self.number_value(65_535, id, text)),
+            Kind::Integer => Ok(self.number_value(4_294_967_295, id, text)),
+            Kind::Integer64 => Ok(self.number_value(18_446_744_073_709_551_615, id, text)),
+            Kind::Date => Ok(read_number(text).up_to(4_294_967_295).map(Value::Int)),
+            Kind::Signed => Ok(signed_of_text(text).map(Value::Signed)),
+        }
+    }
+
+    // The value of a text, its length aside.
+    #[tactic(auto, unfolding(crate::specs::Spellings::spelled))]
+    fn spelled_value(
+        &self,
+        alloc: Global,
+        name: Named,
+        text: &[u8],
+    ) -> Result<Option<Value>, AllocError>
+        ensures { IfOk result (λ value. value ≡ spelled name text.now self.now) }
+    {
+        if name.raw {
+            match octets_of_text(alloc, text)? {
+                Some(octets) => Ok(Some(self.value_of_bytes(alloc, name.id, octets.as_slice())?)),
+                None => Ok(None),
+            }
+        } else {
+            match self.typing(name.id) {
+                Some(typing) => self.value_by_typing(alloc, typing, name.id, text),
+                None => Ok(None),
+            }
+        }
+    }
+
+    /// Whether no value may be written under this name.
+    pub fn is_barred(&self, name: Named) -> bool
+        ensures { result ≡ is_barred name self.now }
+    {
+        is_container(name.id) || (name.raw && self.is_hidden(name.id))
+    }
+
+    /// The value that a text stands for under a name. Whether the name may be written is asked first, then whether the
+    /// text is a value, then its length. The pair fits where the name is what [`by_name`](Dictionary::by_name) gave
+    /// (see [`spelled_pairs_fit`](Dictionary::spelled_pairs_fit)).
+    #[tactic(auto, unfolding(crate::specs::Spellings::value_spelled))]
+    pub fn value_of_text(
+        &self,
+        alloc: Global,
+        named: Named,
+        text: &[u8],
+    ) -> Result<Value, ValueFault>
+        ensures answers { AnswersValue result (value_spelled named text.now self.now) }
+        ensures only { IfOk result (λ value. (other : Value) → value_spelled named text.now self.now ≡ Ok other → other ≡ value) }
+    {
+        if self.is_barred(named) {
+            return Err(ValueFault::NotWritable);
+        }
+        match self.spelled_value(alloc, named, text)? {
+            Some(value) => {
+                if self.is_within(named.id, &value) {
+                    Ok(value)
+                } else {
+                    Err(ValueFault::TooLong)
+                }
+            }
+            None => Err(ValueFault::NotValue),
+        }
+    }
+}
