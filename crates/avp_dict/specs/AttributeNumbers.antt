@@ -5,9 +5,17 @@ use Rattle.std.specs.Prelude.{ℕ, Bool, ◌&&◌, nat_le}
 abbrev pub most_plain : ℕ
 most_plain = 255
 
--- the greatest number of an attribute and of a vendor
+-- the greatest number of an attribute and of a vendor: 32 bits
 abbrev pub greatest_number : ℕ
 greatest_number = 4294967295
+
+-- the greatest number of a VALUE line: 64 bits
+abbrev pub greatest_value : ℕ
+greatest_value = 18446744073709551615
+
+-- the greatest signed number: 32 bits
+abbrev pub greatest_signed : ℕ
+greatest_signed = 2147483647
 
 -- Vendor-Specific (RFC 2865, section 5.26)
 abbrev pub vendor_specific : ℕ

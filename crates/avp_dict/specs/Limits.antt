@@ -10,7 +10,7 @@ use Rattle.avp_lists.specs.declared.attributes.Pair.{Pair}
 use Rattle.avp_dict.specs.declared.entries.Format.{Format}
 use Rattle.avp_dict.specs.declared.entries.Kind.{Kind}
 use Rattle.avp_dict.specs.declared.entries.Kind.TheVariants as kinds
-use Rattle.avp_dict.specs.AttributeNumbers.{is_extended_type, most_plain}
+use Rattle.avp_dict.specs.AttributeNumbers.{greatest_number, is_extended_type, most_plain}
 use Rattle.avp_dict.specs.Dictionary.{Dictionary}
 use Rattle.avp_dict.specs.Names.{vendor_format}
 use Rattle.avp_dict.specs.Octets.{kind_of, is_hidden, most_hidden, octets, ends_in_nul}
@@ -47,7 +47,7 @@ is_known (ids.Extended t n) dictionary = is_extended_type t
 
 -- the greatest number of a type
 abbrev pub most_number : Kind → Option ℕ
-most_number kinds.Date = Some 4294967295
+most_number kinds.Date = Some greatest_number
 most_number kind = most_of kind
 
 -- a value of the type

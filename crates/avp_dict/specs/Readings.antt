@@ -8,6 +8,7 @@ use Rattle.avp_dict.specs.Meanings.{Meaning, Nothing, Skipped, SkippedAttribute,
 use Rattle.avp_dict.specs.Lines.{Line, is_include, file_included, most_depth}
 use Rattle.avp_dict.specs.Words.{words_of, same_name}
 use Rattle.avp_dict.specs.Steps.{◌>>=◌, refused_at}
+use Rattle.avp_dict.specs.AttributeNumbers.{greatest_value}
 use Rattle.avp_dict.specs.Blocks.{is_skipping, block_vendor, begin_vendor, end_vendor, begin_tlv, end_tlv}
 use Rattle.avp_dict.specs.Vendors.{bounded, vendor}
 use Rattle.avp_dict.specs.Attributes.{attribute}
@@ -26,7 +27,7 @@ include found depth head _ = Err Unreadable
 -- ---- VALUE lines, whose names are resolved after the last line
 
 abbrev pub value_words : List ℕ → List ℕ → List ℕ → Result Meaning DictKind
-value_words attribute name number = bounded 18446744073709551615 number >>= λ n. Ok (Value attribute name n)
+value_words attribute name number = bounded greatest_value number >>= λ n. Ok (Value attribute name n)
 
 unfoldable pub value : List (List ℕ) → Result Meaning DictKind
 value (attribute ∷ name ∷ number ∷ []) = value_words attribute name number

@@ -1,5 +1,5 @@
 -- Which value a text stands for under a name.
-use Rattle.std.specs.Prelude.{◌≡◌, ℕ, pos, neg_ℤ, ℤ, Bool, not, ◌&&◌, ◌||◌, ◌==◌, nat_le, if◌then◌else◌, List, [], ◌∷◌, drop, length, slice_index, Option, Some, None, Result, Ok, Err}
+use Rattle.std.specs.Prelude.{◌≡◌, ℕ, ◌+◌, pos, neg_ℤ, ℤ, Bool, not, ◌&&◌, ◌||◌, ◌==◌, nat_le, if◌then◌else◌, List, [], ◌∷◌, drop, length, slice_index, Option, Some, None, Result, Ok, Err}
 use Rattle.std.specs.Option.{option_and_then, option_map, option_or}
 use Rattle.std.specs.Result.{result_ok}
 use Rattle.std.specs.List.{slice_split}
@@ -11,6 +11,7 @@ use Rattle.avp_lists.specs.declared.attributes.Value.TheVariants as values
 use Rattle.avp_dict.specs.declared.entries.Named.{Named}
 use Rattle.avp_dict.specs.declared.entries.Kind.{Kind}
 use Rattle.avp_dict.specs.declared.entries.Kind.TheVariants as kinds
+use Rattle.avp_dict.specs.AttributeNumbers.{greatest_number, greatest_signed, greatest_value}
 use Rattle.avp_dict.specs.Dictionary.{Dictionary, number_named, typing_of_id}
 use Rattle.avp_dict.specs.declared.entries.Typing.{Typing}
 use Rattle.avp_dict.specs.declared.value.faults.ValueFault.{ValueFault}
@@ -51,8 +52,8 @@ is_negative text = slice_index text 0 == 45
 
 -- decimal digits, or '-' and decimal digits, of a number of 32 bits
 unfoldable pub signed_spelled : List ℕ → Option ℤ
-signed_spelled text = if is_negative text then option_map negated (up_to 2147483648 (digits 10 (drop 1 text)))
-    else option_map pos (up_to 2147483647 (digits 10 text))
+signed_spelled text = if is_negative text then option_map negated (up_to (greatest_signed + 1) (digits 10 (drop 1 text)))
+    else option_map pos (up_to greatest_signed (digits 10 text))
 
 -- ---- addresses
 
@@ -94,9 +95,9 @@ spelled_as kinds.Addr by_text id text dictionary = option_map Addr (address_spel
 spelled_as kinds.Ether by_text id text dictionary = option_map Ether (ether_spelled text)
 spelled_as kinds.Byte by_text id text dictionary = option_map Int (number_spelled 255 id text dictionary)
 spelled_as kinds.Short by_text id text dictionary = option_map Int (number_spelled 65535 id text dictionary)
-spelled_as kinds.Integer by_text id text dictionary = option_map Int (number_spelled 4294967295 id text dictionary)
-spelled_as kinds.Integer64 by_text id text dictionary = option_map Int (number_spelled 18446744073709551615 id text dictionary)
-spelled_as kinds.Date by_text id text dictionary = option_map Int (up_to 4294967295 (number_of text))
+spelled_as kinds.Integer by_text id text dictionary = option_map Int (number_spelled greatest_number id text dictionary)
+spelled_as kinds.Integer64 by_text id text dictionary = option_map Int (number_spelled greatest_value id text dictionary)
+spelled_as kinds.Date by_text id text dictionary = option_map Int (up_to greatest_number (number_of text))
 spelled_as kinds.Signed by_text id text dictionary = option_map Signed (signed_spelled text)
 
 abbrev pub spelled_by : AttrId → List ℕ → Dictionary → Typing → Option Value

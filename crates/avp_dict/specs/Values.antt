@@ -12,6 +12,7 @@ use Rattle.avp_dict.specs.declared.entries.VendorLine.{VendorLine}
 use Rattle.avp_dict.specs.declared.faults.DictKind.{DictKind}
 use Rattle.avp_dict.specs.declared.faults.DictKind.TheVariants.{OutOfRange, NoAttribute, OtherValue}
 use Rattle.avp_dict.specs.declared.faults.DictFault.{DictFault}
+use Rattle.avp_dict.specs.AttributeNumbers.{greatest_number, greatest_value}
 use Rattle.avp_dict.specs.Dictionary.{Dictionary, id_named, number_named, typing_of_id}
 use Rattle.avp_dict.specs.Letters.{is_word_octet, most_name}
 use Rattle.avp_dict.specs.Meanings.{Meaning, Skipped, SkippedAttribute, Attribute, Value, BeginVendor, BeginTlv, End, Reading}
@@ -37,8 +38,8 @@ is_value_name name = list_all is_word_octet name && nat_le (length name) most_na
 abbrev pub most_of : Kind → Option ℕ
 most_of Byte = Some 255
 most_of Short = Some 65535
-most_of Integer = Some 4294967295
-most_of Integer64 = Some 18446744073709551615
+most_of Integer = Some greatest_number
+most_of Integer64 = Some greatest_value
 most_of _ = None
 
 abbrev pub most_of_typing : Typing → Option ℕ

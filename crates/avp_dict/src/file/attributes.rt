@@ -29,7 +29,7 @@ fn most_in(octets: u8) -> u64
 {
     match octets {
         1 => 255,
-        2 => 65_535,
+        2 => u16::MAX as u64,
         _ => MOST_NUMBER,
     }
 }

@@ -10,9 +10,9 @@ ghost use Rattle.avp_dict.specs.code.Outcomes.{Gives};
 use crate::faults::{DictKind, LineError};
 
 /// The greatest number of an attribute and of a vendor.
-pub const MOST_NUMBER: u64 = 4_294_967_295;
+pub const MOST_NUMBER: u64 = u32::MAX as u64;
 /// The greatest number of a VALUE line.
-pub const MOST_VALUE: u64 = 18_446_744_073_709_551_615;
+pub const MOST_VALUE: u64 = u64::MAX;
 
 /// What a word is, read as a number.
 #[derive(Clone, Copy, Debug, PartialEq, Eq)]

@@ -74,9 +74,9 @@ pub fn most_of(kind: Kind) -> Option<u64>
 {
     match kind {
         Kind::Byte => Some(255),
-        Kind::Short => Some(65_535),
-        Kind::Integer => Some(4_294_967_295),
-        Kind::Integer64 => Some(18_446_744_073_709_551_615),
+        Kind::Short => Some(u16::MAX as u64),
+        Kind::Integer => Some(u32::MAX as u64),
+        Kind::Integer64 => Some(u64::MAX),
         _ => None,
     }
 }

@@ -38,7 +38,7 @@ fn most_number(kind: Kind) -> Option<u64>
     ensures { result ≡ most_number kind }
 {
     match kind {
-        Kind::Date => Some(4_294_967_295),
+        Kind::Date => Some(u32::MAX as u64),
         other => most_of(other),
     }
 }

@@ -1,8 +1,9 @@
 //! Texts of values.
 
-ghost use Rattle.std.specs.Prelude.{◌≡◌, ◌∷◌, IfOk, ℕ, Option, Result, Ok, Err, pos};
+ghost use Rattle.std.specs.Prelude.{◌≡◌, ◌+◌, ◌∷◌, IfOk, ℕ, Option, Result, Ok, Err, pos};
 ghost use Rattle.std.specs.List.{slice_split};
 ghost use Rattle.std.specs.Option.{option_map};
+ghost use Rattle.avp_dict.specs.AttributeNumbers.{greatest_signed};
 ghost use Rattle.avp_dict.specs.Letters.{is_dot};
 ghost use Rattle.avp_dict.specs.Sent.{is_container};
 ghost use Rattle.avp_dict.specs.Spellings.{address_spelled, bytes_spelled, decimal_octet, digit_pair, ether_spelled, is_barred, AnswersValue, is_colon, negated, number_spelled, octets_spelled, signed_spelled, spelled, spelled_by, up_to, value_spelled};
@@ -77,18 +78,18 @@ impl Number {
 }
 
 fn positive(text: &[u8]) -> Option<i32>
-    ensures { result ≡ option_map pos (up_to 2147483647 (digits 10 text.now)) }
+    ensures { result ≡ option_map pos (up_to greatest_signed (digits 10 text.now)) }
 {
-    match digits_of(10, text).up_to(2_147_483_647) {
+    match digits_of(10, text).up_to(i32::MAX as u64) {
         Some(number) => Some(number as i32),
         None => None,
     }
 }
 
 fn negative(text: &[u8]) -> Option<i32>
-    ensures { result ≡ option_map negated (up_to 2147483648 (digits 10 text.now)) }
+    ensures { result ≡ option_map negated (up_to (greatest_signed + 1) (digits 10 text.now)) }
 {
-    match digits_of(10, text).up_to(2_147_483_648) {
+    match digits_of(10, text).up_to(i32::MAX as u64 + 1) {
         Some(number) => Some(-(number as i64) as i32),
         None => None,
     }
@@ -210,10 +211,10 @@ impl Dictionary {
             Kind::Addr => Ok(address_of_text(text).map(Value::Addr)),
             Kind::Ether => Ok(ether_of_text(text).map(Value::Ether)),
             Kind::Byte => Ok(self.number_value(255, id, text)),
-            Kind::Short => Ok(self.number_value(65_535, id, text)),
-            Kind::Integer => Ok(self.number_value(4_294_967_295, id, text)),
-            Kind::Integer64 => Ok(self.number_value(18_446_744_073_709_551_615, id, text)),
-            Kind::Date => Ok(read_number(text).up_to(4_294_967_295).map(Value::Int)),
+            Kind::Short => Ok(self.number_value(u16::MAX as u64, id, text)),
+            Kind::Integer => Ok(self.number_value(u32::MAX as u64, id, text)),
+            Kind::Integer64 => Ok(self.number_value(u64::MAX, id, text)),
+            Kind::Date => Ok(read_number(text).up_to(u32::MAX as u64).map(Value::Int)),
             Kind::Signed => Ok(signed_of_text(text).map(Value::Signed)),
         }
     }
