@@ -22,12 +22,7 @@ pub id_eq_sym : (a b : AttrId) → id_eq a b ≡ id_eq b a
 id_eq_sym (Plain a) (Plain b) = eqb_sym a b
 id_eq_sym (Vendor a x) (Vendor b y) = ap₂ (λ b c. b && c) (eqb_sym a b) (eqb_sym x y)
 id_eq_sym (Extended a x) (Extended b y) = ap₂ (λ b c. b && c) (eqb_sym a b) (eqb_sym x y)
-id_eq_sym (Plain a) (Vendor b y) = refl
-id_eq_sym (Plain a) (Extended b y) = refl
-id_eq_sym (Vendor a x) (Plain b) = refl
-id_eq_sym (Vendor a x) (Extended b y) = refl
-id_eq_sym (Extended a x) (Plain b) = refl
-id_eq_sym (Extended a x) (Vendor b y) = refl
+id_eq_sym _ _ = refl
 
 pub other_id_sym : (n m : List ℕ) (i j : AttrId) → (same_name m n && not (id_eq j i)) ≡ false → (same_name n m && not (id_eq i j)) ≡ false
 other_id_sym n m i j h = rw (same_name_sym n m, id_eq_sym i j) h

@@ -3,7 +3,7 @@ use Rattle.std.proofs.Common.{◌≡◌, ◌∙◌, ℕ, Bool, true, false, not,
 use Rattle.std.specs.List.{All}
 use Rattle.std.specs.Str.{bytes_eq}
 use Rattle.std.specs.Cmp.Lexicographic.{bytes_decides}
-use Rattle.std.proofs.lemmas.Bool.{and_parts}
+use Rattle.std.proofs.lemmas.Bool.{and_left, and_parts, not-false}
 use Rattle.avp_lists.specs.declared.attributes.AttrId.{AttrId}
 use Rattle.avp_lists.specs.Pairs.{id_eq}
 use Rattle.avp_lists.proofs.Equality.{same_id}
@@ -24,24 +24,16 @@ folds_alike a b h = (bytes_decides (map lower a) (map lower b)).0 (sym (same_fol
 pub same_as : (a b name : List ℕ) → same_name a b ≡ true → same_name name a ≡ same_name name b
 same_as a b name h = same_folded name a ∙ (ap (bytes_eq (map lower name)) (folds_alike a b h) ∙ sym (same_folded name b))
 
-none_other : (b c : Bool) → b ≡ false → (b && c) ≡ false
-none_other true c h = absurd (cc)
-none_other false c h = refl
-
-agrees : (b : Bool) → not b ≡ false → b ≡ true
-agrees true h = refl
-agrees false h = absurd (cc)
-
 -- ---- ATTRIBUTE lines
 
 abbrev pub AreAloneNames : List AttributeLine → Type 0
 AreAloneNames lines = All (λ a. All (λ b. names_other_id a.name a.id b ≡ false) lines) lines
 
 alone_id : (lines : List AttributeLine) (name : List ℕ) (id : AttrId) → AreAloneNames lines → (found : Option AttributeLine) → last_where (is_attribute_named name) lines ≡ found → is_of_other_id id (option_map id_of_line found) ≡ false → All (λ b. names_other_id name id b ≡ false) lines
-alone_id lines name id are None at h = λ k d lt. none_other (is_attribute_named name (get_or lines k d)) _ (last_none (is_attribute_named name) lines at k d lt)
+alone_id lines name id are None at h = λ k d lt. and_left (is_attribute_named name (get_or lines k d)) _ (last_none (is_attribute_named name) lines at k d lt)
 alone_id lines name id are (Some a) at h =
     let held = last_holds (λ (b : AttributeLine). All (λ c. names_other_id b.name b.id c ≡ false) lines) (is_attribute_named name) lines a are at in
-    let same : a.id ≡ id = same_id a.id id (agrees (id_eq a.id id) h) in
+    let same : a.id ≡ id = same_id a.id id (not-false (id_eq a.id id) h) in
     λ k d lt. ap (λ c. c && not (id_eq (get_or lines k d).id id)) (sym (same_as a.name name (get_or lines k d).name held.1)) ∙ (ap (λ i. is_attribute_named a.name (get_or lines k d) && not (id_eq (get_or lines k d).id i)) (sym same) ∙ held.0 k d lt)
 
 -- a name that stands for no other id is given to no other id
@@ -55,12 +47,12 @@ abbrev pub AreAloneValues : List ValueLine → Type 0
 AreAloneValues lines = All (λ v. All (λ w. names_other_value v.id v.name v.number w ≡ false) lines) lines
 
 alone_number : (lines : List ValueLine) (id : AttrId) (name : List ℕ) (number : ℕ) → AreAloneValues lines → (found : Option ValueLine) → last_where (is_value_named id name) lines ≡ found → is_of_other_number number (option_map number_of_line found) ≡ false → All (λ w. names_other_value id name number w ≡ false) lines
-alone_number lines id name number are None at h = λ k d lt. none_other (is_value_named id name (get_or lines k d)) _ (last_none (is_value_named id name) lines at k d lt)
+alone_number lines id name number are None at h = λ k d lt. and_left (is_value_named id name (get_or lines k d)) _ (last_none (is_value_named id name) lines at k d lt)
 alone_number lines id name number are (Some v) at h =
     let held = last_holds (λ (w : ValueLine). All (λ x. names_other_value w.id w.name w.number x ≡ false) lines) (is_value_named id name) lines v are at in
     let parts = and_parts (id_eq v.id id) (same_name v.name name) held.1 in
     let same : v.id ≡ id = same_id v.id id parts.0 in
-    let equal : (v.number == number) ≡ true = agrees (v.number == number) h in
+    let equal : (v.number == number) ≡ true = not-false (v.number == number) h in
     let count : v.number ≡ number = grind (arith, equal) in
     λ k d lt.
     ap (λ c. (id_eq (get_or lines k d).id id && c) && not ((get_or lines k d).number == number)) (sym (same_as v.name name (get_or lines k d).name parts.1))

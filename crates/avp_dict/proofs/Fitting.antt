@@ -1,13 +1,13 @@
 -- The pairs of a request fit the dictionary.
 use Rattle.std.proofs.Common.{◌≡◌, ℕ, ◌+◌, ◌-◌, ◌^◌, ◌<◌, ◌≤◌, suc, Bool, true, false, not, ◌&&◌, cond, List, [], ◌∷◌, Option, None, Some, Result, Ok, Err, length, get_or, refl, ◌∙◌, subst, arith, lit≤}
-use Rattle.std.specs.Prelude.{◌==◌, nat_le, IfSome, All, drop, reverse}
+use Rattle.std.specs.Prelude.{◌==◌, nat_le, IfSome, All, drop}
 use Rattle.std.specs.Int.Digits.{AllBelowBase, number_from_digits}
-use Rattle.std.specs.List.{find, list_all, slice_split}
+use Rattle.std.specs.List.{list_all, slice_split}
 use Rattle.std.specs.Option.{option_and_then, option_map, option_or, unwrap_or}
 use Rattle.std.specs.Result.{result_ok}
+use Rattle.std.proofs.lemmas.Bool.{and_parts, cond_both}
 use Rattle.std.proofs.lemmas.Grind.{common_steps}
 use Rattle.std.proofs.lemmas.Int.Digits.{number_lt}
-use Rattle.std.proofs.lemmas.List.{get_or-reverse, length-reverse}
 use Rattle.std.proofs.lemmas.List.Sums.{AllPass-from_list_all}
 use Rattle.hex.specs.Hex.{IsBytes, decode_of}
 use Rattle.hex.specs.declared.error.FromHexError.{FromHexError}
@@ -22,7 +22,10 @@ use Rattle.avp_dict.specs.declared.entries.Named.{Named}
 use Rattle.avp_dict.specs.declared.entries.Kind.{Kind}
 use Rattle.avp_dict.specs.declared.entries.Kind.TheVariants as kinds
 use Rattle.avp_dict.specs.declared.entries.Typing.{Typing}
+use Rattle.avp_dict.specs.declared.value.faults.ValueFault.{ValueFault}
 use Rattle.avp_dict.specs.declared.value.faults.ValueFault.TheVariants.{NotWritable, TooLong}
+use Rattle.avp_dict.proofs.Found.{last_holds}
+use Rattle.avp_dict.specs.AttributeNumbers.{greatest_number, greatest_value}
 use Rattle.avp_dict.specs.Attributes.{is_extended}
 use Rattle.avp_dict.specs.declared.entries.Format.{Format}
 use Rattle.avp_dict.specs.declared.entries.AttributeLine.{AttributeLine}
@@ -50,17 +53,14 @@ pub then_holds : {X Y : Type 0} (P : Y → Type 0) (f : X → Option Y) → ((x 
 then_holds P f h None = tt
 then_holds P f h (Some x) = h x
 
+-- the same of a value of which something holds
+pub then_keeps : {X Y : Type 0} (P : X → Type 0) (Q : Y → Type 0) (f : X → Option Y) → ((x : X) → P x → IfSome (f x) Q) → (o : Option X) → IfSome o P → IfSome (option_and_then f o) Q
+then_keeps P Q f h None is = tt
+then_keeps P Q f h (Some x) is = h x is
+
 pub mapped_holds : {X Y : Type 0} (P : Y → Type 0) (f : X → Y) (o : Option X) → IfSome o (λ x. P (f x)) → IfSome (option_map f o) P
 mapped_holds P f None h = tt
 mapped_holds P f (Some x) h = h
-
-and_left : (a b : Bool) → (a && b) ≡ true → a ≡ true
-and_left true b h = refl
-and_left false b h = h
-
-and_right : (a b : Bool) → (a && b) ≡ true → b ≡ true
-and_right true b h = h
-and_right false b h = cc
 
 pub always : {X : Type 0} (P : X → Type 0) → ((x : X) → P x) → (o : Option X) → IfSome o P
 always P h None = tt
@@ -70,40 +70,51 @@ pub weaker : {X : Type 0} (P Q : X → Type 0) → ((x : X) → P x → Q x) →
 weaker P Q f None h = tt
 weaker P Q f (Some x) h = f x h
 
+-- ---- requests
+
+-- a test that each pair passes that is spelled is one that the pairs of a request pass
+module _ (d : Dictionary) (test : Pair → Bool) (passes : (a : Assignment) → IfSome (pair_spelled d a) (λ p. test p ≡ true)) where
+  abbrev ArePassing : List Pair → Type 0
+  ArePassing pairs = list_all test pairs ≡ true
+
+  first_passes : (pair : Option Pair) (pairs : Option (List Pair)) → IfSome pair (λ p. test p ≡ true) → IfSome pairs ArePassing → IfSome (joined (option_map (λ p. p ∷ []) pair) pairs) ArePassing
+  first_passes (Some pair) (Some pairs) h rest = rw (h, rest)
+  first_passes _ _ h rest = tt
+
+  pairs_pass : (as_ : List Assignment) → IfSome (pairs_spelled d as_) ArePassing
+  unfolding pairs_spelled
+  pairs_pass [] = refl
+  pairs_pass (a ∷ as_) = first_passes (pair_spelled d a) (pairs_spelled d as_) (passes a) (pairs_pass as_)
+
+  few_pass : (pairs : List Pair) → ArePassing pairs → IfSome (few_enough pairs) ArePassing
+  few_pass pairs h = cond_both (nat_le (length pairs) most_pairs) _ _ (λ o. IfSome o ArePassing) (λ few. h) (λ many. tt)
+
+  pub request_passes : (text : List ℕ) (pairs : List Pair) → request_spelled text d ≡ Some pairs → list_all test pairs ≡ true
+  unfolding request_spelled
+  request_passes text pairs e =
+      let P : Option (List Pair) → Type 0 = λ o. IfSome o ArePassing in
+      let assigned = then_holds ArePassing (pairs_spelled d) pairs_pass (assignments_of text) in
+      subst P e (then_keeps ArePassing ArePassing few_enough few_pass (option_and_then (pairs_spelled d) (assignments_of text)) assigned)
+
 -- ---- lines
 
-found_by : {X : Type 0} (P : X → Type 0) (x : X) (rest : Option X) (b : Bool) → P x → IfSome rest P → IfSome (cond b (Some x) rest) P
-found_by P x rest true h others = h
-found_by P x rest false h others = others
-
-found_holds : {X : Type 0} (P : X → Type 0) (test : X → Bool) (xs : List X) → ((k : ℕ) (d : X) → k < length xs → P (get_or xs k d)) → IfSome (find test xs) P
-found_holds P test [] h = tt
-found_holds P test (x ∷ xs) h = found_by P x (find test xs) (test x) (h 0 x (omega arith)) (found_holds P test xs (λ k d lt. h (suc k) d (omega arith)))
-
-last_holds : {X : Type 0} (P : X → Type 0) (test : X → Bool) (lines : List X) → All P lines → IfSome (last_where test lines) P
-last_holds P test lines h =
-    found_holds P test (reverse lines) (λ k d lt.
-    let within : k < length lines = omega (arith, length-reverse lines) in
-    rw (get_or-reverse lines k d within) (h (length lines - 1 - k) d (omega arith)))
+last_keeps : {X : Type 0} (P : X → Type 0) (test : X → Bool) (lines : List X) → All P lines → IfSome (last_where test lines) P
+last_keeps {X} P test lines h = go (last_where test lines) refl
+  where
+    go : (found : Option X) → last_where test lines ≡ found → IfSome found P
+    go None e = tt
+    go (Some x) e = (last_holds P test lines x h e).0
 
 -- the formats of vendors that are read are those that there are
 module _ (d : Dictionary) where
   two_parts_of : (f : VendorFormat) → is_format f.t f.l ≡ true → IfSome (unless_three f) (λ g. is_format g.t g.l ≡ true)
-  two_parts_of f h = by_third f.third
-    where
-      by_third : (b : Bool) → IfSome (cond b None (Some (record { t = f.t; l = f.l }))) (λ (g : Format). is_format g.t g.l ≡ true)
-      by_third true = tt
-      by_third false = h
-
-  then_two : (o : Option VendorFormat) → IfSome o (λ f. is_format f.t f.l ≡ true) → IfSome (option_and_then unless_three o) (λ f. is_format f.t f.l ≡ true)
-  then_two None h = tt
-  then_two (Some f) h = two_parts_of f h
+  two_parts_of f h = cond_both f.third _ _ (λ (o : Option Format). IfSome o (λ g. is_format g.t g.l ≡ true)) (λ three. tt) (λ two. h)
 
   pub formats_known : IsSound d → (vendor : ℕ) → IfSome (vendor_format vendor d) (λ f. is_format f.t f.l ≡ true)
   unfolding vendor_format format_of
   formats_known sound vendor =
-      then_two (option_map format_of_line (last_where (is_vendor_numbered vendor) d.vendors))
-      (mapped_holds (λ f. is_format f.t f.l ≡ true) format_of_line (last_where (is_vendor_numbered vendor) d.vendors) (last_holds IsSoundVendor (is_vendor_numbered vendor) d.vendors sound.vendors))
+      then_keeps (λ (f : VendorFormat). is_format f.t f.l ≡ true) (λ (f : Format). is_format f.t f.l ≡ true) unless_three two_parts_of (option_map format_of_line (last_where (is_vendor_numbered vendor) d.vendors))
+      (mapped_holds (λ f. is_format f.t f.l ≡ true) format_of_line (last_where (is_vendor_numbered vendor) d.vendors) (last_keeps IsSoundVendor (is_vendor_numbered vendor) d.vendors sound.vendors))
 
 module _ (d : Dictionary) where
   known_plain : (n : Option ℕ) → IfSome (plain_numbered n) (λ id. is_known id d ≡ true)
@@ -116,35 +127,29 @@ module _ (d : Dictionary) where
   known_extended None n = tt
   known_extended (Some t) None = tt
   known_extended (Some t) (Some n) =
-      kept_by (λ id. is_known id d ≡ true) (ids.Extended t n) (is_extended 0 t n) (λ h. and_left (nat_le 241 t && nat_le t 246) (nat_le 0 n) (and_left (nat_le 241 t && nat_le t 246 && nat_le 0 n) (nat_le n 255) h))
+      kept_by (λ id. is_known id d ≡ true) (ids.Extended t n) (is_extended 0 t n) (λ h. (and_parts (nat_le 241 t && nat_le t 246) (nat_le 0 n) (and_parts (nat_le 241 t && nat_le t 246 && nat_le 0 n) (nat_le n 255) h).0).0)
 
   known_vendor : (v n : Option ℕ) → IfSome (vendor_id_numbered d.vendors v n) (λ id. is_known id d ≡ true)
   unfolding is_known
   known_vendor None n = tt
   known_vendor (Some v) None = tt
   known_vendor (Some v) (Some n) =
-      kept_by (λ id. is_known id d ≡ true) (ids.Vendor v n) (nat_le v 4294967295 && is_in_format v n d.vendors) (λ h. and_right (nat_le v 4294967295) (is_in_format v n d.vendors) h)
-
-  none_by : (b : Bool) (o : Option AttrId) → IfSome o (λ id. is_known id d ≡ true) → IfSome (cond b o None) (λ id. is_known id d ≡ true)
-  none_by true o h = h
-  none_by false o h = tt
+      kept_by (λ id. is_known id d ≡ true) (ids.Vendor v n) (nat_le v greatest_number && is_in_format v n d.vendors) (λ h. (and_parts (nat_le v greatest_number) (is_in_format v n d.vendors) h).1)
 
   known_numbered : (parts : List (List ℕ)) → IfSome (id_numbered d.vendors parts) (λ id. is_known id d ≡ true)
-  known_numbered [] = tt
   known_numbered (n ∷ []) = known_plain (digits 10 n)
   known_numbered (t ∷ n ∷ []) = known_extended (digits 10 t) (digits 10 n)
-  known_numbered (t ∷ v ∷ n ∷ []) = none_by (is_vendor_specific (digits 10 t)) (vendor_id_numbered d.vendors (digits 10 v) (digits 10 n)) (known_vendor (digits 10 v) (digits 10 n))
-  known_numbered (t ∷ v ∷ n ∷ m ∷ more) = tt
+  known_numbered (t ∷ v ∷ n ∷ []) = cond_both (is_vendor_specific (digits 10 t)) _ _ (λ o. IfSome o (λ id. is_known id d ≡ true)) (λ h. known_vendor (digits 10 v) (digits 10 n)) (λ other. tt)
+  known_numbered _ = tt
 
   pub known_named : IsSound d → (name : List ℕ) → IfSome (named name d) (λ n. is_known n.id d ≡ true)
   unfolding named id_named
   known_named sound name =
-      elim (begins_as_attr name) as (λ b. IfSome (cond b (option_map (named_by true) (id_numbered d.vendors (slice_split is_dot (drop 5 name)))) (option_map (named_by false) (id_named name d.attributes))) (λ n. is_known n.id d ≡ true)) [
-        | true ↦ mapped_holds (λ n. is_known n.id d ≡ true) (named_by true) (id_numbered d.vendors (slice_split is_dot (drop 5 name))) (known_numbered (slice_split is_dot (drop 5 name)))
-        | false ↦ mapped_holds (λ n. is_known n.id d ≡ true) (named_by false) (id_named name d.attributes)
-            (mapped_holds (λ id. is_known id d ≡ true) id_of_line (last_where (is_attribute_named name) d.attributes)
-            (weaker (IsSoundAttribute d) (λ (a : AttributeLine). is_known a.id d ≡ true) (λ a h. h.known) (last_where (is_attribute_named name) d.attributes) (last_holds (IsSoundAttribute d) (is_attribute_named name) d.attributes sound.attributes)))
-      ]
+      cond_both (begins_as_attr name) _ _ (λ (o : Option Named). IfSome o (λ n. is_known n.id d ≡ true))
+      (λ h. mapped_holds (λ n. is_known n.id d ≡ true) (named_by true) (id_numbered d.vendors (slice_split is_dot (drop 5 name))) (known_numbered (slice_split is_dot (drop 5 name))))
+      (λ h. mapped_holds (λ n. is_known n.id d ≡ true) (named_by false) (id_named name d.attributes)
+      (mapped_holds (λ id. is_known id d ≡ true) id_of_line (last_where (is_attribute_named name) d.attributes)
+      (weaker (IsSoundAttribute d) (λ (a : AttributeLine). is_known a.id d ≡ true) (λ a h. h.known) (last_where (is_attribute_named name) d.attributes) (last_keeps (IsSoundAttribute d) (is_attribute_named name) d.attributes sound.attributes))))
 
   -- ---- values
 
@@ -172,9 +177,9 @@ module _ (d : Dictionary) where
   typed_as kinds.Ether by_text id text k = mapped_holds (λ v. is_typed id v d ≡ true) values.Ether (ether_spelled text) (always (λ os. is_typed id (values.Ether os) d ≡ true) (λ os. rw k) (ether_spelled text))
   typed_as kinds.Byte by_text id text k = number_typed id 255 (option_or (number_of text) (number_named id text d.values)) (λ n h. rw (k, h))
   typed_as kinds.Short by_text id text k = number_typed id 65535 (option_or (number_of text) (number_named id text d.values)) (λ n h. rw (k, h))
-  typed_as kinds.Integer by_text id text k = number_typed id 4294967295 (option_or (number_of text) (number_named id text d.values)) (λ n h. rw (k, h))
-  typed_as kinds.Integer64 by_text id text k = number_typed id 18446744073709551615 (option_or (number_of text) (number_named id text d.values)) (λ n h. rw (k, h))
-  typed_as kinds.Date by_text id text k = number_typed id 4294967295 (number_of text) (λ n h. rw (k, h))
+  typed_as kinds.Integer by_text id text k = number_typed id greatest_number (option_or (number_of text) (number_named id text d.values)) (λ n h. rw (k, h))
+  typed_as kinds.Integer64 by_text id text k = number_typed id greatest_value (option_or (number_of text) (number_named id text d.values)) (λ n h. rw (k, h))
+  typed_as kinds.Date by_text id text k = number_typed id greatest_number (number_of text) (λ n h. rw (k, h))
   typed_as kinds.Signed by_text id text k = mapped_holds (λ v. is_typed id v d ≡ true) values.Signed (signed_spelled text) (always (λ z. is_typed id (values.Signed z) d ≡ true) (λ z. rw k) (signed_spelled text))
 
   -- ---- octets
@@ -198,18 +203,15 @@ module _ (d : Dictionary) where
   typed_read kinds.Ether id os k bytes = kept_by (λ v. is_typed id v d ≡ true) (values.Ether os) (length os == 6) (λ _. rw k)
   typed_read kinds.Byte id os k bytes = kept_by (λ v. is_typed id v d ≡ true) (number_value os) (length os == 1) (λ long. rw (k, number_within os 1 255 bytes long (lit≤ tt)))
   typed_read kinds.Short id os k bytes = kept_by (λ v. is_typed id v d ≡ true) (number_value os) (length os == 2) (λ long. rw (k, number_within os 2 65535 bytes long (lit≤ tt)))
-  typed_read kinds.Integer id os k bytes = kept_by (λ v. is_typed id v d ≡ true) (number_value os) (length os == 4) (λ long. rw (k, number_within os 4 4294967295 bytes long (lit≤ tt)))
-  typed_read kinds.Date id os k bytes = kept_by (λ v. is_typed id v d ≡ true) (number_value os) (length os == 4) (λ long. rw (k, number_within os 4 4294967295 bytes long (lit≤ tt)))
-  typed_read kinds.Integer64 id os k bytes = kept_by (λ v. is_typed id v d ≡ true) (number_value os) (length os == 8) (λ long. rw (k, number_within os 8 18446744073709551615 bytes long (lit≤ tt)))
+  typed_read kinds.Integer id os k bytes = kept_by (λ v. is_typed id v d ≡ true) (number_value os) (length os == 4) (λ long. rw (k, number_within os 4 greatest_number bytes long (lit≤ tt)))
+  typed_read kinds.Date id os k bytes = kept_by (λ v. is_typed id v d ≡ true) (number_value os) (length os == 4) (λ long. rw (k, number_within os 4 greatest_number bytes long (lit≤ tt)))
+  typed_read kinds.Integer64 id os k bytes = kept_by (λ v. is_typed id v d ≡ true) (number_value os) (length os == 8) (λ long. rw (k, number_within os 8 greatest_value bytes long (lit≤ tt)))
   typed_read kinds.Signed id os k bytes = kept_by (λ v. is_typed id v d ≡ true) (signed_value os) (length os == 4) (λ _. rw k)
 
   pub read_by_typed : (id : AttrId) (os : List ℕ) → IsBytes os → (o : Option Described) → described id d ≡ o → IfSome (option_and_then (read_by os) o) (λ v. is_typed id v d ≡ true)
   read_by_typed id os bytes None e = tt
   read_by_typed id os bytes (Some known) e =
-      elim (known.hidden && not (is_hideable os)) as (λ b. IfSome (cond b None (value_read known.kind os)) (λ v. is_typed id v d ≡ true)) [
-        | true ↦ tt
-        | false ↦ typed_read known.kind id os (rw e) bytes
-      ]
+      cond_both (known.hidden && not (is_hideable os)) _ _ (λ o. IfSome o (λ v. is_typed id v d ≡ true)) (λ h. tt) (λ shown. typed_read known.kind id os (rw e) bytes)
 
   octets_typed : (id : AttrId) (os : List ℕ) → IsBytes os → is_typed id (value_of_octets id os d) d ≡ true
   unfolding value_of_octets read_value
@@ -235,34 +237,29 @@ module _ (d : Dictionary) where
 
   spelled_typed : (n : Named) (text : List ℕ) → IfSome (spelled n text d) (λ v. is_typed n.id v d ≡ true)
   unfolding spelled
-  spelled_typed n text = elim n.raw as (λ b. IfSome (cond b (option_map (octets_value n.id d) (octets_spelled text)) (option_and_then (spelled_by n.id text d) (typing_of_id n.id d.attributes))) (λ v. is_typed n.id v d ≡ true)) [
-    | true ↦ mapped_holds (λ v. is_typed n.id v d ≡ true) (octets_value n.id d) (octets_spelled text) (weaker IsBytes (λ os. is_typed n.id (value_of_octets n.id os d) d ≡ true) (octets_typed n.id) (octets_spelled text) (octets_are_bytes text))
-    | false ↦ named_typed n.id text (typing_of_id n.id d.attributes) refl
-  ]
-
-  within_by : (id : AttrId) (v : Value) (b : Bool) → is_within id v d ≡ b → is_typed id v d ≡ true → IfSome (result_ok (cond b (Ok v) (Err TooLong))) (λ x. (is_typed id x d && is_within id x d) ≡ true)
-  within_by id v true e h = rw (h, e)
-  within_by id v false e h = tt
+  spelled_typed n text =
+      cond_both n.raw _ _ (λ o. IfSome o (λ v. is_typed n.id v d ≡ true))
+      (λ raw. mapped_holds (λ v. is_typed n.id v d ≡ true) (octets_value n.id d) (octets_spelled text) (weaker IsBytes (λ os. is_typed n.id (value_of_octets n.id os d) d ≡ true) (octets_typed n.id) (octets_spelled text) (octets_are_bytes text)))
+      (λ typed. named_typed n.id text (typing_of_id n.id d.attributes) refl)
 
   unless_long_holds : (id : AttrId) (o : Option Value) → IfSome o (λ v. is_typed id v d ≡ true) → IfSome (result_ok (unless_long id d o)) (λ v. (is_typed id v d && is_within id v d) ≡ true)
   unless_long_holds id None h = tt
-  unless_long_holds id (Some v) h = within_by id v (is_within id v d) refl h
+  unless_long_holds id (Some v) h =
+      cond_both (is_within id v d) _ _ (λ r. IfSome (result_ok r) (λ x. (is_typed id x d && is_within id x d) ≡ true)) (λ within. rw (h, within)) (λ long. tt)
 
   pub value_holds : (n : Named) (text : List ℕ) → IfSome (result_ok (value_spelled n text d)) (λ v. (is_typed n.id v d && is_within n.id v d) ≡ true)
   unfolding value_spelled
-  value_holds n text = elim (is_barred n d) as (λ b. IfSome (result_ok (cond b (Err NotWritable) (unless_long n.id d (spelled n text d)))) (λ v. (is_typed n.id v d && is_within n.id v d) ≡ true)) [
-    | true ↦ tt
-    | false ↦ unless_long_holds n.id (spelled n text d) (spelled_typed n text)
-  ]
+  value_holds n text =
+      cond_both (is_barred n d) _ _ (λ (r : Result Value ValueFault). IfSome (result_ok r) (λ v. (is_typed n.id v d && is_within n.id v d) ≡ true))
+      (λ barred. tt) (λ free. unless_long_holds n.id (spelled n text d) (spelled_typed n text))
 
   -- ---- pairs
 
   pub fits_by : (n : Named) (v : Value) → is_known n.id d ≡ true → (is_typed n.id v d && is_within n.id v d) ≡ true → fits (pair_with n v) d ≡ true
   unfolding fits
   fits_by n v known h =
-      let typed = and_left (is_typed n.id v d) (is_within n.id v d) h in
-      let within = and_right (is_typed n.id v d) (is_within n.id v d) h in
-      rw (known, typed, within)
+      let parts = and_parts (is_typed n.id v d) (is_within n.id v d) h in
+      rw (known, parts.0, parts.1)
 
   named_fits : (text : List ℕ) (n : Option Named) → IfSome n (λ x. is_known x.id d ≡ true) → IfSome (option_and_then (pair_named d text) n) (λ p. fits p d ≡ true)
   named_fits text None h = tt
@@ -286,27 +283,6 @@ module _ (d : Dictionary) where
   pub names_known : IsSound d → (name : List ℕ) (found : Named) → named name d ≡ Some found → is_known found.id d ≡ true
   names_known sound name found e = of_found (λ n. is_known n.id d ≡ true) (named name d) found e (known_named sound name)
 
-  abbrev AreFitting : List Pair → Type 0
-  AreFitting pairs = list_all (λ pair. fits pair d) pairs ≡ true
-
-  first_fits : (pair : Option Pair) (pairs : Option (List Pair)) → IfSome pair (λ p. fits p d ≡ true) → IfSome pairs AreFitting → IfSome (joined (option_map (λ p. p ∷ []) pair) pairs) AreFitting
-  first_fits None pairs h rest = tt
-  first_fits (Some pair) None h rest = tt
-  first_fits (Some pair) (Some pairs) h rest = rw (h, rest)
-
-  pairs_fit : IsSound d → (as_ : List Assignment) → IfSome (pairs_spelled d as_) AreFitting
-  unfolding pairs_spelled
-  pairs_fit sound [] = refl
-  pairs_fit sound (a ∷ as_) = first_fits (pair_spelled d a) (pairs_spelled d as_) (pair_fits sound a) (pairs_fit sound as_)
-
-  few_fit : (pairs : Option (List Pair)) → IfSome pairs AreFitting → IfSome (option_and_then few_enough pairs) AreFitting
-  few_fit None h = tt
-  few_fit (Some pairs) h = elim (nat_le (length pairs) most_pairs) as (λ b. IfSome (cond b (Some pairs) None) AreFitting) [ true ↦ h | false ↦ tt ]
-
   -- the pairs of a request fit
   pub request_fits : IsSound d → (text : List ℕ) (pairs : List Pair) → request_spelled text d ≡ Some pairs → All (λ pair. fits pair d ≡ true) pairs
-  unfolding request_spelled
-  request_fits sound text pairs e =
-      let P : Option (List Pair) → Type 0 = λ o. IfSome o AreFitting in
-      let assigned = then_holds AreFitting (pairs_spelled d) (pairs_fit sound) (assignments_of text) in
-      AllPass-from_list_all (λ pair. fits pair d) pairs (subst P e (few_fit (option_and_then (pairs_spelled d) (assignments_of text)) assigned))
+  request_fits sound text pairs e = AllPass-from_list_all (λ pair. fits pair d) pairs (request_passes d (λ pair. fits pair d) (pair_fits sound) text pairs e)

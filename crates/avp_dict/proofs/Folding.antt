@@ -1,6 +1,7 @@
 -- Names are the same where their octets in lower case are.
 use Rattle.std.proofs.Common.{◌≡◌, ◌≢◌, ◌≤◌, ◌<◌, ℕ, suc, Bool, true, false, ◌&&◌, ◌==◌, List, [], ◌∷◌, length, map, refl, sym, ap, arith, ◌∙◌}
 use Rattle.std.specs.Str.{bytes_eq}
+use Rattle.std.proofs.lemmas.Bool.{and_right}
 use Rattle.avp_dict.specs.Letters.{most_name}
 use Rattle.avp_dict.specs.Words.{lower, same_name}
 use Rattle.avp_dict.proofs.Agreement.{same_name_sym}
@@ -15,15 +16,11 @@ same_folded (x ∷ xs) (y ∷ ys) = ap (λ c. (lower x == lower y) && c) (same_f
 pub folded_same : (a b : List ℕ) → bytes_eq (map lower a) (map lower b) ≡ same_name b a
 folded_same a b = sym (same_folded a b) ∙ same_name_sym a b
 
-pub and_false : (b c : Bool) → c ≡ false → (b && c) ≡ false
-and_false true c h = h
-and_false false c h = refl
-
-other_length : (a b : List ℕ) → length a ≢ length b → same_name a b ≡ false
+pub other_length : (a b : List ℕ) → length a ≢ length b → same_name a b ≡ false
 other_length [] [] h = absurd (h refl)
 other_length [] (y ∷ ys) h = refl
 other_length (x ∷ xs) [] h = refl
-other_length (x ∷ xs) (y ∷ ys) h = and_false (lower x == lower y) (same_name xs ys) (other_length xs ys (λ e. h (ap suc e)))
+other_length (x ∷ xs) (y ∷ ys) h = and_right (lower x == lower y) (same_name xs ys) (other_length xs ys (λ e. h (ap suc e)))
 
 -- a name that is longer than any name
 pub too_long : (a b : List ℕ) → length a ≤ most_name → most_name < length b → same_name a b ≡ false

@@ -48,11 +48,8 @@ module _ {X : Type 0} where
   find_none test [] h = All-nil (λ r. test r ≡ false)
   find_none test (x ∷ xs) h = none_by test (test x) x xs refl (find_none test xs) h
 
-  reverse-twice : (xs : List X) → reverse (reverse xs) ≡ xs
-  reverse-twice xs = reverse-reverse xs
-
   pub last_none : (test : X → Bool) (xs : List X) → last_where test xs ≡ None → All (λ r. test r ≡ false) xs
-  last_none test xs h = subst (All (λ r. test r ≡ false)) (reverse-twice xs) (All-reverse (λ r. test r ≡ false) (reverse xs) (find_none test (reverse xs) h))
+  last_none test xs h = subst (All (λ r. test r ≡ false)) (reverse-reverse xs) (All-reverse (λ r. test r ≡ false) (reverse xs) (find_none test (reverse xs) h))
 
 -- ---- an id's last ATTRIBUTE line
 

@@ -5,10 +5,6 @@ use Rattle.std.specs.List.{before_first, after_first, onto_first, position_or_le
 use Rattle.avp_dict.specs.declared.file.files.NamedFile.{NamedFile}
 use Rattle.avp_dict.specs.Lines.{is_line_end, Line, expanded, file_included, lines_below, lines_in, octets_at, texts_of}
 
-pub append_nil : {A : Type 0} (xs : List A) → xs ++ [] ≡ xs
-append_nil [] = refl
-append_nil (x ∷ xs) = ap (λ zs. x ∷ zs) (append_nil xs)
-
 -- one octet more at the front of a first text
 front : (b : Bool) (o : ℕ) (os : List ℕ) (n : ℕ) → onto_first o (texts_of os) ≡ (o ∷ take n os) ∷ texts_of (drop (n + 1) os) → (if b then [] ∷ texts_of os else onto_first o (texts_of os)) ≡ take (cond (not b) (1 + n) 0) (o ∷ os) ∷ texts_of (drop (cond (not b) (1 + n) 0 + 1) (o ∷ os))
 front true o os n h = refl

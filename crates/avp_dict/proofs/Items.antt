@@ -17,7 +17,7 @@ whole [] (suc n) h = absurd (omega arith)
 whole (o ∷ os) zero h = absurd (omega arith)
 whole (o ∷ os) (suc n) h = let rest : length os ≡ n = omega arith in ap (λ xs. o ∷ xs) (whole os n rest)
 
-of_length-same : (n : ℕ) (value : List ℕ → Value) (os : List ℕ) → length os ≡ n → of_length n value os ≡ Some (value os)
+pub of_length-same : (n : ℕ) (value : List ℕ → Value) (os : List ℕ) → length os ≡ n → of_length n value os ≡ Some (value os)
 of_length-same n value os h = grind arith
 
 pub of_length-items : (n : ℕ) (value : List ℕ → Value) (os : List ℕ) → length os ≡ n → Some (value (items (λ i. get_or os i 0) n)) ≡ of_length n value os

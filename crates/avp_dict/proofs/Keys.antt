@@ -1,21 +1,13 @@
 -- Keys of tables tell ids apart, and one more line in a table.
 use Rattle.std.proofs.Common.{◌≡◌, Bool, true, false, ◌&&◌, ◌==◌, refl}
+use Rattle.std.proofs.Math.Bool.{and-true}
 use Rattle.avp_lists.specs.declared.attributes.AttrId.{AttrId}
 use Rattle.avp_lists.specs.declared.attributes.AttrId.TheVariants.{Plain, Vendor, Extended}
 use Rattle.avp_lists.specs.Pairs.{id_eq}
 use Rattle.avp_dict.specs.code.Tables.{id_key, same_id_key}
 
-and_true : (b : Bool) → (b && true) ≡ b
-and_true true = refl
-and_true false = refl
-
 pub same_key : (a b : AttrId) → same_id_key (id_key a) (id_key b) ≡ id_eq a b
-same_key (Plain a) (Plain b) = and_true (a == b)
-same_key (Plain a) (Vendor b y) = refl
-same_key (Plain a) (Extended b y) = refl
-same_key (Vendor a x) (Plain b) = refl
+same_key (Plain a) (Plain b) = and-true (a == b)
 same_key (Vendor a x) (Vendor b y) = refl
-same_key (Vendor a x) (Extended b y) = refl
-same_key (Extended a x) (Plain b) = refl
-same_key (Extended a x) (Vendor b y) = refl
 same_key (Extended a x) (Extended b y) = refl
+same_key _ _ = refl

@@ -105,13 +105,9 @@ begins_text [] = false
 begins_text (token ∷ tokens) = is_text_token token
 
 onto_text : (o : ℕ) (tokens : List Token) → begins_text tokens ≡ true → begins_text (onto_quoted o tokens) ≡ true
-onto_text o [] h = h
 onto_text o (Quoted mark text ∷ tokens) h = refl
 onto_text o (Unended ∷ tokens) h = refl
-onto_text o (Blank ∷ tokens) h = h
-onto_text o (Comma ∷ tokens) h = h
-onto_text o (Sign ∷ tokens) h = h
-onto_text o (Run os ∷ tokens) h = h
+onto_text o _ h = h
 
 text_first : (mark : QuoteMark) (is_escaped : Bool) (os : List ℕ) → begins_text (tokens_from (place_when mark is_escaped) os) ≡ true
 unfolding tokens_from
@@ -126,13 +122,8 @@ text_first mark false (o ∷ os) =
 
 -- a run ends before a quoted text
 run_before_text : (o : ℕ) (tokens : List Token) → begins_text tokens ≡ true → onto_run o tokens ≡ Run (o ∷ []) ∷ tokens
-run_before_text o [] h = refl
-run_before_text o (Quoted mark text ∷ tokens) h = refl
-run_before_text o (Unended ∷ tokens) h = refl
-run_before_text o (Blank ∷ tokens) h = refl
-run_before_text o (Comma ∷ tokens) h = refl
-run_before_text o (Sign ∷ tokens) h = refl
 run_before_text o (Run os ∷ tokens) h = cc
+run_before_text o _ h = refl
 
 -- a run ends before an octet that ends it
 run_stops : (side : Side) (o x : ℕ) (xs : List ℕ) → ends_run side x ≡ true → onto_run o (tokens_from (Outside side) (x ∷ xs)) ≡ Run (o ∷ []) ∷ tokens_from (Outside side) (x ∷ xs)

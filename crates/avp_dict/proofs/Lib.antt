@@ -20,7 +20,6 @@ pub mod PairSteps
 pub mod Placed
 pub mod ReadingBack
 pub mod Resolving
-pub mod Sameness
 pub mod Separated
 pub mod Short
 pub mod SignedRange

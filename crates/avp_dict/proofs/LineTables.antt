@@ -4,6 +4,7 @@ use Rattle.std.specs.Cmp.{IsEquivalence}
 use Rattle.std.specs.List.{IsDistinct, list_any}
 use Rattle.std.specs.Map.{keys_of, lookup}
 use Rattle.std.specs.Set.{distinct_count, is_member, unique_keys}
+use Rattle.std.proofs.Math.Bool.{or-true}
 use Rattle.std.proofs.lemmas.List.{length-map, map-append}
 use Rattle.std.proofs.lemmas.List.Sums.{fold_push}
 use Rattle.std.proofs.lemmas.Map.Entries.{length-keys_of}
@@ -13,16 +14,12 @@ use Rattle.avp_dict.specs.Dictionary.{last_where, with_key}
 use Rattle.avp_dict.specs.code.Tables.{IsTable, last_place}
 use Rattle.avp_dict.proofs.Last.{last_found, last_place_kept}
 
-or_true : (b : Bool) → (b || true) ≡ true
-or_true true = refl
-or_true false = refl
-
 found_any : {X : Type 0} (test : X → Bool) (xs : List X) → is_some (last_place test xs) ≡ list_any test xs
 found_any test [] = refl
 found_any {X} test (x ∷ xs) = by (test x) (last_place test xs) (list_any test xs) (found_any test xs)
   where
     by : (b : Bool) (found : Option ℕ) (any : Bool) → is_some found ≡ any → is_some {T = ℕ} (elim found as (λ _. Option ℕ) [ Some i ↦ Some (suc i) | None ↦ (if b then Some 0 else None) ]) ≡ (b || any)
-    by b (Some i) any h = sym (or_true b) ∙ ap (λ c. b || c) h
+    by b (Some i) any h = sym (or-true b) ∙ ap (λ c. b || c) h
     by true None any h = refl
     by false None any h = h
 

@@ -2,6 +2,7 @@
 use Rattle.std.proofs.Common.{◌≡◌, ◌∙◌, ℕ, ◌+◌, ◌*◌, ◌/◌, ◌%◌, ◌^◌, ◌<◌, ◌≤◌, Bool, true, false, cond, ◌&&◌, ◌==◌, ltb, List, [], ◌∷◌, ◌++◌, length, slice_index, Some, None, refl, ap, arith, decimal, option_and_then, length-append}
 use Rattle.std.specs.List.{All}
 use Rattle.std.specs.Char.{digit_value}
+use Rattle.std.proofs.Math.Bool.{and-false}
 use Rattle.std.proofs.lemmas.Fmt.{decimal_by_steps}
 use Rattle.std.proofs.lemmas.List.Elements.{All-nil, All-cons, All-push, All-weaker}
 use Rattle.avp_dict.specs.Words.{digits, is_hexadecimal, number_after, number_of}
@@ -58,17 +59,13 @@ digits_some base (o ∷ os) h = refl
 pub digits_numeral : (n : ℕ) (text : List ℕ) → IsNumeral n text → digits 10 text ≡ Some n
 digits_numeral n text h = digits_some 10 text h.some ∙ h.value
 
-and_false : (b : Bool) → (b && false) ≡ false
-and_false true = refl
-and_false false = refl
-
 not_hexadecimal : (text : List ℕ) → All IsDigit text → is_hexadecimal text ≡ false
 not_hexadecimal [] h = refl
-not_hexadecimal (o ∷ []) h = and_false (o == 48)
+not_hexadecimal (o ∷ []) h = and-false (o == 48)
 not_hexadecimal (o ∷ p ∷ os) h =
     let low = (h 1 0 (omega arith)).1 in
     let e : (p == 120) ≡ false = grind arith in
-    rw e (and_false (o == 48))
+    rw e (and-false (o == 48))
 
 pub number_of_numeral : (n : ℕ) (text : List ℕ) → IsNumeral n text → number_of text ≡ Some n
 number_of_numeral n text h = rw (not_hexadecimal text h.each) (digits_numeral n text h)

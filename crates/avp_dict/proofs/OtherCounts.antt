@@ -11,29 +11,20 @@ use Rattle.avp_dict.specs.code.Views.{views}
 
 pub many_ids : (vendors : List VendorLine) (block : Option ℕ) (parts : List (Bor (List ℕ))) → length parts ≢ 1 → length parts ≢ 2 → id_word vendors block (views parts) ≡ many_words (views parts)
 unfolding id_word
-many_ids vendors block [] one two = refl
 many_ids vendors block (n ∷ []) one two = absurd (one refl)
 many_ids vendors block (t ∷ x ∷ []) one two = absurd (two refl)
-many_ids vendors block (t ∷ x ∷ y ∷ rest) one two = refl
+many_ids vendors block _ one two = refl
 
 pub no_value : (words : List (Bor (List ℕ))) → length words ≢ 3 → value (views words) ≡ Err Unreadable
 unfolding value
-no_value [] three = refl
-no_value (a ∷ []) three = refl
-no_value (a ∷ b ∷ []) three = refl
 no_value (a ∷ b ∷ c ∷ []) three = absurd (three refl)
-no_value (a ∷ b ∷ c ∷ d ∷ rest) three = refl
+no_value _ three = refl
 
 pub three_parts : (parts : List (Bor (List ℕ))) (d e : Bor (List ℕ)) → length parts ≡ 3 → two_parts true (number_of (get_or parts 0 d).now) (number_of (get_or parts 1 e).now) ≡ format_parts (views parts)
-three_parts [] d e h = absurd (omega (arith, h))
-three_parts (a ∷ []) d e h = absurd (omega (arith, h))
-three_parts (a ∷ b ∷ []) d e h = absurd (omega (arith, h))
 three_parts (a ∷ b ∷ c ∷ []) d e h = refl
-three_parts (a ∷ b ∷ c ∷ x ∷ rest) d e h = absurd (omega (arith, h))
+three_parts _ d e h = absurd (omega (arith, h))
 
 pub no_format : (parts : List (Bor (List ℕ))) → length parts ≢ 2 → length parts ≢ 3 → format_parts (views parts) ≡ None
-no_format [] two three = refl
-no_format (a ∷ []) two three = refl
 no_format (a ∷ b ∷ []) two three = absurd (two refl)
 no_format (a ∷ b ∷ c ∷ []) two three = absurd (three refl)
-no_format (a ∷ b ∷ c ∷ d ∷ rest) two three = refl
+no_format _ two three = refl

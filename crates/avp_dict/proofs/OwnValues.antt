@@ -4,7 +4,7 @@ use Rattle.std.specs.Prelude.{◌==◌}
 use Rattle.std.specs.Int.{bytes_high_first, cast_signed, cast_unsigned, to_be_bytes, w32, w64}
 use Rattle.std.specs.Int.Digits.{number_from_digits}
 use Rattle.std.specs.Option.{option_and_then}
-use Rattle.std.proofs.lemmas.Bool.{and_parts, false≢true}
+use Rattle.std.proofs.lemmas.Bool.{and_parts, false≢true, leb-true}
 use Rattle.std.proofs.lemmas.Grind.{common_steps}
 use Rattle.std.proofs.lemmas.Int.{to_z-of_z}
 use Rattle.std.proofs.lemmas.Nat.{from_be_bytes-to_be_bytes_8}
@@ -16,12 +16,13 @@ use Rattle.avp_lists.specs.Pairs.{value_eq}
 use Rattle.avp_lists.proofs.Equality.{value_eq-same}
 use Rattle.avp_dict.specs.declared.entries.Kind.{Kind}
 use Rattle.avp_dict.specs.declared.entries.Kind.TheVariants as kinds
+use Rattle.avp_dict.specs.AttributeNumbers.{greatest_number, greatest_value}
 use Rattle.avp_dict.specs.Dictionary.{Dictionary}
 use Rattle.avp_dict.specs.Limits.{fits, is_known, is_of_kind, is_typed, is_within}
 use Rattle.avp_dict.specs.Names.{Described, described}
 use Rattle.avp_dict.specs.Octets.{is_hidden, is_hideable, kind_of, octets, octets_of, of_length, read_by, read_value, value_of_octets, value_read}
 use Rattle.avp_dict.specs.Sent.{is_canonical, is_raw, is_shown}
-use Rattle.avp_dict.proofs.Items.{eight_octets}
+use Rattle.avp_dict.proofs.Items.{eight_octets, of_length-same}
 use Rattle.avp_dict.proofs.SignedRange.{signed_ranged}
 
 -- an address has the octets of its type, and a signed number 32 bits
@@ -44,9 +45,6 @@ number_back (suc (suc (suc (suc (suc k))))) n h lt = absurd (omega arith)
 eight_back : (n : ℕ) → n < 2 ^ 64 → number_from_digits 256 (to_be_bytes w64 n) ≡ n
 eight_back n lt = sym (eight_octets _ _ _ _ _ _ _ _) ∙ from_be_bytes-to_be_bytes_8 n lt
 
-below : (n most : ℕ) → nat_le n most ≡ true → n ≤ most
-below n most h = grind (arith, common_steps)
-
 signed_small : (z : ℤ) → FitsSigned w32 z → cast_unsigned w32 z < 2 ^ 32
 signed_small z h = search rules
 
@@ -55,20 +53,17 @@ signed_back z h = ap (cast_signed w32) (number_back 4 (cast_unsigned w32 z) (ome
 
 -- ---- values of a type
 
-sized_same : (n : ℕ) (value : List ℕ → Value) (os : List ℕ) → length os ≡ n → of_length n value os ≡ Some (value os)
-sized_same n value os h = grind arith
-
 own_value : (kind : Kind) (v : Value) → is_raw v ≡ false → IsSized v → is_of_kind v kind ≡ true → value_read kind (octets_of (Some kind) v) ≡ Some v
 own_value kinds.Text (values.Text os) raw sized is = refl
 own_value kinds.Bytes (values.Bytes os) raw sized is = refl
-own_value kinds.Addr (Addr os) raw sized is = sized_same 4 (λ (xs : List ℕ). Addr xs) os sized
-own_value kinds.Ether (Ether os) raw sized is = sized_same 6 (λ (xs : List ℕ). Ether xs) os sized
+own_value kinds.Addr (Addr os) raw sized is = of_length-same 4 (λ (xs : List ℕ). Addr xs) os sized
+own_value kinds.Ether (Ether os) raw sized is = of_length-same 6 (λ (xs : List ℕ). Ether xs) os sized
 own_value kinds.Signed (Signed z) raw sized is = ap (λ (x : ℤ). Some (Signed x)) (signed_back z sized)
-own_value kinds.Byte (Int n) raw sized is = ap (λ (m : ℕ). Some (Int m)) (number_back 1 n (omega arith) (let low = below n 255 is in omega arith))
-own_value kinds.Short (Int n) raw sized is = ap (λ (m : ℕ). Some (Int m)) (number_back 2 n (omega arith) (let low = below n 65535 is in omega arith))
-own_value kinds.Integer (Int n) raw sized is = ap (λ (m : ℕ). Some (Int m)) (number_back 4 n (omega arith) (let low = below n 4294967295 is in omega arith))
-own_value kinds.Date (Int n) raw sized is = ap (λ (m : ℕ). Some (Int m)) (number_back 4 n (omega arith) (let low = below n 4294967295 is in omega arith))
-own_value kinds.Integer64 (Int n) raw sized is = ap (λ (m : ℕ). Some (Int m)) (eight_back n (let low = below n 18446744073709551615 is in omega arith))
+own_value kinds.Byte (Int n) raw sized is = ap (λ (m : ℕ). Some (Int m)) (number_back 1 n (omega arith) (let low = leb-true n 255 is in omega arith))
+own_value kinds.Short (Int n) raw sized is = ap (λ (m : ℕ). Some (Int m)) (number_back 2 n (omega arith) (let low = leb-true n 65535 is in omega arith))
+own_value kinds.Integer (Int n) raw sized is = ap (λ (m : ℕ). Some (Int m)) (number_back 4 n (omega arith) (let low = leb-true n greatest_number is in omega arith))
+own_value kinds.Date (Int n) raw sized is = ap (λ (m : ℕ). Some (Int m)) (number_back 4 n (omega arith) (let low = leb-true n greatest_number is in omega arith))
+own_value kinds.Integer64 (Int n) raw sized is = ap (λ (m : ℕ). Some (Int m)) (eight_back n (let low = leb-true n greatest_value is in omega arith))
 own_value _ _ raw sized is = absurd (cc)
 
 -- what a type reads is of the type's size, and is no raw octets
@@ -118,12 +113,7 @@ module _ (dictionary : Dictionary) (id : AttrId) where
 
   typed_by : (v : Value) (d : Described) → is_raw v ≡ false → described id dictionary ≡ Some d → is_typed id v dictionary ≡ true → is_of_kind v d.kind ≡ true
   typed_by (Raw os) d r e h = absurd (false≢true (sym r))
-  typed_by (values.Text os) d r e h = rw e at h
-  typed_by (values.Bytes os) d r e h = rw e at h
-  typed_by (Int n) d r e h = rw e at h
-  typed_by (Signed z) d r e h = rw e at h
-  typed_by (Addr os) d r e h = rw e at h
-  typed_by (Ether os) d r e h = rw e at h
+  typed_by _ d r e h = rw e at h
 
   -- a value of the type of an id that is not hidden is what its octets stand for
   own_octets : (v : Value) (o : Option Described) → described id dictionary ≡ o → is_hidden id dictionary ≡ false → is_raw v ≡ false → IsSized v → is_typed id v dictionary ≡ true → value_of_octets id (octets id v dictionary) dictionary ≡ v
@@ -132,12 +122,7 @@ module _ (dictionary : Dictionary) (id : AttrId) where
     where
       no_kind : (x : Value) → is_raw x ≡ false → described id dictionary ≡ None → is_typed id x dictionary ≡ true → ⊥
       no_kind (Raw os) r f h = false≢true (sym r)
-      no_kind (values.Text os) r f h = false≢true (rw f at h)
-      no_kind (values.Bytes os) r f h = false≢true (rw f at h)
-      no_kind (Int n) r f h = false≢true (rw f at h)
-      no_kind (Signed z) r f h = false≢true (rw f at h)
-      no_kind (Addr os) r f h = false≢true (rw f at h)
-      no_kind (Ether os) r f h = false≢true (rw f at h)
+      no_kind _ r f h = false≢true (rw f at h)
   own_octets v (Some d) e plain raw sized t =
       let shows : d.hidden ≡ false = rw e at plain in
       let own = own_value d.kind v raw sized (typed_by v d raw e t) in

@@ -58,11 +58,7 @@ pair_then name value [] = go (value_text value)
     go None = refl
     go (Some text) = refl
 pair_then name value (Comma ∷ tokens) = refl
-pair_then name value (Blank ∷ tokens) = sym (joined_none (option_map (assigned name) (value_text value)))
-pair_then name value (Sign ∷ tokens) = sym (joined_none (option_map (assigned name) (value_text value)))
-pair_then name value (Run os ∷ tokens) = sym (joined_none (option_map (assigned name) (value_text value)))
-pair_then name value (Quoted mark os ∷ tokens) = sym (joined_none (option_map (assigned name) (value_text value)))
-pair_then name value (Unended ∷ tokens) = sym (joined_none (option_map (assigned name) (value_text value)))
+pair_then name value _ = sym (joined_none (option_map (assigned name) (value_text value)))
 
 -- the pair that a name with a text spells
 one_spelled : (d : Dictionary) (name : List ℕ) (text : Option (List ℕ)) (name_is : Option Named) → named name d ≡ name_is → option_and_then (pairs_spelled d) (option_map (assigned name) text) ≡ option_map (λ pair. pair ∷ []) (option_and_then (λ os. option_and_then (pair_named d os) name_is) text)
@@ -86,10 +82,7 @@ pairs_then d name value tokens name_is e =
 -- after the token of a value the side is that of values
 side_of_value : (d : Dictionary) (n : Named) (value : CodeToken) (pair : Pair) → pair_of_token d n (token_view value) ≡ Some pair → side_after Value value ≡ Value
 side_of_value d n code.Comma pair h = cc
-side_of_value d n code.Sign pair h = refl
-side_of_value d n (code.Run os) pair h = refl
-side_of_value d n (code.Quoted mark os) pair h = refl
-side_of_value d n code.Unended pair h = refl
+side_of_value d n _ pair h = refl
 
 module _ (d : Dictionary) (name : List ℕ) (n : Named) (known : named name d ≡ Some n) (value : CodeToken) (rest : List ℕ) where
   pub pair_read : (pair : Pair) → pair_of_token d n (token_view value) ≡ Some pair → pairs_at d (Run name ∷ Sign ∷ token_view value ∷ tokens_at (side_after Value value) rest) ≡ after_pairs (pair ∷ []) (pairs_after d (tokens_at Value rest))
@@ -106,39 +99,21 @@ module _ (d : Dictionary) (name : List ℕ) (n : Named) (known : named name d �
 -- what refuses a part refuses the whole
 pub refuses_whole : {A B : Type 0} (kind : LineKind) (part : Option A) (whole : Option B) → RefusesLine kind part → (part ≡ None → whole ≡ None) → RefusesLine kind whole
 refuses_whole kinds.Memory part whole h f = tt
-refuses_whole kinds.NotValue part whole h f = f h
-refuses_whole kinds.TooLong part whole h f = f h
-refuses_whole kinds.Unknown part whole h f = f h
-refuses_whole kinds.NotWritable part whole h f = f h
-refuses_whole kinds.SecondPacket part whole h f = f h
-refuses_whole kinds.TooMany part whole h f = f h
-refuses_whole kinds.Unreadable part whole h f = f h
+refuses_whole _ part whole h f = f h
 
 pub refuses_all : {A : Type 0} (kind : LineKind) (part : Option A) → RefusesLine kind part → kind ≢ kinds.Memory → part ≡ None
 refuses_all kinds.Memory part h other = absurd (other refl)
-refuses_all kinds.NotValue part h other = h
-refuses_all kinds.TooLong part h other = h
-refuses_all kinds.Unknown part h other = h
-refuses_all kinds.NotWritable part h other = h
-refuses_all kinds.SecondPacket part h other = h
-refuses_all kinds.TooMany part h other = h
-refuses_all kinds.Unreadable part h other = h
+refuses_all _ part h other = h
 
 -- an unknown name
 pub unknown_refused : (d : Dictionary) (name : List ℕ) (tokens : List Token) → named name d ≡ None → pairs_at d (Run name ∷ tokens) ≡ None
 unfolding pairs_at pairs_of
-unknown_refused d name [] h = refl
-unknown_refused d name (Sign ∷ []) h = refl
 unknown_refused d name (Sign ∷ value ∷ tokens) h = go (value_text value) (pairs_then d name value tokens None h)
   where
     go : (text : Option (List ℕ)) → pairs_at d (Run name ∷ Sign ∷ value ∷ tokens) ≡ joined (option_map (λ pair. pair ∷ []) (option_and_then (λ os. None) text)) (pairs_after d tokens) → pairs_at d (Run name ∷ Sign ∷ value ∷ tokens) ≡ None
     go None e = e
     go (Some text) e = e
-unknown_refused d name (Comma ∷ tokens) h = refl
-unknown_refused d name (Blank ∷ tokens) h = refl
-unknown_refused d name (Run os ∷ tokens) h = refl
-unknown_refused d name (Quoted mark os ∷ tokens) h = refl
-unknown_refused d name (Unended ∷ tokens) h = refl
+unknown_refused d name _ h = refl
 
 -- ---- packets
 

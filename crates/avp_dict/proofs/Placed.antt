@@ -121,14 +121,7 @@ module _ (n : ℕ) where
   with_line_in : (skipped : List (List ℕ)) (dictionary : Dictionary) (r : Reading) (m : Meaning) → r.meaning ≡ m → All (IsNoteIn n) dictionary.notes → IsIn n r → IsDictionaryIn n (with_line skipped dictionary r)
   unfolding with_line
   with_line_in skipped dictionary r (Value attribute name v) e were is = rw e (value_in (value_of skipped dictionary attribute name v (id_named attribute dictionary.attributes)) dictionary r were is)
-  with_line_in skipped dictionary r (BeginVendor name v) e were is = rw e (noted_if (is_noted dictionary.vendors (BeginVendor name v)) dictionary r were is)
-  with_line_in skipped dictionary r (BeginTlv name) e were is = rw e (noted_if true dictionary r were is)
-  with_line_in skipped dictionary r (End noted) e were is = rw e (noted_if noted dictionary r were is)
-  with_line_in skipped dictionary r (Attribute a) e were is = rw e (noted_if (is_noted dictionary.vendors (Attribute a)) dictionary r were is)
-  with_line_in skipped dictionary r (Vendor v) e were is = rw e (noted_if false dictionary r were is)
-  with_line_in skipped dictionary r Nothing e were is = rw e (noted_if false dictionary r were is)
-  with_line_in skipped dictionary r Skipped e were is = rw e (noted_if true dictionary r were is)
-  with_line_in skipped dictionary r (SkippedAttribute name) e were is = rw e (noted_if true dictionary r were is)
+  with_line_in skipped dictionary r m e were is = rw e (noted_if (is_noted dictionary.vendors m) dictionary r were is)
 
   more_in : (read : Result Dictionary DictFault) (f : Dictionary → Result Dictionary DictFault) → IsDictionaryIn n read → ((d : Dictionary) → All (IsNoteIn n) d.notes → IsDictionaryIn n (f d)) → IsDictionaryIn n (read >>= f)
   more_in (Ok d) f h next = next d h

@@ -1,10 +1,10 @@
 -- What is printed for a pair is read back.
-use Rattle.std.proofs.Common.{◌≡◌, ◌∙◌, ℕ, suc, ◌^◌, ◌<◌, ℤ, pos, negsuc, Bool, true, false, not, cond, ◌&&◌, ◌||◌, ◌==◌, leb, List, [], ◌∷◌, ◌++◌, codes, length, slice_index, Option, Some, None, Ok, refl, sym, ap, subst, arith, rules, append_assoc, decimal, option_and_then, option_map, FitsSigned}
+use Rattle.std.proofs.Common.{◌≡◌, ◌∙◌, ℕ, suc, ◌+◌, ◌^◌, ◌<◌, ℤ, pos, negsuc, Bool, true, false, not, cond, ◌&&◌, ◌||◌, ◌==◌, leb, List, [], ◌∷◌, ◌++◌, codes, length, slice_index, Option, Some, None, Ok, refl, sym, ap, subst, arith, rules, append_assoc, decimal, option_and_then, option_map, FitsSigned}
 use Rattle.std.specs.Fmt.{signed_decimal}
 use Rattle.std.specs.Int.{w32}
 use Rattle.std.specs.List.{All, slice_split}
 use Rattle.std.specs.Option.{option_map_or, unwrap_or}
-use Rattle.std.proofs.lemmas.Bool.{and_parts}
+use Rattle.std.proofs.lemmas.Bool.{and_parts, not-true, or_parts}
 use Rattle.std.proofs.lemmas.List.Splits.{slice_split_at, slice_split_none}
 use Rattle.avp_lists.specs.declared.attributes.AttrId.{AttrId}
 use Rattle.avp_lists.specs.declared.attributes.AttrId.TheVariants as ids
@@ -15,6 +15,7 @@ use Rattle.avp_lists.specs.Pairs.{value_eq}
 use Rattle.avp_lists.proofs.Equality.{same_value}
 use Rattle.avp_dict.specs.declared.entries.Kind.{Kind}
 use Rattle.avp_dict.specs.declared.entries.Kind.TheVariants as kinds
+use Rattle.avp_dict.specs.AttributeNumbers.{greatest_number, greatest_signed, greatest_value}
 use Rattle.avp_dict.specs.Dictionary.{Dictionary, name_numbered, typing_of_id}
 use Rattle.avp_dict.proofs.Found.{is_described, is_named_number, named_back}
 use Rattle.avp_dict.proofs.Numerals.{IsNumeral, decimal_numeral, digits_numeral, first_of_numeral, number_of_numeral, numeral_without}
@@ -36,11 +37,8 @@ use Rattle.avp_dict.specs.code.Ranges.{AreOctets, IsIdInRange, IsValueInRange}
 
 -- ---- numbers
 
-up_to_same : (most n : ℕ) → leb n most ≡ true → up_to most (Some n) ≡ Some n
-up_to_same most n h = rw h
-
 plain_number : (most n : ℕ) → leb n most ≡ true → n < 2 ^ 64 → up_to most (number_of (decimal n)) ≡ Some n
-plain_number most n h lt = rw (number_of_numeral n (decimal n) (decimal_numeral n lt)) (up_to_same most n h)
+plain_number most n h lt = rw (number_of_numeral n (decimal n) (decimal_numeral n lt), h)
 
 signed_back : (z : ℤ) → FitsSigned w32 z → signed_spelled (signed_decimal z) ≡ Some z
 unfolding signed_spelled
@@ -49,20 +47,20 @@ signed_back (pos n) h =
     let numeral = decimal_numeral n (omega arith) in
     let first = first_of_numeral n (decimal n) numeral in
     let plain : is_negative (decimal n) ≡ false = grind arith in
-    let low : leb n 2147483647 ≡ true = grind arith in
+    let low : leb n greatest_signed ≡ true = grind arith in
     rw (plain, digits_numeral n (decimal n) numeral, low)
 signed_back (negsuc n) h =
     let small : n < 2 ^ 31 = search rules in
-    let low : leb (suc n) 2147483648 ≡ true = grind arith in
+    let low : leb (suc n) (greatest_signed + 1) ≡ true = grind arith in
     rw (digits_numeral (suc n) (decimal (suc n)) (decimal_numeral (suc n) (omega arith)), low)
 
 module _ (dictionary : Dictionary) (sound : IsSound dictionary) where
   named_or : (most : ℕ) (id : AttrId) (n : ℕ) → leb n most ≡ true → n < 2 ^ 64 → (name : Option (List ℕ)) → name_numbered id n dictionary.values ≡ name → number_spelled most id (unwrap_or name (decimal n)) dictionary ≡ Some n
   unfolding number_spelled
-  named_or most id n h lt None e = rw (number_of_numeral n (decimal n) (decimal_numeral n lt)) (up_to_same most n h)
+  named_or most id n h lt None e = rw (number_of_numeral n (decimal n) (decimal_numeral n lt), h)
   named_or most id n h lt (Some name) e =
       let is = is_named_number dictionary sound id n name e in
-      rw (is.apart, is.numbered) (up_to_same most n h)
+      rw (is.apart, is.numbered, h)
 
   number_back : (most : ℕ) (id : AttrId) (n : ℕ) → leb n most ≡ true → n < 2 ^ 64 → number_spelled most id (unwrap_or (name_numbered id n dictionary.values) (decimal n)) dictionary ≡ Some n
   number_back most id n h lt = named_or most id n h lt (name_numbered id n dictionary.values) refl
@@ -84,9 +82,9 @@ module _ (dictionary : Dictionary) (sound : IsSound dictionary) (id : AttrId) (b
   typed_back kinds.Signed (Signed z) h whole raw is = ap (option_map (λ (x : ℤ). Signed x)) (signed_back z h)
   typed_back kinds.Byte (Int n) h whole raw is = ap (option_map (λ (m : ℕ). Int m)) (number_back dictionary sound 255 id n is h)
   typed_back kinds.Short (Int n) h whole raw is = ap (option_map (λ (m : ℕ). Int m)) (number_back dictionary sound 65535 id n is h)
-  typed_back kinds.Integer (Int n) h whole raw is = ap (option_map (λ (m : ℕ). Int m)) (number_back dictionary sound 4294967295 id n is h)
-  typed_back kinds.Integer64 (Int n) h whole raw is = ap (option_map (λ (m : ℕ). Int m)) (number_back dictionary sound 18446744073709551615 id n is h)
-  typed_back kinds.Date (Int n) h whole raw is = ap (option_map (λ (m : ℕ). Int m)) (plain_number 4294967295 n is h)
+  typed_back kinds.Integer (Int n) h whole raw is = ap (option_map (λ (m : ℕ). Int m)) (number_back dictionary sound greatest_number id n is h)
+  typed_back kinds.Integer64 (Int n) h whole raw is = ap (option_map (λ (m : ℕ). Int m)) (number_back dictionary sound greatest_value id n is h)
+  typed_back kinds.Date (Int n) h whole raw is = ap (option_map (λ (m : ℕ). Int m)) (plain_number greatest_number n is h)
   typed_back _ _ h whole raw is = absurd (cc)
 
 -- ---- how long addresses are
@@ -135,7 +133,6 @@ module _ (dictionary : Dictionary) (sound : IsSound dictionary) (id : AttrId) (d
   is_whole : (value : Value) → is_of_kind value d.kind ≡ true → cond (is_hidden id dictionary) (is_shown value) (value_eq value (value_of_octets id (octets id value dictionary) dictionary)) ≡ true → IsWhole value
   is_whole (Addr os) is h = address_whole d.kind refl os is h
   is_whole (Ether os) is h = ether_whole d.kind refl os is h
-  is_whole (Raw os) is h = tt
   is_whole _ is h = tt
 
   -- ---- under the name of a line
@@ -197,7 +194,7 @@ unfolding attr_name named
 named_vendor dictionary v n hv hn known =
     let sv : v < 2 ^ 64 = omega arith in
     let sn : n < 2 ^ 64 = omega arith in
-    let low : leb v 4294967295 ≡ true = grind arith in
+    let low : leb v greatest_number ≡ true = grind arith in
     rw (two_numbers v n sv sn, number_digits v sv, number_digits n sn, low, known)
 
 named_extended : (dictionary : Dictionary) (t n : ℕ) → t < 256 → n < 256 → (leb 241 t && leb t 246) ≡ true → named (attr_name (ids.Extended t n)) dictionary ≡ Some (record { id = ids.Extended t n; raw = true })
@@ -241,15 +238,6 @@ module _ (dictionary : Dictionary) (id : AttrId) (os : List ℕ) (held : is_cont
 
 -- ---- any pair
 
-not_true : (b : Bool) → not b ≡ true → b ≡ false
-not_true false h = refl
-not_true true h = absurd (cc)
-
-neither : (b c : Bool) → not (b || c) ≡ true → (b ≡ false) × (c ≡ false)
-neither false false h = (refl, refl)
-neither false true h = absurd (cc)
-neither true c h = absurd (cc)
-
 record IsWritable (id : AttrId) (value : Value) (dictionary : Dictionary) : Type 0 where
   known : is_known id dictionary ≡ true
   typed : is_typed id value dictionary ≡ true
@@ -268,12 +256,12 @@ writable_parts id value dictionary h =
     let c = and_parts fit shown b.0 in
     let d = and_parts (is_known id dictionary && is_typed id value dictionary) (is_within id value dictionary) c.0 in
     let e = and_parts (is_known id dictionary) (is_typed id value dictionary) d.0 in
-    record { known = e.0; typed = e.1; within = d.1; canonical = c.1; held = not_true (is_container id) b.1; apart = a.1 }
+    record { known = e.0; typed = e.1; within = d.1; canonical = c.1; held = not-true (is_container id) b.1; apart = a.1 }
 
 raw_back : (dictionary : Dictionary) (id : AttrId) (os : List ℕ) → IsIdInRange id → AreOctets os → IsWritable id (Raw os) dictionary → ReadsBack (record { id = id; value = Raw os }) dictionary
 unfolding octets
 raw_back dictionary id os words range h =
-    let apart = neither (is_internal id) (is_hidden id dictionary) h.apart in
+    let apart = or_parts (is_internal id) (is_hidden id dictionary) (not-true (is_internal id || is_hidden id dictionary) h.apart) in
     back_by_number dictionary id os h.held words range h.known apart.0 apart.1 h.within (same_value (Raw os) (value_of_octets id os dictionary) (rw apart.1 at h.canonical))
 
 typed_by : (dictionary : Dictionary) → IsSound dictionary → (id : AttrId) (value : Value) → IsValueInRange value → is_raw value ≡ false → IsWritable id value dictionary → (d : Option Described) → described id dictionary ≡ d → option_map_or (is_of_kind value) (option_map (λ (x : Described). x.kind) d) false ≡ true → ReadsBack (record { id = id; value = value }) dictionary
@@ -282,9 +270,4 @@ typed_by dictionary sound id value range raw h (Some d) e is = back_by_name dict
 
 pub reads_back : (dictionary : Dictionary) → IsSound dictionary → (id : AttrId) (value : Value) → IsIdInRange id → IsValueInRange value → is_writable (record { id = id; value = value }) dictionary ≡ true → ReadsBack (record { id = id; value = value }) dictionary
 reads_back dictionary sound id (Raw os) words range h = raw_back dictionary id os words range (writable_parts id (Raw os) dictionary h)
-reads_back dictionary sound id (values.Text os) words range h = let w = writable_parts id (values.Text os) dictionary h in typed_by dictionary sound id (values.Text os) range refl w _ refl w.typed
-reads_back dictionary sound id (values.Bytes os) words range h = let w = writable_parts id (values.Bytes os) dictionary h in typed_by dictionary sound id (values.Bytes os) range refl w _ refl w.typed
-reads_back dictionary sound id (Int n) words range h = let w = writable_parts id (Int n) dictionary h in typed_by dictionary sound id (Int n) range refl w _ refl w.typed
-reads_back dictionary sound id (Signed z) words range h = let w = writable_parts id (Signed z) dictionary h in typed_by dictionary sound id (Signed z) range refl w _ refl w.typed
-reads_back dictionary sound id (Addr os) words range h = let w = writable_parts id (Addr os) dictionary h in typed_by dictionary sound id (Addr os) range refl w _ refl w.typed
-reads_back dictionary sound id (Ether os) words range h = let w = writable_parts id (Ether os) dictionary h in typed_by dictionary sound id (Ether os) range refl w _ refl w.typed
+reads_back dictionary sound id value words range h = let w = writable_parts id value dictionary h in typed_by dictionary sound id value range refl w _ refl w.typed

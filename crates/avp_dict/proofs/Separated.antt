@@ -3,7 +3,7 @@ use Rattle.std.proofs.Common.{◌≡◌, ◌∙◌, ℕ, zero, suc, ◌+◌, ◌
 use Rattle.std.specs.List.{All, flat_map, slice_split}
 use Rattle.std.specs.Char.{digit_value}
 use Rattle.std.specs.Result.{result_ok}
-use Rattle.std.proofs.lemmas.Bool.{and_parts, cases_lt}
+use Rattle.std.proofs.lemmas.Bool.{and_parts, cases_lt, not-true}
 use Rattle.std.proofs.lemmas.Fmt.{length-decimal-le}
 use Rattle.std.proofs.lemmas.List.{append-nil, length-map}
 use Rattle.std.proofs.lemmas.List.Elements.{All-nil, All-cons, All-head, All-tail, All-from_get_or}
@@ -94,12 +94,8 @@ record IsGlyph (d o : ℕ) : Type 0 where
   value : digit_value o ≡ d
   plain : (o == 58) ≡ false
 
-not_true : (b : Bool) → not b ≡ true → b ≡ false
-not_true false h = refl
-not_true true h = absurd (cc)
-
 glyph_by : (d o : ℕ) → ((digit_value o == d) && not (o == 58)) ≡ true → IsGlyph d o
-glyph_by d o h = let parts = and_parts (digit_value o == d) (not (o == 58)) h in record { value = grind (arith, parts.0); plain = not_true (o == 58) parts.1 }
+glyph_by d o h = let parts = and_parts (digit_value o == d) (not (o == 58)) h in record { value = grind (arith, parts.0); plain = not-true (o == 58) parts.1 }
 
 glyph_at : (n d : ℕ) → glyphs_below n ≡ true → d < n → IsGlyph d (slice_index lower_digits d)
 unfolding glyphs_below

@@ -2,7 +2,9 @@
 use Rattle.std.proofs.Common.{◌≡◌, ℕ, Bool, true, false, not, cond, ◌&&◌, ◌==◌, nat_le, List, [], ◌∷◌, ◌++◌, filter, length, get_or, Option, Some, None, Result, Ok, Err, refl, subst, arith, if◌then◌else◌}
 use Rattle.std.specs.List.{All, list_all, list_any}
 use Rattle.std.specs.Option.{option_and_then}
-use Rattle.std.proofs.lemmas.List.Elements.{All-nil, All-cons, All-head, All-tail, All-push, All-filter}
+use Rattle.std.proofs.Math.Bool.{and-false}
+use Rattle.std.proofs.lemmas.Bool.{and_parts, cond_both, not-false, not-true}
+use Rattle.std.proofs.lemmas.List.Elements.{All-nil, All-push, All-filter, filter_passes}
 use Rattle.avp_lists.specs.declared.attributes.AttrId.{AttrId}
 use Rattle.avp_lists.specs.declared.attributes.AttrId.TheVariants as ids
 use Rattle.avp_lists.specs.Pairs.{id_eq}
@@ -17,7 +19,7 @@ use Rattle.avp_dict.proofs.SoundLines.{AllRead, AreRead, IsReadAttribute, is_ran
 use Rattle.avp_dict.specs.Blocks.{innermost}
 use Rattle.avp_dict.specs.Dictionary.{Dictionary, id_named, number_named, typing_of_id}
 use Rattle.avp_dict.specs.DictionaryReading.{dictionary_of, outline_of, settled, unless_open}
-use Rattle.avp_dict.specs.Letters.{is_word_octet}
+use Rattle.avp_dict.specs.Letters.{is_word_octet, most_name}
 use Rattle.avp_dict.specs.Limits.{is_known}
 use Rattle.avp_dict.specs.Lines.{lines_of}
 use Rattle.avp_dict.specs.Meanings.{Meaning, Nothing, Skipped, SkippedAttribute, Vendor, Attribute, Value, BeginVendor, BeginTlv, End, Reading, Context, context_of}
@@ -30,16 +32,6 @@ use Rattle.avp_dict.specs.Words.{same_name}
 
 -- ---- the used attributes and the vendors
 
--- lines that pass are those of a list that pass
-module _ {X : Type 0} (P : X → Type 0) (test : X → Bool) where
-  filtered_by : (b : Bool) (x : X) (xs : List X) → test x ≡ b → P x → All (λ y. P y × (test y ≡ true)) xs → All (λ y. P y × (test y ≡ true)) (cond b (x ∷ xs) xs)
-  filtered_by true x xs e h rest = All-cons (λ y. P y × (test y ≡ true)) x xs (h, e) rest
-  filtered_by false x xs e h rest = rest
-
-  filtered : (xs : List X) → All P xs → All (λ x. P x × (test x ≡ true)) (filter test xs)
-  filtered [] h = All-nil (λ x. P x × (test x ≡ true))
-  filtered (x ∷ xs) h = filtered_by (test x) x (filter test xs) refl (All-head P x xs h) (filtered xs (All-tail P x xs h))
-
 module _ (context : Context) where
   known_kept : (id : AttrId) → is_ranged id ≡ true → is_kept context.vendors id ≡ true → is_known id (outline_of context) ≡ true
   unfolding is_known
@@ -50,15 +42,15 @@ module _ (context : Context) where
   outline_attributes : AreRead context → All (IsSoundAttribute (outline_of context)) (used context.vendors context.attributes)
   unfolding used
   outline_attributes are =
-      let kept = filtered (IsReadAttribute context.attributes) (is_kept_line context.vendors) context.attributes are.attributes in
+      let test = is_kept_line context.vendors in
       λ k d lt.
-      let held = kept k d lt in
-      let a : AttributeLine = get_or (filter (is_kept_line context.vendors) context.attributes) k d in
+      let held = All-filter test (IsReadAttribute context.attributes) context.attributes are.attributes k d lt in
+      let a : AttributeLine = get_or (filter test context.attributes) k d in
       record {
-        named = held.0.named;
-        alone = All-filter (is_kept_line context.vendors) (λ b. names_other_id a.name a.id b ≡ false) context.attributes held.0.alone;
-        known = known_kept a.id held.0.ranged held.1;
-        hides = held.0.hides;
+        named = held.named;
+        alone = All-filter test (λ b. names_other_id a.name a.id b ≡ false) context.attributes held.alone;
+        known = known_kept a.id held.ranged (filter_passes test context.attributes k d lt);
+        hides = held.hides;
       }
 
   outline_sound : AreRead context → IsSound (outline_of context)
@@ -70,13 +62,8 @@ module _ (context : Context) where
 
 -- ---- the names of values
 
-last_false : (a b : Bool) → (a && b && not true) ≡ false
-last_false true true = refl
-last_false true false = refl
-last_false false b = refl
-
 agrees_itself : (v : ValueLine) → names_other_value v.id v.name v.number v ≡ false
-agrees_itself v = let e : (v.number == v.number) ≡ true = grind arith in rw e (last_false (id_eq v.id v.id) (same_name v.name v.name))
+agrees_itself v = let e : (v.number == v.number) ≡ true = grind arith in rw e (and-false (id_eq v.id v.id && same_name v.name v.name))
 
 value_more : (values : List ValueLine) (new : ValueLine) → All (IsSoundValue values) values → IsSoundValue values new → All (IsSoundValue (values ++ new ∷ [])) (values ++ new ∷ [])
 value_more values new are is =
@@ -91,25 +78,16 @@ value_more values new are is =
       alone = All-push (λ w. names_other_value new.id new.name new.number w ≡ false) values new is.alone (agrees_itself new);
     })
 
-no_number_by : (octets short numeral : Bool) → not (octets && short && not numeral) ≡ false → numeral ≡ false
-no_number_by true true false h = refl
-no_number_by true true true h = absurd (cc)
-no_number_by true false numeral h = absurd (cc)
-no_number_by false short numeral h = absurd (cc)
-
 no_number : (name : List ℕ) → not (is_value_name name) ≡ false → reads_as_number name ≡ false
 unfolding is_value_name
-no_number name h = no_number_by (list_all is_word_octet name) (nat_le (length name) 128) (reads_as_number name) h
+no_number name h =
+    not-true (reads_as_number name) (and_parts (list_all is_word_octet name && nat_le (length name) most_name) (not (reads_as_number name)) (not-false (is_value_name name) h)).1
 
 -- what a line adds is sound
 abbrev AddsSound : List ValueLine → Result (Option ValueLine) DictKind → Type 0
 AddsSound values (Ok None) = Unit {0}
 AddsSound values (Ok (Some v)) = IsSoundValue values v
 AddsSound values (Err kind) = Unit {0}
-
-adds_if : (values : List ValueLine) (b : Bool) (x y : Result (Option ValueLine) DictKind) → (b ≡ true → AddsSound values x) → (b ≡ false → AddsSound values y) → AddsSound values (cond b x y)
-adds_if values true x y hx hy = hx refl
-adds_if values false x y hx hy = hy refl
 
 abbrev pub AllSound : Result Dictionary DictFault → Type 0
 AllSound (Ok dictionary) = IsSound dictionary
@@ -118,9 +96,8 @@ AllSound (Err fault) = Unit {0}
 -- ids are known by the vendors alone
 known_by_vendors : (id : AttrId) (d e : Dictionary) → d.vendors ≡ e.vendors → is_known id d ≡ is_known id e
 unfolding is_known
-known_by_vendors (ids.Plain n) d e h = refl
 known_by_vendors (ids.Vendor v n) d e h = rw h
-known_by_vendors (ids.Extended t n) d e h = refl
+known_by_vendors _ d e h = refl
 
 -- with the same attributes and vendors, and sound values
 same_but_values : (d e : Dictionary) → d.attributes ≡ e.attributes → d.vendors ≡ e.vendors → All (IsSoundValue e.values) e.values → IsSound d → IsSound e
@@ -143,15 +120,15 @@ module _ (skipped : List (List ℕ)) (d : Dictionary) (sound : IsSound d) where
   unfolding value_up_to
   value_up_to_adds id name number None = tt
   value_up_to_adds id name number (Some most) =
-      adds_if d.values (not (is_value_name name)) _ _ (λ h. tt) (λ named.
-      adds_if d.values (not (nat_le number most)) _ _ (λ h. tt) (λ within.
-      adds_if d.values (is_of_other_number number (number_named id name d.values)) _ _ (λ h. tt) (λ alone.
+      cond_both (not (is_value_name name)) _ _ (AddsSound d.values) (λ h. tt) (λ named.
+      cond_both (not (nat_le number most)) _ _ (AddsSound d.values) (λ h. tt) (λ within.
+      cond_both (is_of_other_number number (number_named id name d.values)) _ _ (AddsSound d.values) (λ h. tt) (λ alone.
       record { named = no_number name named; alone = alone_by_number d.values id name number (λ k x lt. (sound.values k x lt).alone) alone })))
 
   value_of_adds : (attribute name : List ℕ) (number : ℕ) (id : Option AttrId) → AddsSound d.values (value_of skipped d attribute name number id)
   unfolding value_of
   value_of_adds attribute name number (Some id) = value_up_to_adds id name number (option_and_then most_of_typing (typing_of_id id d.attributes))
-  value_of_adds attribute name number None = adds_if d.values (list_any (is_same_name attribute) skipped) _ _ (λ h. tt) (λ h. tt)
+  value_of_adds attribute name number None = cond_both (list_any (is_same_name attribute) skipped) _ _ (AddsSound d.values) (λ h. tt) (λ h. tt)
 
   note_sound : (r : Reading) → IsSound (with_note d r)
   note_sound r = same_but_values d (with_note d r) refl refl sound.values sound
@@ -168,14 +145,7 @@ module _ (skipped : List (List ℕ)) (d : Dictionary) (sound : IsSound d) where
   line_sound : (r : Reading) (m : Meaning) → r.meaning ≡ m → AllSound (with_line skipped d r)
   unfolding with_line
   line_sound r (Value attribute name v) e = rw e (value_sound (value_of skipped d attribute name v (id_named attribute d.attributes)) r (value_of_adds attribute name v (id_named attribute d.attributes)))
-  line_sound r (BeginVendor name v) e = rw e (noted_sound (is_noted d.vendors (BeginVendor name v)) r)
-  line_sound r (BeginTlv name) e = rw e (noted_sound true r)
-  line_sound r (End noted) e = rw e (noted_sound noted r)
-  line_sound r (Attribute a) e = rw e (noted_sound (is_noted d.vendors (Attribute a)) r)
-  line_sound r (Vendor v) e = rw e (noted_sound false r)
-  line_sound r Nothing e = rw e (noted_sound false r)
-  line_sound r Skipped e = rw e (noted_sound true r)
-  line_sound r (SkippedAttribute name) e = rw e (noted_sound true r)
+  line_sound r m e = rw e (noted_sound (is_noted d.vendors m) r)
 
 more_sound : (read : Result Dictionary DictFault) (f : Dictionary → Result Dictionary DictFault) → AllSound read → ((d : Dictionary) → IsSound d → AllSound (f d)) → AllSound (read >>= f)
 more_sound (Ok d) f h next = next d h

@@ -1,6 +1,7 @@
 -- What each line is read as keeps to what holds of every dictionary.
-use Rattle.std.proofs.Common.{◌≡◌, ℕ, Bool, true, false, not, cond, ◌&&◌, ◌≤◌, nat_lt, nat_le, codes, List, [], ◌∷◌, ◌++◌, length, get_or, Option, Some, None, Result, Ok, Err, refl, sym, subst}
-use borrow.Author.Tests.{leb-true}
+use Rattle.std.proofs.Common.{◌≡◌, ℕ, Bool, true, false, not, cond, ◌&&◌, ◌≤◌, nat_lt, nat_le, codes, List, [], ◌∷◌, ◌++◌, length, get_or, Option, Some, None, Result, Ok, Err, refl, sym, subst, arith}
+use Rattle.std.proofs.lemmas.Bool.{and_parts, cond_both, leb-true, not-true}
+use Rattle.std.proofs.lemmas.Grind.{common_steps}
 use Rattle.std.specs.List.{All, list_all, list_any, slice_split}
 use Rattle.std.specs.Prelude.{IfSome, drop, take}
 use Rattle.std.specs.Option.{is_none}
@@ -24,6 +25,7 @@ use Rattle.avp_dict.specs.declared.file.meanings.Meaning.TheVariants as code
 use Rattle.avp_dict.proofs.Agreement.{other_id_sym, same_name_refl}
 use Rattle.avp_dict.proofs.Alone.{AreAloneNames, alone_by_id}
 use Rattle.avp_dict.proofs.OneMore.{context_of_push, context_of_none}
+use Rattle.avp_dict.specs.AttributeNumbers.{greatest_number, greatest_value}
 use Rattle.avp_dict.specs.Attributes.{attribute, attribute_line, attribute_of, dotted_word, id_word, is_attribute_name, is_extended, is_held, is_number, is_of_other_id, number_id, number_word, vendor_id}
 use Rattle.avp_dict.specs.Blocks.{begin_known, begin_tlv, begin_vendor, block_vendor, end_tlv, end_vendor, ended, is_skipping, unless_third}
 use Rattle.avp_dict.specs.Dictionary.{format_of, id_named, vendor_named}
@@ -59,11 +61,8 @@ pub record IsReadVendor (v : VendorLine) : Type 0 where
 
 -- of an ATTRIBUTE line that is new: it is alone where those before it are
 pub record IsNewAttribute (lines : List AttributeLine) (a : AttributeLine) : Type 0 where
-  pub named : begins_as_attr a.name ≡ false
   pub short : length a.name ≤ most_name
-  pub alone : AreAloneNames lines → All (λ b. names_other_id a.name a.id b ≡ false) lines
-  pub ranged : is_ranged a.id ≡ true
-  pub hides : a.typing.hidden ≡ true → is_text_kind (Some a.typing.kind) ≡ true
+  pub read : AreAloneNames lines → IsReadAttribute lines a
 
 abbrev pub IsRead : Context → Meaning → Type 0
 IsRead before m = elim m [ Attribute a ↦ IsNewAttribute before.attributes a | Vendor v ↦ IsReadVendor v | _ ↦ Unit {0} ]
@@ -77,42 +76,26 @@ pub record AreRead (context : Context) : Type 0 where
 pub agrees_itself : (n : List ℕ) (i : AttrId) → (same_name n n && not (id_eq i i)) ≡ false
 agrees_itself n i = rw (same_name_refl n, id_eq-same i)
 
-widened : (lines : List AttributeLine) (new a : AttributeLine) → IsReadAttribute lines a → names_other_id new.name new.id a ≡ false → IsReadAttribute (lines ++ new ∷ []) a
-widened lines new a h agrees = record {
+one_line_more : (lines : List AttributeLine) (new a : AttributeLine) → IsReadAttribute lines a → names_other_id a.name a.id new ≡ false → IsReadAttribute (lines ++ new ∷ []) a
+one_line_more lines new a h apart = record {
   named = h.named;
   short = h.short;
-  alone = All-push (λ b. names_other_id a.name a.id b ≡ false) lines new h.alone (other_id_sym new.name a.name new.id a.id agrees);
+  alone = All-push (λ b. names_other_id a.name a.id b ≡ false) lines new h.alone apart;
   ranged = h.ranged;
   hides = h.hides;
 }
-
-itself : (lines : List AttributeLine) (new : AttributeLine) → IsReadAttribute lines new → IsReadAttribute (lines ++ new ∷ []) new
-itself lines new h = record {
-  named = h.named;
-  short = h.short;
-  alone = All-push (λ b. names_other_id new.name new.id b ≡ false) lines new h.alone (agrees_itself new.name new.id);
-  ranged = h.ranged;
-  hides = h.hides;
-}
-
-added : (lines : List AttributeLine) (new : AttributeLine) → All (IsReadAttribute lines) lines → IsNewAttribute lines new → IsReadAttribute lines new
-added lines new are is = record { named = is.named; short = is.short; alone = is.alone (λ k d lt. (are k d lt).alone); ranged = is.ranged; hides = is.hides }
 
 attribute_more : (lines : List AttributeLine) (new : AttributeLine) → All (IsReadAttribute lines) lines → IsNewAttribute lines new → All (IsReadAttribute (lines ++ new ∷ [])) (lines ++ new ∷ [])
 attribute_more lines new are new_is =
-    let is = added lines new are new_is in
-    All-push (IsReadAttribute (lines ++ new ∷ [])) lines new (λ k d lt. widened lines new (get_or lines k d) (are k d lt) (is.alone k d lt)) (itself lines new is)
+    let is = new_is.read (λ k d lt. (are k d lt).alone) in
+    All-push (IsReadAttribute (lines ++ new ∷ [])) lines new
+    (λ k d lt. let a = get_or lines k d in one_line_more lines new a (are k d lt) (other_id_sym new.name a.name new.id a.id (is.alone k d lt)))
+    (one_line_more lines new new is (agrees_itself new.name new.id))
 
 one_more : (before : Context) (r : Reading) (m : Meaning) → r.meaning ≡ m → AreRead before → IsRead before m → AreRead (after_line before r)
 one_more before r (Attribute a) e are is = rw e (record { attributes = attribute_more before.attributes a are.attributes is; vendors = are.vendors })
 one_more before r (Vendor v) e are is = rw e (record { attributes = are.attributes; vendors = All-push IsReadVendor before.vendors v are.vendors is })
-one_more before r (BeginVendor n v) e are is = rw e (record { attributes = are.attributes; vendors = are.vendors })
-one_more before r (BeginTlv n) e are is = rw e (record { attributes = are.attributes; vendors = are.vendors })
-one_more before r (End noted) e are is = rw e (record { attributes = are.attributes; vendors = are.vendors })
-one_more before r Nothing e are is = rw e are
-one_more before r Skipped e are is = rw e are
-one_more before r (SkippedAttribute n) e are is = rw e are
-one_more before r (Value n m v) e are is = rw e are
+one_more before r _ e are is = rw e (record { attributes = are.attributes; vendors = are.vendors })
 
 -- ---- what a line is read as
 
@@ -121,61 +104,31 @@ Reads before (Ok m) = IsRead before m
 Reads before (Err kind) = Unit {0}
 
 either : (before : Context) (b : Bool) (x y : Result Meaning DictKind) → Reads before x → Reads before y → Reads before (cond b x y)
-either before true x y hx hy = hx
-either before false x y hx hy = hy
-
-decided : (before : Context) (b : Bool) (x y : Result Meaning DictKind) → (b ≡ true → Reads before x) → (b ≡ false → Reads before y) → Reads before (cond b x y)
-decided before true x y hx hy = hx refl
-decided before false x y hx hy = hy refl
+either before b x y hx hy = cond_both b x y (Reads before) (λ _. hx) (λ _. hy)
 
 -- ---- names and ids
 
 abbrev IsIdRanged : Option AttrId → Type 0
-IsIdRanged None = Unit {0}
-IsIdRanged (Some id) = is_ranged id ≡ true
+IsIdRanged o = IfSome o (λ id. is_ranged id ≡ true)
 
 abbrev GivesRanged : Result (Option AttrId) DictKind → Type 0
 GivesRanged (Ok id) = IsIdRanged id
 GivesRanged (Err kind) = Unit {0}
 
-ranged_if : (b : Bool) (id : AttrId) → (b ≡ true → is_ranged id ≡ true) → IsIdRanged (cond b (Some id) None)
-ranged_if true id h = h refl
-ranged_if false id h = tt
-
-given_if : (b : Bool) (x y : Result (Option AttrId) DictKind) → GivesRanged x → GivesRanged y → GivesRanged (cond b x y)
-given_if true x y hx hy = hx
-given_if false x y hx hy = hy
-
-extended_by : (b low high least most : Bool) → (b && (low && high && least && most)) ≡ true → (low && high) ≡ true
-extended_by true true true least most h = refl
-extended_by true true false least most h = absurd (cc)
-extended_by true false high least most h = absurd (cc)
-extended_by false low high least most h = absurd (cc)
-
 extended_ranged : (b : Bool) (t x : ℕ) → (b && is_extended 1 t x) ≡ true → is_ranged (ids.Extended t x) ≡ true
-extended_ranged b t x h = extended_by b (nat_le 241 t) (nat_le t 246) (nat_le 1 x) (nat_le x 255) h
-
-not_by : (octets short attr flags : Bool) → ((octets && short && not attr) && flags) ≡ true → (attr ≡ false) × (short ≡ true)
-not_by true true false flags h = (refl, refl)
-not_by true true true flags h = absurd (cc)
-not_by true false attr flags h = absurd (cc)
-not_by false short attr flags h = absurd (cc)
+extended_ranged b t x h = grind (arith, common_steps)
 
 -- a name has no form of a name by number, and is short
 good_name : (name : List ℕ) (flags : Bool) → (is_attribute_name name && flags) ≡ true → (begins_as_attr name ≡ false) × (length name ≤ most_name)
 unfolding is_attribute_name
 good_name name flags h =
-    let parts = not_by (list_all is_name_octet name) (nat_le (length name) most_name) (begins_as_attr name) flags h in
-    (parts.0, leb-true (length name) most_name parts.1)
-
-short_by : (visible short : Bool) → (visible && short) ≡ true → short ≡ true
-short_by true short h = h
-short_by false short h = absurd (cc)
+    let short = nat_le (length name) most_name in
+    let parts = and_parts (list_all is_name_octet name && short) (not (begins_as_attr name)) (and_parts (is_attribute_name name) flags h).0 in
+    (not-true (begins_as_attr name) parts.1, leb-true (length name) most_name (and_parts (list_all is_name_octet name) short parts.0).1)
 
 short_vendor : (name : List ℕ) → is_vendor_name name ≡ true → length name ≤ most_name
 unfolding is_vendor_name
-short_vendor name h =
-    leb-true (length name) most_name (short_by (list_all is_visible name) (nat_le (length name) most_name) h)
+short_vendor name h = leb-true (length name) most_name (and_parts (list_all is_visible name) (nat_le (length name) most_name) h).1
 
 hides_by : (own : Option Kind) (opaque hiding : Bool) → (typing_by own opaque hiding).hidden ≡ true → is_text_kind (Some (typing_by own opaque hiding).kind) ≡ true
 hides_by own true hiding h = refl
@@ -184,15 +137,10 @@ hides_by (Some Text) false true h = refl
 hides_by (Some Bytes) false true h = refl
 hides_by _ false true h = absurd (cc)
 
-abbrev typing_if : Bool → Option Kind → Bool → Bool → Typing
-typing_if fixed own opaque hiding = cond fixed (record { kind = Bytes; hidden = false; by_text = true }) (typing_by own opaque hiding)
-
-hides_if : (fixed : Bool) (own : Option Kind) (opaque hiding : Bool) → (typing_if fixed own opaque hiding).hidden ≡ true → is_text_kind (Some (typing_if fixed own opaque hiding).kind) ≡ true
-hides_if true own opaque hiding h = refl
-hides_if false own opaque hiding h = hides_by own opaque hiding h
-
 hides_text : (id : AttrId) (word : List ℕ) (flags : List (List ℕ)) → (typing_of id word flags).hidden ≡ true → is_text_kind (Some (typing_of id word flags).kind) ≡ true
-hides_text id word flags h = hides_if (is_fixed id) (kind_word (word_before_bracket word)) (list_any is_opaque flags) (list_any is_hiding flags) h
+hides_text id word flags =
+    cond_both (is_fixed id) _ _ (λ (t : Typing). t.hidden ≡ true → is_text_kind (Some t.kind) ≡ true) (λ fixed h. refl)
+    (λ other. hides_by (kind_word (word_before_bracket word)) (list_any is_opaque flags) (list_any is_hiding flags))
 
 -- ---- what a line is read as, by its first word
 
@@ -201,8 +149,7 @@ module _ (before : Context) where
   unfolding include
   include_reads None depth head (path ∷ []) = either before (same_name head (codes "$include")) _ _ tt tt
   include_reads (Some place) depth head (path ∷ []) = either before (nat_lt depth 8) _ _ tt tt
-  include_reads found depth head [] = tt
-  include_reads found depth head (path ∷ other ∷ rest) = tt
+  include_reads found depth head _ = tt
 
   ended_reads : (fits : Bool) (opened : List Reading) → Reads before (ended fits opened)
   ended_reads true opened = tt
@@ -211,20 +158,17 @@ module _ (before : Context) where
   end_vendor_reads : (opened : List Reading) (rest : List (List ℕ)) → Reads before (end_vendor opened rest)
   unfolding end_vendor
   end_vendor_reads opened (name ∷ []) = ended_reads _ opened
-  end_vendor_reads opened [] = tt
-  end_vendor_reads opened (name ∷ other ∷ rest) = tt
+  end_vendor_reads opened _ = tt
 
   end_tlv_reads : (opened : List Reading) (rest : List (List ℕ)) → Reads before (end_tlv opened rest)
   unfolding end_tlv
   end_tlv_reads opened (name ∷ []) = ended_reads _ opened
-  end_tlv_reads opened [] = tt
-  end_tlv_reads opened (name ∷ other ∷ rest) = tt
+  end_tlv_reads opened _ = tt
 
   begin_tlv_reads : (rest : List (List ℕ)) → Reads before (begin_tlv rest)
   unfolding begin_tlv
   begin_tlv_reads (name ∷ []) = tt
-  begin_tlv_reads [] = tt
-  begin_tlv_reads (name ∷ other ∷ rest) = tt
+  begin_tlv_reads _ = tt
 
   begin_known_by : (name : List ℕ) (found : Option ℕ) → Reads before (elim found [ None ↦ Err UnknownVendor | Some vendor ↦ Ok (BeginVendor name (unless_third vendor (format_of vendor before.vendors))) ])
   begin_known_by name None = tt
@@ -236,10 +180,9 @@ module _ (before : Context) where
 
   begin_vendor_reads : (opened : List Reading) (rest : List (List ℕ)) → Reads before (begin_vendor before.vendors opened rest)
   unfolding begin_vendor
-  begin_vendor_reads opened [] = tt
   begin_vendor_reads opened (name ∷ []) = either before (is_skipping opened) _ _ tt (begin_known_reads name)
   begin_vendor_reads opened (name ∷ word ∷ []) = tt
-  begin_vendor_reads opened (name ∷ word ∷ other ∷ rest) = tt
+  begin_vendor_reads opened _ = tt
 
   -- ---- VALUE and VENDOR lines
 
@@ -249,40 +192,27 @@ module _ (before : Context) where
 
   value_reads : (rest : List (List ℕ)) → Reads before (value rest)
   unfolding value
-  value_reads [] = tt
-  value_reads (attribute ∷ []) = tt
-  value_reads (attribute ∷ name ∷ []) = tt
-  value_reads (attribute ∷ name ∷ number ∷ []) = then_read (bounded 18446744073709551615 number) (λ n. Ok (Value attribute name n)) (λ n. tt)
-  value_reads (attribute ∷ name ∷ number ∷ other ∷ rest) = tt
+  value_reads (attribute ∷ name ∷ number ∷ []) = then_read (bounded greatest_value number) (λ n. Ok (Value attribute name n)) (λ n. tt)
+  value_reads _ = tt
 
   -- the format, if there is one, is one of those that there are
   abbrev IsKnownFormat : Option VendorFormat → Type 0
   IsKnownFormat f = IfSome f (λ (g : VendorFormat). is_format g.t g.l ≡ true)
 
   two_parts_known : (third : Bool) (t l : Option ℕ) → IsKnownFormat (two_parts third t l)
-  two_parts_known third None l = tt
-  two_parts_known third (Some t) None = tt
-  two_parts_known third (Some t) (Some l) = kept (is_format t l) refl
-    where
-      kept : (b : Bool) → is_format t l ≡ b → IsKnownFormat (cond b (Some (record { t = t; l = l; third = third })) None)
-      kept true e = e
-      kept false e = tt
+  two_parts_known third (Some t) (Some l) = cond_both (is_format t l) _ _ IsKnownFormat (λ held. held) (λ other. tt)
+  two_parts_known third _ _ = tt
 
   format_parts_known : (parts : List (List ℕ)) → IsKnownFormat (format_parts parts)
   format_parts_known (t ∷ l ∷ []) = two_parts_known false (number_of t) (number_of l)
   format_parts_known (t ∷ l ∷ c ∷ []) = two_parts_known true (number_of t) (number_of l)
-  format_parts_known [] = tt
-  format_parts_known (t ∷ []) = tt
-  format_parts_known (t ∷ l ∷ c ∷ d ∷ more) = tt
-
-  known_or_none : (b c : Bool) (f : Option VendorFormat) → IsKnownFormat f → IsKnownFormat (cond b None (cond c f None))
-  known_or_none true c f h = tt
-  known_or_none false true f h = h
-  known_or_none false false f h = tt
+  format_parts_known _ = tt
 
   format_word_known : (word : List ℕ) → IsKnownFormat (format_word word)
   unfolding format_word
-  format_word_known word = known_or_none (nat_lt (length word) 7) (same_name (take 7 word) (codes "format=")) (format_parts (slice_split is_comma (drop 7 word))) (format_parts_known (slice_split is_comma (drop 7 word)))
+  format_word_known word =
+      cond_both (nat_lt (length word) 7) _ _ IsKnownFormat (λ short. tt)
+      (λ long. cond_both (same_name (take 7 word) (codes "format=")) _ _ IsKnownFormat (λ h. format_parts_known (slice_split is_comma (drop 7 word))) (λ other. tt))
 
   vendor_numbered_reads : (name : List ℕ) (f : VendorFormat) → length name ≤ most_name → is_format f.t f.l ≡ true → (n : ℕ) → Reads before (vendor_numbered before.vendors name f n)
   unfolding vendor_numbered
@@ -291,21 +221,20 @@ module _ (before : Context) where
   vendor_line_reads : (name number : List ℕ) (f : Option VendorFormat) → IsKnownFormat f → Reads before (vendor_line before.vendors name number f)
   unfolding vendor_line
   vendor_line_reads name number None known = tt
-  vendor_line_reads name number (Some f) known = decided before (is_vendor_name name) _ _ (λ named. then_read (bounded 4294967295 number) (vendor_numbered before.vendors name f) (vendor_numbered_reads name f (short_vendor name named) known)) (λ other. tt)
+  vendor_line_reads name number (Some f) known =
+      cond_both (is_vendor_name name) _ _ (Reads before) (λ named. then_read (bounded greatest_number number) (vendor_numbered before.vendors name f) (vendor_numbered_reads name f (short_vendor name named) known)) (λ other. tt)
 
   vendor_reads : (rest : List (List ℕ)) → Reads before (vendor before.vendors rest)
   unfolding vendor
-  vendor_reads [] = tt
-  vendor_reads (name ∷ []) = tt
   vendor_reads (name ∷ number ∷ []) = vendor_line_reads name number (Some standard_format) refl
   vendor_reads (name ∷ number ∷ format ∷ []) = vendor_line_reads name number (format_word format) (format_word_known format)
-  vendor_reads (name ∷ number ∷ format ∷ other ∷ rest) = tt
+  vendor_reads _ = tt
 
   -- ---- ATTRIBUTE lines
 
   vendor_id_ranged : (v n : ℕ) (f : Option VendorFormat) → IsIdRanged (vendor_id v n f)
   vendor_id_ranged v n None = tt
-  vendor_id_ranged v n (Some f) = ranged_if (is_held n f) (ids.Vendor v n) (λ h. refl)
+  vendor_id_ranged v n (Some f) = cond_both (is_held n f) _ _ IsIdRanged (λ held. refl) (λ other. tt)
 
   number_id_ranged : (block : Option ℕ) (n : ℕ) → IsIdRanged (number_id before.vendors block n)
   unfolding number_id
@@ -315,31 +244,29 @@ module _ (before : Context) where
   number_word_ranged : (block : Option ℕ) (n : Option ℕ) → GivesRanged (number_word before.vendors block n)
   unfolding number_word
   number_word_ranged block None = tt
-  number_word_ranged block (Some n) = given_if (nat_le n 4294967295) _ _ (number_id_ranged block n) tt
+  number_word_ranged block (Some n) = cond_both (nat_le n greatest_number) _ _ GivesRanged (λ low. number_id_ranged block n) (λ high. tt)
 
   dotted_word_ranged : (block t x : Option ℕ) → GivesRanged (dotted_word block t x)
-  dotted_word_ranged block None x = tt
-  dotted_word_ranged block (Some t) None = tt
-  dotted_word_ranged block (Some t) (Some x) = ranged_if (is_none block && is_extended 1 t x) (ids.Extended t x) (extended_ranged (is_none block) t x)
+  dotted_word_ranged block (Some t) (Some x) = cond_both (is_none block && is_extended 1 t x) _ _ IsIdRanged (extended_ranged (is_none block) t x) (λ other. tt)
+  dotted_word_ranged block _ _ = tt
 
   id_word_ranged : (block : Option ℕ) (parts : List (List ℕ)) → GivesRanged (id_word before.vendors block parts)
   unfolding id_word
   id_word_ranged block [] = tt
   id_word_ranged block (n ∷ []) = number_word_ranged block (number_of n)
   id_word_ranged block (t ∷ x ∷ []) = dotted_word_ranged block (number_of t) (number_of x)
-  id_word_ranged block (t ∷ x ∷ y ∷ rest) = given_if (list_all is_number (t ∷ x ∷ y ∷ rest)) _ _ tt tt
+  id_word_ranged block (t ∷ x ∷ y ∷ rest) = cond_both (list_all is_number (t ∷ x ∷ y ∷ rest)) _ _ GivesRanged (λ h. tt) (λ other. tt)
 
   attribute_of_reads : (name kind : List ℕ) (flags : List (List ℕ)) (id : Option AttrId) → IsIdRanged id → Reads before (attribute_of before.attributes name kind flags id)
   unfolding attribute_of
   attribute_of_reads name kind flags None ranged = tt
   attribute_of_reads name kind flags (Some id) ranged =
-      decided before (is_attribute_name name && are_flags flags) _ _
-      (λ named. decided before (is_of_other_id id (id_named name before.attributes)) _ _ (λ other. tt) (λ alone. record {
-        named = (good_name name (are_flags flags) named).0;
-        short = (good_name name (are_flags flags) named).1;
-        alone = λ are. alone_by_id before.attributes name id are alone;
-        ranged = ranged;
-        hides = hides_text id kind flags;
+      cond_both (is_attribute_name name && are_flags flags) _ _ (Reads before)
+      (λ named.
+      let good = good_name name (are_flags flags) named in
+      cond_both (is_of_other_id id (id_named name before.attributes)) _ _ (Reads before) (λ other. tt) (λ alone. record {
+        short = good.1;
+        read = λ are. record { named = good.0; short = good.1; alone = alone_by_id before.attributes name id are alone; ranged = ranged; hides = hides_text id kind flags };
       }))
       (λ other. tt)
 
@@ -353,22 +280,15 @@ module _ (before : Context) where
 
   attribute_reads : (block : Option ℕ) (rest : List (List ℕ)) → Reads before (attribute before block rest)
   unfolding attribute
-  attribute_reads block [] = tt
-  attribute_reads block (name ∷ []) = tt
-  attribute_reads block (name ∷ number ∷ []) = tt
   attribute_reads block (name ∷ number ∷ kind ∷ []) = attribute_line_reads block name number kind []
   attribute_reads block (name ∷ number ∷ kind ∷ flags ∷ []) = attribute_line_reads block name number kind (slice_split is_comma flags)
-  attribute_reads block (name ∷ number ∷ kind ∷ flags ∷ other ∷ rest) = tt
+  attribute_reads block _ = tt
 
   -- ---- a line
 
-  skipped_by : (b : Bool) (name : List ℕ) → IsRead before (cond b (SkippedAttribute name) Skipped)
-  skipped_by true name = tt
-  skipped_by false name = tt
-
   skipped_reads : (head : List ℕ) (rest : List (List ℕ)) → IsRead before (skipped head rest)
   skipped_reads head [] = tt
-  skipped_reads head (name ∷ rest) = skipped_by (same_name head (codes "attribute")) name
+  skipped_reads head (name ∷ rest) = cond_both (same_name head (codes "attribute")) _ _ (IsRead before) (λ h. tt) (λ other. tt)
 
   plain_line_reads : (block : Option ℕ) (head : List ℕ) (rest : List (List ℕ)) → Reads before (plain_line before block head rest)
   unfolding plain_line

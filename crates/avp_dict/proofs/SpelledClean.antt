@@ -1,10 +1,11 @@
 -- What texts spell under a dictionary's names is read back as it was written.
-use Rattle.std.proofs.Common.{◌≡◌, ◌∙◌, ℕ, zero, suc, ◌≤◌, pos, Bool, true, false, ◌&&◌, ◌||◌, cond, List, [], ◌∷◌, Option, None, Some, Result, Ok, Err, length, refl, ap, subst, arith, FitsSigned}
+use Rattle.std.proofs.Common.{◌≡◌, ◌∙◌, ℕ, zero, suc, ◌+◌, ◌≤◌, pos, Bool, ℤ, true, false, ◌&&◌, ◌||◌, cond, List, [], ◌∷◌, Option, None, Some, Result, Ok, Err, length, refl, ap, subst, arith, FitsSigned}
 use Rattle.std.specs.Prelude.{◌==◌, nat_le, IfSome, drop}
 use Rattle.std.specs.Int.{w32}
 use Rattle.std.specs.List.{list_all, slice_split}
 use Rattle.std.specs.Option.{option_and_then, option_map, unwrap_or}
 use Rattle.std.specs.Result.{result_ok}
+use Rattle.std.proofs.lemmas.Bool.{cond_both, or_parts}
 use Rattle.std.proofs.lemmas.Grind.{common_steps}
 use Rattle.avp_lists.specs.declared.attributes.AttrId.{AttrId}
 use Rattle.avp_lists.specs.declared.attributes.Pair.{Pair}
@@ -13,6 +14,7 @@ use Rattle.avp_lists.specs.declared.attributes.Value.TheVariants as values
 use Rattle.avp_dict.specs.declared.entries.Named.{Named}
 use Rattle.avp_dict.specs.declared.entries.Kind.{Kind}
 use Rattle.avp_dict.specs.declared.entries.Kind.TheVariants as kinds
+use Rattle.avp_dict.specs.AttributeNumbers.{greatest_number, greatest_signed, greatest_value}
 use Rattle.avp_dict.specs.Dictionary.{Dictionary, typing_of_id}
 use Rattle.avp_dict.specs.declared.entries.Typing.{Typing}
 use Rattle.avp_dict.specs.declared.value.faults.ValueFault.{ValueFault}
@@ -28,7 +30,7 @@ use Rattle.avp_lists.specs.States.{most_pairs}
 use Rattle.avp_dict.specs.Sent.{is_canonical, is_clean, is_clean_pair, is_container, is_raw}
 use Rattle.avp_dict.specs.Spellings.{address_spelled, bytes_spelled, decimal_octet, digit_pair, each_number, ether_spelled, in_parts, is_barred, is_colon, is_negative, negated, number_spelled, octets_spelled, octets_value, signed_spelled, spelled, spelled_as, spelled_by, unless_long, up_to, value_spelled}
 use Rattle.avp_dict.specs.Words.{digits, number_of}
-use Rattle.avp_dict.proofs.Fitting.{always, fits_by, known_named, mapped_holds, of_found, then_holds, up_to_holds, value_holds, weaker}
+use Rattle.avp_dict.proofs.Fitting.{always, fits_by, known_named, mapped_holds, of_found, request_passes, then_holds, up_to_holds, value_holds, weaker}
 use Rattle.avp_dict.proofs.OwnValues.{IsSized, read_value_sized, typed_canonical, unread_canonical}
 
 -- ---- what the types' texts spell
@@ -47,30 +49,28 @@ each_number-length number (part ∷ parts) =
     (number part)
 
 in_parts-length : (n : ℕ) (number : List ℕ → Option ℕ) (parts : List (List ℕ)) → IfSome (in_parts n number parts) (λ os. length os ≡ n)
-in_parts-length n number parts = go (length parts == n) refl
-  where
-    go : (b : Bool) → (length parts == n) ≡ b → IfSome (cond b (each_number number parts) None) (λ os. length os ≡ n)
-    go true e =
-        let same : length parts ≡ n = grind (arith, common_steps) in
-        weaker (λ os. length os ≡ length parts) (λ os. length os ≡ n) (λ os h. h ∙ same) (each_number number parts) (each_number-length number parts)
-    go false e = tt
+in_parts-length n number parts =
+    cond_both (length parts == n) _ _ (λ o. IfSome o (λ os. length os ≡ n))
+    (λ e.
+    let same : length parts ≡ n = grind (arith, common_steps) in
+    weaker (λ os. length os ≡ length parts) (λ os. length os ≡ n) (λ os h. h ∙ same) (each_number number parts) (each_number-length number parts))
+    (λ other. tt)
 
-negated_ranged : (n : ℕ) → nat_le n 2147483648 ≡ true → FitsSigned w32 (negated n)
+negated_ranged : (n : ℕ) → nat_le n (greatest_signed + 1) ≡ true → FitsSigned w32 (negated n)
 negated_ranged zero h = record { sfits = omega arith }
-negated_ranged (suc n) h = let low : suc n ≤ 2147483648 = grind (arith, common_steps) in record { sfits = omega arith }
+negated_ranged (suc n) h = let low : suc n ≤ (greatest_signed + 1) = grind (arith, common_steps) in record { sfits = omega arith }
 
-plain_ranged : (n : ℕ) → nat_le n 2147483647 ≡ true → FitsSigned w32 (pos n)
-plain_ranged n h = let low : n ≤ 2147483647 = grind (arith, common_steps) in record { sfits = omega arith }
+plain_ranged : (n : ℕ) → nat_le n greatest_signed ≡ true → FitsSigned w32 (pos n)
+plain_ranged n h = let low : n ≤ greatest_signed = grind (arith, common_steps) in record { sfits = omega arith }
 
 signed_ranged : (d : Dictionary) (text : List ℕ) → IfSome (signed_spelled text) (λ z. FitsSigned w32 z)
 unfolding signed_spelled
 signed_ranged d text =
-    elim (is_negative text) as (λ b. IfSome (cond b (option_map negated (up_to 2147483648 (digits 10 (drop 1 text)))) (option_map pos (up_to 2147483647 (digits 10 text)))) (λ z. FitsSigned w32 z)) [
-      | true ↦ mapped_holds (λ z. FitsSigned w32 z) negated (up_to 2147483648 (digits 10 (drop 1 text)))
-          (weaker (λ n. nat_le n 2147483648 ≡ true) (λ n. FitsSigned w32 (negated n)) negated_ranged (up_to 2147483648 (digits 10 (drop 1 text))) (up_to_holds d 2147483648 (digits 10 (drop 1 text))))
-      | false ↦ mapped_holds (λ z. FitsSigned w32 z) pos (up_to 2147483647 (digits 10 text))
-          (weaker (λ n. nat_le n 2147483647 ≡ true) (λ n. FitsSigned w32 (pos n)) plain_ranged (up_to 2147483647 (digits 10 text)) (up_to_holds d 2147483647 (digits 10 text)))
-    ]
+    let IsRanged : ℤ → Type 0 = λ z. FitsSigned w32 z in
+    let low : (most : ℕ) (f : ℕ → ℤ) (digits : Option ℕ) → ((n : ℕ) → nat_le n most ≡ true → IsRanged (f n)) → IfSome (option_map f (up_to most digits)) IsRanged =
+    λ most f digits h. mapped_holds IsRanged f (up_to most digits) (weaker (λ n. nat_le n most ≡ true) (λ n. IsRanged (f n)) h (up_to most digits) (up_to_holds d most digits)) in
+    cond_both (is_negative text) _ _ (λ o. IfSome o IsRanged)
+    (λ negative. low (greatest_signed + 1) negated (digits 10 (drop 1 text)) negated_ranged) (λ positive. low greatest_signed pos (digits 10 text) plain_ranged)
 
 number_whole : (o : Option ℕ) → IfSome (option_map values.Int o) IsWhole
 number_whole o = mapped_holds IsWhole values.Int o (always (λ n. IsWhole (values.Int n)) (λ n. (refl, tt)) o)
@@ -85,9 +85,9 @@ module _ (d : Dictionary) where
       mapped_holds IsWhole values.Ether (ether_spelled text) (weaker (λ os. length os ≡ 6) (λ os. IsWhole (values.Ether os)) (λ os h. (refl, h)) (ether_spelled text) (in_parts-length 6 digit_pair (slice_split is_colon text)))
   whole_as kinds.Byte by_text id text = number_whole (number_spelled 255 id text d)
   whole_as kinds.Short by_text id text = number_whole (number_spelled 65535 id text d)
-  whole_as kinds.Integer by_text id text = number_whole (number_spelled 4294967295 id text d)
-  whole_as kinds.Integer64 by_text id text = number_whole (number_spelled 18446744073709551615 id text d)
-  whole_as kinds.Date by_text id text = number_whole (up_to 4294967295 (number_of text))
+  whole_as kinds.Integer by_text id text = number_whole (number_spelled greatest_number id text d)
+  whole_as kinds.Integer64 by_text id text = number_whole (number_spelled greatest_value id text d)
+  whole_as kinds.Date by_text id text = number_whole (up_to greatest_number (number_of text))
   whole_as kinds.Signed by_text id text =
       mapped_holds IsWhole values.Signed (signed_spelled text) (weaker (λ z. FitsSigned w32 z) (λ z. IsWhole (values.Signed z)) (λ z h. (refl, h)) (signed_spelled text) (signed_ranged d text))
 
@@ -112,27 +112,17 @@ module _ (d : Dictionary) where
 
   spelled_own : (n : Named) (text : List ℕ) → is_barred n d ≡ false → IfSome (spelled n text d) (IsOwn n.id)
   unfolding spelled
-  spelled_own n text free = go n.raw refl
-    where
-      shown : (raw : Bool) → n.raw ≡ raw → raw ≡ true → is_hidden n.id d ≡ false
-      shown raw e r = by (is_container n.id) (is_hidden n.id d) (rw (e, r) at free)
-        where
-          by : (a b : Bool) → (a || (true && b)) ≡ false → b ≡ false
-          by false b h = h
-          by true b h = absurd (cc)
-
-      go : (raw : Bool) → n.raw ≡ raw → IfSome (cond raw (option_map (octets_value n.id d) (octets_spelled text)) (option_and_then (spelled_by n.id text d) (typing_of_id n.id d.attributes))) (IsOwn n.id)
-      go true e = mapped_holds (IsOwn n.id) (octets_value n.id d) (octets_spelled text) (always (λ os. IsOwn n.id (value_of_octets n.id os d)) (octets_own n.id (shown true e refl)) (octets_spelled text))
-      go false e =
-          weaker IsWhole (IsOwn n.id) (λ v is fit. typed_canonical d n.id v is.0 is.1 fit) (option_and_then (spelled_by n.id text d) (typing_of_id n.id d.attributes)) (named_whole n.id text (typing_of_id n.id d.attributes))
-
-  within_own : (id : AttrId) (v : Value) (b : Bool) → IsOwn id v → IfSome (result_ok (cond b (Ok v) (Err TooLong))) (IsOwn id)
-  within_own id v true h = h
-  within_own id v false h = tt
+  spelled_own n text free =
+      cond_both n.raw _ _ (λ o. IfSome o (IsOwn n.id))
+      (λ raw.
+      let shown : is_hidden n.id d ≡ false = (or_parts (is_container n.id) (is_hidden n.id d) (rw raw at free)).1 in
+      mapped_holds (IsOwn n.id) (octets_value n.id d) (octets_spelled text) (always (λ os. IsOwn n.id (value_of_octets n.id os d)) (octets_own n.id shown) (octets_spelled text)))
+      (λ typed.
+      weaker IsWhole (IsOwn n.id) (λ v is fit. typed_canonical d n.id v is.0 is.1 fit) (option_and_then (spelled_by n.id text d) (typing_of_id n.id d.attributes)) (named_whole n.id text (typing_of_id n.id d.attributes)))
 
   unless_long_own : (id : AttrId) (o : Option Value) → IfSome o (IsOwn id) → IfSome (result_ok (unless_long id d o)) (IsOwn id)
   unless_long_own id None h = tt
-  unless_long_own id (Some v) h = within_own id v (is_within id v d) h
+  unless_long_own id (Some v) h = cond_both (is_within id v d) _ _ (λ r. IfSome (result_ok r) (IsOwn id)) (λ within. h) (λ long. tt)
 
   -- a value that is spelled is its own octets', and its id no container
   abbrev IsSpelledOwn : AttrId → Value → Type 0
@@ -140,17 +130,11 @@ module _ (d : Dictionary) where
 
   value_own : (n : Named) (text : List ℕ) → IfSome (result_ok (value_spelled n text d)) (IsSpelledOwn n.id)
   unfolding value_spelled
-  value_own n text = go (is_barred n d) refl
-    where
-      free : (a b : Bool) → (a || b) ≡ false → a ≡ false
-      free false b h = refl
-      free true b h = absurd (cc)
-
-      go : (b : Bool) → is_barred n d ≡ b → IfSome (result_ok (cond b (Err NotWritable) (unless_long n.id d (spelled n text d)))) (IsSpelledOwn n.id)
-      go true e = tt
-      go false e =
-          let alone = free (is_container n.id) (n.raw && is_hidden n.id d) e in
-          weaker (IsOwn n.id) (IsSpelledOwn n.id) (λ v h. (alone, h)) (result_ok (unless_long n.id d (spelled n text d))) (unless_long_own n.id (spelled n text d) (spelled_own n text e))
+  value_own n text =
+      cond_both (is_barred n d) _ _ (λ (r : Result Value ValueFault). IfSome (result_ok r) (IsSpelledOwn n.id)) (λ barred. tt)
+      (λ free.
+      let alone = (or_parts (is_container n.id) (n.raw && is_hidden n.id d) free).0 in
+      weaker (IsOwn n.id) (IsSpelledOwn n.id) (λ v h. (alone, h)) (result_ok (unless_long n.id d (spelled n text d))) (unless_long_own n.id (spelled n text d) (spelled_own n text free)))
 
   -- a text's value under the name of a known id
   pub spelled_clean : (n : Named) (text : List ℕ) (v : Value) → is_known n.id d ≡ true → value_spelled n text d ≡ Ok v → is_clean_pair d (pair_with n v) ≡ true
@@ -176,27 +160,7 @@ module _ (d : Dictionary) where
   unfolding pair_spelled
   pair_clean sound a = named_clean a.text (named a.name d) (known_named d sound a.name)
 
-  abbrev AreClean : List Pair → Type 0
-  AreClean pairs = list_all (is_clean_pair d) pairs ≡ true
-
-  first_clean : (pair : Option Pair) (pairs : Option (List Pair)) → IfSome pair (λ p. is_clean_pair d p ≡ true) → IfSome pairs AreClean → IfSome (joined (option_map (λ p. p ∷ []) pair) pairs) AreClean
-  first_clean None pairs h rest = tt
-  first_clean (Some pair) None h rest = tt
-  first_clean (Some pair) (Some pairs) h rest = rw (h, rest)
-
-  pairs_clean : IsSound d → (as_ : List Assignment) → IfSome (pairs_spelled d as_) AreClean
-  unfolding pairs_spelled
-  pairs_clean sound [] = refl
-  pairs_clean sound (a ∷ as_) = first_clean (pair_spelled d a) (pairs_spelled d as_) (pair_clean sound a) (pairs_clean sound as_)
-
-  few_clean : (pairs : Option (List Pair)) → IfSome pairs AreClean → IfSome (option_and_then few_enough pairs) AreClean
-  few_clean None h = tt
-  few_clean (Some pairs) h = elim (nat_le (length pairs) most_pairs) as (λ b. IfSome (cond b (Some pairs) None) AreClean) [ true ↦ h | false ↦ tt ]
-
   -- the list of a request is clean
   pub request_clean : IsSound d → (text : List ℕ) (pairs : List Pair) → request_spelled text d ≡ Some pairs → is_clean pairs d ≡ true
-  unfolding request_spelled is_clean
-  request_clean sound text pairs e =
-      let P : Option (List Pair) → Type 0 = λ o. IfSome o AreClean in
-      let assigned = then_holds AreClean (pairs_spelled d) (pairs_clean sound) (assignments_of text) in
-      subst P e (few_clean (option_and_then (pairs_spelled d) (assignments_of text)) assigned)
+  unfolding is_clean
+  request_clean sound text pairs e = request_passes d (is_clean_pair d) (pair_clean sound) text pairs e

@@ -1,12 +1,12 @@
 -- The passes over the lines, one after the other.
 use Rattle.std.proofs.Common.{◌≡◌, ◌∙◌, ℕ, Bool, true, false, List, [], ◌++◌, Option, Some, None, Result, Ok, Err, sym, ap}
+use Rattle.std.proofs.lemmas.List.{append-nil}
 use Rattle.avp_dict.specs.declared.entries.AttributeLine.{AttributeLine}
 use Rattle.avp_dict.specs.declared.entries.Note.{Note}
 use Rattle.avp_dict.specs.declared.entries.ValueLine.{ValueLine}
 use Rattle.avp_dict.specs.declared.faults.DictFault.{DictFault}
 use Rattle.avp_dict.specs.declared.faults.DictKind.TheVariants.{Unmatched}
 use Rattle.avp_dict.specs.declared.file.files.NamedFile.{NamedFile}
-use Rattle.avp_dict.proofs.Gathering.{append_nil}
 use Rattle.avp_dict.proofs.OneMore.{read_lines_none, refuses_through}
 use Rattle.avp_dict.specs.Blocks.{innermost}
 use Rattle.avp_dict.specs.Dictionary.{Dictionary}
@@ -20,7 +20,7 @@ use Rattle.avp_dict.specs.Values.{resolve}
 
 all_lines : (limit : ℕ) (files : List NamedFile) → read_lines limit files [] (lines_in files 9 0 ++ []) ≡ read_lines limit files [] (lines_of files)
 unfolding lines_of
-all_lines limit files = ap (read_lines limit files []) (append_nil (lines_in files 9 0))
+all_lines limit files = ap (read_lines limit files []) (append-nil (lines_in files 9 0))
 
 pub read_fails : (limit : ℕ) (files : List NamedFile) (fault : DictFault) → Refuses fault (read_lines limit files [] (lines_in files 9 0 ++ [])) → Refuses fault (dictionary_of limit files)
 unfolding dictionary_of

@@ -86,7 +86,7 @@ pub fn lower(octet: u8) -> u8
 }
 
 /// Whether two words are the same, without regard to ASCII case.
-#[tactic(auto, using(crate::proofs::Sameness::other_length))]
+#[tactic(auto, using(crate::proofs::Folding::other_length))]
 pub fn is_same_name(a: &[u8], b: &[u8]) -> bool
     ensures { result ≡ same_name a.now b.now }
 {

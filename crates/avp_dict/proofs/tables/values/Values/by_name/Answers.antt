@@ -3,7 +3,8 @@ use Rattle.avp_lists.specs.Pairs.{id_eq}
 use Rattle.avp_dict.specs.Dictionary.{is_value_named, last_where}
 use Rattle.avp_dict.specs.Words.{same_name}
 use Rattle.avp_dict.specs.code.Tables.{same_value_name, value_name_key}
-use Rattle.avp_dict.proofs.Folding.{and_false, same_folded}
+use Rattle.std.proofs.lemmas.Bool.{and_right}
+use Rattle.avp_dict.proofs.Folding.{same_folded}
 use Rattle.avp_dict.proofs.Keys.{same_key}
 use Rattle.avp_dict.proofs.Short.{long_where}
 use Rattle.avp_dict.proofs.tables.values.Values.by_name.Goals as goal
@@ -17,4 +18,4 @@ returns-in-Some c =
     ∙ ap (last_where (is_value_named id name)) (c.as_slice-lines.ensures.value ∙ c.self.view_is)
 
 pub returns-in-None : goal.returns-in-None
-returns-in-None c = long_where (λ a. a.name) c.args.name.now (is_value_named c.args.id c.args.name.now) (λ v h. and_false (id_eq v.id c.args.id) (same_name v.name c.args.name.now) h) c.in-None.ensures.long c.self.inside.lines.items c.self.invariant.short ∙ ap (last_where (is_value_named c.args.id c.args.name.now)) c.self.view_is
+returns-in-None c = long_where (λ a. a.name) c.args.name.now (is_value_named c.args.id c.args.name.now) (λ v h. and_right (id_eq v.id c.args.id) (same_name v.name c.args.name.now) h) c.in-None.ensures.long c.self.inside.lines.items c.self.invariant.short ∙ ap (last_where (is_value_named c.args.id c.args.name.now)) c.self.view_is
