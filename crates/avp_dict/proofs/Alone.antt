@@ -1,7 +1,5 @@
 -- A line that agrees with the last one of its name agrees with all of them.
-use Rattle.std.proofs.Common.{◌≡◌, ◌∙◌, ℕ, Bool, true, false, not, ◌&&◌, ◌==◌, List, Option, Some, None, option_map, get_or, map, refl, sym, ap, arith}
-use Rattle.std.specs.List.{All}
-use Rattle.std.specs.Str.{bytes_eq}
+use Rattle.std.proofs.Common.{◌≡◌, ◌∙◌, ℕ, true, false, not, ◌&&◌, ◌==◌, List, Option, Some, None, option_map, get_or, map, refl, sym, ap, arith, All, bytes_eq}
 use Rattle.std.specs.Cmp.Lexicographic.{bytes_decides}
 use Rattle.std.proofs.lemmas.Bool.{and_left, and_parts, not-false}
 use Rattle.avp_lists.specs.declared.attributes.AttrId.{AttrId}

@@ -1,6 +1,5 @@
 -- The pairs of a request fit the dictionary.
-use Rattle.std.proofs.Common.{◌≡◌, ℕ, ◌+◌, ◌-◌, ◌^◌, ◌<◌, ◌≤◌, suc, Bool, true, false, not, ◌&&◌, cond, List, [], ◌∷◌, Option, None, Some, Result, Ok, Err, length, get_or, refl, ◌∙◌, subst, arith, lit≤}
-use Rattle.std.specs.Prelude.{◌==◌, nat_le, IfSome, All, drop}
+use Rattle.std.proofs.Common.{◌≡◌, ℕ, ◌+◌, ◌^◌, ◌<◌, ◌≤◌, suc, Bool, true, false, not, ◌&&◌, cond, List, [], ◌∷◌, Option, None, Some, Result, Ok, Err, length, refl, ◌∙◌, subst, arith, lit≤, ◌==◌, nat_le, IfSome, All, drop}
 use Rattle.std.specs.Int.Digits.{AllBelowBase, number_from_digits}
 use Rattle.std.specs.List.{list_all, slice_split}
 use Rattle.std.specs.Option.{option_and_then, option_map, option_or, unwrap_or}
@@ -23,7 +22,6 @@ use Rattle.avp_dict.specs.declared.entries.Kind.{Kind}
 use Rattle.avp_dict.specs.declared.entries.Kind.TheVariants as kinds
 use Rattle.avp_dict.specs.declared.entries.Typing.{Typing}
 use Rattle.avp_dict.specs.declared.value.faults.ValueFault.{ValueFault}
-use Rattle.avp_dict.specs.declared.value.faults.ValueFault.TheVariants.{NotWritable, TooLong}
 use Rattle.avp_dict.proofs.Found.{last_holds}
 use Rattle.avp_dict.specs.AttributeNumbers.{greatest_number, greatest_value}
 use Rattle.avp_dict.specs.Attributes.{is_extended}

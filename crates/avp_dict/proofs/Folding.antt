@@ -1,6 +1,5 @@
 -- Names are the same where their octets in lower case are.
-use Rattle.std.proofs.Common.{◌≡◌, ◌≢◌, ◌≤◌, ◌<◌, ℕ, suc, Bool, true, false, ◌&&◌, ◌==◌, List, [], ◌∷◌, length, map, refl, sym, ap, arith, ◌∙◌}
-use Rattle.std.specs.Str.{bytes_eq}
+use Rattle.std.proofs.Common.{◌≡◌, ◌≢◌, ◌≤◌, ◌<◌, ℕ, suc, false, ◌&&◌, ◌==◌, List, [], ◌∷◌, length, map, refl, sym, ap, arith, ◌∙◌, bytes_eq}
 use Rattle.std.proofs.lemmas.Bool.{and_right}
 use Rattle.avp_dict.specs.Letters.{most_name}
 use Rattle.avp_dict.specs.Words.{lower, same_name}

@@ -1,8 +1,7 @@
 -- What the lines of a sound dictionary say of an id is found again by its printed names.
-use Rattle.std.proofs.Common.{◌≡◌, ◌∙◌, ℕ, Bool, true, false, not, cond, ◌&&◌, ◌||◌, ◌==◌, ltb, List, [], ◌∷◌, drop, reverse, slice_index, Option, Some, None, refl, ap, subst, arith, is_some, option_map}
+use Rattle.std.proofs.Common.{◌≡◌, ◌∙◌, ℕ, Bool, true, false, not, cond, ◌&&◌, ◌||◌, ◌==◌, ltb, List, [], ◌∷◌, drop, reverse, slice_index, Option, Some, None, refl, ap, subst, arith, is_some, option_map, All, find}
 use Rattle.std.specs.Char.{digit_value}
-use Rattle.std.specs.List.{All, find}
-use Rattle.std.proofs.lemmas.Bool.{and_parts}
+use Rattle.std.proofs.lemmas.Bool.{and_parts, cond_both}
 use Rattle.std.proofs.lemmas.List.{reverse-append, reverse-reverse}
 use Rattle.std.proofs.lemmas.List.Elements.{All-nil, All-cons, All-head, All-tail, All-append}
 use Rattle.avp_lists.specs.declared.attributes.AttrId.{AttrId}
@@ -27,26 +26,20 @@ module _ {X : Type 0} where
       rw (reverse-append (x ∷ []) xs) (All-append P (reverse xs) (x ∷ []) (All-reverse P xs (All-tail P x xs h)) (All-cons P x [] (All-head P x xs h) (All-nil P)))
 
   -- what is found passes the test, and is one of the list
-  find_by : (P : X → Type 0) (test : X → Bool) (b : Bool) (x r : X) (found : Option X) → test x ≡ b → P x → (found ≡ Some r → P r × (test r ≡ true)) → cond b (Some x) found ≡ Some r → P r × (test r ≡ true)
-  find_by P test true x r found e px next h =
-      let same : x ≡ r = cc in
-      (subst P same px, subst (λ (y : X). test y ≡ true) same e)
-  find_by P test false x r found e px next h = next h
-
   find_holds : (P : X → Type 0) (test : X → Bool) (xs : List X) (r : X) → All P xs → find test xs ≡ Some r → P r × (test r ≡ true)
   find_holds P test [] r all h = absurd (cc)
-  find_holds P test (x ∷ xs) r all h = find_by P test (test x) x r (find test xs) refl (All-head P x xs all) (find_holds P test xs r (All-tail P x xs all)) h
+  find_holds P test (x ∷ xs) r all h =
+      cond_both (test x) _ _ (λ (o : Option X). o ≡ Some r → P r × (test r ≡ true))
+      (λ e at. let same : x ≡ r = cc in (subst P same (All-head P x xs all), subst (λ (y : X). test y ≡ true) same e))
+      (λ e. find_holds P test xs r (All-tail P x xs all)) h
 
   pub last_holds : (P : X → Type 0) (test : X → Bool) (xs : List X) (r : X) → All P xs → last_where test xs ≡ Some r → P r × (test r ≡ true)
   last_holds P test xs r all h = find_holds P test (reverse xs) r (All-reverse P xs all) h
 
-  none_by : (test : X → Bool) (b : Bool) (x : X) (xs : List X) → test x ≡ b → (find test xs ≡ None → All (λ r. test r ≡ false) xs) → cond b (Some x) (find test xs) ≡ None → All (λ r. test r ≡ false) (x ∷ xs)
-  none_by test true x xs e next h = absurd (cc)
-  none_by test false x xs e next h = All-cons (λ r. test r ≡ false) x xs e (next h)
-
   find_none : (test : X → Bool) (xs : List X) → find test xs ≡ None → All (λ r. test r ≡ false) xs
   find_none test [] h = All-nil (λ r. test r ≡ false)
-  find_none test (x ∷ xs) h = none_by test (test x) x xs refl (find_none test xs) h
+  find_none test (x ∷ xs) h =
+      cond_both (test x) _ _ (λ (o : Option X). o ≡ None → All (λ r. test r ≡ false) (x ∷ xs)) (λ e at. absurd (cc)) (λ e at. All-cons (λ r. test r ≡ false) x xs e (find_none test xs at)) h
 
   pub last_none : (test : X → Bool) (xs : List X) → last_where test xs ≡ None → All (λ r. test r ≡ false) xs
   last_none test xs h = subst (All (λ r. test r ≡ false)) (reverse-reverse xs) (All-reverse (λ r. test r ≡ false) (reverse xs) (find_none test (reverse xs) h))
@@ -110,10 +103,6 @@ no_value : (n : Option ℕ) → is_some n ≡ false → n ≡ None
 no_value None h = refl
 no_value (Some n) h = absurd (cc)
 
-neither : (b : Bool) → (let none : Option ℕ = None in cond b none none ≡ none)
-neither true = refl
-neither false = refl
-
 not_number_by : (hexadecimal other : Bool) (text : List ℕ) → (other ≡ true → digits 10 text ≡ None) → is_some (cond (hexadecimal || other) (digits 16 (drop 2 text)) (digits 10 text)) ≡ false → cond hexadecimal (digits 16 (drop 2 text)) (digits 10 text) ≡ None
 not_number_by true other text upper h = no_value (digits 16 (drop 2 text)) h
 not_number_by false true text upper h = upper refl
@@ -124,7 +113,8 @@ upper_x [] h = refl
 upper_x (o ∷ []) h = absurd (cc ((and_parts (o == 48) false h).1))
 upper_x (o ∷ p ∷ os) h =
     let e : p ≡ 88 = grind (arith, (and_parts (o == 48) (p == 88) h).1) in
-    rw e (neither (ltb (digit_value o) 10))
+    let none : Option ℕ = None in
+    rw e (cond_both (ltb (digit_value o) 10) none none (λ n. n ≡ none) (λ low. refl) (λ high. refl))
 
 pub not_number : (name : List ℕ) → reads_as_number name ≡ false → number_of name ≡ None
 not_number name h = not_number_by (is_hexadecimal name) ((slice_index name 0 == 48) && (slice_index name 1 == 88)) name (upper_x name) h

@@ -1,6 +1,5 @@
 -- What gathering the lines of a file keeps true.
-use Rattle.std.proofs.Common.{◌≡◌, ℕ, zero, suc, ◌+◌, ◌-◌, ◌<◌, Bool, true, false, not, cond, List, [], ◌∷◌, Some, None, ◌++◌, length, take, drop, refl, ap, sym, ◌∙◌, arith, append_assoc, one-add, add-one}
-use Rattle.std.specs.Bool.{if◌then◌else◌}
+use Rattle.std.proofs.Common.{◌≡◌, ℕ, zero, suc, ◌+◌, ◌-◌, ◌<◌, Bool, true, false, not, cond, List, [], ◌∷◌, Some, None, ◌++◌, length, take, drop, refl, ap, sym, ◌∙◌, arith, append_assoc, one-add, add-one, if◌then◌else◌}
 use Rattle.std.specs.List.{before_first, after_first, onto_first, position_or_len}
 use Rattle.avp_dict.specs.declared.file.files.NamedFile.{NamedFile}
 use Rattle.avp_dict.specs.Lines.{is_line_end, Line, expanded, file_included, lines_below, lines_in, octets_at, texts_of}

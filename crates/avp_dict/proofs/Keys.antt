@@ -1,5 +1,5 @@
 -- Keys of tables tell ids apart, and one more line in a table.
-use Rattle.std.proofs.Common.{◌≡◌, Bool, true, false, ◌&&◌, ◌==◌, refl}
+use Rattle.std.proofs.Common.{◌≡◌, ◌==◌, refl}
 use Rattle.std.proofs.Math.Bool.{and-true}
 use Rattle.avp_lists.specs.declared.attributes.AttrId.{AttrId}
 use Rattle.avp_lists.specs.declared.attributes.AttrId.TheVariants.{Plain, Vendor, Extended}

@@ -1,15 +1,13 @@
 -- Which tokens are at the front of a line.
-use Rattle.std.proofs.Common.{◌≡◌, ℕ, suc, ◌+◌, ◌-◌, ◌<◌, ◌≤◌, Bool, true, false, not, cond, List, [], ◌∷◌, ◌++◌, length, get_or, take, drop, refl, append_assoc, ap, ◌∙◌, subst, arith, add-one, one-add, drop-cons, length-drop}
-use Rattle.std.specs.Prelude.{◌==◌}
+use Rattle.std.proofs.Common.{◌≡◌, ℕ, suc, ◌+◌, ◌-◌, ◌<◌, ◌≤◌, Bool, true, false, not, cond, List, [], ◌∷◌, ◌++◌, length, get_or, take, drop, refl, append_assoc, ap, ◌∙◌, subst, arith, add-one, one-add, drop-cons, length-drop, ◌==◌, take-suc}
 use Rattle.std.specs.List.{position_or_len}
 use Rattle.std.proofs.lemmas.Grind.{common_steps}
-use Rattle.std.proofs.Math.Seq.{take-suc}
 use Rattle.std.proofs.lemmas.List.{append-nil, drop_all, take_all}
 use Rattle.avp_dict.specs.declared.value.quotes.QuoteMark.{QuoteMark}
 use Rattle.avp_dict.specs.declared.value.quotes.QuoteMark.TheVariants.{Double, Single}
 use Rattle.avp_dict.specs.declared.request.tokens.Side.{Side}
 use Rattle.avp_dict.specs.declared.request.tokens.Side.TheVariants.{Name, Value}
-use Rattle.avp_dict.specs.RequestLines.{Place, Outside, Between, Escaped, Token, Blank, Comma, Sign, Run, Quoted, Unended, is_filled, onto_quoted, onto_run, place_between, quote_octet, tokens_at, tokens_from}
+use Rattle.avp_dict.specs.RequestLines.{Place, Outside, Between, Escaped, Token, Comma, Sign, Run, Quoted, Unended, is_filled, onto_quoted, onto_run, place_between, quote_octet, tokens_at, tokens_from}
 use Rattle.avp_dict.specs.Words.{is_blank}
 use Rattle.avp_dict.specs.code.RequestTokens.{ends_run}
 

@@ -22,7 +22,6 @@ pub mod ReadingBack
 pub mod Resolving
 pub mod Separated
 pub mod Short
-pub mod SignedRange
 pub mod SoundDictionary
 pub mod SoundLines
 pub mod SpelledClean

@@ -1,6 +1,5 @@
 -- One line more.
-use Rattle.std.proofs.Common.{◌≡◌, ℕ, Bool, true, false, ◌-◌, ◌∙◌, sym, ap, take, ◌<◌, List, [], ◌∷◌, ◌++◌, Result, Ok, Err, refl, length, if◌then◌else◌, nat_lt}
-use borrow.Author.Tests.{ltb-true}
+use Rattle.std.proofs.Common.{◌≡◌, ℕ, Bool, true, false, ◌-◌, ◌∙◌, sym, ap, take, ◌<◌, List, [], ◌∷◌, ◌++◌, Result, Ok, Err, refl, length, if◌then◌else◌, nat_lt, ltb-true}
 use Rattle.std.proofs.lemmas.List.{length-map, take-map}
 use Rattle.std.proofs.lemmas.List.Sums.{fold_push}
 use Rattle.avp_dict.specs.declared.file.files.NamedFile.{NamedFile}
@@ -35,6 +34,11 @@ pub read_lines_ok : (limit : ℕ) (files : List NamedFile) (before : List Readin
     → read_lines limit files before (line ∷ lines) ≡ read_lines limit files (before ++ record { file = line.file; line = line.number; meaning = meaning } ∷ []) lines
 unfolding read_lines
 read_lines_ok limit files before line lines meaning e = rw e
+
+-- what holds of a step and of each way that it goes on holds of both, one after the other
+pub then_both : {A B E : Type 0} (P : Result A E → Type 0) (Q : Result B E → Type 0) (r : Result A E) (f : A → Result B E) → P r → ((x : A) → P (Ok x) → Q (f x)) → ((e : E) → P (Err e) → Q (Err e)) → Q (r >>= f)
+then_both P Q (Ok x) f h ok err = ok x h
+then_both P Q (Err e) f h ok err = err e h
 
 fails_through : (memory : Bool) (fault : DictFault) (A : Type 0) (B : Type 0) (r : Result A DictFault) (f : A → Result B DictFault) → If memory (fault ≡ want_of_memory) (r ≡ Err fault) → If memory (fault ≡ want_of_memory) (r >>= f ≡ Err fault)
 fails_through true fault A B r f h = h

@@ -1,6 +1,5 @@
 -- What is read of another number of words, or of parts, than there has to be.
-use Rattle.std.proofs.Common.{◌≡◌, ◌≢◌, ℕ, List, [], ◌∷◌, Option, None, Err, length, get_or, refl, true, arith}
-use Rattle.std.specs.Borrow.{Bor}
+use Rattle.std.proofs.Common.{◌≡◌, ◌≢◌, ℕ, List, [], ◌∷◌, Option, None, Err, length, get_or, refl, true, arith, Bor}
 use Rattle.avp_dict.specs.declared.entries.VendorLine.{VendorLine}
 use Rattle.avp_dict.specs.declared.faults.DictKind.TheVariants.{Unreadable}
 use Rattle.avp_dict.specs.Attributes.{id_word, many_words}

@@ -1,10 +1,8 @@
 -- The octets of a value of its type stand for it.
-use Rattle.std.proofs.Common.{◌≡◌, ◌∙◌, ℕ, zero, suc, ◌^◌, ◌<◌, ◌≤◌, Bool, true, false, not, ◌&&◌, nat_le, cond, List, length, Option, Some, None, refl, sym, ap, subst, arith, rules, ℤ, FitsSigned}
-use Rattle.std.specs.Prelude.{◌==◌}
+use Rattle.std.proofs.Common.{◌≡◌, ◌∙◌, ℕ, zero, suc, ◌^◌, ◌<◌, ◌≤◌, Bool, true, false, not, ◌&&◌, ltb, List, length, Option, Some, None, refl, sym, ap, subst, arith, rules, ℤ, FitsSigned, ◌==◌, option_and_then}
 use Rattle.std.specs.Int.{bytes_high_first, cast_signed, cast_unsigned, to_be_bytes, w32, w64}
 use Rattle.std.specs.Int.Digits.{number_from_digits}
-use Rattle.std.specs.Option.{option_and_then}
-use Rattle.std.proofs.lemmas.Bool.{and_parts, false≢true, leb-true}
+use Rattle.std.proofs.lemmas.Bool.{and_parts, cond_both, false≢true, leb-true}
 use Rattle.std.proofs.lemmas.Grind.{common_steps}
 use Rattle.std.proofs.lemmas.Int.{to_z-of_z}
 use Rattle.std.proofs.lemmas.Nat.{from_be_bytes-to_be_bytes_8}
@@ -23,7 +21,6 @@ use Rattle.avp_dict.specs.Names.{Described, described}
 use Rattle.avp_dict.specs.Octets.{is_hidden, is_hideable, kind_of, octets, octets_of, of_length, read_by, read_value, value_of_octets, value_read}
 use Rattle.avp_dict.specs.Sent.{is_canonical, is_raw, is_shown}
 use Rattle.avp_dict.proofs.Items.{eight_octets, of_length-same}
-use Rattle.avp_dict.proofs.SignedRange.{signed_ranged}
 
 -- an address has the octets of its type, and a signed number 32 bits
 abbrev pub IsSized : Value → Type 0
@@ -51,6 +48,14 @@ signed_small z h = search rules
 signed_back : (z : ℤ) → FitsSigned w32 z → cast_signed w32 (number_from_digits 256 (to_be_bytes w32 (cast_unsigned w32 z))) ≡ z
 signed_back z h = ap (cast_signed w32) (number_back 4 (cast_unsigned w32 z) (omega arith) (let small = signed_small z h in omega arith)) ∙ to_z-of_z w32 z h
 
+-- any number read as a signed one has 32 bits
+signed_ranged : (n : ℕ) → FitsSigned w32 (cast_signed w32 n)
+signed_ranged n = go (ltb n (2 ^ 31)) refl
+  where
+    go : (b : Bool) → ltb n (2 ^ 31) ≡ b → FitsSigned w32 (cast_signed w32 n)
+    go true e = let small : n < 2 ^ 31 = grind (arith, common_steps) in rw e (record { sfits = small })
+    go false e = let large : 2 ^ 31 ≤ n = grind (arith, common_steps) in rw e (record { sfits = omega arith })
+
 -- ---- values of a type
 
 own_value : (kind : Kind) (v : Value) → is_raw v ≡ false → IsSized v → is_of_kind v kind ≡ true → value_read kind (octets_of (Some kind) v) ≡ Some v
@@ -68,14 +73,10 @@ own_value _ _ raw sized is = absurd (cc)
 
 -- what a type reads is of the type's size, and is no raw octets
 kept_sized : (n : ℕ) (value : List ℕ → Value) (os : List ℕ) (v : Value) → is_raw (value os) ≡ false → (length os ≡ n → IsSized (value os)) → of_length n value os ≡ Some v → (is_raw v ≡ false) × IsSized v
-kept_sized n value os v raw sized e = go (length os == n) refl e
-  where
-    some_is : value os ≡ v → length os ≡ n → (is_raw v ≡ false) × IsSized v
-    some_is same long = subst (λ (x : Value). (is_raw x ≡ false) × IsSized x) same (raw, sized long)
-
-    go : (b : Bool) → (length os == n) ≡ b → cond b (Some (value os)) None ≡ Some v → (is_raw v ≡ false) × IsSized v
-    go true h is = some_is (cc) (grind (arith, common_steps))
-    go false h is = absurd (cc)
+kept_sized n value os v raw sized e =
+    let P : Value → Type 0 = λ x. (is_raw x ≡ false) × IsSized x in
+    cond_both (length os == n) _ _ (λ (o : Option Value). o ≡ Some v → P v)
+    (λ long is. let same : value os ≡ v = cc in subst P same (raw, sized (grind (arith, common_steps)))) (λ other is. absurd (cc)) e
 
 given_sized : (value v : Value) → is_raw value ≡ false → IsSized value → Some value ≡ Some v → (is_raw v ≡ false) × IsSized v
 given_sized value v raw sized e = let same : value ≡ v = cc in subst (λ (x : Value). (is_raw x ≡ false) × IsSized x) same (raw, sized)
@@ -97,13 +98,10 @@ module _ (dictionary : Dictionary) (id : AttrId) where
   unfolding read_value
   read_value_sized os v e = go (described id dictionary) e
     where
-      by : (d : Described) (b : Bool) → cond b None (value_read d.kind os) ≡ Some v → (is_raw v ≡ false) × IsSized v
-      by d true h = absurd (cc)
-      by d false h = read_sized d.kind os v h
-
       go : (o : Option Described) → option_and_then (read_by os) o ≡ Some v → (is_raw v ≡ false) × IsSized v
       go None h = absurd (cc)
-      go (Some d) h = by d (d.hidden && not (is_hideable os)) h
+      go (Some d) h =
+          cond_both (d.hidden && not (is_hideable os)) _ _ (λ (o : Option Value). o ≡ Some v → (is_raw v ≡ false) × IsSized v) (λ hides is. absurd (cc)) (λ shows. read_sized d.kind os v) h
 
   -- ---- canonical pairs
 
@@ -128,13 +126,10 @@ module _ (dictionary : Dictionary) (id : AttrId) where
       let own = own_value d.kind v raw sized (typed_by v d raw e t) in
       rw (e, shows, own)
 
-  by_hidden : (v : Value) (b : Bool) → is_hidden id dictionary ≡ b → is_shown v ≡ true → (is_hidden id dictionary ≡ false → value_of_octets id (octets id v dictionary) dictionary ≡ v) → cond b (is_shown v) (value_eq v (value_of_octets id (octets id v dictionary) dictionary)) ≡ true
-  by_hidden v true h s own = s
-  by_hidden v false h s own = ap (value_eq v) (own h) ∙ value_eq-same v
-
   canonical_by : (v : Value) → fits (record { id = id; value = v }) dictionary ≡ true → is_shown v ≡ true → (is_hidden id dictionary ≡ false → value_of_octets id (octets id v dictionary) dictionary ≡ v) → is_canonical (record { id = id; value = v }) dictionary ≡ true
   unfolding is_canonical
-  canonical_by v fit s own = let h = by_hidden v (is_hidden id dictionary) refl s own in rw (fit, h)
+  canonical_by v fit s own =
+      rw fit (cond_both (is_hidden id dictionary) _ _ (λ b. b ≡ true) (λ hidden. s) (λ plain. ap (value_eq v) (own plain) ∙ value_eq-same v))
 
   typed_of : (v : Value) → fits (record { id = id; value = v }) dictionary ≡ true → is_typed id v dictionary ≡ true
   unfolding fits

@@ -1,9 +1,7 @@
 -- What reading pair after pair keeps true.
-use Rattle.std.proofs.Common.{◌≡◌, ◌≢◌, ℕ, ◌<◌, ◌≤◌, Bool, true, false, ◌&&◌, cond, List, [], ◌∷◌, ◌++◌, Option, None, Some, length, refl, sym, ap, ◌∙◌, append_assoc, length-append, arith}
+use Rattle.std.proofs.Common.{◌≡◌, ◌≢◌, ℕ, ◌<◌, ◌≤◌, Bool, true, false, ◌&&◌, cond, List, [], ◌∷◌, ◌++◌, Option, None, Some, length, refl, sym, ap, ◌∙◌, append_assoc, length-append, arith, option_and_then, option_map, append-nil}
 use Rattle.std.specs.List.{list_all}
-use Rattle.std.specs.Option.{option_and_then, option_map}
 use Rattle.std.proofs.lemmas.Grind.{common_steps}
-use Rattle.std.proofs.lemmas.List.{append-nil}
 use Rattle.avp_lists.specs.declared.attributes.Pair.{Pair}
 use Rattle.avp_lists.specs.States.{most_pairs}
 use Rattle.avp_dict.specs.declared.entries.Named.{Named}
@@ -15,7 +13,7 @@ use Rattle.avp_dict.specs.declared.request.tokens.Token.{Token as CodeToken}
 use Rattle.avp_dict.specs.declared.request.tokens.Token.TheVariants as code
 use Rattle.avp_dict.specs.Names.{named}
 use Rattle.avp_dict.specs.Lines.{texts_of}
-use Rattle.avp_dict.specs.RequestLines.{Assignment, Token, Blank, Comma, Sign, Run, Quoted, Unended, assigned, assignments_of, is_blank_line, is_idle_line, joined, packet_assignments, pairs_of, tokens_at, value_text, without_front}
+use Rattle.avp_dict.specs.RequestLines.{Assignment, Token, Comma, Sign, Run, assigned, assignments_of, is_blank_line, is_idle_line, joined, packet_assignments, pairs_of, tokens_at, value_text, without_front}
 use Rattle.avp_dict.specs.Requests.{few_enough, pair_named, pair_spelled, pairs_spelled, request_spelled}
 use Rattle.avp_dict.specs.code.LineReading.{IsRefused, RefusesLine, after_pairs, assigned_after, packet_pairs, pair_of_token, pairs_after, pairs_at}
 use Rattle.avp_dict.specs.code.RequestTokens.{side_after, token_view}

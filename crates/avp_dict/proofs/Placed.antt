@@ -1,8 +1,8 @@
 -- Each line, note and fault lies in a file of the set.
-use Rattle.std.proofs.Common.{◌≡◌, ℕ, zero, suc, Bool, true, false, ◌+◌, ◌-◌, ◌<◌, List, [], ◌∷◌, ◌++◌, Option, Some, None, Result, Ok, Err, refl, subst, length, if◌then◌else◌}
-use Rattle.std.specs.Prelude.{slice_get, All}
-use Rattle.std.specs.List.{fold}
+use Rattle.std.proofs.Common.{◌≡◌, ℕ, zero, suc, Bool, true, false, ◌+◌, ◌-◌, ◌<◌, List, [], ◌∷◌, ◌++◌, Option, Some, None, Result, Ok, Err, refl, sym, ap, ◌∙◌, subst, length, unwrap_or, slice_get, All, fold}
 use Rattle.std.specs.Option.{option_and_then, option_map_or}
+use Rattle.std.proofs.lemmas.Bool.{cond_both}
+use Rattle.std.proofs.lemmas.Option.{slice_get_within, unwrap_or-slice_get}
 use Rattle.std.proofs.lemmas.List.Elements.{All-nil, All-cons, All-head, All-tail, All-append, All-push, All-take}
 use Rattle.avp_dict.specs.declared.entries.Note.{Note}
 use Rattle.avp_dict.specs.declared.entries.ValueLine.{ValueLine}
@@ -10,11 +10,12 @@ use Rattle.avp_dict.specs.declared.faults.DictFault.{DictFault}
 use Rattle.avp_dict.specs.declared.faults.DictKind.{DictKind}
 use Rattle.avp_dict.specs.declared.file.files.NamedFile.{NamedFile}
 use Rattle.avp_dict.proofs.Cuts.{found_within}
+use Rattle.avp_dict.proofs.OneMore.{then_both}
 use Rattle.avp_dict.specs.Blocks.{innermost}
 use Rattle.avp_dict.specs.Dictionary.{Dictionary, id_named}
 use Rattle.avp_dict.specs.DictionaryReading.{dictionary_of, outline_of, settled, unless_open}
 use Rattle.avp_dict.specs.Lines.{Line, expanded, file_included, file_named, has_name, included_by, lines_below, lines_in, lines_of, octets_at, texts_of}
-use Rattle.avp_dict.specs.Meanings.{Meaning, Nothing, Skipped, SkippedAttribute, Vendor, Attribute, Value, BeginVendor, BeginTlv, End, Reading, Context, after_line, context_of, no_context}
+use Rattle.avp_dict.specs.Meanings.{Meaning, Value, BeginVendor, BeginTlv, End, Reading, Context, after_line, context_of, no_context}
 use Rattle.avp_dict.specs.Outcomes.{If, Refuses, is_memory, want_of_memory}
 use Rattle.avp_dict.specs.Readings.{read_line, read_lines, within}
 use Rattle.avp_dict.specs.Settled.{skipped_names}
@@ -68,11 +69,7 @@ module _ (files : List NamedFile) where
 
 module _ (n : ℕ) where
   get_in : {A : Type 0} (P : A → Type 0) (xs : List A) (i : ℕ) (x : A) → All P xs → slice_get xs i ≡ Some x → P x
-  get_in P [] i x all e = absurd (cc)
-  get_in P (y ∷ ys) zero x all e =
-      let same : y ≡ x = cc in
-      subst P same (All-head P y ys all)
-  get_in P (y ∷ ys) (suc i) x all e = get_in P ys i x (All-tail P y ys all) e
+  get_in P xs i x all e = subst P (sym (unwrap_or-slice_get xs i x) ∙ ap (λ o. unwrap_or o x) e) (all i x (slice_get_within xs i x e))
 
   step_in : (file line : ℕ) (r : Result Meaning DictKind) (f : Meaning → Result (List Reading) DictFault) → file < n → ((meaning : Meaning) → AreIn n (f meaning)) → AreIn n (refused_at file line r >>= f)
   step_in file line (Ok meaning) f lt next = next meaning
@@ -109,10 +106,6 @@ module _ (n : ℕ) where
   note_in : (dictionary : Dictionary) (r : Reading) → All (IsNoteIn n) dictionary.notes → IsIn n r → All (IsNoteIn n) (with_note dictionary r).notes
   note_in dictionary r were is = All-push (IsNoteIn n) dictionary.notes (note_of r) were is
 
-  noted_if : (b : Bool) (dictionary : Dictionary) (r : Reading) → All (IsNoteIn n) dictionary.notes → IsIn n r → IsDictionaryIn n (Ok (if b then with_note dictionary r else dictionary))
-  noted_if true dictionary r were is = note_in dictionary r were is
-  noted_if false dictionary r were is = were
-
   value_in : (value : Result (Option ValueLine) DictKind) (dictionary : Dictionary) (r : Reading) → All (IsNoteIn n) dictionary.notes → IsIn n r → IsDictionaryIn n (refused_at r.file r.line value >>= λ v. Ok (with_value dictionary r v))
   value_in (Ok None) dictionary r were is = note_in dictionary r were is
   value_in (Ok (Some v)) dictionary r were is = were
@@ -121,33 +114,28 @@ module _ (n : ℕ) where
   with_line_in : (skipped : List (List ℕ)) (dictionary : Dictionary) (r : Reading) (m : Meaning) → r.meaning ≡ m → All (IsNoteIn n) dictionary.notes → IsIn n r → IsDictionaryIn n (with_line skipped dictionary r)
   unfolding with_line
   with_line_in skipped dictionary r (Value attribute name v) e were is = rw e (value_in (value_of skipped dictionary attribute name v (id_named attribute dictionary.attributes)) dictionary r were is)
-  with_line_in skipped dictionary r m e were is = rw e (noted_if (is_noted dictionary.vendors m) dictionary r were is)
-
-  more_in : (read : Result Dictionary DictFault) (f : Dictionary → Result Dictionary DictFault) → IsDictionaryIn n read → ((d : Dictionary) → All (IsNoteIn n) d.notes → IsDictionaryIn n (f d)) → IsDictionaryIn n (read >>= f)
-  more_in (Ok d) f h next = next d h
-  more_in (Err fault) f h next = h
+  with_line_in skipped dictionary r m e were is =
+      rw e (cond_both (is_noted dictionary.vendors m) (with_note dictionary r) dictionary (λ (d : Dictionary). All (IsNoteIn n) d.notes) (λ noted. note_in dictionary r were is) (λ other. were))
 
   resolve_in : (skipped : List (List ℕ)) (dictionary : Dictionary) (readings : List Reading) → All (IsNoteIn n) dictionary.notes → All (IsIn n) readings → IsDictionaryIn n (resolve skipped dictionary readings)
   unfolding resolve
   resolve_in skipped dictionary [] were are = were
   resolve_in skipped dictionary (r ∷ rs) were are =
-      more_in (with_line skipped dictionary r) _ (with_line_in skipped dictionary r r.meaning refl were (All-head (IsIn n) r rs are)) (λ more now. resolve_in skipped more rs now (All-tail (IsIn n) r rs are))
+      then_both (IsDictionaryIn n) (IsDictionaryIn n) (with_line skipped dictionary r) _ (with_line_in skipped dictionary r r.meaning refl were (All-head (IsIn n) r rs are))
+      (λ more now. resolve_in skipped more rs now (All-tail (IsIn n) r rs are)) (λ e h. h)
 
   settled_in : (readings : List Reading) → All (IsIn n) readings → IsDictionaryIn n (settled readings)
   unfolding settled
   settled_in readings are = resolve_in (skipped_names (context_of readings).vendors readings) (outline_of (context_of readings)) readings (All-nil (IsNoteIn n)) are
 
-  then_in : (r : Result (List Reading) DictFault) (f : List Reading → Result Dictionary DictFault) → AreIn n r → ((readings : List Reading) → All (IsIn n) readings → IsDictionaryIn n (f readings)) → IsDictionaryIn n (r >>= f)
-  then_in (Ok readings) f h next = next readings h
-  then_in (Err fault) f h next = h
-
 pub dictionary_in : (limit : ℕ) (files : List NamedFile) → 0 < length files → IsDictionaryIn (length files) (dictionary_of limit files)
 unfolding dictionary_of
 dictionary_in limit files some =
     let n = length files in
-    then_in n (read_lines limit files [] (lines_of files)) _ (read_lines_in n limit files [] (lines_of files) (All-nil (IsIn n)) (lines_of_in files some)) (λ readings are.
-    then_in n (unless_open (innermost (context_of readings).opened) readings) _ (unless_open_in n (innermost (context_of readings).opened) readings (λ r e. get_in n (IsIn n) (context_of readings).opened (length (context_of readings).opened - 1) r (opened_in n readings are) e) are) (λ closed are_closed.
-    settled_in n closed are_closed))
+    then_both (AreIn n) (IsDictionaryIn n) (read_lines limit files [] (lines_of files)) _ (read_lines_in n limit files [] (lines_of files) (All-nil (IsIn n)) (lines_of_in files some)) (λ readings are.
+    then_both (AreIn n) (IsDictionaryIn n) (unless_open (innermost (context_of readings).opened) readings) _
+    (unless_open_in n (innermost (context_of readings).opened) readings (λ r e. get_in n (IsIn n) (context_of readings).opened (length (context_of readings).opened - 1) r (opened_in n readings are) e) are)
+    (settled_in n) (λ e h. h)) (λ e h. h)
 
 -- ---- faults and notes
 

@@ -1,10 +1,9 @@
 -- What is printed for a pair is read back.
-use Rattle.std.proofs.Common.{◌≡◌, ◌∙◌, ℕ, suc, ◌+◌, ◌^◌, ◌<◌, ℤ, pos, negsuc, Bool, true, false, not, cond, ◌&&◌, ◌||◌, ◌==◌, leb, List, [], ◌∷◌, ◌++◌, codes, length, slice_index, Option, Some, None, Ok, refl, sym, ap, subst, arith, rules, append_assoc, decimal, option_and_then, option_map, FitsSigned}
+use Rattle.std.proofs.Common.{◌≡◌, ◌∙◌, ℕ, suc, ◌+◌, ◌^◌, ◌<◌, ℤ, pos, negsuc, Bool, true, false, not, cond, ◌&&◌, ◌||◌, ◌==◌, leb, List, [], ◌∷◌, ◌++◌, codes, length, slice_index, Option, Some, None, Ok, refl, sym, ap, subst, arith, rules, append_assoc, decimal, option_and_then, option_map, FitsSigned, w32}
 use Rattle.std.specs.Fmt.{signed_decimal}
-use Rattle.std.specs.Int.{w32}
 use Rattle.std.specs.List.{All, slice_split}
 use Rattle.std.specs.Option.{option_map_or, unwrap_or}
-use Rattle.std.proofs.lemmas.Bool.{and_parts, not-true, or_parts}
+use Rattle.std.proofs.lemmas.Bool.{and_parts, cond_both, false_from_ne_true, not-true, or_parts}
 use Rattle.std.proofs.lemmas.List.Splits.{slice_split_at, slice_split_none}
 use Rattle.avp_lists.specs.declared.attributes.AttrId.{AttrId}
 use Rattle.avp_lists.specs.declared.attributes.AttrId.TheVariants as ids
@@ -89,22 +88,15 @@ module _ (dictionary : Dictionary) (sound : IsSound dictionary) (id : AttrId) (b
 
 -- ---- how long addresses are
 
-whole_by : (n : ℕ) (value : List ℕ → Value) (os : List ℕ) (b : Bool) → (length os == n) ≡ b → (value os ≡ Raw os → ⊥) → value os ≡ unwrap_or (cond b (Some (value os)) None) (Raw os) → length os ≡ n
-whole_by n value os true e other h = grind (arith, e)
-whole_by n value os false e other h = absurd (other h)
-
 whole_if : (n : ℕ) (value : List ℕ → Value) (os : List ℕ) → (value os ≡ Raw os → ⊥) → value os ≡ unwrap_or (of_length n value os) (Raw os) → length os ≡ n
-whole_if n value os other h = whole_by n value os (length os == n) refl other h
-
-not_hidden : (b : Bool) (kind : Kind) → (b ≡ true → is_text_kind (Some kind) ≡ true) → is_text_kind (Some kind) ≡ false → b ≡ false
-not_hidden true kind h other = absurd (cc (h refl, other))
-not_hidden false kind h other = refl
+whole_if n value os other h =
+    cond_both (length os == n) _ _ (λ (o : Option Value). value os ≡ unwrap_or o (Raw os) → length os ≡ n) (λ e same. grind (arith, e)) (λ e same. absurd (other same)) h
 
 module _ (dictionary : Dictionary) (sound : IsSound dictionary) (id : AttrId) (d : Described) (e : described id dictionary ≡ Some d) where
   shows : is_text_kind (Some d.kind) ≡ false → d.hidden ≡ false
   shows other =
       let is = is_described dictionary sound id d e in
-      not_hidden d.hidden d.kind (λ h. subst (λ (k : Kind). is_text_kind (Some k) ≡ true) is.kind (is.keeps.hides (is.hidden ∙ h))) other
+      false_from_ne_true d.hidden (λ h. cc (subst (λ (k : Kind). is_text_kind (Some k) ≡ true) is.kind (is.keeps.hides (is.hidden ∙ h)), other))
 
   -- a canonical value that is not hidden is what its octets stand for
   shown_value : (value : Value) → d.hidden ≡ false → cond (is_hidden id dictionary) (is_shown value) (value_eq value (value_of_octets id (octets id value dictionary) dictionary)) ≡ true → value ≡ value_of_octets id (octets id value dictionary) dictionary

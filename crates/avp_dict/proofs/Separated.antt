@@ -1,8 +1,9 @@
 -- Printed octets and addresses are read back.
-use Rattle.std.proofs.Common.{◌≡◌, ◌∙◌, ℕ, zero, suc, ◌+◌, ◌*◌, ◌/◌, ◌%◌, ◌<◌, Bool, true, false, not, cond, ◌&&◌, ◌==◌, ltb, leb, List, [], ◌∷◌, ◌++◌, length, map, get_or, slice_index, Option, Some, refl, ap, arith, decimal, inl, inr}
+use Rattle.std.proofs.Common.{◌≡◌, ◌∙◌, ℕ, zero, suc, ◌+◌, ◌*◌, ◌/◌, ◌%◌, ◌<◌, Bool, true, false, not, ◌&&◌, ◌==◌, ltb, leb, List, [], ◌∷◌, ◌++◌, length, map, get_or, slice_index, Option, Some, refl, ap, arith, decimal, inl, inr}
 use Rattle.std.specs.List.{All, flat_map, slice_split}
 use Rattle.std.specs.Char.{digit_value}
 use Rattle.std.specs.Result.{result_ok}
+use Rattle.std.proofs.Math.Bool.{and-false}
 use Rattle.std.proofs.lemmas.Bool.{and_parts, cases_lt, not-true}
 use Rattle.std.proofs.lemmas.Fmt.{length-decimal-le}
 use Rattle.std.proofs.lemmas.List.{append-nil, length-map}
@@ -28,13 +29,9 @@ pub octets_back : (os : List ℕ) → ((i : ℕ) → get_or os i 0 < 256) → oc
 unfolding octets_spelled
 octets_back os h = ap result_ok (decode_of-encode_lower os h)
 
-bytes_by : (by_text : Bool) (text : List ℕ) → cond (by_text && false) (Some text) (octets_spelled text) ≡ octets_spelled text
-bytes_by true text = refl
-bytes_by false text = refl
-
 pub bytes_back : (by_text : Bool) (os : List ℕ) → ((i : ℕ) → get_or os i 0 < 256) → bytes_spelled by_text (hexadecimal os) ≡ Some os
 unfolding bytes_spelled
-bytes_back by_text os h = bytes_by by_text (hexadecimal os) ∙ octets_back os h
+bytes_back by_text os h = rw (and-false by_text) (octets_back os h)
 
 -- ---- parts with an octet between
 

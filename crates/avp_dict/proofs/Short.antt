@@ -1,6 +1,5 @@
 -- No line has a name that is too long.
-use Rattle.std.proofs.Common.{◌≡◌, ◌≤◌, ◌<◌, ℕ, Bool, false, List, [], ◌∷◌, length, None, slice_get, option_and_then, sym, ap, ◌∙◌}
-use Rattle.std.specs.List.{All}
+use Rattle.std.proofs.Common.{◌≡◌, ◌≤◌, ◌<◌, ℕ, Bool, false, List, length, None, slice_get, option_and_then, sym, ap, ◌∙◌, All}
 use Rattle.std.proofs.lemmas.List.Elements.{All-weaker}
 use Rattle.avp_dict.specs.Letters.{most_name}
 use Rattle.avp_dict.proofs.Folding.{too_long}

@@ -1,7 +1,6 @@
 -- A dictionary that was read is sound.
-use Rattle.std.proofs.Common.{◌≡◌, ℕ, Bool, true, false, not, cond, ◌&&◌, ◌==◌, nat_le, List, [], ◌∷◌, ◌++◌, filter, length, get_or, Option, Some, None, Result, Ok, Err, refl, subst, arith, if◌then◌else◌}
+use Rattle.std.proofs.Common.{◌≡◌, ℕ, true, false, not, ◌&&◌, ◌==◌, nat_le, List, [], ◌∷◌, ◌++◌, filter, length, get_or, Option, Some, None, Result, Ok, Err, refl, subst, arith, option_and_then}
 use Rattle.std.specs.List.{All, list_all, list_any}
-use Rattle.std.specs.Option.{option_and_then}
 use Rattle.std.proofs.Math.Bool.{and-false}
 use Rattle.std.proofs.lemmas.Bool.{and_parts, cond_both, not-false, not-true}
 use Rattle.std.proofs.lemmas.List.Elements.{All-nil, All-push, All-filter, filter_passes}
@@ -15,6 +14,7 @@ use Rattle.avp_dict.specs.declared.faults.DictKind.{DictKind}
 use Rattle.avp_dict.specs.declared.file.files.NamedFile.{NamedFile}
 use Rattle.avp_dict.proofs.Agreement.{other_value_sym}
 use Rattle.avp_dict.proofs.Alone.{alone_by_number}
+use Rattle.avp_dict.proofs.OneMore.{then_both}
 use Rattle.avp_dict.proofs.SoundLines.{AllRead, AreRead, IsReadAttribute, is_ranged, none_read, read_lines_read}
 use Rattle.avp_dict.specs.Blocks.{innermost}
 use Rattle.avp_dict.specs.Dictionary.{Dictionary, id_named, number_named, typing_of_id}
@@ -22,7 +22,7 @@ use Rattle.avp_dict.specs.DictionaryReading.{dictionary_of, outline_of, settled,
 use Rattle.avp_dict.specs.Letters.{is_word_octet, most_name}
 use Rattle.avp_dict.specs.Limits.{is_known}
 use Rattle.avp_dict.specs.Lines.{lines_of}
-use Rattle.avp_dict.specs.Meanings.{Meaning, Nothing, Skipped, SkippedAttribute, Vendor, Attribute, Value, BeginVendor, BeginTlv, End, Reading, Context, context_of}
+use Rattle.avp_dict.specs.Meanings.{Meaning, Value, Reading, Context, context_of}
 use Rattle.avp_dict.specs.Readings.{read_lines}
 use Rattle.avp_dict.specs.Settled.{is_kept, is_kept_line, skipped_names, used}
 use Rattle.avp_dict.specs.Soundness.{IsSound, IsSoundAttribute, IsSoundValue, IsSoundVendor, names_other_id, names_other_value}
@@ -133,10 +133,6 @@ module _ (skipped : List (List ℕ)) (d : Dictionary) (sound : IsSound d) where
   note_sound : (r : Reading) → IsSound (with_note d r)
   note_sound r = same_but_values d (with_note d r) refl refl sound.values sound
 
-  noted_sound : (b : Bool) (r : Reading) → AllSound (Ok (if b then with_note d r else d))
-  noted_sound true r = note_sound r
-  noted_sound false r = sound
-
   value_sound : (value : Result (Option ValueLine) DictKind) (r : Reading) → AddsSound d.values value → AllSound (refused_at r.file r.line value >>= λ v. Ok (with_value d r v))
   value_sound (Ok None) r h = note_sound r
   value_sound (Ok (Some v)) r h = same_but_values d (with_value d r (Some v)) refl refl (value_more d.values v sound.values h) sound
@@ -145,26 +141,18 @@ module _ (skipped : List (List ℕ)) (d : Dictionary) (sound : IsSound d) where
   line_sound : (r : Reading) (m : Meaning) → r.meaning ≡ m → AllSound (with_line skipped d r)
   unfolding with_line
   line_sound r (Value attribute name v) e = rw e (value_sound (value_of skipped d attribute name v (id_named attribute d.attributes)) r (value_of_adds attribute name v (id_named attribute d.attributes)))
-  line_sound r m e = rw e (noted_sound (is_noted d.vendors m) r)
-
-more_sound : (read : Result Dictionary DictFault) (f : Dictionary → Result Dictionary DictFault) → AllSound read → ((d : Dictionary) → IsSound d → AllSound (f d)) → AllSound (read >>= f)
-more_sound (Ok d) f h next = next d h
-more_sound (Err fault) f h next = tt
+  line_sound r m e = rw e (cond_both (is_noted d.vendors m) _ _ IsSound (λ noted. note_sound r) (λ other. sound))
 
 resolve_sound : (skipped : List (List ℕ)) (d : Dictionary) (readings : List Reading) → IsSound d → AllSound (resolve skipped d readings)
 unfolding resolve
 resolve_sound skipped d [] sound = sound
-resolve_sound skipped d (r ∷ rs) sound = more_sound (with_line skipped d r) _ (line_sound skipped d sound r r.meaning refl) (λ more is. resolve_sound skipped more rs is)
+resolve_sound skipped d (r ∷ rs) sound = then_both AllSound AllSound (with_line skipped d r) _ (line_sound skipped d sound r r.meaning refl) (λ more is. resolve_sound skipped more rs is) (λ e h. tt)
 
 settled_sound : (readings : List Reading) → AreRead (context_of readings) → AllSound (settled readings)
 unfolding settled
 settled_sound readings are = resolve_sound (skipped_names (context_of readings).vendors readings) (outline_of (context_of readings)) readings (outline_sound (context_of readings) are)
 
 -- ---- the dictionary
-
-then_sound : (r : Result (List Reading) DictFault) (f : List Reading → Result Dictionary DictFault) → AllRead r → ((lines : List Reading) → AreRead (context_of lines) → AllSound (f lines)) → AllSound (r >>= f)
-then_sound (Ok lines) f h next = next lines h
-then_sound (Err fault) f h next = tt
 
 unless_open_holds : (opened : Option Reading) (lines : List Reading) → AreRead (context_of lines) → AllRead (unless_open opened lines)
 unless_open_holds None lines h = h
@@ -173,9 +161,9 @@ unless_open_holds (Some r) lines h = tt
 pub dictionary_sound : (limit : ℕ) (files : List NamedFile) → AllSound (dictionary_of limit files)
 unfolding dictionary_of
 dictionary_sound limit files =
-    then_sound (read_lines limit files [] (lines_of files)) _ (read_lines_read limit files [] (lines_of files) none_read) (λ lines are.
-    then_sound (unless_open (innermost (context_of lines).opened) lines) _ (unless_open_holds (innermost (context_of lines).opened) lines are) (λ closed are_closed.
-    settled_sound closed are_closed))
+    then_both AllRead AllSound (read_lines limit files [] (lines_of files)) _ (read_lines_read limit files [] (lines_of files) none_read) (λ lines are.
+    then_both AllRead AllSound (unless_open (innermost (context_of lines).opened) lines) _ (unless_open_holds (innermost (context_of lines).opened) lines are) settled_sound (λ e h. tt))
+    (λ e h. tt)
 
 pub sound_of : (limit : ℕ) (files : List NamedFile) (dictionary : Dictionary) → dictionary_of limit files ≡ Ok dictionary → IsSound dictionary
 sound_of limit files dictionary e = subst AllSound e (dictionary_sound limit files)

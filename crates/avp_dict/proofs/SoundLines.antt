@@ -1,10 +1,8 @@
 -- What each line is read as keeps to what holds of every dictionary.
-use Rattle.std.proofs.Common.{◌≡◌, ℕ, Bool, true, false, not, cond, ◌&&◌, ◌≤◌, nat_lt, nat_le, codes, List, [], ◌∷◌, ◌++◌, length, get_or, Option, Some, None, Result, Ok, Err, refl, sym, subst, arith}
+use Rattle.std.proofs.Common.{◌≡◌, ℕ, Bool, true, false, not, cond, ◌&&◌, ◌≤◌, nat_lt, nat_le, codes, List, [], ◌∷◌, ◌++◌, length, get_or, Option, Some, None, Result, Ok, Err, refl, sym, subst, arith, IfSome, drop, take, is_none}
 use Rattle.std.proofs.lemmas.Bool.{and_parts, cond_both, leb-true, not-true}
 use Rattle.std.proofs.lemmas.Grind.{common_steps}
 use Rattle.std.specs.List.{All, list_all, list_any, slice_split}
-use Rattle.std.specs.Prelude.{IfSome, drop, take}
-use Rattle.std.specs.Option.{is_none}
 use Rattle.std.proofs.lemmas.List.Elements.{All-nil, All-push}
 use Rattle.avp_lists.specs.declared.attributes.AttrId.{AttrId}
 use Rattle.avp_lists.specs.declared.attributes.AttrId.TheVariants as ids
@@ -24,14 +22,14 @@ use Rattle.avp_dict.specs.declared.file.meanings.Meaning.{Meaning as CodeMeaning
 use Rattle.avp_dict.specs.declared.file.meanings.Meaning.TheVariants as code
 use Rattle.avp_dict.proofs.Agreement.{other_id_sym, same_name_refl}
 use Rattle.avp_dict.proofs.Alone.{AreAloneNames, alone_by_id}
-use Rattle.avp_dict.proofs.OneMore.{context_of_push, context_of_none}
+use Rattle.avp_dict.proofs.OneMore.{context_of_push, context_of_none, then_both}
 use Rattle.avp_dict.specs.AttributeNumbers.{greatest_number, greatest_value}
 use Rattle.avp_dict.specs.Attributes.{attribute, attribute_line, attribute_of, dotted_word, id_word, is_attribute_name, is_extended, is_held, is_number, is_of_other_id, number_id, number_word, vendor_id}
 use Rattle.avp_dict.specs.Blocks.{begin_known, begin_tlv, begin_vendor, block_vendor, end_tlv, end_vendor, ended, is_skipping, unless_third}
 use Rattle.avp_dict.specs.Dictionary.{format_of, id_named, vendor_named}
 use Rattle.avp_dict.specs.Letters.{begins_as_attr, is_comma, is_dot, is_name_octet, is_visible, word_before_bracket, most_name}
 use Rattle.avp_dict.specs.Lines.{Line, file_included, is_include}
-use Rattle.avp_dict.specs.Meanings.{Meaning, Nothing, Skipped, SkippedAttribute, Vendor, Attribute, Value, BeginVendor, BeginTlv, End, Reading, Context, after_line, context_of}
+use Rattle.avp_dict.specs.Meanings.{Meaning, Vendor, Attribute, BeginVendor, Reading, Context, after_line, context_of}
 use Rattle.avp_dict.specs.Readings.{include, plain_line, read_head, read_line, read_lines, read_words, skipped, value, within}
 use Rattle.avp_dict.specs.Soundness.{IsSoundVendor, names_other_id}
 use Rattle.avp_dict.specs.Steps.{refused_at, ◌>>=◌}
@@ -186,13 +184,9 @@ module _ (before : Context) where
 
   -- ---- VALUE and VENDOR lines
 
-  then_read : (r : Result ℕ DictKind) (f : ℕ → Result Meaning DictKind) → ((n : ℕ) → Reads before (f n)) → Reads before (r >>= f)
-  then_read (Ok n) f h = h n
-  then_read (Err kind) f h = tt
-
   value_reads : (rest : List (List ℕ)) → Reads before (value rest)
   unfolding value
-  value_reads (attribute ∷ name ∷ number ∷ []) = then_read (bounded greatest_value number) (λ n. Ok (Value attribute name n)) (λ n. tt)
+  value_reads (attribute ∷ name ∷ number ∷ []) = then_both (λ r. Unit {0}) (Reads before) (bounded greatest_value number) _ tt (λ n h. tt) (λ e h. tt)
   value_reads _ = tt
 
   -- the format, if there is one, is one of those that there are
@@ -222,7 +216,7 @@ module _ (before : Context) where
   unfolding vendor_line
   vendor_line_reads name number None known = tt
   vendor_line_reads name number (Some f) known =
-      cond_both (is_vendor_name name) _ _ (Reads before) (λ named. then_read (bounded greatest_number number) (vendor_numbered before.vendors name f) (vendor_numbered_reads name f (short_vendor name named) known)) (λ other. tt)
+      cond_both (is_vendor_name name) _ _ (Reads before) (λ named. then_both (λ r. Unit {0}) (Reads before) (bounded greatest_number number) _ tt (λ n h. vendor_numbered_reads name f (short_vendor name named) known n) (λ e h. tt)) (λ other. tt)
 
   vendor_reads : (rest : List (List ℕ)) → Reads before (vendor before.vendors rest)
   unfolding vendor
@@ -270,13 +264,10 @@ module _ (before : Context) where
       }))
       (λ other. tt)
 
-  then_attribute : (r : Result (Option AttrId) DictKind) (name kind : List ℕ) (flags : List (List ℕ)) → GivesRanged r → Reads before (r >>= attribute_of before.attributes name kind flags)
-  then_attribute (Ok id) name kind flags ranged = attribute_of_reads name kind flags id ranged
-  then_attribute (Err e) name kind flags ranged = tt
-
   attribute_line_reads : (block : Option ℕ) (name number kind : List ℕ) (flags : List (List ℕ)) → Reads before (attribute_line before block name number kind flags)
   unfolding attribute_line
-  attribute_line_reads block name number kind flags = then_attribute (id_word before.vendors block (slice_split is_dot number)) name kind flags (id_word_ranged block (slice_split is_dot number))
+  attribute_line_reads block name number kind flags =
+      then_both GivesRanged (Reads before) (id_word before.vendors block (slice_split is_dot number)) _ (id_word_ranged block (slice_split is_dot number)) (attribute_of_reads name kind flags) (λ e h. tt)
 
   attribute_reads : (block : Option ℕ) (rest : List (List ℕ)) → Reads before (attribute before block rest)
   unfolding attribute
@@ -339,14 +330,11 @@ step_read before file line (Err kind) f reads next = tt
 pub read_more : (before : List Reading) (r : Reading) → AreRead (context_of before) → IsRead (context_of before) r.meaning → AreRead (context_of (before ++ r ∷ []))
 read_more before r are is = subst AreRead (sym (context_of_push before r)) (one_more (context_of before) r r.meaning refl are is)
 
-within_read : (limit : ℕ) (before : List Reading) (read : Result Meaning DictKind) → Reads (context_of before) read → Reads (context_of before) (within limit before read)
-within_read limit before read h = either (context_of before) (nat_lt (length before) limit) _ _ h tt
-
 pub read_lines_read : (limit : ℕ) (files : List NamedFile) (before : List Reading) (lines : List Line) → AreRead (context_of before) → AllRead (read_lines limit files before lines)
 unfolding read_lines
 read_lines_read limit files before [] are = are
 read_lines_read limit files before (line ∷ lines) are =
-    step_read (context_of before) line.file line.number (within limit before (read_line files (context_of before) line)) _ (within_read limit before (read_line files (context_of before) line) (read_line_reads (context_of before) files line)) (λ m is.
+    step_read (context_of before) line.file line.number (within limit before (read_line files (context_of before) line)) _ (either (context_of before) (nat_lt (length before) limit) _ _ (read_line_reads (context_of before) files line) tt) (λ m is.
     let r : Reading = record { file = line.file; line = line.number; meaning = m } in
     read_lines_read limit files (before ++ r ∷ []) lines (read_more before r are is))
 

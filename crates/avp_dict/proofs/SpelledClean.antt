@@ -1,9 +1,6 @@
 -- What texts spell under a dictionary's names is read back as it was written.
-use Rattle.std.proofs.Common.{◌≡◌, ◌∙◌, ℕ, zero, suc, ◌+◌, ◌≤◌, pos, Bool, ℤ, true, false, ◌&&◌, ◌||◌, cond, List, [], ◌∷◌, Option, None, Some, Result, Ok, Err, length, refl, ap, subst, arith, FitsSigned}
-use Rattle.std.specs.Prelude.{◌==◌, nat_le, IfSome, drop}
-use Rattle.std.specs.Int.{w32}
-use Rattle.std.specs.List.{list_all, slice_split}
-use Rattle.std.specs.Option.{option_and_then, option_map, unwrap_or}
+use Rattle.std.proofs.Common.{◌≡◌, ◌∙◌, ℕ, zero, suc, ◌+◌, ◌≤◌, pos, Bool, ℤ, true, false, ◌&&◌, List, [], ◌∷◌, Option, None, Some, Result, Ok, Err, length, refl, ap, arith, FitsSigned, ◌==◌, nat_le, IfSome, drop, w32, option_and_then, option_map, unwrap_or}
+use Rattle.std.specs.List.{slice_split}
 use Rattle.std.specs.Result.{result_ok}
 use Rattle.std.proofs.lemmas.Bool.{cond_both, or_parts}
 use Rattle.std.proofs.lemmas.Grind.{common_steps}
@@ -18,15 +15,13 @@ use Rattle.avp_dict.specs.AttributeNumbers.{greatest_number, greatest_signed, gr
 use Rattle.avp_dict.specs.Dictionary.{Dictionary, typing_of_id}
 use Rattle.avp_dict.specs.declared.entries.Typing.{Typing}
 use Rattle.avp_dict.specs.declared.value.faults.ValueFault.{ValueFault}
-use Rattle.avp_dict.specs.declared.value.faults.ValueFault.TheVariants.{NotWritable, TooLong}
 use Rattle.avp_dict.specs.Letters.{is_dot}
 use Rattle.avp_dict.specs.Limits.{fits, is_known, is_within}
 use Rattle.avp_dict.specs.Octets.{is_hidden, read_value, value_of_octets}
-use Rattle.avp_dict.specs.RequestLines.{Assignment, assignments_of, joined}
-use Rattle.avp_dict.specs.Requests.{few_enough, pair_named, pair_spelled, pair_with, pairs_spelled, request_spelled}
+use Rattle.avp_dict.specs.RequestLines.{Assignment}
+use Rattle.avp_dict.specs.Requests.{pair_named, pair_spelled, pair_with, request_spelled}
 use Rattle.avp_dict.specs.Names.{named}
 use Rattle.avp_dict.specs.Soundness.{IsSound}
-use Rattle.avp_lists.specs.States.{most_pairs}
 use Rattle.avp_dict.specs.Sent.{is_canonical, is_clean, is_clean_pair, is_container, is_raw}
 use Rattle.avp_dict.specs.Spellings.{address_spelled, bytes_spelled, decimal_octet, digit_pair, each_number, ether_spelled, in_parts, is_barred, is_colon, is_negative, negated, number_spelled, octets_spelled, octets_value, signed_spelled, spelled, spelled_as, spelled_by, unless_long, up_to, value_spelled}
 use Rattle.avp_dict.specs.Words.{digits, number_of}

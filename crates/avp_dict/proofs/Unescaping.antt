@@ -1,6 +1,5 @@
 -- What is printed between quotes reads back.
-use Rattle.std.proofs.Common.{◌≡◌, ℕ, suc, ◌+◌, ◌/◌, ◌%◌, ◌<◌, true, List, [], ◌∷◌, ◌++◌, get_or, refl, ap, ◌∙◌, arith}
-use Rattle.std.specs.List.{flat_map}
+use Rattle.std.proofs.Common.{◌≡◌, ℕ, suc, ◌+◌, ◌/◌, ◌%◌, ◌<◌, true, List, [], ◌∷◌, ◌++◌, get_or, refl, ap, ◌∙◌, arith, flat_map}
 use Rattle.std.proofs.lemmas.Grind.{common_steps}
 use Rattle.avp_dict.specs.declared.value.quotes.QuoteMark.TheVariants.{Double}
 use Rattle.avp_dict.specs.Quotes.{begins_octal, octal_escape, octal_value, between_quotes, double_quoted_octets, octets_between, quoted, quoted_octet, unescaped}

@@ -1,6 +1,5 @@
 -- The passes over the lines, one after the other.
-use Rattle.std.proofs.Common.{◌≡◌, ◌∙◌, ℕ, Bool, true, false, List, [], ◌++◌, Option, Some, None, Result, Ok, Err, sym, ap}
-use Rattle.std.proofs.lemmas.List.{append-nil}
+use Rattle.std.proofs.Common.{◌≡◌, ◌∙◌, ℕ, false, List, [], ◌++◌, Option, Some, None, Result, Ok, Err, sym, ap, append-nil}
 use Rattle.avp_dict.specs.declared.entries.AttributeLine.{AttributeLine}
 use Rattle.avp_dict.specs.declared.entries.Note.{Note}
 use Rattle.avp_dict.specs.declared.entries.ValueLine.{ValueLine}
@@ -13,7 +12,7 @@ use Rattle.avp_dict.specs.Dictionary.{Dictionary}
 use Rattle.avp_dict.specs.DictionaryReading.{dictionary_of, settled, unless_open}
 use Rattle.avp_dict.specs.Lines.{lines_in, lines_of}
 use Rattle.avp_dict.specs.Meanings.{Context, Reading, context_of}
-use Rattle.avp_dict.specs.Outcomes.{If, Refuses, is_memory, want_of_memory}
+use Rattle.avp_dict.specs.Outcomes.{Refuses, is_memory}
 use Rattle.avp_dict.specs.Readings.{read_lines}
 use Rattle.avp_dict.specs.Settled.{skipped_names, used}
 use Rattle.avp_dict.specs.Values.{resolve}
@@ -43,10 +42,6 @@ module _ (limit : ℕ) (files : List NamedFile) (readings : List Reading) (is_re
       rw (are_read, e)
 
 -- a refusal that is no want of memory
-certain : (memory : Bool) (fault : DictFault) (read : Result Dictionary DictFault) → memory ≡ false → read ≡ Err fault → If memory (fault ≡ want_of_memory) (read ≡ Err fault)
-certain true fault read e h = absurd (cc)
-certain false fault read e h = h
-
 open_certain : (opened : Option Reading) (readings : List Reading) (fault : DictFault) → unless_open opened readings ≡ Err fault → is_memory fault.kind ≡ false
 open_certain None readings fault h = absurd (cc)
 open_certain (Some r) readings fault h =
@@ -54,7 +49,7 @@ open_certain (Some r) readings fault h =
     ap (λ (f : DictFault). is_memory f.kind) (sym is)
 
 pub open_refuses : (opened : Option Reading) (readings : List Reading) (fault : DictFault) (read : Result Dictionary DictFault) → unless_open opened readings ≡ Err fault → read ≡ Err fault → Refuses fault read
-open_refuses opened readings fault read h e = certain (is_memory fault.kind) fault read (open_certain opened readings fault h) e
+open_refuses opened readings fault read h e = rw (open_certain opened readings fault h) e
 
 -- the lines by what they define before the names of values
 pub settled_by : (lines : List Reading) (context : Context) (attributes : List AttributeLine) (values : List ValueLine) (notes : List Note) → context ≡ context_of lines → attributes ≡ used context.vendors context.attributes → values ≡ [] → notes ≡ []

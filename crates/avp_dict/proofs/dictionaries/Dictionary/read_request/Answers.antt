@@ -31,10 +31,7 @@ returns-then-is_blank_line-clause-read c =
 
 pub returns-then-is_blank_line-clause-fits : goal.returns-then-is_blank_line-clause-fits
 returns-then-is_blank_line-clause-fits c =
-    let blank : is_blank_line c.in-Some.line.now ≡ true = search rules in
-    let end = packet_ends c.args.self.now c.in-Some.line.now (texts_of c.in-Some.after.now) blank c.in_ok-end_of_packet.ensures.ok in
-    let read = request_ends c.args.text.now c.args.self.now c.loop-line.pairs.items (texts_of c.loop-line.rest.now) c.loop-line.invariant.read (ap (packet_pairs c.args.self.now) c.in-Some.ensures.cut ∙ end) c.loop-line.invariant.few in
-    request_fits c.args.self.now c.sound.ensures c.args.text.now c.loop-line.pairs.items read
+    request_fits c.args.self.now c.sound.ensures c.args.text.now c.loop-line.pairs.items (returns-then-is_blank_line-clause-read c)
 
 pub returns-then-is_blank_line-clause-clean : goal.returns-then-is_blank_line-clause-clean
 returns-then-is_blank_line-clause-clean c =
@@ -65,9 +62,7 @@ returns-clause-read c =
     request_ends c.args.text.now c.args.self.now c.loop-line.pairs.items (texts_of c.loop-line.rest.now) c.loop-line.invariant.read (ap (packet_pairs c.args.self.now) c.in_default.ensures.cut ∙ packet_none c.args.self.now) c.loop-line.invariant.few
 
 pub returns-clause-fits : goal.returns-clause-fits
-returns-clause-fits c =
-    let read = request_ends c.args.text.now c.args.self.now c.loop-line.pairs.items (texts_of c.loop-line.rest.now) c.loop-line.invariant.read (ap (packet_pairs c.args.self.now) c.in_default.ensures.cut ∙ packet_none c.args.self.now) c.loop-line.invariant.few in
-    request_fits c.args.self.now c.sound.ensures c.args.text.now c.loop-line.pairs.items read
+returns-clause-fits c = request_fits c.args.self.now c.sound.ensures c.args.text.now c.loop-line.pairs.items (returns-clause-read c)
 
 pub returns-clause-clean : goal.returns-clause-clean
 returns-clause-clean c = request_clean c.args.self.now c.sound.ensures c.args.text.now c.loop-line.pairs.items (returns-clause-read c)

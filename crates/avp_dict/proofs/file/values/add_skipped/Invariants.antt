@@ -1,5 +1,4 @@
-use Rattle.std.proofs.Common.{◌≡◌, take}
-use Rattle.std.specs.List.{flat_map}
+use Rattle.std.proofs.Common.{◌≡◌, take, flat_map}
 use Rattle.avp_dict.specs.Settled.{skipped_name}
 use Rattle.avp_dict.specs.code.Meanings.{reading_views}
 use Rattle.avp_dict.proofs.file.values.add_skipped.Given as goal

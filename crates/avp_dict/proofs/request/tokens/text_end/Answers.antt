@@ -1,5 +1,4 @@
-use Rattle.std.proofs.Common.{◌≡◌, get_or, false, arith}
-use Rattle.std.specs.Prelude.{◌==◌}
+use Rattle.std.proofs.Common.{◌≡◌, get_or, false, arith, ◌==◌}
 use Rattle.std.proofs.lemmas.Grind.{common_steps}
 use Rattle.avp_dict.specs.RequestLines.{quote_octet}
 use Rattle.avp_dict.proofs.Lexing.{after_escaped, after_octet, text_ends, text_unended}

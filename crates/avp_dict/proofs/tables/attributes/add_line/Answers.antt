@@ -1,7 +1,5 @@
-use Rattle.std.proofs.Common.{◌≡◌, rules, ap, map, subst, sym, length, ◌≤◌, ◌∙◌}
-use Rattle.std.specs.List.{All}
+use Rattle.std.proofs.Common.{◌≡◌, rules, ap, map, subst, sym, length, ◌≤◌, ◌∙◌, All, bytes_eq}
 use Rattle.std.proofs.lemmas.List.Elements.{All-push}
-use Rattle.std.specs.Str.{bytes_eq}
 use Rattle.avp_dict.specs.Letters.{most_name}
 use Rattle.avp_dict.specs.Dictionary.{attribute_key}
 use Rattle.avp_dict.specs.code.Tables.{id_key, same_id_key}

@@ -1,5 +1,4 @@
-use Rattle.std.proofs.Common.{◌≡◌, rules, ap, map, subst, sym, length, ◌≤◌, ◌∙◌}
-use Rattle.std.specs.List.{All}
+use Rattle.std.proofs.Common.{◌≡◌, rules, ap, map, subst, sym, length, ◌≤◌, ◌∙◌, All}
 use Rattle.std.proofs.lemmas.List.Elements.{All-push}
 use Rattle.avp_dict.specs.Letters.{most_name}
 use Rattle.avp_dict.specs.code.Tables.{same_value_name, same_value_number, value_name_key, value_number_key}

@@ -1,5 +1,4 @@
-use Rattle.std.proofs.Common.{◌≡◌, ◌∷◌, ◌++◌, drop, decimal}
-use Rattle.std.specs.List.{flat_map}
+use Rattle.std.proofs.Common.{◌≡◌, ◌∷◌, ◌++◌, drop, decimal, flat_map}
 use Rattle.avp_dict.specs.Printing.{address_text}
 use Rattle.avp_dict.proofs.value.printing.address_text.Given as goal
 

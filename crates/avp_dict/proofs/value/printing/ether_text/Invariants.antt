@@ -1,5 +1,4 @@
-use Rattle.std.proofs.Common.{◌≡◌, ◌∷◌, ◌++◌, drop}
-use Rattle.std.specs.List.{flat_map}
+use Rattle.std.proofs.Common.{◌≡◌, ◌∷◌, ◌++◌, drop, flat_map}
 use Rattle.avp_dict.specs.Printing.{ether_text, digit_pair_text}
 use Rattle.avp_dict.proofs.value.printing.ether_text.Given as goal
 

@@ -1,5 +1,4 @@
-use Rattle.std.proofs.Common.{◌≡◌, ◌++◌, ◌∷◌, drop}
-use Rattle.std.specs.List.{flat_map}
+use Rattle.std.proofs.Common.{◌≡◌, ◌++◌, ◌∷◌, drop, flat_map}
 use Rattle.avp_dict.specs.Quotes.{quoted_octet}
 use Rattle.avp_dict.proofs.value.quotes.quote.Given as goal
 

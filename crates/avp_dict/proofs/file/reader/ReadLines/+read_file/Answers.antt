@@ -1,5 +1,4 @@
-use Rattle.std.proofs.Common.{◌≡◌, ◌∙◌, ◌+◌, ◌-◌, ◌<◌, ◌++◌, List, Some, length, refl, sym, ap, subst, arith, rules}
-use Rattle.std.specs.Option.{option_and_then}
+use Rattle.std.proofs.Common.{◌≡◌, ◌∙◌, ◌+◌, ◌-◌, ◌<◌, ◌++◌, List, Some, length, refl, sym, ap, subst, arith, rules, option_and_then}
 use Rattle.std.proofs.lemmas.Result.{err_from_is_err_and}
 use Rattle.avp_dict.specs.Lines.{Line, expanded, file_included, file_named, included_by, lines_below, lines_in, texts_of}
 use Rattle.avp_dict.specs.Outcomes.{Refuses}

@@ -1,5 +1,5 @@
-use Rattle.std.proofs.Common.{◌∙◌, sym, ap, subst, arith}
-use Rattle.std.proofs.lemmas.List.{length-map, map_push}
+use Rattle.std.proofs.Common.{◌∙◌, sym, ap, subst}
+use Rattle.std.proofs.lemmas.List.{map_push}
 use Rattle.avp_dict.specs.Meanings.{context_of}
 use Rattle.avp_dict.specs.Readings.{read_line, read_lines, within}
 use Rattle.avp_dict.specs.code.Gathered.{line_view}
@@ -17,12 +17,6 @@ returns-in_ok-push-in-Ok-clause-tracked c =
     let before = c.args.self.now.readings.items in
     context_after (reading_views before) (context_view c.args.self.now.context) (context_view c.add.new.self) _ (reading_views c.push.new.self.items)
     c.requires.tracked c.in_ok-add-in-Ok.ensures (ap reading_views c.in_ok-push-in-Ok.ensures.items ∙ map_push reading_view before _)
-
-pub returns-in_ok-push-in-Ok-clause-room : goal.returns-in_ok-push-in-Ok-clause-room
-returns-in_ok-push-in-Ok-clause-room c =
-    let before = c.args.self.now.readings.items in
-    let room = (read_within c.args.limit (reading_views before) _ _ c.in-Ok.ensures).0 in
-    omega (arith, room, length-map before reading_view, c.in_ok-push-in-Ok.ensures.len, c.push.new.self.ok.0, c.args.self.now.readings.ok.0)
 
 pub returns-in_ok-push-in-Ok-clause-step : goal.returns-in_ok-push-in-Ok-clause-step
 returns-in_ok-push-in-Ok-clause-step c = λ ls.

@@ -1,5 +1,4 @@
-use Rattle.std.proofs.Common.{ap, sym, ◌∙◌}
-use Rattle.std.specs.Str.{bytes_eq}
+use Rattle.std.proofs.Common.{ap, sym, ◌∙◌, bytes_eq}
 use Rattle.avp_dict.specs.Dictionary.{attribute_key, is_attribute_named, last_where}
 use Rattle.avp_dict.proofs.Folding.{same_folded}
 use Rattle.avp_dict.proofs.Short.{long_where}

@@ -1,6 +1,5 @@
-use Rattle.std.proofs.Common.{ap, map, sym, ◌∙◌}
+use Rattle.std.proofs.Common.{ap, map, sym, ◌∙◌, bytes_eq}
 use Rattle.std.specs.List.{list_any}
-use Rattle.std.specs.Str.{bytes_eq}
 use Rattle.avp_dict.specs.Values.{is_same_name}
 use Rattle.avp_dict.specs.Words.{lower}
 use Rattle.avp_dict.specs.code.Views.{views}

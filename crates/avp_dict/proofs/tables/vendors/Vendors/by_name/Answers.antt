@@ -1,5 +1,4 @@
-use Rattle.std.proofs.Common.{ap, sym, ◌∙◌}
-use Rattle.std.specs.Str.{bytes_eq}
+use Rattle.std.proofs.Common.{ap, sym, ◌∙◌, bytes_eq}
 use Rattle.avp_dict.specs.Dictionary.{is_vendor_named, last_where}
 use Rattle.avp_dict.specs.code.Tables.{vendor_key}
 use Rattle.avp_dict.proofs.Folding.{same_folded}

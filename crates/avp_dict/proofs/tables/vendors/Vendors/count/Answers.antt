@@ -1,6 +1,5 @@
-use Rattle.std.proofs.Common.{ap, map, ◌∙◌}
+use Rattle.std.proofs.Common.{ap, map, ◌∙◌, bytes_eq}
 use Rattle.std.specs.Set.{distinct_count}
-use Rattle.std.specs.Str.{bytes_eq}
 use Rattle.avp_dict.specs.Counts.{same_vendor}
 use Rattle.avp_dict.specs.code.Tables.{vendor_key}
 use Rattle.avp_dict.proofs.Folding.{folded_same}
