@@ -122,17 +122,15 @@ module _ (d : Dictionary) where
 
   known_extended : (t n : Option ℕ) → IfSome (extended_numbered t n) (λ id. is_known id d ≡ true)
   unfolding is_known
-  known_extended None n = tt
-  known_extended (Some t) None = tt
   known_extended (Some t) (Some n) =
       kept_by (λ id. is_known id d ≡ true) (ids.Extended t n) (is_extended 0 t n) (λ h. (and_parts (nat_le 241 t && nat_le t 246) (nat_le 0 n) (and_parts (nat_le 241 t && nat_le t 246 && nat_le 0 n) (nat_le n 255) h).0).0)
+  known_extended _ _ = tt
 
   known_vendor : (v n : Option ℕ) → IfSome (vendor_id_numbered d.vendors v n) (λ id. is_known id d ≡ true)
   unfolding is_known
-  known_vendor None n = tt
-  known_vendor (Some v) None = tt
   known_vendor (Some v) (Some n) =
       kept_by (λ id. is_known id d ≡ true) (ids.Vendor v n) (nat_le v greatest_number && is_in_format v n d.vendors) (λ h. (and_parts (nat_le v greatest_number) (is_in_format v n d.vendors) h).1)
+  known_vendor _ _ = tt
 
   known_numbered : (parts : List (List ℕ)) → IfSome (id_numbered d.vendors parts) (λ id. is_known id d ≡ true)
   known_numbered (n ∷ []) = known_plain (digits 10 n)

@@ -29,10 +29,8 @@ joined_nil None = refl
 joined_nil (Some xs) = refl
 
 pub joined_assoc : {X : Type 0} (x y z : Option (List X)) → joined (joined x y) z ≡ joined x (joined y z)
-joined_assoc None y z = refl
-joined_assoc (Some xs) None z = refl
-joined_assoc (Some xs) (Some ys) None = refl
 joined_assoc (Some xs) (Some ys) (Some zs) = ap Some (append_assoc xs ys zs)
+joined_assoc _ _ _ = refl
 
 spelled_append : (d : Dictionary) (as_ bs : List Assignment) → pairs_spelled d (as_ ++ bs) ≡ joined (pairs_spelled d as_) (pairs_spelled d bs)
 unfolding pairs_spelled

@@ -1,5 +1,6 @@
 -- What one line more adds to a dictionary.
-use Rattle.std.proofs.Common.{◌≡◌, ℕ, zero, suc, arith, ◌+◌, ◌<◌, ◌≤◌, List, [], ◌∷◌, Ok, refl, length, drop, get_or, add-one, drop-cons}
+use Rattle.std.proofs.Common.{ap, ◌≡◌, ℕ, ◌+◌, ◌<◌, ◌≤◌, List, [], ◌∷◌, Ok, refl, length, drop, get_or, add-one, drop-cons}
+use Rattle.std.proofs.lemmas.List.{drop_all}
 use Rattle.avp_dict.specs.declared.faults.DictFault.{DictFault}
 use Rattle.avp_dict.specs.declared.file.meanings.Meaning.TheVariants as meanings
 use Rattle.avp_dict.specs.declared.file.meanings.Reading.{Reading as CodeReading}
@@ -29,7 +30,4 @@ pub next_readings : (readings : List CodeReading) (i : ℕ) (d : CodeReading) �
 next_readings readings i d h = rw (add-one, drop-cons readings i d)
 
 pub no_readings : (readings : List CodeReading) (i : ℕ) → length readings ≤ i → reading_views (drop i readings) ≡ []
-no_readings [] zero h = refl
-no_readings [] (suc i) h = refl
-no_readings (x ∷ xs) zero h = absurd (omega arith)
-no_readings (x ∷ xs) (suc i) h = no_readings xs i (omega arith)
+no_readings readings i h = ap reading_views (drop_all i readings h)

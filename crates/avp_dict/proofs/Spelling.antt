@@ -1,5 +1,5 @@
 -- Texts that spell no value.
-use Rattle.std.proofs.Common.{◌≡◌, ℕ, ◌+◌, ◌*◌, ◌<◌, Bool, ltb, cond, List, [], ◌∷◌, length, Option, Some, None, refl, arith}
+use Rattle.std.proofs.Common.{◌≡◌, ℕ, ◌+◌, ◌*◌, ◌<◌, Bool, ltb, cond, List, [], ◌∷◌, length, Option, Some, None, arith}
 use Rattle.std.specs.Char.{digit_value}
 use Rattle.std.specs.List.{slice_split}
 use Rattle.std.proofs.lemmas.List.Splits.{length-slice_split}
@@ -18,7 +18,5 @@ two_digits_by : (x y : ℕ) → up_to 255 (cond (ltb x 16) (cond (ltb y 16) (Som
 two_digits_by x y = grind arith
 
 pub two_digits : (part : List ℕ) → length part ≡ 2 → up_to 255 (digits 16 part) ≡ digits 16 part
-two_digits [] h = refl
-two_digits (a ∷ []) h = absurd (omega arith)
 two_digits (a ∷ b ∷ []) h = two_digits_by (digit_value a) (digit_value b)
-two_digits (a ∷ b ∷ c ∷ cs) h = absurd (omega arith)
+two_digits _ h = absurd (omega arith)
