@@ -111,8 +111,10 @@ module _ (d : Dictionary) where
   pub formats_known : IsSound d → (vendor : ℕ) → IfSome (vendor_format vendor d) (λ f. is_format f.t f.l ≡ true)
   unfolding vendor_format format_of
   formats_known sound vendor =
-      then_keeps (λ (f : VendorFormat). is_format f.t f.l ≡ true) (λ (f : Format). is_format f.t f.l ≡ true) unless_three two_parts_of (option_map format_of_line (last_where (is_vendor_numbered vendor) d.vendors))
-      (mapped_holds (λ f. is_format f.t f.l ≡ true) format_of_line (last_where (is_vendor_numbered vendor) d.vendors) (last_keeps IsSoundVendor (is_vendor_numbered vendor) d.vendors sound.vendors))
+      then_keeps (λ (f : VendorFormat). is_format f.t f.l ≡ true) (λ (f : Format). is_format f.t f.l ≡ true) unless_three two_parts_of
+      (option_map format_of_line (last_where (is_vendor_numbered vendor) d.vendors))
+      (mapped_holds (λ f. is_format f.t f.l ≡ true) format_of_line (last_where (is_vendor_numbered vendor) d.vendors)
+      (last_keeps IsSoundVendor (is_vendor_numbered vendor) d.vendors sound.vendors))
 
 module _ (d : Dictionary) where
   known_plain : (n : Option ℕ) → IfSome (plain_numbered n) (λ id. is_known id d ≡ true)
@@ -123,19 +125,22 @@ module _ (d : Dictionary) where
   known_extended : (t n : Option ℕ) → IfSome (extended_numbered t n) (λ id. is_known id d ≡ true)
   unfolding is_known
   known_extended (Some t) (Some n) =
-      kept_by (λ id. is_known id d ≡ true) (ids.Extended t n) (is_extended 0 t n) (λ h. (and_parts (nat_le 241 t && nat_le t 246) (nat_le 0 n) (and_parts (nat_le 241 t && nat_le t 246 && nat_le 0 n) (nat_le n 255) h).0).0)
+      kept_by (λ id. is_known id d ≡ true) (ids.Extended t n) (is_extended 0 t n) (λ h.
+      (and_parts (nat_le 241 t && nat_le t 246) (nat_le 0 n) (and_parts (nat_le 241 t && nat_le t 246 && nat_le 0 n) (nat_le n 255) h).0).0)
   known_extended _ _ = tt
 
   known_vendor : (v n : Option ℕ) → IfSome (vendor_id_numbered d.vendors v n) (λ id. is_known id d ≡ true)
   unfolding is_known
   known_vendor (Some v) (Some n) =
-      kept_by (λ id. is_known id d ≡ true) (ids.Vendor v n) (nat_le v greatest_number && is_in_format v n d.vendors) (λ h. (and_parts (nat_le v greatest_number) (is_in_format v n d.vendors) h).1)
+      kept_by (λ id. is_known id d ≡ true) (ids.Vendor v n) (nat_le v greatest_number && is_in_format v n d.vendors)
+      (λ h. (and_parts (nat_le v greatest_number) (is_in_format v n d.vendors) h).1)
   known_vendor _ _ = tt
 
   known_numbered : (parts : List (List ℕ)) → IfSome (id_numbered d.vendors parts) (λ id. is_known id d ≡ true)
   known_numbered (n ∷ []) = known_plain (digits 10 n)
   known_numbered (t ∷ n ∷ []) = known_extended (digits 10 t) (digits 10 n)
-  known_numbered (t ∷ v ∷ n ∷ []) = cond_both (is_vendor_specific (digits 10 t)) _ _ (λ o. IfSome o (λ id. is_known id d ≡ true)) (λ h. known_vendor (digits 10 v) (digits 10 n)) (λ other. tt)
+  known_numbered (t ∷ v ∷ n ∷ []) =
+      cond_both (is_vendor_specific (digits 10 t)) _ _ (λ o. IfSome o (λ id. is_known id d ≡ true)) (λ h. known_vendor (digits 10 v) (digits 10 n)) (λ other. tt)
   known_numbered _ = tt
 
   pub known_named : IsSound d → (name : List ℕ) → IfSome (named name d) (λ n. is_known n.id d ≡ true)
@@ -145,7 +150,8 @@ module _ (d : Dictionary) where
       (λ h. mapped_holds (λ n. is_known n.id d ≡ true) (named_by true) (id_numbered d.vendors (slice_split is_dot (drop 5 name))) (known_numbered (slice_split is_dot (drop 5 name))))
       (λ h. mapped_holds (λ n. is_known n.id d ≡ true) (named_by false) (id_named name d.attributes)
       (mapped_holds (λ id. is_known id d ≡ true) id_of_line (last_where (is_attribute_named name) d.attributes)
-      (weaker (IsSoundAttribute d) (λ (a : AttributeLine). is_known a.id d ≡ true) (λ a h. h.known) (last_where (is_attribute_named name) d.attributes) (last_keeps (IsSoundAttribute d) (is_attribute_named name) d.attributes sound.attributes))))
+      (weaker (IsSoundAttribute d) (λ (a : AttributeLine). is_known a.id d ≡ true) (λ a h. h.known) (last_where (is_attribute_named name) d.attributes)
+      (last_keeps (IsSoundAttribute d) (is_attribute_named name) d.attributes sound.attributes))))
 
   -- ---- values
 
@@ -235,7 +241,8 @@ module _ (d : Dictionary) where
   unfolding spelled
   spelled_typed n text =
       cond_both n.raw _ _ (λ o. IfSome o (λ v. is_typed n.id v d ≡ true))
-      (λ raw. mapped_holds (λ v. is_typed n.id v d ≡ true) (octets_value n.id d) (octets_spelled text) (weaker IsBytes (λ os. is_typed n.id (value_of_octets n.id os d) d ≡ true) (octets_typed n.id) (octets_spelled text) (octets_are_bytes text)))
+      (λ raw. mapped_holds (λ v. is_typed n.id v d ≡ true) (octets_value n.id d) (octets_spelled text)
+      (weaker IsBytes (λ os. is_typed n.id (value_of_octets n.id os d) d ≡ true) (octets_typed n.id) (octets_spelled text) (octets_are_bytes text)))
       (λ typed. named_typed n.id text (typing_of_id n.id d.attributes) refl)
 
   unless_long_holds : (id : AttrId) (o : Option Value) → IfSome o (λ v. is_typed id v d ≡ true) → IfSome (result_ok (unless_long id d o)) (λ v. (is_typed id v d && is_within id v d) ≡ true)

@@ -39,7 +39,8 @@ module _ {X : Type 0} where
   find_none : (test : X → Bool) (xs : List X) → find test xs ≡ None → All (λ r. test r ≡ false) xs
   find_none test [] h = All-nil (λ r. test r ≡ false)
   find_none test (x ∷ xs) h =
-      cond_both (test x) _ _ (λ (o : Option X). o ≡ None → All (λ r. test r ≡ false) (x ∷ xs)) (λ e at. absurd (cc)) (λ e at. All-cons (λ r. test r ≡ false) x xs e (find_none test xs at)) h
+      cond_both (test x) _ _ (λ (o : Option X). o ≡ None → All (λ r. test r ≡ false) (x ∷ xs))
+      (λ e at. absurd (cc)) (λ e at. All-cons (λ r. test r ≡ false) x xs e (find_none test xs at)) h
 
   pub last_none : (test : X → Bool) (xs : List X) → last_where test xs ≡ None → All (λ r. test r ≡ false) xs
   last_none test xs h = subst (All (λ r. test r ≡ false)) (reverse-reverse xs) (All-reverse (λ r. test r ≡ false) (reverse xs) (find_none test (reverse xs) h))

@@ -7,7 +7,6 @@ pub mod Found
 pub mod Gathering
 pub mod Items
 pub mod Kept
-pub mod Keys
 pub mod Last
 pub mod Lexing
 pub mod LineTables

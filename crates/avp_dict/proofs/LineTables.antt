@@ -1,18 +1,28 @@
--- A table of lines' keys: empty, after one more line, what it finds, and how many keys it has.
-use Rattle.std.proofs.Common.{◌≡◌, ◌∙◌, ℕ, suc, Bool, true, false, cond, ◌||◌, List, [], ◌∷◌, ◌++◌, map, length, slice_get, Option, Some, None, is_some, option_and_then, refl, sym, subst, ap, ap₂, if◌then◌else◌}
+-- Keys of ids, and a table of lines' keys: empty, after one more line, what it finds, and how many keys it has.
+use Rattle.std.proofs.Common.{◌==◌, ◌≡◌, ◌∙◌, ℕ, suc, Bool, true, false, cond, ◌||◌, List, [], ◌∷◌, ◌++◌, map, length, slice_get, Option, Some, None, is_some, option_and_then, refl, sym, subst, ap, ap₂, if◌then◌else◌}
 use Rattle.std.specs.Cmp.{IsEquivalence}
 use Rattle.std.specs.List.{IsDistinct, list_any}
 use Rattle.std.specs.Map.{keys_of, lookup}
 use Rattle.std.specs.Set.{distinct_count, is_member, unique_keys}
-use Rattle.std.proofs.Math.Bool.{or-true}
+use Rattle.std.proofs.Math.Bool.{and-true, or-true}
 use Rattle.std.proofs.lemmas.List.{length-map, map-append}
 use Rattle.std.proofs.lemmas.List.Sums.{fold_push}
 use Rattle.std.proofs.lemmas.Map.Entries.{length-keys_of}
 use Rattle.std.proofs.lemmas.Map.Made.{is_some-lookup, length-from_keys}
 use Rattle.indexmap.specs.IndexMap.{insert_entry}
+use Rattle.avp_lists.specs.declared.attributes.AttrId.{AttrId}
+use Rattle.avp_lists.specs.declared.attributes.AttrId.TheVariants.{Plain, Vendor, Extended}
+use Rattle.avp_lists.specs.Pairs.{id_eq}
 use Rattle.avp_dict.specs.Dictionary.{last_where, with_key}
-use Rattle.avp_dict.specs.code.Tables.{IsTable, last_place}
+use Rattle.avp_dict.specs.code.Tables.{IsTable, id_key, last_place, same_id_key}
 use Rattle.avp_dict.proofs.Last.{last_found, last_place_kept}
+
+-- the keys of ids tell them apart
+pub same_key : (a b : AttrId) → same_id_key (id_key a) (id_key b) ≡ id_eq a b
+same_key (Plain a) (Plain b) = and-true (a == b)
+same_key (Vendor a x) (Vendor b y) = refl
+same_key (Extended a x) (Extended b y) = refl
+same_key _ _ = refl
 
 found_any : {X : Type 0} (test : X → Bool) (xs : List X) → is_some (last_place test xs) ≡ list_any test xs
 found_any test [] = refl

@@ -101,7 +101,8 @@ module _ (dictionary : Dictionary) (id : AttrId) where
       go : (o : Option Described) → option_and_then (read_by os) o ≡ Some v → (is_raw v ≡ false) × IsSized v
       go None h = absurd (cc)
       go (Some d) h =
-          cond_both (d.hidden && not (is_hideable os)) _ _ (λ (o : Option Value). o ≡ Some v → (is_raw v ≡ false) × IsSized v) (λ hides is. absurd (cc)) (λ shows. read_sized d.kind os v) h
+          cond_both (d.hidden && not (is_hideable os)) _ _ (λ (o : Option Value). o ≡ Some v → (is_raw v ≡ false) × IsSized v)
+          (λ hides is. absurd (cc)) (λ shows. read_sized d.kind os v) h
 
   -- ---- canonical pairs
 

@@ -115,13 +115,15 @@ module _ (n : ℕ) where
   unfolding with_line
   with_line_in skipped dictionary r (Value attribute name v) e were is = rw e (value_in (value_of skipped dictionary attribute name v (id_named attribute dictionary.attributes)) dictionary r were is)
   with_line_in skipped dictionary r m e were is =
-      rw e (cond_both (is_noted dictionary.vendors m) (with_note dictionary r) dictionary (λ (d : Dictionary). All (IsNoteIn n) d.notes) (λ noted. note_in dictionary r were is) (λ other. were))
+      rw e (cond_both (is_noted dictionary.vendors m) (with_note dictionary r) dictionary (λ (d : Dictionary). All (IsNoteIn n) d.notes)
+      (λ noted. note_in dictionary r were is) (λ other. were))
 
   resolve_in : (skipped : List (List ℕ)) (dictionary : Dictionary) (readings : List Reading) → All (IsNoteIn n) dictionary.notes → All (IsIn n) readings → IsDictionaryIn n (resolve skipped dictionary readings)
   unfolding resolve
   resolve_in skipped dictionary [] were are = were
   resolve_in skipped dictionary (r ∷ rs) were are =
-      then_both (IsDictionaryIn n) (IsDictionaryIn n) (with_line skipped dictionary r) _ (with_line_in skipped dictionary r r.meaning refl were (All-head (IsIn n) r rs are))
+      then_both (IsDictionaryIn n) (IsDictionaryIn n) (with_line skipped dictionary r) _
+      (with_line_in skipped dictionary r r.meaning refl were (All-head (IsIn n) r rs are))
       (λ more now. resolve_in skipped more rs now (All-tail (IsIn n) r rs are)) (λ e h. h)
 
   settled_in : (readings : List Reading) → All (IsIn n) readings → IsDictionaryIn n (settled readings)
@@ -132,9 +134,11 @@ pub dictionary_in : (limit : ℕ) (files : List NamedFile) → 0 < length files 
 unfolding dictionary_of
 dictionary_in limit files some =
     let n = length files in
-    then_both (AreIn n) (IsDictionaryIn n) (read_lines limit files [] (lines_of files)) _ (read_lines_in n limit files [] (lines_of files) (All-nil (IsIn n)) (lines_of_in files some)) (λ readings are.
+    then_both (AreIn n) (IsDictionaryIn n) (read_lines limit files [] (lines_of files)) _
+    (read_lines_in n limit files [] (lines_of files) (All-nil (IsIn n)) (lines_of_in files some)) (λ readings are.
     then_both (AreIn n) (IsDictionaryIn n) (unless_open (innermost (context_of readings).opened) readings) _
-    (unless_open_in n (innermost (context_of readings).opened) readings (λ r e. get_in n (IsIn n) (context_of readings).opened (length (context_of readings).opened - 1) r (opened_in n readings are) e) are)
+    (unless_open_in n (innermost (context_of readings).opened) readings
+    (λ r e. get_in n (IsIn n) (context_of readings).opened (length (context_of readings).opened - 1) r (opened_in n readings are) e) are)
     (settled_in n) (λ e h. h)) (λ e h. h)
 
 -- ---- faults and notes

@@ -1,10 +1,10 @@
 -- Printed octets and addresses are read back.
-use Rattle.std.proofs.Common.{◌≡◌, ◌∙◌, ℕ, zero, suc, ◌+◌, ◌*◌, ◌/◌, ◌%◌, ◌<◌, Bool, true, false, not, ◌&&◌, ◌==◌, ltb, leb, List, [], ◌∷◌, ◌++◌, length, map, get_or, slice_index, Option, Some, refl, ap, arith, decimal, inl, inr}
+use Rattle.std.proofs.Common.{◌≡◌, ◌∙◌, ℕ, ◌+◌, ◌*◌, ◌/◌, ◌%◌, ◌<◌, Bool, true, false, not, ◌&&◌, ◌==◌, ltb, leb, List, [], ◌∷◌, ◌++◌, length, map, get_or, slice_index, Option, Some, refl, ap, arith, decimal}
 use Rattle.std.specs.List.{All, flat_map, slice_split}
 use Rattle.std.specs.Char.{digit_value}
 use Rattle.std.specs.Result.{result_ok}
 use Rattle.std.proofs.Math.Bool.{and-false}
-use Rattle.std.proofs.lemmas.Bool.{and_parts, cases_lt, not-true}
+use Rattle.std.proofs.lemmas.Bool.{agree_below_at, and_parts, not-true}
 use Rattle.std.proofs.lemmas.Fmt.{length-decimal-le}
 use Rattle.std.proofs.lemmas.List.{append-nil, length-map}
 use Rattle.std.proofs.lemmas.List.Elements.{All-nil, All-cons, All-head, All-tail, All-from_get_or}
@@ -83,9 +83,9 @@ address_back (o ∷ os) e h = joined_back is_dot decimal decimal_octet decimal_p
 
 -- ---- pairs of digits
 
-glyphs_below : ℕ → Bool
-glyphs_below zero = true
-glyphs_below (suc d) = ((digit_value (slice_index lower_digits d) == d) && not (slice_index lower_digits d == 58)) && glyphs_below d
+-- a glyph gives its digit back, and is no colon
+abbrev is_glyph : ℕ → Bool
+is_glyph d = (digit_value (slice_index lower_digits d) == d) && not (slice_index lower_digits d == 58)
 
 record IsGlyph (d o : ℕ) : Type 0 where
   value : digit_value o ≡ d
@@ -94,21 +94,8 @@ record IsGlyph (d o : ℕ) : Type 0 where
 glyph_by : (d o : ℕ) → ((digit_value o == d) && not (o == 58)) ≡ true → IsGlyph d o
 glyph_by d o h = let parts = and_parts (digit_value o == d) (not (o == 58)) h in record { value = grind (arith, parts.0); plain = not-true (o == 58) parts.1 }
 
-glyph_at : (n d : ℕ) → glyphs_below n ≡ true → d < n → IsGlyph d (slice_index lower_digits d)
-unfolding glyphs_below
-glyph_at zero d h lt = absurd (omega arith)
-glyph_at (suc n) d h lt =
-    let parts = and_parts ((digit_value (slice_index lower_digits n) == n) && not (slice_index lower_digits n == 58)) (glyphs_below n) h in
-    elim (cases_lt d n) [
-      | inl below ↦ glyph_at n d parts.1 below
-      | inr top ↦
-          let e : d ≡ n = omega arith in
-          rw e (glyph_by n (slice_index lower_digits n) parts.0)
-    ]
-
 glyph : (d : ℕ) → d < 16 → IsGlyph d (slice_index lower_digits d)
-unfolding glyphs_below
-glyph d h = glyph_at 16 d refl h
+glyph d h = glyph_by d (slice_index lower_digits d) (agree_below_at is_glyph (λ _. true) 16 d refl h)
 
 pair_text : (o : ℕ) → digit_pair_text o ≡ slice_index lower_digits (o / 16) ∷ slice_index lower_digits (o % 16) ∷ []
 unfolding encode_with

@@ -146,7 +146,8 @@ module _ (skipped : List (List ℕ)) (d : Dictionary) (sound : IsSound d) where
 resolve_sound : (skipped : List (List ℕ)) (d : Dictionary) (readings : List Reading) → IsSound d → AllSound (resolve skipped d readings)
 unfolding resolve
 resolve_sound skipped d [] sound = sound
-resolve_sound skipped d (r ∷ rs) sound = then_both AllSound AllSound (with_line skipped d r) _ (line_sound skipped d sound r r.meaning refl) (λ more is. resolve_sound skipped more rs is) (λ e h. tt)
+resolve_sound skipped d (r ∷ rs) sound =
+    then_both AllSound AllSound (with_line skipped d r) _ (line_sound skipped d sound r r.meaning refl) (λ more is. resolve_sound skipped more rs is) (λ e h. tt)
 
 settled_sound : (readings : List Reading) → AreRead (context_of readings) → AllSound (settled readings)
 unfolding settled
@@ -162,7 +163,8 @@ pub dictionary_sound : (limit : ℕ) (files : List NamedFile) → AllSound (dict
 unfolding dictionary_of
 dictionary_sound limit files =
     then_both AllRead AllSound (read_lines limit files [] (lines_of files)) _ (read_lines_read limit files [] (lines_of files) none_read) (λ lines are.
-    then_both AllRead AllSound (unless_open (innermost (context_of lines).opened) lines) _ (unless_open_holds (innermost (context_of lines).opened) lines are) settled_sound (λ e h. tt))
+    then_both AllRead AllSound (unless_open (innermost (context_of lines).opened) lines) _
+    (unless_open_holds (innermost (context_of lines).opened) lines are) settled_sound (λ e h. tt))
     (λ e h. tt)
 
 pub sound_of : (limit : ℕ) (files : List NamedFile) (dictionary : Dictionary) → dictionary_of limit files ≡ Ok dictionary → IsSound dictionary

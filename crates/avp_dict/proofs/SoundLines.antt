@@ -216,7 +216,9 @@ module _ (before : Context) where
   unfolding vendor_line
   vendor_line_reads name number None known = tt
   vendor_line_reads name number (Some f) known =
-      cond_both (is_vendor_name name) _ _ (Reads before) (λ named. then_both (λ r. Unit {0}) (Reads before) (bounded greatest_number number) _ tt (λ n h. vendor_numbered_reads name f (short_vendor name named) known n) (λ e h. tt)) (λ other. tt)
+      cond_both (is_vendor_name name) _ _ (Reads before)
+      (λ named. then_both (λ r. Unit {0}) (Reads before) (bounded greatest_number number) _ tt (λ n h. vendor_numbered_reads name f (short_vendor name named) known n) (λ e h. tt))
+      (λ other. tt)
 
   vendor_reads : (rest : List (List ℕ)) → Reads before (vendor before.vendors rest)
   unfolding vendor
@@ -267,7 +269,8 @@ module _ (before : Context) where
   attribute_line_reads : (block : Option ℕ) (name number kind : List ℕ) (flags : List (List ℕ)) → Reads before (attribute_line before block name number kind flags)
   unfolding attribute_line
   attribute_line_reads block name number kind flags =
-      then_both GivesRanged (Reads before) (id_word before.vendors block (slice_split is_dot number)) _ (id_word_ranged block (slice_split is_dot number)) (attribute_of_reads name kind flags) (λ e h. tt)
+      then_both GivesRanged (Reads before) (id_word before.vendors block (slice_split is_dot number)) _
+      (id_word_ranged block (slice_split is_dot number)) (attribute_of_reads name kind flags) (λ e h. tt)
 
   attribute_reads : (block : Option ℕ) (rest : List (List ℕ)) → Reads before (attribute before block rest)
   unfolding attribute
@@ -334,7 +337,8 @@ pub read_lines_read : (limit : ℕ) (files : List NamedFile) (before : List Read
 unfolding read_lines
 read_lines_read limit files before [] are = are
 read_lines_read limit files before (line ∷ lines) are =
-    step_read (context_of before) line.file line.number (within limit before (read_line files (context_of before) line)) _ (either (context_of before) (nat_lt (length before) limit) _ _ (read_line_reads (context_of before) files line) tt) (λ m is.
+    step_read (context_of before) line.file line.number (within limit before (read_line files (context_of before) line)) _
+    (either (context_of before) (nat_lt (length before) limit) _ _ (read_line_reads (context_of before) files line) tt) (λ m is.
     let r : Reading = record { file = line.file; line = line.number; meaning = m } in
     read_lines_read limit files (before ++ r ∷ []) lines (read_more before r are is))
 

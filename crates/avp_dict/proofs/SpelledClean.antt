@@ -111,9 +111,11 @@ module _ (d : Dictionary) where
       cond_both n.raw _ _ (λ o. IfSome o (IsOwn n.id))
       (λ raw.
       let shown : is_hidden n.id d ≡ false = (or_parts (is_container n.id) (is_hidden n.id d) (rw raw at free)).1 in
-      mapped_holds (IsOwn n.id) (octets_value n.id d) (octets_spelled text) (always (λ os. IsOwn n.id (value_of_octets n.id os d)) (octets_own n.id shown) (octets_spelled text)))
+      mapped_holds (IsOwn n.id) (octets_value n.id d) (octets_spelled text)
+      (always (λ os. IsOwn n.id (value_of_octets n.id os d)) (octets_own n.id shown) (octets_spelled text)))
       (λ typed.
-      weaker IsWhole (IsOwn n.id) (λ v is fit. typed_canonical d n.id v is.0 is.1 fit) (option_and_then (spelled_by n.id text d) (typing_of_id n.id d.attributes)) (named_whole n.id text (typing_of_id n.id d.attributes)))
+      weaker IsWhole (IsOwn n.id) (λ v is fit. typed_canonical d n.id v is.0 is.1 fit)
+      (option_and_then (spelled_by n.id text d) (typing_of_id n.id d.attributes)) (named_whole n.id text (typing_of_id n.id d.attributes)))
 
   unless_long_own : (id : AttrId) (o : Option Value) → IfSome o (IsOwn id) → IfSome (result_ok (unless_long id d o)) (IsOwn id)
   unless_long_own id None h = tt

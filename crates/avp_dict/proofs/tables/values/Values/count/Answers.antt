@@ -4,8 +4,7 @@ use Rattle.avp_dict.specs.Counts.{same_value}
 use Rattle.avp_dict.specs.code.Tables.{same_value_name, value_name_key}
 use Rattle.avp_dict.proofs.Agreement.{id_eq_sym}
 use Rattle.avp_dict.proofs.Folding.{folded_same}
-use Rattle.avp_dict.proofs.Keys.{same_key}
-use Rattle.avp_dict.proofs.LineTables.{lines_counted}
+use Rattle.avp_dict.proofs.LineTables.{lines_counted, same_key}
 use Rattle.avp_dict.proofs.tables.values.Values.count.Goals as goal
 
 pub returns : goal.returns
