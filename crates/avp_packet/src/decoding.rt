@@ -13,7 +13,7 @@ ghost use Rattle.avp_packet.specs.Packets.{IsRequestCode, attributes_of, authent
 ghost use Rattle.avp_packet.specs.Splitting.{parts};
 
 use crate::authenticators::{
-    HEAD_OCTETS, MOST_OCTETS, ZEROS, attributes_in, authenticator_in, is_accounting_request,
+    HEAD_OCTETS, MOST_PACKET_OCTETS, ZEROS, attributes_in, authenticator_in, is_accounting_request,
     is_packet_length, length_in,
 };
 use crate::encoding::authenticator_to_hide_by;
@@ -21,7 +21,7 @@ use crate::faults::PacketFault;
 use crate::packets::{ACCESS_REQUEST, ACCOUNTING_REQUEST, Packet};
 use crate::pairs::read_pairs;
 use crate::signing::{check_message, has_signature};
-use crate::walking::bad_attribute;
+use crate::walking::count_attributes;
 use avp_dict::Dictionary;
 use avp_lists::Pairs;
 use std::alloc::{AllocError, Global};
@@ -35,16 +35,18 @@ fn copy_authenticator(octets: &[u8]) -> [u8; 16]
     authenticator
 }
 
+// The packet, with room for so many pairs.
 fn read_packet(
     alloc: Global,
     dictionary: &Dictionary,
     secret: &[u8],
     octets: &[u8],
+    count: usize,
 ) -> Result<Packet, AllocError>
     requires secret { 0 < length secret.now }
     requires head { HEAD_OCTETS ≤ length_of octets.now }
     requires whole { length_of octets.now ≤ length octets.now }
-    requires short { length_of octets.now ≤ MOST_OCTETS }
+    requires short { length_of octets.now ≤ MOST_PACKET_OCTETS }
     ensures fits { IfOk result (λ packet. All (λ pair. fits pair dictionary.now ≡ true) packet.list) }
     ensures own { IfOk result (λ packet. All (IsOwn dictionary.now) packet.list) }
     ensures means { IfOk result (λ packet. packet.list ≡ meaning dictionary.now secret.now (hiding_authenticator packet.code packet.authenticator) (parts (attributes_of octets.now))) }
@@ -55,7 +57,7 @@ fn read_packet(
     let authenticator = copy_authenticator(octets);
     let hidden_by = authenticator_to_hide_by(code, &authenticator);
     let attributes = attributes_in(octets, length_in(octets));
-    let pairs = read_pairs(alloc, dictionary, secret, &hidden_by, attributes)?;
+    let pairs = read_pairs(alloc, dictionary, secret, &hidden_by, attributes, count)?;
     Ok(Packet {
         code,
         id: octets[1],
@@ -81,11 +83,12 @@ fn read_request(
     dictionary: &Dictionary,
     secret: &[u8],
     octets: &[u8],
+    count: usize,
 ) -> Result<Packet, PacketFault>
     requires secret { 0 < length secret.now }
     requires head { HEAD_OCTETS ≤ length_of octets.now }
     requires whole { length_of octets.now ≤ length octets.now }
-    requires short { length_of octets.now ≤ MOST_OCTETS }
+    requires short { length_of octets.now ≤ MOST_PACKET_OCTETS }
     ensures fits { IfOk result (λ packet. All (λ pair. fits pair dictionary.now ≡ true) packet.list) }
     ensures own { IfOk result (λ packet. All (IsOwn dictionary.now) packet.list) }
     ensures means { IfOk result (λ packet. packet.list ≡ meaning dictionary.now secret.now (hiding_authenticator packet.code packet.authenticator) (parts (attributes_of octets.now))) }
@@ -103,7 +106,7 @@ fn read_request(
     if is_wrongly_signed(octets, secret) {
         return Err(PacketFault::WrongMessageAuthenticator);
     }
-    match read_packet(alloc, dictionary, secret, octets) {
+    match read_packet(alloc, dictionary, secret, octets, count) {
         Ok(packet) => Ok(packet),
         Err(_) => Err(PacketFault::Memory),
     }
@@ -142,8 +145,8 @@ pub fn decode(
     if octets.len() < length {
         return Err(PacketFault::CutShort);
     }
-    match bad_attribute(attributes_in(octets, length)) {
-        Some(offset) => Err(PacketFault::BadAttribute(HEAD_OCTETS + offset)),
-        None => read_request(alloc, dictionary, secret, octets),
+    match count_attributes(attributes_in(octets, length)) {
+        Ok(count) => read_request(alloc, dictionary, secret, octets, count),
+        Err(bad) => Err(PacketFault::BadAttribute(HEAD_OCTETS + bad.offset)),
     }
 }

@@ -6,14 +6,14 @@ ghost use Rattle.avp_dict.specs.Limits.{fits};
 ghost use Rattle.avp_dict.specs.Sent.{is_clean};
 ghost use Rattle.avp_packet.specs.Hmac.{hmac};
 ghost use Rattle.avp_packet.specs.Means.{Means};
-ghost use Rattle.avp_packet.specs.Packets.{IsReplyCode, IsRequestCode, attributes_of, hiding_authenticator, is_reply, packet, pairs_meant, reply, reply_content, request, request_authenticator, request_content, request_kind, zeros};
+ghost use Rattle.avp_packet.specs.Packets.{IsReplyCode, IsRequestCode, attributes_of, authenticator_of, hiding_authenticator, is_reply, packet, pairs_meant, reply, reply_content, request, request_authenticator, request_content, request_kind, zeros};
 ghost use Rattle.avp_packet.specs.Sending.{is_to_sign};
 ghost use Rattle.avp_packet.specs.Signed.{is_signed};
 ghost use Rattle.avp_packet.specs.Splitting.{left, parts};
 ghost use Rattle.avp_packet.specs.code.Filling.{IsPlace, divided_octets, divided_signed, filled};
 ghost use Rattle.avp_packet.specs.code.Ranges.{IsVendorInRange};
 
-use crate::authenticators::{HEAD_OCTETS, MOST_OCTETS, ZEROS, digest_of_packet, head_of};
+use crate::authenticators::{HEAD_OCTETS, MOST_PACKET_OCTETS, ZEROS, digest_of_packet, head_of};
 use crate::dividing::{Division, divide_reply, divide_request};
 use crate::faults::EncodeFault;
 use crate::hmac::{SIGNATURE_OCTETS, signature_between};
@@ -34,7 +34,8 @@ pub(crate) fn authenticator_to_hide_by(code: u8, authenticator: &[u8; 16]) -> [u
     }
 }
 
-fn authenticator_of_request(
+// The authenticator of a request with these attributes.
+fn request_authenticator(
     code: u8,
     id: u8,
     authenticator: &[u8; 16],
@@ -149,14 +150,14 @@ pub fn encode_request(
     requires code { IsRequestCode code }
     requires fits { All (λ pair. fits pair dictionary.now ≡ true) list.now }
     ensures octets { IfOk result (λ octets. octets.items ≡ request dictionary.now secret.now code id authenticator.now list.now) }
-    ensures short { OnOk result (length (request dictionary.now secret.now code id authenticator.now list.now) ≤ MOST_OCTETS) }
+    ensures short { OnOk result (length (request dictionary.now secret.now code id authenticator.now list.now) ≤ MOST_PACKET_OCTETS) }
     // The attributes are whole, and what is written of a clean list means the pairs that are sent.
     ensures whole { IfOk result (λ octets. left (attributes_of octets.items) ≡ []) }
     ensures means { IfOk result (λ octets. is_clean list.now dictionary.now ≡ true
         → Means dictionary.now secret.now (hiding_authenticator code authenticator.now) (parts (attributes_of octets.items)) (pairs_meant dictionary.now secret.now code id authenticator.now (request_content code list.now))) }
     // An Access-Request is signed where its list has a Message-Authenticator.
     ensures signed { IfOk result (λ octets. is_to_sign (request_kind code) list.now ≡ true → is_signed octets.items authenticator.now secret.now ≡ true) }
-    ensures too_long { result ≡ Err EncodeFault.TooLong → MOST_OCTETS < length (request dictionary.now secret.now code id authenticator.now list.now) }
+    ensures too_long { result ≡ Err EncodeFault.TooLong → MOST_PACKET_OCTETS < length (request dictionary.now secret.now code id authenticator.now list.now) }
 {
     dictionary.is_sound();
     let division = divide_request(code, list);
@@ -170,9 +171,42 @@ pub fn encode_request(
         &division,
         &[],
     )?;
-    let authenticator = authenticator_of_request(code, id, authenticator, &attributes, secret);
+    let authenticator = request_authenticator(code, id, authenticator, &attributes, secret);
     let octets = assemble(alloc, code, id, &authenticator, &attributes)?;
     Ok(octets)
+}
+
+/// The authenticator of the packet that [`encode_request`] makes of the same, without the packet: of an
+/// Accounting-Request its digest.
+#[tactic(auto, unfolding(crate::specs::Packets::request), using(crate::proofs::Assembled::length_request))]
+pub fn encoded_authenticator(
+    alloc: Global,
+    dictionary: &Dictionary,
+    secret: &[u8],
+    code: u8,
+    id: u8,
+    authenticator: &[u8; 16],
+    list: &[Pair],
+) -> Result<[u8; 16], EncodeFault>
+    requires secret { 0 < length secret.now }
+    requires code { IsRequestCode code }
+    requires fits { All (λ pair. fits pair dictionary.now ≡ true) list.now }
+    ensures authenticator { IfOk result (λ own. own ≡ authenticator_of (request dictionary.now secret.now code id authenticator.now list.now)) }
+    ensures short { OnOk result (length (request dictionary.now secret.now code id authenticator.now list.now) ≤ MOST_PACKET_OCTETS) }
+    ensures too_long { result ≡ Err EncodeFault.TooLong → MOST_PACKET_OCTETS < length (request dictionary.now secret.now code id authenticator.now list.now) }
+{
+    let division = divide_request(code, list);
+    let attributes = signed_attributes(
+        alloc,
+        dictionary,
+        secret,
+        code,
+        id,
+        authenticator,
+        &division,
+        &[],
+    )?;
+    Ok(request_authenticator(code, id, authenticator, &attributes, secret))
 }
 
 /// A reply with the pairs of a list, but for the list's Message-Authenticators, and then the Proxy-States of the
@@ -199,7 +233,7 @@ pub fn encode_reply(
     // An Accounting-Response has no Message-Authenticator.
     requires signed { code ≡ ACCOUNTING_RESPONSE → signed ≡ false }
     ensures octets { IfOk result (λ octets. octets.items ≡ reply dictionary.now secret.now code id request_authenticator.now signed list.now proxy_states.now) }
-    ensures short { OnOk result (length (reply dictionary.now secret.now code id request_authenticator.now signed list.now proxy_states.now) ≤ MOST_OCTETS) }
+    ensures short { OnOk result (length (reply dictionary.now secret.now code id request_authenticator.now signed list.now proxy_states.now) ≤ MOST_PACKET_OCTETS) }
 
     // The attributes are whole, and what is written of clean lists means the pairs that are sent.
     ensures whole { IfOk result (λ octets. left (attributes_of octets.items) ≡ []) }
@@ -209,7 +243,7 @@ pub fn encode_reply(
     // `check_reply` accepts the packet, and `check_message` where `signed` is true.
     ensures accepted { IfOk result (λ octets. is_reply octets.items request_authenticator.now secret.now ≡ true) }
     ensures signed { IfOk result (λ octets. signed ≡ true → is_signed octets.items request_authenticator.now secret.now ≡ true) }
-    ensures too_long { result ≡ Err EncodeFault.TooLong → MOST_OCTETS < length (reply dictionary.now secret.now code id request_authenticator.now signed list.now proxy_states.now) }
+    ensures too_long { result ≡ Err EncodeFault.TooLong → MOST_PACKET_OCTETS < length (reply dictionary.now secret.now code id request_authenticator.now signed list.now proxy_states.now) }
 {
     dictionary.is_sound();
     let division = divide_reply(signed, list);

@@ -67,7 +67,7 @@ pub(crate) fn join_run(
     ensures run { IfOk result (λ joined. option_map run_view joined ≡ run t number (parts octets.now)) }
     ensures shorter { IfOk result (λ joined. IfSome joined (λ j. length j.rest.now < length octets.now)) }
 {
-    let mut joined = Vec::with_capacity(alloc, octets.len())?;
+    let mut joined = Vec::new(alloc);
     let mut rest = octets;
     while let Some(piece) = next_piece(t, number, rest) {
         joined.extend_from_slice(piece.octets)?;

@@ -23,9 +23,9 @@ mod subattributes;
 mod walking;
 mod writing;
 
-pub use authenticators::check_reply;
+pub use authenticators::{MOST_PACKET_OCTETS, check_reply};
 pub use decoding::decode;
-pub use encoding::{encode_reply, encode_request};
+pub use encoding::{encode_reply, encode_request, encoded_authenticator};
 pub use faults::{EncodeFault, HideFault, PacketFault};
 pub use hiding::{hide, unhide};
 pub use packets::{

@@ -8,7 +8,7 @@ ghost use Rattle.avp_packet.specs.Own.{IsOwn};
 ghost use Rattle.avp_packet.specs.Splitting.{part_octets, parts};
 
 use crate::fragments::join_run;
-use crate::reading::{push_extended, push_raw, push_read};
+use crate::reading::{push_extended, push_joined, push_raw, push_read};
 use crate::sending::MOST_ATTRIBUTE_OCTETS;
 use crate::splitting::{Front, first_attribute};
 use crate::subattributes::push_vendor_pairs;
@@ -47,7 +47,7 @@ fn push_long<'a>(
     match join_run(*pairs.allocator(), front.number, number, octets)? {
         Some(joined) => {
             let id = AttrId::Extended(front.number, number);
-            push_read(pairs, dictionary, secret, authenticator, id, &joined.octets)?;
+            push_joined(pairs, dictionary, secret, authenticator, id, joined.octets)?;
             Ok(joined.rest)
         }
         None => {
@@ -97,13 +97,14 @@ fn push_first<'a>(
     Ok(front.rest)
 }
 
-/// The pairs that whole attributes mean.
+/// The pairs that whole attributes mean, in a list with room for so many.
 pub(crate) fn read_pairs(
     alloc: Global,
     dictionary: &Dictionary,
     secret: &[u8],
     authenticator: &[u8; 16],
     octets: &[u8],
+    count: usize,
 ) -> Result<Vec<Pair>, AllocError>
     requires secret { 0 < length secret.now }
     requires short { length octets.now ≤ MOST_ATTRIBUTE_OCTETS }
@@ -112,7 +113,7 @@ pub(crate) fn read_pairs(
     ensures own { IfOk result (λ pairs. All (IsOwn dictionary.now) pairs.items) }
 {
     dictionary.is_sound();
-    let mut pairs = Vec::new(alloc);
+    let mut pairs = Vec::with_capacity(alloc, count)?;
     let mut rest = octets;
     while let Some(front) = first_attribute(rest) {
         rest = push_first(&mut pairs, dictionary, secret, authenticator, rest, front)?;

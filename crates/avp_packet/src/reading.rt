@@ -34,8 +34,29 @@ fn read_value(
         return dictionary.value_of_bytes(alloc, id, octets);
     }
     match unhide(alloc, secret, authenticator, octets)? {
-        Some(password) => dictionary.value_of_bytes(alloc, id, &password),
+        Some(password) => Ok(dictionary.value_of_vec(id, password)),
         None => Ok(Value::Raw(copy_of(alloc, octets)?)),
+    }
+}
+
+// The same value of joined octets, which it keeps.
+#[tactic(auto, unfolding(crate::specs::Meanings::value_of))]
+fn keep_value(
+    dictionary: &Dictionary,
+    secret: &[u8],
+    authenticator: &[u8; 16],
+    id: AttrId,
+    octets: Vec<u8>,
+) -> Result<Value, AllocError>
+    requires { 0 < length secret.now }
+    ensures { IfOk result (λ value. value ≡ value_of dictionary.now secret.now authenticator.now id octets.items) }
+{
+    if !hides(dictionary, id) {
+        return Ok(dictionary.value_of_vec(id, octets));
+    }
+    match unhide(*octets.allocator(), secret, authenticator, &octets)? {
+        Some(password) => Ok(dictionary.value_of_vec(id, password)),
+        None => Ok(Value::Raw(Octets::from_vec(octets))),
     }
 }
 
@@ -59,6 +80,23 @@ pub(crate) fn push_read(
         id,
         octets,
     )?;
+    pairs.push(Pair { id, value })?;
+    Ok(())
+}
+
+/// Adds the pair of an id with joined octets, which it keeps.
+pub(crate) fn push_joined(
+    pairs: &mut Vec<Pair>,
+    dictionary: &Dictionary,
+    secret: &[u8],
+    authenticator: &[u8; 16],
+    id: AttrId,
+    octets: Vec<u8>,
+) -> Result<(), AllocError>
+    requires { 0 < length secret.now }
+    ensures { OnOk result (pairs.new.items ≡ pairs.old.items ++ pair_of dictionary.now secret.now authenticator.now id octets.items ∷ []) }
+{
+    let value = keep_value(dictionary, secret, authenticator, id, octets)?;
     pairs.push(Pair { id, value })?;
     Ok(())
 }

@@ -1,15 +1,17 @@
 //! The octets of pairs and lists as they are sent.
 
-ghost use Rattle.std.specs.Prelude.{◌≡◌, ◌≤◌, ◌<◌, ◌+◌, ◌∷◌, ◌++◌, ℕ, List, [], true, false, length, All, OnOk, IfOk, IsTrue, Err};
+ghost use Rattle.std.specs.Prelude.{◌≡◌, ◌≤◌, ◌<◌, ◌+◌, ◌∷◌, ◌++◌, ℕ, List, [], true, false, length, Option, All, OnOk, IfOk, IfSome, IsTrue, Err};
 ghost use Rattle.avp_dict.specs.Limits.{fits};
-ghost use Rattle.avp_dict.specs.Octets.{is_hidden};
+ghost use Rattle.std.specs.Cow.{cow_slice_items};
+ghost use Rattle.avp_dict.specs.declared.entries.Kind.{Kind};
+ghost use Rattle.avp_dict.specs.Octets.{is_hidden, octets_of};
 ghost use Rattle.avp_dict.specs.Sent.{is_internal, is_raw};
 ghost use Rattle.avp_packet.specs.AttributeOctets.{attribute_octets, sent_octets};
 ghost use Rattle.avp_packet.specs.Packets.{zeros};
 ghost use Rattle.avp_packet.specs.code.Filling.{IsPlace, divided_octets, filled, kept, place_if, signature_if};
 ghost use Rattle.avp_packet.specs.code.Ranges.{IsVendorInRange};
 
-use crate::authenticators::{HEAD_OCTETS, MOST_OCTETS};
+use crate::authenticators::{HEAD_OCTETS, MOST_PACKET_OCTETS};
 use crate::dividing::{Division, MESSAGE_AUTHENTICATOR};
 use crate::faults::EncodeFault;
 use crate::hiding::hide_short;
@@ -18,9 +20,10 @@ use crate::writing::push_holding;
 use avp_dict::Dictionary;
 use avp_lists::{AttrId, Pair, Value};
 use std::alloc::{AllocError, Global};
+use std::borrow::CowSlice;
 
 /// The most octets of a packet's attributes.
-pub(crate) const MOST_ATTRIBUTE_OCTETS: usize = MOST_OCTETS - HEAD_OCTETS;
+pub(crate) const MOST_ATTRIBUTE_OCTETS: usize = MOST_PACKET_OCTETS - HEAD_OCTETS;
 
 /// Whether an id's values are hidden.
 pub(crate) fn hides(dictionary: &Dictionary, id: AttrId) -> bool
@@ -53,24 +56,40 @@ fn is_internal_id(id: AttrId) -> bool
     }
 }
 
+// The octets that a value keeps: all but numbers and addresses do.
+fn kept_octets(value: &Value) -> Option<&[u8]>
+    ensures { IfSome result (λ octets. (kind : Option Kind) → octets_of kind value.now ≡ octets.now) }
+{
+    match value {
+        Value::Text(octets) => Some(octets.as_slice()),
+        Value::Bytes(octets) => Some(octets.as_slice()),
+        Value::Raw(octets) => Some(octets.as_slice()),
+        _ => None,
+    }
+}
+
 // The octets of a pair's value: hidden where the attribute is, but for raw ones.
 #[tactic(auto, unfolding(crate::specs::AttributeOctets::sent_octets), using(crate::proofs::Rooms::hidden_short))]
-fn octets_to_send(
+fn octets_to_send<'a>(
     alloc: Global,
     dictionary: &Dictionary,
     secret: &[u8],
     authenticator: &[u8; 16],
-    pair: &Pair,
-) -> Result<Vec<u8>, AllocError>
+    pair: &'a Pair,
+) -> Result<CowSlice<'a, u8>, AllocError>
     requires { fits pair.now dictionary.now ≡ true }
-    ensures { IfOk result (λ octets. octets.items ≡ sent_octets dictionary.now secret.now authenticator.now pair.now) }
+    ensures { IfOk result (λ octets. cow_slice_items octets ≡ sent_octets dictionary.now secret.now authenticator.now pair.now) }
 {
-    let plain = dictionary.bytes_of_value(alloc, pair.id, &pair.value)?;
     if hides(dictionary, pair.id) && !is_raw_value(&pair.value) {
+        let plain = dictionary.bytes_of_value(alloc, pair.id, &pair.value)?;
         let hidden = hide_short(alloc, secret, authenticator, &plain)?;
-        return Ok(hidden);
+        return Ok(CowSlice::Owned(hidden));
     }
-    Ok(plain)
+    if let Some(octets) = kept_octets(&pair.value) {
+        return Ok(CowSlice::Borrowed(octets));
+    }
+    let plain = dictionary.bytes_of_value(alloc, pair.id, &pair.value)?;
+    Ok(CowSlice::Owned(plain))
 }
 
 // Adds the attributes that a pair is sent in.
@@ -89,10 +108,11 @@ fn push_pair(
         return Ok(());
     }
     let value = octets_to_send(*octets.allocator(), dictionary, secret, authenticator, pair)?;
+    let value = value.as_slice();
     if value.is_empty() {
         return Ok(());
     }
-    push_holding(octets, dictionary, pair.id, &value)?;
+    push_holding(octets, dictionary, pair.id, value)?;
     Ok(())
 }
 
@@ -202,7 +222,7 @@ pub(crate) fn write_attributes(
     ensures proxies_ranged { OnOk result (All (λ pair. IsVendorInRange pair.id) proxy_states.now) }
     ensures too_long { result ≡ Err EncodeFault.TooLong → MOST_ATTRIBUTE_OCTETS < length (divided_octets dictionary.now secret.now hide_by.now division.now proxy_states.now zeros) }
 {
-    let mut octets = Vec::new(alloc);
+    let mut octets = Vec::with_capacity(alloc, MOST_ATTRIBUTE_OCTETS)?;
     push_list(
         &mut octets,
         dictionary,

@@ -12,7 +12,7 @@ use crate::authenticators::{
 };
 use crate::hmac::signature_between;
 use crate::splitting::first_attribute;
-use crate::walking::bad_attribute;
+use crate::walking::count_attributes;
 
 /// The type of a Message-Authenticator.
 pub(crate) const MESSAGE_AUTHENTICATOR: u8 = 80;
@@ -87,7 +87,7 @@ pub fn check_message(octets: &[u8], authenticator: &[u8; 16], secret: &[u8]) -> 
         return false;
     }
     let attributes = attributes_in(octets, length);
-    if bad_attribute(attributes).is_some() {
+    if count_attributes(attributes).is_err() {
         return false;
     }
     is_signed_among(

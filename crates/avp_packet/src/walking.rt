@@ -1,10 +1,10 @@
 //! Walks over attributes.
 
-ghost use Rattle.std.specs.Prelude.{◌≡◌, ◌<◌, ◌-◌, ℕ, [], List, length, IfSome, IfNone};
+ghost use Rattle.std.specs.Prelude.{◌≡◌, ◌<◌, ◌-◌, ℕ, [], List, length, IfOk, IfErr};
 ghost use Rattle.avp_packet.specs.Splitting.{IsSplit, Part, items, left, parts};
 ghost use Rattle.avp_packet.specs.code.Views.{items_left};
 
-use crate::splitting::{Attributes, first_attribute};
+use crate::splitting::{Attributes, BadLength, first_attribute};
 
 /// The attributes in a slice, one after the other; as the last item the first one that is not whole (RFC 2865,
 /// section 5).
@@ -16,19 +16,24 @@ pub fn attributes(octets: &[u8]) -> Attributes<'_>
     Attributes::new(octets)
 }
 
-/// Where the first attribute begins that is not whole.
-pub(crate) fn bad_attribute(octets: &[u8]) -> Option<usize>
-    ensures bad { IfSome result (λ offset. offset ≡ length octets.now - length (left octets.now)) }
-    ensures some { IfSome result (λ offset. 0 < length (left octets.now)) }
-    ensures none { IfNone result (left octets.now ≡ []) }
+/// How many attributes there are, where each of them is whole.
+pub(crate) fn count_attributes(octets: &[u8]) -> Result<usize, BadLength>
+    ensures count { IfOk result (λ count. count ≡ length (parts octets.now)) }
+    ensures whole { IfOk result (λ count. left octets.now ≡ []) }
+    ensures bad { IfErr result (λ bad. bad.offset ≡ length octets.now - length (left octets.now)) }
+    ensures some { IfErr result (λ bad. 0 < length (left octets.now)) }
 {
+    let mut count = 0;
     let mut rest = octets;
     while let Some(front) = first_attribute(rest) {
         rest = front.rest;
+        count += 1;
     }
     if rest.is_empty() {
-        None
+        Ok(count)
     } else {
-        Some(octets.len() - rest.len())
+        Err(BadLength {
+            offset: octets.len() - rest.len(),
+        })
     }
 }

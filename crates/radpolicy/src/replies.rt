@@ -17,7 +17,7 @@ use avp_dict::Dictionary;
 use avp_lists::{AttrId, Pair, copy_pair};
 use avp_packet::{
     ACCESS_ACCEPT, ACCESS_REJECT, ACCESS_REQUEST, ACCOUNTING_REQUEST, ACCOUNTING_RESPONSE,
-    EncodeFault, Packet, encode_reply, encode_request,
+    EncodeFault, Packet, encode_reply, encoded_authenticator,
 };
 use avp_unlang::Code;
 use std::alloc::{AllocError, Global};
@@ -71,21 +71,6 @@ fn signs_reply(request: &Packet) -> bool
     request.code == ACCESS_REQUEST && has_message_authenticator(request.list.as_slice())
 }
 
-// The authenticator in the octets of a packet.
-fn authenticator_in(octets: &[u8]) -> [u8; 16]
-    requires { 20 ≤ length octets.now }
-    ensures { result ≡ authenticator_of octets.now }
-{
-    let mut authenticator = [0; 16];
-    authenticator.copy_from_slice(&octets[4..20]);
-    authenticator
-}
-
-// An authenticator's length.
-fn has_sixteen_octets(authenticator: &[u8; 16])
-    ensures { length authenticator.now ≡ 16 }
-{}
-
 // The authenticator of the packet of an Accounting-Request's lines; `None` where that is too long.
 #[tactic(auto, using(crate::proofs::PacketRoom::is_within, crate::proofs::PacketRoom::is_too_long))]
 fn made_authenticator(
@@ -99,8 +84,7 @@ fn made_authenticator(
     requires fit { AllFit dictionary.now request.now.list }
     ensures { IfOk result (λ authenticator. authenticator ≡ option_map authenticator_of (request_packet dictionary.now secret.now request.now)) }
 {
-    has_sixteen_octets(&request.authenticator);
-    let made = encode_request(
+    let made = encoded_authenticator(
         alloc,
         dictionary,
         secret,
@@ -110,7 +94,7 @@ fn made_authenticator(
         request.list.as_slice(),
     );
     match made {
-        Ok(octets) => Ok(Some(authenticator_in(&octets))),
+        Ok(authenticator) => Ok(Some(authenticator)),
         Err(EncodeFault::TooLong) => Ok(None),
         Err(EncodeFault::Memory) => Err(AllocError),
     }

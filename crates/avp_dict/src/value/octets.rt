@@ -1,14 +1,16 @@
 //! Octets of values.
 
-ghost use Rattle.std.specs.Prelude.{◌≡◌, IfOk, IsTrue};
-ghost use Rattle.std.specs.Option.{option_map};
+ghost use Rattle.std.specs.Prelude.{◌≡◌, false, Some, IfOk, IsTrue};
+ghost use Rattle.std.specs.Option.{option_map, unwrap_or};
+ghost use Rattle.avp_lists.specs.declared.attributes.Value.TheVariants.{Raw};
 ghost use Rattle.avp_dict.specs.Limits.{fits};
 ghost use Rattle.avp_dict.specs.Octets.{ends_in_nul, is_hidden, is_hideable, kind_of, number_octets, number_value, octets, octets_of, of_length, read_by, read_value, signed_value, value_of_octets, value_read};
+ghost use Rattle.avp_dict.specs.Types.{is_text_kind};
 
 use crate::dictionaries::Dictionary;
 use crate::entries::Kind;
 use crate::octets::copy_of;
-use avp_lists::{AttrId, Value};
+use avp_lists::{AttrId, Octets, Value};
 use std::alloc::{AllocError, Global};
 
 /// The most octets of a hidden value (RFC 2865, section 5.2).
@@ -110,20 +112,43 @@ fn read_signed(octets: &[u8]) -> Option<Value>
     }
 }
 
+// The number or the address of a type that has such values.
+fn read_sized(kind: Kind, octets: &[u8]) -> Option<Value>
+    ensures { is_text_kind (Some kind) ≡ false → result ≡ value_read kind octets.now }
+{
+    match kind {
+        Kind::Text | Kind::Bytes => None,
+        Kind::Addr => read_address(octets),
+        Kind::Ether => read_ether(octets),
+        Kind::Byte => read_byte(octets),
+        Kind::Short => read_short(octets),
+        Kind::Integer => read_integer(octets),
+        Kind::Date => read_integer(octets),
+        Kind::Integer64 => read_integer64(octets),
+        Kind::Signed => read_signed(octets),
+    }
+}
+
 fn read_by_kind(alloc: Global, kind: Kind, octets: &[u8]) -> Result<Option<Value>, AllocError>
     ensures { IfOk result (λ value. value ≡ value_read kind octets.now) }
 {
     match kind {
         Kind::Text => Ok(Some(Value::Text(copy_of(alloc, octets)?))),
         Kind::Bytes => Ok(Some(Value::Bytes(copy_of(alloc, octets)?))),
-        Kind::Addr => Ok(read_address(octets)),
-        Kind::Ether => Ok(read_ether(octets)),
-        Kind::Byte => Ok(read_byte(octets)),
-        Kind::Short => Ok(read_short(octets)),
-        Kind::Integer => Ok(read_integer(octets)),
-        Kind::Date => Ok(read_integer(octets)),
-        Kind::Integer64 => Ok(read_integer64(octets)),
-        Kind::Signed => Ok(read_signed(octets)),
+        _ => Ok(read_sized(kind, octets)),
+    }
+}
+
+fn keep_by_kind(kind: Kind, octets: Vec<u8>) -> Value
+    ensures { result ≡ unwrap_or (value_read kind octets.items) (Raw octets.items) }
+{
+    match kind {
+        Kind::Text => Value::Text(Octets::from_vec(octets)),
+        Kind::Bytes => Value::Bytes(Octets::from_vec(octets)),
+        _ => match read_sized(kind, &octets) {
+            Some(value) => value,
+            None => Value::Raw(Octets::from_vec(octets)),
+        },
     }
 }
 
@@ -213,6 +238,19 @@ impl Dictionary {
         match self.read_octets(alloc, id, octets)? {
             Some(value) => Ok(value),
             None => Ok(Value::Raw(copy_of(alloc, octets)?)),
+        }
+    }
+
+    /// The same value of octets that it may keep, so that none are copied and no memory is taken.
+    #[tactic(auto, unfolding(crate::specs::Octets::value_of_octets, crate::specs::Octets::read_value))]
+    pub fn value_of_vec(&self, id: AttrId, octets: Vec<u8>) -> Value
+        ensures { result ≡ value_of_octets id octets.items self.now }
+    {
+        match self.by_id(id) {
+            Some(entry) if !entry.hidden || is_hideable(&octets) => {
+                keep_by_kind(entry.kind, octets)
+            }
+            _ => Value::Raw(Octets::from_vec(octets)),
         }
     }
 }

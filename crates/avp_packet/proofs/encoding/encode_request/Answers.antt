@@ -37,7 +37,7 @@ unfolding request
 returns-clause-octets c =
     let content : Content = request_content c.args.code c.args.list.now in
     let made : c.in_ok-octets.octets.items ≡ packet c.args.code c.args.id (request_authenticator c.args.code c.args.id c.args.authenticator.now c.in_ok-attributes.attributes.items c.args.secret.now) c.in_ok-attributes.attributes.items =
-    cc (c.in_ok-octets.ensures, c.authenticator_of_request-authenticator.ensures, c.deref.ensures.value, c.deref-2.ensures.value) in
+    cc (c.in_ok-octets.ensures, c.request_authenticator-authenticator.ensures, c.deref.ensures.value, c.deref-2.ensures.value) in
     made ∙ ap (λ (os : List ℕ). packet c.args.code c.args.id (request_authenticator c.args.code c.args.id c.args.authenticator.now os c.args.secret.now) os)
     (c.in_ok-attributes.ensures.octets ∙ sym (signed_octets c.args.dictionary.now c.args.secret.now c.args.code c.args.id c.args.authenticator.now content c.divide_request-division.result c.divide_request-division.ensures.divided))
 
@@ -55,7 +55,7 @@ returns-clause-whole c =
     let attributes = c.in_ok-attributes.attributes.items in
     let digest = request_authenticator c.args.code c.args.id c.args.authenticator.now attributes c.args.secret.now in
     let made : c.in_ok-octets.octets.items ≡ packet c.args.code c.args.id digest attributes =
-    cc (c.in_ok-octets.ensures, c.authenticator_of_request-authenticator.ensures, c.deref.ensures.value, c.deref-2.ensures.value) in
+    cc (c.in_ok-octets.ensures, c.request_authenticator-authenticator.ensures, c.deref.ensures.value, c.deref-2.ensures.value) in
     let apart = attributes_of-packet c.args.code c.args.id digest attributes (length-request_authenticator c.args.code c.args.id c.args.authenticator.now attributes c.args.secret.now c.told-authenticator) c.in_ok-attributes.ensures.short in
     ap left (ap attributes_of made ∙ apart ∙ c.in_ok-attributes.ensures.octets)
     ∙ laid_whole c.args.dictionary.now c.args.secret.now c.args.code c.args.id c.args.authenticator.now content c.divide_request-division.result c.divide_request-division.ensures.divided _
@@ -70,7 +70,7 @@ returns-clause-means c = λ clean.
     let attributes = c.in_ok-attributes.attributes.items in
     let digest = request_authenticator c.args.code c.args.id c.args.authenticator.now attributes c.args.secret.now in
     let made : c.in_ok-octets.octets.items ≡ packet c.args.code c.args.id digest attributes =
-    cc (c.in_ok-octets.ensures, c.authenticator_of_request-authenticator.ensures, c.deref.ensures.value, c.deref-2.ensures.value) in
+    cc (c.in_ok-octets.ensures, c.request_authenticator-authenticator.ensures, c.deref.ensures.value, c.deref-2.ensures.value) in
     let apart = attributes_of-packet c.args.code c.args.id digest attributes (length-request_authenticator c.args.code c.args.id c.args.authenticator.now attributes c.args.secret.now c.told-authenticator) c.in_ok-attributes.ensures.short in
     let laid = c.in_ok-attributes.ensures.octets ∙ sym (signed_octets dictionary c.args.secret.now c.args.code c.args.id c.args.authenticator.now content division c.divide_request-division.ensures.divided) in
     meant_by dictionary c.args.secret.now by (parts (attributes_of c.in_ok-octets.octets.items)) _ (
@@ -94,7 +94,7 @@ returns-clause-signed c = λ is.
     let attributes = c.in_ok-attributes.attributes.items in
     let digest = request_authenticator code id own attributes secret in
     let made : c.in_ok-octets.octets.items ≡ packet code id digest attributes =
-    cc (c.in_ok-octets.ensures, c.authenticator_of_request-authenticator.ensures, c.deref.ensures.value, c.deref-2.ensures.value) in
+    cc (c.in_ok-octets.ensures, c.request_authenticator-authenticator.ensures, c.deref.ensures.value, c.deref-2.ensures.value) in
     let laid : attributes ≡ octets signature = c.in_ok-attributes.ensures.octets in
     let kept = c.divide_request-division.ensures.kept (λ (p : Pair). fits p dictionary) c.requires.fits in
     let signing = divided.signed ∙ is in

@@ -8,8 +8,8 @@ use Rattle.avp_packet.proofs.Runs.{run_rest}
 use Rattle.avp_packet.proofs.Splits.{parts-octets}
 use Rattle.avp_packet.proofs.pairs.push_long.Goals as goal
 
-pub returns-in_ok-push_read-in-Some-clause-pair : goal.returns-in_ok-push_read-in-Some-clause-pair
-returns-in_ok-push_read-in-Some-clause-pair c =
+pub returns-in_ok-push_joined-in-Some-clause-pair : goal.returns-in_ok-push_joined-in-Some-clause-pair
+returns-in_ok-push_joined-in-Some-clause-pair c =
     let f = c.args.front in
     let p : Part = part f.number f.value.now in
     let ps : List Part = parts f.rest.now in
@@ -19,11 +19,11 @@ returns-in_ok-push_read-in-Some-clause-pair c =
     let found : first_run p ps ≡ Some (run_view c.in-Some.joined) =
     ap (λ n. run f.number n (p ∷ ps)) (sym same) ∙ ap (run f.number number) (sym split) ∙ sym c.in_ok-joined.ensures.run ∙ ap (option_map run_view) c.in-Some.is in
     let long = λ (o : Option Run). long_pair c.args.dictionary.now c.args.secret.now c.args.authenticator.now p o in
-    c.in_ok-push_read-in-Some.ensures
-    ∙ rw (c.deref.ensures.value, same) (ap (λ (o : Option Run). c.args.pairs.now.items ++ long o ∷ []) (sym found))
+    c.in_ok-push_joined-in-Some.ensures
+    ∙ rw same (ap (λ (o : Option Run). c.args.pairs.now.items ++ long o ∷ []) (sym found))
 
-pub returns-in_ok-push_read-in-Some-clause-rest : goal.returns-in_ok-push_read-in-Some-clause-rest
-returns-in_ok-push_read-in-Some-clause-rest c =
+pub returns-in_ok-push_joined-in-Some-clause-rest : goal.returns-in_ok-push_joined-in-Some-clause-rest
+returns-in_ok-push_joined-in-Some-clause-rest c =
     let f = c.args.front in
     let p : Part = part f.number f.value.now in
     let ps : List Part = parts f.rest.now in

@@ -13,21 +13,21 @@ returns-then-is_internal_id-clause-octets c =
 pub returns-then-is_empty-clause-octets : goal.returns-then-is_empty-clause-octets
 returns-then-is_empty-clause-octets c =
     let internal : is_internal c.args.pair.now.id ≡ false = cc (c.is_internal_id.ensures.test, c.if-is_internal_id.false) in
-    let same : c.in_ok-value.value.items ≡ sent_octets c.args.dictionary.now c.args.secret.now c.args.authenticator.now c.args.pair.now = c.in_ok-value.ensures in
-    let none : length c.in_ok-value.value.items ≡ 0 = grind (arith, common_steps) in
+    let same : c.as_slice-value.result.now ≡ sent_octets c.args.dictionary.now c.args.secret.now c.args.authenticator.now c.args.pair.now = c.as_slice-value.ensures.value ∙ c.in_ok-value.ensures in
+    let none : length c.as_slice-value.result.now ≡ 0 = grind (arith, common_steps) in
     rw (empty_unsent c.args.dictionary.now c.args.secret.now c.args.authenticator.now c.args.pair.now internal (sym (ap length same) ∙ none)) (sym (append-nil c.args.octets.now.items))
 
 pub push_holding-requires : goal.push_holding-requires
 push_holding-requires c =
     let internal : is_internal c.args.pair.now.id ≡ false = cc (c.is_internal_id.ensures.test, c.if-is_internal_id.false) in
-    let same : c.deref.result.now ≡ sent_octets c.args.dictionary.now c.args.secret.now c.args.authenticator.now c.args.pair.now = c.deref.ensures.value ∙ c.in_ok-value.ensures in
+    let same : c.as_slice-value.result.now ≡ sent_octets c.args.dictionary.now c.args.secret.now c.args.authenticator.now c.args.pair.now = c.as_slice-value.ensures.value ∙ c.in_ok-value.ensures in
     rw same (sent_held c.args.dictionary.now c.args.secret.now c.args.authenticator.now c.args.pair.now c.requires internal)
 
 pub returns-clause-octets : goal.returns-clause-octets
 returns-clause-octets c =
     let internal : is_internal c.args.pair.now.id ≡ false = cc (c.is_internal_id.ensures.test, c.if-is_internal_id.false) in
-    let same : c.deref.result.now ≡ sent_octets c.args.dictionary.now c.args.secret.now c.args.authenticator.now c.args.pair.now = c.deref.ensures.value ∙ c.in_ok-value.ensures in
-    let there : 0 < length c.in_ok-value.value.items = grind (arith, common_steps) in
-    let long = ap length c.in_ok-value.ensures in
+    let same : c.as_slice-value.result.now ≡ sent_octets c.args.dictionary.now c.args.secret.now c.args.authenticator.now c.args.pair.now = c.as_slice-value.ensures.value ∙ c.in_ok-value.ensures in
+    let there : 0 < length c.as_slice-value.result.now = grind (arith, common_steps) in
+    let long = ap length same in
     let some : 0 < length (sent_octets c.args.dictionary.now c.args.secret.now c.args.authenticator.now c.args.pair.now) = omega arith in
     cc (sent_alone c.args.dictionary.now c.args.secret.now c.args.authenticator.now c.args.pair.now internal some, same, c.in_ok-push_holding.ensures)

@@ -1,0 +1,15 @@
+use Rattle.std.proofs.Common.{rules, ◌≡◌, false, ◌&&◌, not, sym}
+use Rattle.avp_dict.specs.Octets.{is_hidden, kind_of, octets}
+use Rattle.avp_dict.specs.Sent.{is_raw}
+use Rattle.avp_packet.specs.AttributeOctets.{sent_octets}
+use Rattle.avp_packet.proofs.sending.octets_to_send.Goals as goal
+use Rattle.avp_packet.proofs.sending.octets_to_send.Goals.{else-hides-via-then-hides+else-not-is_raw_value, else-hides-via-else-hides}
+
+pub returns-in-Some : goal.returns-in-Some
+unfolding sent_octets octets
+returns-in-Some c =
+    let p = c.args.pair.now in
+    let d = c.args.dictionary.now in
+    let plain : (is_hidden p.id d && not (is_raw p.value)) ≡ false =
+    elim c.else-hides.branch [ else-hides-via-then-hides+else-not-is_raw_value w ↦ search rules | else-hides-via-else-hides w ↦ search rules ] in
+    rw plain (sym (c.in-Some.ensures (kind_of p.id d)))

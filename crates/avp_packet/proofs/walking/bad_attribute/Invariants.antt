@@ -1,9 +1,0 @@
-use Rattle.std.proofs.Common.{◌≡◌, ◌≤◌, length}
-use Rattle.avp_packet.specs.Splitting.{left}
-use Rattle.avp_packet.proofs.walking.bad_attribute.Given as goal
-
-abbrev pub invariant-loop-front : goal.invariant-loop-front
-invariant-loop-front l = record { left_so_far : left l.rest ≡ left l.octets; within : length l.rest ≤ length l.octets }
-
-abbrev pub decreases-loop-front : goal.decreases-loop-front
-decreases-loop-front l = length l.rest
