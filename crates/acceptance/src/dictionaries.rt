@@ -42,32 +42,35 @@ note d:9
     expect_output(&rt, rt.alloc(), &words, &sources, wanted)
 }
 
-#[test]
-fn skips_a_vendor_with_a_continuation_octet(rt: HostRuntime) -> Result<(), Fail> {
-    let lines = b"VENDOR U 60 format=1,1,c\nBEGIN-VENDOR U\nATTRIBUTE U-A 1 string\nEND-VENDOR U\n";
-    let wanted =
-        b"files 1\nattributes 0\nvalues 0\nvendors 1\nnotes 3\nnote d:2\nnote d:3\nnote d:4\n";
-    expect_output(&rt, rt.alloc(), &CHECK, &[("d", lines)], wanted)
-}
+// The lines of a file, and what they hold.
+const COUNTED: [(&[u8], &[u8]); 4] = [
+    // A vendor with a continuation octet is skipped.
+    (
+        b"VENDOR U 60 format=1,1,c\nBEGIN-VENDOR U\nATTRIBUTE U-A 1 string\nEND-VENDOR U\n",
+        b"files 1\nattributes 0\nvalues 0\nvendors 1\nnotes 3\nnote d:2\nnote d:3\nnote d:4\n",
+    ),
+    // A value may come before its attribute.
+    (
+        b"VALUE X Y 1\nATTRIBUTE X 200 integer\n",
+        b"files 1\nattributes 1\nvalues 1\nvendors 0\nnotes 0\n",
+    ),
+    // The value of a tagged attribute is noted.
+    (
+        b"ATTRIBUTE Tunnel-Type 64 integer has_tag\nVALUE Tunnel-Type PPTP 1\n",
+        b"files 1\nattributes 1\nvalues 0\nvendors 0\nnotes 1\nnote d:2\n",
+    ),
+    (
+        TEST_DICTIONARY,
+        b"files 1\nattributes 18\nvalues 4\nvendors 1\nnotes 0\n",
+    ),
+];
 
 #[test]
-fn takes_a_value_before_its_attribute(rt: HostRuntime) -> Result<(), Fail> {
-    let lines = b"VALUE X Y 1\nATTRIBUTE X 200 integer\n";
-    let wanted = b"files 1\nattributes 1\nvalues 1\nvendors 0\nnotes 0\n";
-    expect_output(&rt, rt.alloc(), &CHECK, &[("d", lines)], wanted)
-}
-
-#[test]
-fn notes_a_value_of_a_tagged_attribute(rt: HostRuntime) -> Result<(), Fail> {
-    let lines = b"ATTRIBUTE Tunnel-Type 64 integer has_tag\nVALUE Tunnel-Type PPTP 1\n";
-    let wanted = b"files 1\nattributes 1\nvalues 0\nvendors 0\nnotes 1\nnote d:2\n";
-    expect_output(&rt, rt.alloc(), &CHECK, &[("d", lines)], wanted)
-}
-
-#[test]
-fn counts_the_test_dictionary(rt: HostRuntime) -> Result<(), Fail> {
-    let wanted = b"files 1\nattributes 18\nvalues 4\nvendors 1\nnotes 0\n";
-    expect_output(&rt, rt.alloc(), &CHECK, &[("d", TEST_DICTIONARY)], wanted)
+fn counts_and_notes_what_a_file_holds(rt: HostRuntime) -> Result<(), Fail> {
+    for (lines, wanted) in COUNTED {
+        expect_output(&rt, rt.alloc(), &CHECK, &[("d", lines)], wanted)?;
+    }
+    Ok(())
 }
 
 #[test]

@@ -54,71 +54,105 @@ fn expect_line(
     Ok(())
 }
 
-fn in_file(file: usize, line: usize, kind: DictKind) -> Fault {
-    Fault::Dictionary(DictFault { file, line, kind })
-}
-
-fn in_request(line: usize, kind: LineKind) -> Fault {
-    Fault::Request(LineFault { line, kind })
-}
-
-fn in_policy(line: usize, kind: PolicyKind) -> Fault {
-    Fault::Policy(PolicyFault { line, kind })
-}
-
-#[test]
-fn shows_faults_of_no_file(rt: HostRuntime) -> Result<(), Fail> {
-    let alloc = rt.alloc();
-    expect_line(&rt, alloc, Fault::Usage, 2, "E01: usage")?;
-    expect_line(&rt, alloc, Fault::OptionValue, 2, "E02: option value")?;
-    expect_line(&rt, alloc, Fault::EmptySecret, 2, "E03: empty secret")?;
-    expect_line(&rt, alloc, Fault::NotHex, 2, "E05: not hex")?;
-    let word = Fault::ScriptWord { line: 7 };
-    expect_line(&rt, alloc, word, 2, "E06 script:7: unknown script word")?;
-    expect_line(&rt, alloc, Fault::Write, 3, "E07: write fault")?;
-    expect_line(&rt, alloc, Fault::Memory, 4, "E09: out of memory")?;
-    expect_line(&rt, alloc, Fault::PacketTooLong, 2, "E46: packet too long")
-}
-
-#[test]
-fn shows_faults_of_a_dictionary(rt: HostRuntime) -> Result<(), Fail> {
-    let alloc = rt.alloc();
-    let other = in_file(0, 2, DictKind::OtherNumber);
-    expect_line(&rt, alloc, other, 2, "E12 d:2: name has another number")?;
-    let value = in_file(1, 200_000, DictKind::OtherValue);
-    expect_line(
-        &rt,
-        alloc,
-        value,
+// Faults, their status and their line after the program's name.
+const FAULTS: [(Fault, u8, &str); 18] = [
+    (Fault::Usage, 2, "E01: usage"),
+    (Fault::OptionValue, 2, "E02: option value"),
+    (Fault::EmptySecret, 2, "E03: empty secret"),
+    (Fault::NotHex, 2, "E05: not hex"),
+    (
+        Fault::ScriptWord { line: 7 },
+        2,
+        "E06 script:7: unknown script word",
+    ),
+    (Fault::Write, 3, "E07: write fault"),
+    (Fault::Memory, 4, "E09: out of memory"),
+    (Fault::PacketTooLong, 2, "E46: packet too long"),
+    (
+        Fault::Dictionary(DictFault {
+            file: 0,
+            line: 2,
+            kind: DictKind::OtherNumber,
+        }),
+        2,
+        "E12 d:2: name has another number",
+    ),
+    (
+        Fault::Dictionary(DictFault {
+            file: 1,
+            line: 200_000,
+            kind: DictKind::OtherValue,
+        }),
         2,
         "E19 more:200000: VALUE has another number",
-    )?;
-    let memory = in_file(0, 0, DictKind::Memory);
-    expect_line(&rt, alloc, memory, 4, "E09: out of memory")
-}
+    ),
+    (
+        Fault::Dictionary(DictFault {
+            file: 0,
+            line: 0,
+            kind: DictKind::Memory,
+        }),
+        4,
+        "E09: out of memory",
+    ),
+    (
+        Fault::Request(LineFault {
+            line: 3,
+            kind: LineKind::SecondPacket,
+        }),
+        2,
+        "E34 request:3: second packet",
+    ),
+    (
+        Fault::Request(LineFault {
+            line: 1,
+            kind: LineKind::Memory,
+        }),
+        4,
+        "E09: out of memory",
+    ),
+    (
+        Fault::Packet(PacketFault::TooShort),
+        2,
+        "E40: fewer than 20 octets",
+    ),
+    (
+        Fault::Packet(PacketFault::BadAttribute(20)),
+        2,
+        "E43 offset 20: bad attribute length",
+    ),
+    (
+        Fault::Policy(PolicyFault {
+            line: 12,
+            kind: PolicyKind::NotWritable,
+        }),
+        2,
+        "E33 policy:12: not writable",
+    ),
+    (
+        Fault::Policy(PolicyFault {
+            line: 1,
+            kind: PolicyKind::OtherType,
+        }),
+        2,
+        "E55 policy:1: types differ",
+    ),
+    (
+        Fault::Policy(PolicyFault {
+            line: 1,
+            kind: PolicyKind::Memory,
+        }),
+        4,
+        "E09: out of memory",
+    ),
+];
 
 #[test]
-fn shows_faults_of_a_request(rt: HostRuntime) -> Result<(), Fail> {
-    let alloc = rt.alloc();
-    let second = in_request(3, LineKind::SecondPacket);
-    expect_line(&rt, alloc, second, 2, "E34 request:3: second packet")?;
-    let memory = in_request(1, LineKind::Memory);
-    expect_line(&rt, alloc, memory, 4, "E09: out of memory")?;
-    let short = Fault::Packet(PacketFault::TooShort);
-    expect_line(&rt, alloc, short, 2, "E40: fewer than 20 octets")?;
-    let bad = Fault::Packet(PacketFault::BadAttribute(20));
-    expect_line(&rt, alloc, bad, 2, "E43 offset 20: bad attribute length")
-}
-
-#[test]
-fn shows_faults_of_a_policy(rt: HostRuntime) -> Result<(), Fail> {
-    let alloc = rt.alloc();
-    let barred = in_policy(12, PolicyKind::NotWritable);
-    expect_line(&rt, alloc, barred, 2, "E33 policy:12: not writable")?;
-    let other = in_policy(1, PolicyKind::OtherType);
-    expect_line(&rt, alloc, other, 2, "E55 policy:1: types differ")?;
-    let memory = in_policy(1, PolicyKind::Memory);
-    expect_line(&rt, alloc, memory, 4, "E09: out of memory")
+fn shows_the_line_and_the_status_of_faults(rt: HostRuntime) -> Result<(), Fail> {
+    for (fault, status, line) in FAULTS {
+        expect_line(&rt, rt.alloc(), fault, status, line)?;
+    }
+    Ok(())
 }
 
 #[test]

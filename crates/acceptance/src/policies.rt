@@ -1,6 +1,7 @@
 //! Checks of policies.
 
 use crate::program::{Source, expect_fault, expect_output};
+use crate::walks::EDITED_TRANSACTIONS;
 use samples::{NESTED_TRANSACTIONS, TEST_DICTIONARY};
 use std::alloc::Global;
 use std::process::Abort;
@@ -21,13 +22,10 @@ pub fn expect_size(rt: &impl Abort, alloc: Global, policy: &[u8], size: &[u8]) -
 }
 
 #[test]
-fn tells_the_size_of_a_policy(rt: HostRuntime) -> Result<(), Fail> {
-    expect_size(&rt, rt.alloc(), NESTED_TRANSACTIONS, b"14")
-}
-
-#[test]
-fn loads_whole_policies(rt: HostRuntime) -> Result<(), Fail> {
-    let cases: [(&[u8], &[u8]); 4] = [
+fn tells_the_size_of_policies(rt: HostRuntime) -> Result<(), Fail> {
+    let cases: [(&[u8], &[u8]); 6] = [
+        (NESTED_TRANSACTIONS, b"14"),
+        (EDITED_TRANSACTIONS, b"13"),
         (b"update reply { Class ^= 0x01 }", b"1"),
         (b"update { Vendor-Specific !* ANY }", b"1"),
         (b"update { Reply-Message := \"50%%\" }", b"1"),
@@ -119,9 +117,13 @@ fn nested(alloc: Global, count: usize) -> Result<Vec<u8>, Fail> {
 }
 
 #[test]
-fn loads_64_nested_transactions_and_no_more(rt: HostRuntime) -> Result<(), Fail> {
+fn loads_64_nested_transactions(rt: HostRuntime) -> Result<(), Fail> {
     let policy = nested(rt.alloc(), 64)?;
-    expect_size(&rt, rt.alloc(), &policy, b"128")?;
+    expect_size(&rt, rt.alloc(), &policy, b"128")
+}
+
+#[test]
+fn refuses_65_nested_transactions(rt: HostRuntime) -> Result<(), Fail> {
     let policy = nested(rt.alloc(), 65)?;
     let sources: [Source; 2] = [("d", TEST_DICTIONARY), ("p", &policy)];
     let wanted = b"radpolicy: E53 policy:65: nested too deep\n";

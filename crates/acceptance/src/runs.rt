@@ -75,11 +75,10 @@ fn expect_reply<'a>(
     Ok(octets)
 }
 
-#[test]
-fn takes_refused_transactions_back(rt: HostRuntime) -> Result<(), Fail> {
-    expect_run(
-        &rt,
-        rt.alloc(),
+// Requests, policies, and the report of the run without a secret.
+const RUNS: [(&[u8], &[u8], &[u8]); 5] = [
+    // Refused transactions are taken back.
+    (
         b"",
         NESTED_TRANSACTIONS,
         b"request
@@ -89,15 +88,63 @@ control
   Session-Timeout = 60
 result reject
 ",
-    )
+    ),
+    // An update stops at an absent source.
+    (
+        b"User-Name = \"u\"\n",
+        ABSENT_SOURCE,
+        b"request
+  User-Name = \"u\"
+reply
+control
+result fail stopped
+",
+    ),
+    // Attributes are expanded in a text.
+    (
+        b"User-Name = bob\nNAS-Port = 7\n",
+        GREETING,
+        b"request
+  User-Name = \"bob\"
+  NAS-Port = 7
+reply
+  Reply-Message = \"hi bob on 7\"
+control
+result ok
+",
+    ),
+    // `&&` binds more tightly than `||`.
+    (
+        b"",
+        MIXED_CONDITION,
+        b"request\nreply\ncontrol\nresult noop\n",
+    ),
+    // An expanded text is read as a number.
+    (
+        b"User-Name = \"300\"",
+        b"update control { Session-Timeout := \"%{User-Name}\" }",
+        b"request
+  User-Name = \"300\"
+reply
+control
+  Session-Timeout = 300
+result ok
+",
+    ),
+];
+
+#[test]
+fn reports_runs(rt: HostRuntime) -> Result<(), Fail> {
+    for (request, policy, wanted) in RUNS {
+        expect_run(&rt, rt.alloc(), request, policy, wanted)?;
+    }
+    Ok(())
 }
 
-// The lists are shown after both rollbacks.
-#[test]
-fn labels_each_step_of_transactions(rt: HostRuntime) -> Result<(), Fail> {
-    expect_walk(
-        &rt,
-        rt.alloc(),
+// Scripts, requests, policies, and what the walk prints.
+const WALKS: [(&[u8], &[u8], &[u8], &[u8]); 5] = [
+    // Each step of transactions has its label, and the lists are shown after both rollbacks.
+    (
         b"forward forward forward forward forward forward forward forward forward show
 forward forward forward forward show forward forward",
         b"",
@@ -126,35 +173,43 @@ control
 14 line 14 reject
 14 line 14 reject stays
 ",
-    )
-}
-
-#[test]
-fn stops_at_an_absent_source(rt: HostRuntime) -> Result<(), Fail> {
-    expect_run(
-        &rt,
-        rt.alloc(),
-        b"User-Name = \"u\"\n",
-        ABSENT_SOURCE,
-        b"request
-  User-Name = \"u\"
-reply
-control
-result fail stopped
-",
-    )
-}
-
-#[test]
-fn labels_a_line_with_an_absent_source(rt: HostRuntime) -> Result<(), Fail> {
-    expect_walk(
-        &rt,
-        rt.alloc(),
+    ),
+    // So has a line with an absent source.
+    (
         b"end",
         b"User-Name = \"u\"\n",
         ABSENT_SOURCE,
         b"3 line 4 failed P1 fail\n",
-    )
+    ),
+    // A condition that holds.
+    (
+        b"forward forward forward",
+        b"User-Name = bob\nNAS-Port = 7\n",
+        GREETING,
+        b"1 if 1 true ok\n2 line 2 ok\n2 line 2 ok stays\n",
+    ),
+    // A mixed condition.
+    (
+        b"forward forward",
+        b"",
+        MIXED_CONDITION,
+        b"1 if 1 true ok\n2 word 1 noop\n",
+    ),
+    // An expanded text that is no value.
+    (
+        b"end",
+        b"User-Name = \"300\"",
+        b"update control { Session-Timeout := \"%{User-Name}x\" }",
+        b"1 line 1 failed P2 fail\n",
+    ),
+];
+
+#[test]
+fn labels_the_steps_of_runs(rt: HostRuntime) -> Result<(), Fail> {
+    for (script, request, policy, wanted) in WALKS {
+        expect_walk(&rt, rt.alloc(), script, request, policy, wanted)?;
+    }
+    Ok(())
 }
 
 #[test]
@@ -175,36 +230,6 @@ result fail stopped
     assert_eq!(rt; octets.len(), 20);
     assert!(rt; octets.starts_with(&[3, 5, 0, 20]));
     Ok(())
-}
-
-#[test]
-fn expands_attributes_in_text(rt: HostRuntime) -> Result<(), Fail> {
-    expect_run(
-        &rt,
-        rt.alloc(),
-        b"User-Name = bob\nNAS-Port = 7\n",
-        GREETING,
-        b"request
-  User-Name = \"bob\"
-  NAS-Port = 7
-reply
-  Reply-Message = \"hi bob on 7\"
-control
-result ok
-",
-    )
-}
-
-#[test]
-fn labels_a_condition_that_holds(rt: HostRuntime) -> Result<(), Fail> {
-    expect_walk(
-        &rt,
-        rt.alloc(),
-        b"forward forward forward",
-        b"User-Name = bob\nNAS-Port = 7\n",
-        GREETING,
-        b"1 if 1 true ok\n2 line 2 ok\n2 line 2 ok stays\n",
-    )
 }
 
 #[test]
@@ -233,58 +258,6 @@ result reject stopped
 packet none
 ";
     expect_output(&rt, rt.alloc(), &words, &sources, wanted)
-}
-
-#[test]
-fn binds_and_more_tightly_than_or(rt: HostRuntime) -> Result<(), Fail> {
-    expect_run(
-        &rt,
-        rt.alloc(),
-        b"",
-        MIXED_CONDITION,
-        b"request\nreply\ncontrol\nresult noop\n",
-    )
-}
-
-#[test]
-fn labels_a_mixed_condition(rt: HostRuntime) -> Result<(), Fail> {
-    expect_walk(
-        &rt,
-        rt.alloc(),
-        b"forward forward",
-        b"",
-        MIXED_CONDITION,
-        b"1 if 1 true ok\n2 word 1 noop\n",
-    )
-}
-
-#[test]
-fn reads_an_expanded_number(rt: HostRuntime) -> Result<(), Fail> {
-    expect_run(
-        &rt,
-        rt.alloc(),
-        b"User-Name = \"300\"",
-        b"update control { Session-Timeout := \"%{User-Name}\" }",
-        b"request
-  User-Name = \"300\"
-reply
-control
-  Session-Timeout = 300
-result ok
-",
-    )
-}
-
-#[test]
-fn fails_where_an_expanded_text_is_no_value(rt: HostRuntime) -> Result<(), Fail> {
-    expect_walk(
-        &rt,
-        rt.alloc(),
-        b"end",
-        b"User-Name = \"300\"",
-        b"update control { Session-Timeout := \"%{User-Name}x\" }",
-        b"1 line 1 failed P2 fail\n",
-    )
 }
 
 // A name of 253 octets is as long as a value may be, and longer than what can be hidden.

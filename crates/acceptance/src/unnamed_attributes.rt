@@ -32,25 +32,19 @@ fn expect_refusal(
 }
 
 #[test]
-fn reports_an_empty_run(rt: HostRuntime) -> Result<(), Fail> {
-    expect_run(
-        &rt,
-        rt.alloc(),
-        b"",
-        b"",
-        b"request\nreply\ncontrol\nresult ok\n",
-    )
-}
-
-#[test]
-fn appends_to_the_reply(rt: HostRuntime) -> Result<(), Fail> {
-    expect_run(
-        &rt,
-        rt.alloc(),
-        b"Attr-25 = 0x01\nAttr-1 = 0x626f62\n",
-        b"update reply { Attr-25 += 0x02 Attr-18 += 0x6869 Attr-25 += 0x02 }",
-        b"request\n  Attr-25 = 0x01\n  Attr-1 = 0x626f62\nreply\n  Attr-25 = 0x02\n  Attr-18 = 0x6869\n  Attr-25 = 0x02\ncontrol\nresult ok\n",
-    )
+fn reports_runs(rt: HostRuntime) -> Result<(), Fail> {
+    let cases: [(&[u8], &[u8], &[u8]); 2] = [
+        (b"", b"", b"request\nreply\ncontrol\nresult ok\n"),
+        (
+            b"Attr-25 = 0x01\nAttr-1 = 0x626f62\n",
+            b"update reply { Attr-25 += 0x02 Attr-18 += 0x6869 Attr-25 += 0x02 }",
+            b"request\n  Attr-25 = 0x01\n  Attr-1 = 0x626f62\nreply\n  Attr-25 = 0x02\n  Attr-18 = 0x6869\n  Attr-25 = 0x02\ncontrol\nresult ok\n",
+        ),
+    ];
+    for (request, policy, wanted) in cases {
+        expect_run(&rt, rt.alloc(), request, policy, wanted)?;
+    }
+    Ok(())
 }
 
 // A list of 4096 pairs is full: the second section fails, and its first line is undone with it.

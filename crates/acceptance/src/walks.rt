@@ -1,6 +1,5 @@
 //! Walks by a script, forward and back over the run of a policy.
 
-use crate::policies::expect_size;
 use crate::program::{Narrow, Source, expect_fault, expect_output, job_of};
 use crate::runs::ABSENT_SOURCE;
 use radpolicy::{Fault, WriteOutput, answer, read_words, status};
@@ -20,7 +19,8 @@ transaction {
 update reply { Class += 0x09 }
 fail }";
 
-const EDITED_TRANSACTIONS: &[u8] = b"update reply { Class += 0x01 Class += 0x02 Class += 0x01 }
+/// A transaction that is refused, round one that fails.
+pub const EDITED_TRANSACTIONS: &[u8] = b"update reply { Class += 0x01 Class += 0x02 Class += 0x01 }
 transaction {
   update reply { Class -= 0x01 }
   transaction {
@@ -59,11 +59,10 @@ pub fn expect_walk<'a>(
     expect_output(rt, alloc, &STEP, &sources, wanted)
 }
 
-#[test]
-fn walks_back_into_a_refused_transaction(rt: HostRuntime) -> Result<(), Fail> {
-    expect_walk(
-        &rt,
-        rt.alloc(),
+// Scripts, requests, policies, and what the walk prints.
+const WALKS: [(&[u8], &[u8], &[u8], &[u8]); 6] = [
+    // Back into a refused transaction.
+    (
         THERE_AND_BACK,
         b"",
         NESTED_TRANSACTIONS,
@@ -78,14 +77,9 @@ control
 0 start ok
 0 start ok stays
 ",
-    )
-}
-
-#[test]
-fn walks_back_from_a_failed_line_and_fails_again(rt: HostRuntime) -> Result<(), Fail> {
-    expect_walk(
-        &rt,
-        rt.alloc(),
+    ),
+    // Back from a line that failed, which fails again.
+    (
         b"end back show forward",
         b"User-Name = \"u\"\n",
         ABSENT_SOURCE,
@@ -99,42 +93,11 @@ reply
 control
 3 line 4 failed P1 fail
 ",
-    )
-}
-
-#[test]
-fn refuses_an_unknown_script_word(rt: HostRuntime) -> Result<(), Fail> {
-    let sources: [Source; 2] = [("d", TEST_DICTIONARY), ("s", b"show\njump")];
-    let wanted = b"radpolicy: E06 script:2: unknown script word\n";
-    expect_fault(&rt, rt.alloc(), &STEP, &sources, wanted, 2)
-}
-
-#[test]
-fn prints_nothing_for_an_empty_script(rt: HostRuntime) -> Result<(), Fail> {
-    expect_walk(&rt, rt.alloc(), b"", b"", b"", b"")
-}
-
-#[test]
-fn refuses_a_packet_without_a_secret(rt: HostRuntime) -> Result<(), Fail> {
-    let words = [
-        "radpolicy",
-        "step",
-        "--hex",
-        "--policy",
-        "p",
-        "--script",
-        "s",
-        "d",
-    ];
-    let wanted = b"radpolicy: E02: option value\n";
-    expect_fault(&rt, rt.alloc(), &words, &[], wanted, 2)
-}
-
-#[test]
-fn walks_back_over_a_rollback(rt: HostRuntime) -> Result<(), Fail> {
-    expect_walk(
-        &rt,
-        rt.alloc(),
+    ),
+    // Nothing for an empty script.
+    (b"", b"", b"", b""),
+    // Back over a rollback.
+    (
         b"end show back back show",
         b"",
         FAILED_TRANSACTION,
@@ -157,14 +120,9 @@ reply
   Class = 0x09
 control
 ",
-    )
-}
-
-#[test]
-fn walks_back_over_two_rollbacks(rt: HostRuntime) -> Result<(), Fail> {
-    expect_walk(
-        &rt,
-        rt.alloc(),
+    ),
+    // Back over two rollbacks.
+    (
         b"end back back back back show back show",
         b"",
         EDITED_TRANSACTIONS,
@@ -183,14 +141,9 @@ reply
   Class = 0x03
 control
 ",
-    )
-}
-
-#[test]
-fn walks_back_to_pairs_at_both_ends(rt: HostRuntime) -> Result<(), Fail> {
-    expect_walk(
-        &rt,
-        rt.alloc(),
+    ),
+    // Back to pairs at both ends.
+    (
         b"end show back back back show",
         b"",
         PREPENDING_TRANSACTION,
@@ -210,12 +163,38 @@ reply
   Class = 0x03
 control
 ",
-    )
+    ),
+];
+
+#[test]
+fn walks_forward_and_back(rt: HostRuntime) -> Result<(), Fail> {
+    for (script, request, policy, wanted) in WALKS {
+        expect_walk(&rt, rt.alloc(), script, request, policy, wanted)?;
+    }
+    Ok(())
 }
 
 #[test]
-fn counts_the_steps_of_two_transactions(rt: HostRuntime) -> Result<(), Fail> {
-    expect_size(&rt, rt.alloc(), EDITED_TRANSACTIONS, b"13")
+fn refuses_an_unknown_script_word(rt: HostRuntime) -> Result<(), Fail> {
+    let sources: [Source; 2] = [("d", TEST_DICTIONARY), ("s", b"show\njump")];
+    let wanted = b"radpolicy: E06 script:2: unknown script word\n";
+    expect_fault(&rt, rt.alloc(), &STEP, &sources, wanted, 2)
+}
+
+#[test]
+fn refuses_a_packet_without_a_secret(rt: HostRuntime) -> Result<(), Fail> {
+    let words = [
+        "radpolicy",
+        "step",
+        "--hex",
+        "--policy",
+        "p",
+        "--script",
+        "s",
+        "d",
+    ];
+    let wanted = b"radpolicy: E02: option value\n";
+    expect_fault(&rt, rt.alloc(), &words, &[], wanted, 2)
 }
 
 #[test]

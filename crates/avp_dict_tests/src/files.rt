@@ -28,6 +28,12 @@ fn read(alloc: Global, files: &FileSet) -> Result<Result<Dictionary, DictFault>,
     Ok(Dictionary::read(alloc, files))
 }
 
+// What one file with these lines is read as.
+fn read_one(alloc: Global, lines: &[u8]) -> Result<Dictionary, Fail> {
+    let set = one_file(alloc, lines)?;
+    Ok(read(alloc, &set)??)
+}
+
 fn expect_refusal(
     rt: &impl Abort,
     alloc: Global,
@@ -71,36 +77,40 @@ fn expect_counts(
     assert_eq!(rt; dictionary.counts(), counts);
 }
 
-#[test]
-fn reads_a_small_set(rt: HostRuntime) -> Result<(), Fail> {
-    let alloc = rt.alloc();
-    let dictionary = read(alloc, &one_file(alloc, TEST_DICTIONARY)?)??;
-    expect_counts(&rt, &dictionary, 18, 4, 1);
-    expect_notes(&rt, &dictionary, &[]);
-    let pair = AttrId::Vendor(9, 1);
+fn expect_small_set(rt: &impl Abort, dictionary: &Dictionary) -> Result<(), Fail> {
+    let id = AttrId::Vendor(9, 1);
     assert_eq!(rt;
         dictionary.by_name(b"cisco-avpair"),
-        Some(Named {
-            id: pair,
-            raw: false
-        })
+        Some(Named { id, raw: false })
     );
     assert_eq!(rt; dictionary.vendor(9), Some(Format { t: 1, l: 1 }));
     assert!(rt; dictionary.vendor(10).is_none());
     let entry = dictionary.by_id(AttrId::Plain(2)).ok_or("no entry")?;
     assert_eq!(rt; entry.name, b"User-Password".as_slice());
-    assert_eq!(rt; entry.kind, Kind::Text);
-    assert!(rt; entry.hidden);
-    let service = AttrId::Plain(6);
-    assert_eq!(rt; dictionary.value_number(service, b"LOGIN-USER"), Some(1));
-    assert_eq!(rt;
-        dictionary.value_name(service, 1),
-        Some(b"Login-User".as_slice())
-    );
-    assert!(rt; dictionary.value_name(service, 2).is_none());
+    assert_eq!(rt; (entry.kind, entry.hidden), (Kind::Text, true));
     assert!(rt; dictionary.by_name(b"Nosuch").is_none());
     assert!(rt; dictionary.by_id(AttrId::Plain(3)).is_none());
     Ok(())
+}
+
+// The values of a service's type.
+fn expect_services(rt: &impl Abort, dictionary: &Dictionary) {
+    let id = AttrId::Plain(6);
+    assert_eq!(rt; dictionary.value_number(id, b"LOGIN-USER"), Some(1));
+    assert_eq!(rt;
+        dictionary.value_name(id, 1),
+        Some(b"Login-User".as_slice())
+    );
+    assert!(rt; dictionary.value_name(id, 2).is_none());
+}
+
+#[test]
+fn reads_a_small_set(rt: HostRuntime) -> Result<(), Fail> {
+    let dictionary = read_one(rt.alloc(), TEST_DICTIONARY)?;
+    expect_counts(&rt, &dictionary, 18, 4, 1);
+    expect_notes(&rt, &dictionary, &[]);
+    expect_services(&rt, &dictionary);
+    expect_small_set(&rt, &dictionary)
 }
 
 #[test]
@@ -137,56 +147,56 @@ VALUE V-B One 1
 fn skips_blocks_of_three_part_formats(rt: HostRuntime) -> Result<(), Fail> {
     let alloc = rt.alloc();
     let lines = b"VENDOR U 60 format=1,1,c\nBEGIN-VENDOR U\nATTRIBUTE U-A 1 string\nEND-VENDOR U\n";
-    let dictionary = read(alloc, &one_file(alloc, lines)?)??;
+    let dictionary = read_one(alloc, lines)?;
     expect_counts(&rt, &dictionary, 0, 0, 1);
     expect_notes(&rt, &dictionary, &[(0, 2), (0, 3), (0, 4)]);
     assert!(rt; dictionary.vendor(60).is_none());
     Ok(())
 }
 
-#[test]
-fn refuses_single_lines(rt: HostRuntime) -> Result<(), Fail> {
-    let alloc = rt.alloc();
-    expect_refusal(
-        &rt,
-        alloc,
-        b"ATTRIBUTE A x integer",
-        1,
-        DictKind::Unreadable,
-    )?;
-    expect_refusal(
-        &rt,
-        alloc,
-        b"ATTRIBUTE A 4294967296 integer",
-        1,
-        DictKind::OutOfRange,
-    )?;
-    expect_refusal(&rt, alloc, b"BEGIN-VENDOR Nope", 1, DictKind::UnknownVendor)?;
-    expect_refusal(&rt, alloc, b"$INCLUDE gone", 1, DictKind::NoFile)?;
-    expect_refusal(&rt, alloc, b"$INCLUDE d", 1, DictKind::TooDeep)?;
-    expect_refusal(&rt, alloc, b"END-VENDOR Cisco", 1, DictKind::Unmatched)?;
-    expect_refusal(&rt, alloc, b"VALUE X Y 1", 1, DictKind::NoAttribute)?;
-    expect_refusal(&rt, alloc, b"\n\nBEGIN-TLV x\n", 3, DictKind::Unmatched)
-}
+// Lines, and the number and the kind of the first that is refused.
+const REFUSED: [(&[u8], usize, DictKind); 10] = [
+    (b"ATTRIBUTE A x integer", 1, DictKind::Unreadable),
+    (b"ATTRIBUTE A 4294967296 integer", 1, DictKind::OutOfRange),
+    (b"BEGIN-VENDOR Nope", 1, DictKind::UnknownVendor),
+    (b"$INCLUDE gone", 1, DictKind::NoFile),
+    (b"$INCLUDE d", 1, DictKind::TooDeep),
+    (b"END-VENDOR Cisco", 1, DictKind::Unmatched),
+    (b"VALUE X Y 1", 1, DictKind::NoAttribute),
+    (b"\n\nBEGIN-TLV x\n", 3, DictKind::Unmatched),
+    (
+        b"ATTRIBUTE X 200 integer\nATTRIBUTE x 201 integer",
+        2,
+        DictKind::OtherNumber,
+    ),
+    (
+        b"ATTRIBUTE A 200 integer\nVALUE A One 1\nVALUE A one 2",
+        3,
+        DictKind::OtherValue,
+    ),
+];
 
 #[test]
-fn refuses_names_of_two_numbers(rt: HostRuntime) -> Result<(), Fail> {
-    let alloc = rt.alloc();
-    let attributes = b"ATTRIBUTE X 200 integer\nATTRIBUTE x 201 integer";
-    expect_refusal(&rt, alloc, attributes, 2, DictKind::OtherNumber)?;
-    let values = b"ATTRIBUTE A 200 integer\nVALUE A One 1\nVALUE A one 2";
-    expect_refusal(&rt, alloc, values, 3, DictKind::OtherValue)
+fn refuses_lines_with_their_place(rt: HostRuntime) -> Result<(), Fail> {
+    for (lines, line, kind) in REFUSED {
+        expect_refusal(&rt, rt.alloc(), lines, line, kind)?;
+    }
+    Ok(())
 }
 
 #[test]
 fn resolves_values_after_the_last_line(rt: HostRuntime) -> Result<(), Fail> {
-    let alloc = rt.alloc();
     let lines = b"VALUE X Y 1\nATTRIBUTE X 200 integer";
-    let dictionary = read(alloc, &one_file(alloc, lines)?)??;
+    let dictionary = read_one(rt.alloc(), lines)?;
     expect_notes(&rt, &dictionary, &[]);
     assert_eq!(rt; dictionary.value_number(AttrId::Plain(200), b"y"), Some(1));
+    Ok(())
+}
+
+#[test]
+fn notes_values_of_tagged_attributes(rt: HostRuntime) -> Result<(), Fail> {
     let lines = b"ATTRIBUTE Tunnel-Type 64 integer has_tag\nVALUE Tunnel-Type PPTP 1";
-    let dictionary = read(alloc, &one_file(alloc, lines)?)??;
+    let dictionary = read_one(rt.alloc(), lines)?;
     expect_notes(&rt, &dictionary, &[(0, 2)]);
     let entry = dictionary.by_id(AttrId::Plain(64)).ok_or("no entry")?;
     assert_eq!(rt; entry.kind, Kind::Bytes);
@@ -278,40 +288,36 @@ fn reads_so_many_lines(rt: HostRuntime) -> Result<(), Fail> {
     for _ in 0..200_000 {
         blank.push(b'\n')?;
     }
-    let dictionary = read(alloc, &one_file(alloc, &blank)?)??;
+    let dictionary = read_one(alloc, &blank)?;
     expect_notes(&rt, &dictionary, &[]);
     blank.push(b'\n')?;
     expect_refusal(&rt, alloc, &blank, 200_001, DictKind::TooLong)
 }
 
+// Names by number, and the ids that they name.
+const BY_NUMBER: [(&[u8], Option<AttrId>); 13] = [
+    (b"Attr-25", Some(AttrId::Plain(25))),
+    (b"attr-0255", Some(AttrId::Plain(255))),
+    (b"Attr-256", None),
+    (b"Attr-241.0", Some(AttrId::Extended(241, 0))),
+    (b"Attr-240.1", None),
+    (b"Attr-246.256", None),
+    (b"ATTR-26.9.255", Some(AttrId::Vendor(9, 255))),
+    (b"Attr-26.9.256", None),
+    (b"Attr-26.10.1", None),
+    (b"Attr-27.9.1", None),
+    (b"Attr-26.9.1.1", None),
+    (b"Attr-0x19", None),
+    (b"Attr-26.18446744073709551625.1", None),
+];
+
 #[test]
 fn reads_names_by_number(rt: HostRuntime) -> Result<(), Fail> {
-    let alloc = rt.alloc();
-    let dictionary = read(alloc, &one_file(alloc, TEST_DICTIONARY)?)??;
-    let raw = |id| Some(Named { id, raw: true });
-    assert_eq!(rt; dictionary.by_name(b"Attr-25"), raw(AttrId::Plain(25)));
-    assert_eq!(rt; dictionary.by_name(b"attr-0255"), raw(AttrId::Plain(255)));
-    assert!(rt; dictionary.by_name(b"Attr-256").is_none());
-    assert_eq!(rt;
-        dictionary.by_name(b"Attr-241.0"),
-        raw(AttrId::Extended(241, 0))
-    );
-    assert!(rt; dictionary.by_name(b"Attr-240.1").is_none());
-    assert!(rt; dictionary.by_name(b"Attr-246.256").is_none());
-    assert_eq!(rt;
-        dictionary.by_name(b"ATTR-26.9.255"),
-        raw(AttrId::Vendor(9, 255))
-    );
-    assert!(rt; dictionary.by_name(b"Attr-26.9.256").is_none());
-    assert!(rt; dictionary.by_name(b"Attr-26.10.1").is_none());
-    assert!(rt; dictionary.by_name(b"Attr-27.9.1").is_none());
-    assert!(rt; dictionary.by_name(b"Attr-26.9.1.1").is_none());
-    assert!(rt; dictionary.by_name(b"Attr-0x19").is_none());
-    assert!(rt;
-        dictionary
-            .by_name(b"Attr-26.18446744073709551625.1")
-            .is_none()
-    );
+    let dictionary = read_one(rt.alloc(), TEST_DICTIONARY)?;
+    for (name, id) in BY_NUMBER {
+        let wanted = id.map(|id| Named { id, raw: true });
+        assert_eq!(rt; dictionary.by_name(name), wanted, "{name:?}");
+    }
     Ok(())
 }
 
@@ -326,7 +332,7 @@ END-VENDOR V
 VALUE V-A One 1
 VENDOR V 100
 ";
-    let dictionary = read(alloc, &one_file(alloc, lines)?)??;
+    let dictionary = read_one(alloc, lines)?;
     expect_counts(&rt, &dictionary, 1, 0, 1);
     expect_notes(&rt, &dictionary, &[(0, 3), (0, 6)]);
     assert!(rt; dictionary.by_name(b"V-A").is_none());

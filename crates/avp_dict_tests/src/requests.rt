@@ -84,21 +84,18 @@ fn expect_faults(
 fn reads_the_pairs_of_lines(rt: HostRuntime) -> Result<(), Fail> {
     let alloc = rt.alloc();
     let dictionary = read_lines(alloc)?;
-    expect_pairs(
-        &rt,
-        alloc,
-        &dictionary,
-        b"User-Name = \"nemo\", User-Password = arctangent
+    let rows: [(&[u8], &[u8]); 13] = [
+        (
+            b"User-Name = \"nemo\", User-Password = arctangent
 NAS-IP-Address = 192.168.1.16,
 NAS-Port = 3
 ",
-        b"User-Name = \"nemo\"
+            b"User-Name = \"nemo\"
 User-Password = \"arctangent\"
 NAS-IP-Address = 192.168.1.16
 NAS-Port = 3
 ",
-    )?;
-    let rows: [(&[u8], &[u8]); 12] = [
+        ),
         (b"", b""),
         (b"\r\n \t\n# no pair\n\r", b""),
         (b"NAS-Port=3", b"NAS-Port = 3\n"),
@@ -207,6 +204,7 @@ fn refuses_names_and_values(rt: HostRuntime) -> Result<(), Fail> {
             (b"NAS-Port = 4294967296", 1, LineKind::NotValue),
             (b"NAS-IP-Address = 256.1.1.1", 1, LineKind::NotValue),
             (b"\n\nAttr-4 = c0", 3, LineKind::NotValue),
+            (b"User-Password = \"a\\000\"", 1, LineKind::TooLong),
             (b"Attr-26 = 0x00", 1, LineKind::NotWritable),
             (b"Vendor-Specific = nothing", 1, LineKind::NotWritable),
             (b"Attr-2 = 0x61", 1, LineKind::NotWritable),
@@ -302,23 +300,41 @@ fn refuses_what_follows_the_packet(rt: HostRuntime) -> Result<(), Fail> {
     Ok(())
 }
 
-fn repeated(alloc: Global, part: &[u8], times: usize) -> Result<Vec<u8>, Fail> {
-    let mut text = Vec::new(alloc);
+// A text, and another one behind it so many times.
+fn repeated(alloc: Global, front: &[u8], part: &[u8], times: usize) -> Result<Vec<u8>, Fail> {
+    let mut text = Vec::from_slice(alloc, front)?;
     for _ in 0..times {
         text.extend_from_slice(part)?;
     }
     Ok(text)
 }
 
+// A request has so many pairs.
+fn expect_count(
+    rt: &impl Abort,
+    alloc: Global,
+    dictionary: &Dictionary,
+    request: &[u8],
+    count: usize,
+) -> Result<(), Fail> {
+    let pairs = dictionary
+        .read_request(alloc, request)
+        .map_err(|_| "no request")?;
+    assert_eq!(rt; pairs.len(), count);
+    Ok(())
+}
+
+#[test]
+fn reads_as_many_pairs_as_a_list_has(rt: HostRuntime) -> Result<(), Fail> {
+    let dictionary = read_lines(rt.alloc())?;
+    let lines = repeated(rt.alloc(), b"", b"Class = 0x01\n", MOST_PAIRS)?;
+    expect_count(&rt, rt.alloc(), &dictionary, &lines, MOST_PAIRS)
+}
+
 #[test]
 fn refuses_more_pairs_than_a_list_has(rt: HostRuntime) -> Result<(), Fail> {
-    let alloc = rt.alloc();
-    let dictionary = read_lines(alloc)?;
-    let mut lines = repeated(alloc, b"Class = 0x01\n", MOST_PAIRS)?;
-    let pairs = dictionary
-        .read_request(alloc, &lines)
-        .map_err(|_| "no request")?;
-    assert_eq!(&rt; pairs.len(), MOST_PAIRS);
+    let dictionary = read_lines(rt.alloc())?;
+    let mut lines = repeated(rt.alloc(), b"", b"Class = 0x01\n", MOST_PAIRS)?;
     let most = lines.len();
     let rows: [(&[u8], LineKind); 5] = [
         (b"Class = 0x01", LineKind::TooMany),
@@ -330,54 +346,62 @@ fn refuses_more_pairs_than_a_list_has(rt: HostRuntime) -> Result<(), Fail> {
     for (line, kind) in rows {
         lines.truncate(most);
         lines.extend_from_slice(line)?;
-        expect_fault(&rt, alloc, &dictionary, &lines, 4097, kind);
+        expect_fault(&rt, rt.alloc(), &dictionary, &lines, 4097, kind);
     }
+    Ok(())
+}
+
+// A request of one pair with so many parts in its value is read, and one of one part more is not.
+fn expect_most(
+    rt: &impl Abort,
+    alloc: Global,
+    dictionary: &Dictionary,
+    front: &[u8],
+    part: &[u8],
+    most: usize,
+) -> Result<(), Fail> {
+    let mut request = repeated(alloc, front, part, most)?;
+    expect_count(rt, alloc, dictionary, &request, 1)?;
+    request.extend_from_slice(part)?;
+    expect_fault(rt, alloc, dictionary, &request, 1, LineKind::TooLong);
     Ok(())
 }
 
 #[test]
 fn refuses_values_that_are_too_long(rt: HostRuntime) -> Result<(), Fail> {
-    let alloc = rt.alloc();
-    let dictionary = read_lines(alloc)?;
-    let mut password = repeated(alloc, b"User-Password = ", 1)?;
-    password.extend_from_slice(&repeated(alloc, b"a", 128)?)?;
-    assert!(&rt; dictionary.read_request(alloc, &password).is_ok());
-    password.push(b'a')?;
-    expect_fault(&rt, alloc, &dictionary, &password, 1, LineKind::TooLong);
-    let mut class = repeated(alloc, b"Class = 0x", 1)?;
-    class.extend_from_slice(&repeated(alloc, b"00", 253)?)?;
-    assert!(&rt; dictionary.read_request(alloc, &class).is_ok());
-    class.extend_from_slice(b"00")?;
-    expect_fault(&rt, alloc, &dictionary, &class, 1, LineKind::TooLong);
-    expect_fault(
-        &rt,
-        alloc,
-        &dictionary,
-        b"User-Password = \"a\\000\"",
-        1,
-        LineKind::TooLong,
-    );
+    let dictionary = read_lines(rt.alloc())?;
+    let rows: [(&[u8], &[u8], usize); 2] = [
+        (b"User-Password = ", b"a", 128),
+        (b"Class = 0x", b"00", 253),
+    ];
+    for (front, part, most) in rows {
+        expect_most(&rt, rt.alloc(), &dictionary, front, part, most)?;
+    }
     Ok(())
 }
 
-// The time of each of these grows with the length of the text alone.
+// The time of this and of the next two grows with the length of the text alone.
 #[test]
 fn reads_long_lines(rt: HostRuntime) -> Result<(), Fail> {
-    let alloc = rt.alloc();
-    let dictionary = read_lines(alloc)?;
-    let blanks = repeated(alloc, b"    ", 60)?;
-    let mut part = repeated(alloc, b"NAS-Port = 1,", 1)?;
-    part.extend_from_slice(&blanks)?;
-    let line = repeated(alloc, &part, MOST_PAIRS)?;
-    let pairs = dictionary
-        .read_request(alloc, &line)
-        .map_err(|_| "no request")?;
-    assert_eq!(&rt; pairs.len(), MOST_PAIRS);
-    let mut text = repeated(alloc, b"User-Name = \"", 1)?;
-    text.extend_from_slice(&repeated(alloc, b"\\n", 500_000)?)?;
-    expect_fault(&rt, alloc, &dictionary, &text, 1, LineKind::Unreadable);
+    let dictionary = read_lines(rt.alloc())?;
+    let part = repeated(rt.alloc(), b"NAS-Port = 1,", b" ", 240)?;
+    let line = repeated(rt.alloc(), b"", &part, MOST_PAIRS)?;
+    expect_count(&rt, rt.alloc(), &dictionary, &line, MOST_PAIRS)
+}
+
+#[test]
+fn reads_long_texts(rt: HostRuntime) -> Result<(), Fail> {
+    let dictionary = read_lines(rt.alloc())?;
+    let mut text = repeated(rt.alloc(), b"User-Name = \"", b"\\n", 500_000)?;
+    expect_fault(&rt, rt.alloc(), &dictionary, &text, 1, LineKind::Unreadable);
     text.push(b'"')?;
-    expect_fault(&rt, alloc, &dictionary, &text, 1, LineKind::TooLong);
-    let blank_lines = repeated(alloc, b"\r\n", 500_000)?;
-    expect_pairs(&rt, alloc, &dictionary, &blank_lines, b"")
+    expect_fault(&rt, rt.alloc(), &dictionary, &text, 1, LineKind::TooLong);
+    Ok(())
+}
+
+#[test]
+fn reads_many_blank_lines(rt: HostRuntime) -> Result<(), Fail> {
+    let dictionary = read_lines(rt.alloc())?;
+    let lines = repeated(rt.alloc(), b"", b"\r\n", 500_000)?;
+    expect_count(&rt, rt.alloc(), &dictionary, &lines, 0)
 }

@@ -78,15 +78,127 @@ fn expect_printed(
 /// A name, a text, the octets of its value, and the text that is printed under the same name.
 type Row = (&'static [u8], &'static [u8], &'static [u8], &'static [u8]);
 
-fn expect_values(
-    rt: &impl Abort,
-    alloc: Global,
-    dictionary: &Dictionary,
-    rows: &[Row],
-) -> Result<(), Fail> {
-    for (name, text, octets, printed) in rows {
-        let pair = pair_of(alloc, dictionary, name, text)?;
-        expect_printed(rt, alloc, dictionary, &pair, name, octets, printed)?;
+// Values of each type.
+const TYPES: [Row; 10] = [
+    (b"Ty-B", b"0255", &[255], b"255"),
+    (b"Ty-S", b"0x10", &[0, 16], b"16"),
+    (b"Ty-G", b"-1", &[255; 4], b"-1"),
+    (b"Ty-G", b"-0", &[0; 4], b"0"),
+    (b"Ty-G", b"-2147483648", &[128, 0, 0, 0], b"-2147483648"),
+    (b"Ty-G", b"2147483647", &[127, 255, 255, 255], b"2147483647"),
+    (
+        b"Ty-L",
+        b"18446744073709551615",
+        &[255; 8],
+        b"18446744073709551615",
+    ),
+    (
+        b"Ty-E",
+        b"00:1A:2b:3c:4d:5e",
+        b"\x00\x1a\x2b\x3c\x4d\x5e",
+        b"00:1a:2b:3c:4d:5e",
+    ),
+    (b"Ty-D", b"60", &[0, 0, 0, 60], b"60"),
+    (b"Ty-U", b"10", &[0x31, 0x30], b"0x3130"),
+];
+
+// Numbers, which may have names, and addresses.
+const NUMBERS: [Row; 9] = [
+    (b"NAS-Port", b"4294967295", &[255; 4], b"4294967295"),
+    (b"Service-Type", b"LOGIN-USER", &[0, 0, 0, 1], b"Login"),
+    (b"Service-Type", b"1", &[0, 0, 0, 1], b"Login"),
+    (b"Service-Type", b"0XYZ", &[0, 0, 0, 7], b"0xyz"),
+    (b"Service-Type", b"0x07", &[0, 0, 0, 7], b"0xyz"),
+    (b"Service-Type", b"2", &[0, 0, 0, 2], b"2"),
+    (b"Service-Type", b"most", &[255; 4], b"Most"),
+    (
+        b"NAS-IP-Address",
+        b"192.168.1.16",
+        &[192, 168, 1, 16],
+        b"192.168.1.16",
+    ),
+    (
+        b"NAS-IP-Address",
+        b"01.2.003.255",
+        &[1, 2, 3, 255],
+        b"1.2.3.255",
+    ),
+];
+
+// Octets by number, and texts, whose last octet may be a NUL where they are not hidden.
+const OCTETS: [Row; 7] = [
+    (b"Attr-4", b"0x01", &[1], b"0x01"),
+    (b"Attr-99", b"0x", b"", b"0x"),
+    (b"Attr-26.9.2", b"0xaBcD", &[0xab, 0xcd], b"0xabcd"),
+    (b"Attr-246.7", b"0x00", &[0], b"0x00"),
+    (b"User-Password", b"a\0b", b"a\0b", b"\"a\\000b\""),
+    (b"Class", b"a\0", b"a\0", b"0x6100"),
+    (b"Cisco-AVPair", b"a=b", b"a=b", b"\"a=b\""),
+];
+
+// Names, and texts that are no values under them.
+const NO_VALUES: [(&[u8], &[&[u8]]); 13] = [
+    (b"Ty-B", &[b"256"]),
+    (b"Ty-S", &[b"65536", b"0X10"]),
+    (
+        b"Ty-G",
+        &[b"-2147483649", b"2147483648", b"+1", b"0x1", b"-"],
+    ),
+    (b"Ty-L", &[b"18446744073709551616"]),
+    (
+        b"Ty-E",
+        &[
+            b"0:1a:2b:3c:4d:5e",
+            b"00:1a:2b:3c:4d",
+            b"00:1a:2b:3c:4d:5e:6f",
+            b"00:1a:2b:3c:4d:5g",
+        ],
+    ),
+    (b"Ty-D", &[b"4294967296"]),
+    (b"Ty-V", &[b"::1"]),
+    (b"Ty-T", &[b"VLAN"]),
+    (b"Ty-U", &[b"0x1"]),
+    (b"NAS-Port", &[b"4294967296", b"Login", b"0x"]),
+    (b"Service-Type", &[b"Nosuch"]),
+    (
+        b"NAS-IP-Address",
+        &[
+            b"256.1.1.1",
+            b"1.2.3",
+            b"1.2.3.4.5",
+            b"1.2.3.",
+            b"1..2.3",
+            b"0001.2.3.4",
+            b"1.2.3.4 ",
+            b"0x1.2.3.4",
+            b"",
+        ],
+    ),
+    (
+        b"Attr-4",
+        &[b"192.168.1.1", b"0xc0a8010", b"0xc0a8010g", b"0Xc0a80101"],
+    ),
+];
+
+// Names, and texts that are refused under them for another reason, before they are read or after it.
+const REFUSED: [(&[u8], &[u8], ValueFault); 8] = [
+    (b"Attr-26", b"0x00", ValueFault::NotWritable),
+    (b"Vendor-Specific", b"x", ValueFault::NotWritable),
+    (b"Attr-241", b"0x00", ValueFault::NotWritable),
+    (b"Attr-246", b"x", ValueFault::NotWritable),
+    (b"Attr-2", b"x", ValueFault::NotWritable),
+    (b"Attr-240", b"x", ValueFault::NotValue),
+    (b"User-Password", b"a\0", ValueFault::TooLong),
+    (b"Secret-Octets", b"0x6100", ValueFault::TooLong),
+];
+
+#[test]
+fn reads_and_prints_values(rt: HostRuntime) -> Result<(), Fail> {
+    let dictionary = read_lines(rt.alloc())?;
+    let tables: [&[Row]; 3] = [&TYPES, &NUMBERS, &OCTETS];
+    for (name, text, octets, printed) in tables.into_iter().flatten() {
+        let pair = pair_of(rt.alloc(), &dictionary, name, text)?;
+        expect_printed(&rt, rt.alloc(), &dictionary, &pair, name, octets, printed)?;
     }
     Ok(())
 }
@@ -100,183 +212,56 @@ fn expect_refused(
     fault: ValueFault,
 ) -> Result<(), Fail> {
     let named = dictionary.by_name(name).ok_or("no name")?;
-    assert_eq!(rt;
-        dictionary.value_of_text(alloc, named, text).err(),
-        Some(fault)
-    );
+    let refused = dictionary.value_of_text(alloc, named, text).err();
+    assert_eq!(rt; refused, Some(fault), "{name:?} = {text:?}");
     Ok(())
 }
 
-// Names, and texts that are no values under them.
+// None of the texts is a value under the name.
 fn expect_no_values(
     rt: &impl Abort,
     alloc: Global,
     dictionary: &Dictionary,
-    rows: &[(&'static [u8], &'static [u8])],
+    name: &[u8],
+    texts: &[&[u8]],
 ) -> Result<(), Fail> {
-    for (name, text) in rows {
+    for text in texts {
         expect_refused(rt, alloc, dictionary, name, text, ValueFault::NotValue)?;
     }
     Ok(())
 }
 
-fn repeated(alloc: Global, octet: u8, count: usize) -> Result<Vec<u8>, Fail> {
-    Ok(vec![in alloc; octet; count]?)
-}
-
 #[test]
-fn reads_each_type(rt: HostRuntime) -> Result<(), Fail> {
-    let alloc = rt.alloc();
-    let dictionary = read_lines(alloc)?;
-    let rows: [Row; 10] = [
-        (b"Ty-B", b"0255", &[255], b"255"),
-        (b"Ty-S", b"0x10", &[0, 16], b"16"),
-        (b"Ty-G", b"-1", &[255; 4], b"-1"),
-        (b"Ty-G", b"-0", &[0; 4], b"0"),
-        (b"Ty-G", b"-2147483648", &[128, 0, 0, 0], b"-2147483648"),
-        (b"Ty-G", b"2147483647", &[127, 255, 255, 255], b"2147483647"),
-        (
-            b"Ty-L",
-            b"18446744073709551615",
-            &[255; 8],
-            b"18446744073709551615",
-        ),
-        (
-            b"Ty-E",
-            b"00:1A:2b:3c:4d:5e",
-            b"\x00\x1a\x2b\x3c\x4d\x5e",
-            b"00:1a:2b:3c:4d:5e",
-        ),
-        (b"Ty-D", b"60", &[0, 0, 0, 60], b"60"),
-        (b"Ty-U", b"10", &[0x31, 0x30], b"0x3130"),
-    ];
-    expect_values(&rt, alloc, &dictionary, &rows)
-}
-
-#[test]
-fn refuses_other_texts(rt: HostRuntime) -> Result<(), Fail> {
-    let alloc = rt.alloc();
-    let dictionary = read_lines(alloc)?;
-    let rows: [(&[u8], &[u8]); 21] = [
-        (b"Ty-B", b"256"),
-        (b"Ty-S", b"65536"),
-        (b"Ty-S", b"0X10"),
-        (b"Ty-G", b"-2147483649"),
-        (b"Ty-G", b"2147483648"),
-        (b"Ty-G", b"+1"),
-        (b"Ty-G", b"0x1"),
-        (b"Ty-G", b"-"),
-        (b"Ty-L", b"18446744073709551616"),
-        (b"Ty-E", b"0:1a:2b:3c:4d:5e"),
-        (b"Ty-E", b"00:1a:2b:3c:4d"),
-        (b"Ty-E", b"00:1a:2b:3c:4d:5e:6f"),
-        (b"Ty-E", b"00:1a:2b:3c:4d:5g"),
-        (b"Ty-D", b"4294967296"),
-        (b"Ty-V", b"::1"),
-        (b"Ty-T", b"VLAN"),
-        (b"Ty-U", b"0x1"),
-        (b"NAS-Port", b"4294967296"),
-        (b"NAS-Port", b"Login"),
-        (b"NAS-Port", b"0x"),
-        (b"Service-Type", b"Nosuch"),
-    ];
-    expect_no_values(&rt, alloc, &dictionary, &rows)
-}
-
-#[test]
-fn reads_numbers_and_their_names(rt: HostRuntime) -> Result<(), Fail> {
-    let alloc = rt.alloc();
-    let dictionary = read_lines(alloc)?;
-    let rows: [Row; 7] = [
-        (b"NAS-Port", b"4294967295", &[255; 4], b"4294967295"),
-        (b"Service-Type", b"LOGIN-USER", &[0, 0, 0, 1], b"Login"),
-        (b"Service-Type", b"1", &[0, 0, 0, 1], b"Login"),
-        (b"Service-Type", b"0XYZ", &[0, 0, 0, 7], b"0xyz"),
-        (b"Service-Type", b"0x07", &[0, 0, 0, 7], b"0xyz"),
-        (b"Service-Type", b"2", &[0, 0, 0, 2], b"2"),
-        (b"Service-Type", b"most", &[255; 4], b"Most"),
-    ];
-    expect_values(&rt, alloc, &dictionary, &rows)
-}
-
-#[test]
-fn reads_addresses(rt: HostRuntime) -> Result<(), Fail> {
-    let alloc = rt.alloc();
-    let dictionary = read_lines(alloc)?;
-    let rows: [Row; 2] = [
-        (
-            b"NAS-IP-Address",
-            b"192.168.1.16",
-            &[192, 168, 1, 16],
-            b"192.168.1.16",
-        ),
-        (
-            b"NAS-IP-Address",
-            b"01.2.003.255",
-            &[1, 2, 3, 255],
-            b"1.2.3.255",
-        ),
-    ];
-    expect_values(&rt, alloc, &dictionary, &rows)?;
-    let texts: [&[u8]; 9] = [
-        b"256.1.1.1",
-        b"1.2.3",
-        b"1.2.3.4.5",
-        b"1.2.3.",
-        b"1..2.3",
-        b"0001.2.3.4",
-        b"1.2.3.4 ",
-        b"0x1.2.3.4",
-        b"",
-    ];
-    for text in texts {
-        expect_refused(
-            &rt,
-            alloc,
-            &dictionary,
-            b"NAS-IP-Address",
-            text,
-            ValueFault::NotValue,
-        )?;
+fn refuses_texts_that_are_no_values(rt: HostRuntime) -> Result<(), Fail> {
+    let dictionary = read_lines(rt.alloc())?;
+    for (name, texts) in NO_VALUES {
+        expect_no_values(&rt, rt.alloc(), &dictionary, name, texts)?;
     }
     Ok(())
 }
 
 #[test]
-fn reads_octets_by_number(rt: HostRuntime) -> Result<(), Fail> {
-    let alloc = rt.alloc();
-    let dictionary = read_lines(alloc)?;
-    let address = pair_of(alloc, &dictionary, b"aTTr-04", b"0xC0a80101")?;
-    expect_printed(
-        &rt,
-        alloc,
-        &dictionary,
-        &address,
-        b"NAS-IP-Address",
-        &[192, 168, 1, 1],
-        b"192.168.1.1",
-    )?;
-    let rows: [Row; 4] = [
-        (b"Attr-4", b"0x01", &[1], b"0x01"),
-        (b"Attr-99", b"0x", b"", b"0x"),
-        (b"Attr-26.9.2", b"0xaBcD", &[0xab, 0xcd], b"0xabcd"),
-        (b"Attr-246.7", b"0x00", &[0], b"0x00"),
-    ];
-    expect_values(&rt, alloc, &dictionary, &rows)?;
-    let rows: [(&[u8], &[u8]); 5] = [
-        (b"Attr-4", b"192.168.1.1"),
-        (b"Attr-4", b"0xc0a8010"),
-        (b"Attr-4", b"0xc0a8010g"),
-        (b"Attr-4", b"0Xc0a80101"),
-        (b"Attr-240", b"x"),
-    ];
-    expect_no_values(&rt, alloc, &dictionary, &rows)
+fn bars_names_and_hides_no_last_nul(rt: HostRuntime) -> Result<(), Fail> {
+    let dictionary = read_lines(rt.alloc())?;
+    for (name, text, fault) in REFUSED {
+        expect_refused(&rt, rt.alloc(), &dictionary, name, text, fault)?;
+    }
+    Ok(())
+}
+
+// The octets of a number that a dictionary names are a value of its type.
+#[test]
+fn reads_octets_of_a_type(rt: HostRuntime) -> Result<(), Fail> {
+    let dictionary = read_lines(rt.alloc())?;
+    let pair = pair_of(rt.alloc(), &dictionary, b"aTTr-04", b"0xC0a80101")?;
+    let octets = [192, 168, 1, 1];
+    let (name, text) = (b"NAS-IP-Address", b"192.168.1.1");
+    expect_printed(&rt, rt.alloc(), &dictionary, &pair, name, &octets, text)
 }
 
 #[test]
 fn limits_lengths(rt: HostRuntime) -> Result<(), Fail> {
-    let alloc = rt.alloc();
-    let dictionary = read_lines(alloc)?;
+    let dictionary = read_lines(rt.alloc())?;
     let ids = [
         (AttrId::Plain(25), 253),
         (AttrId::Plain(2), 128),
@@ -292,50 +277,40 @@ fn limits_lengths(rt: HostRuntime) -> Result<(), Fail> {
     for (id, most) in ids {
         assert_eq!(rt; dictionary.greatest_length(id), most);
     }
+    Ok(())
+}
+
+// A text of so many octets is a value under a name, and one of one octet more is not.
+fn expect_most(
+    rt: &impl Abort,
+    alloc: Global,
+    dictionary: &Dictionary,
+    name: &[u8],
+    most: usize,
+) -> Result<(), Fail> {
+    let mut text = vec![in alloc; b'a'; most]?;
+    pair_of(alloc, dictionary, name, &text)?;
+    text.push(b'a')?;
+    expect_refused(rt, alloc, dictionary, name, &text, ValueFault::TooLong)
+}
+
+#[test]
+fn refuses_longer_texts(rt: HostRuntime) -> Result<(), Fail> {
+    let dictionary = read_lines(rt.alloc())?;
     let names: [(&[u8], usize); 2] = [(b"Class", 253), (b"User-Password", 128)];
     for (name, most) in names {
-        let text = repeated(alloc, b'a', most)?;
-        pair_of(alloc, &dictionary, name, &text)?;
-        let text = repeated(alloc, b'a', most + 1)?;
-        expect_refused(&rt, alloc, &dictionary, name, &text, ValueFault::TooLong)?;
+        expect_most(&rt, rt.alloc(), &dictionary, name, most)?;
     }
     Ok(())
 }
 
+// More octets than can be hidden.
 #[test]
-fn hides_no_last_nul(rt: HostRuntime) -> Result<(), Fail> {
-    let alloc = rt.alloc();
-    let dictionary = read_lines(alloc)?;
-    let hidden: [(&[u8], &[u8]); 2] = [(b"User-Password", b"a\0"), (b"Secret-Octets", b"0x6100")];
-    for (name, text) in hidden {
-        expect_refused(&rt, alloc, &dictionary, name, text, ValueFault::TooLong)?;
-    }
-    let rows: [Row; 3] = [
-        (b"User-Password", b"a\0b", b"a\0b", b"\"a\\000b\""),
-        (b"Class", b"a\0", b"a\0", b"0x6100"),
-        (b"Cisco-AVPair", b"a=b", b"a=b", b"\"a=b\""),
-    ];
-    expect_values(&rt, alloc, &dictionary, &rows)?;
-    let octets = repeated(alloc, b'a', 129)?;
-    let raw = dictionary.value_of_bytes(alloc, AttrId::Plain(2), &octets)?;
+fn keeps_octets_that_are_no_value(rt: HostRuntime) -> Result<(), Fail> {
+    let dictionary = read_lines(rt.alloc())?;
+    let octets = vec![in rt.alloc(); b'a'; 129]?;
+    let raw = dictionary.value_of_bytes(rt.alloc(), AttrId::Plain(2), &octets)?;
     assert!(rt; raw == Value::Raw(Octets::from_vec(octets)));
-    Ok(())
-}
-
-#[test]
-fn bars_names_before_reading(rt: HostRuntime) -> Result<(), Fail> {
-    let alloc = rt.alloc();
-    let dictionary = read_lines(alloc)?;
-    let rows: [(&[u8], &[u8]); 5] = [
-        (b"Attr-26", b"0x00"),
-        (b"Vendor-Specific", b"x"),
-        (b"Attr-241", b"0x00"),
-        (b"Attr-246", b"x"),
-        (b"Attr-2", b"x"),
-    ];
-    for (name, text) in rows {
-        expect_refused(&rt, alloc, &dictionary, name, text, ValueFault::NotWritable)?;
-    }
     Ok(())
 }
 

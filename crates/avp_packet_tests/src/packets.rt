@@ -1,11 +1,11 @@
 //! Digests, hiding, and packets from outside.
 
-use crate::written::{write_accept, write_request};
+use crate::written::{Given, Row, pairs_of, write_accept, write_request};
 use avp_dict::Dictionary;
-use avp_lists::{AttrId, Pair, Value};
+use avp_lists::AttrId;
 use avp_packet::{ACCESS_REQUEST, HideFault, PacketFault, check_reply, decode, hide, unhide};
 use md5::{Digest, Md5};
-use samples::{octets, read_dictionary, test_dictionary};
+use samples::{read_dictionary, test_dictionary};
 use std::alloc::Global;
 use std::process::Abort;
 use std::test::Fail;
@@ -30,43 +30,18 @@ const REPLY: [u8; 38] = [
     0x0e, 0x06, 0xc0, 0xa8, 0x01, 0x03,
 ];
 
-fn request_of_four(alloc: Global) -> Result<Vec<Pair>, Fail> {
-    let mut pairs = Vec::new(alloc);
-    pairs.push(Pair {
-        id: AttrId::Plain(1),
-        value: Value::Text(octets(alloc, b"nemo")?),
-    })?;
-    pairs.push(Pair {
-        id: AttrId::Plain(2),
-        value: Value::Text(octets(alloc, b"arctangent")?),
-    })?;
-    pairs.push(Pair {
-        id: AttrId::Plain(4),
-        value: Value::Addr([192, 168, 1, 16]),
-    })?;
-    pairs.push(Pair {
-        id: AttrId::Plain(5),
-        value: Value::Int(3),
-    })?;
-    Ok(pairs)
-}
+const REQUEST_PAIRS: [Row; 4] = [
+    (AttrId::Plain(1), Given::Text(b"nemo")),
+    (AttrId::Plain(2), Given::Text(b"arctangent")),
+    (AttrId::Plain(4), Given::Addr([192, 168, 1, 16])),
+    (AttrId::Plain(5), Given::Int(3)),
+];
 
-fn reply_of_three(alloc: Global) -> Result<Vec<Pair>, Fail> {
-    let mut pairs = Vec::new(alloc);
-    pairs.push(Pair {
-        id: AttrId::Plain(6),
-        value: Value::Int(1),
-    })?;
-    pairs.push(Pair {
-        id: AttrId::Plain(15),
-        value: Value::Int(0),
-    })?;
-    pairs.push(Pair {
-        id: AttrId::Plain(14),
-        value: Value::Addr([192, 168, 1, 3]),
-    })?;
-    Ok(pairs)
-}
+const REPLY_PAIRS: [Row; 3] = [
+    (AttrId::Plain(6), Given::Int(1)),
+    (AttrId::Plain(15), Given::Int(0)),
+    (AttrId::Plain(14), Given::Addr([192, 168, 1, 3])),
+];
 
 #[test]
 fn digests(rt: HostRuntime) {
@@ -99,62 +74,65 @@ fn expect_hidden(
     Ok(())
 }
 
+const LONG: [u8; 129] = [b'p'; 129];
+
 #[test]
 fn hides_and_shows(rt: HostRuntime) -> Result<(), Fail> {
-    let alloc = rt.alloc();
-    let long = vec![in alloc; b'p'; 129]?;
-    expect_hidden(&rt, alloc, b"", 16)?;
-    expect_hidden(&rt, alloc, &long[..16], 16)?;
-    expect_hidden(&rt, alloc, &long[..17], 32)?;
-    expect_hidden(&rt, alloc, &long[..128], 128)?;
-    assert_eq!(rt;
-        hide(alloc, SECRET, &AUTHENTICATOR, &long).err(),
-        Some(HideFault::TooLong)
-    );
-    assert_eq!(rt;
-        hide(alloc, SECRET, &AUTHENTICATOR, b"a\0").err(),
-        Some(HideFault::TooLong)
-    );
-    assert!(rt; unhide(alloc, SECRET, &AUTHENTICATOR, &long[..15])?.is_none());
+    for (count, length) in [(0, 16), (16, 16), (17, 32), (128, 128)] {
+        expect_hidden(&rt, rt.alloc(), &LONG[..count], length)?;
+    }
+    Ok(())
+}
+
+#[test]
+fn hides_no_more_than_can_be_shown(rt: HostRuntime) -> Result<(), Fail> {
+    let passwords: [&[u8]; 2] = [&LONG, b"a\0"];
+    for password in passwords {
+        let refused = hide(rt.alloc(), SECRET, &AUTHENTICATOR, password).err();
+        assert_eq!(rt; refused, Some(HideFault::TooLong));
+    }
+    assert!(rt; unhide(rt.alloc(), SECRET, &AUTHENTICATOR, &LONG[..15])?.is_none());
+    Ok(())
+}
+
+fn expect_request(rt: &impl Abort, alloc: Global, dictionary: &Dictionary) -> Result<(), Fail> {
+    let packet = decode(alloc, dictionary, SECRET, &REQUEST)?;
+    assert_eq!(rt; (packet.code, packet.id), (ACCESS_REQUEST, 0));
+    assert_eq!(rt; packet.authenticator, AUTHENTICATOR);
+    let list = pairs_of(alloc, &REQUEST_PAIRS)?;
+    assert!(rt; packet.list.as_slice() == list.as_slice());
     Ok(())
 }
 
 #[test]
 fn reads_a_request(rt: HostRuntime) -> Result<(), Fail> {
-    let alloc = rt.alloc();
-    let dictionary = test_dictionary(alloc)?;
-    let packet = decode(alloc, &dictionary, SECRET, &REQUEST)?;
-    assert_eq!(rt; packet.code, ACCESS_REQUEST);
-    assert_eq!(rt; packet.id, 0);
-    assert_eq!(rt; packet.authenticator, AUTHENTICATOR);
-    assert!(rt; packet.list.as_slice() == request_of_four(alloc)?.as_slice());
-    Ok(())
+    let dictionary = test_dictionary(rt.alloc())?;
+    expect_request(&rt, rt.alloc(), &dictionary)
+}
+
+fn written_request(alloc: Global, dictionary: &Dictionary) -> Result<Vec<u8>, Fail> {
+    let list = pairs_of(alloc, &REQUEST_PAIRS)?;
+    let code = ACCESS_REQUEST;
+    write_request(alloc, dictionary, SECRET, code, 0, &AUTHENTICATOR, &list)
 }
 
 #[test]
 fn writes_a_request(rt: HostRuntime) -> Result<(), Fail> {
-    let alloc = rt.alloc();
-    let dictionary = test_dictionary(alloc)?;
-    let list = request_of_four(alloc)?;
-    let octets = write_request(
-        alloc,
-        &dictionary,
-        SECRET,
-        ACCESS_REQUEST,
-        0,
-        &AUTHENTICATOR,
-        &list,
-    )?;
+    let dictionary = test_dictionary(rt.alloc())?;
+    let octets = written_request(rt.alloc(), &dictionary)?;
     assert_eq!(rt; octets.as_slice(), REQUEST.as_slice());
     Ok(())
 }
 
+fn written_reply(alloc: Global, dictionary: &Dictionary) -> Result<Vec<u8>, Fail> {
+    let list = pairs_of(alloc, &REPLY_PAIRS)?;
+    write_accept(alloc, dictionary, SECRET, &AUTHENTICATOR, &list, false)
+}
+
 #[test]
 fn writes_a_reply(rt: HostRuntime) -> Result<(), Fail> {
-    let alloc = rt.alloc();
-    let dictionary = test_dictionary(alloc)?;
-    let list = reply_of_three(alloc)?;
-    let octets = write_accept(alloc, &dictionary, SECRET, &AUTHENTICATOR, &list, false)?;
+    let dictionary = test_dictionary(rt.alloc())?;
+    let octets = written_reply(rt.alloc(), &dictionary)?;
     assert_eq!(rt; octets.as_slice(), REPLY.as_slice());
     Ok(())
 }
@@ -174,81 +152,50 @@ fn checks_a_reply(rt: HostRuntime) {
     assert!(rt; !check_reply(&longer, &AUTHENTICATOR, SECRET));
 }
 
-fn expect_refused(
-    rt: &impl Abort,
-    alloc: Global,
-    dictionary: &Dictionary,
-    head: [u8; 4],
-    attributes: &[u8],
-    fault: PacketFault,
-) -> Result<(), Fail> {
+// The first four octets of packets with an authenticator of zeros, what is behind it, and why they are refused.
+const REFUSED: [([u8; 4], &[u8], PacketFault); 7] = [
+    ([1, 0, 0, 0x13], b"", PacketFault::LengthOutOfRange),
+    ([1, 0, 0x10, 1], b"", PacketFault::LengthOutOfRange),
+    ([1, 0, 0, 0x16], b"", PacketFault::CutShort),
+    ([1, 0, 0, 0x16], &[1, 1], PacketFault::BadAttribute(20)),
+    (
+        [1, 0, 0, 0x17],
+        &[1, 4, 0x70],
+        PacketFault::BadAttribute(20),
+    ),
+    ([2, 0, 0, 0x14], b"", PacketFault::CodeNotTaken),
+    ([4, 0, 0, 0x14], b"", PacketFault::WrongAuthenticator),
+];
+
+fn packet_with_head(alloc: Global, head: [u8; 4], attributes: &[u8]) -> Result<Vec<u8>, Fail> {
     let mut octets = Vec::from_slice(alloc, &head)?;
     octets.resize(20, 0)?;
     octets.extend_from_slice(attributes)?;
-    assert_eq!(rt; decode(alloc, dictionary, b"s", &octets).err(), Some(fault));
+    Ok(octets)
+}
+
+fn expect_refusals(rt: &impl Abort, alloc: Global, dictionary: &Dictionary) -> Result<(), Fail> {
+    for (head, attributes, fault) in REFUSED {
+        let octets = packet_with_head(alloc, head, attributes)?;
+        let refused = decode(alloc, dictionary, b"s", &octets).err();
+        assert_eq!(rt; refused, Some(fault), "{head:?}");
+    }
     Ok(())
 }
 
 #[test]
 fn refuses_requests(rt: HostRuntime) -> Result<(), Fail> {
-    let alloc = rt.alloc();
-    let d = read_dictionary(alloc, b"")?;
-    assert_eq!(rt;
-        decode(alloc, &d, b"s", &[0; 19]).err(),
-        Some(PacketFault::TooShort)
-    );
-    expect_refused(
-        &rt,
-        alloc,
-        &d,
-        [1, 0, 0, 0x13],
-        b"",
-        PacketFault::LengthOutOfRange,
-    )?;
-    expect_refused(
-        &rt,
-        alloc,
-        &d,
-        [1, 0, 0x10, 1],
-        b"",
-        PacketFault::LengthOutOfRange,
-    )?;
-    expect_refused(&rt, alloc, &d, [1, 0, 0, 0x16], b"", PacketFault::CutShort)?;
-    expect_refused(
-        &rt,
-        alloc,
-        &d,
-        [1, 0, 0, 0x16],
-        &[1, 1],
-        PacketFault::BadAttribute(20),
-    )?;
-    expect_refused(
-        &rt,
-        alloc,
-        &d,
-        [1, 0, 0, 0x17],
-        &[1, 4, 0x70],
-        PacketFault::BadAttribute(20),
-    )?;
-    expect_refused(
-        &rt,
-        alloc,
-        &d,
-        [2, 0, 0, 0x14],
-        b"",
-        PacketFault::CodeNotTaken,
-    )?;
-    expect_refused(
-        &rt,
-        alloc,
-        &d,
-        [4, 0, 0, 0x14],
-        b"",
-        PacketFault::WrongAuthenticator,
-    )?;
-    let mut octets = Vec::from_slice(alloc, &[1, 0, 0, 0x14])?;
-    octets.resize(20, 0)?;
-    octets.push(0xff)?;
-    assert!(rt; decode(alloc, &d, b"s", &octets)?.list.as_slice().is_empty());
+    let dictionary = read_dictionary(rt.alloc(), b"")?;
+    let refused = decode(rt.alloc(), &dictionary, b"s", &[0; 19]).err();
+    assert_eq!(rt; refused, Some(PacketFault::TooShort));
+    expect_refusals(&rt, rt.alloc(), &dictionary)
+}
+
+#[test]
+fn looks_at_no_octets_behind_the_length(rt: HostRuntime) -> Result<(), Fail> {
+    let dictionary = read_dictionary(rt.alloc(), b"")?;
+    let octets = packet_with_head(rt.alloc(), [1, 0, 0, 0x14], &[0xff])?;
+    let packet = decode(rt.alloc(), &dictionary, b"s", &octets)?;
+    assert!(rt; packet.list.as_slice().is_empty());
     Ok(())
 }

@@ -1,11 +1,12 @@
 //! Message-Authenticators: packets that are signed, and what is refused of them.
 
-use crate::written::{write_accept, write_request};
-use avp_lists::{AttrId, Pair, Value};
+use crate::written::{Given, Row, packet_of, pairs_of, write_accept, write_request};
+use avp_dict::Dictionary;
+use avp_lists::{AttrId, Pair};
 use avp_packet::{
     ACCESS_REQUEST, ACCOUNTING_REQUEST, PacketFault, check_message, check_reply, decode,
 };
-use samples::{octets, test_dictionary};
+use samples::test_dictionary;
 use std::alloc::Global;
 use std::process::Abort;
 use std::test::Fail;
@@ -21,112 +22,145 @@ const REPLY: [u8; 38] = [
     0x35, 0x78, 0xb9, 0x80, 0x00, 0xf5,
 ];
 
-fn push_raw(alloc: Global, pairs: &mut Vec<Pair>, id: AttrId, value: &[u8]) -> Result<(), Fail> {
-    pairs.push(Pair {
-        id,
-        value: Value::Raw(octets(alloc, value)?),
-    })?;
-    Ok(())
-}
-
 // A name, and a line that asks for a Message-Authenticator.
-fn request_to_sign(alloc: Global) -> Result<Vec<Pair>, Fail> {
-    let mut pairs = Vec::new(alloc);
-    pairs.push(Pair {
-        id: AttrId::Plain(1),
-        value: Value::Text(octets(alloc, b"u")?),
-    })?;
-    push_raw(alloc, &mut pairs, MESSAGE_AUTHENTICATOR, &[0])?;
-    Ok(pairs)
-}
+const TO_SIGN: [Row; 2] = [
+    (AttrId::Plain(1), Given::Text(b"u")),
+    (MESSAGE_AUTHENTICATOR, Given::Raw(&[0])),
+];
 
-// The octets of an Access-Request with this Length and an authenticator of zeros.
-fn packet_of(alloc: Global, length: u8, attributes: &[u8], behind: &[u8]) -> Result<Vec<u8>, Fail> {
-    let mut octets = Vec::from_slice(alloc, &[1, 0, 0, length])?;
-    octets.extend_from_slice(&ZEROS)?;
-    octets.extend_from_slice(attributes)?;
-    octets.extend_from_slice(behind)?;
-    Ok(octets)
-}
-
-// The signed request under a secret, whose digest is computed elsewhere.
-fn expect_signed(
-    rt: &impl Abort,
-    alloc: Global,
-    secret: &[u8],
-    digest: [u8; 16],
-) -> Result<(), Fail> {
-    if secret.is_empty() {
-        return Err(Fail::new("no secret"));
-    }
-    let dictionary = test_dictionary(alloc)?;
-    let list = request_to_sign(alloc)?;
-    let code = ACCESS_REQUEST;
-    let written = write_request(alloc, &dictionary, secret, code, 0, &ZEROS, &list)?;
-    let wanted = packet_of(alloc, 41, &[1, 3, 0x75, 0x50, 0x12], &digest)?;
-    assert_eq!(rt; written.as_slice(), wanted.as_slice());
-    assert!(rt; check_message(&written, &ZEROS, secret));
-    assert!(rt; !check_message(&written, &[1; 16], secret));
-    let packet = decode(alloc, &dictionary, secret, &written)?;
-    assert_eq!(rt; packet.list.as_slice().len(), 2);
-    let mut other = digest;
-    other[15] ^= 1;
-    let turned = packet_of(alloc, 41, &[1, 3, 0x75, 0x50, 0x12], &other)?;
-    assert!(rt; !check_message(&turned, &ZEROS, secret));
-    assert_eq!(rt;
-        decode(alloc, &dictionary, secret, &turned).err(),
-        Some(PacketFault::WrongMessageAuthenticator)
-    );
-    Ok(())
-}
-
-#[test]
-fn signs_a_request(rt: HostRuntime) -> Result<(), Fail> {
-    let alloc = rt.alloc();
-    expect_signed(
-        &rt,
-        alloc,
+// Secrets shorter than, as long as and longer than what MD5 takes at once, and the digests of the signed request by them,
+// computed elsewhere.
+const DIGESTS: [(&[u8], [u8; 16]); 3] = [
+    (
         b"s",
         [
             0x12, 0xc1, 0x0d, 0xa1, 0x8c, 0xe0, 0x4b, 0xb1, 0xfc, 0xf4, 0x2c, 0x68, 0xa7, 0xeb,
             0x68, 0xae,
         ],
-    )
-}
-
-#[test]
-fn signs_by_long_secrets(rt: HostRuntime) -> Result<(), Fail> {
-    let alloc = rt.alloc();
-    expect_signed(
-        &rt,
-        alloc,
+    ),
+    (
         &[b'k'; 64],
         [
             0x3b, 0x23, 0x90, 0x20, 0x9e, 0xff, 0xfc, 0xf0, 0x2a, 0x0d, 0x91, 0xaf, 0x95, 0xd8,
             0x82, 0xa5,
         ],
-    )?;
-    expect_signed(
-        &rt,
-        alloc,
+    ),
+    (
         &[b'k'; 65],
         [
             0xd7, 0xd0, 0xd1, 0x53, 0xba, 0x0d, 0xac, 0x61, 0x98, 0xe2, 0x16, 0xf9, 0xbc, 0x2a,
             0xb3, 0x00,
         ],
-    )
+    ),
+];
+
+// The octets of the signed request with this digest.
+fn signed_request(alloc: Global, digest: &[u8]) -> Result<Vec<u8>, Fail> {
+    let mut attributes = Vec::from_slice(alloc, &[1, 3, 0x75, 0x50, 0x12])?;
+    attributes.extend_from_slice(digest)?;
+    packet_of(alloc, &attributes)
+}
+
+fn expect_signed(
+    rt: &impl Abort,
+    alloc: Global,
+    dictionary: &Dictionary,
+    secret: &[u8],
+    digest: &[u8],
+) -> Result<(), Fail> {
+    assert!(rt; !secret.is_empty());
+    let list = pairs_of(alloc, &TO_SIGN)?;
+    let code = ACCESS_REQUEST;
+    let written = write_request(alloc, dictionary, secret, code, 0, &ZEROS, &list)?;
+    assert_eq!(rt;
+        written.as_slice(),
+        signed_request(alloc, digest)?.as_slice()
+    );
+    assert!(rt; check_message(&written, &ZEROS, secret));
+    assert!(rt; !check_message(&written, &[1; 16], secret));
+    let packet = decode(alloc, dictionary, secret, &written)?;
+    assert_eq!(rt; packet.list.as_slice().len(), 2);
+    Ok(())
+}
+
+#[test]
+fn signs_a_request(rt: HostRuntime) -> Result<(), Fail> {
+    let dictionary = test_dictionary(rt.alloc())?;
+    for (secret, digest) in DIGESTS {
+        expect_signed(&rt, rt.alloc(), &dictionary, secret, &digest)?;
+    }
+    Ok(())
+}
+
+fn expect_refused(
+    rt: &impl Abort,
+    alloc: Global,
+    dictionary: &Dictionary,
+    secret: &[u8],
+    octets: &[u8],
+) {
+    assert!(rt; !secret.is_empty());
+    assert!(rt; !check_message(octets, &ZEROS, secret));
+    let refused = decode(alloc, dictionary, secret, octets).err();
+    assert_eq!(rt; refused, Some(PacketFault::WrongMessageAuthenticator));
+}
+
+// A digest with another last bit.
+fn turned(digest: [u8; 16]) -> [u8; 16] {
+    let mut other = digest;
+    other[15] ^= 1;
+    other
+}
+
+fn expect_other_digests_refused(
+    rt: &impl Abort,
+    alloc: Global,
+    dictionary: &Dictionary,
+) -> Result<(), Fail> {
+    for (secret, digest) in DIGESTS {
+        let octets = signed_request(alloc, &turned(digest))?;
+        expect_refused(rt, alloc, dictionary, secret, &octets);
+    }
+    Ok(())
+}
+
+#[test]
+fn refuses_other_digests(rt: HostRuntime) -> Result<(), Fail> {
+    let dictionary = test_dictionary(rt.alloc())?;
+    expect_other_digests_refused(&rt, rt.alloc(), &dictionary)
+}
+
+// A digest, and a second Message-Authenticator.
+const TWO_DIGESTS: [u8; 34] = [
+    0, 0, 0, 0, 0, 0, 0, 0, 0, 0, 0, 0, 0, 0, 0, 0, 0x50, 0x12, 0, 0, 0, 0, 0, 0, 0, 0, 0, 0, 0, 0,
+    0, 0, 0, 0,
+];
+
+// Two of them, or one of another length, sign nothing.
+#[test]
+fn refuses_two(rt: HostRuntime) -> Result<(), Fail> {
+    let dictionary = test_dictionary(rt.alloc())?;
+    let twice = signed_request(rt.alloc(), &TWO_DIGESTS)?;
+    expect_refused(&rt, rt.alloc(), &dictionary, b"s", &twice);
+    Ok(())
+}
+
+#[test]
+fn refuses_short_ones(rt: HostRuntime) -> Result<(), Fail> {
+    let dictionary = test_dictionary(rt.alloc())?;
+    let short = packet_of(rt.alloc(), &[1, 3, 0x75, 0x50, 3, 0])?;
+    expect_refused(&rt, rt.alloc(), &dictionary, b"s", &short);
+    Ok(())
 }
 
 // The first instance asks for one, with octets or without, and later ones are not sent.
-#[test]
-fn signs_once(rt: HostRuntime) -> Result<(), Fail> {
-    let alloc = rt.alloc();
-    let dictionary = test_dictionary(alloc)?;
-    let mut pairs = Vec::new(alloc);
-    push_raw(alloc, &mut pairs, MESSAGE_AUTHENTICATOR, &[])?;
-    push_raw(alloc, &mut pairs, AttrId::Plain(25), &[7])?;
-    push_raw(alloc, &mut pairs, MESSAGE_AUTHENTICATOR, &[1, 2])?;
-    let written = write_request(alloc, &dictionary, b"s", ACCESS_REQUEST, 0, &ZEROS, &pairs)?;
+fn expect_signed_once(
+    rt: &impl Abort,
+    alloc: Global,
+    dictionary: &Dictionary,
+    list: &[Pair],
+) -> Result<(), Fail> {
+    let written = write_request(alloc, dictionary, b"s", ACCESS_REQUEST, 0, &ZEROS, list)?;
     assert_eq!(rt; written.len(), 41);
     assert_eq!(rt; &written[20..22], [0x50, 0x12].as_slice());
     assert_eq!(rt; &written[38..], [0x19, 3, 7].as_slice());
@@ -134,60 +168,56 @@ fn signs_once(rt: HostRuntime) -> Result<(), Fail> {
     Ok(())
 }
 
-// Two of them, and one of another length, sign nothing.
 #[test]
-fn refuses_two_and_short_ones(rt: HostRuntime) -> Result<(), Fail> {
-    let alloc = rt.alloc();
-    let dictionary = test_dictionary(alloc)?;
-    let mut twice = packet_of(alloc, 59, &[1, 3, 0x75, 0x50, 0x12], &ZEROS)?;
-    twice.extend_from_slice(&[0x50, 0x12])?;
-    twice.extend_from_slice(&ZEROS)?;
-    assert_eq!(rt;
-        decode(alloc, &dictionary, b"s", &twice).err(),
-        Some(PacketFault::WrongMessageAuthenticator)
-    );
-    let short = packet_of(alloc, 26, &[1, 3, 0x75], &[0x50, 3, 0])?;
-    assert_eq!(rt;
-        decode(alloc, &dictionary, b"s", &short).err(),
-        Some(PacketFault::WrongMessageAuthenticator)
-    );
-    Ok(())
+fn signs_once(rt: HostRuntime) -> Result<(), Fail> {
+    let dictionary = test_dictionary(rt.alloc())?;
+    let rows = [
+        (MESSAGE_AUTHENTICATOR, Given::Raw(b"")),
+        (AttrId::Plain(25), Given::Raw(&[7])),
+        (MESSAGE_AUTHENTICATOR, Given::Raw(&[1, 2])),
+    ];
+    let list = pairs_of(rt.alloc(), &rows)?;
+    expect_signed_once(&rt, rt.alloc(), &dictionary, &list)
 }
 
 // In an Accounting-Request it is octets that nobody looks at.
-#[test]
-fn accounting_is_not_signed(rt: HostRuntime) -> Result<(), Fail> {
-    let alloc = rt.alloc();
-    let dictionary = test_dictionary(alloc)?;
-    let list = request_to_sign(alloc)?;
-    let written = write_request(
-        alloc,
-        &dictionary,
-        b"s",
-        ACCOUNTING_REQUEST,
-        0,
-        &ZEROS,
-        &list,
-    )?;
+fn expect_unsigned(
+    rt: &impl Abort,
+    alloc: Global,
+    dictionary: &Dictionary,
+    list: &[Pair],
+) -> Result<(), Fail> {
+    let code = ACCOUNTING_REQUEST;
+    let written = write_request(alloc, dictionary, b"s", code, 0, &ZEROS, list)?;
     assert_eq!(rt; written.len(), 26);
     assert_eq!(rt; &written[20..], [1, 3, 0x75, 0x50, 3, 0].as_slice());
     assert!(rt; !check_message(&written, &ZEROS, b"s"));
-    let packet = decode(alloc, &dictionary, b"s", &written)?;
-    assert!(rt; packet.list.as_slice() == list.as_slice());
+    let packet = decode(alloc, dictionary, b"s", &written)?;
+    assert!(rt; packet.list.as_slice() == list);
     Ok(())
+}
+
+#[test]
+fn accounting_is_not_signed(rt: HostRuntime) -> Result<(), Fail> {
+    let dictionary = test_dictionary(rt.alloc())?;
+    let list = pairs_of(rt.alloc(), &TO_SIGN)?;
+    expect_unsigned(&rt, rt.alloc(), &dictionary, &list)
+}
+
+// The reply to a request with an authenticator of zeros, of a list that asks for a Message-Authenticator.
+fn reply_of(alloc: Global, dictionary: &Dictionary, signed: bool) -> Result<Vec<u8>, Fail> {
+    let list = pairs_of(alloc, &[(MESSAGE_AUTHENTICATOR, Given::Raw(&[1]))])?;
+    write_accept(alloc, dictionary, b"s", &ZEROS, &list, signed)
 }
 
 #[test]
 fn signs_a_reply(rt: HostRuntime) -> Result<(), Fail> {
-    let alloc = rt.alloc();
-    let dictionary = test_dictionary(alloc)?;
-    let mut list = Vec::new(alloc);
-    push_raw(alloc, &mut list, MESSAGE_AUTHENTICATOR, &[1])?;
-    let signed = write_accept(alloc, &dictionary, b"s", &ZEROS, &list, true)?;
+    let dictionary = test_dictionary(rt.alloc())?;
+    let signed = reply_of(rt.alloc(), &dictionary, true)?;
     assert_eq!(rt; signed.as_slice(), REPLY.as_slice());
     assert!(rt; check_reply(&signed, &ZEROS, b"s"));
     assert!(rt; check_message(&signed, &ZEROS, b"s"));
-    let plain = write_accept(alloc, &dictionary, b"s", &ZEROS, &list, false)?;
+    let plain = reply_of(rt.alloc(), &dictionary, false)?;
     assert_eq!(rt; plain.len(), 20);
     assert!(rt; check_reply(&plain, &ZEROS, b"s"));
     Ok(())
