@@ -1,9 +1,10 @@
 // Preloaded into a program, it counts each time that the program asks for memory, and refuses some.
 //
-// GROWTHS names a file of four numbers of eight octets, which is shared with whoever started the program: the first
-// growth to refuse and the last one, both counted from 1, and then what is told, how often the program asked and how
-// often it was refused. Growths before the program's own start are not counted. It is made without headers and
-// without a C library's start files, so that the kit's clang is all that is needed.
+// GROWTHS names a file of six numbers of eight octets, which is shared with whoever started the program: the first
+// growth to refuse and the last one, both counted from 1, and then what is told, how often the program asked, how
+// often it was refused, how many pieces of memory it holds, and how many it held when it last asked. Growths before the
+// program's own start are not counted. It is made without headers and without a C library's start files, so that the
+// kit's clang is all that is needed.
 
 typedef unsigned long size;
 
@@ -11,6 +12,7 @@ extern void *__libc_malloc(size);
 extern void *__libc_calloc(size, size);
 extern void *__libc_realloc(void *, size);
 extern void *__libc_memalign(size, size);
+extern void __libc_free(void *);
 extern int *__errno_location(void);
 extern char *getenv(const char *);
 extern int open(const char *, int, ...);
@@ -19,10 +21,10 @@ extern void *mmap(void *, size, int, int, int, long);
 enum { READ_WRITE = 2, PROT_READ_WRITE = 3, MAP_SHARED = 1, NO_MEMORY = 12 };
 
 struct growths {
-    long first, last, asked, refused;
+    long first, last, asked, refused, held, held_last;
 };
 
-static struct growths nowhere = {0, 0, 0, 0};
+static struct growths nowhere = {0, 0, 0, 0, 0, 0};
 static volatile struct growths *growths = &nowhere;
 
 __attribute__((constructor)) static void begin(void) {
@@ -35,6 +37,7 @@ __attribute__((constructor)) static void begin(void) {
 
 static int is_refused(void) {
     long growth = ++growths->asked;
+    growths->held_last = growths->held;
     if (growth < growths->first || growths->last < growth)
         return 0;
     growths->refused++;
@@ -42,25 +45,39 @@ static int is_refused(void) {
     return 1;
 }
 
+static void *counted(void *made) {
+    if (made)
+        growths->held++;
+    return made;
+}
+
 void *malloc(size octets) {
-    return is_refused() ? 0 : __libc_malloc(octets);
+    return is_refused() ? 0 : counted(__libc_malloc(octets));
 }
 
 void *calloc(size count, size octets) {
-    return is_refused() ? 0 : __libc_calloc(count, octets);
+    return is_refused() ? 0 : counted(__libc_calloc(count, octets));
 }
 
 void *realloc(void *old, size octets) {
-    return is_refused() ? 0 : __libc_realloc(old, octets);
+    if (is_refused())
+        return 0;
+    return old ? __libc_realloc(old, octets) : counted(__libc_malloc(octets));
 }
 
 void *aligned_alloc(size alignment, size octets) {
-    return is_refused() ? 0 : __libc_memalign(alignment, octets);
+    return is_refused() ? 0 : counted(__libc_memalign(alignment, octets));
 }
 
 int posix_memalign(void **made, size alignment, size octets) {
     if (is_refused())
         return NO_MEMORY;
-    *made = __libc_memalign(alignment, octets);
+    *made = counted(__libc_memalign(alignment, octets));
     return *made ? 0 : NO_MEMORY;
+}
+
+void free(void *old) {
+    if (old)
+        growths->held--;
+    __libc_free(old);
 }

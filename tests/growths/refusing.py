@@ -11,7 +11,7 @@ from typing import NamedTuple, Optional, Sequence
 from common.program import Ended, Word, run
 from common.subject import Subject
 
-NUMBERS = struct.Struct("4q")
+NUMBERS = struct.Struct("6q")
 ALL_LATER = 2**62
 SOURCE = Path(__file__).with_name("refuse_growths.c")
 MADE = Path(__file__).parent / "out" / "refuse_growths.so"
@@ -39,11 +39,13 @@ def library(subject: Subject) -> Path:
 
 
 class Refused(NamedTuple):
-    """How a run ended, how often it asked for memory, and how often it was refused."""
+    """How a run ended, how often it asked for memory, how often it was refused, and how many pieces of memory it held
+    when it last asked."""
 
     ended: Ended
     asked: int
     refused: int
+    held: int
 
 
 class Refusals:
@@ -60,7 +62,7 @@ class Refusals:
         self, command: Sequence[Word], folder: Path, first: int, last: Optional[int] = None, stdin: bytes = b""
     ) -> Refused:
         """Runs a command with its growths from the first to the last refused, or the first alone."""
-        NUMBERS.pack_into(self._page, 0, first, first if last is None else last, 0, 0)
+        NUMBERS.pack_into(self._page, 0, first, first if last is None else last, 0, 0, 0, 0)
         ended = run(command, folder, stdin, self._environment)
-        _, _, asked, refused = NUMBERS.unpack_from(self._page)
-        return Refused(ended, asked, refused)
+        _, _, asked, refused, _, held = NUMBERS.unpack_from(self._page)
+        return Refused(ended, asked, refused, held)

@@ -21,7 +21,8 @@ EDITS = [
 ROLLBACKS = [
     *("rollback 1", "rollback 0", "undo", "rollback 2", *["rollback 0"] * 8, "undo", "undo", "rollback 9", "redo"),
 ]
-TO_BOTH_ENDS = [*["undo"] * 20, "list reply", *["redo", "list reply"] * 20]
+LISTS = [f"list {name}" for name in NAMES]
+TO_BOTH_ENDS = [*["undo"] * 20, *LISTS, *["redo", "list reply"] * 20, *LISTS]
 SETTLED = ["undo", "settle", "list reply", "reserve 3", "reserve 60", "control += 1 1", "list control"]
 # The last call that takes memory, and then those that take none: there is room for the rollbacks.
 WITHOUT_MEMORY = [
@@ -41,6 +42,10 @@ REFUSED_EDIT = 2
 # An append to as many pairs as leave room for one, after a call that takes memory.
 TO_MANY = ["reply !* 18 0", "reply !* 25 0", *["reply += 25 1"] * 4095, "list request", "reply += 25 2"]
 MOST_GROWTHS = 10
+# An append and its undo, how many appends are made, and the calls that make a list full.
+UNDONE = ["control += 25 2", "undo"]
+APPENDS = 1000
+FULL = ["reply += 25 1"] * 4092
 KINDS = {"new", "list", "reserve", "rollback", *(f"edit {it}" for it in ("=", ":=", "+=", "^=", "-=", "==", "!*"))}
 
 
@@ -155,6 +160,28 @@ def check_append_to_many(subject: Subject, report: Report) -> None:
     report.check("an append to 4,095 pairs in slots, with every growth after its tenth refused", wrong)
 
 
+def held_after(subject: Subject, report: Report, store: str, calls: List[str], filling: int) -> int:
+    """How many pieces of memory are held at the end of these calls and of others that change nothing."""
+    script = [*calls, *["redo"] * filling]
+    with new_folder() as folder:
+        whole = Refusals(subject, folder).run([str(subject.driver("drive_store")), store, *script], folder, 0)
+    found = follow(script, whole.ended.output.decode())
+    report.check(f"{len(calls)} calls of {store}", [found.fault] if found.fault else [])
+    return whole.held
+
+
+def check_pairs_held(subject: Subject, report: Report) -> None:
+    """What slots hold, by how many pieces of memory there are: one for a pair, and one for the record of a step. Appends
+    that are undone leave one of each at the most, and appends beside a full list one of each for every append. As many
+    words are given each time, so that these take the same."""
+    undone = [held_after(subject, report, "slots", UNDONE * count, 2 * (APPENDS - count)) for count in (0, APPENDS)]
+    wrong = [] if undone[1] <= undone[0] + 2 else [f"there were {undone[0]} pieces of memory, and then {undone[1]}"]
+    report.check(f"{APPENDS} appends in slots, each of them undone, leave one pair at the most", wrong)
+    full = [held_after(subject, report, "slots", FULL + UNDONE[:1] * count, APPENDS - count) for count in (0, APPENDS)]
+    wrong = [] if full[1] <= full[0] + 2 * APPENDS else [f"there were {full[0]} pieces of memory, and then {full[1]}"]
+    report.check(f"{APPENDS} appends beside 4,096 pairs in slots hold no more than {APPENDS} pairs", wrong)
+
+
 def check_sweeps(subject: Subject, report: Report, store: str) -> None:
     """Each script, each growth alone and with all later ones; every kind of call was refused in one of them."""
     works = [(name, all_later) for name in SCRIPTS for all_later in (False, True)]
@@ -175,3 +202,4 @@ def check(subject: Subject, report: Report) -> None:
         check_without_memory(subject, report, store)
         check_later_state(subject, report, store)
     check_append_to_many(subject, report)
+    check_pairs_held(subject, report)

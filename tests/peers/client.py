@@ -81,4 +81,6 @@ def check(subject: Subject, report: Report) -> None:
         (folder / "policy").write_text(POLICY)
         for name, kind, lines, word, turned in wanted:
             heard = said(subject, folder, kind, lines, turned)
-            report.check(f"FreeRADIUS's client: {name}", [] if word in heard else [f"it says {heard!r}"])
+            # What it says of a reply that it refuses begins with the refusal, and then names the reply as received.
+            is_wanted = word in heard and (word == REFUSED or REFUSED not in heard)
+            report.check(f"FreeRADIUS's client: {name}", [] if is_wanted else [f"it says {heard!r}"])
