@@ -14,8 +14,8 @@ use clap::{Arg, ArgAction, ArgMatches};
 use std::alloc::{AllocError, Global};
 use std::convert::AsStr;
 
-// The commands and the options, as they are written. A getter answers a name that a command lacks
-// as an option that was not given, so each is written here alone.
+// The commands and the options, as they are written. A name that a command does not have reads as an
+// option that was not given, so each name is spelled here only.
 const RUN: &str = "run";
 
 const STEP: &str = "step";
@@ -56,6 +56,11 @@ fn request_option<'a>(alloc: Global) -> Arg<'a> {
     file_option(alloc, REQUEST, "REQUEST", help).short('f')
 }
 
+fn packet_option<'a>(alloc: Global) -> Arg<'a> {
+    let help = "The packet, in hexadecimal digits [default: standard input]";
+    file_option(alloc, REQUEST, "PACKET", help).short('f')
+}
+
 fn policy_option<'a>(alloc: Global) -> Arg<'a> {
     file_option(alloc, POLICY, "POLICY", "The policy").long(POLICY)
 }
@@ -74,14 +79,14 @@ fn hex_option<'a>(alloc: Global) -> Arg<'a> {
     Arg::new(alloc, HEX)
         .long(HEX)
         .action(ArgAction::SetTrue)
-        .help("The request is a packet in hexadecimal digits")
+        .help("The request is a packet in hexadecimal digits; needs -S")
 }
 
 fn accounting_option<'a>(alloc: Global) -> Arg<'a> {
     Arg::new(alloc, ACCOUNTING)
         .long(ACCOUNTING)
         .action(ArgAction::SetTrue)
-        .help("The request lines are an Accounting-Request")
+        .help("The request lines are an Accounting-Request, not an Access-Request")
 }
 
 fn identifier_option<'a>(alloc: Global) -> Arg<'a> {
@@ -93,11 +98,13 @@ fn identifier_option<'a>(alloc: Global) -> Arg<'a> {
 }
 
 fn authenticator_option<'a>(alloc: Global) -> Arg<'a> {
+    let help = "The Request Authenticator, 32 hexadecimal digits; \
+        needed with -S for request lines, refused with --acct";
     Arg::new(alloc, AUTHENTICATOR)
         .long(AUTHENTICATOR)
         .value_name("HEX")
         .action(ArgAction::Set)
-        .help("The Request Authenticator, 32 hexadecimal digits")
+        .help(help)
 }
 
 fn dictionary_files<'a>(alloc: Global) -> Arg<'a> {
@@ -135,7 +142,7 @@ fn step_command<'a>(alloc: Global) -> Result<clap::Command<'a>, AllocError> {
 
 fn encode_command<'a>(alloc: Global) -> Result<clap::Command<'a>, AllocError> {
     clap::Command::new(alloc, ENCODE)
-        .about("Makes the packet of request lines")
+        .about("Makes a packet from request lines")
         .arg(request_option(alloc))?
         .arg(accounting_option(alloc))?
         .arg(identifier_option(alloc))?
@@ -147,14 +154,14 @@ fn encode_command<'a>(alloc: Global) -> Result<clap::Command<'a>, AllocError> {
 fn decode_command<'a>(alloc: Global) -> Result<clap::Command<'a>, AllocError> {
     clap::Command::new(alloc, DECODE)
         .about("Shows a packet, given in hexadecimal digits, as lines")
-        .arg(request_option(alloc))?
+        .arg(packet_option(alloc))?
         .arg(secret_option(alloc).required(true))?
         .arg(dictionary_files(alloc))
 }
 
 fn check_command<'a>(alloc: Global) -> Result<clap::Command<'a>, AllocError> {
     clap::Command::new(alloc, CHECK)
-        .about("Checks dictionaries and a policy, and counts what they define")
+        .about("Checks dictionaries and, if given, a policy, and counts what they define")
         .arg(policy_option(alloc))?
         .arg(dictionary_files(alloc))
 }
@@ -163,6 +170,7 @@ fn program<'a>(alloc: Global) -> Result<clap::Command<'a>, AllocError> {
     clap::Command::new(alloc, "radpolicy")
         .bin_name("radpolicy")?
         .about("Runs an unlang policy on a RADIUS request")
+        .after_help("radpolicy COMMAND --help lists a command's options.")
         .subcommand_required(true)
         .disable_help_subcommand(true)
         .subcommand(run_command(alloc)?)?
@@ -172,7 +180,7 @@ fn program<'a>(alloc: Global) -> Result<clap::Command<'a>, AllocError> {
         .subcommand(check_command(alloc)?)
 }
 
-// What a parse that failed comes to.
+// The fault of a parse that failed.
 fn fault_of(error: &clap::Error) -> Fault
     ensures { IsWordFault result }
 {
