@@ -13,7 +13,7 @@ use std::io::Write;
 use std::process::Abort;
 use std::test::Fail;
 
-/// A path and what stands there.
+/// A path and what is there.
 pub type Source<'a> = (&'a str, &'a [u8]);
 
 /// What the program left: its status, its standard output and its standard error.
@@ -46,7 +46,7 @@ impl Write for Narrow {
     }
 }
 
-// What stands at a path, nothing where there is no such path.
+// What is at a path; nothing if there is no such path.
 fn octets_at(alloc: Global, sources: &[Source], path: &str) -> Result<Octets, AllocError> {
     let octets = match sources.iter().find(|source| source.0 == path) {
         Some(source) => Vec::from_slice(alloc, source.1)?,

@@ -133,7 +133,7 @@ fn word(written: &str) -> &str {
     }
 }
 
-// Each line of the table tells what becomes of its words after those in front.
+// Each line of the table says what becomes of its words after those in front.
 fn expect_table(rt: &impl Abort, alloc: Global, front: &str, table: &str) -> Result<(), Fail> {
     for line in table.lines() {
         let (wanted, behind) = line.split_once(" |").ok_or("a bar")?;

@@ -19,7 +19,7 @@ use Rattle.avp_dict.specs.Types.{are_flags, typing_of}
 
 -- ---- the id of a number
 
--- the types of extended attributes, which have a number of their own from this one on
+-- an extended attribute: its type, and a number of its own from the least on
 abbrev pub is_extended : ℕ → ℕ → ℕ → Bool
 is_extended least t x = is_extended_type t && nat_le least x && nat_le x 255
 
@@ -67,7 +67,7 @@ id_word vendors block parts = many_words parts
 unfoldable pub is_attribute_name : List ℕ → Bool
 is_attribute_name name = list_all is_name_octet name && nat_le (length name) most_name && not (begins_as_attr name)
 
--- an earlier line gave the name to another id: the last one tells, since each line of a name agreed with those before it
+-- an earlier line gave the name to another id: the last one decides, since each line of a name agreed with those before it
 abbrev pub is_of_other_id : AttrId → Option AttrId → Bool
 is_of_other_id id None = false
 is_of_other_id id (Some other) = not (id_eq other id)

@@ -45,7 +45,7 @@ most_of _ = None
 abbrev pub most_of_typing : Typing → Option ℕ
 most_of_typing typing = most_of typing.kind
 
--- an earlier VALUE line gave the name another number: the last one tells, since each line of a name agreed with those before it
+-- an earlier VALUE line gave the name another number: the last one decides, since each line of a name agreed with those before it
 abbrev pub is_of_other_number : ℕ → Option ℕ → Bool
 is_of_other_number number None = false
 is_of_other_number number (Some other) = not (other == number)

@@ -42,7 +42,7 @@ format_word word = if nat_lt (length word) 7 then None else (if same_name (take 
 abbrev pub standard_format : VendorFormat
 standard_format = record { t = 1; l = 1; third = false }
 
--- an earlier line gave the name another number: the last one tells, since each line of a name agreed with those before it
+-- an earlier line gave the name another number: the last one decides, since each line of a name agreed with those before it
 abbrev pub is_other_vendor : ℕ → Option ℕ → Bool
 is_other_vendor number None = false
 is_other_vendor number (Some other) = not (other == number)

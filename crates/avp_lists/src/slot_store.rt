@@ -22,7 +22,7 @@ use std::alloc::{AllocError, Global};
 
 /// A store that keeps one set of lists, and what each step turned in them.
 ///
-/// Each pair that enters a list stays in a pool, and a slot tells whether it is shown. A step names the slots that it
+/// Each pair that enters a list stays in a pool, and a slot says whether it is shown. A step names the slots that it
 /// turned, so an edit costs what it changes, and no list is copied.
 #[derive(Drop)]
 pub struct SlotStore {

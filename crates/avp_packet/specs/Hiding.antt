@@ -25,7 +25,7 @@ hidden_blocks (suc n) secret before os =
     let block = masked (md5 (secret ++ before)) (take 16 os) in
     block ++ hidden_blocks n secret block (drop 16 os)
 
--- a password hidden; before the first block stands the authenticator
+-- a password hidden; before the first block comes the authenticator
 unfoldable pub hidden : List ℕ → List ℕ → List ℕ → List ℕ
 hidden secret authenticator password = hidden_blocks (block_count (length password)) secret authenticator (padded password)
 

@@ -46,7 +46,7 @@ pub record Sub : Type 0 where
 abbrev pub sub_length : Format → List ℕ → ℕ
 sub_length f os = if f.l == 0 then length os else number_from_digits 256 (take f.l (drop f.t os))
 
--- a vendor's attribute stands first: its length counts type and length, and runs not past the end
+-- a vendor's attribute comes first: its length counts type and length, and does not run past the end
 abbrev pub begins_sub : Format → List ℕ → Bool
 begins_sub f os = nat_le (f.t + f.l) (length os) && nat_le (f.t + f.l) (sub_length f os) && nat_le (sub_length f os) (length os)
 
@@ -78,7 +78,7 @@ vendor_of os = number_from_digits 256 (take 4 os)
 abbrev pub subs_by : List ℕ → Format → Option (List Sub)
 subs_by os f = if are_subs f (drop 4 os) then Some (subs f (drop 4 os)) else None
 
--- what stands behind the Vendor-Id, by the format of the vendor
+-- what is behind the Vendor-Id, by the format of the vendor
 unfoldable pub vendor_subs : Dictionary → List ℕ → Option (List Sub)
 vendor_subs dictionary os =
     if nat_le 4 (length os)

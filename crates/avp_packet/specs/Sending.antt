@@ -1,4 +1,4 @@
--- Which pairs a packet sends, and where its Message-Authenticator stands among them (RFC 3579, section 3.2).
+-- Which pairs a packet sends, and where its Message-Authenticator is among them (RFC 3579, section 3.2).
 use Rattle.std.specs.Prelude.{Bool, false, if◌then◌else◌, List, [], ◌∷◌, ◌++◌, filter}
 use Rattle.std.specs.List.{before_first, after_first}
 use Rattle.avp_lists.specs.Instances.{has_id, has_instance, is_other}

@@ -3,7 +3,7 @@ use Rattle.std.specs.Prelude.{◌≡◌, ℕ, zero, suc, ◌+◌, ◌-◌, Bool,
 use Rattle.std.specs.List.{flat_map}
 use Rattle.avp_packet.specs.declared.splitting.BadLength.{BadLength}
 
--- an attribute, wherever it stands
+-- an attribute, wherever it is
 pub record Part : Type 0 where
   pub number : ℕ
   pub value : List ℕ
@@ -16,7 +16,7 @@ part_octets part = part.number ∷ (2 + length part.value) ∷ part.value
 abbrev pub is_whole : ℕ → List ℕ → Bool
 is_whole n os = nat_le 2 n && nat_le n (2 + length os)
 
--- a whole attribute stands first
+-- a whole attribute comes first
 abbrev pub begins_whole : List ℕ → Bool
 begins_whole (t ∷ n ∷ os) = is_whole n os
 begins_whole _ = false
@@ -38,16 +38,16 @@ left_behind _ [] = []
 abbrev pub parts : List ℕ → List Part
 parts os = parts_behind 0 os
 
--- what stands behind them
+-- what is behind them
 abbrev pub left : List ℕ → List ℕ
 left os = left_behind 0 os
 
--- octets are these attributes, whole and one after the other, and then what no whole attribute stands first in
+-- octets are these attributes, whole and one after the other, and then what does not begin with a whole attribute
 pub record IsSplit (os : List ℕ) (attributes : List Part) (rest : List ℕ) : Type 0 where
   pub whole : os ≡ flat_map part_octets attributes ++ rest
   pub ends : begins_whole rest ≡ false
 
--- ---- attributes where they stand
+-- ---- attributes where they are
 
 -- an attribute, and where it begins
 pub record Placed : Type 0 where
@@ -68,7 +68,7 @@ abbrev pub fault_in : ℕ → List ℕ → List (Result Placed BadLength)
 fault_in end [] = []
 fault_in end (o ∷ os) = Err (record { offset = end - length (o ∷ os) }) ∷ []
 
--- the attributes of octets that stand at this offset, and as the last item the fault
+-- the attributes of octets that are at this offset, and as the last item the fault
 unfoldable pub items_from : ℕ → List ℕ → List (Result Placed BadLength)
 items_from offset os = placed_from offset (parts os) (fault_in (offset + length os) (left os))
 

@@ -1,4 +1,4 @@
-//! The digests that stand in authenticators (RFC 2865, section 3; RFC 2866, section 3).
+//! The digests in authenticators (RFC 2865, section 3; RFC 2866, section 3).
 
 ghost use Rattle.std.specs.Prelude.{◌≡◌, ◌≤◌, ◌<◌, ◌+◌, ◌∷◌, ◌++◌, length, take, drop};
 ghost use Rattle.std.specs.Int.{to_be_bytes, w16};
@@ -28,7 +28,7 @@ pub(crate) fn is_packet_length(length: usize) -> bool
     length >= HEAD_OCTETS && length <= MOST_PACKET_OCTETS
 }
 
-/// The Length that stands in a packet.
+/// The Length in a packet.
 pub(crate) fn length_in(octets: &[u8]) -> usize
     requires { HEAD_OCTETS ≤ length octets.now }
     ensures { result ≡ length_of octets.now }
@@ -47,7 +47,7 @@ fn digest_of_four(first: &[u8], second: &[u8], third: &[u8], fourth: &[u8]) -> [
     hasher.finalize()
 }
 
-/// The authenticator that stands in a packet.
+/// The authenticator in a packet.
 pub(crate) fn authenticator_in(octets: &[u8]) -> &[u8]
     requires { HEAD_OCTETS ≤ length octets.now }
     ensures { result.now ≡ authenticator_of octets.now }
@@ -55,7 +55,7 @@ pub(crate) fn authenticator_in(octets: &[u8]) -> &[u8]
     &octets[AUTHENTICATOR_PLACE..HEAD_OCTETS]
 }
 
-/// What stands behind the authenticator, up to the end.
+/// What is behind the authenticator, up to the end.
 pub(crate) fn attributes_in(octets: &[u8], end: usize) -> &[u8]
     requires head { HEAD_OCTETS ≤ end }
     requires whole { end ≤ length octets.now }

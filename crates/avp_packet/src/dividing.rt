@@ -74,7 +74,7 @@ pub(crate) fn divide_request(code: u8, list: &[Pair]) -> Division<'_>
     }
 }
 
-/// A reply's list, which stands behind the Message-Authenticator.
+/// A reply's list, which is behind the Message-Authenticator.
 pub(crate) fn divide_reply(signed: bool, list: &[Pair]) -> Division<'_>
     ensures divided { IsDivided (Reply signed) list.now result }
     ensures kept { (q : Pair → Bool) → All (λ p. q p ≡ true) list.now → KeepsAll q result }

@@ -1,4 +1,4 @@
-//! Long values, which stand in pieces (RFC 6929, section 2.2).
+//! Long values, which are in pieces (RFC 6929, section 2.2).
 
 ghost use Rattle.std.specs.Prelude.{◌≡◌, ◌<◌, None, length, IfOk, IfSome, IfNone};
 ghost use Rattle.std.specs.Option.{option_map};

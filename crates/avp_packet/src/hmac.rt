@@ -49,7 +49,7 @@ fn keyed_hasher(pad: &[u8; KEY_OCTETS], key: &[u8; KEY_OCTETS]) -> Md5
     hasher
 }
 
-/// The octets that sign a packet, whose Message-Authenticator stands between those before and those after.
+/// The octets that sign a packet, whose Message-Authenticator is between those before and those after.
 #[tactic(auto, unfolding(crate::specs::Hmac::hmac))]
 pub(crate) fn signature_between(
     secret: &[u8],

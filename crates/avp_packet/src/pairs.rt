@@ -27,7 +27,7 @@ fn extended_type_of(value: &[u8]) -> u8
     }
 }
 
-// Adds the pair of an attribute of type 245 or 246, with those that its value goes on in, and tells what stands behind
+// Adds the pair of an attribute of type 245 or 246, with those that its value goes on in, and gives what is behind
 // them.
 fn push_long<'a>(
     pairs: &mut Vec<Pair>,
@@ -57,7 +57,7 @@ fn push_long<'a>(
     }
 }
 
-// Adds the pairs of the first attribute, with those that its value goes on in, and tells what stands behind them.
+// Adds the pairs of the first attribute, with those that its value goes on in, and gives what is behind them.
 fn push_first<'a>(
     pairs: &mut Vec<Pair>,
     dictionary: &Dictionary,

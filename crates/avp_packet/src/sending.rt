@@ -174,7 +174,7 @@ fn push_list(
     Ok(())
 }
 
-// Adds a blank Message-Authenticator where there is to be one, and tells where it stands.
+// Adds a blank Message-Authenticator where there is to be one, and says where it is.
 fn push_blank(octets: &mut Vec<u8>, signed: bool) -> Result<Option<usize>, EncodeFault>
     requires short { length octets.old.items ≤ MOST_ATTRIBUTE_OCTETS }
     ensures ok { OnOk result (octets.new.items ≡ octets.old.items ++ signature_if signed zeros) }
@@ -193,7 +193,7 @@ fn push_blank(octets: &mut Vec<u8>, signed: bool) -> Result<Option<usize>, Encod
     Ok(Some(place))
 }
 
-/// Attributes as they were written, and where a blank Message-Authenticator stands among them.
+/// Attributes as they were written, and where a blank Message-Authenticator is among them.
 #[derive(Drop)]
 pub(crate) struct Written {
     pub octets: Vec<u8>,

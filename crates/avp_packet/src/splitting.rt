@@ -1,4 +1,4 @@
-//! Attributes, as they stand one after the other (RFC 2865, section 5).
+//! Attributes, one after the other (RFC 2865, section 5).
 
 ghost use Rattle.std.specs.Prelude.{◌≡◌, ◌≤◌, ◌+◌, ◌∷◌, ◌++◌, false, length, IfSome, IfNone};
 ghost use Rattle.avp_packet.specs.AttributeOctets.{part};
@@ -9,7 +9,7 @@ use thiserror::Error;
 /// Octets of an attribute's Type and Length.
 pub(crate) const HEAD_OCTETS: usize = 2;
 
-/// An attribute where it stands.
+/// An attribute, where it is.
 #[derive(Clone, Copy, Debug)]
 pub struct Attribute<'a> {
     pub number: u8,
@@ -34,7 +34,7 @@ pub struct Attributes<'a> {
     ghost within: { offset ≤ length octets.now },
 }
 
-// The first attribute, and what stands behind it.
+// The first attribute, and what is behind it.
 #[derive(Clone, Copy)]
 pub(crate) struct Front<'a> {
     pub number: u8,

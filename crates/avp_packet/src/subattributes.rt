@@ -17,7 +17,7 @@ use std::alloc::AllocError;
 // The octets of a Vendor-Id.
 const VENDOR_ID_OCTETS: usize = 4;
 
-// One of a vendor's attributes, and what stands behind it.
+// One of a vendor's attributes, and what is behind it.
 #[derive(Clone, Copy)]
 struct Sub<'a> {
     number: u32,
@@ -117,7 +117,7 @@ fn push_subs(
     Ok(())
 }
 
-// The format of a vendor whose attributes stand behind the Vendor-Id.
+// The format of a vendor whose attributes are behind the Vendor-Id.
 #[tactic(auto, unfolding(crate::specs::Meanings::vendor_subs))]
 fn format_behind(dictionary: &Dictionary, value: &[u8]) -> Option<Format>
     ensures known { IfSome result (λ f. vendor_subs dictionary.now value.now ≡ Some (subs f (drop 4 value.now))) }

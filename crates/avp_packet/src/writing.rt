@@ -66,7 +66,7 @@ fn push_number(octets: &mut Vec<u8>, count: u8, number: u32) -> Result<(), Alloc
     }
 }
 
-// Adds what stands in an attribute before the value of a vendor's own.
+// Adds what comes in an attribute before the value of a vendor's own.
 fn push_vendor_head(
     octets: &mut Vec<u8>,
     format: Format,

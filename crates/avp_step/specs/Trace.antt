@@ -15,16 +15,16 @@ use Rattle.avp_unlang.specs.declared.tree.Statement.TheOpen.{Statement-F, Branch
 use Rattle.avp_step.specs.declared.labels.Label.{Label}
 use Rattle.avp_step.specs.declared.labels.Label.TheVariants as label
 
--- A step: what it did, and where the run stands after it. Where steps begin, the run is not stopped.
+-- A step: what it did, and where the run is after it. Where steps begin, the run is not stopped.
 pub record Entry : Type 0 where
   pub label : Label
   pub outcome : Outcome
 
--- the steps that follow where a run stands
+-- the steps that follow where a run is
 abbrev pub Steps : Type 0
 Steps = Outcome → List Entry
 
--- where a run stands after these steps
+-- where a run is after these steps
 abbrev pub end_of : Outcome → List Entry → Outcome
 end_of o [] = o
 end_of o (e ∷ es) = end_of e.outcome es

@@ -20,7 +20,7 @@ pub record Walk : Type 0 where
 abbrev pub entry_at : Walk → ℕ → Entry
 entry_at w k = slice_index_or w.trace k (start empty_state)
 
--- the entry at which a walk stands
+-- the entry at which a walk is
 abbrev pub entry : Walk → Entry
 entry w = entry_at w w.position
 
@@ -59,7 +59,7 @@ IsLineLabel (label.Line n) = Unit {0}
 IsLineLabel (label.Failed n k) = Unit {0}
 IsLineLabel _ = ⊥
 
--- a walk to the end that was refused stands before the step of an update line: which one is left open
+-- a walk to the end that was refused is before the step of an update line: which one is left open
 pub record IsHeldUp (old new : Walk) : Type 0 where
   pub dictionary : new.dictionary ≡ old.dictionary
   pub trace : new.trace ≡ old.trace

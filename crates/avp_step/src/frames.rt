@@ -48,7 +48,7 @@ pub fn put<'a>(frames: &mut Vec<Frame<'a>>, frame: Frame<'a>)
     }
 }
 
-// Opens a statement: an update and an `if` stand on the frames from now on, another comes next.
+// Opens a statement: an update or an `if` is put on the frames, any other statement comes next.
 fn open_statement<'a>(
     frames: &mut Vec<Frame<'a>>,
     statement: &'a Statement,
@@ -79,7 +79,7 @@ fn open_statement<'a>(
     }
 }
 
-// Opens a block: its first statement is opened, and the others stand on the frames.
+// Opens a block: its first statement is opened, and the others are put on the frames.
 fn open_block<'a>(
     frames: &mut Vec<Frame<'a>>,
     statements: &'a [Statement],
@@ -103,7 +103,7 @@ fn open_block<'a>(
     open_statement(frames, first, place)
 }
 
-// Opens the branches of an `if`: one of them comes next, or else its last block stands on the frames.
+// Opens the branches of an `if`: one of them comes next, or else its last block is put on the frames.
 fn open_branches<'a>(
     frames: &mut Vec<Frame<'a>>,
     branches: &'a [Branch],

@@ -191,7 +191,7 @@ impl<'a, S: Store> Stepper<'a, S> {
         while self.back() {}
     }
 
-    /// Forward to the end. After a refusal it stands where the refused step began.
+    /// Forward to the end. After a refusal it is where the refused step began.
     pub fn run_to_end(&mut self) -> Result<(), AllocError>
         ensures end { OnOk result (self.new ≡ moved_to_end self.old) }
         ensures refused { OnErr result (IsHeldUp self.old self.new) }

@@ -7,7 +7,7 @@ use Rattle.avp_unlang.specs.declared.faults.PolicyKind.TheVariants.{Memory}
 abbrev pub Form : Type 0 → Type 0 → Type 1
 Form S A = S → A → S → Type 0
 
--- step p rest: what is wanted stands at p, and reading goes on at rest
+-- step p rest: what is wanted is at p, and reading goes on at rest
 abbrev pub Step : Type 0 → Type 1
 Step S = S → S → Type 0
 

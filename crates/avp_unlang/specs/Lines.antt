@@ -17,7 +17,7 @@ use Rattle.avp_unlang.specs.Sources.{SourceIs}
 use Rattle.avp_unlang.specs.Steps.{Counts, Follows}
 use Rattle.avp_unlang.specs.Tokens.{next_token}
 
--- the place after an `&`, where one stands
+-- the place after an `&`, if there is one
 abbrev pub after_reference_from : Place → Token × Place → Place
 after_reference_from p (Operator sign.Reference, rest) = rest
 after_reference_from p _ = p

@@ -17,7 +17,7 @@ use Rattle.avp_unlang.specs.declared.tree.Statement.{Statement}
 use Rattle.avp_unlang.specs.declared.tree.Statement.TheFolds.{fold-Statement}
 use Rattle.avp_unlang.specs.declared.tree.Statement.TheOpen.{Statement-F, Branch-F, Update, If, Transaction, Word}
 
--- ---- where a run stands
+-- ---- where a run is
 
 pub record Outcome : Type 0 where
   pub state : State

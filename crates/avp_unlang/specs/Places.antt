@@ -1,4 +1,4 @@
--- Where the reading of a policy text stands.
+-- How far a policy text has been read.
 use Rattle.std.specs.Prelude.{ℕ, ◌-◌, nat_le, if◌then◌else◌, List, Option, Some, None}
 
 -- the octets still to be read, the line that they begin on, and how much may still be added to the policy's size

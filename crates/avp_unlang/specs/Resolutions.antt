@@ -37,7 +37,7 @@ value_put dictionary id value = printed_text id value dictionary
 abbrev pub pair_put : Dictionary → Pair → List ℕ
 pair_put dictionary pair = value_put dictionary pair.id pair.value
 
--- octets as they stand, or the first instance; nothing is put in where there is none
+-- octets as they are, or the first instance; nothing is put in where there is none
 abbrev pub part_text : Dictionary → State → Part → List ℕ
 part_text dictionary s (part.Text os) = os
 part_text dictionary s (part.Instance list id) =

@@ -92,7 +92,7 @@ abbrev pub is_removal : Op → Bool
 is_removal op.RemoveAll = true
 is_removal _ = false
 
--- After `!*` the source is not looked at; the other operators stand only after an attribute that has values of its own.
+-- After `!*` the source is not looked at; the other operators come only after an attribute that has values of its own.
 abbrev pub SourceBy : Bool → Dictionary → Named → Form Place Source
 SourceBy true dictionary name p source rest = IgnoredIs p rest × (source ≡ Any)
 SourceBy false dictionary name p source rest =

@@ -39,7 +39,7 @@ abbrev pub word_length : List ℕ → ℕ
 word_length [] = 0
 word_length (c ∷ cs) = if is_in_word c cs then word_length cs + 1 else 0
 
--- The octets before the closing quote, which stands on the same line and is not escaped by a `\`.
+-- The octets before the closing quote, which is on the same line and is not escaped by a `\`.
 abbrev pub quoted_length : ℕ → Bool → List ℕ → Option ℕ
 quoted_length closing escaped [] = None
 quoted_length closing escaped (c ∷ cs) =

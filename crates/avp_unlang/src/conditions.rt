@@ -38,7 +38,7 @@ fn relation_of(token: &Token) -> Option<Relation>
     }
 }
 
-// Whether a `%{` stands in a text with no `\` before either octet.
+// Whether there is a `%{` in a text with no `\` before either octet.
 fn has_expansion(text: &[u8]) -> bool
     ensures { result ≡ has_expansion false text.now }
 {

@@ -1,4 +1,4 @@
-//! Where the reading of a policy text stands.
+//! How far a policy text has been read.
 
 ghost use Rattle.std.specs.Prelude.{◌≡◌, ◌≢◌, ◌≤◌, ◌<◌, ◌+◌, ◌^◌, length, IfSome, IfNone, IfOk, false};
 ghost use Rattle.avp_unlang.specs.Forms.{Takes};

@@ -7,7 +7,7 @@ use thiserror::Error;
 /// Why a policy text was refused.
 #[derive(Clone, Copy, Debug, PartialEq, Eq, Error)]
 pub enum PolicyKind {
-    /// No token begins here, or a text between double quotes has a `%` that may not stand there.
+    /// No token begins here, or a text between double quotes has a `%` that may not be there.
     #[error("unreadable token")]
     Unreadable,
     #[error("token does not fit")]

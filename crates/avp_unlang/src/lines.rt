@@ -15,7 +15,7 @@ use avp_dict::{Dictionary, Named};
 use avp_lists::{List, Op};
 use std::alloc::Global;
 
-// The place after an `&`, where one stands.
+// The place after an `&`, if there is one.
 #[tactic(auto, unfolding(crate::specs::Lines::after_reference))]
 fn after_reference<'a>(at: Cursor<'a>) -> Cursor<'a>
     ensures same { result ≡ after_reference at.entry }

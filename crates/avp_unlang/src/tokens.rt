@@ -71,7 +71,7 @@ pub(crate) enum Sign {
 pub(crate) enum Token<'a> {
     Operator(Sign),
     Word(Excerpt<'a>),
-    /// The octets between the quotes, as they stand in the text.
+    /// The octets between the quotes, as they are in the text.
     Quoted(QuoteMark, Excerpt<'a>),
     /// No token begins here.
     Unreadable,

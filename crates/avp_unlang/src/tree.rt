@@ -9,7 +9,7 @@ use avp_lists::{AttrId, List, Octets, Op, Value};
 /// A part of a text in which values are put.
 #[derive(Debug, Drop)]
 pub enum Part {
-    /// Octets as they stand.
+    /// Octets as they are.
     Text(Octets),
     /// `%{list:name}`: the first instance of the attribute.
     Instance(List, AttrId),

@@ -200,7 +200,7 @@ const QUOTED: [Row; 19] = [
         "update { Reply-Message := \"5% %{Nosuch}\" }",
         Err((PolicyKind::Unreadable, 1)),
     ),
-    // What stands in `%{..}`.
+    // What is in `%{..}`.
     ("update { Reply-Message := \"%{Attr-2}\" }", Ok(1)),
     ("update { NAS-Port := \"%{reply:User-Name}1\" }", Ok(1)),
     (
@@ -227,7 +227,7 @@ const QUOTED: [Row; 19] = [
         "update { Reply-Message := \"%{Vendor-Specific}\" }",
         Err((PolicyKind::NotWritable, 1)),
     ),
-    // `%\{` is no expansion; in a condition none may stand, and `%%` is two octets.
+    // `%\{` is no expansion; in a condition there may be none, and `%%` is two octets.
     (
         "if (Reply-Message == \"%\\{x}\" && Reply-Message != \"5%\") { }",
         Ok(1),

@@ -77,7 +77,7 @@ fn make<S: Store>(rt: &HostRuntime, store: &mut S, call: Call) -> io::Result<()>
     println!(rt; "{answer}")
 }
 
-// Prints what a store tells without memory.
+// Prints what a store shows without memory.
 fn show<S: Store>(rt: &HostRuntime, store: &S) -> io::Result<()> {
     println!(rt;
         "place {} steps {} room {} pairs {} {} {} first {:?}",

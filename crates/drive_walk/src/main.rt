@@ -1,4 +1,4 @@
-//! Walks over the run of a policy, and prints the answer of each move and where the walk then stands, also after a
+//! Walks over the run of a policy, and prints the answer of each move and where the walk then is, also after a
 //! refused step. The tests run it with growths refused. Its words: the store, the texts of a dictionary, of a
 //! request and of a policy, and then the moves.
 #![tactic(auto)]
@@ -26,7 +26,7 @@ fn dictionary_of(alloc: Global, text: &str) -> io::Result<Dictionary> {
     Dictionary::read(alloc, &set).map_err(|_| io::ErrorKind::InvalidData.into())
 }
 
-// Prints where a walk stands: what it tells without memory, and the lists.
+// Prints where a walk is: what it shows without memory, and the lists.
 fn show<S: Store>(rt: &HostRuntime, stepper: &Stepper<S>) -> io::Result<()> {
     println!(rt;
         "at {} {:?} {:?} {}",

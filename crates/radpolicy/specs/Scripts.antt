@@ -27,7 +27,7 @@ word_named text =
     else if bytes_eq text (codes "show") then Some word.Show
     else None
 
--- the words of a line: what stands between blanks
+-- the words of a line: what is between blanks
 abbrev pub line_words : List ℕ → List (List ℕ)
 line_words line = filter is_word (slice_split is_blank line)
 
@@ -62,12 +62,12 @@ moved move.Back w = moved_back w
 moved move.Start w = moved_to_start w
 moved move.End w = moved_to_end w
 
--- where a walk stands after a word
+-- where a walk is after a word
 abbrev pub after_word : ScriptWord → Walk → Walk
 after_word (word.Make m) w = moved m w
 after_word word.Show w = w
 
--- where a walk stands after a script
+-- where a walk is after a script
 abbrev pub after_script : List ScriptWord → Walk → Walk
 after_script [] w = w
 after_script (x ∷ xs) w = after_script xs (after_word x w)

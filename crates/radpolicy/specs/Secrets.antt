@@ -24,7 +24,7 @@ abbrev pub usable : List ℕ → Option (List ℕ)
 usable [] = None
 usable secret = Some secret
 
--- No file, and no secret; or the secret of the job's file; none of both where that has no octets.
+-- Without a file there is no secret; with one it is the file's, which is refused (`None`) if it has no octets.
 abbrev pub secret_from : Option (List ℕ) → Option (Option (List ℕ))
 secret_from None = Some None
 secret_from (Some file) = elim (usable (secret_in file)) [ None ↦ None | Some secret ↦ Some (Some secret) ]

@@ -15,7 +15,7 @@ pub struct OutputError;
 
 /// Something that takes octets.
 pub trait Output {
-    // The octets that it took, where it tells them.
+    // The octets that it took, where these can be known.
     ghost taken: { Self → Option (List ℕ) };
 
     // Whether it has failed.

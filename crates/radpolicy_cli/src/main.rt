@@ -113,7 +113,7 @@ fn job_of<'a>(rt: &HostRuntime, plan: &Plan<'a>) -> Result<Job, Unread<'a>>
     })
 }
 
-// Prints a fault's line, and gives its status, which tells of the fault even if the line could not
+// Prints a fault's line, and gives its status, which is that of the fault even if the line could not
 // be printed.
 fn refuse(rt: &HostRuntime, fault: &Fault, files: &FileSet) -> u8
     requires { IsPrintedWith files.now fault.now }

@@ -14,7 +14,7 @@ use crate::file::words::is_same_name;
 pub const MOST_LINES: usize = 200_000;
 /// Includes go so many files deep.
 pub const MOST_DEPTH: usize = 8;
-/// How many files may be open, each included by the one before it.
+/// How many files may be open at once: the main one, and one for each include in it.
 pub const MOST_LEVELS: usize = MOST_DEPTH + 1;
 
 /// A line, where it is, and how many includes led to it.

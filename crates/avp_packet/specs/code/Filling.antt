@@ -15,7 +15,7 @@ abbrev pub kept : Bool → List Pair → List Pair
 kept true pairs = pairs
 kept false pairs = without_signatures pairs
 
--- what stands before and behind the Message-Authenticator, if there is one
+-- what is before and behind the Message-Authenticator, if there is one
 pub record IsDivided (kind : Kind) (pairs : List Pair) (division : Division) : Type 0 where
   pub before : division.before.now ≡ before_signature kind pairs
   pub signed : division.signed ≡ is_to_sign kind pairs

@@ -99,7 +99,7 @@ onward dictionary at None fs o = rest dictionary at fs o
 onward dictionary at (Some n) fs o =
     then_steps (next_steps dictionary at n) (rest dictionary at fs) o
 
--- from where a run stands with this stop, and with the state at this place, the steps are the same
+-- from where a run is with this stop, and with the state at this place, the steps are the same
 pub record IsSame (t : Dictionary → States → Steps) (next : Option Next) (new : List Frame)
     (stopped : Bool) (place : ℕ) : Type 0 where
   pub same : (dictionary : Dictionary) (at : States) (o : Outcome)

@@ -13,7 +13,7 @@ use Rattle.avp_step.specs.code.Frames.{States, rest}
 use Rattle.avp_step.specs.declared.frames.Frame.{Frame}
 use Rattle.avp_step.specs.declared.marks.Mark.{Mark}
 
--- where a run stands, by its last mark and its store
+-- where a run is, by its last mark and its store
 abbrev pub standing : Mark → History → Outcome
 standing m h = record { state = present h; code = m.code; stopped = m.stopped }
 
