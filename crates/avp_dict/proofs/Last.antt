@@ -3,7 +3,7 @@ use Rattle.std.proofs.Common.{◌≡◌, ℕ, suc, Bool, true, false, cond, List
 use Rattle.std.proofs.lemmas.List.Elements.{All-head, All-tail}
 use Rattle.std.proofs.lemmas.List.{reverse-append}
 use Rattle.avp_dict.specs.Dictionary.{last_where}
-use Rattle.avp_dict.specs.code.Tables.{last_place}
+use Rattle.avp_dict.specs.internal.Tables.{last_place}
 
 module _ {X : Type 0} (test : X → Bool) where
   abbrev after : X → Option ℕ → Option ℕ

@@ -9,7 +9,7 @@ use Rattle.avp_dict.specs.declared.request.tokens.Side.{Side}
 use Rattle.avp_dict.specs.declared.request.tokens.Side.TheVariants.{Name, Value}
 use Rattle.avp_dict.specs.RequestLines.{Place, Outside, Between, Escaped, Token, Comma, Sign, Run, Quoted, Unended, is_filled, onto_quoted, onto_run, place_between, quote_octet, tokens_at, tokens_from}
 use Rattle.avp_dict.specs.Words.{is_blank}
-use Rattle.avp_dict.specs.code.RequestTokens.{ends_run}
+use Rattle.avp_dict.specs.internal.RequestTokens.{ends_run}
 
 -- ---- single octets
 

@@ -14,7 +14,7 @@ use Rattle.avp_lists.specs.declared.attributes.AttrId.{AttrId}
 use Rattle.avp_lists.specs.declared.attributes.AttrId.TheVariants.{Plain, Vendor, Extended}
 use Rattle.avp_lists.specs.Pairs.{id_eq}
 use Rattle.avp_dict.specs.Dictionary.{last_where, with_key}
-use Rattle.avp_dict.specs.code.Tables.{IsTable, id_key, last_place, same_id_key}
+use Rattle.avp_dict.specs.internal.Tables.{IsTable, id_key, last_place, same_id_key}
 use Rattle.avp_dict.proofs.Last.{last_found, last_place_kept}
 
 -- the keys of ids tell them apart

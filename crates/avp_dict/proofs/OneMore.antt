@@ -14,9 +14,9 @@ use Rattle.avp_dict.specs.Meanings.{Context, Meaning, Reading, after_line, conte
 use Rattle.avp_dict.specs.Outcomes.{If, Refuses, is_memory, want_of_memory}
 use Rattle.avp_dict.specs.Readings.{read_line, read_lines, within}
 use Rattle.avp_dict.specs.Steps.{refused_at, ◌>>=◌}
-use Rattle.avp_dict.specs.code.Meanings.{reading_view, reading_views}
-use Rattle.avp_dict.specs.code.Outcomes.{Fails}
-use Rattle.avp_dict.specs.code.Refused.{fault_at}
+use Rattle.avp_dict.specs.internal.Meanings.{reading_view, reading_views}
+use Rattle.avp_dict.specs.internal.Outcomes.{Fails}
+use Rattle.avp_dict.specs.internal.Refused.{fault_at}
 
 pub context_of_push : (lines : List Reading) (r : Reading) → context_of (lines ++ r ∷ []) ≡ after_line (context_of lines) r
 unfolding context_of

@@ -6,7 +6,7 @@ use Rattle.avp_dict.specs.Attributes.{id_word, many_words}
 use Rattle.avp_dict.specs.Readings.{value}
 use Rattle.avp_dict.specs.Vendors.{format_parts, two_parts}
 use Rattle.avp_dict.specs.Words.{number_of}
-use Rattle.avp_dict.specs.code.Views.{views}
+use Rattle.avp_dict.specs.internal.Views.{views}
 
 pub many_ids : (vendors : List VendorLine) (block : Option ℕ) (parts : List (Bor (List ℕ))) → length parts ≢ 1 → length parts ≢ 2 → id_word vendors block (views parts) ≡ many_words (views parts)
 unfolding id_word

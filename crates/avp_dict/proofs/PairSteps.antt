@@ -15,8 +15,8 @@ use Rattle.avp_dict.specs.Names.{named}
 use Rattle.avp_dict.specs.Lines.{texts_of}
 use Rattle.avp_dict.specs.RequestLines.{Assignment, Token, Comma, Sign, Run, assigned, assignments_of, is_blank_line, is_idle_line, joined, packet_assignments, pairs_of, tokens_at, value_text, without_front}
 use Rattle.avp_dict.specs.Requests.{few_enough, pair_named, pair_spelled, pairs_spelled, request_spelled}
-use Rattle.avp_dict.specs.code.LineReading.{IsRefused, RefusesLine, after_pairs, assigned_after, packet_pairs, pair_of_token, pairs_after, pairs_at}
-use Rattle.avp_dict.specs.code.RequestTokens.{side_after, token_view}
+use Rattle.avp_dict.specs.internal.LineReading.{IsRefused, RefusesLine, after_pairs, assigned_after, packet_pairs, pair_of_token, pairs_after, pairs_at}
+use Rattle.avp_dict.specs.internal.RequestTokens.{side_after, token_view}
 
 -- ---- one list after another
 

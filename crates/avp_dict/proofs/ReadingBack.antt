@@ -32,7 +32,7 @@ use Rattle.avp_dict.specs.Soundness.{IsSound}
 use Rattle.avp_dict.specs.Spellings.{is_negative, number_spelled, octets_spelled, octets_value, signed_spelled, spelled, spelled_as, spelled_by, up_to, value_spelled}
 use Rattle.avp_dict.specs.Types.{is_text_kind}
 use Rattle.avp_dict.specs.Words.{digits, number_of}
-use Rattle.avp_dict.specs.code.Ranges.{AreOctets, IsIdInRange, IsValueInRange}
+use Rattle.avp_dict.specs.internal.Ranges.{AreOctets, IsIdInRange, IsValueInRange}
 
 -- ---- numbers
 

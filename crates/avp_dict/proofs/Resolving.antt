@@ -9,7 +9,7 @@ use Rattle.avp_dict.specs.Dictionary.{Dictionary}
 use Rattle.avp_dict.specs.Meanings.{Reading}
 use Rattle.avp_dict.specs.Outcomes.{Refuses}
 use Rattle.avp_dict.specs.Values.{resolve, with_line}
-use Rattle.avp_dict.specs.code.Meanings.{reading_view, reading_views}
+use Rattle.avp_dict.specs.internal.Meanings.{reading_view, reading_views}
 
 pub resolve_none : (skipped : List (List ℕ)) (dictionary : Dictionary) → resolve skipped dictionary [] ≡ Ok dictionary
 unfolding resolve

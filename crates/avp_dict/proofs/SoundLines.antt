@@ -36,7 +36,7 @@ use Rattle.avp_dict.specs.Steps.{refused_at, ◌>>=◌}
 use Rattle.avp_dict.specs.Types.{are_flags, is_fixed, is_hiding, is_opaque, is_text_kind, kind_word, typing_by, typing_of}
 use Rattle.avp_dict.specs.Vendors.{bounded, format_parts, format_word, is_format, is_other_vendor, is_vendor_name, standard_format, two_parts, vendor, vendor_line, vendor_numbered}
 use Rattle.avp_dict.specs.Words.{number_of, same_name, words_of}
-use Rattle.avp_dict.specs.code.Meanings.{IsShort, meaning_view}
+use Rattle.avp_dict.specs.internal.Meanings.{IsShort, meaning_view}
 
 -- ---- what is kept
 

@@ -28,4 +28,4 @@ pub mod Types
 pub mod Values
 pub mod Vendors
 pub mod Words
-pub mod code
+pub mod internal

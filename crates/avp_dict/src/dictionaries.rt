@@ -8,8 +8,8 @@ ghost use Rattle.avp_dict.specs.Names.{described, named, unless_three, vendor_fo
 ghost use Rattle.avp_dict.specs.Outcomes.{Answers};
 ghost use Rattle.avp_dict.specs.Settled.{is_in_format};
 ghost use Rattle.avp_dict.specs.Soundness.{IsSound};
-ghost use Rattle.avp_dict.specs.code.Contents.{contents_view};
-ghost use Rattle.avp_dict.specs.code.Entries.{entry_view};
+ghost use Rattle.avp_dict.specs.internal.Contents.{contents_view};
+ghost use Rattle.avp_dict.specs.internal.Entries.{entry_view};
 
 use crate::contents::Contents;
 use crate::entries::{Counts, Entry, Format, Named, Note, Typing, VendorFormat};
@@ -42,7 +42,7 @@ impl Model for Dictionary {
 
     ghost Value = { Defined };
 
-    ghost use Rattle.avp_dict.specs.code.Contents.{contents_view};
+    ghost use Rattle.avp_dict.specs.internal.Contents.{contents_view};
     ghost use Rattle.avp_dict.specs.Soundness.{IsSound};
 
     ghost view = { λ d. contents_view d.contents };

@@ -1,7 +1,7 @@
 ghost use Rattle.std.specs.Prelude.{◌≡◌};
 ghost use Rattle.avp_dict.specs.declared.faults.LineError.TheVariants.{Memory};
 ghost use Rattle.avp_dict.specs.Outcomes.{is_memory, want_of_memory};
-ghost use Rattle.avp_dict.specs.code.Refused.{fault_at};
+ghost use Rattle.avp_dict.specs.internal.Refused.{fault_at};
 
 use std::alloc::{AllocError, AllocFailed};
 use thiserror::Error;

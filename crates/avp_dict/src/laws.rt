@@ -10,7 +10,7 @@ ghost use Rattle.avp_dict.specs.declared.entries.Named.{Named};
 ghost use Rattle.avp_dict.specs.SpelledPairs.{SpelledPairsFit};
 ghost use Rattle.avp_dict.specs.SpelledValues.{SpelledValuesClean};
 ghost use Rattle.avp_dict.specs.Vendors.{is_format};
-ghost use Rattle.avp_dict.specs.code.Ranges.{AreOctets, IsIdInRange, IsValueInRange};
+ghost use Rattle.avp_dict.specs.internal.Ranges.{AreOctets, IsIdInRange, IsValueInRange};
 
 use crate::dictionaries::Dictionary;
 use avp_lists::{AttrId, Pair, Value};

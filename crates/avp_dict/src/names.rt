@@ -4,7 +4,7 @@ ghost use Rattle.std.specs.Prelude.{◌≡◌, ◌∷◌, ℕ, Option, Some};
 ghost use Rattle.std.specs.List.{slice_split};
 ghost use Rattle.avp_dict.specs.Letters.{is_dot};
 ghost use Rattle.avp_dict.specs.Names.{extended_numbered, id_numbered, is_vendor_specific, plain_numbered, vendor_id_numbered};
-ghost use Rattle.avp_dict.specs.code.Numbers.{Reads};
+ghost use Rattle.avp_dict.specs.internal.Numbers.{Reads};
 
 use crate::attribute_numbers::{MOST_PLAIN, VENDOR_SPECIFIC};
 use crate::file::attributes::extended_id;

@@ -11,10 +11,10 @@ use Rattle.avp_lists.specs.declared.slots.Swap.{Swap}
 use Rattle.avp_lists.specs.declared.steps.Change.{Change}
 use Rattle.avp_lists.specs.declared.steps.Change.TheVariants.{Turned, Back}
 use Rattle.avp_lists.specs.declared.steps.Step.{Step}
-use Rattle.avp_lists.specs.code.Slots.{no_slot, slot_at, at_first, forward, NamesWithin, SwapWithin, Housed, PairsWithin}
-use Rattle.avp_lists.specs.code.Steps.{last_or, after, replay, every, slots_at, states_of, no_step, step_at, change_at, names_of, swap_of, StepsWithin, BacksBelow, AllCounted, CountsWithin, CountsGrow, AllHoused}
-use Rattle.avp_lists.specs.code.Shown.{no_pair, pair_of, state_of}
-use Rattle.avp_lists.specs.code.SlotLaws.{length-every}
+use Rattle.avp_lists.specs.internal.Slots.{no_slot, slot_at, at_first, forward, NamesWithin, SwapWithin, Housed, PairsWithin}
+use Rattle.avp_lists.specs.internal.Steps.{last_or, after, replay, every, slots_at, states_of, no_step, step_at, change_at, names_of, swap_of, StepsWithin, BacksBelow, AllCounted, CountsWithin, CountsGrow, AllHoused}
+use Rattle.avp_lists.specs.internal.Shown.{no_pair, pair_of, state_of}
+use Rattle.avp_lists.specs.internal.SlotLaws.{length-every}
 use Rattle.avp_lists.proofs.Turning.{length-forward, firsts-forward}
 use Rattle.avp_lists.proofs.Moves.{names_in_more}
 use Rattle.avp_lists.proofs.Replay.{every-take, every-push}

@@ -10,12 +10,12 @@ use Rattle.avp_lists.specs.declared.slots.Slot.{Slot}
 use Rattle.avp_lists.specs.declared.slots.Mark.{Mark}
 use Rattle.avp_lists.specs.declared.steps.Change.TheVariants.{Turned}
 use Rattle.avp_lists.specs.declared.steps.Step.{Step}
-use Rattle.avp_lists.specs.code.Plans.{widened, planned, enters, pooled, IsPlan}
-use Rattle.avp_lists.specs.code.Shown.{state_of}
-use Rattle.avp_lists.specs.code.SlotLaws.{length-states_of}
-use Rattle.avp_lists.specs.code.Slots.{slot_at, at_first, PairsWithin}
+use Rattle.avp_lists.specs.internal.Plans.{widened, planned, enters, pooled, IsPlan}
+use Rattle.avp_lists.specs.internal.Shown.{state_of}
+use Rattle.avp_lists.specs.internal.SlotLaws.{length-states_of}
+use Rattle.avp_lists.specs.internal.Slots.{slot_at, at_first, PairsWithin}
 use Rattle.avp_lists.specs.States.{empty_state, edited, IsLimited}
-use Rattle.avp_lists.specs.code.Steps.{slots_at, states_of, step_at, most_kept, BacksBelow, AllCounted, CountsWithin, CountsGrow, AllHoused, StatesLimited}
+use Rattle.avp_lists.specs.internal.Steps.{slots_at, states_of, step_at, most_kept, BacksBelow, AllCounted, CountsWithin, CountsGrow, AllHoused, StatesLimited}
 use Rattle.avp_lists.proofs.Adding.{long-few, long-pairs, state-few, standing-new, states-new, below-new, counted-new, counts-new, grow-new, housed-new}
 use Rattle.avp_lists.proofs.Continuing.{limited-continued}
 use Rattle.avp_lists.proofs.ShownPairs.{present-shown}

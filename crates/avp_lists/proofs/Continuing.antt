@@ -9,10 +9,10 @@ use Rattle.avp_lists.specs.declared.slots.Slot.{Slot}
 use Rattle.avp_lists.specs.declared.steps.Change.TheVariants.{Back}
 use Rattle.avp_lists.specs.declared.steps.Step.{Step}
 use Rattle.avp_lists.specs.States.{empty_state, IsLimited}
-use Rattle.avp_lists.specs.code.Slots.{at_first, slot_at, Housed}
-use Rattle.avp_lists.specs.code.Steps.{after, every, slots_at, states_of, no_step, step_at, change_at, turns, node, BacksBelow, NamesCounted, AllCounted, CountsWithin, CountsGrow, AllHoused}
-use Rattle.avp_lists.specs.code.Shown.{state_of}
-use Rattle.avp_lists.specs.code.SlotLaws.{length-every}
+use Rattle.avp_lists.specs.internal.Slots.{at_first, slot_at, Housed}
+use Rattle.avp_lists.specs.internal.Steps.{after, every, slots_at, states_of, no_step, step_at, change_at, turns, node, BacksBelow, NamesCounted, AllCounted, CountsWithin, CountsGrow, AllHoused}
+use Rattle.avp_lists.specs.internal.Shown.{state_of}
+use Rattle.avp_lists.specs.internal.SlotLaws.{length-every}
 use Rattle.avp_lists.proofs.Replay.{every-take, every-push, node_fits}
 use Rattle.avp_lists.proofs.Moves.{states-same}
 

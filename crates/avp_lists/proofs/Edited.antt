@@ -15,9 +15,9 @@ use Rattle.avp_lists.specs.Growth.{adds_one, removes}
 use Rattle.avp_lists.specs.Instances.{has_id, is_other}
 use Rattle.avp_lists.specs.Operators.{agrees, replace, apply}
 use Rattle.avp_lists.specs.Pairs.{pair_eq}
-use Rattle.avp_lists.specs.code.Plans.{end_of, goes, taken, names_in}
-use Rattle.avp_lists.specs.code.Shown.{same_list, shows, shows_id, no_pair, pair_of, pairs_of, state_of}
-use Rattle.avp_lists.specs.code.Slots.{no_slot, slot_at, flipped, PairsWithin}
+use Rattle.avp_lists.specs.internal.Plans.{end_of, goes, taken, names_in}
+use Rattle.avp_lists.specs.internal.Shown.{same_list, shows, shows_id, no_pair, pair_of, pairs_of, state_of}
+use Rattle.avp_lists.specs.internal.Slots.{no_slot, slot_at, flipped, PairsWithin}
 use Rattle.avp_lists.specs.States.{with_list, edited, edited_list}
 use Rattle.avp_lists.proofs.Editing.{turned_if, end-turned, taken_away}
 use Rattle.avp_lists.proofs.InOrder.{in_order, shown_of, in_order-map, any-in_order, pairs_of-in_order}

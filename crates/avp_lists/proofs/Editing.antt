@@ -5,9 +5,9 @@ use Rattle.std.proofs.lemmas.List.{append_assoc, get_or_at, set_at, length_push}
 use Rattle.avp_lists.specs.declared.attributes.Pair.{Pair}
 use Rattle.avp_lists.specs.declared.lists.List.{List as WhichList}
 use Rattle.avp_lists.specs.declared.slots.Slot.{Slot}
-use Rattle.avp_lists.specs.code.Slots.{no_slot, flipped, turn, turn_all}
-use Rattle.avp_lists.specs.code.Shown.{same_list, shows, pair_of, pairs_of}
-use Rattle.avp_lists.specs.code.Plans.{names_in}
+use Rattle.avp_lists.specs.internal.Slots.{no_slot, flipped, turn, turn_all}
+use Rattle.avp_lists.specs.internal.Shown.{same_list, shows, pair_of, pairs_of}
+use Rattle.avp_lists.specs.internal.Plans.{names_in}
 use Rattle.avp_lists.proofs.InOrder.{in_order, shown_of, in_order-map, pairs_of-in_order}
 
 abbrev pub turned_if : (Slot → Bool) → Slot → Slot

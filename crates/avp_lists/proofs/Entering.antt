@@ -13,9 +13,9 @@ use Rattle.avp_lists.specs.declared.slots.Swap.{Swap}
 use Rattle.avp_lists.specs.Growth.{adds_one}
 use Rattle.avp_lists.specs.Instances.{has_id, is_other}
 use Rattle.avp_lists.specs.Operators.{replace, apply}
-use Rattle.avp_lists.specs.code.Plans.{end_of, goes, taken, names_in}
-use Rattle.avp_lists.specs.code.Shown.{same_list, shows, shows_id, no_pair, pair_of, pairs_of, ahead, state_of}
-use Rattle.avp_lists.specs.code.Slots.{no_slot, flipped, turn, turn_all, swap_at, forward, other_pair, with_other, PairsWithin}
+use Rattle.avp_lists.specs.internal.Plans.{end_of, goes, taken, names_in}
+use Rattle.avp_lists.specs.internal.Shown.{same_list, shows, shows_id, no_pair, pair_of, pairs_of, ahead, state_of}
+use Rattle.avp_lists.specs.internal.Slots.{no_slot, flipped, turn, turn_all, swap_at, forward, other_pair, with_other, PairsWithin}
 use Rattle.avp_lists.specs.States.{edited}
 use Rattle.avp_lists.proofs.Editing.{turned_if, turned_where, end-turned, shown_taken, turn_at}
 use Rattle.avp_lists.proofs.Edited.{state_edited, same_itself, hidden_elsewhere, and_first, and_second, shown_stay, names_in-within, taken-within, any_of_shown, added-applied, agree-more, within-more, within-append, within-one}

@@ -12,8 +12,8 @@ use Rattle.avp_lists.specs.declared.slots.End.{End}
 use Rattle.avp_lists.specs.declared.slots.End.TheVariants.{Head, Tail}
 use Rattle.avp_lists.specs.declared.slots.Slot.{Slot}
 use Rattle.avp_lists.specs.Instances.{has_id}
-use Rattle.avp_lists.specs.code.Shown.{shows, shows_at, shows_id, shows_id_at, same_end, entered_at, no_pair, pair_of, pairs_at, pairs_of, ahead, ahead_at}
-use Rattle.avp_lists.specs.code.Slots.{no_slot, slot_at}
+use Rattle.avp_lists.specs.internal.Shown.{shows, shows_at, shows_id, shows_id_at, same_end, entered_at, no_pair, pair_of, pairs_at, pairs_of, ahead, ahead_at}
+use Rattle.avp_lists.specs.internal.Slots.{no_slot, slot_at}
 use Rattle.avp_lists.proofs.Edited.{any-shown, any_of_shown, and_first, and_second}
 use Rattle.avp_lists.proofs.InOrder.{in_order, shown_of, any-reverse, any_filter, any-ends, in_order-middle, behind, pairs_of-in_order}
 use Rattle.avp_lists.proofs.ShownPairs.{shown-append}

@@ -7,10 +7,10 @@ use Rattle.avp_lists.specs.declared.slots.Swap.{Swap}
 use Rattle.avp_lists.specs.declared.steps.Change.{Change}
 use Rattle.avp_lists.specs.declared.steps.Change.TheVariants.{Turned, Back}
 use Rattle.avp_lists.specs.declared.steps.Step.{Step}
-use Rattle.avp_lists.specs.code.Slots.{no_slot, slot_at, flipped, turn, turn_all, with_other, swap_at, forward, NamesWithin, SwapWithin}
-use Rattle.avp_lists.specs.code.Slots.{at_first}
-use Rattle.avp_lists.specs.code.Steps.{last_or, after, replay, every, slots_at, names_of, swap_of, StepsWithin}
-use Rattle.avp_lists.specs.code.SlotLaws.{length-every}
+use Rattle.avp_lists.specs.internal.Slots.{no_slot, slot_at, flipped, turn, turn_all, with_other, swap_at, forward, NamesWithin, SwapWithin}
+use Rattle.avp_lists.specs.internal.Slots.{at_first}
+use Rattle.avp_lists.specs.internal.Steps.{last_or, after, replay, every, slots_at, names_of, swap_of, StepsWithin}
+use Rattle.avp_lists.specs.internal.SlotLaws.{length-every}
 use Rattle.avp_lists.proofs.Turning.{length-turn_all, length-forward}
 
 pub set_grown : (f : Slot → Slot) (c d : List Slot) (i : ℕ) → i < length c → set (c ++ d) i (f (slot_at (c ++ d) i)) ≡ set c i (f (slot_at c i)) ++ d

@@ -10,8 +10,8 @@ use Rattle.avp_lists.specs.declared.lists.List.{List as WhichList}
 use Rattle.avp_lists.specs.declared.slots.End.{End}
 use Rattle.avp_lists.specs.declared.slots.End.TheVariants.{Head, Tail}
 use Rattle.avp_lists.specs.declared.slots.Slot.{Slot}
-use Rattle.avp_lists.specs.code.Shown.{shows, pair_of, same_end, entered_at, pairs_at, pairs_of, ahead}
-use Rattle.avp_lists.specs.code.Slots.{slot_at}
+use Rattle.avp_lists.specs.internal.Shown.{shows, pair_of, same_end, entered_at, pairs_at, pairs_of, ahead}
+use Rattle.avp_lists.specs.internal.Slots.{slot_at}
 
 -- those that entered at the head, the last one first, and then those that entered at the tail
 abbrev pub in_order : List Slot → List Slot

@@ -2,7 +2,7 @@
 use Rattle.std.proofs.Common.{◌≡◌, ◌≢◌, ℕ, zero, suc, ◌-◌, ◌<◌, ◌≤◌, true, List, length, get_or, set, sym, subst, arith}
 use Rattle.std.proofs.lemmas.List.{get_or-set_same, get_or-set_other}
 use Rattle.avp_lists.specs.declared.steps.Step.{Step}
-use Rattle.avp_lists.specs.code.Steps.{change_at, turns, node}
+use Rattle.avp_lists.specs.internal.Steps.{change_at, turns, node}
 
 -- next places lead from one place to another in n steps
 abbrev pub Leads : List Step → List ℕ → ℕ → ℕ → ℕ → Type 0

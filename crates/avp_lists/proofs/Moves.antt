@@ -5,10 +5,10 @@ use Rattle.avp_lists.specs.declared.lists.State.{State}
 use Rattle.avp_lists.specs.declared.slots.Slot.{Slot}
 use Rattle.avp_lists.specs.declared.steps.Step.{Step}
 use Rattle.avp_lists.specs.States.{empty_state, IsLimited}
-use Rattle.avp_lists.specs.code.Slots.{at_first}
-use Rattle.avp_lists.specs.code.Steps.{replay, states_of, slots_at, step_at, change_at, turns, node, names_of, swap_of, BacksBelow, StepsWithin, AllCounted, CountsWithin, AllHoused, StatesLimited}
-use Rattle.avp_lists.specs.code.Shown.{state_of}
-use Rattle.avp_lists.specs.code.Slots.{NamesWithin, SwapWithin, Housed}
+use Rattle.avp_lists.specs.internal.Slots.{at_first}
+use Rattle.avp_lists.specs.internal.Steps.{replay, states_of, slots_at, step_at, change_at, turns, node, names_of, swap_of, BacksBelow, StepsWithin, AllCounted, CountsWithin, AllHoused, StatesLimited}
+use Rattle.avp_lists.specs.internal.Shown.{state_of}
+use Rattle.avp_lists.specs.internal.Slots.{NamesWithin, SwapWithin, Housed}
 use Rattle.avp_lists.proofs.Replay.{node_fits, slots_at-same}
 
 module _ (pool : List Pair) (slots moved : List Slot) (steps : List Step) (firsts : map at_first moved ≡ map at_first slots) where

@@ -13,9 +13,9 @@ use Rattle.avp_lists.specs.declared.slots.Swap.{Swap}
 use Rattle.avp_lists.specs.Growth.{adds_one, removes}
 use Rattle.avp_lists.specs.Instances.{has_id}
 use Rattle.avp_lists.specs.Operators.{apply}
-use Rattle.avp_lists.specs.code.Plans.{end_of, taken, names_in, IsPlan}
-use Rattle.avp_lists.specs.code.Shown.{shows_id, ahead_at, pairs_of, state_of}
-use Rattle.avp_lists.specs.code.Slots.{no_slot, slot_at, flipped, turn_all, with_other, forward, NamesWithin, PairsWithin}
+use Rattle.avp_lists.specs.internal.Plans.{end_of, taken, names_in, IsPlan}
+use Rattle.avp_lists.specs.internal.Shown.{shows_id, ahead_at, pairs_of, state_of}
+use Rattle.avp_lists.specs.internal.Slots.{no_slot, slot_at, flipped, turn_all, with_other, forward, NamesWithin, PairsWithin}
 use Rattle.avp_lists.specs.States.{edited}
 use Rattle.avp_lists.proofs.Editing.{turned_if, turned_where}
 use Rattle.avp_lists.proofs.Edited.{state_edited, names_in-within, taken-within, state-removed}

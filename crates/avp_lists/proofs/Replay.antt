@@ -5,10 +5,10 @@ use Rattle.avp_lists.specs.declared.slots.Slot.{Slot}
 use Rattle.avp_lists.specs.declared.steps.Change.{Change}
 use Rattle.avp_lists.specs.declared.steps.Change.TheVariants.{Turned, Back}
 use Rattle.avp_lists.specs.declared.steps.Step.{Step}
-use Rattle.avp_lists.specs.code.Slots.{forward, backward}
-use Rattle.avp_lists.specs.code.Slots.{at_first}
-use Rattle.avp_lists.specs.code.Steps.{last_or, after, replay, every, slots_at, change_at, names_of, swap_of, turns, node, node_of, BacksBelow}
-use Rattle.avp_lists.specs.code.SlotLaws.{length-every}
+use Rattle.avp_lists.specs.internal.Slots.{forward, backward}
+use Rattle.avp_lists.specs.internal.Slots.{at_first}
+use Rattle.avp_lists.specs.internal.Steps.{last_or, after, replay, every, slots_at, change_at, names_of, swap_of, turns, node, node_of, BacksBelow}
+use Rattle.avp_lists.specs.internal.SlotLaws.{length-every}
 use Rattle.avp_lists.proofs.Turning.{backward-forward}
 
 pub replay-append : (f : List Slot) (done : List (List Slot)) (xs ys : List Step) → replay f done (xs ++ ys) ≡ replay f (replay f done xs) ys

@@ -14,9 +14,9 @@ use Rattle.avp_lists.specs.declared.steps.Change.{Change}
 use Rattle.avp_lists.specs.declared.steps.Change.TheVariants.{Turned, Back}
 use Rattle.avp_lists.specs.declared.steps.Step.{Step}
 use Rattle.avp_lists.specs.States.{empty_state, IsLimited}
-use Rattle.avp_lists.specs.code.Slots.{no_slot, slot_at, is_live, at_first, kept, turn_all, Housed, PairsWithin}
-use Rattle.avp_lists.specs.code.Steps.{states_of, after, every, slots_at, step_at, change_at, turns, BacksBelow, NamesCounted, AllCounted, CountsWithin, CountsGrow, AllHoused, StatesLimited}
-use Rattle.avp_lists.specs.code.Shown.{shows, pair_of, pairs_of, state_of}
+use Rattle.avp_lists.specs.internal.Slots.{no_slot, slot_at, is_live, at_first, kept, turn_all, Housed, PairsWithin}
+use Rattle.avp_lists.specs.internal.Steps.{states_of, after, every, slots_at, step_at, change_at, turns, BacksBelow, NamesCounted, AllCounted, CountsWithin, CountsGrow, AllHoused, StatesLimited}
+use Rattle.avp_lists.specs.internal.Shown.{shows, pair_of, pairs_of, state_of}
 use Rattle.avp_lists.proofs.InOrder.{in_order, shown_of, in_order-map, in_order-filter, pairs_of-in_order}
 
 pub firsts-kept : (c : List Slot) → map at_first (map kept c) ≡ map kept c

@@ -14,11 +14,11 @@ use Rattle.avp_lists.specs.declared.slots.End.{End}
 use Rattle.avp_lists.specs.declared.slots.End.TheVariants.{Head, Tail}
 use Rattle.avp_lists.specs.declared.slots.Slot.{Slot}
 use Rattle.avp_lists.specs.declared.steps.Step.{Step}
-use Rattle.avp_lists.specs.code.Slots.{no_slot, slot_at, Housed, PairsWithin}
+use Rattle.avp_lists.specs.internal.Slots.{no_slot, slot_at, Housed, PairsWithin}
 use Rattle.avp_lists.specs.States.{empty_state, list_of}
-use Rattle.avp_lists.specs.code.Steps.{every, slots_at, states_of, step_at, AllHoused, CountsWithin}
-use Rattle.avp_lists.specs.code.Shown.{same_list, shows, shows_id, pair_of, same_end, entered_at, pairs_of, state_of}
-use Rattle.avp_lists.specs.code.SlotLaws.{length-every}
+use Rattle.avp_lists.specs.internal.Steps.{every, slots_at, states_of, step_at, AllHoused, CountsWithin}
+use Rattle.avp_lists.specs.internal.Shown.{same_list, shows, shows_id, pair_of, same_end, entered_at, pairs_of, state_of}
+use Rattle.avp_lists.specs.internal.SlotLaws.{length-every}
 use Rattle.avp_lists.proofs.InOrder.{in_order, shown_of, in_order-append, in_order-filter, all-filter, all-reverse, all-in_order, length-in_order, pairs_of-in_order}
 
 pub list_of-state_of : (which : WhichList) (pool : List Pair) (c : List Slot) → list_of which (state_of pool c) ≡ pairs_of which pool c

@@ -7,12 +7,12 @@ use Rattle.avp_lists.specs.declared.lists.List.{List as WhichList}
 use Rattle.avp_lists.specs.declared.lists.List.TheVariants.{Request, Reply, Control}
 use Rattle.avp_lists.specs.declared.slots.End.TheVariants.{Head, Tail}
 use Rattle.avp_lists.specs.declared.slots.Slot.{Slot}
-use Rattle.avp_lists.specs.code.Shown.{same_list, shows, no_pair, pair_of, entered_at, pairs_of, state_of}
-use Rattle.avp_lists.specs.code.Slots.{slot_at, at_first, PairsWithin}
+use Rattle.avp_lists.specs.internal.Shown.{same_list, shows, no_pair, pair_of, entered_at, pairs_of, state_of}
+use Rattle.avp_lists.specs.internal.Slots.{slot_at, at_first, PairsWithin}
 use Rattle.avp_lists.proofs.Edited.{same_itself, within-append, within-more}
 use Rattle.avp_lists.proofs.InOrder.{shown_of}
 use Rattle.avp_lists.proofs.ShownPairs.{pairs_of-tails, pairs_of-agree}
-use Rattle.avp_lists.specs.code.Plans.{fresh_slot, fresh}
+use Rattle.avp_lists.specs.internal.Plans.{fresh_slot, fresh}
 
 pub fresh_more : (which : WhichList) (at n : ℕ) → fresh which at (suc n) ≡ fresh which at n ++ fresh_slot which (at + n) ∷ []
 fresh_more which at zero = let e : at ≡ at + 0 = omega arith in ap (λ (k : ℕ). fresh_slot which k ∷ []) e

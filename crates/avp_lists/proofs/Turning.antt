@@ -4,8 +4,8 @@ use Rattle.std.proofs.lemmas.Bool.{cases_lt}
 use Rattle.std.proofs.lemmas.List.{length-set, get_or-set_same, get_or-set_other, set-set, set_comm, set-get_or, set_past, map-set, get_or-map, length-map}
 use Rattle.avp_lists.specs.declared.slots.Slot.{Slot}
 use Rattle.avp_lists.specs.declared.slots.Swap.{Swap}
-use Rattle.avp_lists.specs.code.Slots.{no_slot, slot_at, flipped, turn, turn_all, other_pair, with_other, swap_at, forward, backward}
-use Rattle.avp_lists.specs.code.Slots.{at_first}
+use Rattle.avp_lists.specs.internal.Slots.{no_slot, slot_at, flipped, turn, turn_all, other_pair, with_other, swap_at, forward, backward}
+use Rattle.avp_lists.specs.internal.Slots.{at_first}
 
 pub turn_all_more : (names : List ℕ) (i : ℕ) (c : List Slot) → turn_all (names ++ i ∷ []) c ≡ turn (turn_all names c) i
 turn_all_more [] i c = refl

@@ -1,10 +1,10 @@
 //! What an edit turns in the slots.
 ghost use Rattle.std.specs.Prelude.{◌≡◌, ◌≤◌, ◌<◌, ◌++◌, true, false, IfOk, OnOk, length, drop, take};
 ghost use Rattle.std.specs.List.{list_any};
-ghost use Rattle.avp_lists.specs.code.Slots.{slot_at, PairsWithin};
-ghost use Rattle.avp_lists.specs.code.Shown.{shows_id, ahead_at, pairs_of};
+ghost use Rattle.avp_lists.specs.internal.Slots.{slot_at, PairsWithin};
+ghost use Rattle.avp_lists.specs.internal.Shown.{shows_id, ahead_at, pairs_of};
 ghost use Rattle.avp_lists.specs.Growth.{adds_one, removes};
-ghost use Rattle.avp_lists.specs.code.Plans.{enters, end_of, goes, taken, names_in, IsPlan};
+ghost use Rattle.avp_lists.specs.internal.Plans.{enters, end_of, goes, taken, names_in, IsPlan};
 ghost use Rattle.avp_lists.specs.declared.edits.Op.TheVariants.{AddNew, Replace};
 
 use crate::attributes::Pair;

@@ -3,9 +3,9 @@ ghost use Rattle.std.specs.Prelude.{◌≡◌, ◌<◌, ◌≤◌, ◌+◌, ◌+
 ghost use Rattle.std.specs.Option.{option_copied, IfSome, IfNone};
 ghost use Rattle.std.specs.List.{list_any};
 ghost use Rattle.avp_lists.specs.Instances.{has_id};
-ghost use Rattle.avp_lists.specs.code.Slots.{slot_at, PairsWithin};
+ghost use Rattle.avp_lists.specs.internal.Slots.{slot_at, PairsWithin};
 ghost use Rattle.avp_lists.specs.declared.slots.End.TheVariants.{Head, Tail};
-ghost use Rattle.avp_lists.specs.code.Shown.{shows, shows_at, shows_id, shows_id_at, ahead_at, pairs_at, pairs_of};
+ghost use Rattle.avp_lists.specs.internal.Shown.{shows, shows_at, shows_id, shows_id_at, ahead_at, pairs_at, pairs_of};
 
 use crate::attributes::{AttrId, Pair, copy_pair};
 use crate::lists::List;

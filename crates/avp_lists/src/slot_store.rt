@@ -5,9 +5,9 @@ ghost use Rattle.avp_lists.specs.Instances.{has_instance};
 ghost use Rattle.avp_lists.specs.Growth.{adds_one};
 ghost use Rattle.avp_lists.specs.History.{starting, present, after_edit};
 ghost use Rattle.avp_lists.specs.States.{list_of, edited, IsFull, IsLimited};
-ghost use Rattle.avp_lists.specs.code.Slots.{NamesWithin, SwapWithin};
-ghost use Rattle.avp_lists.specs.code.Steps.{slots_at, most_kept, BacksBelow, AllCounted, CountsWithin, CountsGrow, AllHoused, StatesLimited};
-ghost use Rattle.avp_lists.specs.code.Plans.{pooled, widened, planned, fresh};
+ghost use Rattle.avp_lists.specs.internal.Slots.{NamesWithin, SwapWithin};
+ghost use Rattle.avp_lists.specs.internal.Steps.{slots_at, most_kept, BacksBelow, AllCounted, CountsWithin, CountsGrow, AllHoused, StatesLimited};
+ghost use Rattle.avp_lists.specs.internal.Plans.{pooled, widened, planned, fresh};
 
 use crate::attributes::{AttrId, Pair};
 use crate::edits::{Edit, EditFault, Op};
@@ -289,13 +289,13 @@ impl SlotStore {
 
 impl Store for SlotStore {
     ghost use Rattle.std.specs.Prelude.{◌+◌, ◌-◌, min, vec_capacity};
-    ghost use Rattle.avp_lists.specs.code.Steps.{states_of};
+    ghost use Rattle.avp_lists.specs.internal.Steps.{states_of};
 
     ghost history = { λ s. record { states = states_of s.pool.items s.slots.items s.steps.items; place = s.place } };
 
     ghost room = { λ s. min (vec_capacity s.steps) (vec_capacity s.nexts) - (s.place + 1) };
 
-    ghost use Rattle.avp_lists.specs.code.SlotLaws.{placed_among, roomy_among};
+    ghost use Rattle.avp_lists.specs.internal.SlotLaws.{placed_among, roomy_among};
 
     ghost placed = { λ s. placed_among s.pool.items s.slots.items s.steps.items s.place s.placed };
 

@@ -1,7 +1,7 @@
 //! The slots of a store's lists, and how a step turns their marks.
 ghost use Rattle.std.specs.Prelude.{◌≡◌, ◌<◌, length, map, filter};
-ghost use Rattle.avp_lists.specs.code.Slots.{is_live, kept, turn, turn_all, swap_at, forward, backward, NamesWithin, SwapWithin};
-ghost use Rattle.avp_lists.specs.code.Shown.{same_list, entered_at};
+ghost use Rattle.avp_lists.specs.internal.Slots.{is_live, kept, turn, turn_all, swap_at, forward, backward, NamesWithin, SwapWithin};
+ghost use Rattle.avp_lists.specs.internal.Shown.{same_list, entered_at};
 
 use crate::lists::List;
 

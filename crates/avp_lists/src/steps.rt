@@ -1,7 +1,7 @@
 //! The steps that lead from state to state, and the moves along them.
 ghost use Rattle.std.specs.Prelude.{◌≡◌, ◌+◌, ◌-◌, ◌≤◌, ◌<◌, ◌∷◌, ◌++◌, [], OnOk, IsOk, true, length, take, map, min, vec_capacity};
-ghost use Rattle.avp_lists.specs.code.Slots.{at_first};
-ghost use Rattle.avp_lists.specs.code.Steps.{slots_at, change_at, turns, node, StepsWithin, BacksBelow};
+ghost use Rattle.avp_lists.specs.internal.Slots.{at_first};
+ghost use Rattle.avp_lists.specs.internal.Steps.{slots_at, change_at, turns, node, StepsWithin, BacksBelow};
 
 use crate::slots::{Slot, Swap, backward, forward};
 use std::alloc::AllocError;

@@ -9,7 +9,7 @@ use Rattle.avp_packet.specs.Hiding.{masked}
 use Rattle.avp_packet.specs.Hmac.{hmac, inner_pad, key_block, outer_pad}
 use Rattle.avp_packet.specs.Packets.{zeros}
 use Rattle.avp_packet.specs.Splitting.{part_octets}
-use Rattle.avp_packet.specs.code.Filling.{IsPlace, filled}
+use Rattle.avp_packet.specs.internal.Filling.{IsPlace, filled}
 
 module _ (os : List ℕ) (place : ℕ) (within : place + 18 ≤ length os) (blank : take place os ++ part_octets (part 80 zeros) ++ drop (place + 18) os ≡ os) where
   head_is : take (place + 2) os ≡ take place os ++ 80 ∷ 18 ∷ []

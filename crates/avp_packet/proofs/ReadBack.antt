@@ -27,8 +27,8 @@ use Rattle.avp_packet.specs.AttributeOctets.{attribute_octets, fragments, is_lon
 use Rattle.avp_packet.specs.Meanings.{Run, are_subs, are_subs_behind, begins_sub, extended_type, first_run, first_sub, meaning, others, pair_of, piece_of, run, sub_length, subs, subs_behind, vendor_of, vendor_subs}
 use Rattle.avp_packet.specs.Splitting.{Part, left, part_octets, parts}
 use Rattle.avp_packet.specs.VendorFormats.{HasKnownFormats, known_format, usable}
-use Rattle.avp_packet.specs.code.Holding.{CanHold, FitsFormat}
-use Rattle.avp_packet.specs.code.Ranges.{IsVendorInRange}
+use Rattle.avp_packet.specs.internal.Holding.{CanHold, FitsFormat}
+use Rattle.avp_packet.specs.internal.Ranges.{IsVendorInRange}
 use Rattle.avp_packet.proofs.Means.{meaning-cons, meaning-nil}
 use Rattle.avp_packet.proofs.Rooms.{and_left, and_right, by_test, fits_known, format_of_size, sent_by, sent_held}
 use Rattle.avp_packet.proofs.Runs.{run-some, run_rest}

@@ -23,7 +23,7 @@ use Rattle.avp_packet.specs.AttributeOctets.{attribute_octets, parts_holding, pa
 use Rattle.avp_packet.specs.Hiding.{hidden}
 use Rattle.avp_packet.specs.Splitting.{part_octets}
 use Rattle.avp_packet.specs.VendorFormats.{known_format, usable}
-use Rattle.avp_packet.specs.code.Holding.{CanHold, FitsFormat}
+use Rattle.avp_packet.specs.internal.Holding.{CanHold, FitsFormat}
 use Rattle.avp_packet.proofs.Nuls.{length-hidden, short_of, some_hidden}
 
 pub by_test : (P : Type 0) (b : Bool) → (b ≡ true → P) → (b ≡ false → P) → P

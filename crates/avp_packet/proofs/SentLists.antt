@@ -25,8 +25,8 @@ use Rattle.avp_packet.specs.Sending.{Content, message_authenticator, pairs_sent,
 use Rattle.avp_packet.specs.Signed.{blanked, is_signature, signatures}
 use Rattle.avp_packet.specs.Splitting.{Part, left, part_octets, parts}
 use Rattle.avp_packet.specs.VendorFormats.{HasKnownFormats, known_format}
-use Rattle.avp_packet.specs.code.Filling.{IsDivided, KeepsAll, divided_octets, divided_signed, signature_if}
-use Rattle.avp_packet.specs.code.Ranges.{IsVendorInRange}
+use Rattle.avp_packet.specs.internal.Filling.{IsDivided, KeepsAll, divided_octets, divided_signed, signature_if}
+use Rattle.avp_packet.specs.internal.Ranges.{IsVendorInRange}
 use Rattle.avp_packet.proofs.ReadBack.{clean_read, nothing_read, plain_read}
 use Rattle.avp_packet.proofs.Rooms.{and_left, and_right, by_test, fits_known}
 use Rattle.avp_packet.proofs.Signatures.{unblanked}

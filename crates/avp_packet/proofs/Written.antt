@@ -6,7 +6,7 @@ use Rattle.std.specs.List.{flat_map}
 use Rattle.std.proofs.lemmas.List.{drop_more, get_or_default, length-append, length-drop}
 use Rattle.std.proofs.lemmas.Grind.{common_steps}
 use Rattle.std.specs.Prelude.{nat_lt}
-use Rattle.avp_packet.specs.code.Ranges.{IsVendorInRange}
+use Rattle.avp_packet.specs.internal.Ranges.{IsVendorInRange}
 use Rattle.std.proofs.lemmas.Grind.{flat_map-append}
 use Rattle.avp_lists.specs.declared.attributes.Pair.{Pair}
 use Rattle.avp_lists.specs.Instances.{is_other}
@@ -17,7 +17,7 @@ use Rattle.avp_dict.specs.declared.entries.Format.{Format}
 use Rattle.avp_packet.specs.AttributeOctets.{attribute_octets, fragments, part, parts_of, parts_of_pair, vendor_part, vendor_value}
 use Rattle.avp_packet.specs.Sending.{message_authenticator}
 use Rattle.avp_packet.specs.Splitting.{part_octets}
-use Rattle.avp_packet.specs.code.Filling.{kept}
+use Rattle.avp_packet.specs.internal.Filling.{kept}
 
 -- ---- vendors
 

@@ -11,4 +11,4 @@ pub mod Sending
 pub mod Signed
 pub mod Splitting
 pub mod VendorFormats
-pub mod code
+pub mod internal

@@ -6,7 +6,7 @@ ghost use Rattle.avp_lists.specs.Instances.{has_id};
 ghost use Rattle.avp_lists.specs.declared.attributes.Pair.{Pair};
 ghost use Rattle.avp_packet.specs.Packets.{request_kind};
 ghost use Rattle.avp_packet.specs.Sending.{Access, Reply, message_authenticator, without_signatures};
-ghost use Rattle.avp_packet.specs.code.Filling.{IsDivided, KeepsAll};
+ghost use Rattle.avp_packet.specs.internal.Filling.{IsDivided, KeepsAll};
 
 use crate::packets::ACCOUNTING_REQUEST;
 use avp_lists::{AttrId, Pair};

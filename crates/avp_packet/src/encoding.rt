@@ -10,8 +10,8 @@ ghost use Rattle.avp_packet.specs.Packets.{IsReplyCode, IsRequestCode, attribute
 ghost use Rattle.avp_packet.specs.Sending.{is_to_sign};
 ghost use Rattle.avp_packet.specs.Signed.{is_signed};
 ghost use Rattle.avp_packet.specs.Splitting.{left, parts};
-ghost use Rattle.avp_packet.specs.code.Filling.{IsPlace, divided_octets, divided_signed, filled};
-ghost use Rattle.avp_packet.specs.code.Ranges.{IsVendorInRange};
+ghost use Rattle.avp_packet.specs.internal.Filling.{IsPlace, divided_octets, divided_signed, filled};
+ghost use Rattle.avp_packet.specs.internal.Ranges.{IsVendorInRange};
 
 use crate::authenticators::{HEAD_OCTETS, MOST_PACKET_OCTETS, ZEROS, digest_of_packet, head_of};
 use crate::dividing::{Division, divide_reply, divide_request};

@@ -5,7 +5,7 @@ ghost use Rattle.std.specs.Option.{option_map};
 ghost use Rattle.avp_packet.specs.AttributeOctets.{part};
 ghost use Rattle.avp_packet.specs.Meanings.{joined, piece_in, piece_of, run, run_with};
 ghost use Rattle.avp_packet.specs.Splitting.{parts};
-ghost use Rattle.avp_packet.specs.code.Views.{piece_view, run_view};
+ghost use Rattle.avp_packet.specs.internal.Views.{piece_view, run_view};
 
 use crate::splitting::{Front, first_attribute};
 use crate::writing::{MORE, PIECE_OCTETS};

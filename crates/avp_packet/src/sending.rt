@@ -8,8 +8,8 @@ ghost use Rattle.avp_dict.specs.Octets.{is_hidden, octets_of};
 ghost use Rattle.avp_dict.specs.Sent.{is_internal, is_raw};
 ghost use Rattle.avp_packet.specs.AttributeOctets.{attribute_octets, sent_octets};
 ghost use Rattle.avp_packet.specs.Packets.{zeros};
-ghost use Rattle.avp_packet.specs.code.Filling.{IsPlace, divided_octets, filled, kept, place_if, signature_if};
-ghost use Rattle.avp_packet.specs.code.Ranges.{IsVendorInRange};
+ghost use Rattle.avp_packet.specs.internal.Filling.{IsPlace, divided_octets, filled, kept, place_if, signature_if};
+ghost use Rattle.avp_packet.specs.internal.Ranges.{IsVendorInRange};
 
 use crate::authenticators::{HEAD_OCTETS, MOST_PACKET_OCTETS};
 use crate::dividing::{Division, MESSAGE_AUTHENTICATOR};

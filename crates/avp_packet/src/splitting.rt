@@ -66,7 +66,7 @@ pub(crate) fn first_attribute(octets: &[u8]) -> Option<Front<'_>>
 
 impl<'a> Attributes<'a> {
     ghost use Rattle.std.specs.Prelude.{[], drop};
-    ghost use Rattle.avp_packet.specs.code.Views.{item_view, items_left};
+    ghost use Rattle.avp_packet.specs.internal.Views.{item_view, items_left};
 
     /// Those of a slice, from its start.
     pub fn new(octets: &'a [u8]) -> Attributes<'a>
@@ -111,7 +111,7 @@ impl<'a> Attributes<'a> {
 
 impl<'a> Iterator for Attributes<'a> {
     ghost use Rattle.std.specs.Iterator.{YieldsFirstBy, item_count};
-    ghost use Rattle.avp_packet.specs.code.Views.{item_view, items_left};
+    ghost use Rattle.avp_packet.specs.internal.Views.{item_view, items_left};
 
     type Item = Result<Attribute<'a>, BadLength>;
 

@@ -5,7 +5,7 @@ ghost use Rattle.std.specs.Int.Digits.{number_from_digits};
 ghost use Rattle.avp_dict.specs.Vendors.{is_format};
 ghost use Rattle.avp_packet.specs.AttributeOctets.{part};
 ghost use Rattle.avp_packet.specs.Meanings.{are_subs, are_subs_behind, begins_sub, first_sub, sub_length, sub_pair, subs, vendor_of, vendor_pairs, vendor_subs};
-ghost use Rattle.avp_packet.specs.code.Views.{sub_view};
+ghost use Rattle.avp_packet.specs.internal.Views.{sub_view};
 
 use crate::formats::format_of;
 use crate::reading::{push_raw, push_read};

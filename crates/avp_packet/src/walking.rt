@@ -2,7 +2,7 @@
 
 ghost use Rattle.std.specs.Prelude.{◌≡◌, ◌<◌, ◌-◌, ℕ, [], List, length, IfOk, IfErr};
 ghost use Rattle.avp_packet.specs.Splitting.{IsSplit, Part, items, left, parts};
-ghost use Rattle.avp_packet.specs.code.Views.{items_left};
+ghost use Rattle.avp_packet.specs.internal.Views.{items_left};
 
 use crate::splitting::{Attributes, BadLength, first_attribute};
 

@@ -6,7 +6,7 @@ ghost use Rattle.std.specs.List.{flat_map};
 ghost use Rattle.avp_dict.specs.Vendors.{is_format};
 ghost use Rattle.avp_packet.specs.AttributeOctets.{fragments, part, parts_holding, vendor_part, vendor_value};
 ghost use Rattle.avp_packet.specs.Splitting.{part_octets};
-ghost use Rattle.avp_packet.specs.code.Holding.{CanHold, FitsFormat};
+ghost use Rattle.avp_packet.specs.internal.Holding.{CanHold, FitsFormat};
 
 use crate::formats::format_of;
 use avp_dict::{Dictionary, Format};

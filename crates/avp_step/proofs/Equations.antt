@@ -9,9 +9,9 @@ use Rattle.avp_unlang.specs.declared.tree.Statement.TheVariants.{Update, If, Tra
 use Rattle.avp_unlang.specs.declared.tree.Statement.TheFolds.{fold-roll-Statement}
 use Rattle.avp_unlang.specs.declared.tree.Branch.{Branch}
 use Rattle.avp_unlang.specs.Meaning.{Outcome, running}
-use Rattle.avp_step.specs.code.Frames.{else_steps, else_skips}
+use Rattle.avp_step.specs.internal.Frames.{else_steps, else_skips}
 use Rattle.avp_step.specs.Trace.{Steps, Guarded, steps, guarded, statement_steps, guarded_steps, line_steps, branch_steps, all_steps, then_steps, closed, entered, word_step}
-use Rattle.avp_step.specs.code.Skips.{skips, statement_skips, branch_skips}
+use Rattle.avp_step.specs.internal.Skips.{skips, statement_skips, branch_skips}
 use Rattle.avp_dict.specs.Dictionary.{Dictionary}
 
 pub steps_Update : (d : Dictionary) (n : ℕ) (lines : List Line) (o : Outcome) → steps d (Update n lines) o ≡ line_steps d o.state lines o

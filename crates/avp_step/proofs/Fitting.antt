@@ -21,7 +21,7 @@ use Rattle.avp_unlang.specs.declared.resolving.Unresolved.{Unresolved}
 use Rattle.avp_unlang.specs.declared.tree.Line.{Line}
 use Rattle.std.proofs.lemmas.Bool.{le-leb, lt-leb}
 use Rattle.avp_step.proofs.Steppings.{added_present}
-use Rattle.avp_step.specs.code.Stepping.{IsLineDone, StatesFit}
+use Rattle.avp_step.specs.internal.Stepping.{IsLineDone, StatesFit}
 use Rattle.std.specs.Borrow.{Bor}
 use Rattle.std.specs.Prelude.{◌&&◌}
 use Rattle.avp_unlang.proofs.Comparing.{testable}
@@ -32,7 +32,7 @@ use Rattle.avp_unlang.specs.declared.tree.Statement.{Statement}
 use Rattle.avp_unlang.proofs.SpelledSuits.{suits_Branch}
 use Rattle.avp_step.proofs.Opens.{and_left, and_right, put_stays}
 use Rattle.avp_step.proofs.Rests.{and_assoc, and_true, frames_suit_push}
-use Rattle.avp_step.specs.code.Frames.{StaysSuited, frame_suits, frames_suit}
+use Rattle.avp_step.specs.internal.Frames.{StaysSuited, frame_suits, frames_suit}
 use Rattle.avp_step.specs.declared.frames.Frame.{Frame}
 use Rattle.avp_step.specs.declared.frames.Frame.TheVariants.{Statements, Lines, End}
 

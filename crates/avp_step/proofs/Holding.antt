@@ -14,10 +14,10 @@ use Rattle.avp_step.specs.declared.frames.TheConstants.{MOST_FRAMES}
 use Rattle.avp_step.specs.declared.marks.Mark.{Mark}
 use Rattle.avp_unlang.specs.Meaning.{Outcome}
 use Rattle.avp_step.specs.Trace.{Entry, Steps, end_of, start, trace_of}
-use Rattle.avp_step.specs.code.Frames.{States, frames_suit, rest, Sit}
-use Rattle.avp_step.specs.code.Stepping.{standing, entry_of, Names, IsStep, IsOver, IsRefused, HasRoom, StatesFit}
+use Rattle.avp_step.specs.internal.Frames.{States, frames_suit, rest, Sit}
+use Rattle.avp_step.specs.internal.Stepping.{standing, entry_of, Names, IsStep, IsOver, IsRefused, HasRoom, StatesFit}
 use Rattle.avp_step.specs.Walk.{IsLineLabel, Walk, entry, entry_at, moved_forward, answer_of_forward}
-use Rattle.avp_step.specs.code.Held.{trace_from, walk_of, made, states_of, nowhere, IsHeld}
+use Rattle.avp_step.specs.internal.Held.{trace_from, walk_of, made, states_of, nowhere, IsHeld}
 use Rattle.avp_step.proofs.Ends.{end_of-append}
 use Rattle.avp_step.proofs.Sizes.{trace_size}
 use Rattle.avp_unlang.specs.Depth.{depth_of}

@@ -11,8 +11,8 @@ use Rattle.avp_step.specs.declared.frames.Frame.TheVariants.{Statements, Lines, 
 use Rattle.avp_step.specs.declared.frames.TheConstants.{MOST_FRAMES}
 use Rattle.avp_unlang.specs.Meaning.{Outcome}
 use Rattle.avp_step.specs.Trace.{Steps, steps, guarded, line_steps, branch_steps, all_steps, then_steps, unless_stopped}
-use Rattle.avp_step.specs.code.Skips.{skips, skips_of}
-use Rattle.avp_step.specs.code.Frames.{States, else_steps, frame_steps, rest, Sit, frame_depth, frame_entry, frame_skips, all_skips, frame_suits, frames_suit, IsSame, StaysSuited}
+use Rattle.avp_step.specs.internal.Skips.{skips, skips_of}
+use Rattle.avp_step.specs.internal.Frames.{States, else_steps, frame_steps, rest, Sit, frame_depth, frame_entry, frame_skips, all_skips, frame_suits, frames_suit, IsSame, StaysSuited}
 use Rattle.avp_step.proofs.Equations.{steps_Update, steps_If}
 use Rattle.avp_step.specs.declared.frames.Next.{Next}
 use Rattle.avp_step.proofs.Rests.{then_cong, then_cong_right, then_assoc, goes_on, rest_push, Sit_push, all_skips_push, Sit_pop, frames_suit_push}

@@ -5,7 +5,7 @@ use Rattle.avp_unlang.specs.Meaning.{Outcome}
 use Rattle.avp_step.specs.Trace.{Entry, Steps, end_of, then_steps, unless_stopped}
 use Rattle.avp_step.specs.declared.frames.Frame.{Frame}
 use Rattle.avp_step.specs.declared.frames.TheConstants.{MOST_FRAMES}
-use Rattle.avp_step.specs.code.Frames.{States, frame_steps, rest, Sit, frame_depth, frame_entry, frame_suits, frames_suit, frame_skips, all_skips}
+use Rattle.avp_step.specs.internal.Frames.{States, frame_steps, rest, Sit, frame_depth, frame_entry, frame_suits, frames_suit, frame_skips, all_skips}
 use Rattle.avp_step.proofs.Ends.{end_of-append}
 
 append_nil : (es : List Entry) → es ++ [] ≡ es

@@ -19,11 +19,11 @@ use Rattle.avp_step.specs.declared.frames.Next.TheVariants as next
 use Rattle.avp_step.specs.declared.marks.Mark.{Mark}
 use Rattle.avp_unlang.specs.Meaning.{Outcome, running, after_failure, LineResult, line_result, Edited, Refused}
 use Rattle.avp_step.specs.Trace.{Entry, Steps, Guarded, steps, guarded, statement_steps, guarded_steps, line_steps, line_step, branch_steps, all_steps, block_steps, end_of, then_steps, closed, tested}
-use Rattle.avp_step.specs.code.Frames.{frame_depth, frame_entry, States, else_steps, frame_steps, next_steps, rest, Sit, IsSame, IsNext}
+use Rattle.avp_step.specs.internal.Frames.{frame_depth, frame_entry, States, else_steps, frame_steps, next_steps, rest, Sit, IsSame, IsNext}
 use Rattle.avp_unlang.specs.Depth.{depth_of_branches}
 use Rattle.avp_unlang.specs.Depth.{depth_of, depth_of_branch, statement_depth, branch_depth}
 use Rattle.avp_step.specs.declared.frames.TheConstants.{MOST_FRAMES}
-use Rattle.avp_step.specs.code.Stepping.{standing, entry_of, Names, IsStep, IsOver, IsRefused, HasRoom, IsLineDone}
+use Rattle.avp_step.specs.internal.Stepping.{standing, entry_of, Names, IsStep, IsOver, IsRefused, HasRoom, IsLineDone}
 use Rattle.avp_step.specs.Walk.{IsLineLabel}
 use Rattle.avp_unlang.specs.Truth.{truth}
 use Rattle.avp_step.proofs.Rests.{then_cong, then_cong_right, then_assoc, rest_push, goes_on, Sit_push, Sit_later}

@@ -10,7 +10,7 @@ use Rattle.avp_unlang.specs.declared.tree.Statement.{Statement}
 use Rattle.avp_step.specs.Trace.{start, trace_of}
 use Rattle.avp_step.specs.Walk.{Walk, entry_at, MoveMay, MovesMay}
 use Rattle.avp_step.specs.declared.labels.Move.{Move}
-use Rattle.avp_step.specs.code.Held.{nowhere}
+use Rattle.avp_step.specs.internal.Held.{nowhere}
 use Rattle.avp_step.proofs.Ends.{trace_end}
 use Rattle.avp_step.proofs.Holding.{end_of_last}
 

@@ -1,3 +1,3 @@
 pub mod Trace
 pub mod Walk
-pub mod code
+pub mod internal

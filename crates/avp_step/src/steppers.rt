@@ -41,7 +41,7 @@ impl<'a, S: Store> Model for Stepper<'a, S> {
 
     ghost Value = { Walk };
 
-    ghost use Rattle.avp_step.specs.code.Held.{walk_of, IsHeld};
+    ghost use Rattle.avp_step.specs.internal.Held.{walk_of, IsHeld};
 
     ghost view = { λ x. walk_of x.dictionary.now x.statements.now (S.history x.store) x.position };
 

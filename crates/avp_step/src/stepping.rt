@@ -9,9 +9,9 @@ ghost use Rattle.avp_unlang.specs.Suiting.{branches_suit, else_suits, policy_sui
 ghost use Rattle.avp_unlang.specs.Resolutions.{StateFits, line_suits};
 ghost use Rattle.avp_unlang.specs.Depth.{depth_of};
 ghost use Rattle.avp_step.specs.Trace.{then_steps};
-ghost use Rattle.avp_step.specs.code.Frames.{IsNext, NextSit, Sit, StaysSuited, frames_suit, next_suits, next_steps, rest};
+ghost use Rattle.avp_step.specs.internal.Frames.{IsNext, NextSit, Sit, StaysSuited, frames_suit, next_suits, next_steps, rest};
 ghost use Rattle.avp_unlang.specs.Depth.{depth_of_branches, else_depth};
-ghost use Rattle.avp_step.specs.code.Stepping.{HasRoom, IsLineDone, IsOver, IsRefused, IsStep, KeepsFit, StatesFit};
+ghost use Rattle.avp_step.specs.internal.Stepping.{HasRoom, IsLineDone, IsOver, IsRefused, IsStep, KeepsFit, StatesFit};
 ghost use Rattle.avp_step.specs.declared.frames.Frame.{Frame};
 ghost use Rattle.avp_step.specs.declared.marks.Mark.{Mark};
 

@@ -11,7 +11,7 @@ use Rattle.avp_unlang.specs.declared.codes.Code.{Code}
 use Rattle.radpolicy.specs.declared.replies.ReplyHead.{ReplyHead}
 use Rattle.radpolicy.specs.Replies.{Nothing, Sent, reply_code, reply_pairs, sent_or_too_long, within_packet}
 use Rattle.radpolicy.specs.ReplyMeaning.{IsRead}
-use Rattle.radpolicy.specs.code.ReplyHeads.{AnswerIsRead, answered_by}
+use Rattle.radpolicy.specs.internal.ReplyHeads.{AnswerIsRead, answered_by}
 
 sent_inverts : (o : Option (List ℕ)) (octets : List ℕ) → sent_or_too_long o ≡ Sent octets → o ≡ Some octets
 sent_inverts None octets e = absurd (cc)

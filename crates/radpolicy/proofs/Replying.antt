@@ -22,7 +22,7 @@ use Rattle.radpolicy.specs.declared.replies.ReplyHead.{ReplyHead}
 use Rattle.radpolicy.specs.Fitting.{AllFit}
 use Rattle.radpolicy.specs.Replies.{Sent, answer_of, answered_authenticator, proxy_states, reply_code, reply_pairs, reply_with, signs_reply}
 use Rattle.avp_unlang.specs.Meaning.{Outcome as End}
-use Rattle.radpolicy.specs.code.ReplyHeads.{AnswerIsRead, IsHeadOf, IsLineHead, LineIsRead, answered_by}
+use Rattle.radpolicy.specs.internal.ReplyHeads.{AnswerIsRead, IsHeadOf, IsLineHead, LineIsRead, answered_by}
 
 module _ (dictionary : Dictionary) (signed : Bool) (pairs : List Pair) where
   same_reply : (key : List ℕ) (id : ℕ) (a b : Option (List ℕ)) (proxies others : List Pair) (code : Option ℕ) → a ≡ b → proxies ≡ others → reply_with dictionary key id a signed pairs proxies code ≡ reply_with dictionary key id b signed pairs others code

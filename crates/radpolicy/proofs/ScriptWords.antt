@@ -5,7 +5,7 @@ use Rattle.std.proofs.lemmas.List.{drop_more}
 use Rattle.std.specs.Option.{option_and_then, option_map}
 use Rattle.radpolicy.specs.declared.scripts.ScriptWord.{ScriptWord}
 use Rattle.radpolicy.specs.Scripts.{after_words, line_words, script_from, word_named, words_named}
-use Rattle.radpolicy.specs.code.ScriptReading.{after_named}
+use Rattle.radpolicy.specs.internal.ScriptReading.{after_named}
 
 -- ---- the words of a line
 

@@ -9,4 +9,4 @@ pub mod Reports
 pub mod Scripts
 pub mod Secrets
 pub mod Writing
-pub mod code
+pub mod internal

@@ -8,7 +8,7 @@ ghost use Rattle.radpolicy.specs.Fitting.{AllFit};
 ghost use Rattle.avp_packet.specs.Packets.{IsReplyCode, IsRequestCode, authenticator_of};
 ghost use Rattle.avp_packet.specs.Sending.{message_authenticator};
 ghost use Rattle.radpolicy.specs.Replies.{answer_of, answered_authenticator, proxy_states, reply_code, reply_pairs, request_packet, signs_reply};
-ghost use Rattle.radpolicy.specs.code.ReplyHeads.{AnswerIsRead, IsAnswer, IsHeadOf, IsUsable, answered_by};
+ghost use Rattle.radpolicy.specs.internal.ReplyHeads.{AnswerIsRead, IsAnswer, IsHeadOf, IsUsable, answered_by};
 ghost use Rattle.avp_dict.specs.Sent.{is_clean};
 ghost use Rattle.avp_unlang.specs.Meaning.{Outcome as End};
 
@@ -170,7 +170,7 @@ fn reply_pairs(last: Code, reply: &[Pair]) -> &[Pair]
 }
 
 /// The reply packet of a run that ended with this code and this reply list, if it sends one.
-#[tactic(auto, unfolding(crate::specs::code::ReplyHeads::answered_by), using(crate::proofs::PacketRoom::is_within, crate::proofs::PacketRoom::is_too_long))]
+#[tactic(auto, unfolding(crate::specs::internal::ReplyHeads::answered_by), using(crate::proofs::PacketRoom::is_within, crate::proofs::PacketRoom::is_too_long))]
 pub(crate) fn reply_of(
     alloc: Global,
     dictionary: &Dictionary,

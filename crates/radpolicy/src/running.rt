@@ -11,7 +11,7 @@ ghost use Rattle.avp_unlang.specs.Meaning.{Outcome as End};
 ghost use Rattle.avp_step.specs.Walk.{entry};
 ghost use Rattle.avp_unlang.specs.Suiting.{IsSpelled};
 ghost use Rattle.radpolicy.specs.JobReports.{entry_state, run_of};
-ghost use Rattle.radpolicy.specs.code.ReplyHeads.{AddsLine, AnswerIsRead, IsLineHead, IsUsable, LineIsRead, answered_by, line_by};
+ghost use Rattle.radpolicy.specs.internal.ReplyHeads.{AddsLine, AnswerIsRead, IsLineHead, IsUsable, LineIsRead, answered_by, line_by};
 ghost use Rattle.radpolicy.specs.Replies.{proxy_states};
 ghost use Rattle.radpolicy.specs.ReplyMeaning.{RunIsRead};
 ghost use Rattle.avp_dict.specs.Sent.{is_clean};
@@ -30,7 +30,7 @@ use avp_unlang::{Code, Policy, keeps_reply_clean};
 use std::alloc::{AllocError, Global};
 
 // What a reply takes of the request, where there is a secret.
-#[tactic(auto, unfolding(crate::specs::code::ReplyHeads::line_by))]
+#[tactic(auto, unfolding(crate::specs::internal::ReplyHeads::line_by))]
 fn head_of<'a>(
     alloc: Global,
     dictionary: &Dictionary,
@@ -75,7 +75,7 @@ fn push_reply(
 }
 
 // The line of what a run sends that ended with this code and this reply list; nothing without a secret.
-#[tactic(auto, unfolding(crate::specs::code::ReplyHeads::line_by))]
+#[tactic(auto, unfolding(crate::specs::internal::ReplyHeads::line_by))]
 fn push_sent(
     text: &mut Vec<u8>,
     dictionary: &Dictionary,

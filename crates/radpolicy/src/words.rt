@@ -4,7 +4,7 @@ ghost use Rattle.std.specs.Prelude.{◌≡◌, ◌<◌, length, is_some, true, f
 ghost use Rattle.radpolicy.specs.declared.jobs.Form.TheVariants.{Hex};
 ghost use Rattle.radpolicy.specs.Faults.{IsWordFault};
 ghost use Rattle.radpolicy.specs.Plans.{AreDistinct, EncodeRules, IsSound, RunRules, StepRules, asked_by_plan, names_of_paths};
-ghost use Rattle.radpolicy.specs.code.Options.{asked_by_options};
+ghost use Rattle.radpolicy.specs.internal.Options.{asked_by_options};
 
 use crate::faults::Fault;
 use crate::jobs::{Command, Form};

@@ -5,10 +5,10 @@ ghost use Rattle.std.specs.List.{list_all};
 ghost use Rattle.avp_lists.specs.declared.attributes.AttrId.TheVariants.{Extended};
 ghost use Rattle.avp_dict.specs.Attributes.{attribute, attribute_line, attribute_of, dotted_word, id_word, is_attribute_name, is_extended, is_held, is_number, is_of_other_id, many_words, most_in, number_id, number_word, vendor_id};
 ghost use Rattle.avp_dict.specs.Letters.{begins_as_attr, is_decimal, is_letter, is_name_octet};
-ghost use Rattle.avp_dict.specs.code.Numbers.{Reads};
-ghost use Rattle.avp_dict.specs.code.Meanings.{context_view};
-ghost use Rattle.avp_dict.specs.code.Outcomes.{Gives, Means};
-ghost use Rattle.avp_dict.specs.code.Views.{views};
+ghost use Rattle.avp_dict.specs.internal.Numbers.{Reads};
+ghost use Rattle.avp_dict.specs.internal.Meanings.{context_view};
+ghost use Rattle.avp_dict.specs.internal.Outcomes.{Gives, Means};
+ghost use Rattle.avp_dict.specs.internal.Views.{views};
 
 use crate::attribute_numbers::is_extended_type;
 use crate::entries::VendorFormat;

@@ -4,9 +4,9 @@ ghost use Rattle.std.specs.Prelude.{◌≡◌, false};
 ghost use Rattle.std.specs.Option.{option_map_or};
 ghost use Rattle.avp_dict.specs.Blocks.{begin_known, begin_tlv, begin_vendor, end_tlv, end_vendor, ended, innermost, opens_tlv_named, opens_vendor_named, unless_third};
 ghost use Rattle.avp_dict.specs.Readings.{include, include_line};
-ghost use Rattle.avp_dict.specs.code.Meanings.{reading_view, reading_views};
-ghost use Rattle.avp_dict.specs.code.Outcomes.{Means};
-ghost use Rattle.avp_dict.specs.code.Views.{views};
+ghost use Rattle.avp_dict.specs.internal.Meanings.{reading_view, reading_views};
+ghost use Rattle.avp_dict.specs.internal.Outcomes.{Means};
+ghost use Rattle.avp_dict.specs.internal.Views.{views};
 
 use crate::entries::VendorFormat;
 use crate::faults::{DictKind, LineError};

@@ -4,7 +4,7 @@ ghost use Rattle.std.specs.Prelude.{◌≡◌, [], OnOk};
 ghost use Rattle.std.specs.Option.{option_map};
 ghost use Rattle.avp_dict.specs.Blocks.{block_vendor, innermost, is_skipping, opened_vendor, opens_skipped};
 ghost use Rattle.avp_dict.specs.Meanings.{after_line, no_context};
-ghost use Rattle.avp_dict.specs.code.Meanings.{IsShort, context_view, reading_view, reading_views};
+ghost use Rattle.avp_dict.specs.internal.Meanings.{IsShort, context_view, reading_view, reading_views};
 
 use crate::entries::{AttributeLine, VendorLine};
 use crate::file::meanings::{Meaning, Reading};

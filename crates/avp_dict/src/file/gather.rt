@@ -4,7 +4,7 @@ ghost use Rattle.std.specs.Prelude.{◌≡◌, ◌<◌, length, IfSome};
 ghost use Rattle.std.specs.Option.{option_and_then, option_copied};
 ghost use Rattle.std.specs.List.{before_first, after_first, position};
 ghost use Rattle.avp_dict.specs.Lines.{file_named, included_by, is_include, is_line_end, octets_at};
-ghost use Rattle.avp_dict.specs.code.Views.{views};
+ghost use Rattle.avp_dict.specs.internal.Views.{views};
 
 use crate::file::files::{NamedFile, last_component};
 use crate::file::keywords::{DOLLAR_INCLUDE, DOLLAR_INCLUDE_IF_THERE};

@@ -2,9 +2,9 @@
 
 ghost use Rattle.std.specs.Prelude.{◌≡◌};
 ghost use Rattle.avp_dict.specs.Readings.{plain_line, read_head, read_words, skipped, value, value_words};
-ghost use Rattle.avp_dict.specs.code.Meanings.{context_view, meaning_view};
-ghost use Rattle.avp_dict.specs.code.Outcomes.{Means};
-ghost use Rattle.avp_dict.specs.code.Views.{views};
+ghost use Rattle.avp_dict.specs.internal.Meanings.{context_view, meaning_view};
+ghost use Rattle.avp_dict.specs.internal.Outcomes.{Means};
+ghost use Rattle.avp_dict.specs.internal.Views.{views};
 
 use crate::faults::{DictKind, LineError};
 use crate::file::attributes::read_attribute;

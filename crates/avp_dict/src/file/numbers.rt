@@ -4,8 +4,8 @@ ghost use Rattle.std.specs.Prelude.{◌≡◌, ◌≤◌, ◌+◌, ◌*◌, ℕ}
 ghost use Rattle.std.specs.Char.{digit_value};
 ghost use Rattle.avp_dict.specs.Vendors.{bounded};
 ghost use Rattle.avp_dict.specs.Words.{digits, number_of};
-ghost use Rattle.avp_dict.specs.code.Numbers.{Holds, Reads};
-ghost use Rattle.avp_dict.specs.code.Outcomes.{Gives};
+ghost use Rattle.avp_dict.specs.internal.Numbers.{Holds, Reads};
+ghost use Rattle.avp_dict.specs.internal.Outcomes.{Gives};
 
 use crate::faults::{DictKind, LineError};
 

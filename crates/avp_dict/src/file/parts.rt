@@ -2,7 +2,7 @@
 
 ghost use Rattle.std.specs.Prelude.{◌≡◌, ◌==◌, ◌<◌, ◌∷◌, [], length, IfOk, IfSome, IfNone};
 ghost use Rattle.std.specs.List.{slice_split, position};
-ghost use Rattle.avp_dict.specs.code.Views.{views};
+ghost use Rattle.avp_dict.specs.internal.Views.{views};
 
 use std::alloc::{AllocError, Global};
 

@@ -8,10 +8,10 @@ ghost use Rattle.avp_dict.specs.Meanings.{Reading as SetReading, context_of};
 ghost use Rattle.avp_dict.specs.Outcomes.{Refuses};
 ghost use Rattle.avp_dict.specs.Readings.{read_line, read_lines, within};
 ghost use Rattle.avp_dict.specs.Words.{words_of};
-ghost use Rattle.avp_dict.specs.code.Gathered.{line_view};
-ghost use Rattle.avp_dict.specs.code.Meanings.{context_view, reading_views};
-ghost use Rattle.avp_dict.specs.code.Outcomes.{Means};
-ghost use Rattle.avp_dict.specs.code.Views.{views};
+ghost use Rattle.avp_dict.specs.internal.Gathered.{line_view};
+ghost use Rattle.avp_dict.specs.internal.Meanings.{context_view, reading_views};
+ghost use Rattle.avp_dict.specs.internal.Outcomes.{Means};
+ghost use Rattle.avp_dict.specs.internal.Views.{views};
 
 use crate::faults::{DictFault, DictKind, LineError};
 use crate::file::context::{Context, innermost};

@@ -4,7 +4,7 @@ ghost use Rattle.std.specs.Prelude.{◌≡◌, ◌==◌, ◌<◌, length, IfSome
 ghost use Rattle.std.specs.List.{list_any, position, before_first};
 ghost use Rattle.avp_dict.specs.Letters.{word_before_bracket};
 ghost use Rattle.avp_dict.specs.Types.{are_flags, is_fixed, is_flag, is_hiding, is_opaque, is_text_kind, kind_word, typing_by, typing_of};
-ghost use Rattle.avp_dict.specs.code.Views.{views};
+ghost use Rattle.avp_dict.specs.internal.Views.{views};
 
 use crate::attribute_numbers::{
     MESSAGE_AUTHENTICATOR, PROXY_STATE, VENDOR_SPECIFIC, is_extended_type,

@@ -10,10 +10,10 @@ ghost use Rattle.avp_dict.specs.Outcomes.{Answers, Refuses};
 ghost use Rattle.avp_dict.specs.Settled.{skipped_names};
 ghost use Rattle.avp_dict.specs.Values.{is_noted, is_of_other_number, is_value_name, most_of, most_of_typing, reads_as_number, resolve, value_of, value_up_to, with_line, with_note, with_value};
 ghost use Rattle.avp_dict.specs.Dictionary.{typing_of_id};
-ghost use Rattle.avp_dict.specs.code.Contents.{contents_view};
-ghost use Rattle.avp_dict.specs.code.Meanings.{context_view, meaning_view, name_if, reading_view, reading_views, skipped_name_of};
-ghost use Rattle.avp_dict.specs.code.Numbers.{Reads};
-ghost use Rattle.avp_dict.specs.code.Outcomes.{Gives};
+ghost use Rattle.avp_dict.specs.internal.Contents.{contents_view};
+ghost use Rattle.avp_dict.specs.internal.Meanings.{context_view, meaning_view, name_if, reading_view, reading_views, skipped_name_of};
+ghost use Rattle.avp_dict.specs.internal.Numbers.{Reads};
+ghost use Rattle.avp_dict.specs.internal.Outcomes.{Gives};
 
 use crate::contents::Contents;
 use crate::entries::{Kind, Note, ValueLine};

@@ -4,9 +4,9 @@ ghost use Rattle.std.specs.Prelude.{◌≡◌, ◌≤◌, ℕ, Option, IfOk};
 ghost use Rattle.std.specs.List.{list_all, slice_split};
 ghost use Rattle.avp_dict.specs.Letters.{is_comma, is_visible};
 ghost use Rattle.avp_dict.specs.Vendors.{format_parts, format_word, is_other_vendor, is_vendor_name, two_parts, vendor, vendor_line, vendor_numbered};
-ghost use Rattle.avp_dict.specs.code.Numbers.{Reads};
-ghost use Rattle.avp_dict.specs.code.Outcomes.{Means};
-ghost use Rattle.avp_dict.specs.code.Views.{views};
+ghost use Rattle.avp_dict.specs.internal.Numbers.{Reads};
+ghost use Rattle.avp_dict.specs.internal.Outcomes.{Means};
+ghost use Rattle.avp_dict.specs.internal.Views.{views};
 
 use crate::entries::VendorFormat;
 use crate::faults::{DictKind, LineError};

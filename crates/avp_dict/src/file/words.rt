@@ -3,7 +3,7 @@
 ghost use Rattle.std.specs.Prelude.{◌≡◌, ◌<◌, ◌++◌, ◌∷◌, [], length, IfOk, OnOk, IfSome, IfNone};
 ghost use Rattle.std.specs.List.{before_first, position, filter, slice_split};
 ghost use Rattle.avp_dict.specs.Words.{is_blank, is_hash, is_word, lower, same_name, words_of};
-ghost use Rattle.avp_dict.specs.code.Views.{views};
+ghost use Rattle.avp_dict.specs.internal.Views.{views};
 
 use std::alloc::{AllocError, Global};
 

@@ -1,6 +1,6 @@
 ghost use Rattle.std.specs.Prelude.{◌≡◌};
 ghost use Rattle.avp_dict.specs.declared.request.faults.LineKind.TheVariants.{Memory};
-ghost use Rattle.avp_dict.specs.code.LineReading.{line_kind};
+ghost use Rattle.avp_dict.specs.internal.LineReading.{line_kind};
 
 use crate::value::faults::ValueFault;
 use std::alloc::{AllocError, AllocFailed};

@@ -10,8 +10,8 @@ ghost use Rattle.avp_dict.specs.Lines.{is_line_end, texts_of};
 ghost use Rattle.avp_dict.specs.RequestLines.{is_blank_line, is_idle_line, joined, pairs_of, tokens_at, without_front};
 ghost use Rattle.avp_dict.specs.Requests.{few_enough, pair_named, request_spelled};
 ghost use Rattle.avp_dict.specs.Sent.{is_clean};
-ghost use Rattle.avp_dict.specs.code.LineReading.{IsRefused, ReadsLine, RefusesLine, after_pairs, assigned_after, packet_pairs, pair_of_token, pairs_after, pairs_at};
-ghost use Rattle.avp_dict.specs.code.RequestTokens.{side_after, token_view};
+ghost use Rattle.avp_dict.specs.internal.LineReading.{IsRefused, ReadsLine, RefusesLine, after_pairs, assigned_after, packet_pairs, pair_of_token, pairs_after, pairs_at};
+ghost use Rattle.avp_dict.specs.internal.RequestTokens.{side_after, token_view};
 
 use crate::dictionaries::Dictionary;
 use crate::entries::Named;
@@ -140,7 +140,7 @@ impl Dictionary {
     }
 
     // The pair of a name, the first token, and a value, and what follows it.
-    #[tactic(auto, unfolding(crate::specs::RequestLines::pairs_of, crate::specs::code::LineReading::pairs_at))]
+    #[tactic(auto, unfolding(crate::specs::RequestLines::pairs_of, crate::specs::internal::LineReading::pairs_at))]
     fn read_pair<'a>(
         &self,
         alloc: Global,

@@ -4,7 +4,7 @@ ghost use Rattle.std.specs.Prelude.{◌≡◌, ◌∷◌, [], ◌<◌, ◌≤◌
 ghost use Rattle.std.specs.List.{before_first, position, position_or_len};
 ghost use Rattle.avp_dict.specs.RequestLines.{Between, Outside, Quoted, Run, Unended, is_sign, quote_octet, tokens_at, tokens_from};
 ghost use Rattle.avp_dict.specs.Words.{is_blank};
-ghost use Rattle.avp_dict.specs.code.RequestTokens.{begins_blank, ends_run, side_after, token_view};
+ghost use Rattle.avp_dict.specs.internal.RequestTokens.{begins_blank, ends_run, side_after, token_view};
 
 use crate::value::quotes::QuoteMark;
 

@@ -4,7 +4,7 @@ ghost use Rattle.std.specs.Set.{distinct_count};
 ghost use Rattle.avp_dict.specs.Counts.{same_attribute};
 ghost use Rattle.avp_dict.specs.Dictionary.{first_names, id_named, is_attribute_named, is_attribute_of, last_where, typing_of_id};
 ghost use Rattle.avp_dict.specs.Letters.{most_name};
-ghost use Rattle.avp_dict.specs.code.Tables.{AreAttributeTables};
+ghost use Rattle.avp_dict.specs.internal.Tables.{AreAttributeTables};
 
 use crate::entries::{AttributeLine, Typing};
 use crate::tables::keys::{FoldedName, IdKey, id_key};
@@ -24,7 +24,7 @@ pub struct Attributes {
 impl Model for Attributes {
     ghost use Rattle.std.specs.Prelude.{List};
     ghost use Rattle.avp_dict.specs.declared.entries.AttributeLine.{AttributeLine};
-    ghost use Rattle.avp_dict.specs.code.Tables.{AreAttributeTables};
+    ghost use Rattle.avp_dict.specs.internal.Tables.{AreAttributeTables};
 
     ghost Value = { List AttributeLine };
 

@@ -3,7 +3,7 @@
 ghost use Rattle.std.specs.Prelude.{◌≡◌, ◌≤◌, ◌<◌, length, map, take, IfOk, IfSome, IfNone};
 ghost use Rattle.avp_dict.specs.Letters.{most_name};
 ghost use Rattle.avp_dict.specs.Words.{lower};
-ghost use Rattle.avp_dict.specs.code.Tables.{id_key};
+ghost use Rattle.avp_dict.specs.internal.Tables.{id_key};
 
 use crate::file::words::{MOST_NAME, lower};
 use avp_lists::AttrId;

@@ -3,8 +3,8 @@ ghost use Rattle.std.specs.List.{list_any};
 ghost use Rattle.std.specs.Str.{bytes_eq};
 ghost use Rattle.avp_dict.specs.Values.{is_same_name};
 ghost use Rattle.avp_dict.specs.Words.{lower};
-ghost use Rattle.avp_dict.specs.code.Tables.{IsTable};
-ghost use Rattle.avp_dict.specs.code.Views.{views};
+ghost use Rattle.avp_dict.specs.internal.Tables.{IsTable};
+ghost use Rattle.avp_dict.specs.internal.Views.{views};
 
 use crate::tables::keys::FoldedText;
 use crate::tables::places::Places;
@@ -22,8 +22,8 @@ impl<'a> Model for NameSet<'a> {
     ghost use Rattle.std.specs.Prelude.{List, ℕ, map};
     ghost use Rattle.std.specs.Str.{bytes_eq};
     ghost use Rattle.avp_dict.specs.Words.{lower};
-    ghost use Rattle.avp_dict.specs.code.Tables.{IsTable};
-    ghost use Rattle.avp_dict.specs.code.Views.{views};
+    ghost use Rattle.avp_dict.specs.internal.Tables.{IsTable};
+    ghost use Rattle.avp_dict.specs.internal.Views.{views};
 
     ghost Value = { List (List ℕ) };
 

@@ -4,7 +4,7 @@ ghost use Rattle.std.specs.Map.{keys_of};
 ghost use Rattle.std.specs.Option.{option_and_then, option_copied};
 ghost use Rattle.std.specs.Set.{distinct_count};
 ghost use Rattle.avp_dict.specs.Dictionary.{last_where};
-ghost use Rattle.avp_dict.specs.code.Tables.{IsTable};
+ghost use Rattle.avp_dict.specs.internal.Tables.{IsTable};
 
 use indexmap::IndexMap;
 use std::alloc::{AllocError, Global};

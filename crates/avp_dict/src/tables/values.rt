@@ -4,7 +4,7 @@ ghost use Rattle.std.specs.Set.{distinct_count};
 ghost use Rattle.avp_dict.specs.Counts.{same_value};
 ghost use Rattle.avp_dict.specs.Dictionary.{is_value_named, is_value_numbered, last_where, name_numbered, number_named};
 ghost use Rattle.avp_dict.specs.Letters.{most_name};
-ghost use Rattle.avp_dict.specs.code.Tables.{AreValueTables};
+ghost use Rattle.avp_dict.specs.internal.Tables.{AreValueTables};
 
 use crate::entries::ValueLine;
 use crate::tables::keys::{FoldedName, IdKey, id_key};
@@ -24,7 +24,7 @@ pub struct Values {
 impl Model for Values {
     ghost use Rattle.std.specs.Prelude.{List};
     ghost use Rattle.avp_dict.specs.declared.entries.ValueLine.{ValueLine};
-    ghost use Rattle.avp_dict.specs.code.Tables.{AreValueTables};
+    ghost use Rattle.avp_dict.specs.internal.Tables.{AreValueTables};
 
     ghost Value = { List ValueLine };
 

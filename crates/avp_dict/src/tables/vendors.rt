@@ -4,7 +4,7 @@ ghost use Rattle.std.specs.Set.{distinct_count};
 ghost use Rattle.avp_dict.specs.Counts.{same_vendor};
 ghost use Rattle.avp_dict.specs.Dictionary.{format_of, is_vendor_named, is_vendor_numbered, last_where, vendor_named};
 ghost use Rattle.avp_dict.specs.Letters.{most_name};
-ghost use Rattle.avp_dict.specs.code.Tables.{AreVendorTables};
+ghost use Rattle.avp_dict.specs.internal.Tables.{AreVendorTables};
 
 use crate::entries::{VendorFormat, VendorLine};
 use crate::tables::keys::FoldedName;
@@ -23,7 +23,7 @@ pub struct Vendors {
 impl Model for Vendors {
     ghost use Rattle.std.specs.Prelude.{List};
     ghost use Rattle.avp_dict.specs.declared.entries.VendorLine.{VendorLine};
-    ghost use Rattle.avp_dict.specs.code.Tables.{AreVendorTables};
+    ghost use Rattle.avp_dict.specs.internal.Tables.{AreVendorTables};
 
     ghost Value = { List VendorLine };
 

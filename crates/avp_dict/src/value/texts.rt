@@ -9,7 +9,7 @@ ghost use Rattle.avp_dict.specs.Sent.{is_container};
 ghost use Rattle.avp_dict.specs.Spellings.{address_spelled, bytes_spelled, decimal_octet, digit_pair, ether_spelled, is_barred, AnswersValue, is_colon, negated, number_spelled, octets_spelled, signed_spelled, spelled, spelled_by, up_to, value_spelled};
 ghost use Rattle.avp_dict.specs.Vendors.{vendor};
 ghost use Rattle.avp_dict.specs.Words.{digits};
-ghost use Rattle.avp_dict.specs.code.Numbers.{Reads};
+ghost use Rattle.avp_dict.specs.internal.Numbers.{Reads};
 
 use crate::attribute_numbers::{VENDOR_SPECIFIC, is_extended_type};
 use crate::dictionaries::Dictionary;

@@ -2,8 +2,8 @@ use Rattle.std.proofs.Common.{◌≡◌, ◌∙◌, false, not, sym, ap}
 use Rattle.std.proofs.lemmas.List.Folds.{list_any_at}
 use Rattle.avp_lists.specs.declared.edits.Op.{Op}
 use Rattle.avp_lists.specs.Growth.{adds_one}
-use Rattle.avp_lists.specs.code.Shown.{shows_id, pairs_of}
-use Rattle.avp_lists.specs.code.Slots.{no_slot}
+use Rattle.avp_lists.specs.internal.Shown.{shows_id, pairs_of}
+use Rattle.avp_lists.specs.internal.Slots.{no_slot}
 use Rattle.avp_lists.proofs.Edited.{any-shown}
 use Rattle.avp_lists.proofs.Planned.{plan-kept}
 use Rattle.avp_lists.proofs.planning.plan_edit.Goals as goal

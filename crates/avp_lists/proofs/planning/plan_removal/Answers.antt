@@ -1,5 +1,5 @@
 use Rattle.std.proofs.Common.{◌∙◌, ◌++◌, List, ap}
-use Rattle.avp_lists.specs.code.Plans.{taken, names_in}
+use Rattle.avp_lists.specs.internal.Plans.{taken, names_in}
 use Rattle.avp_lists.proofs.Planned.{plan-removed}
 use Rattle.avp_lists.proofs.planning.plan_removal.Goals as goal
 

@@ -1,5 +1,5 @@
 use Rattle.std.proofs.Common.{◌≡◌, ◌++◌, drop}
-use Rattle.avp_lists.specs.code.Plans.{taken, names_in}
+use Rattle.avp_lists.specs.internal.Plans.{taken, names_in}
 use Rattle.avp_lists.proofs.planning.push_going.Given as goal
 
 abbrev pub invariant-loop-name : goal.invariant-loop-name

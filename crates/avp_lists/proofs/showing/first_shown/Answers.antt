@@ -2,8 +2,8 @@ use Rattle.std.proofs.Common.{◌≡◌, ◌<◌, ◌∙◌, Some, true, length,
 use Rattle.std.proofs.lemmas.List.{get_or_read}
 use Rattle.avp_lists.specs.declared.attributes.Pair.{Pair}
 use Rattle.avp_lists.specs.Instances.{has_id}
-use Rattle.avp_lists.specs.code.Shown.{same_list, shows, no_pair, pair_of}
-use Rattle.avp_lists.specs.code.Slots.{slot_at}
+use Rattle.avp_lists.specs.internal.Shown.{same_list, shows, no_pair, pair_of}
+use Rattle.avp_lists.specs.internal.Slots.{slot_at}
 use Rattle.avp_lists.proofs.Edited.{and_first}
 use Rattle.avp_lists.proofs.Finding.{found-first, found-none}
 use Rattle.avp_lists.proofs.showing.first_shown.Goals as goal

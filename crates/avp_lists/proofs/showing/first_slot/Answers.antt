@@ -6,8 +6,8 @@ use Rattle.avp_lists.specs.declared.attributes.Pair.{Pair}
 use Rattle.avp_lists.specs.declared.lists.List.{List as WhichList}
 use Rattle.avp_lists.specs.declared.slots.End.TheVariants.{Head, Tail}
 use Rattle.avp_lists.specs.declared.slots.Slot.{Slot}
-use Rattle.avp_lists.specs.code.Shown.{shows_id, shows_id_at, ahead_at}
-use Rattle.avp_lists.specs.code.Slots.{slot_at}
+use Rattle.avp_lists.specs.internal.Shown.{shows_id, shows_id_at, ahead_at}
+use Rattle.avp_lists.specs.internal.Slots.{slot_at}
 use Rattle.avp_lists.proofs.Finding.{first-head, first-tail, none-at_all}
 use Rattle.avp_lists.proofs.showing.first_slot.Goals as goal
 

@@ -1,7 +1,7 @@
 use Rattle.std.proofs.Common.{◌≡◌, ◌≤◌, false, length, drop}
 use Rattle.std.specs.List.{list_any}
 use Rattle.avp_lists.specs.declared.slots.End.TheVariants.{Head}
-use Rattle.avp_lists.specs.code.Shown.{shows_id_at}
+use Rattle.avp_lists.specs.internal.Shown.{shows_id_at}
 use Rattle.avp_lists.proofs.showing.last_head.Given as goal
 
 abbrev pub invariant-loop-end : goal.invariant-loop-end

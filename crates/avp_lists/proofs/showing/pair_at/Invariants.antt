@@ -1,6 +1,6 @@
 use Rattle.std.proofs.Common.{◌≡◌, drop}
 use Rattle.std.specs.List.{slice_get}
-use Rattle.avp_lists.specs.code.Shown.{pairs_at}
+use Rattle.avp_lists.specs.internal.Shown.{pairs_at}
 use Rattle.avp_lists.proofs.showing.pair_at.Given as goal
 
 abbrev pub invariant-loop-slot : goal.invariant-loop-slot

@@ -1,5 +1,5 @@
 use Rattle.std.proofs.Common.{◌≡◌, ◌++◌, take}
-use Rattle.avp_lists.specs.code.Shown.{pairs_at}
+use Rattle.avp_lists.specs.internal.Shown.{pairs_at}
 use Rattle.avp_lists.proofs.showing.push_shown.Given as goal
 
 abbrev pub invariant-loop-slot : goal.invariant-loop-slot

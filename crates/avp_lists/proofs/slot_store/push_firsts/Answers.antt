@@ -1,6 +1,6 @@
 use Rattle.std.proofs.Common.{◌≡◌, ◌<◌, ◌+◌, ◌-◌, length, ap, ◌∙◌, arith, length-append}
 use Rattle.std.specs.Vec.{vec_capacity, vec_len}
-use Rattle.avp_lists.specs.code.Plans.{fresh}
+use Rattle.avp_lists.specs.internal.Plans.{fresh}
 use Rattle.avp_lists.proofs.Starting.{fresh_step, length-fresh}
 use Rattle.avp_lists.proofs.slot_store.push_firsts.Goals as goal
 

@@ -1,6 +1,6 @@
 use Rattle.std.proofs.Common.{◌≡◌, ◌≤◌, ◌++◌, ◌-◌}
 use Rattle.std.specs.Vec.{vec_capacity}
-use Rattle.avp_lists.specs.code.Plans.{fresh}
+use Rattle.avp_lists.specs.internal.Plans.{fresh}
 use Rattle.avp_lists.proofs.slot_store.push_firsts.Given as goal
 
 abbrev pub invariant-loop-pair : goal.invariant-loop-pair

@@ -1,6 +1,6 @@
 use Rattle.std.proofs.Common.{◌∙◌, map, ap, rules}
 use Rattle.std.proofs.lemmas.List.Elements.{filter_from_retain}
-use Rattle.avp_lists.specs.code.Slots.{is_live, kept}
+use Rattle.avp_lists.specs.internal.Slots.{is_live, kept}
 use Rattle.avp_lists.proofs.slots.forget_dark.Goals as goal
 
 pub returns : goal.returns

@@ -1,7 +1,7 @@
 use Rattle.std.proofs.Common.{◌<◌, ◌∙◌, List, length, get_or, set, ap, arith}
 use Rattle.avp_lists.specs.declared.slots.Slot.{Slot}
-use Rattle.avp_lists.specs.code.Slots.{no_slot}
-use Rattle.avp_lists.specs.code.Slots.{kept}
+use Rattle.avp_lists.specs.internal.Slots.{no_slot}
+use Rattle.avp_lists.specs.internal.Slots.{kept}
 use Rattle.avp_lists.proofs.Settling.{kept_more}
 use Rattle.avp_lists.proofs.slots.keep_marks_of.Goals as goal
 

@@ -1,7 +1,7 @@
 use Rattle.std.proofs.Common.{◌<◌, ◌∙◌, ℕ, List, length, get_or, take, sym, ap, arith}
 use Rattle.std.proofs.lemmas.List.{take_more}
 use Rattle.avp_lists.specs.declared.slots.Slot.{Slot}
-use Rattle.avp_lists.specs.code.Slots.{turn, turn_all}
+use Rattle.avp_lists.specs.internal.Slots.{turn, turn_all}
 use Rattle.avp_lists.proofs.Turning.{turn_all_more}
 use Rattle.avp_lists.proofs.slots.turn_all.Goals as goal
 

@@ -1,5 +1,5 @@
 use Rattle.std.proofs.Common.{◌≡◌, take}
-use Rattle.avp_lists.specs.code.Slots.{turn_all}
+use Rattle.avp_lists.specs.internal.Slots.{turn_all}
 use Rattle.avp_lists.proofs.slots.turn_all.Given as goal
 
 abbrev pub invariant-loop-name : goal.invariant-loop-name

@@ -1,6 +1,6 @@
 use Rattle.std.proofs.Common.{◌≡◌, length, ap, ◌∙◌}
 use Rattle.std.proofs.lemmas.List.{with_items_is}
-use Rattle.avp_lists.specs.code.Slots.{forward}
+use Rattle.avp_lists.specs.internal.Slots.{forward}
 use Rattle.avp_lists.proofs.slots.turn_slots.Goals as goal
 
 pub returns : goal.returns

@@ -1,6 +1,6 @@
 use Rattle.std.proofs.Common.{ℕ, List, ◌∙◌, ap}
 use Rattle.avp_lists.specs.declared.steps.Change.TheVariants.{Turned}
-use Rattle.avp_lists.specs.code.Slots.{forward}
+use Rattle.avp_lists.specs.internal.Slots.{forward}
 use Rattle.avp_lists.proofs.Turning.{firsts-forward}
 use Rattle.avp_lists.proofs.Replay.{change_at_read, ahead_by}
 use Rattle.avp_lists.proofs.steps.go_ahead.Goals as goal

@@ -1,6 +1,6 @@
 use Rattle.std.proofs.Common.{ℕ, List, ◌∙◌, ap}
 use Rattle.avp_lists.specs.declared.steps.Change.TheVariants.{Turned}
-use Rattle.avp_lists.specs.code.Slots.{backward}
+use Rattle.avp_lists.specs.internal.Slots.{backward}
 use Rattle.avp_lists.proofs.Turning.{firsts-backward}
 use Rattle.avp_lists.proofs.Replay.{change_at_read, back_by}
 use Rattle.avp_lists.proofs.steps.go_back.Goals as goal

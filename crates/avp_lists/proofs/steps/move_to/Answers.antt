@@ -1,8 +1,8 @@
 use Rattle.std.proofs.Common.{◌≡◌, List, length, map, sym, ap, ◌∙◌, subst, []}
 use Rattle.std.proofs.lemmas.List.{with_items_is}
 use Rattle.avp_lists.specs.declared.slots.Slot.{Slot}
-use Rattle.avp_lists.specs.code.Slots.{at_first}
-use Rattle.avp_lists.specs.code.Steps.{slots_at, node}
+use Rattle.avp_lists.specs.internal.Slots.{at_first}
+use Rattle.avp_lists.specs.internal.Steps.{slots_at, node}
 use Rattle.avp_lists.proofs.Moves.{standing-moved, node_within, node_standing}
 use Rattle.avp_lists.proofs.steps.move_to.Goals as goal
 

@@ -1,6 +1,6 @@
 use Rattle.std.proofs.Common.{◌≡◌, ◌<◌, ◌+◌, ◌-◌, ℕ, true, length, map}
-use Rattle.avp_lists.specs.code.Slots.{at_first}
-use Rattle.avp_lists.specs.code.Steps.{slots_at, change_at, turns}
+use Rattle.avp_lists.specs.internal.Slots.{at_first}
+use Rattle.avp_lists.specs.internal.Steps.{slots_at, change_at, turns}
 use Rattle.avp_lists.proofs.Leading.{Leads}
 use Rattle.avp_lists.proofs.steps.travel.Given as goal
 

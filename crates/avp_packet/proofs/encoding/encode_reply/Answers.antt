@@ -7,7 +7,7 @@ use Rattle.avp_packet.specs.Meanings.{meaning}
 use Rattle.avp_packet.specs.Packets.{attributes_of, digest_over, hiding_authenticator, packet, reply, reply_content, zeros}
 use Rattle.avp_packet.specs.Sending.{Content}
 use Rattle.avp_packet.specs.Splitting.{left, parts}
-use Rattle.avp_packet.specs.code.Filling.{divided_octets}
+use Rattle.avp_packet.specs.internal.Filling.{divided_octets}
 use Rattle.avp_packet.proofs.Assembled.{attributes_of-packet, is_reply-packet, is_signed-packet, length-digest_over, length_reply}
 use Rattle.avp_packet.proofs.Filled.{length-hmac}
 use Rattle.avp_packet.proofs.OneMeaning.{meant_by}

@@ -9,7 +9,7 @@ use Rattle.avp_packet.specs.Meanings.{meaning}
 use Rattle.avp_packet.specs.Packets.{attributes_of, hiding_authenticator, packet, request, request_authenticator, request_content, zeros}
 use Rattle.avp_packet.specs.Sending.{Content}
 use Rattle.avp_packet.specs.Splitting.{left, parts}
-use Rattle.avp_packet.specs.code.Filling.{divided_octets}
+use Rattle.avp_packet.specs.internal.Filling.{divided_octets}
 use Rattle.avp_packet.proofs.Assembled.{attributes_of-packet, is_signed-packet, length-request_authenticator, length_request}
 use Rattle.avp_packet.proofs.Filled.{length-hmac}
 use Rattle.avp_packet.proofs.OneMeaning.{meant_by}

@@ -5,7 +5,7 @@ use Rattle.avp_packet.specs.declared.faults.EncodeFault.TheVariants.{TooLong}
 use Rattle.avp_packet.specs.Hmac.{hmac}
 use Rattle.avp_packet.specs.Packets.{authenticator_of, hiding_authenticator, packet, request, request_authenticator, request_content, zeros}
 use Rattle.avp_packet.specs.Sending.{Content}
-use Rattle.avp_packet.specs.code.Filling.{divided_octets}
+use Rattle.avp_packet.specs.internal.Filling.{divided_octets}
 use Rattle.avp_packet.proofs.Assembled.{authenticator_of-packet, length-request_authenticator, length_request}
 use Rattle.avp_packet.proofs.Filled.{length-hmac}
 use Rattle.avp_packet.proofs.SentLists.{length-laid, signed_octets}

@@ -2,7 +2,7 @@ use Rattle.std.proofs.Common.{◌∙◌, List, sym, ap}
 use Rattle.avp_packet.specs.AttributeOctets.{part}
 use Rattle.avp_packet.specs.Meanings.{run, run_with}
 use Rattle.avp_packet.specs.Splitting.{Part, parts}
-use Rattle.avp_packet.specs.code.Views.{piece_view}
+use Rattle.avp_packet.specs.internal.Views.{piece_view}
 use Rattle.avp_packet.proofs.Runs.{run-nil, run-none, run-some}
 use Rattle.avp_packet.proofs.Splits.{parts-none, parts-octets}
 use Rattle.avp_packet.proofs.fragments.next_piece.Goals as goal

@@ -3,7 +3,7 @@ use Rattle.std.specs.Option.{option_map}
 use Rattle.avp_packet.specs.AttributeOctets.{part}
 use Rattle.avp_packet.specs.Meanings.{Run, extended_type, first_run, long_pair, others_in, run}
 use Rattle.avp_packet.specs.Splitting.{Part, parts}
-use Rattle.avp_packet.specs.code.Views.{run_view}
+use Rattle.avp_packet.specs.internal.Views.{run_view}
 use Rattle.avp_packet.proofs.Runs.{run_rest}
 use Rattle.avp_packet.proofs.Splits.{parts-octets}
 use Rattle.avp_packet.proofs.pairs.push_long.Goals as goal

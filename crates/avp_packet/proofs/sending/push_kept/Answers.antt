@@ -1,5 +1,5 @@
 use Rattle.std.proofs.Common.{◌≡◌, [], ◌∷◌, sym, append-nil}
-use Rattle.avp_packet.specs.code.Filling.{kept}
+use Rattle.avp_packet.specs.internal.Filling.{kept}
 use Rattle.avp_packet.proofs.Written.{written-nil}
 use Rattle.avp_packet.proofs.sending.push_kept.Goals as goal
 

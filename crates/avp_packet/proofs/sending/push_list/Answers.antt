@@ -2,7 +2,7 @@ use Rattle.std.proofs.Common.{rules, ◌≡◌, ◌∙◌, Err, ◌+◌, ◌++�
 use Rattle.std.proofs.lemmas.List.{drop_all, drop_more, length-append}
 use Rattle.avp_lists.specs.declared.attributes.Pair.{Pair}
 use Rattle.avp_packet.specs.AttributeOctets.{attribute_octets}
-use Rattle.avp_packet.specs.code.Filling.{kept}
+use Rattle.avp_packet.specs.internal.Filling.{kept}
 use Rattle.avp_packet.specs.declared.faults.EncodeFault.TheVariants.{TooLong}
 use Rattle.avp_packet.proofs.Written.{kept-cons, kept-nil, ranged_more, written-more}
 use Rattle.avp_packet.proofs.sending.push_list.Goals as goal

@@ -1,7 +1,7 @@
 use Rattle.std.proofs.Common.{◌≡◌, ◌++◌, ℕ, ◌<◌, ◌≤◌, drop, get_or, length}
 use Rattle.avp_lists.specs.declared.attributes.Pair.{Pair}
-use Rattle.avp_packet.specs.code.Filling.{kept}
-use Rattle.avp_packet.specs.code.Ranges.{IsVendorInRange}
+use Rattle.avp_packet.specs.internal.Filling.{kept}
+use Rattle.avp_packet.specs.internal.Ranges.{IsVendorInRange}
 use Rattle.avp_packet.specs.declared.sending.TheConstants.{MOST_ATTRIBUTE_OCTETS}
 use Rattle.avp_packet.specs.AttributeOctets.{attribute_octets}
 use Rattle.avp_packet.proofs.sending.push_list.Given as goal

@@ -1,6 +1,6 @@
 use Rattle.std.proofs.Common.{◌≡◌, ◌∙◌, ◌++◌, ◌∷◌, [], List, map, sym, ap, append_assoc, append-nil}
 use Rattle.avp_packet.specs.Meanings.{Sub, sub_pair, subs}
-use Rattle.avp_packet.specs.code.Views.{sub_view}
+use Rattle.avp_packet.specs.internal.Views.{sub_view}
 use Rattle.avp_packet.proofs.Subs.{begins_some, subs_more, subs_none}
 use Rattle.avp_packet.proofs.subattributes.push_subs.Goals as goal
 

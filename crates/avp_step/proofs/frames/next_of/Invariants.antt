@@ -1,6 +1,6 @@
 use Rattle.std.proofs.Common.{◌≤◌, vec_capacity}
 use Rattle.avp_step.specs.declared.frames.TheConstants.{MOST_FRAMES}
-use Rattle.avp_step.specs.code.Frames.{rest, IsSame, Sit, StaysSuited, all_skips, frames_suit}
+use Rattle.avp_step.specs.internal.Frames.{rest, IsSame, Sit, StaysSuited, all_skips, frames_suit}
 use Rattle.std.specs.Prelude.{None}
 use Rattle.avp_step.proofs.frames.next_of.Given as goal
 

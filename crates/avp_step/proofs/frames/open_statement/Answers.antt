@@ -3,8 +3,8 @@ use Rattle.std.specs.List.{list_all}
 use Rattle.avp_unlang.specs.Suiting.{branches_suit, else_suits, policy_suits, statement_suits}
 use Rattle.avp_unlang.specs.Resolutions.{line_suits}
 use Rattle.avp_unlang.specs.Depth.{depth}
-use Rattle.avp_step.specs.code.Skips.{skips}
-use Rattle.avp_step.specs.code.Frames.{frames_suit}
+use Rattle.avp_step.specs.internal.Skips.{skips}
+use Rattle.avp_step.specs.internal.Frames.{frames_suit}
 use Rattle.avp_unlang.specs.Depth.{depth_of_branches}
 use Rattle.avp_step.proofs.Equations.{skips_Update, skips_If}
 use Rattle.avp_unlang.proofs.SpelledSuits.{suits_Update, suits_If, suits_Transaction}

@@ -1,4 +1,4 @@
-use Rattle.radpolicy.specs.code.ReplyHeads.{AnswerIsRead, LineIsRead}
+use Rattle.radpolicy.specs.internal.ReplyHeads.{AnswerIsRead, LineIsRead}
 use Rattle.radpolicy.proofs.Replying.{head_read, none_read, ok_map}
 use Rattle.radpolicy.proofs.running.push_sent.Goals as goal
 

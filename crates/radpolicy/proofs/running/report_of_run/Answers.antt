@@ -2,7 +2,7 @@ use Rattle.std.proofs.Common.{ap}
 use Rattle.std.specs.Option.{option_copied}
 use Rattle.avp_unlang.specs.Meaning.{Outcome as End}
 use Rattle.radpolicy.specs.JobReports.{run_of}
-use Rattle.radpolicy.specs.code.ReplyHeads.{LineIsRead}
+use Rattle.radpolicy.specs.internal.ReplyHeads.{LineIsRead}
 use Rattle.radpolicy.proofs.Replying.{line_read_by}
 use Rattle.radpolicy.proofs.running.report_of_run.Goals as goal
 

@@ -1,6 +1,6 @@
 use Rattle.std.proofs.Common.{◌≡◌, drop, map}
 use Rattle.radpolicy.specs.Scripts.{words_named}
-use Rattle.radpolicy.specs.code.ScriptReading.{after_named}
+use Rattle.radpolicy.specs.internal.ScriptReading.{after_named}
 use Rattle.radpolicy.proofs.scripts.words_of_texts.Given as goal
 
 abbrev pub invariant-loop-text : goal.invariant-loop-text

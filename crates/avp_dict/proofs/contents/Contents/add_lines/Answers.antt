@@ -1,8 +1,8 @@
 use Rattle.std.proofs.Common.{◌∙◌, ◌+◌, drop, sym, ap, arith}
 use Rattle.std.proofs.lemmas.Result.{err_from_is_err_and}
 use Rattle.avp_dict.specs.Values.{resolve}
-use Rattle.avp_dict.specs.code.Contents.{contents_view}
-use Rattle.avp_dict.specs.code.Meanings.{reading_views}
+use Rattle.avp_dict.specs.internal.Contents.{contents_view}
+use Rattle.avp_dict.specs.internal.Meanings.{reading_views}
 use Rattle.avp_dict.proofs.Resolving.{next_readings, no_readings, resolve_fails, resolve_none, resolve_ok, some_reading}
 use Rattle.avp_dict.proofs.contents.Contents.add_lines.Goals as goal
 

@@ -1,7 +1,7 @@
 use Rattle.std.proofs.Common.{◌≡◌, drop}
 use Rattle.avp_dict.specs.Values.{resolve}
-use Rattle.avp_dict.specs.code.Contents.{contents_view}
-use Rattle.avp_dict.specs.code.Meanings.{reading_views}
+use Rattle.avp_dict.specs.internal.Contents.{contents_view}
+use Rattle.avp_dict.specs.internal.Meanings.{reading_views}
 use Rattle.avp_dict.proofs.contents.Contents.add_lines.Given as goal
 
 abbrev pub invariant-loop-reading : goal.invariant-loop-reading

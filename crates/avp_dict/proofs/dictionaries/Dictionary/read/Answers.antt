@@ -1,6 +1,6 @@
 use Rattle.std.proofs.Common.{rules}
 use Rattle.avp_dict.specs.DictionaryReading.{most_lines}
-use Rattle.avp_dict.specs.code.Contents.{contents_view}
+use Rattle.avp_dict.specs.internal.Contents.{contents_view}
 use Rattle.avp_dict.proofs.Placed.{fault_in, notes_in}
 use Rattle.avp_dict.proofs.SoundDictionary.{sound_of}
 use Rattle.avp_dict.proofs.dictionaries.Dictionary.read.Goals as goal

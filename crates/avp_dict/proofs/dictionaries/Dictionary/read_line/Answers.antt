@@ -2,7 +2,7 @@ use Rattle.std.proofs.Common.{◌∙◌, ap}
 use Rattle.std.proofs.lemmas.Result.{err_from_is_err_and}
 use Rattle.avp_dict.specs.declared.request.tokens.Side.TheVariants.{Name, Value}
 use Rattle.avp_dict.specs.RequestLines.{tokens_at}
-use Rattle.avp_dict.specs.code.LineReading.{pairs_at}
+use Rattle.avp_dict.specs.internal.LineReading.{pairs_at}
 use Rattle.avp_dict.proofs.PairSteps.{line_ends, many_refused, none_refused, pair_more, refuses_all, rest_refused}
 use Rattle.avp_dict.proofs.dictionaries.Dictionary.read_line.Goals as goal
 

@@ -2,7 +2,7 @@ use Rattle.std.proofs.Common.{◌≡◌, ◌≤◌, length}
 use Rattle.avp_lists.specs.States.{most_pairs}
 use Rattle.avp_dict.specs.declared.request.tokens.Side.TheVariants.{Name}
 use Rattle.avp_dict.specs.RequestLines.{tokens_at}
-use Rattle.avp_dict.specs.code.LineReading.{after_pairs, pairs_at}
+use Rattle.avp_dict.specs.internal.LineReading.{after_pairs, pairs_at}
 use Rattle.avp_dict.proofs.dictionaries.Dictionary.read_line.Given as goal
 
 abbrev pub invariant-loop-first : goal.invariant-loop-first

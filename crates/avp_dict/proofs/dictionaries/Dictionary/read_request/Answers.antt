@@ -3,7 +3,7 @@ use Rattle.std.proofs.lemmas.Result.{err_from_is_err_and}
 use Rattle.avp_dict.specs.Lines.{texts_of}
 use Rattle.avp_dict.specs.Requests.{request_spelled}
 use Rattle.avp_dict.specs.RequestLines.{is_blank_line, is_idle_line, without_front}
-use Rattle.avp_dict.specs.code.LineReading.{after_pairs, packet_pairs}
+use Rattle.avp_dict.specs.internal.LineReading.{after_pairs, packet_pairs}
 use Rattle.avp_dict.proofs.Fitting.{request_fits}
 use Rattle.avp_dict.proofs.PairSteps.{line_read, none_before, only_one, packet_ends, packet_goes_on, packet_none, request_ends, request_fails, request_refused}
 use Rattle.avp_dict.proofs.SpelledClean.{request_clean}

@@ -2,7 +2,7 @@ use Rattle.std.proofs.Common.{◌≡◌, ◌+◌, ◌≤◌, length}
 use Rattle.avp_lists.specs.States.{most_pairs}
 use Rattle.avp_dict.specs.Lines.{texts_of}
 use Rattle.avp_dict.specs.RequestLines.{is_idle_line, without_front}
-use Rattle.avp_dict.specs.code.LineReading.{after_pairs, packet_pairs}
+use Rattle.avp_dict.specs.internal.LineReading.{after_pairs, packet_pairs}
 use Rattle.avp_dict.proofs.dictionaries.Dictionary.read_request.Given as goal
 
 abbrev pub invariant-loop-line : goal.invariant-loop-line

@@ -1,7 +1,7 @@
 use Rattle.std.proofs.Common.{◌≡◌, length}
 use Rattle.std.specs.List.{list_any}
 use Rattle.avp_dict.specs.Blocks.{opens_skipped}
-use Rattle.avp_dict.specs.code.Meanings.{reading_views}
+use Rattle.avp_dict.specs.internal.Meanings.{reading_views}
 use Rattle.avp_dict.proofs.file.context.is_skipping.Given as goal
 
 abbrev pub invariant-loop-rest : goal.invariant-loop-rest

@@ -2,7 +2,7 @@ use Rattle.std.proofs.Common.{◌≡◌, length}
 use Rattle.std.specs.List.{list_any}
 use Rattle.avp_dict.proofs.file.types.any_makes_octets.Given as goal
 use Rattle.avp_dict.specs.Types.{is_opaque}
-use Rattle.avp_dict.specs.code.Views.{views}
+use Rattle.avp_dict.specs.internal.Views.{views}
 
 abbrev pub invariant-loop-rest : goal.invariant-loop-rest
 invariant-loop-rest l = list_any is_opaque (views l.rest) ≡ list_any is_opaque (views l.flags)

@@ -1,6 +1,6 @@
 use Rattle.std.proofs.Common.{◌≡◌, take, flat_map}
 use Rattle.avp_dict.specs.Settled.{skipped_name}
-use Rattle.avp_dict.specs.code.Meanings.{reading_views}
+use Rattle.avp_dict.specs.internal.Meanings.{reading_views}
 use Rattle.avp_dict.proofs.file.values.add_skipped.Given as goal
 
 abbrev pub invariant-loop-reading : goal.invariant-loop-reading

@@ -2,7 +2,7 @@ use Rattle.std.proofs.Common.{◌≡◌, ◌++◌, length}
 use Rattle.std.specs.List.{filter, slice_split}
 use Rattle.avp_dict.proofs.file.words.words_between_blanks.Given as goal
 use Rattle.avp_dict.specs.Words.{is_blank, is_word}
-use Rattle.avp_dict.specs.code.Views.{views}
+use Rattle.avp_dict.specs.internal.Views.{views}
 
 abbrev pub invariant-loop-part : goal.invariant-loop-part
 invariant-loop-part l = views l.words.items ++ filter is_word (slice_split is_blank l.rest) ≡ filter is_word (slice_split is_blank l.plain)

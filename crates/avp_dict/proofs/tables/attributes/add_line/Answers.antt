@@ -2,7 +2,7 @@ use Rattle.std.proofs.Common.{◌≡◌, rules, ap, map, subst, sym, length, ◌
 use Rattle.std.proofs.lemmas.List.Elements.{All-push}
 use Rattle.avp_dict.specs.Letters.{most_name}
 use Rattle.avp_dict.specs.Dictionary.{attribute_key}
-use Rattle.avp_dict.specs.code.Tables.{id_key, same_id_key}
+use Rattle.avp_dict.specs.internal.Tables.{id_key, same_id_key}
 use Rattle.avp_dict.specs.Words.{lower}
 use Rattle.avp_dict.proofs.LineTables.{line_added}
 use Rattle.avp_dict.proofs.tables.attributes.add_line.Goals as goal

@@ -1,7 +1,7 @@
 use Rattle.std.proofs.Common.{◌≡◌, rules, ap, map, subst, sym, length, ◌≤◌, ◌∙◌, All}
 use Rattle.std.proofs.lemmas.List.Elements.{All-push}
 use Rattle.avp_dict.specs.Letters.{most_name}
-use Rattle.avp_dict.specs.code.Tables.{same_value_name, same_value_number, value_name_key, value_number_key}
+use Rattle.avp_dict.specs.internal.Tables.{same_value_name, same_value_number, value_name_key, value_number_key}
 use Rattle.avp_dict.specs.Words.{lower}
 use Rattle.avp_dict.proofs.LineTables.{line_added}
 use Rattle.avp_dict.proofs.tables.values.add_line.Goals as goal

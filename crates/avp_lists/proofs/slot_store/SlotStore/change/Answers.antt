@@ -6,8 +6,8 @@ use Rattle.avp_lists.specs.declared.slots.Slot.{Slot}
 use Rattle.avp_lists.specs.declared.steps.Change.TheVariants.{Turned}
 use Rattle.avp_lists.specs.declared.steps.Step.{Step}
 use Rattle.avp_lists.specs.History.{History}
-use Rattle.avp_lists.specs.code.Plans.{pooled, planned, IsPlan}
-use Rattle.avp_lists.specs.code.Steps.{slots_at, no_step, step_at, BacksBelow, AllCounted, CountsWithin, CountsGrow, AllHoused, StatesLimited}
+use Rattle.avp_lists.specs.internal.Plans.{pooled, planned, IsPlan}
+use Rattle.avp_lists.specs.internal.Steps.{slots_at, no_step, step_at, BacksBelow, AllCounted, CountsWithin, CountsGrow, AllHoused, StatesLimited}
 use Rattle.avp_lists.proofs.Changing.{length-changed, below-changed, counted-changed, counts-changed, grow-changed, housed-changed, standing-changed, states-changed, limited-changed, slim-changed}
 use Rattle.avp_lists.proofs.slot_store.SlotStore.change.Goals as goal
 

@@ -4,7 +4,7 @@ use Rattle.std.specs.Option.{is_none}
 use Rattle.avp_lists.specs.declared.attributes.Pair.{Pair}
 use Rattle.avp_lists.specs.declared.slots.Slot.{Slot}
 use Rattle.avp_lists.specs.Instances.{has_id}
-use Rattle.avp_lists.specs.code.Shown.{shows_id}
+use Rattle.avp_lists.specs.internal.Shown.{shows_id}
 use Rattle.avp_lists.proofs.Edited.{any-shown}
 use Rattle.avp_lists.proofs.ShownPairs.{present-list, none_where}
 use Rattle.avp_lists.proofs.slot_store.SlotStore.has_none.Goals as goal

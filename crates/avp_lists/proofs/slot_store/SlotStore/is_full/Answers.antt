@@ -1,6 +1,6 @@
 use Rattle.std.proofs.Common.{◌∙◌, sym, get_or, arith}
 use Rattle.avp_lists.specs.States.{empty_state, list_of}
-use Rattle.avp_lists.specs.code.Steps.{states_of}
+use Rattle.avp_lists.specs.internal.Steps.{states_of}
 use Rattle.avp_lists.proofs.Lengths.{grows_past, length-apply}
 use Rattle.avp_lists.proofs.slot_store.SlotStore.is_full.Goals as goal
 

@@ -4,7 +4,7 @@ use Rattle.avp_lists.specs.declared.lists.List.TheVariants.{Request, Reply, Cont
 use Rattle.avp_lists.specs.declared.steps.Change.TheVariants.{Turned}
 use Rattle.avp_lists.specs.declared.steps.Step.{Step}
 use Rattle.avp_lists.specs.History.{History}
-use Rattle.avp_lists.specs.code.Slots.{Housed}
+use Rattle.avp_lists.specs.internal.Slots.{Housed}
 use Rattle.avp_lists.specs.States.{IsLimited}
 use Rattle.avp_lists.proofs.Settling.{housed_all, standing-alone, counted-alone, counts-alone, grow-alone, below-alone, housed-alone, states-alone, limited-alone}
 use Rattle.avp_lists.proofs.Starting.{started-length, started-state}

@@ -1,7 +1,7 @@
 use Rattle.std.proofs.Common.{List, length, sym, ap, ◌∙◌}
 use Rattle.std.specs.List.{filter}
 use Rattle.avp_lists.specs.declared.slots.Slot.{Slot}
-use Rattle.avp_lists.specs.code.Shown.{shows}
+use Rattle.avp_lists.specs.internal.Shown.{shows}
 use Rattle.avp_lists.proofs.ShownPairs.{present-list, length-pairs_of}
 use Rattle.avp_lists.proofs.slot_store.SlotStoreStore.count.Goals as goal
 

@@ -1,6 +1,6 @@
 use Rattle.std.proofs.Common.{◌≡◌, true, false, get_or}
 use Rattle.avp_lists.specs.States.{empty_state, IsFull}
-use Rattle.avp_lists.specs.code.Steps.{states_of}
+use Rattle.avp_lists.specs.internal.Steps.{states_of}
 use Rattle.avp_lists.proofs.Limits.{edited_limited}
 use Rattle.avp_lists.proofs.slot_store.SlotStoreStore.edit.Goals as goal
 

@@ -3,7 +3,7 @@ use Rattle.std.specs.List.{find}
 use Rattle.avp_lists.specs.declared.attributes.Pair.{Pair}
 use Rattle.avp_lists.specs.declared.slots.Slot.{Slot}
 use Rattle.avp_lists.specs.Instances.{has_id}
-use Rattle.avp_lists.specs.code.Shown.{pairs_of}
+use Rattle.avp_lists.specs.internal.Shown.{pairs_of}
 use Rattle.avp_lists.proofs.Fronts.{find-front}
 use Rattle.avp_lists.proofs.ShownPairs.{present-list}
 use Rattle.avp_lists.proofs.slot_store.SlotStoreStore.first.Goals as goal

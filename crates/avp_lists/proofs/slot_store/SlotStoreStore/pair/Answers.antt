@@ -2,7 +2,7 @@ use Rattle.std.proofs.Common.{◌∙◌, ap, ap₂, sym, List}
 use Rattle.std.specs.List.{slice_get}
 use Rattle.avp_lists.specs.declared.attributes.Pair.{Pair}
 use Rattle.avp_lists.specs.declared.slots.Slot.{Slot}
-use Rattle.avp_lists.specs.code.Shown.{pairs_of}
+use Rattle.avp_lists.specs.internal.Shown.{pairs_of}
 use Rattle.avp_lists.proofs.ShownPairs.{present-list}
 use Rattle.avp_lists.proofs.slot_store.SlotStoreStore.pair.Goals as goal
 

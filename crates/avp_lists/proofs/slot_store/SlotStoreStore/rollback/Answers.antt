@@ -5,9 +5,9 @@ use Rattle.avp_lists.specs.declared.steps.Change.TheVariants.{Back}
 use Rattle.avp_lists.specs.declared.steps.Step.{Step}
 use Rattle.avp_lists.specs.History.{History}
 use Rattle.avp_lists.specs.States.{empty_state, IsLimited}
-use Rattle.avp_lists.specs.code.Steps.{slots_at, states_of, no_step, step_at, change_at, turns, node, BacksBelow, AllCounted, CountsWithin, CountsGrow, AllHoused, StatesLimited}
+use Rattle.avp_lists.specs.internal.Steps.{slots_at, states_of, no_step, step_at, change_at, turns, node, BacksBelow, AllCounted, CountsWithin, CountsGrow, AllHoused, StatesLimited}
 use Rattle.avp_lists.proofs.Replay.{node_fits}
-use Rattle.avp_lists.specs.code.SlotLaws.{length-states_of}
+use Rattle.avp_lists.specs.internal.SlotLaws.{length-states_of}
 use Rattle.avp_lists.proofs.Moves.{housed-same, steps_within}
 use Rattle.avp_lists.proofs.Continuing.{length-more, counted-more, counts-more, grow-more, below-more, standing-back, housed-back, limited-continued, states-rolled}
 use Rattle.avp_lists.proofs.slot_store.SlotStoreStore.rollback.Goals as goal

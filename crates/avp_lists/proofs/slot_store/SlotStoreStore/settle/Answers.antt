@@ -4,8 +4,8 @@ use Rattle.avp_lists.specs.declared.lists.State.{State}
 use Rattle.avp_lists.specs.declared.steps.Change.TheVariants.{Turned}
 use Rattle.avp_lists.specs.declared.steps.Step.{Step}
 use Rattle.avp_lists.specs.History.{History}
-use Rattle.avp_lists.specs.code.Shown.{state_of}
-use Rattle.avp_lists.specs.code.Slots.{is_live, at_first, Housed}
+use Rattle.avp_lists.specs.internal.Shown.{state_of}
+use Rattle.avp_lists.specs.internal.Slots.{is_live, at_first, Housed}
 use Rattle.avp_lists.specs.States.{IsLimited}
 use Rattle.avp_lists.proofs.Settling.{firsts-kept, settled_state, settled_within, housed_all, standing-alone, counted-alone, counts-alone, grow-alone, below-alone, housed-alone, states-alone, limited-alone}
 use Rattle.avp_lists.proofs.ShownPairs.{present-shown, pairs-now}

@@ -1,5 +1,5 @@
 use Rattle.std.proofs.Common.{arith}
-use Rattle.avp_lists.specs.code.SlotLaws.{length-states_of}
+use Rattle.avp_lists.specs.internal.SlotLaws.{length-states_of}
 use Rattle.avp_lists.proofs.slot_store.SlotStoreStore.steps.Goals as goal
 
 pub returns : goal.returns

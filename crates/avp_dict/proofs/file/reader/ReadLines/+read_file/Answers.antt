@@ -3,8 +3,8 @@ use Rattle.std.proofs.lemmas.Result.{err_from_is_err_and}
 use Rattle.avp_dict.specs.Lines.{Line, expanded, file_included, file_named, included_by, lines_below, lines_in, texts_of}
 use Rattle.avp_dict.specs.Outcomes.{Refuses}
 use Rattle.avp_dict.specs.Readings.{read_lines}
-use Rattle.avp_dict.specs.code.Meanings.{reading_views}
-use Rattle.avp_dict.specs.code.Views.{views}
+use Rattle.avp_dict.specs.internal.Meanings.{reading_views}
+use Rattle.avp_dict.specs.internal.Views.{views}
 use Rattle.avp_dict.proofs.Gathering.{begins, below_none, below_some, goes_on, lines_in_none, lines_in_open}
 use Rattle.avp_dict.proofs.file.reader.ReadLines.+read_file.Goals as goal
 use Rattle.avp_dict.proofs.file.reader.ReadLines.+read_file.Goals.{in-Some+in_ok-read_file, in_default}

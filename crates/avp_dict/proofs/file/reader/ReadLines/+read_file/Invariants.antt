@@ -3,7 +3,7 @@ use Rattle.avp_dict.specs.declared.file.gather.TheConstants.{MOST_LEVELS}
 use Rattle.avp_dict.specs.Lines.{Line, expanded, lines_below, lines_in, texts_of}
 use Rattle.avp_dict.specs.Meanings.{context_of}
 use Rattle.avp_dict.specs.Readings.{read_lines}
-use Rattle.avp_dict.specs.code.Meanings.{context_view, reading_views}
+use Rattle.avp_dict.specs.internal.Meanings.{context_view, reading_views}
 use Rattle.avp_dict.proofs.file.reader.ReadLines.+read_file.Given as goal
 
 abbrev pub decreases-read_file : goal.decreases-read_file

@@ -1,6 +1,6 @@
 use Rattle.std.proofs.Common.{ap, ◌∙◌}
 use Rattle.avp_dict.specs.Dictionary.{is_attribute_of, last_where}
-use Rattle.avp_dict.specs.code.Tables.{id_key, same_id_key}
+use Rattle.avp_dict.specs.internal.Tables.{id_key, same_id_key}
 use Rattle.avp_dict.proofs.LineTables.{same_key}
 use Rattle.avp_dict.proofs.tables.attributes.Attributes.by_id.Goals as goal
 

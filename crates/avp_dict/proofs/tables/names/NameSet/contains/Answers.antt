@@ -2,7 +2,7 @@ use Rattle.std.proofs.Common.{ap, map, sym, ◌∙◌, bytes_eq}
 use Rattle.std.specs.List.{list_any}
 use Rattle.avp_dict.specs.Values.{is_same_name}
 use Rattle.avp_dict.specs.Words.{lower}
-use Rattle.avp_dict.specs.code.Views.{views}
+use Rattle.avp_dict.specs.internal.Views.{views}
 use Rattle.avp_dict.proofs.Folding.{same_folded}
 use Rattle.avp_dict.proofs.LineTables.{any_key}
 use Rattle.avp_dict.proofs.tables.names.NameSet.contains.Goals as goal

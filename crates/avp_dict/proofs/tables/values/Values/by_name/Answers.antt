@@ -2,7 +2,7 @@ use Rattle.std.proofs.Common.{ap, ◌&&◌, sym, ◌∙◌}
 use Rattle.avp_lists.specs.Pairs.{id_eq}
 use Rattle.avp_dict.specs.Dictionary.{is_value_named, last_where}
 use Rattle.avp_dict.specs.Words.{same_name}
-use Rattle.avp_dict.specs.code.Tables.{same_value_name, value_name_key}
+use Rattle.avp_dict.specs.internal.Tables.{same_value_name, value_name_key}
 use Rattle.std.proofs.lemmas.Bool.{and_right}
 use Rattle.avp_dict.proofs.Folding.{same_folded}
 use Rattle.avp_dict.proofs.LineTables.{same_key}

@@ -1,6 +1,6 @@
 use Rattle.std.proofs.Common.{ap, ◌&&◌, ◌==◌, ◌∙◌}
 use Rattle.avp_dict.specs.Dictionary.{is_value_numbered, last_where}
-use Rattle.avp_dict.specs.code.Tables.{same_value_number, value_number_key}
+use Rattle.avp_dict.specs.internal.Tables.{same_value_number, value_number_key}
 use Rattle.avp_dict.proofs.LineTables.{same_key}
 use Rattle.avp_dict.proofs.tables.values.Values.by_number.Goals as goal
 

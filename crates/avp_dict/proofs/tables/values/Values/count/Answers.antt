@@ -1,7 +1,7 @@
 use Rattle.std.proofs.Common.{ap, map, ◌&&◌, ◌∙◌}
 use Rattle.std.specs.Set.{distinct_count}
 use Rattle.avp_dict.specs.Counts.{same_value}
-use Rattle.avp_dict.specs.code.Tables.{same_value_name, value_name_key}
+use Rattle.avp_dict.specs.internal.Tables.{same_value_name, value_name_key}
 use Rattle.avp_dict.proofs.Agreement.{id_eq_sym}
 use Rattle.avp_dict.proofs.Folding.{folded_same}
 use Rattle.avp_dict.proofs.LineTables.{lines_counted, same_key}

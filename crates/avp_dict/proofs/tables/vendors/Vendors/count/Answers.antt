@@ -1,7 +1,7 @@
 use Rattle.std.proofs.Common.{ap, map, ◌∙◌, bytes_eq}
 use Rattle.std.specs.Set.{distinct_count}
 use Rattle.avp_dict.specs.Counts.{same_vendor}
-use Rattle.avp_dict.specs.code.Tables.{vendor_key}
+use Rattle.avp_dict.specs.internal.Tables.{vendor_key}
 use Rattle.avp_dict.proofs.Folding.{folded_same}
 use Rattle.avp_dict.proofs.LineTables.{lines_counted}
 use Rattle.avp_dict.proofs.tables.vendors.Vendors.count.Goals as goal

@@ -5,7 +5,7 @@ use Rattle.avp_dict.specs.declared.faults.LineError.{LineError}
 use Rattle.avp_dict.specs.declared.faults.LineError.TheVariants.{Memory, Refused}
 use Rattle.avp_dict.specs.declared.file.meanings.Meaning.{Meaning as CodeMeaning}
 use Rattle.avp_dict.specs.Meanings.{Meaning}
-use Rattle.avp_dict.specs.code.Meanings.{meaning_view}
+use Rattle.avp_dict.specs.internal.Meanings.{meaning_view}
 
 abbrev pub Fails : {Y : Type 0} → LineError → Result Y DictKind → Type 0
 Fails Memory read = Unit {0}

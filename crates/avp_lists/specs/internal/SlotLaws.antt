@@ -7,9 +7,9 @@ use Rattle.std.proofs.lemmas.List.{length-map, length_push}
 use Rattle.avp_lists.specs.declared.attributes.Pair.{Pair}
 use Rattle.avp_lists.specs.declared.slots.Slot.{Slot}
 use Rattle.avp_lists.specs.declared.steps.Step.{Step}
-use Rattle.avp_lists.specs.code.Slots.{at_first}
-use Rattle.avp_lists.specs.code.Steps.{after, replay, every, states_of}
-use Rattle.avp_lists.specs.code.Shown.{state_of}
+use Rattle.avp_lists.specs.internal.Slots.{at_first}
+use Rattle.avp_lists.specs.internal.Steps.{after, replay, every, states_of}
+use Rattle.avp_lists.specs.internal.Shown.{state_of}
 
 -- a state for each step
 pub length-replay : (first : List Slot) (done : List (List Slot)) (steps : List Step) → length (replay first done steps) ≡ length done + length steps

@@ -11,7 +11,7 @@ use Rattle.avp_lists.specs.declared.slots.End.{End}
 use Rattle.avp_lists.specs.declared.slots.End.TheVariants.{Head, Tail}
 use Rattle.avp_lists.specs.declared.slots.Slot.{Slot}
 use Rattle.avp_lists.specs.Instances.{has_id}
-use Rattle.avp_lists.specs.code.Slots.{slot_at}
+use Rattle.avp_lists.specs.internal.Slots.{slot_at}
 
 abbrev pub same_list : WhichList → WhichList → Bool
 same_list Request Request = true

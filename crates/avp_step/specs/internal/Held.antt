@@ -9,8 +9,8 @@ use Rattle.avp_unlang.specs.declared.codes.Code.TheVariants as code
 use Rattle.avp_unlang.specs.declared.tree.Statement.{Statement}
 use Rattle.avp_step.specs.Trace.{Entry, end_of, trace_of}
 use Rattle.avp_step.specs.Walk.{Walk, entry_at}
-use Rattle.avp_step.specs.code.Frames.{Sit, States, frames_suit, rest}
-use Rattle.avp_step.specs.code.Stepping.{StatesFit, entry_of}
+use Rattle.avp_step.specs.internal.Frames.{Sit, States, frames_suit, rest}
+use Rattle.avp_step.specs.internal.Stepping.{StatesFit, entry_of}
 use Rattle.avp_step.specs.declared.frames.Frame.{Frame}
 use Rattle.avp_step.specs.declared.frames.TheConstants.{MOST_FRAMES}
 use Rattle.avp_step.specs.declared.marks.Mark.{Mark}

@@ -9,7 +9,7 @@ use Rattle.avp_unlang.specs.Resolutions.{StateFits}
 use Rattle.avp_unlang.specs.declared.tree.Line.{Line}
 use Rattle.avp_step.specs.Trace.{Entry, Steps}
 use Rattle.avp_step.specs.Walk.{IsLineLabel}
-use Rattle.avp_step.specs.code.Frames.{States, rest}
+use Rattle.avp_step.specs.internal.Frames.{States, rest}
 use Rattle.avp_step.specs.declared.frames.Frame.{Frame}
 use Rattle.avp_step.specs.declared.marks.Mark.{Mark}
 

@@ -12,8 +12,8 @@ use Rattle.avp_lists.specs.declared.slots.End.TheVariants.{Head, Tail}
 use Rattle.avp_lists.specs.declared.slots.Slot.{Slot}
 use Rattle.avp_lists.specs.Instances.{has_id}
 use Rattle.avp_lists.specs.Pairs.{pair_eq}
-use Rattle.avp_lists.specs.code.Shown.{shows, pair_of, state_of}
-use Rattle.avp_lists.specs.code.Slots.{forward, NamesWithin, SwapWithin, PairsWithin}
+use Rattle.avp_lists.specs.internal.Shown.{shows, pair_of, state_of}
+use Rattle.avp_lists.specs.internal.Slots.{forward, NamesWithin, SwapWithin, PairsWithin}
 use Rattle.avp_lists.specs.States.{edited}
 
 -- the end at which an operator adds its pair

@@ -7,8 +7,8 @@ use Rattle.avp_lists.specs.declared.slots.Swap.{Swap}
 use Rattle.avp_lists.specs.declared.steps.Change.{Change}
 use Rattle.avp_lists.specs.declared.steps.Change.TheVariants.{Turned, Back}
 use Rattle.avp_lists.specs.declared.steps.Step.{Step}
-use Rattle.avp_lists.specs.code.Slots.{at_first, forward, NamesWithin, SwapWithin, Housed}
-use Rattle.avp_lists.specs.code.Shown.{state_of}
+use Rattle.avp_lists.specs.internal.Slots.{at_first, forward, NamesWithin, SwapWithin, Housed}
+use Rattle.avp_lists.specs.internal.Shown.{state_of}
 use Rattle.avp_lists.specs.States.{empty_state, IsLimited}
 
 -- the slots of the state after a change, by those of the states before it, and by those of the first state where there are none
