@@ -11,7 +11,7 @@
 #include <stdlib.h>
 #include <string.h>
 
-enum { MOST_OCTETS = 4096 };
+enum { MAX_OCTETS = 4096 };
 
 static RADIUS_PACKET *packet_of(uint8_t const *octets, size_t length) {
     RADIUS_PACKET *packet = rad_alloc(NULL, false);
@@ -45,11 +45,11 @@ int main(int count, char **words) {
         return 1;
     if (count == 3)
         return 0;
-    uint8_t octets[MOST_OCTETS];
+    uint8_t octets[MAX_OCTETS];
     FILE *file = fopen(words[4], "rb");
     if (!file)
         return 1;
-    size_t length = fread(octets, 1, MOST_OCTETS, file);
+    size_t length = fread(octets, 1, MAX_OCTETS, file);
     for (long left = atol(words[5]); left > 0; left--) {
         RADIUS_PACKET *packet = packet_of(octets, length);
         if (!work_on(packet, words[3], !strcmp(words[1], "both")))

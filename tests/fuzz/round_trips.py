@@ -11,7 +11,7 @@ from fuzz import generate, packets
 from fuzz.vocabulary import DICTIONARY, Valued, values
 
 TRIPS = 250
-MOST_OCTETS = 4096
+MAX_OCTETS = 4096
 TOO_LONG = b"radpolicy: E46: packet too long\n"
 
 
@@ -72,7 +72,7 @@ def sent_packet(trip: Trip) -> bytes:
 def encoded_fault(place: Place, wanted: bytes) -> Optional[str]:
     """Lines become exactly that packet, and too many octets are refused."""
     ended = place.run("encode", "-f", "lines", *place.sending)
-    if len(wanted) > MOST_OCTETS:
+    if len(wanted) > MAX_OCTETS:
         is_right = (ended.status, ended.output, ended.errors) == (2, b"", TOO_LONG)
     else:
         is_right = (ended.status, ended.output) == (0, b"packet " + wanted.hex().encode() + b"\n")
@@ -129,7 +129,7 @@ def trip_fault(subject: Subject, number: int) -> Optional[str]:
     with new_folder() as folder:
         place = Place(subject, folder, trip)
         fault = encoded_fault(place, request)
-        if not fault and len(request) <= MOST_OCTETS:
+        if not fault and len(request) <= MAX_OCTETS:
             fault = decoded_fault(place, request) or replied_fault(place, request)
     return f"trip {number}: {fault}" if fault else None
 

@@ -7,7 +7,7 @@ from common.subject import Subject, new_folder
 from growths.refusing import Refusals
 
 DICTIONARY = Path(__file__).parent.parent / "cases" / "dictionary"
-MOST_MORE = 10
+MAX_MORE = 10
 
 
 def attribute(number: int, octets: bytes) -> bytes:
@@ -45,5 +45,5 @@ def check(subject: Subject, report: Report) -> None:
     for name, attributes, values in PACKETS:
         octets = packet(attributes)
         growths = growths_of(subject, octets, 2) - growths_of(subject, octets, 1)
-        wrong = [] if growths <= values + MOST_MORE else [f"more than {MOST_MORE} above its {values} values"]
+        wrong = [] if growths <= values + MAX_MORE else [f"more than {MAX_MORE} above its {values} values"]
         report.check(f"a decode of {name} asks for memory {growths} times", wrong)

@@ -41,7 +41,7 @@ BEFORE_LATER = ["reply += 25 9", "undo", "reply += 25 8", "redo", "list reply"]
 REFUSED_EDIT = 2
 # An append to as many pairs as leave room for one, after a call that takes memory.
 TO_MANY = ["reply !* 18 0", "reply !* 25 0", *["reply += 25 1"] * 4095, "list request", "reply += 25 2"]
-MOST_GROWTHS = 10
+MAX_GROWTHS = 10
 # An append and its undo, how many appends are made, and the calls that make a list full.
 UNDONE = ["control += 25 2", "undo"]
 APPENDS = 1000
@@ -152,11 +152,11 @@ def check_append_to_many(subject: Subject, report: Report) -> None:
     with new_folder() as folder:
         refusals = Refusals(subject, folder)
         whole = refusals.run(command, folder, 0)
-        few = refusals.run(command, folder, whole.asked - MOST_GROWTHS, ALL_LATER)
+        few = refusals.run(command, folder, whole.asked - MAX_GROWTHS, ALL_LATER)
     answer, state = whole.ended.output.decode().splitlines()[-2:]
     wrong = [] if answer == "done" and " pairs 1 4096 0 " in state else [f"it answered {answer}, {state}"]
     listed = few.ended.output.decode().splitlines()[-4]
-    wrong += [] if listed == "refused" else [f"it asks for more than {MOST_GROWTHS} growths"]
+    wrong += [] if listed == "refused" else [f"it asks for more than {MAX_GROWTHS} growths"]
     report.check("an append to 4,095 pairs in slots, with every growth after its tenth refused", wrong)
 
 

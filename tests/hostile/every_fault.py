@@ -5,7 +5,7 @@ from common.documents import faults
 from common.report import Report
 from common.subject import Subject
 from hostile.limits import wrong
-from hostile.sizes import DECODE, ENCODE, MOST_LINES, MOST_PAIRS, MOST_SIZE, RUN, STEP, Row
+from hostile.sizes import DECODE, ENCODE, MAX_LINES, MAX_PAIRS, MAX_SIZE, RUN, STEP, Row
 
 TYPES = b"""ATTRIBUTE User-Name 1 string
 ATTRIBUTE NAS-Port 5 integer
@@ -35,7 +35,7 @@ OF_DICTIONARIES = {
     "E14 dictionary:1": b"END-VENDOR V\n",
     "E15 dictionary:1": b"$INCLUDE other\n",
     "E16 dictionary:1": b"$INCLUDE dictionary\n",
-    f"E17 dictionary:{MOST_LINES + 1}": b"#\n" * (MOST_LINES + 1),
+    f"E17 dictionary:{MAX_LINES + 1}": b"#\n" * (MAX_LINES + 1),
     "E18 dictionary:1": b"VALUE A n 1\n",
     "E19 dictionary:3": b"ATTRIBUTE A 200 integer\nVALUE A n 1\nVALUE A n 2\n",
 }
@@ -45,7 +45,7 @@ OF_REQUESTS = {
     "E32 request:1": b"Nosuch = 1\n",
     "E33 request:1": b"Attr-26 = 0x01\n",
     "E34 request:3": b"Class = 0x01\n\nClass = 0x01\n",
-    f"E35 request:{MOST_PAIRS + 1}": b"Class = 0x01\n" * (MOST_PAIRS + 1),
+    f"E35 request:{MAX_PAIRS + 1}": b"Class = 0x01\n" * (MAX_PAIRS + 1),
     "E36 request:1": b"Class := 0x01\n",
 }
 OF_PACKETS = {
@@ -62,7 +62,7 @@ OF_POLICIES = {
     "E50 policy:1": b"update { Class =~ x }\n",
     "E51 policy:2": b"ok\nupdate { Class 0x01 }\n",
     "E53 policy:1": b"if " + b"(" * 65,
-    f"E54 policy:{MOST_SIZE + 1}": b"ok\n" * (MOST_SIZE + 1),
+    f"E54 policy:{MAX_SIZE + 1}": b"ok\n" * (MAX_SIZE + 1),
     "E55 policy:1": b"update { NAS-Port := &User-Name }\n",
 }
 TOO_LONG = b"Long = 0x" + b"61" * 4012 + b"\nClass = 0x01\n"

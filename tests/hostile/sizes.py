@@ -3,11 +3,11 @@ from dataclasses import dataclass
 from typing import Dict, Iterator, List, Optional
 
 MIB = 1 << 20
-MOST_INPUT = 16 * MIB
-MOST_LINES = 200_000
-MOST_PAIRS = 4096
-MOST_SIZE = 65_535
-MOST_DEPTH = 64
+MAX_INPUT = 16 * MIB
+MAX_LINES = 200_000
+MAX_PAIRS = 4096
+MAX_SIZE = 65_535
+MAX_DEPTH = 64
 TYPES = b"""ATTRIBUTE User-Name 1 string
 ATTRIBUTE User-Password 2 string encrypt=1
 ATTRIBUTE Class 25 octets
@@ -96,12 +96,12 @@ def name_rows() -> List[Row]:
 def depth_rows() -> List[Row]:
     """Policies nested as deep as they may be, and deeper."""
     rows = []
-    for depth in MOST_DEPTH, MOST_DEPTH + 1:
+    for depth in MAX_DEPTH, MAX_DEPTH + 1:
         nested = b"transaction {\n" * depth + b"}\n" * depth
-        fault = None if depth == MOST_DEPTH else f"E53 policy:{depth}"
+        fault = None if depth == MAX_DEPTH else f"E53 policy:{depth}"
         rows.append(check_row(f"{depth} transactions", b"size %d\n" % (2 * depth), fault, policy=nested))
         rows.append(run_row(f"a run of {depth} transactions", b"result ok\n", fault, policy=nested))
-        fault = None if depth == MOST_DEPTH else "E53 policy:1"
+        fault = None if depth == MAX_DEPTH else "E53 policy:1"
         denied = b"if (" + b"!" * (depth - 1) + b"&Class) { }"
         rows.append(check_row(f"{depth - 1} signs of denial", b"size 1\n", fault, policy=denied))
         bracketed = b"if " + b"(" * depth + b"&Class" + b")" * depth + b" { }"
@@ -111,11 +111,11 @@ def depth_rows() -> List[Row]:
 
 def policy_rows() -> List[Row]:
     """Policies as large as they may be, and larger by one line."""
-    many = b"update control {\n" + b"Class !* ANY\n" * MOST_SIZE + b"}\n"
-    more = b"update control {\n" + b"Class !* ANY\n" * (MOST_SIZE + 1) + b"}\n"
-    words = b"ok\n" * MOST_SIZE
-    lines = b"update reply {\n" + b"Class += 0x01\n" * MOST_PAIRS + b"%b}\n"
-    pairs = b"Class = 0x01\n" * MOST_PAIRS
+    many = b"update control {\n" + b"Class !* ANY\n" * MAX_SIZE + b"}\n"
+    more = b"update control {\n" + b"Class !* ANY\n" * (MAX_SIZE + 1) + b"}\n"
+    words = b"ok\n" * MAX_SIZE
+    lines = b"update reply {\n" + b"Class += 0x01\n" * MAX_PAIRS + b"%b}\n"
+    pairs = b"Class = 0x01\n" * MAX_PAIRS
     listed = b"  " + pairs.replace(b"\n", b"\n  ")[:-2]
     return [
         check_row("a policy of 65,535 lines", b"size 65535\n", policy=many),
@@ -151,22 +151,22 @@ def rows_of_size(count: int, name: str, is_longer: bool) -> List[Row]:
 
 def input_rows() -> List[Row]:
     """Files of 16 MiB, and of one octet more, which are not read."""
-    return rows_of_size(MOST_INPUT, "16 MiB", False) + rows_of_size(MOST_INPUT + 1, "more than 16 MiB", True)
+    return rows_of_size(MAX_INPUT, "16 MiB", False) + rows_of_size(MAX_INPUT + 1, "more than 16 MiB", True)
 
 
 def full_rows() -> List[Row]:
     """Inputs of 16 MiB that hold as much as they can."""
-    value = b'User-Name = "' + b"\\" * (MOST_INPUT - 14) + b'"'
-    words = b"(" * (MOST_INPUT - 4)
+    value = b'User-Name = "' + b"\\" * (MAX_INPUT - 14) + b'"'
+    words = b"(" * (MAX_INPUT - 4)
     walk = {"policy": b"", "request": b"", "dictionary": TYPES}
-    pairs = {**walk, "request": b"Class = 0x01\n" * MOST_PAIRS}
+    pairs = {**walk, "request": b"Class = 0x01\n" * MAX_PAIRS}
     return [
         run_row("a request of one quoted text", fault="E31 request:1", request=value),
-        run_row("a request of one name", fault="E32 request:1", request=b"n" * MOST_INPUT),
+        run_row("a request of one name", fault="E32 request:1", request=b"n" * MAX_INPUT),
         run_row("a policy of brackets", fault="E53 policy:1", policy=b"if " + words),
-        run_row("a policy of one word", fault="E51 policy:1", policy=b"n" * MOST_INPUT),
-        Row("a script of one word", STEP, {**walk, "script": b"n" * MOST_INPUT}, "E06 script:1"),
-        Row("a script of 3,355,443 shows", STEP, {**walk, "script": b"show " * (MOST_INPUT // 5)}, end=b"control\n"),
+        run_row("a policy of one word", fault="E51 policy:1", policy=b"n" * MAX_INPUT),
+        Row("a script of one word", STEP, {**walk, "script": b"n" * MAX_INPUT}, "E06 script:1"),
+        Row("a script of 3,355,443 shows", STEP, {**walk, "script": b"show " * (MAX_INPUT // 5)}, end=b"control\n"),
         Row("a script of 20 shows of 4096 pairs", STEP, {**pairs, "script": b"show " * 20}, end=b"control\n"),
         Row("a script of 2,000 shows", STEP, {**pairs, "script": b"show " * 2000}, end=b"control\n", off=SHOWS),
     ]
@@ -174,7 +174,7 @@ def full_rows() -> List[Row]:
 
 def request_rows() -> List[Row]:
     """Requests of as many pairs as there may be, and of one more; packets of as many octets."""
-    pairs = b"Class = 0x01\n" * MOST_PAIRS
+    pairs = b"Class = 0x01\n" * MAX_PAIRS
     listed = b"  " + pairs.replace(b"\n", b"\n  ")[:-2]
     secret = {"dictionary": TYPES, "secret": b"s\n"}
     most = b"Long = " + hexadecimal(4012)
@@ -215,26 +215,26 @@ def include_rows() -> List[Row]:
 
 def line_rows() -> List[Row]:
     """Dictionaries of as many lines as there may be, of each kind, and of one more."""
-    blank = b"\n" * MOST_LINES
-    numbered = range(MOST_LINES)
+    blank = b"\n" * MAX_LINES
+    numbered = range(MAX_LINES)
     names = b"".join(b"ATTRIBUTE N-%d %d integer\n" % (at, at) for at in numbered)
-    alike = b"ATTRIBUTE Class 25 octets\n" * MOST_LINES
-    half = MOST_LINES // 2
-    values = b"ATTRIBUTE A 200 integer\n" + b"".join(b"VALUE A N-%d %d\n" % (at, at) for at in range(MOST_LINES - 1))
+    alike = b"ATTRIBUTE Class 25 octets\n" * MAX_LINES
+    half = MAX_LINES // 2
+    values = b"ATTRIBUTE A 200 integer\n" + b"".join(b"VALUE A N-%d %d\n" % (at, at) for at in range(MAX_LINES - 1))
     same = b"ATTRIBUTE A 200 integer\n" * half + b"VALUE A One 1\n" * half
     vendors = b"".join(b"VENDOR N-%d %d\n" % (at, at) for at in numbered)
-    skipped = b"ATTRIBUTE A 200.1 integer\n" * MOST_LINES
+    skipped = b"ATTRIBUTE A 200.1 integer\n" * MAX_LINES
     blocks = b"VENDOR V 9\n\n" + b"BEGIN-VENDOR V\nEND-VENDOR V\n" * (half - 1)
     nested = b"BEGIN-TLV T\n" * half + b"END-TLV T\n" * half
     return [
         check_row("200,000 blank lines", COUNTS % (1, 0, 0, 0, 0), dictionary=blank),
         check_row("200,001 blank lines", fault="E17 dictionary:200001", dictionary=blank + b"\n"),
         check_row("200,001 lines, the last of them bad", fault="E17 dictionary:200001", dictionary=blank + b"bad\n"),
-        check_row("200,000 names of attributes", COUNTS % (1, MOST_LINES, 0, 0, 0), dictionary=names),
+        check_row("200,000 names of attributes", COUNTS % (1, MAX_LINES, 0, 0, 0), dictionary=names),
         check_row("200,000 lines of one attribute", COUNTS % (1, 1, 0, 0, 0), dictionary=alike),
-        check_row("199,999 names of values", COUNTS % (1, 1, MOST_LINES - 1, 0, 0), dictionary=values),
+        check_row("199,999 names of values", COUNTS % (1, 1, MAX_LINES - 1, 0, 0), dictionary=values),
         check_row("100,000 lines of one value", COUNTS % (1, 1, 1, 0, 0), dictionary=same),
-        check_row("200,000 vendors", COUNTS % (1, 0, 0, MOST_LINES, 0), dictionary=vendors),
+        check_row("200,000 vendors", COUNTS % (1, 0, 0, MAX_LINES, 0), dictionary=vendors),
         check_row("200,000 skipped lines", b"note dictionary:200000\n", dictionary=skipped),
         check_row("99,999 blocks", COUNTS % (1, 0, 0, 1, 0), dictionary=blocks),
         check_row("100,000 blocks in one another", b"note dictionary:200000\n", dictionary=nested),

@@ -16,7 +16,7 @@ use Rattle.avp_lists.specs.declared.attributes.AttrId.TheVariants as ids
 use Rattle.avp_lists.specs.declared.attributes.Pair.{Pair}
 use Rattle.avp_lists.specs.declared.attributes.Value.{Value}
 use Rattle.avp_lists.specs.declared.attributes.Value.TheVariants as values
-use Rattle.avp_lists.specs.States.{most_pairs}
+use Rattle.avp_lists.specs.States.{max_pairs}
 use Rattle.avp_dict.specs.declared.entries.Named.{Named}
 use Rattle.avp_dict.specs.declared.entries.Kind.{Kind}
 use Rattle.avp_dict.specs.declared.entries.Kind.TheVariants as kinds
@@ -85,7 +85,7 @@ module _ (d : Dictionary) (test : Pair → Bool) (passes : (a : Assignment) → 
   pairs_pass (a ∷ as_) = first_passes (pair_spelled d a) (pairs_spelled d as_) (passes a) (pairs_pass as_)
 
   few_pass : (pairs : List Pair) → ArePassing pairs → IfSome (few_enough pairs) ArePassing
-  few_pass pairs h = cond_both (nat_le (length pairs) most_pairs) _ _ (λ o. IfSome o ArePassing) (λ few. h) (λ many. tt)
+  few_pass pairs h = cond_both (nat_le (length pairs) max_pairs) _ _ (λ o. IfSome o ArePassing) (λ few. h) (λ many. tt)
 
   pub request_passes : (text : List ℕ) (pairs : List Pair) → request_spelled text d ≡ Some pairs → list_all test pairs ≡ true
   unfolding request_spelled

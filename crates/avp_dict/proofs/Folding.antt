@@ -1,7 +1,7 @@
 -- Names are the same where their octets in lower case are.
 use Rattle.std.proofs.Common.{◌≡◌, ◌≢◌, ◌≤◌, ◌<◌, ℕ, suc, false, ◌&&◌, ◌==◌, List, [], ◌∷◌, length, map, refl, sym, ap, arith, ◌∙◌, bytes_eq}
 use Rattle.std.proofs.lemmas.Bool.{and_right}
-use Rattle.avp_dict.specs.Letters.{most_name}
+use Rattle.avp_dict.specs.Letters.{max_name}
 use Rattle.avp_dict.specs.Words.{lower, same_name}
 use Rattle.avp_dict.proofs.Agreement.{same_name_sym}
 
@@ -22,5 +22,5 @@ other_length (x ∷ xs) [] h = refl
 other_length (x ∷ xs) (y ∷ ys) h = and_right (lower x == lower y) (same_name xs ys) (other_length xs ys (λ e. h (ap suc e)))
 
 -- a name that is longer than any name
-pub too_long : (a b : List ℕ) → length a ≤ most_name → most_name < length b → same_name a b ≡ false
+pub too_long : (a b : List ℕ) → length a ≤ max_name → max_name < length b → same_name a b ≡ false
 too_long a b short long = other_length a b (λ e. omega (arith, e, short, long))

@@ -3,7 +3,7 @@ use Rattle.std.proofs.Common.{◌≡◌, ◌≢◌, ℕ, ◌<◌, ◌≤◌, Boo
 use Rattle.std.specs.List.{list_all}
 use Rattle.std.proofs.lemmas.Grind.{common_steps}
 use Rattle.avp_lists.specs.declared.attributes.Pair.{Pair}
-use Rattle.avp_lists.specs.States.{most_pairs}
+use Rattle.avp_lists.specs.States.{max_pairs}
 use Rattle.avp_dict.specs.declared.entries.Named.{Named}
 use Rattle.avp_dict.specs.declared.request.faults.LineKind.{LineKind}
 use Rattle.avp_dict.specs.declared.request.faults.LineKind.TheVariants as kinds
@@ -142,10 +142,10 @@ packet_none d = refl
 
 -- ---- limits
 
-few_enough-short : (pairs : List Pair) → length pairs ≤ most_pairs → few_enough pairs ≡ Some pairs
+few_enough-short : (pairs : List Pair) → length pairs ≤ max_pairs → few_enough pairs ≡ Some pairs
 few_enough-short pairs few = grind (arith, common_steps)
 
-few_enough-long : (pairs : List Pair) → most_pairs < length pairs → few_enough pairs ≡ None
+few_enough-long : (pairs : List Pair) → max_pairs < length pairs → few_enough pairs ≡ None
 few_enough-long pairs many = grind (arith, common_steps)
 
 pub after_none : (pairs : List Pair) (here : Option (List Pair)) → here ≡ None → after_pairs pairs here ≡ None
@@ -167,7 +167,7 @@ unfolding IsRefused
 none_refused before pairs whole here same none = λ more. rw (← same, after_none pairs here none)
 
 -- one pair more than a list may have
-pub many_refused : (before pairs : List Pair) (whole here after : Option (List Pair)) (pair : Pair) → after_pairs pairs here ≡ after_pairs before whole → here ≡ after_pairs (pair ∷ []) after → length pairs ≡ most_pairs → IsRefused before whole
+pub many_refused : (before pairs : List Pair) (whole here after : Option (List Pair)) (pair : Pair) → after_pairs pairs here ≡ after_pairs before whole → here ≡ after_pairs (pair ∷ []) after → length pairs ≡ max_pairs → IsRefused before whole
 unfolding IsRefused after_pairs
 many_refused before pairs whole here None pair same one full = λ more. rw (← same, one)
 many_refused before pairs whole here (Some ps) pair same one full = λ more. rw (← same, one) (go more)
@@ -198,7 +198,7 @@ line_ends d pairs here whole same end = sym same ∙ rw (end, append-nil)
 
 module _ (text : List ℕ) (d : Dictionary) (pairs : List Pair) (lines : List (List ℕ)) (read : after_pairs pairs (packet_pairs d lines) ≡ packet_pairs d (without_front is_idle_line (texts_of text))) where
   -- the packet has ended
-  pub request_ends : packet_pairs d lines ≡ Some [] → length pairs ≤ most_pairs → request_spelled text d ≡ Some pairs
+  pub request_ends : packet_pairs d lines ≡ Some [] → length pairs ≤ max_pairs → request_spelled text d ≡ Some pairs
   unfolding request_spelled assignments_of packet_pairs
   request_ends end few = rw (← read, after_nothing pairs (packet_pairs d lines) end) (few_enough-short pairs few)
 

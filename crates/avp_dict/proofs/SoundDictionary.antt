@@ -19,7 +19,7 @@ use Rattle.avp_dict.proofs.SoundLines.{AllRead, AreRead, IsReadAttribute, is_ran
 use Rattle.avp_dict.specs.Blocks.{innermost}
 use Rattle.avp_dict.specs.Dictionary.{Dictionary, id_named, number_named, typing_of_id}
 use Rattle.avp_dict.specs.DictionaryReading.{dictionary_of, outline_of, settled, unless_open}
-use Rattle.avp_dict.specs.Letters.{is_word_octet, most_name}
+use Rattle.avp_dict.specs.Letters.{is_word_octet, max_name}
 use Rattle.avp_dict.specs.Limits.{is_known}
 use Rattle.avp_dict.specs.Lines.{lines_of}
 use Rattle.avp_dict.specs.Meanings.{Meaning, Value, Reading, Context, context_of}
@@ -27,7 +27,7 @@ use Rattle.avp_dict.specs.Readings.{read_lines}
 use Rattle.avp_dict.specs.Settled.{is_kept, is_kept_line, skipped_names, used}
 use Rattle.avp_dict.specs.Soundness.{IsSound, IsSoundAttribute, IsSoundValue, IsSoundVendor, names_other_id, names_other_value}
 use Rattle.avp_dict.specs.Steps.{refused_at, ◌>>=◌}
-use Rattle.avp_dict.specs.Values.{is_noted, is_of_other_number, is_same_name, is_value_name, most_of_typing, reads_as_number, resolve, value_of, value_up_to, with_line, with_note, with_value}
+use Rattle.avp_dict.specs.Values.{is_noted, is_of_other_number, is_same_name, is_value_name, max_of_typing, reads_as_number, resolve, value_of, value_up_to, with_line, with_note, with_value}
 use Rattle.avp_dict.specs.Words.{same_name}
 
 -- ---- the used attributes and the vendors
@@ -81,7 +81,7 @@ value_more values new are is =
 no_number : (name : List ℕ) → not (is_value_name name) ≡ false → reads_as_number name ≡ false
 unfolding is_value_name
 no_number name h =
-    not-true (reads_as_number name) (and_parts (list_all is_word_octet name && nat_le (length name) most_name) (not (reads_as_number name)) (not-false (is_value_name name) h)).1
+    not-true (reads_as_number name) (and_parts (list_all is_word_octet name && nat_le (length name) max_name) (not (reads_as_number name)) (not-false (is_value_name name) h)).1
 
 -- what a line adds is sound
 abbrev AddsSound : List ValueLine → Result (Option ValueLine) DictKind → Type 0
@@ -127,7 +127,7 @@ module _ (skipped : List (List ℕ)) (d : Dictionary) (sound : IsSound d) where
 
   value_of_adds : (attribute name : List ℕ) (number : ℕ) (id : Option AttrId) → AddsSound d.values (value_of skipped d attribute name number id)
   unfolding value_of
-  value_of_adds attribute name number (Some id) = value_up_to_adds id name number (option_and_then most_of_typing (typing_of_id id d.attributes))
+  value_of_adds attribute name number (Some id) = value_up_to_adds id name number (option_and_then max_of_typing (typing_of_id id d.attributes))
   value_of_adds attribute name number None = cond_both (list_any (is_same_name attribute) skipped) _ _ (AddsSound d.values) (λ h. tt) (λ h. tt)
 
   note_sound : (r : Reading) → IsSound (with_note d r)

@@ -27,7 +27,7 @@ use Rattle.avp_dict.specs.AttributeNumbers.{greatest_number, greatest_value}
 use Rattle.avp_dict.specs.Attributes.{attribute, attribute_line, attribute_of, dotted_word, id_word, is_attribute_name, is_extended, is_held, is_number, is_of_other_id, number_id, number_word, vendor_id}
 use Rattle.avp_dict.specs.Blocks.{begin_known, begin_tlv, begin_vendor, block_vendor, end_tlv, end_vendor, ended, is_skipping, unless_third}
 use Rattle.avp_dict.specs.Dictionary.{format_of, id_named, vendor_named}
-use Rattle.avp_dict.specs.Letters.{begins_as_attr, is_comma, is_dot, is_name_octet, is_visible, word_before_bracket, most_name}
+use Rattle.avp_dict.specs.Letters.{begins_as_attr, is_comma, is_dot, is_name_octet, is_visible, word_before_bracket, max_name}
 use Rattle.avp_dict.specs.Lines.{Line, file_included, is_include}
 use Rattle.avp_dict.specs.Meanings.{Meaning, Vendor, Attribute, BeginVendor, Reading, Context, after_line, context_of}
 use Rattle.avp_dict.specs.Readings.{include, plain_line, read_head, read_line, read_lines, read_words, skipped, value, within}
@@ -47,19 +47,19 @@ is_ranged _ = true
 -- of an ATTRIBUTE line, by the lines that are there
 pub record IsReadAttribute (lines : List AttributeLine) (a : AttributeLine) : Type 0 where
   pub named : begins_as_attr a.name ≡ false
-  pub short : length a.name ≤ most_name
+  pub short : length a.name ≤ max_name
   pub alone : All (λ b. names_other_id a.name a.id b ≡ false) lines
   pub ranged : is_ranged a.id ≡ true
   pub hides : a.typing.hidden ≡ true → is_text_kind (Some a.typing.kind) ≡ true
 
 -- of a VENDOR line
 pub record IsReadVendor (v : VendorLine) : Type 0 where
-  pub short : length v.name ≤ most_name
+  pub short : length v.name ≤ max_name
   pub format : IsSoundVendor v
 
 -- of an ATTRIBUTE line that is new: it is alone where those before it are
 pub record IsNewAttribute (lines : List AttributeLine) (a : AttributeLine) : Type 0 where
-  pub short : length a.name ≤ most_name
+  pub short : length a.name ≤ max_name
   pub read : AreAloneNames lines → IsReadAttribute lines a
 
 abbrev pub IsRead : Context → Meaning → Type 0
@@ -117,16 +117,16 @@ extended_ranged : (b : Bool) (t x : ℕ) → (b && is_extended 1 t x) ≡ true �
 extended_ranged b t x h = grind (arith, common_steps)
 
 -- a name has no form of a name by number, and is short
-good_name : (name : List ℕ) (flags : Bool) → (is_attribute_name name && flags) ≡ true → (begins_as_attr name ≡ false) × (length name ≤ most_name)
+good_name : (name : List ℕ) (flags : Bool) → (is_attribute_name name && flags) ≡ true → (begins_as_attr name ≡ false) × (length name ≤ max_name)
 unfolding is_attribute_name
 good_name name flags h =
-    let short = nat_le (length name) most_name in
+    let short = nat_le (length name) max_name in
     let parts = and_parts (list_all is_name_octet name && short) (not (begins_as_attr name)) (and_parts (is_attribute_name name) flags h).0 in
-    (not-true (begins_as_attr name) parts.1, leb-true (length name) most_name (and_parts (list_all is_name_octet name) short parts.0).1)
+    (not-true (begins_as_attr name) parts.1, leb-true (length name) max_name (and_parts (list_all is_name_octet name) short parts.0).1)
 
-short_vendor : (name : List ℕ) → is_vendor_name name ≡ true → length name ≤ most_name
+short_vendor : (name : List ℕ) → is_vendor_name name ≡ true → length name ≤ max_name
 unfolding is_vendor_name
-short_vendor name h = leb-true (length name) most_name (and_parts (list_all is_visible name) (nat_le (length name) most_name) h).1
+short_vendor name h = leb-true (length name) max_name (and_parts (list_all is_visible name) (nat_le (length name) max_name) h).1
 
 hides_by : (own : Option Kind) (opaque hiding : Bool) → (typing_by own opaque hiding).hidden ≡ true → is_text_kind (Some (typing_by own opaque hiding).kind) ≡ true
 hides_by own true hiding h = refl
@@ -208,7 +208,7 @@ module _ (before : Context) where
       cond_both (nat_lt (length word) 7) _ _ IsKnownFormat (λ short. tt)
       (λ long. cond_both (same_name (take 7 word) (codes "format=")) _ _ IsKnownFormat (λ h. format_parts_known (slice_split is_comma (drop 7 word))) (λ other. tt))
 
-  vendor_numbered_reads : (name : List ℕ) (f : VendorFormat) → length name ≤ most_name → is_format f.t f.l ≡ true → (n : ℕ) → Reads before (vendor_numbered before.vendors name f n)
+  vendor_numbered_reads : (name : List ℕ) (f : VendorFormat) → length name ≤ max_name → is_format f.t f.l ≡ true → (n : ℕ) → Reads before (vendor_numbered before.vendors name f n)
   unfolding vendor_numbered
   vendor_numbered_reads name f short known n = either before (is_other_vendor n (vendor_named name before.vendors)) _ _ tt (record { short = short; format = known })
 

@@ -2,8 +2,8 @@
 use Rattle.std.specs.Prelude.{ℕ, Bool, ◌&&◌, nat_le}
 
 -- the greatest number that an attribute's one octet holds (RFC 2865, section 5)
-abbrev pub most_plain : ℕ
-most_plain = 255
+abbrev pub max_plain : ℕ
+max_plain = 255
 
 -- the greatest number of an attribute and of a vendor: 32 bits
 abbrev pub greatest_number : ℕ

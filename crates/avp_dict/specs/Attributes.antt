@@ -12,7 +12,7 @@ use Rattle.avp_dict.specs.declared.entries.VendorLine.{VendorLine}
 use Rattle.avp_dict.specs.Meanings.{Meaning, Attribute, SkippedAttribute, Context}
 use Rattle.avp_dict.specs.Words.{number_of}
 use Rattle.avp_dict.specs.AttributeNumbers.{greatest_number, is_extended_type}
-use Rattle.avp_dict.specs.Letters.{is_dot, is_comma, is_name_octet, begins_as_attr, most_name}
+use Rattle.avp_dict.specs.Letters.{is_dot, is_comma, is_name_octet, begins_as_attr, max_name}
 use Rattle.avp_dict.specs.Steps.{◌>>=◌}
 use Rattle.avp_dict.specs.Dictionary.{format_of, id_named}
 use Rattle.avp_dict.specs.Types.{are_flags, typing_of}
@@ -24,11 +24,11 @@ abbrev pub is_extended : ℕ → ℕ → ℕ → Bool
 is_extended least t x = is_extended_type t && nat_le least x && nat_le x 255
 
 -- the greatest number that 1, 2 or 4 octets hold
-abbrev pub most_in : ℕ → ℕ
-most_in t = if t == 1 then 255 else (if t == 2 then 65535 else greatest_number)
+abbrev pub max_in : ℕ → ℕ
+max_in t = if t == 1 then 255 else (if t == 2 then 65535 else greatest_number)
 
 abbrev pub is_held : ℕ → VendorFormat → Bool
-is_held n f = nat_le n (most_in f.t)
+is_held n f = nat_le n (max_in f.t)
 
 -- the id of a number in a block of this vendor, where the vendor's octets hold it
 abbrev pub vendor_id : ℕ → ℕ → Option VendorFormat → Option AttrId
@@ -65,7 +65,7 @@ id_word vendors block parts = many_words parts
 -- ---- the line
 
 unfoldable pub is_attribute_name : List ℕ → Bool
-is_attribute_name name = list_all is_name_octet name && nat_le (length name) most_name && not (begins_as_attr name)
+is_attribute_name name = list_all is_name_octet name && nat_le (length name) max_name && not (begins_as_attr name)
 
 -- an earlier line gave the name to another id: the last one decides, since each line of a name agreed with those before it
 abbrev pub is_of_other_id : AttrId → Option AttrId → Bool

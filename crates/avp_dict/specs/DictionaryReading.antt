@@ -18,8 +18,8 @@ unless_open None x = Ok x
 unless_open (Some r) x = Err (record { file = r.file; line = r.line; kind = Unmatched })
 
 -- so many lines are read
-abbrev pub most_lines : ℕ
-most_lines = 200000
+abbrev pub max_lines : ℕ
+max_lines = 200000
 
 -- what the lines define, without the names of values and the notes
 abbrev pub outline_of : Context → Dictionary

@@ -4,8 +4,8 @@ use Rattle.std.specs.List.{before_first}
 use Rattle.avp_dict.specs.Words.{lower, same_name}
 
 -- a name has so many octets at most
-abbrev pub most_name : ℕ
-most_name = 128
+abbrev pub max_name : ℕ
+max_name = 128
 
 abbrev pub is_dot : ℕ → Bool
 is_dot o = o == 46

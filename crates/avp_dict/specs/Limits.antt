@@ -10,12 +10,12 @@ use Rattle.avp_lists.specs.declared.attributes.Pair.{Pair}
 use Rattle.avp_dict.specs.declared.entries.Format.{Format}
 use Rattle.avp_dict.specs.declared.entries.Kind.{Kind}
 use Rattle.avp_dict.specs.declared.entries.Kind.TheVariants as kinds
-use Rattle.avp_dict.specs.AttributeNumbers.{greatest_number, is_extended_type, most_plain}
+use Rattle.avp_dict.specs.AttributeNumbers.{greatest_number, is_extended_type, max_plain}
 use Rattle.avp_dict.specs.Dictionary.{Dictionary}
 use Rattle.avp_dict.specs.Names.{vendor_format}
-use Rattle.avp_dict.specs.Octets.{kind_of, is_hidden, most_hidden, octets, ends_in_nul}
+use Rattle.avp_dict.specs.Octets.{kind_of, is_hidden, max_hidden_octets, octets, ends_in_nul}
 use Rattle.avp_dict.specs.Settled.{is_in_format}
-use Rattle.avp_dict.specs.Values.{most_of}
+use Rattle.avp_dict.specs.Values.{max_of}
 
 -- ---- lengths
 
@@ -28,14 +28,14 @@ abbrev pub extended_room : ℕ → ℕ
 extended_room t = if nat_le 241 t && nat_le t 244 then 252 else (if nat_le 245 t && nat_le t 246 then 4012 else 0)
 
 -- the most octets of an id's attribute; 0 where the vendor has no format of two parts
-unfoldable pub most_octets : AttrId → Dictionary → ℕ
-most_octets (ids.Plain n) dictionary = if nat_le n most_plain then 253 else 4012
-most_octets (ids.Vendor vendor n) dictionary = option_map_or vendor_room (vendor_format vendor dictionary) 0
-most_octets (ids.Extended t n) dictionary = extended_room t
+unfoldable pub max_octets : AttrId → Dictionary → ℕ
+max_octets (ids.Plain n) dictionary = if nat_le n max_plain then 253 else 4012
+max_octets (ids.Vendor vendor n) dictionary = option_map_or vendor_room (vendor_format vendor dictionary) 0
+max_octets (ids.Extended t n) dictionary = extended_room t
 
 -- the most octets of a value of the id's type
 unfoldable pub greatest_length : AttrId → Dictionary → ℕ
-greatest_length id dictionary = if is_hidden id dictionary then min most_hidden (most_octets id dictionary) else most_octets id dictionary
+greatest_length id dictionary = if is_hidden id dictionary then min max_hidden_octets (max_octets id dictionary) else max_octets id dictionary
 
 -- ---- fitting pairs
 
@@ -46,9 +46,9 @@ is_known (ids.Vendor vendor n) dictionary = is_in_format vendor n dictionary.ven
 is_known (ids.Extended t n) dictionary = is_extended_type t
 
 -- the greatest number of a type
-abbrev pub most_number : Kind → Option ℕ
-most_number kinds.Date = Some greatest_number
-most_number kind = most_of kind
+abbrev pub max_number : Kind → Option ℕ
+max_number kinds.Date = Some greatest_number
+max_number kind = max_of kind
 
 -- a value of the type
 abbrev pub is_of_kind : Value → Kind → Bool
@@ -57,7 +57,7 @@ is_of_kind (values.Bytes os) kinds.Bytes = true
 is_of_kind (Addr os) kinds.Addr = true
 is_of_kind (Ether os) kinds.Ether = true
 is_of_kind (Signed z) kinds.Signed = true
-is_of_kind (Int n) kind = option_map_or (nat_le n) (most_number kind) false
+is_of_kind (Int n) kind = option_map_or (nat_le n) (max_number kind) false
 is_of_kind _ _ = false
 
 -- a value of the id's type, or raw octets
@@ -72,7 +72,7 @@ is_value_within id value dictionary = nat_le (length (octets id value dictionary
 
 -- raw octets have the length that the id's attribute holds
 abbrev pub is_within : AttrId → Value → Dictionary → Bool
-is_within id (Raw os) dictionary = nat_le (length os) (most_octets id dictionary)
+is_within id (Raw os) dictionary = nat_le (length os) (max_octets id dictionary)
 is_within id value dictionary = is_value_within id value dictionary
 
 unfoldable pub fits : Pair → Dictionary → Bool

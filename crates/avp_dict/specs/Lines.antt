@@ -72,14 +72,14 @@ expanded below file depth number [] = []
 expanded below file depth number (text ∷ texts) = record { file = file; number = number; depth = depth; text = text } ∷ (below text ++ expanded below file depth (number + 1) texts)
 
 -- includes go so many files deep
-abbrev pub most_depth : ℕ
-most_depth = 8
+abbrev pub max_depth : ℕ
+max_depth = 8
 
 -- the lines of a file, where so many levels of files may be open, itself included
 unfoldable pub lines_in : List NamedFile → ℕ → ℕ → List Line
 lines_in files zero place = []
-lines_in files (suc levels) place = expanded (lines_below files (lines_in files levels)) place (most_depth - levels) 1 (texts_of (octets_at files place))
+lines_in files (suc levels) place = expanded (lines_below files (lines_in files levels)) place (max_depth - levels) 1 (texts_of (octets_at files place))
 
 -- all lines of the set: the main file is the first
 unfoldable pub lines_of : List NamedFile → List Line
-lines_of files = lines_in files (suc most_depth) 0
+lines_of files = lines_in files (suc max_depth) 0

@@ -13,7 +13,7 @@ use Rattle.avp_dict.specs.declared.entries.Named.{Named}
 use Rattle.avp_dict.specs.Words.{digits}
 use Rattle.avp_dict.specs.Letters.{is_dot, begins_as_attr}
 use Rattle.avp_dict.specs.Dictionary.{Dictionary, last_where, is_attribute_of, id_named, format_of}
-use Rattle.avp_dict.specs.AttributeNumbers.{greatest_number, most_plain, vendor_specific}
+use Rattle.avp_dict.specs.AttributeNumbers.{greatest_number, max_plain, vendor_specific}
 use Rattle.avp_dict.specs.Attributes.{is_extended}
 use Rattle.avp_dict.specs.Settled.{is_in_format}
 
@@ -21,7 +21,7 @@ use Rattle.avp_dict.specs.Settled.{is_in_format}
 
 -- Attr-N
 abbrev pub plain_numbered : Option ℕ → Option AttrId
-plain_numbered (Some n) = if nat_le n most_plain then Some (ids.Plain n) else None
+plain_numbered (Some n) = if nat_le n max_plain then Some (ids.Plain n) else None
 plain_numbered None = None
 
 -- Attr-T.N

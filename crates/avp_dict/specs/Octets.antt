@@ -81,12 +81,12 @@ abbrev pub ends_in_nul : List ℕ → Bool
 ends_in_nul os = option_map_or is_nul (slice_get os (length os - 1)) false
 
 -- hidden octets are so many at most (RFC 2865, section 5.2)
-abbrev pub most_hidden : ℕ
-most_hidden = 128
+abbrev pub max_hidden_octets : ℕ
+max_hidden_octets = 128
 
 -- octets that can be hidden and shown again (RFC 2865, section 5.2)
 abbrev pub is_hideable : List ℕ → Bool
-is_hideable os = nat_le (length os) most_hidden && not (ends_in_nul os)
+is_hideable os = nat_le (length os) max_hidden_octets && not (ends_in_nul os)
 
 abbrev pub read_by : List ℕ → Described → Option Value
 read_by os d = if d.hidden && not (is_hideable os) then None else value_read d.kind os

@@ -5,7 +5,7 @@ use Rattle.avp_dict.specs.declared.faults.DictKind.{DictKind}
 use Rattle.avp_dict.specs.declared.faults.DictKind.TheVariants.{Unreadable, NoFile, TooDeep, TooLong}
 use Rattle.avp_dict.specs.declared.faults.DictFault.{DictFault}
 use Rattle.avp_dict.specs.Meanings.{Meaning, Nothing, Skipped, SkippedAttribute, Value, Reading, Context, context_of}
-use Rattle.avp_dict.specs.Lines.{Line, is_include, file_included, most_depth}
+use Rattle.avp_dict.specs.Lines.{Line, is_include, file_included, max_depth}
 use Rattle.avp_dict.specs.Words.{words_of, same_name}
 use Rattle.avp_dict.specs.Steps.{◌>>=◌, refused_at}
 use Rattle.avp_dict.specs.AttributeNumbers.{greatest_value}
@@ -18,7 +18,7 @@ use Rattle.avp_dict.specs.Attributes.{attribute}
 -- whether the file has to be there, its place if it is, and the depth of the line
 abbrev pub include_line : Bool → Option ℕ → ℕ → Result Meaning DictKind
 include_line required None depth = if required then Err NoFile else Ok Skipped
-include_line required (Some place) depth = if nat_lt depth most_depth then Ok Nothing else Err TooDeep
+include_line required (Some place) depth = if nat_lt depth max_depth then Ok Nothing else Err TooDeep
 
 unfoldable pub include : Option ℕ → ℕ → List ℕ → List (List ℕ) → Result Meaning DictKind
 include found depth head (path ∷ []) = include_line (same_name head (codes "$include")) found depth

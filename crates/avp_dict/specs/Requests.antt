@@ -4,7 +4,7 @@ use Rattle.std.specs.Option.{option_and_then, option_map}
 use Rattle.std.specs.Result.{result_ok}
 use Rattle.avp_lists.specs.declared.attributes.Pair.{Pair}
 use Rattle.avp_lists.specs.declared.attributes.Value.{Value}
-use Rattle.avp_lists.specs.States.{most_pairs}
+use Rattle.avp_lists.specs.States.{max_pairs}
 use Rattle.avp_dict.specs.declared.entries.Named.{Named}
 use Rattle.avp_dict.specs.Dictionary.{Dictionary}
 use Rattle.avp_dict.specs.Names.{named}
@@ -29,7 +29,7 @@ pairs_spelled dictionary (a ∷ as_) = joined (option_map (λ pair. pair ∷ [])
 
 -- no more pairs than a list may have
 abbrev pub few_enough : List Pair → Option (List Pair)
-few_enough pairs = if nat_le (length pairs) most_pairs then Some pairs else None
+few_enough pairs = if nat_le (length pairs) max_pairs then Some pairs else None
 
 -- the request of a text: the pairs that its lines assign
 unfoldable pub request_spelled : List ℕ → Dictionary → Option (List Pair)

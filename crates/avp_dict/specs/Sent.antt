@@ -7,9 +7,9 @@ use Rattle.avp_lists.specs.declared.attributes.Value.{Value}
 use Rattle.avp_lists.specs.declared.attributes.Value.TheVariants.{Raw}
 use Rattle.avp_lists.specs.declared.attributes.Pair.{Pair}
 use Rattle.avp_lists.specs.Pairs.{value_eq}
-use Rattle.avp_dict.specs.AttributeNumbers.{is_extended_type, most_plain, vendor_specific}
+use Rattle.avp_dict.specs.AttributeNumbers.{is_extended_type, max_plain, vendor_specific}
 use Rattle.avp_dict.specs.Dictionary.{Dictionary}
-use Rattle.avp_dict.specs.Octets.{is_hidden, most_hidden, octets, value_of_octets}
+use Rattle.avp_dict.specs.Octets.{is_hidden, max_hidden_octets, octets, value_of_octets}
 use Rattle.avp_dict.specs.Limits.{fits}
 
 abbrev pub is_raw : Value → Bool
@@ -23,12 +23,12 @@ is_container _ = false
 
 -- an attribute that is never sent
 abbrev pub is_internal : AttrId → Bool
-is_internal (ids.Plain n) = nat_lt most_plain n
+is_internal (ids.Plain n) = nat_lt max_plain n
 is_internal _ = false
 
 -- a length of hidden octets: 16, 32, .. up to the most (RFC 2865, section 5.2)
 abbrev pub is_block_length : ℕ → Bool
-is_block_length n = (n % 16 == 0) && nat_le 16 n && nat_le n most_hidden
+is_block_length n = (n % 16 == 0) && nat_le 16 n && nat_le n max_hidden_octets
 
 -- a value that is read back under a hidden attribute: raw octets would be taken for hidden ones if their length were one of those
 abbrev pub is_shown : Value → Bool

@@ -14,7 +14,7 @@ use Rattle.avp_dict.specs.declared.faults.DictKind.TheVariants.{OutOfRange, NoAt
 use Rattle.avp_dict.specs.declared.faults.DictFault.{DictFault}
 use Rattle.avp_dict.specs.AttributeNumbers.{greatest_number, greatest_value}
 use Rattle.avp_dict.specs.Dictionary.{Dictionary, id_named, number_named, typing_of_id}
-use Rattle.avp_dict.specs.Letters.{is_word_octet, most_name}
+use Rattle.avp_dict.specs.Letters.{is_word_octet, max_name}
 use Rattle.avp_dict.specs.Meanings.{Meaning, Skipped, SkippedAttribute, Attribute, Value, BeginVendor, BeginTlv, End, Reading}
 use Rattle.avp_dict.specs.Settled.{is_kept}
 use Rattle.avp_dict.specs.Steps.{◌>>=◌, refused_at}
@@ -30,20 +30,20 @@ abbrev pub reads_as_number : List ℕ → Bool
 reads_as_number word = is_some (if begins_hexadecimal word then digits 16 (drop 2 word) else digits 10 word)
 
 unfoldable pub is_value_name : List ℕ → Bool
-is_value_name name = list_all is_word_octet name && nat_le (length name) most_name && not (reads_as_number name)
+is_value_name name = list_all is_word_octet name && nat_le (length name) max_name && not (reads_as_number name)
 
 -- ---- a VALUE line
 
 -- the greatest number of a type whose values have names
-abbrev pub most_of : Kind → Option ℕ
-most_of Byte = Some 255
-most_of Short = Some 65535
-most_of Integer = Some greatest_number
-most_of Integer64 = Some greatest_value
-most_of _ = None
+abbrev pub max_of : Kind → Option ℕ
+max_of Byte = Some 255
+max_of Short = Some 65535
+max_of Integer = Some greatest_number
+max_of Integer64 = Some greatest_value
+max_of _ = None
 
-abbrev pub most_of_typing : Typing → Option ℕ
-most_of_typing typing = most_of typing.kind
+abbrev pub max_of_typing : Typing → Option ℕ
+max_of_typing typing = max_of typing.kind
 
 -- an earlier VALUE line gave the name another number: the last one decides, since each line of a name agreed with those before it
 abbrev pub is_of_other_number : ℕ → Option ℕ → Bool
@@ -65,7 +65,7 @@ is_same_name name other = same_name other name
 -- a VALUE line of this attribute's name; without such an attribute a note if the name is that of a skipped ATTRIBUTE line
 unfoldable pub value_of : List (List ℕ) → Dictionary → List ℕ → List ℕ → ℕ → Option AttrId → Result (Option ValueLine) DictKind
 value_of skipped dictionary attribute name number (Some id) =
-    value_up_to dictionary.values id name number (option_and_then most_of_typing (typing_of_id id dictionary.attributes))
+    value_up_to dictionary.values id name number (option_and_then max_of_typing (typing_of_id id dictionary.attributes))
 value_of skipped dictionary attribute name number None = if list_any (is_same_name attribute) skipped then Ok None else Err NoAttribute
 
 -- ---- notes

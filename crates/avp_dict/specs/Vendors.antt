@@ -8,7 +8,7 @@ use Rattle.avp_dict.specs.declared.entries.VendorLine.{VendorLine}
 use Rattle.avp_dict.specs.AttributeNumbers.{greatest_number}
 use Rattle.avp_dict.specs.Meanings.{Meaning, Vendor}
 use Rattle.avp_dict.specs.Words.{same_name, number_of}
-use Rattle.avp_dict.specs.Letters.{is_comma, is_visible, most_name}
+use Rattle.avp_dict.specs.Letters.{is_comma, is_visible, max_name}
 use Rattle.avp_dict.specs.Steps.{◌>>=◌}
 use Rattle.avp_dict.specs.Dictionary.{vendor_named}
 
@@ -20,7 +20,7 @@ abbrev pub bounded : ℕ → List ℕ → Result ℕ DictKind
 bounded most word = elim (number_of word) [ None ↦ Err Unreadable | Some n ↦ at_most most n ]
 
 unfoldable pub is_vendor_name : List ℕ → Bool
-is_vendor_name name = list_all is_visible name && nat_le (length name) most_name
+is_vendor_name name = list_all is_visible name && nat_le (length name) max_name
 
 -- 1, 2 or 4 octets of type, and at most 2 of length
 abbrev pub is_format : ℕ → ℕ → Bool

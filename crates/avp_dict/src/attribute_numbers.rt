@@ -4,7 +4,7 @@ ghost use Rattle.std.specs.Prelude.{◌≡◌};
 ghost use Rattle.avp_dict.specs.AttributeNumbers.{is_extended_type};
 
 /// The greatest number that an attribute's one octet holds.
-pub const MOST_PLAIN: u32 = 255;
+pub const MAX_PLAIN: u32 = 255;
 /// Vendor-Specific (RFC 2865, section 5.26).
 pub const VENDOR_SPECIFIC: u32 = 26;
 /// Proxy-State (RFC 2865, section 5.33).

@@ -2,7 +2,7 @@ ghost use Rattle.std.specs.Prelude.{◌≡◌, ◌<◌, ◌^◌, length, slice_g
 ghost use Rattle.std.specs.Option.{option_map, option_copied};
 ghost use Rattle.avp_dict.specs.Counts.{counts_of};
 ghost use Rattle.avp_dict.specs.Dictionary.{first_names, name_numbered, number_named, typing_of_id};
-ghost use Rattle.avp_dict.specs.DictionaryReading.{dictionary_of, most_lines};
+ghost use Rattle.avp_dict.specs.DictionaryReading.{dictionary_of, max_lines};
 ghost use Rattle.avp_dict.specs.Lines.{HasDistinctNames};
 ghost use Rattle.avp_dict.specs.Names.{described, named, unless_three, vendor_format};
 ghost use Rattle.avp_dict.specs.Outcomes.{Answers};
@@ -16,7 +16,7 @@ use crate::entries::{Counts, Entry, Format, Named, Note, Typing, VendorFormat};
 use crate::faults::DictFault;
 use crate::file::attributes::begins_as_attr;
 use crate::file::files::{FileSet, NamedFile};
-use crate::file::gather::MOST_LINES;
+use crate::file::gather::MAX_LINES;
 use crate::file::reader::{ReadLines, read_set};
 use crate::file::settling::is_in_format;
 use crate::file::values::settle;
@@ -85,11 +85,11 @@ impl Dictionary {
     pub fn read(alloc: Global, files: &FileSet) -> Result<Dictionary, DictFault>
         requires first { 0 < length files.now }
         requires names { HasDistinctNames files.now }
-        ensures read { Answers (λ dictionary. dictionary) result (dictionary_of most_lines files.now) }
+        ensures read { Answers (λ dictionary. dictionary) result (dictionary_of max_lines files.now) }
         ensures placed { IfErr result (λ fault. fault.file < length files.now) }
         ensures noted { IfOk result (λ dictionary. All (λ note. note.file < length files.now) dictionary.notes) }
     {
-        let contents = read_up_to(alloc, files.as_slice(), MOST_LINES)?;
+        let contents = read_up_to(alloc, files.as_slice(), MAX_LINES)?;
         Ok(Dictionary { contents })
     }
 

@@ -29,7 +29,7 @@ pub enum DictKind {
     NoFile,
     #[error("includes too deep")]
     TooDeep,
-    /// More than [`MOST_LINES`](crate::MOST_LINES) lines in all, counted as often as they are read.
+    /// More than [`MAX_LINES`](crate::MAX_LINES) lines in all, counted as often as they are read.
     #[error("too many lines")]
     TooLong,
     #[error("VALUE of no ATTRIBUTE")]

@@ -6,9 +6,9 @@ ghost use Rattle.avp_dict.specs.Letters.{is_dot};
 ghost use Rattle.avp_dict.specs.Names.{extended_numbered, id_numbered, is_vendor_specific, plain_numbered, vendor_id_numbered};
 ghost use Rattle.avp_dict.specs.internal.Numbers.{Reads};
 
-use crate::attribute_numbers::{MOST_PLAIN, VENDOR_SPECIFIC};
+use crate::attribute_numbers::{MAX_PLAIN, VENDOR_SPECIFIC};
 use crate::file::attributes::extended_id;
-use crate::file::numbers::{MOST_NUMBER, Number, digits_of};
+use crate::file::numbers::{MAX_NUMBER, Number, digits_of};
 use crate::file::parts::first_between;
 use crate::file::settling::is_in_format;
 use crate::tables::Vendors;
@@ -21,7 +21,7 @@ fn plain_numbered(n: Number) -> Option<AttrId>
         Number::Unreadable => None,
         Number::TooGreat => None,
         Number::Is(n) => {
-            if n <= u64::from(MOST_PLAIN) {
+            if n <= u64::from(MAX_PLAIN) {
                 Some(AttrId::Plain(n as u32))
             } else {
                 None
@@ -47,7 +47,7 @@ fn id_of_vendor(vendors: &Vendors, v: u64, n: Number) -> Option<AttrId>
         Number::Unreadable => None,
         Number::TooGreat => None,
         Number::Is(n) => {
-            if v <= MOST_NUMBER && is_in_format(vendors, v as u32, n) {
+            if v <= MAX_NUMBER && is_in_format(vendors, v as u32, n) {
                 Some(AttrId::Vendor(v as u32, n as u32))
             } else {
                 None

@@ -1,7 +1,7 @@
 //! Which texts are requests, and where others are refused.
 
 use avp_dict::{Dictionary, LineFault, LineKind, quote};
-use avp_lists::{MOST_PAIRS, Pair, Value};
+use avp_lists::{MAX_PAIRS, Pair, Value};
 use samples::{octets, read_dictionary};
 use std::alloc::Global;
 use std::process::Abort;
@@ -327,14 +327,14 @@ fn expect_count(
 #[test]
 fn reads_as_many_pairs_as_a_list_has(rt: HostRuntime) -> Result<(), Fail> {
     let dictionary = read_lines(rt.alloc())?;
-    let lines = repeated(rt.alloc(), b"", b"Class = 0x01\n", MOST_PAIRS)?;
-    expect_count(&rt, rt.alloc(), &dictionary, &lines, MOST_PAIRS)
+    let lines = repeated(rt.alloc(), b"", b"Class = 0x01\n", MAX_PAIRS)?;
+    expect_count(&rt, rt.alloc(), &dictionary, &lines, MAX_PAIRS)
 }
 
 #[test]
 fn refuses_more_pairs_than_a_list_has(rt: HostRuntime) -> Result<(), Fail> {
     let dictionary = read_lines(rt.alloc())?;
-    let mut lines = repeated(rt.alloc(), b"", b"Class = 0x01\n", MOST_PAIRS)?;
+    let mut lines = repeated(rt.alloc(), b"", b"Class = 0x01\n", MAX_PAIRS)?;
     let most = lines.len();
     let rows: [(&[u8], LineKind); 5] = [
         (b"Class = 0x01", LineKind::TooMany),
@@ -385,8 +385,8 @@ fn refuses_values_that_are_too_long(rt: HostRuntime) -> Result<(), Fail> {
 fn reads_long_lines(rt: HostRuntime) -> Result<(), Fail> {
     let dictionary = read_lines(rt.alloc())?;
     let part = repeated(rt.alloc(), b"NAS-Port = 1,", b" ", 240)?;
-    let line = repeated(rt.alloc(), b"", &part, MOST_PAIRS)?;
-    expect_count(&rt, rt.alloc(), &dictionary, &line, MOST_PAIRS)
+    let line = repeated(rt.alloc(), b"", &part, MAX_PAIRS)?;
+    expect_count(&rt, rt.alloc(), &dictionary, &line, MAX_PAIRS)
 }
 
 #[test]

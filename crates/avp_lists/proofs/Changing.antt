@@ -15,7 +15,7 @@ use Rattle.avp_lists.specs.internal.Shown.{state_of}
 use Rattle.avp_lists.specs.internal.SlotLaws.{length-states_of}
 use Rattle.avp_lists.specs.internal.Slots.{slot_at, at_first, PairsWithin}
 use Rattle.avp_lists.specs.States.{empty_state, edited, IsLimited}
-use Rattle.avp_lists.specs.internal.Steps.{slots_at, states_of, step_at, most_kept, BacksBelow, AllCounted, CountsWithin, CountsGrow, AllHoused, StatesLimited}
+use Rattle.avp_lists.specs.internal.Steps.{slots_at, states_of, step_at, max_kept, BacksBelow, AllCounted, CountsWithin, CountsGrow, AllHoused, StatesLimited}
 use Rattle.avp_lists.proofs.Adding.{long-few, long-pairs, state-few, standing-new, states-new, below-new, counted-new, counts-new, grow-new, housed-new}
 use Rattle.avp_lists.proofs.Continuing.{limited-continued}
 use Rattle.avp_lists.proofs.ShownPairs.{present-shown}
@@ -68,7 +68,7 @@ module _ (e : Edit) (pool : List Pair) (slots : List Slot) (steps : List Step) (
       omega (arith, ap length S, length-append (take (k + 1) steps) (step ∷ []), length-take-le (k + 1) steps below)
 
   -- one pair more than there were, or none
-  pub slim-changed : length new_pool ≤ most_kept steps k
+  pub slim-changed : length new_pool ≤ max_kept steps k
   slim-changed =
       let few = take (step_at steps k).pairs pool in
       let one : length (entering p e.pair) ≤ 1 = elim (enters p) as (λ b. length (cond b (e.pair ∷ []) []) ≤ 1) [ true ↦ omega arith | false ↦ omega arith ] in

@@ -34,7 +34,7 @@ pub struct Edit {
 /// Why an edit was refused.
 #[derive(Clone, Copy, Debug, PartialEq, Eq, Error)]
 pub enum EditFault {
-    /// The list would have more than [`MOST_PAIRS`](crate::MOST_PAIRS) pairs.
+    /// The list would have more than [`MAX_PAIRS`](crate::MAX_PAIRS) pairs.
     #[error("the list is full")]
     Full,
     #[error("out of memory")]

@@ -23,7 +23,7 @@ pub use attributes::{AttrId, Pair, Value, copy_pair};
 pub use bytes::Octets;
 pub use edits::{Edit, EditFault, Op};
 pub use history::Store;
-pub use lists::{List, MOST_PAIRS, Pairs, State};
+pub use lists::{List, MAX_PAIRS, Pairs, State};
 pub use slot_store::SlotStore;
 pub use snapshots::{ListsRefused, SnapshotStore};
 pub use undoing::{edit_and_undo, undo_by};

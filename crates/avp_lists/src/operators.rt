@@ -9,7 +9,7 @@ ghost use Rattle.avp_lists.specs.Operators.{differs, agrees, replace, apply};
 
 use crate::attributes::{AttrId, Pair, copy_pair};
 use crate::edits::{Edit, Op};
-use crate::lists::{List, MOST_PAIRS, Pairs, State, push_copies};
+use crate::lists::{List, MAX_PAIRS, Pairs, State, push_copies};
 use std::alloc::{AllocError, Global};
 
 // Whether the id has an instance.
@@ -132,7 +132,7 @@ pub(crate) fn is_full(state: &State, edit: &Edit) -> bool
     ensures { IsTrue result ↔ IsFull edit.now state.now }
 {
     let pairs = state.list(edit.list);
-    pairs.len() == MOST_PAIRS && adds_one(edit.op, edit.pair.id, pairs)
+    pairs.len() == MAX_PAIRS && adds_one(edit.op, edit.pair.id, pairs)
 }
 
 // The state after the edit, as a new one.

@@ -6,13 +6,13 @@ ghost use Rattle.avp_lists.specs.Growth.{adds_one};
 ghost use Rattle.avp_lists.specs.History.{starting, present, after_edit};
 ghost use Rattle.avp_lists.specs.States.{list_of, edited, IsFull, IsLimited};
 ghost use Rattle.avp_lists.specs.internal.Slots.{NamesWithin, SwapWithin};
-ghost use Rattle.avp_lists.specs.internal.Steps.{slots_at, most_kept, BacksBelow, AllCounted, CountsWithin, CountsGrow, AllHoused, StatesLimited};
+ghost use Rattle.avp_lists.specs.internal.Steps.{slots_at, max_kept, BacksBelow, AllCounted, CountsWithin, CountsGrow, AllHoused, StatesLimited};
 ghost use Rattle.avp_lists.specs.internal.Plans.{pooled, widened, planned, fresh};
 
 use crate::attributes::{AttrId, Pair};
 use crate::edits::{Edit, EditFault, Op};
 use crate::history::Store;
-use crate::lists::{List, MOST_PAIRS};
+use crate::lists::{List, MAX_PAIRS};
 use crate::planning::{Plan, plan_edit};
 use crate::showing::{copy_shown, count_shown, first_shown, first_slot, pair_shown};
 use crate::slots::{End, Mark, Slot, forget_dark, turn_slots};
@@ -182,9 +182,9 @@ impl SlotStore {
         reply: Vec<Pair>,
         control: Vec<Pair>,
     ) -> Result<SlotStore, ListsRefused>
-        requires request_fits { length request.items ≤ MOST_PAIRS }
-        requires reply_fits { length reply.items ≤ MOST_PAIRS }
-        requires control_fits { length control.items ≤ MOST_PAIRS }
+        requires request_fits { length request.items ≤ MAX_PAIRS }
+        requires reply_fits { length reply.items ≤ MAX_PAIRS }
+        requires control_fits { length control.items ≤ MAX_PAIRS }
         ensures ok { IfOk result (λ s. ⟦<SlotStore as Store>⟧.history s ≡ starting (record { request = request.items; reply = reply.items; control = control.items })) }
         ensures err { IfErr result (λ back. back ≡ record { request = request; reply = reply; control = control }) }
     {
@@ -243,7 +243,7 @@ impl SlotStore {
     fn is_full(&self, edit: &Edit) -> bool
         ensures { IsTrue result ↔ IsFull edit.now (present (⟦<SlotStore as Store>⟧.history self.now)) }
     {
-        self.count(edit.list) == MOST_PAIRS && self.adds_one(edit.list, edit.op, edit.pair.id)
+        self.count(edit.list) == MAX_PAIRS && self.adds_one(edit.list, edit.op, edit.pair.id)
     }
 
     // Cuts off what is after the place, and edits.
@@ -252,7 +252,7 @@ impl SlotStore {
         ensures ok { OnOk result (⟦<SlotStore as Store>⟧.history self.new ≡ after_edit edit (⟦<SlotStore as Store>⟧.history self.old)) }
         ensures err { OnErr result (⟦<SlotStore as Store>⟧.history self.new ≡ ⟦<SlotStore as Store>⟧.history self.old) }
         // What was cut off is given up: at most the edit's own pair is kept besides those that were there at the place.
-        ensures slim { OnOk result (length self.new.pool.items ≤ most_kept self.old.steps.items self.old.place) }
+        ensures slim { OnOk result (length self.new.pool.items ≤ max_kept self.old.steps.items self.old.place) }
         ensures kept { self.old.place + ⟦<SlotStore as Store>⟧.room self.old ≤ self.new.place + ⟦<SlotStore as Store>⟧.room self.new }
     {
         let last = &self.steps[self.place];

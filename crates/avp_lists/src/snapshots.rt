@@ -6,7 +6,7 @@ ghost use Rattle.avp_lists.specs.Snapshots.{snapshot_at, state_of, states_of, ow
 use crate::attributes::{AttrId, Pair};
 use crate::edits::{Edit, EditFault};
 use crate::history::Store;
-use crate::lists::{List, MOST_PAIRS, Pairs, State, copies};
+use crate::lists::{List, MAX_PAIRS, Pairs, State, copies};
 use crate::operators::{edited, find_instance, is_full};
 use std::alloc::{AllocError, Global};
 
@@ -65,9 +65,9 @@ impl SnapshotStore {
         reply: Vec<Pair>,
         control: Vec<Pair>,
     ) -> Result<SnapshotStore, ListsRefused>
-        requires request_fits { length request.items ≤ MOST_PAIRS }
-        requires reply_fits { length reply.items ≤ MOST_PAIRS }
-        requires control_fits { length control.items ≤ MOST_PAIRS }
+        requires request_fits { length request.items ≤ MAX_PAIRS }
+        requires reply_fits { length reply.items ≤ MAX_PAIRS }
+        requires control_fits { length control.items ≤ MAX_PAIRS }
         ensures ok { IfOk result (λ s. ⟦<SnapshotStore as Store>⟧.history s ≡ starting (record { request = request.items; reply = reply.items; control = control.items })) }
         ensures err { IfErr result (λ back. back ≡ record { request = request; reply = reply; control = control }) }
     {

@@ -1,5 +1,5 @@
 //! Worked examples of the operators and of the history, for any store.
-use avp_lists::{AttrId, Edit, EditFault, List, MOST_PAIRS, Octets, Op, Pair, Store, Value};
+use avp_lists::{AttrId, Edit, EditFault, List, MAX_PAIRS, Octets, Op, Pair, Store, Value};
 use std::alloc::Global;
 use std::process::Abort;
 use std::test::Fail;
@@ -181,7 +181,7 @@ pub(crate) const THERE_AND_BACK: Table = (
 );
 
 /// As many times the same pair as a list may have pairs.
-pub(crate) const ONES: &[u8] = &[b'1'; MOST_PAIRS];
+pub(crate) const ONES: &[u8] = &[b'1'; MAX_PAIRS];
 
 /// Tables that begin with a full list.
 pub(crate) const OF_FULL_LISTS: [Table; 3] = [

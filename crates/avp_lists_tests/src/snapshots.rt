@@ -2,14 +2,14 @@
 use crate::rows::{
     FOUR_PAIRS, OF_FOUR_PAIRS, OF_FULL_LISTS, ONES, THERE_AND_BACK, Table, pairs_of, play,
 };
-use avp_lists::{MOST_PAIRS, SnapshotStore};
+use avp_lists::{MAX_PAIRS, SnapshotStore};
 use std::alloc::Global;
 use std::process::Abort;
 use std::test::Fail;
 
 fn store_of(rt: &impl Abort, alloc: Global, letters: &[u8]) -> Result<SnapshotStore, Fail> {
     let reply = pairs_of(alloc, letters)?;
-    assert!(rt; reply.len() <= MOST_PAIRS);
+    assert!(rt; reply.len() <= MAX_PAIRS);
     let store = SnapshotStore::new(alloc, Vec::new(alloc), reply, Vec::new(alloc))?;
     Ok(store)
 }

@@ -15,7 +15,7 @@ use Rattle.avp_dict.specs.Dictionary.{Dictionary}
 use Rattle.avp_dict.specs.declared.entries.VendorFormat.{VendorFormat}
 use Rattle.avp_dict.specs.Attributes.{is_held}
 use Rattle.avp_dict.specs.Dictionary.{format_of}
-use Rattle.avp_dict.specs.Limits.{fits, is_known, most_octets, vendor_room}
+use Rattle.avp_dict.specs.Limits.{fits, is_known, max_octets, vendor_room}
 use Rattle.avp_dict.specs.Names.{unless_three, vendor_format}
 use Rattle.avp_dict.specs.Sent.{is_container}
 use Rattle.avp_dict.specs.Settled.{holds, is_in_format}
@@ -206,7 +206,7 @@ subs_good f most zero (o ∷ os) bytes few =
 
 -- P holds of each pair of a known id and octets that the id's attributes hold
 abbrev pub HoldsOfMade : Dictionary → List ℕ → List ℕ → (Pair → Type 0) → Type 0
-HoldsOfMade dictionary secret authenticator P = (id : AttrId) (os : List ℕ) → is_known id dictionary ≡ true → AreBytes os → length os ≤ most_octets id dictionary → P (pair_of dictionary secret authenticator id os)
+HoldsOfMade dictionary secret authenticator P = (id : AttrId) (os : List ℕ) → is_known id dictionary ≡ true → AreBytes os → length os ≤ max_octets id dictionary → P (pair_of dictionary secret authenticator id os)
 
 -- P holds of each attribute that holds others and is not looked into
 abbrev pub HoldsOfKept : (Pair → Type 0) → Type 0
@@ -228,13 +228,13 @@ module _ (dictionary : Dictionary) (secret authenticator : List ℕ) (P : Pair �
   holds-append (x ∷ xs) ys h k = (h.0, holds-append xs ys h.1 k)
 
   plain_good : (p : Part) → IsGood p → P (pair_of dictionary secret authenticator (Plain p.number) p.value)
-  unfolding is_known most_octets
+  unfolding is_known max_octets
   plain_good p good =
       let number : nat_le p.number 255 ≡ true = let low = good.number in grind (arith, common_steps) in
       made (Plain p.number) p.value refl good.bytes (rw number good.short)
 
   extended_good : (p : Part) → IsGood p → 241 ≤ p.number → p.number ≤ 244 → P (extended_pair dictionary secret authenticator p)
-  unfolding is_known most_octets
+  unfolding is_known max_octets
   extended_good p good low high = go p.value refl
     where
       held : is_container (Plain p.number) ≡ true
@@ -254,7 +254,7 @@ module _ (dictionary : Dictionary) (secret authenticator : List ℕ) (P : Pair �
           made (Extended p.number n) (o ∷ os) (rw (a, b)) bytes.1 (rw (a, d) short)
 
   long_good : (p : Part) (ps : List Part) → AreGood (p ∷ ps) → size (p ∷ ps) ≤ 4076 → 245 ≤ p.number → p.number ≤ 246 → P (long_pair dictionary secret authenticator p (first_run p ps))
-  unfolding is_known most_octets
+  unfolding is_known max_octets
   long_good p ps good few low high = go (first_run p ps) (run_good p.number (extended_type p) (p ∷ ps) good)
     where
       go : (o : Option Run) → IfSome o (IsRun (p ∷ ps)) → P (long_pair dictionary secret authenticator p o)
@@ -269,7 +269,7 @@ module _ (dictionary : Dictionary) (secret authenticator : List ℕ) (P : Pair �
 
   -- the pairs of a vendor's attributes
   sub_good : (v : ℕ) (f : Format) (s : Sub) → known_format v dictionary ≡ Some f → IsSub f 249 s → P (sub_pair dictionary secret authenticator v s)
-  unfolding is_known most_octets known_format vendor_format is_in_format
+  unfolding is_known max_octets known_format vendor_format is_in_format
   sub_good v f s known is =
       let x = known_of s.number f (format_of v dictionary.vendors) known in
       let few = is.short in
@@ -330,7 +330,7 @@ module _ (dictionary : Dictionary) (secret authenticator : List ℕ) where
   Fits p = fits p dictionary ≡ true
 
   raw_fits : (p : Part) → IsGood p → is_container (Plain p.number) ≡ true → Fits (raw_pair p)
-  unfolding fits is_known most_octets
+  unfolding fits is_known max_octets
   raw_fits p good held =
       let number : nat_le p.number 255 ≡ true = let low = good.number in grind (arith, common_steps) in
       let short : nat_le (length p.value) 253 ≡ true = let few = good.short in grind (arith, common_steps) in

@@ -13,7 +13,7 @@ use Rattle.avp_lists.proofs.Equality.{value_eq-same}
 use Rattle.avp_dict.specs.declared.entries.Kind.{Kind}
 use Rattle.avp_dict.specs.declared.entries.Kind.TheVariants as kinds
 use Rattle.avp_dict.specs.Dictionary.{Dictionary}
-use Rattle.avp_dict.specs.Limits.{is_known, most_octets}
+use Rattle.avp_dict.specs.Limits.{is_known, max_octets}
 use Rattle.avp_dict.specs.Names.{Described, described}
 use Rattle.avp_dict.specs.Octets.{is_hidden, is_hideable, octets, read_by, read_value, value_of_octets, value_read}
 use Rattle.avp_dict.specs.Sent.{is_block_length, is_canonical, is_container, is_shown}
@@ -84,7 +84,7 @@ module _ (dictionary : Dictionary) (sound : IsSound dictionary) where
         (λ h. rw h (shown_own id os h (shown secret authenticator os) refl (shown_holds secret authenticator os bytes)))
         (λ h. rw h (plain_own dictionary id os bytes))
 
-    pair_own : (id : AttrId) (os : List ℕ) → is_known id dictionary ≡ true → AreBytes os → length os ≤ most_octets id dictionary → IsOwn dictionary (pair_of dictionary secret authenticator id os)
+    pair_own : (id : AttrId) (os : List ℕ) → is_known id dictionary ≡ true → AreBytes os → length os ≤ max_octets id dictionary → IsOwn dictionary (pair_of dictionary secret authenticator id os)
     unfolding is_canonical
     pair_own id os known bytes short = λ alone. rw (pair_fits dictionary secret authenticator id os known bytes short) (value_own id os bytes)
 

@@ -13,7 +13,7 @@ use Rattle.avp_dict.specs.Dictionary.{Dictionary}
 use Rattle.avp_dict.specs.declared.entries.VendorFormat.{VendorFormat}
 use Rattle.avp_dict.specs.Attributes.{is_held}
 use Rattle.avp_dict.specs.Dictionary.{format_of}
-use Rattle.avp_dict.specs.Limits.{extended_room, fits, greatest_length, is_known, is_typed, is_within, most_octets, vendor_room}
+use Rattle.avp_dict.specs.Limits.{extended_room, fits, greatest_length, is_known, is_typed, is_within, max_octets, vendor_room}
 use Rattle.avp_dict.specs.Names.{unless_three, vendor_format}
 use Rattle.avp_dict.specs.Octets.{ends_in_nul, is_hidden, is_hideable, octets}
 use Rattle.avp_dict.specs.Sent.{is_internal, is_raw, is_sent, sent}
@@ -59,7 +59,7 @@ held_below n f h k = go (format_of_size f.t f.l h).0
 module _ (dictionary : Dictionary) where
   -- what an id's attributes hold
   abbrev IsShort : AttrId → List ℕ → Type 0
-  IsShort id os = (length os ≤ 128) ⊎ (length os ≤ most_octets id dictionary)
+  IsShort id os = (length os ≤ 128) ⊎ (length os ≤ max_octets id dictionary)
 
   vendor_holds : (n : ℕ) (os : List ℕ) (o : Option VendorFormat) → holds n o ≡ true → ((length os ≤ 128) ⊎ (length os ≤ option_map_or vendor_room (option_and_then unless_three o) 0))
       → IfSome (option_and_then usable (option_and_then unless_three o)) (FitsFormat n os)
@@ -84,10 +84,10 @@ module _ (dictionary : Dictionary) where
           rw e (by_test (IfSome (usable (record { t = f.t; l = f.l })) (FitsFormat n os)) (is_format f.t f.l) (λ u. rw u (sized u (and_right (not f.third) (is_held n f) h) short_by)) (λ u. rw u tt))
 
   can_hold : (id : AttrId) (os : List ℕ) → is_known id dictionary ≡ true → is_internal id ≡ false → IsShort id os → CanHold dictionary id os
-  unfolding is_known most_octets known_format vendor_format is_in_format
+  unfolding is_known max_octets known_format vendor_format is_in_format
   can_hold (Plain n) os known sent short = let small : n ≤ 255 = grind (arith, common_steps) in (small, go short)
     where
-      go : ((length os ≤ 128) ⊎ (length os ≤ most_octets (Plain n) dictionary)) → length os ≤ 253
+      go : ((length os ≤ 128) ⊎ (length os ≤ max_octets (Plain n) dictionary)) → length os ≤ 253
       go (inl s) = omega arith
       go (inr s) = grind (arith, common_steps)
   can_hold (Vendor v n) os known sent short = vendor_holds n os (format_of v dictionary.vendors) known short
@@ -99,15 +99,15 @@ module _ (dictionary : Dictionary) where
 
   -- ---- octets of a fitting value
 
-  greatest_most : (id : AttrId) (n : ℕ) → nat_le n (greatest_length id dictionary) ≡ true → n ≤ most_octets id dictionary
+  greatest_most : (id : AttrId) (n : ℕ) → nat_le n (greatest_length id dictionary) ≡ true → n ≤ max_octets id dictionary
   unfolding greatest_length
-  greatest_most id n h = by_test _ (is_hidden id dictionary) (λ e. let f : greatest_length id dictionary ≡ min 128 (most_octets id dictionary) = rw e in grind (arith, common_steps)) (λ e. let f : greatest_length id dictionary ≡ most_octets id dictionary = rw e in grind (arith, common_steps))
+  greatest_most id n h = by_test _ (is_hidden id dictionary) (λ e. let f : greatest_length id dictionary ≡ min 128 (max_octets id dictionary) = rw e in grind (arith, common_steps)) (λ e. let f : greatest_length id dictionary ≡ max_octets id dictionary = rw e in grind (arith, common_steps))
 
   greatest_hidden : (id : AttrId) (n : ℕ) → is_hidden id dictionary ≡ true → nat_le n (greatest_length id dictionary) ≡ true → n ≤ 128
   unfolding greatest_length
-  greatest_hidden id n e h = let f : greatest_length id dictionary ≡ min 128 (most_octets id dictionary) = rw e in grind (arith, common_steps)
+  greatest_hidden id n e h = let f : greatest_length id dictionary ≡ min 128 (max_octets id dictionary) = rw e in grind (arith, common_steps)
 
-  within_most : (id : AttrId) (v : Value) → is_within id v dictionary ≡ true → length (octets id v dictionary) ≤ most_octets id dictionary
+  within_most : (id : AttrId) (v : Value) → is_within id v dictionary ≡ true → length (octets id v dictionary) ≤ max_octets id dictionary
   unfolding octets
   within_most id (Raw os) h = grind (arith, common_steps)
   within_most id v h = greatest_most id (length (octets id v dictionary)) (and_left _ _ h)

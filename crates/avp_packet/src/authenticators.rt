@@ -14,7 +14,7 @@ use md5::{Digest, Md5};
 pub const HEAD_OCTETS: usize = 20;
 
 /// The most octets of a packet, of every code.
-pub const MOST_PACKET_OCTETS: usize = 4096;
+pub const MAX_PACKET_OCTETS: usize = 4096;
 
 /// Where the authenticator begins.
 pub(crate) const AUTHENTICATOR_PLACE: usize = 4;
@@ -25,7 +25,7 @@ pub(crate) const ZEROS: [u8; BLOCK_OCTETS] = [0; BLOCK_OCTETS];
 pub(crate) fn is_packet_length(length: usize) -> bool
     ensures { result ≡ is_length length }
 {
-    length >= HEAD_OCTETS && length <= MOST_PACKET_OCTETS
+    length >= HEAD_OCTETS && length <= MAX_PACKET_OCTETS
 }
 
 /// The Length in a packet.
@@ -115,7 +115,7 @@ pub fn check_reply(reply: &[u8], request_authenticator: &[u8; 16], secret: &[u8]
 
 /// Code, Identifier and Length of a packet with so many octets of attributes.
 pub(crate) fn head_of(code: u8, id: u8, attributes: usize) -> [u8; 4]
-    requires { attributes ≤ MOST_PACKET_OCTETS }
+    requires { attributes ≤ MAX_PACKET_OCTETS }
     ensures { result ≡ code ∷ id ∷ to_be_bytes w16 (20 + attributes) }
 {
     let length = ((HEAD_OCTETS + attributes) as u16).to_be_bytes();
@@ -131,7 +131,7 @@ pub(crate) fn digest_of_packet(
     attributes: &[u8],
     secret: &[u8],
 ) -> [u8; 16]
-    requires { length attributes.now ≤ MOST_PACKET_OCTETS }
+    requires { length attributes.now ≤ MAX_PACKET_OCTETS }
     ensures { result ≡ digest_over code id authenticator.now attributes.now secret.now }
 {
     let head = head_of(code, id, attributes.len());

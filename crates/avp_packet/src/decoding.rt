@@ -2,7 +2,7 @@
 
 ghost use Rattle.std.specs.Prelude.{◌≡◌, ◌≤◌, ◌<◌, true, List, length, All, IfOk};
 ghost use Rattle.avp_lists.specs.declared.attributes.Pair.{Pair};
-ghost use Rattle.avp_lists.specs.States.{most_pairs};
+ghost use Rattle.avp_lists.specs.States.{max_pairs};
 ghost use Rattle.avp_dict.specs.Limits.{fits};
 ghost use Rattle.avp_packet.specs.Meanings.{meaning};
 ghost use Rattle.avp_packet.specs.Means.{Means};
@@ -13,7 +13,7 @@ ghost use Rattle.avp_packet.specs.Packets.{IsRequestCode, attributes_of, authent
 ghost use Rattle.avp_packet.specs.Splitting.{parts};
 
 use crate::authenticators::{
-    HEAD_OCTETS, MOST_PACKET_OCTETS, ZEROS, attributes_in, authenticator_in, is_accounting_request,
+    HEAD_OCTETS, MAX_PACKET_OCTETS, ZEROS, attributes_in, authenticator_in, is_accounting_request,
     is_packet_length, length_in,
 };
 use crate::encoding::authenticator_to_hide_by;
@@ -46,7 +46,7 @@ fn read_packet(
     requires secret { 0 < length secret.now }
     requires head { HEAD_OCTETS ≤ length_of octets.now }
     requires whole { length_of octets.now ≤ length octets.now }
-    requires short { length_of octets.now ≤ MOST_PACKET_OCTETS }
+    requires short { length_of octets.now ≤ MAX_PACKET_OCTETS }
     ensures fits { IfOk result (λ packet. All (λ pair. fits pair dictionary.now ≡ true) packet.list) }
     ensures own { IfOk result (λ packet. All (IsOwn dictionary.now) packet.list) }
     ensures means { IfOk result (λ packet. packet.list ≡ meaning dictionary.now secret.now (hiding_authenticator packet.code packet.authenticator) (parts (attributes_of octets.now))) }
@@ -88,7 +88,7 @@ fn read_request(
     requires secret { 0 < length secret.now }
     requires head { HEAD_OCTETS ≤ length_of octets.now }
     requires whole { length_of octets.now ≤ length octets.now }
-    requires short { length_of octets.now ≤ MOST_PACKET_OCTETS }
+    requires short { length_of octets.now ≤ MAX_PACKET_OCTETS }
     ensures fits { IfOk result (λ packet. All (λ pair. fits pair dictionary.now ≡ true) packet.list) }
     ensures own { IfOk result (λ packet. All (IsOwn dictionary.now) packet.list) }
     ensures means { IfOk result (λ packet. packet.list ≡ meaning dictionary.now secret.now (hiding_authenticator packet.code packet.authenticator) (parts (attributes_of octets.now))) }
@@ -133,7 +133,7 @@ pub fn decode(
     ensures only { IfOk result (λ packet. (pairs : List Pair) → Means dictionary.now secret.now (hiding_authenticator packet.code packet.authenticator) (parts (attributes_of octets.now)) pairs → pairs ≡ packet.list) }
     ensures read { Gives result (decoded dictionary.now secret.now octets.now) }
     ensures code { IfOk result (λ packet. IsRequestCode packet.code) }
-    ensures few { IfOk result (λ packet. length packet.list ≤ most_pairs) }
+    ensures few { IfOk result (λ packet. length packet.list ≤ max_pairs) }
 {
     if octets.len() < HEAD_OCTETS {
         return Err(PacketFault::TooShort);

@@ -13,12 +13,12 @@ ghost use Rattle.avp_packet.specs.Splitting.{left, parts};
 ghost use Rattle.avp_packet.specs.internal.Filling.{IsPlace, divided_octets, divided_signed, filled};
 ghost use Rattle.avp_packet.specs.internal.Ranges.{IsVendorInRange};
 
-use crate::authenticators::{HEAD_OCTETS, MOST_PACKET_OCTETS, ZEROS, digest_of_packet, head_of};
+use crate::authenticators::{HEAD_OCTETS, MAX_PACKET_OCTETS, ZEROS, digest_of_packet, head_of};
 use crate::dividing::{Division, divide_reply, divide_request};
 use crate::faults::EncodeFault;
 use crate::hmac::{SIGNATURE_OCTETS, signature_between};
 use crate::packets::{ACCOUNTING_REQUEST, ACCOUNTING_RESPONSE};
-use crate::sending::{MOST_ATTRIBUTE_OCTETS, write_attributes};
+use crate::sending::{MAX_ATTRIBUTE_OCTETS, write_attributes};
 use avp_dict::Dictionary;
 use avp_lists::Pair;
 use std::alloc::{AllocError, Global};
@@ -42,7 +42,7 @@ fn request_authenticator(
     attributes: &[u8],
     secret: &[u8],
 ) -> [u8; 16]
-    requires { length attributes.now ≤ MOST_ATTRIBUTE_OCTETS }
+    requires { length attributes.now ≤ MAX_ATTRIBUTE_OCTETS }
     ensures { result ≡ request_authenticator code id authenticator.now attributes.now secret.now }
 {
     if code == ACCOUNTING_REQUEST {
@@ -71,7 +71,7 @@ fn sign(
     authenticator: &[u8; 16],
     secret: &[u8],
 )
-    requires short { length octets.old.items ≤ MOST_ATTRIBUTE_OCTETS }
+    requires short { length octets.old.items ≤ MAX_ATTRIBUTE_OCTETS }
     requires place { IsPlace (length octets.old.items) place }
     requires blank { filled octets.old.items place zeros ≡ octets.old.items }
     ensures { octets.new.items ≡ filled octets.old.items place (hmac secret.now (packet code id authenticator.now octets.old.items)) }
@@ -101,11 +101,11 @@ fn signed_attributes(
     requires behind_fit { All (λ pair. fits pair dictionary.now ≡ true) division.now.behind.now }
     requires proxies_fit { All (λ pair. fits pair dictionary.now ≡ true) proxy_states.now }
     ensures octets { IfOk result (λ octets. octets.items ≡ divided_signed dictionary.now secret.now code id authenticator.now division.now proxy_states.now) }
-    ensures short { IfOk result (λ octets. length octets.items ≤ MOST_ATTRIBUTE_OCTETS) }
+    ensures short { IfOk result (λ octets. length octets.items ≤ MAX_ATTRIBUTE_OCTETS) }
     ensures before_ranged { OnOk result (All (λ pair. IsVendorInRange pair.id) division.now.before.now) }
     ensures behind_ranged { OnOk result (All (λ pair. IsVendorInRange pair.id) division.now.behind.now) }
     ensures proxies_ranged { OnOk result (All (λ pair. IsVendorInRange pair.id) proxy_states.now) }
-    ensures too_long { result ≡ Err EncodeFault.TooLong → MOST_ATTRIBUTE_OCTETS < length (divided_octets dictionary.now secret.now (hiding_authenticator code authenticator.now) division.now proxy_states.now zeros) }
+    ensures too_long { result ≡ Err EncodeFault.TooLong → MAX_ATTRIBUTE_OCTETS < length (divided_octets dictionary.now secret.now (hiding_authenticator code authenticator.now) division.now proxy_states.now zeros) }
 {
     let hide_by = authenticator_to_hide_by(code, authenticator);
     let written = write_attributes(alloc, dictionary, secret, &hide_by, division, proxy_states)?;
@@ -122,7 +122,7 @@ fn assemble(
     authenticator: &[u8; 16],
     attributes: &[u8],
 ) -> Result<Vec<u8>, AllocError>
-    requires { length attributes.now ≤ MOST_ATTRIBUTE_OCTETS }
+    requires { length attributes.now ≤ MAX_ATTRIBUTE_OCTETS }
     ensures { IfOk result (λ octets. octets.items ≡ packet code id authenticator.now attributes.now) }
 {
     let mut octets = Vec::with_capacity(alloc, HEAD_OCTETS + attributes.len())?;
@@ -150,14 +150,14 @@ pub fn encode_request(
     requires code { IsRequestCode code }
     requires fits { All (λ pair. fits pair dictionary.now ≡ true) list.now }
     ensures octets { IfOk result (λ octets. octets.items ≡ request dictionary.now secret.now code id authenticator.now list.now) }
-    ensures short { OnOk result (length (request dictionary.now secret.now code id authenticator.now list.now) ≤ MOST_PACKET_OCTETS) }
+    ensures short { OnOk result (length (request dictionary.now secret.now code id authenticator.now list.now) ≤ MAX_PACKET_OCTETS) }
     // The attributes are whole, and what is written of a clean list means the pairs that are sent.
     ensures whole { IfOk result (λ octets. left (attributes_of octets.items) ≡ []) }
     ensures means { IfOk result (λ octets. is_clean list.now dictionary.now ≡ true
         → Means dictionary.now secret.now (hiding_authenticator code authenticator.now) (parts (attributes_of octets.items)) (pairs_meant dictionary.now secret.now code id authenticator.now (request_content code list.now))) }
     // An Access-Request is signed where its list has a Message-Authenticator.
     ensures signed { IfOk result (λ octets. is_to_sign (request_kind code) list.now ≡ true → is_signed octets.items authenticator.now secret.now ≡ true) }
-    ensures too_long { result ≡ Err EncodeFault.TooLong → MOST_PACKET_OCTETS < length (request dictionary.now secret.now code id authenticator.now list.now) }
+    ensures too_long { result ≡ Err EncodeFault.TooLong → MAX_PACKET_OCTETS < length (request dictionary.now secret.now code id authenticator.now list.now) }
 {
     dictionary.is_sound();
     let division = divide_request(code, list);
@@ -192,8 +192,8 @@ pub fn encoded_authenticator(
     requires code { IsRequestCode code }
     requires fits { All (λ pair. fits pair dictionary.now ≡ true) list.now }
     ensures authenticator { IfOk result (λ own. own ≡ authenticator_of (request dictionary.now secret.now code id authenticator.now list.now)) }
-    ensures short { OnOk result (length (request dictionary.now secret.now code id authenticator.now list.now) ≤ MOST_PACKET_OCTETS) }
-    ensures too_long { result ≡ Err EncodeFault.TooLong → MOST_PACKET_OCTETS < length (request dictionary.now secret.now code id authenticator.now list.now) }
+    ensures short { OnOk result (length (request dictionary.now secret.now code id authenticator.now list.now) ≤ MAX_PACKET_OCTETS) }
+    ensures too_long { result ≡ Err EncodeFault.TooLong → MAX_PACKET_OCTETS < length (request dictionary.now secret.now code id authenticator.now list.now) }
 {
     let division = divide_request(code, list);
     let attributes = signed_attributes(
@@ -233,7 +233,7 @@ pub fn encode_reply(
     // An Accounting-Response has no Message-Authenticator.
     requires signed { code ≡ ACCOUNTING_RESPONSE → signed ≡ false }
     ensures octets { IfOk result (λ octets. octets.items ≡ reply dictionary.now secret.now code id request_authenticator.now signed list.now proxy_states.now) }
-    ensures short { OnOk result (length (reply dictionary.now secret.now code id request_authenticator.now signed list.now proxy_states.now) ≤ MOST_PACKET_OCTETS) }
+    ensures short { OnOk result (length (reply dictionary.now secret.now code id request_authenticator.now signed list.now proxy_states.now) ≤ MAX_PACKET_OCTETS) }
 
     // The attributes are whole, and what is written of clean lists means the pairs that are sent.
     ensures whole { IfOk result (λ octets. left (attributes_of octets.items) ≡ []) }
@@ -243,7 +243,7 @@ pub fn encode_reply(
     // `check_reply` accepts the packet, and `check_message` where `signed` is true.
     ensures accepted { IfOk result (λ octets. is_reply octets.items request_authenticator.now secret.now ≡ true) }
     ensures signed { IfOk result (λ octets. signed ≡ true → is_signed octets.items request_authenticator.now secret.now ≡ true) }
-    ensures too_long { result ≡ Err EncodeFault.TooLong → MOST_PACKET_OCTETS < length (reply dictionary.now secret.now code id request_authenticator.now signed list.now proxy_states.now) }
+    ensures too_long { result ≡ Err EncodeFault.TooLong → MAX_PACKET_OCTETS < length (reply dictionary.now secret.now code id request_authenticator.now signed list.now proxy_states.now) }
 {
     dictionary.is_sound();
     let division = divide_reply(signed, list);

@@ -15,7 +15,7 @@ use std::alloc::{AllocError, Global};
 pub const BLOCK_OCTETS: usize = 16;
 
 /// The most octets of a password.
-pub const MOST_PASSWORD_OCTETS: usize = 128;
+pub const MAX_PASSWORD_OCTETS: usize = 128;
 
 fn mask_of(secret: &[u8], before: &[u8; 16]) -> [u8; 16]
     ensures { result ≡ md5 (secret.now ++ before.now) }
@@ -38,7 +38,7 @@ pub(crate) fn masked_block<const N: usize>(mask: &[u8; N], block: &[u8; N]) -> [
 }
 
 fn count_of_blocks(length: usize) -> usize
-    requires { length ≤ MOST_PASSWORD_OCTETS }
+    requires { length ≤ MAX_PASSWORD_OCTETS }
     ensures { result ≡ block_count length }
 {
     1 + length.saturating_sub(1) / BLOCK_OCTETS
@@ -46,7 +46,7 @@ fn count_of_blocks(length: usize) -> usize
 
 // The password, with NULs up to whole blocks.
 fn pad(alloc: Global, password: &[u8]) -> Result<Vec<u8>, AllocError>
-    requires { length password.now ≤ MOST_PASSWORD_OCTETS }
+    requires { length password.now ≤ MAX_PASSWORD_OCTETS }
     ensures { IfOk result (λ octets. octets.items ≡ padded password.now) }
 {
     let mut octets = Vec::from_slice(alloc, password)?;
@@ -111,15 +111,15 @@ fn drop_last_nuls(octets: &mut Vec<u8>)
 
 fn can_be_hidden(password: &[u8]) -> bool
     ensures test { result ≡ is_hideable password.now }
-    ensures short { IsTrue result → length password.now ≤ MOST_PASSWORD_OCTETS }
+    ensures short { IsTrue result → length password.now ≤ MAX_PASSWORD_OCTETS }
 {
-    password.len() <= MOST_PASSWORD_OCTETS && !is_last_nul(password)
+    password.len() <= MAX_PASSWORD_OCTETS && !is_last_nul(password)
 }
 
 fn is_of_blocks(length: usize) -> bool
     ensures { result ≡ is_block_length length }
 {
-    length % BLOCK_OCTETS == 0 && length >= BLOCK_OCTETS && length <= MOST_PASSWORD_OCTETS
+    length % BLOCK_OCTETS == 0 && length >= BLOCK_OCTETS && length <= MAX_PASSWORD_OCTETS
 }
 
 /// A short password's octets hidden.
@@ -130,7 +130,7 @@ pub(crate) fn hide_short(
     authenticator: &[u8; 16],
     password: &[u8],
 ) -> Result<Vec<u8>, AllocError>
-    requires { length password.now ≤ MOST_PASSWORD_OCTETS }
+    requires { length password.now ≤ MAX_PASSWORD_OCTETS }
     ensures { IfOk result (λ octets. octets.items ≡ hidden secret.now authenticator.now password.now) }
 {
     let padded = pad(alloc, password)?;

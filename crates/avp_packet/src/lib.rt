@@ -23,7 +23,7 @@ mod subattributes;
 mod walking;
 mod writing;
 
-pub use authenticators::{MOST_PACKET_OCTETS, check_reply};
+pub use authenticators::{MAX_PACKET_OCTETS, check_reply};
 pub use decoding::decode;
 pub use encoding::{encode_reply, encode_request, encoded_authenticator};
 pub use faults::{EncodeFault, HideFault, PacketFault};

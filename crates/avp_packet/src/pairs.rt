@@ -9,7 +9,7 @@ ghost use Rattle.avp_packet.specs.Splitting.{part_octets, parts};
 
 use crate::fragments::join_run;
 use crate::reading::{push_extended, push_joined, push_raw, push_read};
-use crate::sending::MOST_ATTRIBUTE_OCTETS;
+use crate::sending::MAX_ATTRIBUTE_OCTETS;
 use crate::splitting::{Front, first_attribute};
 use crate::subattributes::push_vendor_pairs;
 use crate::writing::VENDOR_SPECIFIC;
@@ -107,7 +107,7 @@ pub(crate) fn read_pairs(
     count: usize,
 ) -> Result<Vec<Pair>, AllocError>
     requires secret { 0 < length secret.now }
-    requires short { length octets.now ≤ MOST_ATTRIBUTE_OCTETS }
+    requires short { length octets.now ≤ MAX_ATTRIBUTE_OCTETS }
     ensures pairs { IfOk result (λ pairs. pairs.items ≡ meaning dictionary.now secret.now authenticator.now (parts octets.now)) }
     ensures fits { IfOk result (λ pairs. All (λ pair. fits pair dictionary.now ≡ true) pairs.items) }
     ensures own { IfOk result (λ pairs. All (IsOwn dictionary.now) pairs.items) }

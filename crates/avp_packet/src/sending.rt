@@ -11,7 +11,7 @@ ghost use Rattle.avp_packet.specs.Packets.{zeros};
 ghost use Rattle.avp_packet.specs.internal.Filling.{IsPlace, divided_octets, filled, kept, place_if, signature_if};
 ghost use Rattle.avp_packet.specs.internal.Ranges.{IsVendorInRange};
 
-use crate::authenticators::{HEAD_OCTETS, MOST_PACKET_OCTETS};
+use crate::authenticators::{HEAD_OCTETS, MAX_PACKET_OCTETS};
 use crate::dividing::{Division, MESSAGE_AUTHENTICATOR};
 use crate::faults::EncodeFault;
 use crate::hiding::hide_short;
@@ -23,7 +23,7 @@ use std::alloc::{AllocError, Global};
 use std::borrow::CowSlice;
 
 /// The most octets of a packet's attributes.
-pub(crate) const MOST_ATTRIBUTE_OCTETS: usize = MOST_PACKET_OCTETS - HEAD_OCTETS;
+pub(crate) const MAX_ATTRIBUTE_OCTETS: usize = MAX_PACKET_OCTETS - HEAD_OCTETS;
 
 /// Whether an id's values are hidden.
 pub(crate) fn hides(dictionary: &Dictionary, id: AttrId) -> bool
@@ -135,17 +135,17 @@ fn push_kept(
     all: bool,
 ) -> Result<(), EncodeFault>
     requires fits { fits pair.now dictionary.now ≡ true }
-    requires short { length octets.old.items ≤ MOST_ATTRIBUTE_OCTETS }
+    requires short { length octets.old.items ≤ MAX_ATTRIBUTE_OCTETS }
     ensures ok { OnOk result (octets.new.items ≡ octets.old.items ++ attribute_octets dictionary.now secret.now authenticator.now (kept all (pair.now ∷ []))) }
     ensures ranged { OnOk result (IsVendorInRange pair.now.id) }
-    ensures short { OnOk result (length octets.new.items ≤ MOST_ATTRIBUTE_OCTETS) }
-    ensures too_long { result ≡ Err EncodeFault.TooLong → MOST_ATTRIBUTE_OCTETS < length octets.old.items + length (attribute_octets dictionary.now secret.now authenticator.now (kept all (pair.now ∷ []))) }
+    ensures short { OnOk result (length octets.new.items ≤ MAX_ATTRIBUTE_OCTETS) }
+    ensures too_long { result ≡ Err EncodeFault.TooLong → MAX_ATTRIBUTE_OCTETS < length octets.old.items + length (attribute_octets dictionary.now secret.now authenticator.now (kept all (pair.now ∷ []))) }
 {
     if !is_kept(pair, all) {
         return Ok(());
     }
     push_pair(octets, dictionary, secret, authenticator, pair)?;
-    if octets.len() > MOST_ATTRIBUTE_OCTETS {
+    if octets.len() > MAX_ATTRIBUTE_OCTETS {
         return Err(EncodeFault::TooLong);
     }
     Ok(())
@@ -162,11 +162,11 @@ fn push_list(
     all: bool,
 ) -> Result<(), EncodeFault>
     requires fits { All (λ pair. fits pair dictionary.now ≡ true) list.now }
-    requires short { length octets.old.items ≤ MOST_ATTRIBUTE_OCTETS }
+    requires short { length octets.old.items ≤ MAX_ATTRIBUTE_OCTETS }
     ensures ok { OnOk result (octets.new.items ≡ octets.old.items ++ attribute_octets dictionary.now secret.now authenticator.now (kept all list.now)) }
     ensures ranged { OnOk result (All (λ pair. IsVendorInRange pair.id) list.now) }
-    ensures short { OnOk result (length octets.new.items ≤ MOST_ATTRIBUTE_OCTETS) }
-    ensures too_long { result ≡ Err EncodeFault.TooLong → MOST_ATTRIBUTE_OCTETS < length octets.old.items + length (attribute_octets dictionary.now secret.now authenticator.now (kept all list.now)) }
+    ensures short { OnOk result (length octets.new.items ≤ MAX_ATTRIBUTE_OCTETS) }
+    ensures too_long { result ≡ Err EncodeFault.TooLong → MAX_ATTRIBUTE_OCTETS < length octets.old.items + length (attribute_octets dictionary.now secret.now authenticator.now (kept all list.now)) }
 {
     for pair in list {
         push_kept(octets, dictionary, secret, authenticator, pair, all)?;
@@ -176,18 +176,18 @@ fn push_list(
 
 // Adds a blank Message-Authenticator where there is to be one, and says where it is.
 fn push_blank(octets: &mut Vec<u8>, signed: bool) -> Result<Option<usize>, EncodeFault>
-    requires short { length octets.old.items ≤ MOST_ATTRIBUTE_OCTETS }
+    requires short { length octets.old.items ≤ MAX_ATTRIBUTE_OCTETS }
     ensures ok { OnOk result (octets.new.items ≡ octets.old.items ++ signature_if signed zeros) }
     ensures place { IfOk result (λ place. place ≡ place_if signed (length octets.old.items)) }
-    ensures short { OnOk result (length octets.new.items ≤ MOST_ATTRIBUTE_OCTETS) }
-    ensures too_long { result ≡ Err EncodeFault.TooLong → MOST_ATTRIBUTE_OCTETS < length octets.old.items + length (signature_if signed zeros) }
+    ensures short { OnOk result (length octets.new.items ≤ MAX_ATTRIBUTE_OCTETS) }
+    ensures too_long { result ≡ Err EncodeFault.TooLong → MAX_ATTRIBUTE_OCTETS < length octets.old.items + length (signature_if signed zeros) }
 {
     if !signed {
         return Ok(None);
     }
     let place = octets.len();
     octets.extend_from_slice(&BLANK)?;
-    if octets.len() > MOST_ATTRIBUTE_OCTETS {
+    if octets.len() > MAX_ATTRIBUTE_OCTETS {
         return Err(EncodeFault::TooLong);
     }
     Ok(Some(place))
@@ -216,13 +216,13 @@ pub(crate) fn write_attributes(
     ensures blank { IfOk result (λ w. w.octets.items ≡ divided_octets dictionary.now secret.now hide_by.now division.now proxy_states.now zeros) }
     ensures filled { IfOk result (λ w. (signature : List ℕ) → filled w.octets.items w.place signature ≡ divided_octets dictionary.now secret.now hide_by.now division.now proxy_states.now signature) }
     ensures place { IfOk result (λ w. IsPlace (length w.octets.items) w.place) }
-    ensures short { IfOk result (λ w. length w.octets.items ≤ MOST_ATTRIBUTE_OCTETS) }
+    ensures short { IfOk result (λ w. length w.octets.items ≤ MAX_ATTRIBUTE_OCTETS) }
     ensures before_ranged { OnOk result (All (λ pair. IsVendorInRange pair.id) division.now.before.now) }
     ensures behind_ranged { OnOk result (All (λ pair. IsVendorInRange pair.id) division.now.behind.now) }
     ensures proxies_ranged { OnOk result (All (λ pair. IsVendorInRange pair.id) proxy_states.now) }
-    ensures too_long { result ≡ Err EncodeFault.TooLong → MOST_ATTRIBUTE_OCTETS < length (divided_octets dictionary.now secret.now hide_by.now division.now proxy_states.now zeros) }
+    ensures too_long { result ≡ Err EncodeFault.TooLong → MAX_ATTRIBUTE_OCTETS < length (divided_octets dictionary.now secret.now hide_by.now division.now proxy_states.now zeros) }
 {
-    let mut octets = Vec::with_capacity(alloc, MOST_ATTRIBUTE_OCTETS)?;
+    let mut octets = Vec::with_capacity(alloc, MAX_ATTRIBUTE_OCTETS)?;
     push_list(
         &mut octets,
         dictionary,

@@ -5,7 +5,7 @@ use Rattle.std.proofs.lemmas.List.Elements.{All-append, All-drop, All-filter, Al
 use Rattle.avp_lists.specs.History.{History, continued, present, state_at}
 use Rattle.avp_lists.specs.Instances.{has_id, has_instance, is_other}
 use Rattle.avp_lists.specs.Operators.{agrees, apply, differs}
-use Rattle.avp_lists.specs.States.{IsFull, edited, edited_list, empty_state, list_of, most_pairs, with_list}
+use Rattle.avp_lists.specs.States.{IsFull, edited, edited_list, empty_state, list_of, max_pairs, with_list}
 use Rattle.avp_lists.specs.declared.attributes.Pair.{Pair}
 use Rattle.avp_lists.specs.declared.edits.Edit.{Edit}
 use Rattle.avp_lists.specs.declared.edits.Op.{Op}
@@ -99,7 +99,7 @@ module _ (d : Dictionary) where
 
 module _ (d : Dictionary) (line : Line) (old : History) where
   -- a line whose pair is edited in
-  pub line_edited : (new : History) (pair : Pair) → old.place < length old.states → resolution d line (present old) ≡ Ok pair → length (edited_list (edit_of line pair) (present old)) ≤ most_pairs → new ≡ continued (edited (edit_of line pair) (present old)) old → IsLineDone d line old new None
+  pub line_edited : (new : History) (pair : Pair) → old.place < length old.states → resolution d line (present old) ≡ Ok pair → length (edited_list (edit_of line pair) (present old)) ≤ max_pairs → new ≡ continued (edited (edit_of line pair) (present old)) old → IsLineDone d line old new None
   unfolding line_result
   line_edited new pair has resolved within is =
       let p = added_present old new (edited (edit_of line pair) (present old)) has is in (

@@ -10,7 +10,7 @@ use Rattle.avp_lists.specs.declared.lists.State.{State}
 use Rattle.avp_unlang.specs.declared.tree.Statement.{Statement}
 use Rattle.avp_step.specs.declared.labels.Moved.TheVariants.{To, AtEnd}
 use Rattle.avp_step.specs.declared.frames.Frame.{Frame}
-use Rattle.avp_step.specs.declared.frames.TheConstants.{MOST_FRAMES}
+use Rattle.avp_step.specs.declared.frames.TheConstants.{MAX_FRAMES}
 use Rattle.avp_step.specs.declared.marks.Mark.{Mark}
 use Rattle.avp_unlang.specs.Meaning.{Outcome}
 use Rattle.avp_step.specs.Trace.{Entry, Steps, end_of, start, trace_of}
@@ -145,7 +145,7 @@ module _ (d : Dictionary) (ss : List Statement) (h : History) (left : ℕ) (ms :
         let none : rest d (states_of walk) fs (standing last h) ≡ [] = ap (λ (t : States → Steps). t (states_of walk) (standing last h)) (sym same) ∙ over.none (states_of walk) held_names in
         omega (arith, length_made ms h.states held.each, ap length frontier, length-append before (rest d (states_of walk) fs (standing last h)), ap length none)
 
-    pub over_held : (t : States → Steps) (h1 : History) (left1 : ℕ) (fs1 : List Frame) (r3 : ℕ) → t ≡ (λ at. rest d at fs) → IsOver t last h → fs1 ≡ [] → h1 ≡ h → h.place + left ≤ h1.place + left1 → MOST_FRAMES ≤ r3 → IsHeld d ss h1 left1 ms p fs1 r1 r3
+    pub over_held : (t : States → Steps) (h1 : History) (left1 : ℕ) (fs1 : List Frame) (r3 : ℕ) → t ≡ (λ at. rest d at fs) → IsOver t last h → fs1 ≡ [] → h1 ≡ h → h.place + left ≤ h1.place + left1 → MAX_FRAMES ≤ r3 → IsHeld d ss h1 left1 ms p fs1 r1 r3
     over_held t h1 left1 fs1 r3 same over none still more room =
         let more' : h.place + left ≤ h.place + left1 = omega (arith, more, ap (λ (k : History). k.place) still) in
         subst (λ k. IsHeld d ss k left1 ms p fs1 r1 r3) (sym still) (subst (λ l. IsHeld d ss h left1 ms p l r1 r3) (sym none) (record {
@@ -169,7 +169,7 @@ module _ (d : Dictionary) (ss : List Statement) (h : History) (left : ℕ) (ms :
         )
 
     -- a refused step
-    pub refused_held : (t : States → Steps) (h1 : History) (left1 : ℕ) (fs1 : List Frame) (r3 : ℕ) → t ≡ (λ at. rest d at fs) → IsRefused d t last h fs1 → h1 ≡ h → h.place + left ≤ h1.place + left1 → Sit h1.place 0 fs1 → IsTrue (frames_suit d fs1) → MOST_FRAMES ≤ r3 → IsHeld d ss h1 left1 ms p fs1 r1 r3
+    pub refused_held : (t : States → Steps) (h1 : History) (left1 : ℕ) (fs1 : List Frame) (r3 : ℕ) → t ≡ (λ at. rest d at fs) → IsRefused d t last h fs1 → h1 ≡ h → h.place + left ≤ h1.place + left1 → Sit h1.place 0 fs1 → IsTrue (frames_suit d fs1) → MAX_FRAMES ≤ r3 → IsHeld d ss h1 left1 ms p fs1 r1 r3
     refused_held t h1 left1 fs1 r3 same r kept more sit fit room =
         let other : rest d (states_of walk) fs1 (standing last h) ≡ rest d (states_of walk) fs (standing last h) = r.same (states_of walk) held_names ∙ ap (λ (t : States → Steps). t (states_of walk) (standing last h)) same in
         let trace1 : before ++ rest d (states_of walk) fs1 (end_of nowhere before) ≡ trace_from d ss h =
@@ -216,7 +216,7 @@ module _ (d : Dictionary) (ss : List Statement) (h : History) (left : ℕ) (ms :
           ap (λ (e : Entry). To e.label) (sym (next_at _ _ (start empty_state) first_step))
           ∙ sym (ap (λ b. cond b (To (entry_at walk (p + 1)).label) AtEnd) (lt-ltb _ _ (next_within _ _ first_step)))
 
-      pub made_held : (left1 : ℕ) (ms1 : List Mark) (r3 r4 : ℕ) → ms1 ≡ ms ++ mark ∷ [] → h.place + left ≤ h1.place + left1 → Sit h1.place 0 fs1 → IsTrue (frames_suit d fs1) → StatesFit d h1 → r1 ≤ r3 → MOST_FRAMES ≤ r4 → IsHeld d ss h1 left1 ms1 (p + 1) fs1 r3 r4
+      pub made_held : (left1 : ℕ) (ms1 : List Mark) (r3 r4 : ℕ) → ms1 ≡ ms ++ mark ∷ [] → h.place + left ≤ h1.place + left1 → Sit h1.place 0 fs1 → IsTrue (frames_suit d fs1) → StatesFit d h1 → r1 ≤ r3 → MAX_FRAMES ≤ r4 → IsHeld d ss h1 left1 ms1 (p + 1) fs1 r3 r4
       made_held left1 ms1 r3 r4 more sum sit fit states room rooms =
           let at : h1.place ≡ h.place + 1 = ap (λ (k : History). k.place) step.added in
           let e = entry_of mark (present h1) in
@@ -268,7 +268,7 @@ module _ (d : Dictionary) (ss : List Statement) (h : History) (left : ℕ) (ms :
         ∙ sym (ap (λ b. cond b (To (entry_at walk (p + 1)).label) AtEnd) (lt-ltb _ _ known_within))
 
 -- a stepper at its start
-pub start_held : (d : Dictionary) (ss : Bor (List Statement)) (h : History) (left : ℕ) (s : State) (ms none : List Mark) (fs nothing : List Frame) (r1 r2 size : ℕ) → h ≡ starting s → none ≡ [] → ms ≡ none ++ (record { label = label.Start; code = code.Ok; stopped = false }) ∷ [] → nothing ≡ [] → fs ≡ nothing ++ Statements ss ∷ [] → size ≡ size_of ss.now → size ≤ left → size + 1 ≤ r1 → MOST_FRAMES ≤ r2 → depth_of ss.now + 1 ≤ MOST_FRAMES → IsTrue (policy_suits d ss.now) → StateFits d s → IsHeld d ss.now h left ms 0 fs r1 r2
+pub start_held : (d : Dictionary) (ss : Bor (List Statement)) (h : History) (left : ℕ) (s : State) (ms none : List Mark) (fs nothing : List Frame) (r1 r2 size : ℕ) → h ≡ starting s → none ≡ [] → ms ≡ none ++ (record { label = label.Start; code = code.Ok; stopped = false }) ∷ [] → nothing ≡ [] → fs ≡ nothing ++ Statements ss ∷ [] → size ≡ size_of ss.now → size ≤ left → size + 1 ≤ r1 → MAX_FRAMES ≤ r2 → depth_of ss.now + 1 ≤ MAX_FRAMES → IsTrue (policy_suits d ss.now) → StateFits d s → IsHeld d ss.now h left ms 0 fs r1 r2
 start_held d ss h left s ms none fs nothing r1 r2 size states no_marks marks no_frames frames is room marks_room frames_room deep fit fits =
     let m : Mark = record { label = label.Start; code = code.Ok; stopped = false } in
     let marks' = marks ∙ ap (λ l. l ++ m ∷ []) no_marks in

@@ -8,7 +8,7 @@ use Rattle.avp_unlang.specs.declared.tree.Statement.TheVariants.{Update, If}
 use Rattle.avp_unlang.specs.declared.tree.Branch.{Branch}
 use Rattle.avp_step.specs.declared.frames.Frame.{Frame}
 use Rattle.avp_step.specs.declared.frames.Frame.TheVariants.{Statements, Lines, Branches}
-use Rattle.avp_step.specs.declared.frames.TheConstants.{MOST_FRAMES}
+use Rattle.avp_step.specs.declared.frames.TheConstants.{MAX_FRAMES}
 use Rattle.avp_unlang.specs.Meaning.{Outcome}
 use Rattle.avp_step.specs.Trace.{Steps, steps, guarded, line_steps, branch_steps, all_steps, then_steps, unless_stopped}
 use Rattle.avp_step.specs.internal.Skips.{skips, skips_of}
@@ -42,7 +42,7 @@ opened_If s branches otherwise bs or fs new place is same same_or e =
     ∙ sym (steps_If d branches otherwise o) ∙ ap (λ x. steps d x o) (sym is))
 
 -- a frame that needs no more than the statement does
-pub opened_sits : (most len place : ℕ) (fs new : List Frame) (g : Frame) → new ≡ fs ++ g ∷ [] → Sit place 0 fs → len ≡ length fs → len + most ≤ MOST_FRAMES → 1 + frame_depth g ≤ most → frame_entry g ≤ place → Sit place 0 new
+pub opened_sits : (most len place : ℕ) (fs new : List Frame) (g : Frame) → new ≡ fs ++ g ∷ [] → Sit place 0 fs → len ≡ length fs → len + most ≤ MAX_FRAMES → 1 + frame_depth g ≤ most → frame_entry g ≤ place → Sit place 0 new
 opened_sits most len place fs new g e fits is room deep entry =
     subst (Sit place 0) (sym e) (Sit_push place 0 fs g fits (omega arith) entry)
 
@@ -76,7 +76,7 @@ IfNone_weaker (Some x) P Q f h = h
 -- the frame that was taken off
 pub record Taken (place : ℕ) (old new : List Frame) (f : Frame) : Type 0 where
   pub others : Sit place 0 new
-  pub room : length new + 1 + frame_depth f ≤ MOST_FRAMES
+  pub room : length new + 1 + frame_depth f ≤ MAX_FRAMES
   pub entry : frame_entry f ≤ place
   pub skips : all_skips old ≡ all_skips new + frame_skips f
 

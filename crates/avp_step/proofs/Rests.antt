@@ -4,7 +4,7 @@ use Rattle.avp_dict.specs.Dictionary.{Dictionary}
 use Rattle.avp_unlang.specs.Meaning.{Outcome}
 use Rattle.avp_step.specs.Trace.{Entry, Steps, end_of, then_steps, unless_stopped}
 use Rattle.avp_step.specs.declared.frames.Frame.{Frame}
-use Rattle.avp_step.specs.declared.frames.TheConstants.{MOST_FRAMES}
+use Rattle.avp_step.specs.declared.frames.TheConstants.{MAX_FRAMES}
 use Rattle.avp_step.specs.internal.Frames.{States, frame_steps, rest, Sit, frame_depth, frame_entry, frame_suits, frames_suit, frame_skips, all_skips}
 use Rattle.avp_step.proofs.Ends.{end_of-append}
 
@@ -39,13 +39,13 @@ module _ (d : Dictionary) where
       ∙ then_assoc (frame_steps d at g) (rest d at fs) (frame_steps d at f) o
 
 -- one more frame
-pub Sit_push : (place height : ℕ) (fs : List Frame) (g : Frame) → Sit place height fs → height + length fs + 1 + frame_depth g ≤ MOST_FRAMES → frame_entry g ≤ place → Sit place height (fs ++ g ∷ [])
+pub Sit_push : (place height : ℕ) (fs : List Frame) (g : Frame) → Sit place height fs → height + length fs + 1 + frame_depth g ≤ MAX_FRAMES → frame_entry g ≤ place → Sit place height (fs ++ g ∷ [])
 Sit_push place height [] g h room entry = (record { room = omega arith; entry = entry }, tt)
 Sit_push place height (f ∷ fs) g h room entry = (h.0, Sit_push place (height + 1) fs g h.1 (omega arith) entry)
 
 pub record Popped (place height : ℕ) (fs : List Frame) (g : Frame) : Type 0 where
   pub others : Sit place height fs
-  pub room : height + length fs + 1 + frame_depth g ≤ MOST_FRAMES
+  pub room : height + length fs + 1 + frame_depth g ≤ MAX_FRAMES
   pub entry : frame_entry g ≤ place
 
 pub Sit_pop : (place height : ℕ) (fs : List Frame) (g : Frame) → Sit place height (fs ++ g ∷ []) → Popped place height fs g

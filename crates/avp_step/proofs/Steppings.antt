@@ -22,7 +22,7 @@ use Rattle.avp_step.specs.Trace.{Entry, Steps, Guarded, steps, guarded, statemen
 use Rattle.avp_step.specs.internal.Frames.{frame_depth, frame_entry, States, else_steps, frame_steps, next_steps, rest, Sit, IsSame, IsNext}
 use Rattle.avp_unlang.specs.Depth.{depth_of_branches}
 use Rattle.avp_unlang.specs.Depth.{depth_of, depth_of_branch, statement_depth, branch_depth}
-use Rattle.avp_step.specs.declared.frames.TheConstants.{MOST_FRAMES}
+use Rattle.avp_step.specs.declared.frames.TheConstants.{MAX_FRAMES}
 use Rattle.avp_step.specs.internal.Stepping.{standing, entry_of, Names, IsStep, IsOver, IsRefused, HasRoom, IsLineDone}
 use Rattle.avp_step.specs.Walk.{IsLineLabel}
 use Rattle.avp_unlang.specs.Truth.{truth}
@@ -37,14 +37,14 @@ added_present old new s has a =
     ∙ get_or-append_seam (take (old.place + 1) old.states) s [] empty_state
 
 -- two frames are put, and then the place is later
-pub entered_sits : (place later len n : ℕ) (ss : Bor (List Statement)) (fs fs1 fs2 : List Frame) → fs1 ≡ fs ++ End n place ∷ [] → fs2 ≡ fs1 ++ Statements ss ∷ [] → len ≡ length fs → len + (2 + depth_of ss.now) ≤ MOST_FRAMES → Sit place 0 fs → place ≤ later → Sit later 0 fs2
+pub entered_sits : (place later len n : ℕ) (ss : Bor (List Statement)) (fs fs1 fs2 : List Frame) → fs1 ≡ fs ++ End n place ∷ [] → fs2 ≡ fs1 ++ Statements ss ∷ [] → len ≡ length fs → len + (2 + depth_of ss.now) ≤ MAX_FRAMES → Sit place 0 fs → place ≤ later → Sit later 0 fs2
 entered_sits place later len n ss fs fs1 fs2 e1 e2 is room fits le =
     let one = subst (Sit place 0) (sym e1) (Sit_push place 0 fs (End n place) fits (omega arith) (le_refl place)) in
     let more : length fs1 ≡ length fs + 1 = omega (arith, ap length e1, length-append fs (End n place ∷ [])) in
     Sit_later place later 0 fs2 le (subst (Sit place 0) (sym e2) (Sit_push place 0 fs1 (Statements ss) one (omega arith) zero-le))
 
 -- one frame is put, and then the place is later
-pub put_sits : (place later len : ℕ) (g : Frame) (fs fs1 : List Frame) → fs1 ≡ fs ++ g ∷ [] → len ≡ length fs → len + 1 + frame_depth g ≤ MOST_FRAMES → frame_entry g ≤ place → Sit place 0 fs → place ≤ later → Sit later 0 fs1
+pub put_sits : (place later len : ℕ) (g : Frame) (fs fs1 : List Frame) → fs1 ≡ fs ++ g ∷ [] → len ≡ length fs → len + 1 + frame_depth g ≤ MAX_FRAMES → frame_entry g ≤ place → Sit place 0 fs → place ≤ later → Sit later 0 fs1
 put_sits place later len g fs fs1 e is room entry fits le =
     Sit_later place later 0 fs1 le (subst (Sit place 0) (sym e) (Sit_push place 0 fs g fits (omega arith) entry))
 

@@ -11,7 +11,7 @@ ghost use Rattle.avp_step.specs.internal.Skips.{skips, skips_of};
 use avp_unlang::{Block, Branch, Code, Line, Statement};
 
 /// The most frames of a policy: 64 braces may be open in it, and each adds two at most.
-pub const MOST_FRAMES: usize = 129;
+pub const MAX_FRAMES: usize = 129;
 
 /// A part of the policy that is still to run.
 #[derive(Clone, Copy)]
@@ -54,8 +54,8 @@ fn open_statement<'a>(
     statement: &'a Statement,
     place: usize,
 ) -> Option<Next<'a>>
-    requires room { vec_len frames.old + depth statement.now ≤ MOST_FRAMES }
-    requires capacity { MOST_FRAMES ≤ vec_capacity frames.old }
+    requires room { vec_len frames.old + depth statement.now ≤ MAX_FRAMES }
+    requires capacity { MAX_FRAMES ≤ vec_capacity frames.old }
     requires sit { Sit place 0 frames.old.items }
     ensures same { IsSame (λ d at. then_steps (steps d statement.now) (rest d at frames.old.items)) result frames.new.items false place }
     ensures sit { Sit place 0 frames.new.items }
@@ -63,7 +63,7 @@ fn open_statement<'a>(
     ensures next { IsNext false result }
     ensures fit { StaysSuited (λ d. frames_suit d frames.old.items && statement_suits d statement.now) result frames.new.items }
     ensures passed { IfNone result (all_skips frames.new.items < all_skips frames.old.items + skips statement.now) }
-    ensures capacity { MOST_FRAMES ≤ vec_capacity frames.new }
+    ensures capacity { MAX_FRAMES ≤ vec_capacity frames.new }
 {
     match statement {
         Statement::Update(_, lines) => {
@@ -85,8 +85,8 @@ fn open_block<'a>(
     statements: &'a [Statement],
     place: usize,
 ) -> Option<Next<'a>>
-    requires room { vec_len frames.old + 1 + depth_of statements.now ≤ MOST_FRAMES }
-    requires capacity { MOST_FRAMES ≤ vec_capacity frames.old }
+    requires room { vec_len frames.old + 1 + depth_of statements.now ≤ MAX_FRAMES }
+    requires capacity { MAX_FRAMES ≤ vec_capacity frames.old }
     requires sit { Sit place 0 frames.old.items }
     ensures same { IsSame (λ d at. then_steps (block_steps d statements.now) (rest d at frames.old.items)) result frames.new.items false place }
     ensures sit { Sit place 0 frames.new.items }
@@ -94,7 +94,7 @@ fn open_block<'a>(
     ensures next { IsNext false result }
     ensures fit { StaysSuited (λ d. frames_suit d frames.old.items && policy_suits d statements.now) result frames.new.items }
     ensures passed { IfNone result (all_skips frames.new.items < all_skips frames.old.items + 1 + skips_of statements.now) }
-    ensures capacity { MOST_FRAMES ≤ vec_capacity frames.new }
+    ensures capacity { MAX_FRAMES ≤ vec_capacity frames.new }
 {
     let Some((first, others)) = statements.split_first() else {
         return None;
@@ -110,8 +110,8 @@ fn open_branches<'a>(
     otherwise: &'a Option<Block>,
     place: usize,
 ) -> Option<Next<'a>>
-    requires room { vec_len frames.old + 1 + max (depth_of_branches branches.now) (else_depth otherwise.now) ≤ MOST_FRAMES }
-    requires capacity { MOST_FRAMES ≤ vec_capacity frames.old }
+    requires room { vec_len frames.old + 1 + max (depth_of_branches branches.now) (else_depth otherwise.now) ≤ MAX_FRAMES }
+    requires capacity { MAX_FRAMES ≤ vec_capacity frames.old }
     requires sit { Sit place 0 frames.old.items }
     ensures same { IsSame (λ d at. then_steps (branch_steps (map (guarded d) branches.now) (else_steps d otherwise.now)) (rest d at frames.old.items)) result frames.new.items false place }
     ensures sit { Sit place 0 frames.new.items }
@@ -119,7 +119,7 @@ fn open_branches<'a>(
     ensures next { IsNext false result }
     ensures fit { StaysSuited (λ d. frames_suit d frames.old.items && (branches_suit d branches.now && else_suits d otherwise.now)) result frames.new.items }
     ensures passed { IfNone result (all_skips frames.new.items < all_skips frames.old.items + 1 + else_skips otherwise.now) }
-    ensures capacity { MOST_FRAMES ≤ vec_capacity frames.new }
+    ensures capacity { MAX_FRAMES ≤ vec_capacity frames.new }
 {
     if !branches.is_empty() {
         return Some(Next::Test(branches, otherwise));
@@ -140,9 +140,9 @@ fn open_frame<'a>(
     stopped: bool,
     place: usize,
 ) -> Option<Next<'a>>
-    requires room { vec_len frames.old + 1 + frame_depth frame ≤ MOST_FRAMES }
+    requires room { vec_len frames.old + 1 + frame_depth frame ≤ MAX_FRAMES }
     requires entry { frame_entry frame ≤ place }
-    requires capacity { MOST_FRAMES ≤ vec_capacity frames.old }
+    requires capacity { MAX_FRAMES ≤ vec_capacity frames.old }
     requires sit { Sit place 0 frames.old.items }
     ensures same { IsSame (λ d at. then_steps (frame_steps d at frame.entry) (rest d at frames.old.items)) result frames.new.items stopped place }
     ensures sit { Sit place 0 frames.new.items }
@@ -150,7 +150,7 @@ fn open_frame<'a>(
     ensures next { IsNext stopped result }
     ensures fit { StaysSuited (λ d. frames_suit d frames.old.items && frame_suits d frame.entry) result frames.new.items }
     ensures passed { IfNone result (all_skips frames.new.items < all_skips frames.old.items + frame_skips frame.entry) }
-    ensures capacity { MOST_FRAMES ≤ vec_capacity frames.new }
+    ensures capacity { MAX_FRAMES ≤ vec_capacity frames.new }
 {
     if let Frame::End(line, entry) = frame {
         return Some(Next::Close(line, entry));
@@ -174,7 +174,7 @@ fn open_frame<'a>(
 
 /// What comes next, taken off the frames.
 pub fn next_of<'a>(frames: &mut Vec<Frame<'a>>, stopped: bool, place: usize) -> Option<Next<'a>>
-    requires capacity { MOST_FRAMES ≤ vec_capacity frames.old }
+    requires capacity { MAX_FRAMES ≤ vec_capacity frames.old }
     requires sit { Sit place 0 frames.old.items }
     ensures same { IsSame (λ d at. rest d at frames.old.items) result frames.new.items stopped place }
     ensures sit { Sit place 0 frames.new.items }
@@ -182,7 +182,7 @@ pub fn next_of<'a>(frames: &mut Vec<Frame<'a>>, stopped: bool, place: usize) -> 
     ensures next { IsNext stopped result }
     ensures fit { StaysSuited (λ d. frames_suit d frames.old.items) result frames.new.items }
     ensures none { IfNone result (frames.new.items ≡ []) }
-    ensures capacity { MOST_FRAMES ≤ vec_capacity frames.new }
+    ensures capacity { MAX_FRAMES ≤ vec_capacity frames.new }
 {
     while let Some(frame) = frames.pop() {
         match open_frame(frames, frame, stopped, place) {

@@ -9,7 +9,7 @@ ghost use Rattle.avp_unlang.specs.Sizes.{size_of};
 ghost use Rattle.avp_step.specs.Trace.{trace_of};
 ghost use Rattle.avp_step.specs.Walk.{IsHeldUp, IsLineLabel, IsWithin, MoveMay, MovesMay, Walk, answer_of_forward, entry, entry_at, last_position, moved_back, moved_forward, moved_to_end, moved_to_start};
 
-use crate::frames::{Frame, MOST_FRAMES, put};
+use crate::frames::{Frame, MAX_FRAMES, put};
 use crate::labels::{Label, Move, Moved};
 use crate::marks::{Mark, START};
 use crate::stepping::step;
@@ -82,7 +82,7 @@ impl<'a, S: Store> Stepper<'a, S> {
         let Ok(mut marks) = Vec::with_capacity(alloc, size + 1) else {
             return Err((store, AllocError));
         };
-        let Ok(mut frames) = Vec::with_capacity(alloc, MOST_FRAMES) else {
+        let Ok(mut frames) = Vec::with_capacity(alloc, MAX_FRAMES) else {
             return Err((store, AllocError));
         };
         match store.reserve(size) {

@@ -15,7 +15,7 @@ ghost use Rattle.avp_step.specs.internal.Stepping.{HasRoom, IsLineDone, IsOver, 
 ghost use Rattle.avp_step.specs.declared.frames.Frame.{Frame};
 ghost use Rattle.avp_step.specs.declared.marks.Mark.{Mark};
 
-use crate::frames::{Frame, MOST_FRAMES, Next, next_of, put};
+use crate::frames::{Frame, MAX_FRAMES, Next, next_of, put};
 use crate::labels::Label;
 use crate::marks::Mark;
 use avp_dict::Dictionary;
@@ -147,8 +147,8 @@ fn step_enter<'a, S: Store>(
     block: &'a [Statement],
 ) -> Mark
     requires room { 0 < S.room store.old }
-    requires frames_room { vec_len frames.old + (2 + depth_of block.now) ≤ MOST_FRAMES }
-    requires capacity { MOST_FRAMES ≤ vec_capacity frames.old }
+    requires frames_room { vec_len frames.old + (2 + depth_of block.now) ≤ MAX_FRAMES }
+    requires capacity { MAX_FRAMES ≤ vec_capacity frames.old }
     requires sit { Sit (S.history store.old).place 0 frames.old.items }
     ensures made { (dictionary : Dictionary)
         → IsStep dictionary
@@ -159,7 +159,7 @@ fn step_enter<'a, S: Store>(
     ensures fit { StaysSuited (λ d. frames_suit d frames.old.items && policy_suits d block.now) None frames.new.items }
     ensures states { KeepsFit (S.history store.old) (S.history store.new) }
     ensures kept { (S.history store.old).place + S.room store.old ≤ (S.history store.new).place + S.room store.new }
-    ensures capacity { MOST_FRAMES ≤ vec_capacity frames.new }
+    ensures capacity { MAX_FRAMES ≤ vec_capacity frames.new }
 {
     put(frames, Frame::End(line, store.place()));
     put(frames, Frame::Statements(block));
@@ -184,15 +184,15 @@ fn step_test<'a, S: Store>(
     requires fits { IsTrue (branches_suit dictionary.now branches.now) }
     requires states { StatesFit dictionary.now (S.history store.old) }
     requires room { 0 < S.room store.old }
-    requires frames_room { vec_len frames.old + (1 + max (depth_of_branches branches.now) (else_depth otherwise.now)) ≤ MOST_FRAMES }
-    requires capacity { MOST_FRAMES ≤ vec_capacity frames.old }
+    requires frames_room { vec_len frames.old + (1 + max (depth_of_branches branches.now) (else_depth otherwise.now)) ≤ MAX_FRAMES }
+    requires capacity { MAX_FRAMES ≤ vec_capacity frames.old }
     requires sit { Sit (S.history store.old).place 0 frames.old.items }
     ensures made { IsStep dictionary.now (λ at. then_steps (next_steps dictionary.now at (Next.Test branches.entry otherwise.entry)) (rest dictionary.now at frames.old.items)) last (S.history store.old) (S.history store.new) result frames.new.items }
     ensures sit { Sit (S.history store.new).place 0 frames.new.items }
     ensures fit { StaysSuited (λ d. frames_suit d frames.old.items && (branches_suit d branches.now && else_suits d otherwise.now)) None frames.new.items }
     ensures states { KeepsFit (S.history store.old) (S.history store.new) }
     ensures kept { (S.history store.old).place + S.room store.old ≤ (S.history store.new).place + S.room store.new }
-    ensures capacity { MOST_FRAMES ≤ vec_capacity frames.new }
+    ensures capacity { MAX_FRAMES ≤ vec_capacity frames.new }
 {
     let Some((branch, others)) = branches.split_first() else {
         unreachable!()
@@ -231,8 +231,8 @@ fn step_line<'a, S: Store>(
     requires running { last.stopped ≡ false }
     requires earlier { entry ≤ (S.history store.old).place }
     requires room { 0 < S.room store.old }
-    requires frames_room { vec_len frames.old + 1 ≤ MOST_FRAMES }
-    requires capacity { MOST_FRAMES ≤ vec_capacity frames.old }
+    requires frames_room { vec_len frames.old + 1 ≤ MAX_FRAMES }
+    requires capacity { MAX_FRAMES ≤ vec_capacity frames.old }
     requires sit { Sit (S.history store.old).place 0 frames.old.items }
     ensures made { IfOk result (λ made. IsStep dictionary.now (λ at. then_steps (next_steps dictionary.now at (Next.Lines lines.entry entry)) (rest dictionary.now at frames.old.items)) last (S.history store.old) (S.history store.new) made frames.new.items) }
     ensures refused { OnErr result (IsRefused dictionary.now (λ at. then_steps (next_steps dictionary.now at (Next.Lines lines.entry entry)) (rest dictionary.now at frames.old.items)) last (S.history store.old) frames.new.items) }
@@ -241,7 +241,7 @@ fn step_line<'a, S: Store>(
     ensures fit { StaysSuited (λ d. frames_suit d frames.old.items && list_all (line_suits d) lines.now) None frames.new.items }
     ensures states { StatesFit dictionary.now (S.history store.new) }
     ensures kept { (S.history store.old).place + S.room store.old ≤ (S.history store.new).place + S.room store.new }
-    ensures capacity { MOST_FRAMES ≤ vec_capacity frames.new }
+    ensures capacity { MAX_FRAMES ≤ vec_capacity frames.new }
 {
     let Some((line, others)) = lines.split_first() else {
         unreachable!()
@@ -284,7 +284,7 @@ fn step_next<'a, S: Store>(
     requires fits { IsTrue (frames_suit dictionary.now frames.old.items && next_suits dictionary.now next) }
     requires states { StatesFit dictionary.now (S.history store.old) }
     requires room { 0 < S.room store.old }
-    requires capacity { MOST_FRAMES ≤ vec_capacity frames.old }
+    requires capacity { MAX_FRAMES ≤ vec_capacity frames.old }
     requires sit { Sit (S.history store.old).place 0 frames.old.items }
     ensures made { IfOk result (λ made. IsStep dictionary.now (λ at. then_steps (next_steps dictionary.now at next.entry) (rest dictionary.now at frames.old.items)) last (S.history store.old) (S.history store.new) made frames.new.items) }
     ensures refused { OnErr result (IsRefused dictionary.now (λ at. then_steps (next_steps dictionary.now at next.entry) (rest dictionary.now at frames.old.items)) last (S.history store.old) frames.new.items) }
@@ -293,7 +293,7 @@ fn step_next<'a, S: Store>(
     ensures fit { IsTrue (frames_suit dictionary.now frames.new.items) }
     ensures states { StatesFit dictionary.now (S.history store.new) }
     ensures kept { (S.history store.old).place + S.room store.old ≤ (S.history store.new).place + S.room store.new }
-    ensures capacity { MOST_FRAMES ≤ vec_capacity frames.new }
+    ensures capacity { MAX_FRAMES ≤ vec_capacity frames.new }
 {
     match next {
         Next::Lines(lines, entry) => step_line(
@@ -318,7 +318,7 @@ pub fn step<S: Store>(
     last: Mark,
 ) -> Result<Option<Mark>, AllocError>
     requires room { HasRoom dictionary.now frames.old.items last (S.history store.old) (S.room store.old) }
-    requires capacity { MOST_FRAMES ≤ vec_capacity frames.old }
+    requires capacity { MAX_FRAMES ≤ vec_capacity frames.old }
     requires sit { Sit (S.history store.old).place 0 frames.old.items }
     requires fit { IsTrue (frames_suit dictionary.now frames.old.items) }
     requires states { StatesFit dictionary.now (S.history store.old) }
@@ -331,7 +331,7 @@ pub fn step<S: Store>(
     ensures fit { IsTrue (frames_suit dictionary.now frames.new.items) }
     ensures states { StatesFit dictionary.now (S.history store.new) }
     ensures kept { (S.history store.old).place + S.room store.old ≤ (S.history store.new).place + S.room store.new }
-    ensures capacity { MOST_FRAMES ≤ vec_capacity frames.new }
+    ensures capacity { MAX_FRAMES ≤ vec_capacity frames.new }
 {
     let place = store.place();
     let Some(next) = next_of(frames, last.stopped, place) else {

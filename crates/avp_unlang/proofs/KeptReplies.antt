@@ -5,7 +5,7 @@ use Rattle.std.specs.List.{All, position_or_len}
 use Rattle.std.proofs.lemmas.List.Elements.{All-append, All-cons, All-drop, All-filter, All-push, All-take}
 use Rattle.avp_lists.specs.Instances.{has_id, has_instance, is_other}
 use Rattle.avp_lists.specs.Operators.{agrees, apply, differs}
-use Rattle.avp_lists.specs.States.{edited, edited_list, most_pairs}
+use Rattle.avp_lists.specs.States.{edited, edited_list, max_pairs}
 use Rattle.avp_lists.specs.declared.attributes.Pair.{Pair}
 use Rattle.avp_lists.specs.declared.edits.Op.{Op}
 use Rattle.avp_lists.specs.declared.edits.Op.TheVariants.{AddNew, Append, KeepEqual, Prepend, RemoveAll, RemoveEqual, Replace}
@@ -123,7 +123,7 @@ module _ (dictionary : Dictionary) (P : Pair → Type 0) where
     line_followed : (r : Result Pair Unresolved) (s : State) (code : Code) → ((p : Pair) → is_removal line.op ≡ false → r ≡ Ok p → P p) → All P s.reply
         → All P (after_line entry (result_from line s r) code (all_lines dictionary entry ls)).state.reply
     line_followed (Ok p) s code adds all =
-        edit_followed (nat_le (length (edited_list (edit_of line p) s)) most_pairs) (edited (edit_of line p) s) code (edit_keeps line.list line.op p s (λ stays. adds p stays refl) all)
+        edit_followed (nat_le (length (edited_list (edit_of line p) s)) max_pairs) (edited (edit_of line p) s) code (edit_keeps line.list line.op p s (λ stays. adds p stays refl) all)
     line_followed (Err why) s code adds all = kept
 
   more_lines : (line : Line) (ls : List Line) → Adds line → LinesKeep ls → LinesKeep (line ∷ ls)

@@ -1,6 +1,6 @@
 -- What a policy makes of a state and a code, by recursion over its tree.
 use Rattle.std.specs.Prelude.{ℕ, Bool, true, false, nat_le, if◌then◌else◌, List, [], ◌∷◌, length, map, Option, Some, None, Result, Ok, Err}
-use Rattle.avp_lists.specs.States.{edited, edited_list, most_pairs}
+use Rattle.avp_lists.specs.States.{edited, edited_list, max_pairs}
 use Rattle.avp_lists.specs.declared.attributes.Pair.{Pair}
 use Rattle.avp_lists.specs.declared.edits.Edit.{Edit}
 use Rattle.avp_lists.specs.declared.lists.State.{State}
@@ -53,7 +53,7 @@ pub data LineResult : Type 0 where
 
 -- the edit of a line, unless its list would have too many pairs
 abbrev pub edit_result : Edit → State → LineResult
-edit_result edit s = if nat_le (length (edited_list edit s)) most_pairs then Edited (edited edit s) else Refused 4
+edit_result edit s = if nat_le (length (edited_list edit s)) max_pairs then Edited (edited edit s) else Refused 4
 
 abbrev pub edit_of : Line → Pair → Edit
 edit_of line pair = record { list = line.list; op = line.op; pair = pair }

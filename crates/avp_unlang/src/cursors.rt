@@ -70,7 +70,7 @@ fn skip(line: usize, text: &[u8]) -> (usize, &[u8])
 }
 
 /// The greatest size of a policy.
-pub(crate) const MOST_SIZE: usize = 65_535;
+pub(crate) const MAX_SIZE: usize = 65_535;
 
 impl<'a> Cursor<'a> {
     /// The beginning of a text.
@@ -80,7 +80,7 @@ impl<'a> Cursor<'a> {
         Cursor {
             text,
             line: 1,
-            room: MOST_SIZE,
+            room: MAX_SIZE,
         }
     }
 

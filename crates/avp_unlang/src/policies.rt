@@ -9,7 +9,7 @@ ghost use Rattle.avp_unlang.specs.Policies.{SpellsPolicy};
 ghost use Rattle.avp_unlang.specs.Sizes.{size_of};
 ghost use Rattle.avp_unlang.specs.Suiting.{IsSpelled, policy_suits};
 
-use crate::cursors::{Cursor, MOST_SIZE};
+use crate::cursors::{Cursor, MAX_SIZE};
 use crate::faults::PolicyFault;
 use crate::statements::statements;
 use crate::tokens::Token;
@@ -19,7 +19,7 @@ use std::alloc::Global;
 use std::marker::Model;
 
 /// How many `{`, `(` and `!` may be open at once.
-const MOST_NESTED: usize = 64;
+const MAX_NESTED: usize = 64;
 
 /// A policy that was read, seen by contracts as its statements.
 #[derive(Debug, Drop)]
@@ -74,11 +74,11 @@ pub fn read_policy(
     ensures suits { IfOk result (λ policy. IsTrue (policy_suits dictionary.now policy)) }
 {
     dictionary.is_sound();
-    let (statements, end) = statements(alloc, dictionary, MOST_NESTED, Cursor::new(text))?;
+    let (statements, end) = statements(alloc, dictionary, MAX_NESTED, Cursor::new(text))?;
     match end.next().0 {
         Token::End => Ok(Policy {
             statements,
-            size: MOST_SIZE - end.room(),
+            size: MAX_SIZE - end.room(),
         }),
         _ => Err(end.misplaced()),
     }

@@ -6,7 +6,7 @@
 mod calls;
 
 use avp_lists::{
-    AttrId, EditFault, List, ListsRefused, MOST_PAIRS, SlotStore, SnapshotStore, Store,
+    AttrId, EditFault, List, ListsRefused, MAX_PAIRS, SlotStore, SnapshotStore, Store,
 };
 use calls::{Call, call_of, pair_of};
 use std::alloc::{AllocError, Global};
@@ -124,9 +124,9 @@ fn main(rt: HostRuntime) -> io::Result<()> {
     };
     let calls = calls_of(rt.alloc(), words)?;
     let lists = first_lists(rt.alloc())?;
-    if lists.reply.len() > MOST_PAIRS
-        || lists.request.len() > MOST_PAIRS
-        || lists.control.len() > MOST_PAIRS
+    if lists.reply.len() > MAX_PAIRS
+        || lists.request.len() > MAX_PAIRS
+        || lists.control.len() > MAX_PAIRS
     {
         return Err(io::ErrorKind::InvalidInput.into());
     }

@@ -6,7 +6,7 @@ ghost use Rattle.avp_lists.specs.History.{present};
 ghost use Rattle.avp_lists.specs.States.{edited};
 
 use avp_lists::{
-    AttrId, Edit, EditFault, List, MOST_PAIRS, Op, Pair, SlotStore, Store, Value, undo_by,
+    AttrId, Edit, EditFault, List, MAX_PAIRS, Op, Pair, SlotStore, Store, Value, undo_by,
 };
 use std::alloc::Global;
 use std::io;
@@ -70,7 +70,7 @@ fn print_reply<S: Store>(rt: &HostRuntime, store: &S) -> io::Result<()> {
 
 // A store with this reply list, which must not be too long.
 fn store_of(alloc: Global, reply: Vec<Pair>) -> io::Result<SlotStore> {
-    if reply.len() > MOST_PAIRS {
+    if reply.len() > MAX_PAIRS {
         return Err(io::ErrorKind::InvalidInput.into());
     }
     match SlotStore::new(alloc, Vec::new(alloc), reply, Vec::new(alloc)) {
@@ -90,7 +90,7 @@ fn main(rt: HostRuntime) -> io::Result<()> {
 
     // One pair fits this list, and the other one does not.
     let mut pairs = Vec::new(alloc);
-    for _ in 1..MOST_PAIRS {
+    for _ in 1..MAX_PAIRS {
         pairs.push(seconds(SESSION_TIMEOUT, 30))?;
     }
     let mut store = store_of(alloc, pairs)?;

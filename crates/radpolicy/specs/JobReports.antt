@@ -5,7 +5,7 @@ use Rattle.avp_lists.specs.declared.attributes.Pair.{Pair}
 use Rattle.avp_lists.specs.declared.lists.State.{State}
 use Rattle.avp_dict.specs.declared.faults.DictFault.{DictFault}
 use Rattle.avp_dict.specs.Dictionary.{Dictionary}
-use Rattle.avp_dict.specs.DictionaryReading.{dictionary_of, most_lines}
+use Rattle.avp_dict.specs.DictionaryReading.{dictionary_of, max_lines}
 use Rattle.avp_packet.specs.declared.packets.Packet.{Packet}
 use Rattle.radpolicy.specs.declared.faults.Fault.{Fault}
 use Rattle.radpolicy.specs.declared.faults.Fault.TheVariants as fault
@@ -32,7 +32,7 @@ use Rattle.radpolicy.specs.declared.scripts.ScriptWord.{ScriptWord}
 
 -- the dictionary of the job's files, or the first refusal
 abbrev pub dictionary_for : Job → Result Dictionary DictFault
-dictionary_for job = dictionary_of most_lines job.files
+dictionary_for job = dictionary_of max_lines job.files
 
 -- the dictionary and the secret of a job
 pub record Opened : Type 0 where

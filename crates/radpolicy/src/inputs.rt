@@ -8,20 +8,20 @@ use std::io;
 use std::io::Read;
 
 /// The most octets that an input file may have.
-pub const MOST_OCTETS: usize = 16_777_216;
+pub const MAX_INPUT_OCTETS: usize = 16_777_216;
 
 /// All that a reader has left, or `None` where that is more than an input file may have.
 pub fn read_input<R: Read + Drop>(alloc: Global, reader: R) -> io::Result<Option<Octets>>
-    ensures within { IfOk result (λ input. IfSome input (λ octets. length octets ≤ MOST_OCTETS)) }
+    ensures within { IfOk result (λ input. IfSome input (λ octets. length octets ≤ MAX_INPUT_OCTETS)) }
     // Where the reader's octets can be known, these are all of them, or they are too many.
     ensures all { IfOk result (λ input. IfSome (R.remaining reader) (λ octets.
-        MatchOption input (MOST_OCTETS < length octets) (λ read. read ≡ octets))) }
+        MatchOption input (MAX_INPUT_OCTETS < length octets) (λ read. read ≡ octets))) }
 {
     let mut octets = Vec::new(alloc);
     let count = reader
-        .take(MOST_OCTETS as u64 + 1)
+        .take(MAX_INPUT_OCTETS as u64 + 1)
         .read_to_end(&mut octets)?;
-    if count <= MOST_OCTETS {
+    if count <= MAX_INPUT_OCTETS {
         Ok(Some(Octets::from_vec(octets)))
     } else {
         Ok(None)

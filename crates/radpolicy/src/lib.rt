@@ -22,7 +22,7 @@ mod words;
 pub use answers::answer;
 pub use fault_lines::print_fault;
 pub use faults::{Fault, status};
-pub use inputs::{MOST_OCTETS, read_input};
+pub use inputs::{MAX_INPUT_OCTETS, read_input};
 pub use jobs::{Command, Form, Job, Outcome};
 pub use outputs::{Output, OutputError, WriteOutput};
 pub use plans::Plan;

@@ -3,7 +3,7 @@
 ghost use Rattle.std.specs.Prelude.{◌≡◌, ◌≢◌, ◌⊎◌, ◌≤◌, ◌<◌, Err, IfErr, IfOk, IfSome, None, Ok, Some, length, true};
 ghost use Rattle.std.specs.List.{filter};
 ghost use Rattle.std.specs.Option.{option_copied};
-ghost use Rattle.avp_lists.specs.States.{most_pairs};
+ghost use Rattle.avp_lists.specs.States.{max_pairs};
 ghost use Rattle.avp_packet.specs.Packets.{IsRequestCode};
 ghost use Rattle.radpolicy.specs.Faults.{IsPrintedWith};
 ghost use Rattle.radpolicy.specs.Fitting.{AllFit};
@@ -64,7 +64,7 @@ fn packet_of_hex(
     requires secret { 0 < length secret.now }
     ensures ok { IfOk result (λ packet. packet_for dictionary.now secret.now (hex_octets job.now.request) ≡ Ok packet) }
     ensures code { IfOk result (λ packet. IsRequestCode packet.code) }
-    ensures few { IfOk result (λ packet. length packet.list ≤ most_pairs) }
+    ensures few { IfOk result (λ packet. length packet.list ≤ max_pairs) }
     ensures fit { IfOk result (λ packet. AllFit dictionary.now packet.list) }
     ensures proxies { IfOk result (λ packet. is_clean (proxy_states packet) dictionary.now ≡ true) }
     ensures refused { IfErr result (λ f. (f ≡ fault.Memory) ⊎ IsUnread f (packet_for dictionary.now secret.now (hex_octets job.now.request))) }
@@ -88,7 +88,7 @@ fn packet_of_lines(
 ) -> Result<Packet, Fault>
     ensures ok { IfOk result (λ packet. lines_for code job.now (request_spelled job.now.request dictionary.now) ≡ Ok packet) }
     ensures code { IfOk result (λ packet. packet.code ≡ code) }
-    ensures few { IfOk result (λ packet. length packet.list ≤ most_pairs) }
+    ensures few { IfOk result (λ packet. length packet.list ≤ max_pairs) }
     ensures fit { IfOk result (λ packet. AllFit dictionary.now packet.list) }
     ensures proxies { IfOk result (λ packet. is_clean (proxy_states packet) dictionary.now ≡ true) }
     ensures refused { IfErr result (λ f. (f ≡ fault.Memory) ⊎ IsUnread f (lines_for code job.now (request_spelled job.now.request dictionary.now))) }
@@ -116,7 +116,7 @@ pub(crate) fn request_of(
     requires hex { job.now.form ≡ InHex → secret ≢ None }
     ensures ok { IfOk result (λ packet. request_for dictionary.now (option_copied secret.entry) job.now ≡ Ok packet) }
     ensures code { IfOk result (λ packet. IsRequestCode packet.code) }
-    ensures few { IfOk result (λ packet. length packet.list ≤ most_pairs) }
+    ensures few { IfOk result (λ packet. length packet.list ≤ max_pairs) }
     ensures fit { IfOk result (λ packet. AllFit dictionary.now packet.list) }
     ensures proxies { IfOk result (λ packet. is_clean (proxy_states packet) dictionary.now ≡ true) }
     ensures refused { IfErr result (λ f. (f ≡ fault.Memory) ⊎ IsUnread f (request_for dictionary.now (option_copied secret.entry) job.now)) }

@@ -2,7 +2,7 @@
 
 ghost use Rattle.std.specs.Prelude.{◌≡◌, ◌⊎◌, ◌≤◌, ◌<◌, ◌++◌, true, IfOk, IfErr, IfSome, OnOk, None, Some, length};
 ghost use Rattle.std.specs.Option.{option_copied, option_map};
-ghost use Rattle.avp_lists.specs.States.{most_pairs};
+ghost use Rattle.avp_lists.specs.States.{max_pairs};
 ghost use Rattle.avp_packet.specs.Packets.{IsRequestCode};
 ghost use Rattle.radpolicy.specs.Fitting.{AllFit};
 ghost use Rattle.avp_lists.specs.History.{present};
@@ -106,7 +106,7 @@ struct Ended {
 
 /// A store of the request's pairs and two empty lists.
 pub(crate) fn entry_store(alloc: Global, request: Packet) -> Result<SlotStore, AllocError>
-    requires { length request.list ≤ most_pairs }
+    requires { length request.list ≤ max_pairs }
     ensures { IfOk result (λ store. present (⟦<SlotStore as Store>⟧.history store) ≡ entry_state request.list) }
 {
     match SlotStore::new(
@@ -142,7 +142,7 @@ fn run_over(
     request: Packet,
 ) -> Result<Ended, AllocError>
     requires policy { IsSpelled dictionary.now policy.now }
-    requires few { length request.list ≤ most_pairs }
+    requires few { length request.list ≤ max_pairs }
     requires fit { AllFit dictionary.now request.list }
     ensures ended { IfOk result (λ ended. run_of dictionary.now policy.now request ≡ record { state = (run_of dictionary.now policy.now request).state; code = ended.code; stopped = ended.stopped }) }
     ensures text { IfOk result (λ ended. ended.text.items ≡ state_text dictionary.now (run_of dictionary.now policy.now request).state ++ result_line ended.code ended.stopped) }
@@ -180,7 +180,7 @@ pub(crate) fn report_of_run(
     requires policy { IsSpelled dictionary.now policy.now }
     requires secret { IfSome secret (λ octets. 0 < length octets.now) }
     requires code { IsRequestCode request.code }
-    requires few { length request.list ≤ most_pairs }
+    requires few { length request.list ≤ max_pairs }
     requires fit { AllFit dictionary.now request.list }
     requires proxies { is_clean (proxy_states request) dictionary.now ≡ true }
     ensures ok { IfOk result (λ report. report_of_run form (record { dictionary = dictionary.now; secret = option_copied secret.entry }) policy.now request ≡ Some (record { text = report.0.items; outcome = report.1 })) }

@@ -1,7 +1,7 @@
 //! A walk by a script, and its report.
 
 ghost use Rattle.std.specs.Prelude.{◌≡◌, ◌++◌, ◌≤◌, IfOk, OnOk, codes, decimal, length};
-ghost use Rattle.avp_lists.specs.States.{most_pairs};
+ghost use Rattle.avp_lists.specs.States.{max_pairs};
 ghost use Rattle.avp_step.specs.Walk.{entry};
 ghost use Rattle.avp_unlang.specs.Suiting.{IsSpelled};
 ghost use Rattle.radpolicy.specs.Fitting.{AllFit};
@@ -165,7 +165,7 @@ pub(crate) fn report_of_walk(
     request: Packet,
 ) -> Result<(Vec<u8>, Outcome), AllocError>
     requires policy { IsSpelled dictionary.now policy.now }
-    requires few { length request.list ≤ most_pairs }
+    requires few { length request.list ≤ max_pairs }
     requires fit { AllFit dictionary.now request.list }
     ensures { IfOk result (λ report. step_report script.now (walk_of dictionary.now policy.now request) ≡ record { text = report.0.items; outcome = report.1 }) }
 {

@@ -1,7 +1,7 @@
 -- What the code's readings stand for.
 use Rattle.std.specs.Prelude.{◌≤◌, ℕ, List, [], ◌∷◌, map, length, Option, Some, None, if◌then◌else◌}
 use Rattle.avp_dict.specs.declared.entries.VendorLine.{VendorLine}
-use Rattle.avp_dict.specs.Letters.{most_name}
+use Rattle.avp_dict.specs.Letters.{max_name}
 use Rattle.avp_dict.specs.Settled.{is_kept}
 use Rattle.avp_dict.specs.declared.file.context.Context.{Context as CodeContext}
 use Rattle.avp_dict.specs.declared.file.meanings.Meaning.{Meaning as CodeMeaning}
@@ -32,8 +32,8 @@ context_view context = record { attributes = context.attributes; vendors = conte
 
 -- the name of a line that a table takes is as short as a name has to be
 abbrev pub IsShort : CodeMeaning → Type 0
-IsShort (code.Vendor name number format) = length name.now ≤ most_name
-IsShort (code.Attribute name id typing) = length name.now ≤ most_name
+IsShort (code.Vendor name number format) = length name.now ≤ max_name
+IsShort (code.Attribute name id typing) = length name.now ≤ max_name
 IsShort _ = Unit {0}
 
 abbrev pub name_if : Option (List ℕ) → List (List ℕ)

@@ -9,7 +9,7 @@ use Rattle.avp_dict.specs.declared.entries.AttributeLine.{AttributeLine}
 use Rattle.avp_dict.specs.declared.entries.ValueLine.{ValueLine}
 use Rattle.avp_dict.specs.declared.entries.VendorLine.{VendorLine}
 use Rattle.avp_dict.specs.Dictionary.{attribute_key, first_keys}
-use Rattle.avp_dict.specs.Letters.{most_name}
+use Rattle.avp_dict.specs.Letters.{max_name}
 use Rattle.avp_dict.specs.Words.{lower}
 
 -- the place of the last line that passes
@@ -56,14 +56,14 @@ vendor_key v = map lower v.name
 pub record AreAttributeTables (names : List (List ℕ × ℕ)) (ids : List (IdKey × ℕ)) (lines : List AttributeLine) : Type 0 where
   pub by_name : IsTable bytes_eq names (map attribute_key lines)
   pub by_id : IsTable same_id_key ids (map (λ a. id_key a.id) lines)
-  pub short : All (λ a. length a.name ≤ most_name) lines
+  pub short : All (λ a. length a.name ≤ max_name) lines
 
 pub record AreValueTables (names : List ((IdKey × List ℕ) × ℕ)) (numbers : List ((IdKey × ℕ) × ℕ)) (lines : List ValueLine) : Type 0 where
   pub by_name : IsTable same_value_name names (map value_name_key lines)
   pub by_number : IsTable same_value_number numbers (map value_number_key lines)
-  pub short : All (λ v. length v.name ≤ most_name) lines
+  pub short : All (λ v. length v.name ≤ max_name) lines
 
 pub record AreVendorTables (names : List (List ℕ × ℕ)) (numbers : List (ℕ × ℕ)) (lines : List VendorLine) : Type 0 where
   pub by_name : IsTable bytes_eq names (map vendor_key lines)
   pub by_number : IsTable nat_eq numbers (map (λ v. v.number) lines)
-  pub short : All (λ v. length v.name ≤ most_name) lines
+  pub short : All (λ v. length v.name ≤ max_name) lines

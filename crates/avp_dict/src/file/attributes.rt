@@ -3,7 +3,7 @@
 ghost use Rattle.std.specs.Prelude.{◌≡◌, ◌≤◌, ℕ, Option, Some, None, if◌then◌else◌, IsTrue};
 ghost use Rattle.std.specs.List.{list_all};
 ghost use Rattle.avp_lists.specs.declared.attributes.AttrId.TheVariants.{Extended};
-ghost use Rattle.avp_dict.specs.Attributes.{attribute, attribute_line, attribute_of, dotted_word, id_word, is_attribute_name, is_extended, is_held, is_number, is_of_other_id, many_words, most_in, number_id, number_word, vendor_id};
+ghost use Rattle.avp_dict.specs.Attributes.{attribute, attribute_line, attribute_of, dotted_word, id_word, is_attribute_name, is_extended, is_held, is_number, is_of_other_id, many_words, max_in, number_id, number_word, vendor_id};
 ghost use Rattle.avp_dict.specs.Letters.{begins_as_attr, is_decimal, is_letter, is_name_octet};
 ghost use Rattle.avp_dict.specs.internal.Numbers.{Reads};
 ghost use Rattle.avp_dict.specs.internal.Meanings.{context_view};
@@ -15,31 +15,31 @@ use crate::entries::VendorFormat;
 use crate::faults::{DictKind, LineError};
 use crate::file::context::Context;
 use crate::file::meanings::Meaning;
-use crate::file::numbers::{MOST_NUMBER, Number, read_number};
+use crate::file::numbers::{MAX_NUMBER, Number, read_number};
 use crate::file::parts::parts_between;
 use crate::file::types::{are_flags, typing_of};
-use crate::file::words::{MOST_NAME, is_same_name};
+use crate::file::words::{MAX_NAME, is_same_name};
 use crate::tables::{Attributes, Vendors};
 use avp_lists::AttrId;
 use std::alloc::Global;
 
-fn most_in(octets: u8) -> u64
-    ensures most { result ≡ most_in octets }
-    ensures within { result ≤ MOST_NUMBER }
+fn max_in(octets: u8) -> u64
+    ensures most { result ≡ max_in octets }
+    ensures within { result ≤ MAX_NUMBER }
 {
     match octets {
         1 => 255,
         2 => u16::MAX as u64,
-        _ => MOST_NUMBER,
+        _ => MAX_NUMBER,
     }
 }
 
 /// Whether the octets of a vendor's numbers hold this one.
 pub fn is_held(number: u64, format: VendorFormat) -> bool
     ensures test { result ≡ is_held number format }
-    ensures within { IsTrue result → number ≤ MOST_NUMBER }
+    ensures within { IsTrue result → number ≤ MAX_NUMBER }
 {
-    number <= most_in(format.t)
+    number <= max_in(format.t)
 }
 
 fn vendor_id(vendor: u32, number: u32, format: Option<VendorFormat>) -> Option<AttrId>
@@ -79,7 +79,7 @@ fn number_word(
         Number::Unreadable => Err(LineError::Refused(DictKind::Unreadable)),
         Number::TooGreat => Err(LineError::Refused(DictKind::OutOfRange)),
         Number::Is(number) => {
-            if number <= MOST_NUMBER {
+            if number <= MAX_NUMBER {
                 Ok(number_id(vendors, block, number as u32))
             } else {
                 Err(LineError::Refused(DictKind::OutOfRange))
@@ -211,7 +211,7 @@ pub fn begins_as_attr(name: &[u8]) -> bool
 fn is_attribute_name(name: &[u8]) -> bool
     ensures { result ≡ is_attribute_name name.now }
 {
-    are_octets_of_name(name) && name.len() <= MOST_NAME && !begins_as_attr(name)
+    are_octets_of_name(name) && name.len() <= MAX_NAME && !begins_as_attr(name)
 }
 
 fn is_of_other_id(id: AttrId, found: Option<AttrId>) -> bool

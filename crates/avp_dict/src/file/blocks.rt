@@ -11,7 +11,7 @@ ghost use Rattle.avp_dict.specs.internal.Views.{views};
 use crate::entries::VendorFormat;
 use crate::faults::{DictKind, LineError};
 use crate::file::context::{innermost, is_skipping};
-use crate::file::gather::MOST_DEPTH;
+use crate::file::gather::MAX_DEPTH;
 use crate::file::keywords::DOLLAR_INCLUDE;
 use crate::file::meanings::{Meaning, Reading};
 use crate::file::words::is_same_name;
@@ -152,7 +152,7 @@ fn include_line<'a>(
             }
         }
         Some(_) => {
-            if depth < MOST_DEPTH {
+            if depth < MAX_DEPTH {
                 Ok(Meaning::Nothing)
             } else {
                 Err(LineError::Refused(DictKind::TooDeep))

@@ -11,11 +11,11 @@ use crate::file::keywords::{DOLLAR_INCLUDE, DOLLAR_INCLUDE_IF_THERE};
 use crate::file::words::is_same_name;
 
 /// How many lines are read, counted as often as they are read.
-pub const MOST_LINES: usize = 200_000;
+pub const MAX_LINES: usize = 200_000;
 /// Includes go so many files deep.
-pub const MOST_DEPTH: usize = 8;
+pub const MAX_DEPTH: usize = 8;
 /// How many files may be open at once: the main one, and one for each include in it.
-pub const MOST_LEVELS: usize = MOST_DEPTH + 1;
+pub const MAX_LEVELS: usize = MAX_DEPTH + 1;
 
 /// A line, where it is, and how many includes led to it.
 #[derive(Clone, Copy, Debug)]

@@ -15,7 +15,7 @@ use crate::file::keywords::{
     ATTRIBUTE, BEGIN_TLV, BEGIN_VENDOR, END_TLV, END_VENDOR, VALUE, VENDOR,
 };
 use crate::file::meanings::Meaning;
-use crate::file::numbers::{MOST_VALUE, number_up_to};
+use crate::file::numbers::{MAX_VALUE, number_up_to};
 use crate::file::vendors::read_vendor;
 use crate::file::words::is_same_name;
 use std::alloc::Global;
@@ -27,7 +27,7 @@ fn value_words<'a>(
 ) -> Result<Meaning<'a>, LineError>
     ensures { Means result (value_words attribute.now name.now number.now) }
 {
-    let number = number_up_to(MOST_VALUE, number)?;
+    let number = number_up_to(MAX_VALUE, number)?;
     Ok(Meaning::Value(attribute, name, number))
 }
 

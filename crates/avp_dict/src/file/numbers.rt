@@ -10,9 +10,9 @@ ghost use Rattle.avp_dict.specs.internal.Outcomes.{Gives};
 use crate::faults::{DictKind, LineError};
 
 /// The greatest number of an attribute and of a vendor.
-pub const MOST_NUMBER: u64 = u32::MAX as u64;
+pub const MAX_NUMBER: u64 = u32::MAX as u64;
 /// The greatest number of a VALUE line.
-pub const MOST_VALUE: u64 = u64::MAX;
+pub const MAX_VALUE: u64 = u64::MAX;
 
 /// What a word is, read as a number.
 #[derive(Clone, Copy, Debug, PartialEq, Eq)]

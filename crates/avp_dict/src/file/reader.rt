@@ -16,7 +16,7 @@ ghost use Rattle.avp_dict.specs.internal.Views.{views};
 use crate::faults::{DictFault, DictKind, LineError};
 use crate::file::context::{Context, innermost};
 use crate::file::files::NamedFile;
-use crate::file::gather::{Line, MOST_LEVELS, octets_of, place_included, split_line};
+use crate::file::gather::{Line, MAX_LEVELS, octets_of, place_included, split_line};
 use crate::file::lines::read_words;
 use crate::file::meanings::{Meaning, Reading};
 use crate::file::words::words;
@@ -105,7 +105,7 @@ impl<'a> ReadLines<'a> {
         levels: usize,
         place: usize,
     ) -> Result<(), DictFault>
-        requires levels { levels ≤ MOST_LEVELS }
+        requires levels { levels ≤ MAX_LEVELS }
         requires limit { limit < 2 ^ 32 }
         requires tracked { context_view self.old.context ≡ context_of (reading_views self.old.readings.items) }
         requires room { length self.old.readings.items ≤ limit }
@@ -118,7 +118,7 @@ impl<'a> ReadLines<'a> {
         if levels == 0 {
             return Ok(());
         }
-        let depth = MOST_LEVELS - levels;
+        let depth = MAX_LEVELS - levels;
         let mut rest = octets_of(files, place);
         let mut number = 1;
         while !rest.is_empty() {
@@ -171,7 +171,7 @@ pub fn read_set<'a>(
     ensures read { OnOk result (dictionary_of limit files.now ≡ settled (reading_views read.new.readings.items)) }
     ensures refused { IfErr result (λ fault. Refuses fault (dictionary_of limit files.now)) }
 {
-    read.read_file(alloc, files, limit, MOST_LEVELS, 0)?;
+    read.read_file(alloc, files, limit, MAX_LEVELS, 0)?;
     refuse_open(&read.context.opened)?;
     Ok(())
 }

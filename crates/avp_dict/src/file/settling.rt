@@ -6,14 +6,14 @@ ghost use Rattle.avp_dict.specs.Settled.{holds, is_in_format, is_kept, is_kept_l
 
 use crate::entries::{AttributeLine, VendorFormat};
 use crate::file::attributes::is_held;
-use crate::file::numbers::MOST_NUMBER;
+use crate::file::numbers::MAX_NUMBER;
 use crate::tables::{Attributes, Vendors};
 use avp_lists::AttrId;
 use std::alloc::{AllocError, Global};
 
 fn holds(number: u64, format: Option<VendorFormat>) -> bool
     ensures test { result ≡ holds number format }
-    ensures within { IsTrue result → number ≤ MOST_NUMBER }
+    ensures within { IsTrue result → number ≤ MAX_NUMBER }
 {
     match format {
         None => false,
@@ -25,7 +25,7 @@ fn holds(number: u64, format: Option<VendorFormat>) -> bool
 #[tactic(auto, unfolding(crate::specs::Settled::is_in_format))]
 pub fn is_in_format(vendors: &Vendors, vendor: u32, number: u64) -> bool
     ensures test { result ≡ is_in_format vendor number vendors.now }
-    ensures within { IsTrue result → number ≤ MOST_NUMBER }
+    ensures within { IsTrue result → number ≤ MAX_NUMBER }
 {
     holds(number, vendors.format_of(vendor))
 }

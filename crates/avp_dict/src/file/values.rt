@@ -4,11 +4,11 @@ ghost use Rattle.std.specs.Prelude.{◌≡◌, ◌∷◌, [], ℕ, List, Option,
 ghost use Rattle.std.specs.Option.{option_and_then, option_copied};
 ghost use Rattle.std.specs.List.{list_all};
 ghost use Rattle.avp_dict.specs.DictionaryReading.{outline_of, settled};
-ghost use Rattle.avp_dict.specs.Letters.{is_word_octet, most_name};
+ghost use Rattle.avp_dict.specs.Letters.{is_word_octet, max_name};
 ghost use Rattle.avp_dict.specs.Meanings.{Reading as SetReading, context_of};
 ghost use Rattle.avp_dict.specs.Outcomes.{Answers, Refuses};
 ghost use Rattle.avp_dict.specs.Settled.{skipped_names};
-ghost use Rattle.avp_dict.specs.Values.{is_noted, is_of_other_number, is_value_name, most_of, most_of_typing, reads_as_number, resolve, value_of, value_up_to, with_line, with_note, with_value};
+ghost use Rattle.avp_dict.specs.Values.{is_noted, is_of_other_number, is_value_name, max_of, max_of_typing, reads_as_number, resolve, value_of, value_up_to, with_line, with_note, with_value};
 ghost use Rattle.avp_dict.specs.Dictionary.{typing_of_id};
 ghost use Rattle.avp_dict.specs.internal.Contents.{contents_view};
 ghost use Rattle.avp_dict.specs.internal.Meanings.{context_view, meaning_view, name_if, reading_view, reading_views, skipped_name_of};
@@ -23,7 +23,7 @@ use crate::file::context::Context;
 use crate::file::meanings::{Meaning, Reading};
 use crate::file::numbers::{Number, digits_of};
 use crate::file::settling::{is_kept, used};
-use crate::file::words::MOST_NAME;
+use crate::file::words::MAX_NAME;
 use crate::octets::copy_of;
 use crate::tables::{Attributes, NameSet, Values, Vendors};
 use avp_lists::AttrId;
@@ -64,13 +64,13 @@ fn reads_as_number(word: &[u8]) -> bool
 #[tactic(auto, unfolding(crate::specs::Values::is_value_name))]
 fn is_value_name(name: &[u8]) -> bool
     ensures test { result ≡ is_value_name name.now }
-    ensures short { IsTrue result → length name.now ≤ most_name }
+    ensures short { IsTrue result → length name.now ≤ max_name }
 {
-    are_octets_of_word(name) && name.len() <= MOST_NAME && !reads_as_number(name)
+    are_octets_of_word(name) && name.len() <= MAX_NAME && !reads_as_number(name)
 }
 
-pub fn most_of(kind: Kind) -> Option<u64>
-    ensures { result ≡ most_of kind }
+pub fn max_of(kind: Kind) -> Option<u64>
+    ensures { result ≡ max_of kind }
 {
     match kind {
         Kind::Byte => Some(255),
@@ -81,11 +81,11 @@ pub fn most_of(kind: Kind) -> Option<u64>
     }
 }
 
-fn most_of_id(attributes: &Attributes, id: AttrId) -> Option<u64>
-    ensures { result ≡ option_and_then most_of_typing (typing_of_id id attributes.now) }
+fn max_of_id(attributes: &Attributes, id: AttrId) -> Option<u64>
+    ensures { result ≡ option_and_then max_of_typing (typing_of_id id attributes.now) }
 {
     match attributes.typing_of_id(id) {
-        Some(typing) => most_of(typing.kind),
+        Some(typing) => max_of(typing.kind),
         None => None,
     }
 }
@@ -109,7 +109,7 @@ fn value_up_to(
     most: Option<u64>,
 ) -> Result<Option<ValueLine>, LineError>
     ensures value { Gives result (value_up_to values.now id name.now number most) }
-    ensures short { IfOk result (λ value. IfSome value (λ v. length v.name ≤ most_name)) }
+    ensures short { IfOk result (λ value. IfSome value (λ v. length v.name ≤ max_name)) }
 {
     match most {
         None => Ok(None),
@@ -140,11 +140,11 @@ fn value_of(
     id: Option<AttrId>,
 ) -> Result<Option<ValueLine>, LineError>
     ensures value { Gives result (value_of skipped.now (contents_view contents.now) attribute.now name.now number id) }
-    ensures short { IfOk result (λ value. IfSome value (λ v. length v.name ≤ most_name)) }
+    ensures short { IfOk result (λ value. IfSome value (λ v. length v.name ≤ max_name)) }
 {
     match id {
         Some(id) => {
-            let most = most_of_id(&contents.attributes, id);
+            let most = max_of_id(&contents.attributes, id);
             value_up_to(alloc, &contents.values, id, name, number, most)
         }
         None => {
@@ -190,7 +190,7 @@ impl Contents {
         reading: Reading<'_>,
         value: Option<ValueLine>,
     ) -> Result<(), AllocError>
-        requires { IfSome value (λ v. length v.name ≤ most_name) }
+        requires { IfSome value (λ v. length v.name ≤ max_name) }
         ensures { OnOk result (contents_view self.new ≡ with_value (contents_view self.old) (reading_view reading.entry) value) }
     {
         match value {

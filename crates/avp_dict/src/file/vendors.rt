@@ -12,9 +12,9 @@ use crate::entries::VendorFormat;
 use crate::faults::{DictKind, LineError};
 use crate::file::keywords::FORMAT_KEY;
 use crate::file::meanings::Meaning;
-use crate::file::numbers::{MOST_NUMBER, Number, number_up_to, read_number};
+use crate::file::numbers::{MAX_NUMBER, Number, number_up_to, read_number};
 use crate::file::parts::parts_between;
-use crate::file::words::{MOST_NAME, is_same_name};
+use crate::file::words::{MAX_NAME, is_same_name};
 use crate::tables::Vendors;
 use std::alloc::{AllocError, Global};
 
@@ -41,7 +41,7 @@ fn are_visible(name: &[u8]) -> bool
 fn is_vendor_name(name: &[u8]) -> bool
     ensures { result ≡ is_vendor_name name.now }
 {
-    are_visible(name) && name.len() <= MOST_NAME
+    are_visible(name) && name.len() <= MAX_NAME
 }
 
 fn is_other_vendor(number: u32, found: Option<u32>) -> bool
@@ -60,7 +60,7 @@ fn vendor_line<'a>(
     format: VendorFormat,
     number: u64,
 ) -> Result<Meaning<'a>, LineError>
-    requires { number ≤ MOST_NUMBER }
+    requires { number ≤ MAX_NUMBER }
     ensures { Means result (vendor_numbered vendors.now name.now format number) }
 {
     let number = number as u32;
@@ -85,7 +85,7 @@ fn read_vendor_line<'a>(
             if !is_vendor_name(name) {
                 return Err(LineError::Refused(DictKind::Unreadable));
             }
-            let number = number_up_to(MOST_NUMBER, number)?;
+            let number = number_up_to(MAX_NUMBER, number)?;
             vendor_line(vendors, name, format, number)
         }
     }

@@ -8,7 +8,7 @@ ghost use Rattle.avp_dict.specs.internal.Views.{views};
 use std::alloc::{AllocError, Global};
 
 /// A name has so many octets at most.
-pub const MOST_NAME: usize = 128;
+pub const MAX_NAME: usize = 128;
 
 fn comment_start(text: &[u8]) -> Option<usize>
     ensures { result ≡ position is_hash text.now }

@@ -3,7 +3,7 @@
 ghost use Rattle.std.specs.Prelude.{◌≡◌, ◌≢◌, ◌≤◌, ◌<◌, ◌+◌, ◌^◌, ◌++◌, ◌∷◌, [], Some, None, true, false, IfOk, IfErr, OnOk, OnErr, IfSome, MatchOption, length, List, All, IsTrue};
 ghost use Rattle.std.specs.List.{before_first, after_first, list_all};
 ghost use Rattle.std.specs.Option.{option_and_then};
-ghost use Rattle.avp_lists.specs.States.{most_pairs};
+ghost use Rattle.avp_lists.specs.States.{max_pairs};
 ghost use Rattle.avp_lists.specs.declared.attributes.Pair.{Pair};
 ghost use Rattle.avp_dict.specs.Limits.{fits};
 ghost use Rattle.avp_dict.specs.Lines.{is_line_end, texts_of};
@@ -20,7 +20,7 @@ use crate::file::words::without_comment;
 use crate::request::faults::{LineFault, LineKind};
 use crate::request::tokens::{Side, Token, is_blank, next_token};
 use crate::value::quotes::octets_between;
-use avp_lists::{MOST_PAIRS, Pair};
+use avp_lists::{MAX_PAIRS, Pair};
 use std::alloc::Global;
 
 /// The first line of a text without its end, and what follows it; none where nothing is left.
@@ -100,12 +100,12 @@ fn after_pair(rest: &[u8]) -> Result<&[u8], LineKind>
 
 // Adds a pair to those that were read before it.
 fn push_pair(pairs: &mut Vec<Pair>, pair: Pair) -> Result<(), LineKind>
-    requires { length pairs.old.items ≤ most_pairs }
+    requires { length pairs.old.items ≤ max_pairs }
     ensures pushed { OnOk result (pairs.new.items ≡ pairs.old.items ++ pair ∷ []) }
-    ensures few { OnOk result (length pairs.new.items ≤ most_pairs) }
-    ensures refused { IfErr result (λ kind. kind ≢ LineKind.Memory → length pairs.old.items ≡ most_pairs) }
+    ensures few { OnOk result (length pairs.new.items ≤ max_pairs) }
+    ensures refused { IfErr result (λ kind. kind ≢ LineKind.Memory → length pairs.old.items ≡ max_pairs) }
 {
-    if pairs.len() == MOST_PAIRS {
+    if pairs.len() == MAX_PAIRS {
         return Err(LineKind::TooMany);
     }
     pairs.push(pair)?;
@@ -169,9 +169,9 @@ impl Dictionary {
 
     // Adds the pairs of a line to those of the lines before it.
     fn read_line(&self, alloc: Global, line: &[u8], pairs: &mut Vec<Pair>) -> Result<(), LineKind>
-        requires { length pairs.old.items ≤ most_pairs }
+        requires { length pairs.old.items ≤ max_pairs }
         ensures read { OnOk result (after_pairs pairs.old.items (pairs_at self.now (tokens_at Side.Name line.now)) ≡ Some pairs.new.items) }
-        ensures few { OnOk result (length pairs.new.items ≤ most_pairs) }
+        ensures few { OnOk result (length pairs.new.items ≤ max_pairs) }
         ensures refused { IfErr result (λ kind. kind ≢ LineKind.Memory → IsRefused pairs.old.items (pairs_at self.now (tokens_at Side.Name line.now))) }
     {
         let mut rest = line;
@@ -188,7 +188,7 @@ impl Dictionary {
     pub fn read_request(&self, alloc: Global, text: &[u8]) -> Result<Vec<Pair>, LineFault>
         ensures read { IfOk result (λ pairs. request_spelled text.now self.now ≡ Some pairs.items) }
         ensures fits { IfOk result (λ pairs. All (λ pair. IsTrue (fits pair self.now)) pairs.items) }
-        ensures few { IfOk result (λ pairs. length pairs.items ≤ most_pairs) }
+        ensures few { IfOk result (λ pairs. length pairs.items ≤ max_pairs) }
 
         // What is written of the pairs is read back as they are.
         ensures clean { IfOk result (λ pairs. is_clean pairs.items self.now ≡ true) }

@@ -3,7 +3,7 @@ ghost use Rattle.std.specs.Option.{option_copied};
 ghost use Rattle.std.specs.Set.{distinct_count};
 ghost use Rattle.avp_dict.specs.Counts.{same_attribute};
 ghost use Rattle.avp_dict.specs.Dictionary.{first_names, id_named, is_attribute_named, is_attribute_of, last_where, typing_of_id};
-ghost use Rattle.avp_dict.specs.Letters.{most_name};
+ghost use Rattle.avp_dict.specs.Letters.{max_name};
 ghost use Rattle.avp_dict.specs.internal.Tables.{AreAttributeTables};
 
 use crate::entries::{AttributeLine, Typing};
@@ -41,7 +41,7 @@ fn add_line(
     line: AttributeLine,
 ) -> Result<(), AllocError>
     requires tables { AreAttributeTables names.old ids.old lines.old.items }
-    requires short { length line.name ≤ most_name }
+    requires short { length line.name ≤ max_name }
     ensures lines { OnOk result (lines.new.items ≡ lines.old.items ++ line ∷ []) }
     ensures tables { OnOk result (AreAttributeTables names.new ids.new lines.new.items) }
 {
@@ -66,14 +66,14 @@ impl Attributes {
     /// The lines in their order.
     pub fn as_slice(&self) -> &[AttributeLine]
         ensures lines { result.now ≡ self.now }
-        ensures short { All (λ line. length line.name ≤ most_name) self.now }
+        ensures short { All (λ line. length line.name ≤ max_name) self.now }
     {
         self.lines.as_slice()
     }
 
     /// One more line. For want of memory no line is left.
     pub fn push(&mut self, alloc: Global, line: AttributeLine) -> Result<(), AllocError>
-        requires { length line.name ≤ most_name }
+        requires { length line.name ≤ max_name }
         ensures { OnOk result (self.new ≡ self.old ++ line ∷ []) }
     {
         match add_line(&mut self.lines, &mut self.names, &mut self.ids, line) {

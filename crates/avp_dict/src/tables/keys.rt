@@ -1,11 +1,11 @@
 //! Keys of tables: names without regard to case, and ids.
 
 ghost use Rattle.std.specs.Prelude.{◌≡◌, ◌≤◌, ◌<◌, length, map, take, IfOk, IfSome, IfNone};
-ghost use Rattle.avp_dict.specs.Letters.{most_name};
+ghost use Rattle.avp_dict.specs.Letters.{max_name};
 ghost use Rattle.avp_dict.specs.Words.{lower};
 ghost use Rattle.avp_dict.specs.internal.Tables.{id_key};
 
-use crate::file::words::{MOST_NAME, lower};
+use crate::file::words::{MAX_NAME, lower};
 use avp_lists::AttrId;
 use std::alloc::{AllocError, Global};
 use std::hash::{Hash, Hasher};
@@ -14,24 +14,24 @@ use std::marker::Model;
 /// A name in lower case, which takes no memory of an allocator.
 #[derive(Drop)]
 pub struct FoldedName {
-    octets: [u8; MOST_NAME],
+    octets: [u8; MAX_NAME],
     size: usize,
 }
 
 impl Model for FoldedName {
     ghost use Rattle.std.specs.Prelude.{◌≤◌, ℕ, List, take};
-    ghost use Rattle.avp_dict.specs.Letters.{most_name};
+    ghost use Rattle.avp_dict.specs.Letters.{max_name};
 
     ghost Value = { List ℕ };
 
     ghost view = { λ f. take f.size f.octets };
 
-    ghost invariant = { λ f. f.size ≤ most_name };
+    ghost invariant = { λ f. f.size ≤ max_name };
 }
 
 // The name in lower case, in the first octets of the buffer.
-fn fold(buffer: &mut [u8; MOST_NAME], name: &[u8])
-    requires { length name.now ≤ most_name }
+fn fold(buffer: &mut [u8; MAX_NAME], name: &[u8])
+    requires { length name.now ≤ max_name }
     ensures { take (length name.now) buffer.new ≡ map lower name.now }
 {
     let mut i = 0;
@@ -45,9 +45,9 @@ impl FoldedName {
     /// The name in lower case, where it is no longer than a name can be.
     pub fn of(name: &[u8]) -> Option<FoldedName>
         ensures folded { IfSome result (λ f. f ≡ map lower name.now) }
-        ensures long { IfNone result (most_name < length name.now) }
+        ensures long { IfNone result (max_name < length name.now) }
     {
-        if name.len() > MOST_NAME {
+        if name.len() > MAX_NAME {
             return None;
         }
         Some(FoldedName::of_short(name))
@@ -55,10 +55,10 @@ impl FoldedName {
 
     /// The name in lower case.
     pub fn of_short(name: &[u8]) -> FoldedName
-        requires { length name.now ≤ most_name }
+        requires { length name.now ≤ max_name }
         ensures { result ≡ map lower name.now }
     {
-        let mut octets = [0; MOST_NAME];
+        let mut octets = [0; MAX_NAME];
         fold(&mut octets, name);
         FoldedName {
             octets,

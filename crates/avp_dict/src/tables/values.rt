@@ -3,7 +3,7 @@ ghost use Rattle.std.specs.Option.{option_copied};
 ghost use Rattle.std.specs.Set.{distinct_count};
 ghost use Rattle.avp_dict.specs.Counts.{same_value};
 ghost use Rattle.avp_dict.specs.Dictionary.{is_value_named, is_value_numbered, last_where, name_numbered, number_named};
-ghost use Rattle.avp_dict.specs.Letters.{most_name};
+ghost use Rattle.avp_dict.specs.Letters.{max_name};
 ghost use Rattle.avp_dict.specs.internal.Tables.{AreValueTables};
 
 use crate::entries::ValueLine;
@@ -41,7 +41,7 @@ fn add_line(
     line: ValueLine,
 ) -> Result<(), AllocError>
     requires tables { AreValueTables names.old numbers.old lines.old.items }
-    requires short { length line.name ≤ most_name }
+    requires short { length line.name ≤ max_name }
     ensures lines { OnOk result (lines.new.items ≡ lines.old.items ++ line ∷ []) }
     ensures tables { OnOk result (AreValueTables names.new numbers.new lines.new.items) }
 {
@@ -75,7 +75,7 @@ impl Values {
 
     /// One more line. For want of memory no line is left.
     pub fn push(&mut self, alloc: Global, line: ValueLine) -> Result<(), AllocError>
-        requires { length line.name ≤ most_name }
+        requires { length line.name ≤ max_name }
         ensures { OnOk result (self.new ≡ self.old ++ line ∷ []) }
     {
         match add_line(&mut self.lines, &mut self.names, &mut self.numbers, line) {

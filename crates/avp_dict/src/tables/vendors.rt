@@ -3,7 +3,7 @@ ghost use Rattle.std.specs.Option.{option_copied};
 ghost use Rattle.std.specs.Set.{distinct_count};
 ghost use Rattle.avp_dict.specs.Counts.{same_vendor};
 ghost use Rattle.avp_dict.specs.Dictionary.{format_of, is_vendor_named, is_vendor_numbered, last_where, vendor_named};
-ghost use Rattle.avp_dict.specs.Letters.{most_name};
+ghost use Rattle.avp_dict.specs.Letters.{max_name};
 ghost use Rattle.avp_dict.specs.internal.Tables.{AreVendorTables};
 
 use crate::entries::{VendorFormat, VendorLine};
@@ -40,7 +40,7 @@ fn add_line(
     line: VendorLine,
 ) -> Result<(), AllocError>
     requires tables { AreVendorTables names.old numbers.old lines.old.items }
-    requires short { length line.name ≤ most_name }
+    requires short { length line.name ≤ max_name }
     ensures lines { OnOk result (lines.new.items ≡ lines.old.items ++ line ∷ []) }
     ensures tables { OnOk result (AreVendorTables names.new numbers.new lines.new.items) }
 {
@@ -71,7 +71,7 @@ impl Vendors {
 
     /// One more line. For want of memory no line is left.
     pub fn push(&mut self, alloc: Global, line: VendorLine) -> Result<(), AllocError>
-        requires { length line.name ≤ most_name }
+        requires { length line.name ≤ max_name }
         ensures { OnOk result (self.new ≡ self.old ++ line ∷ []) }
     {
         match add_line(&mut self.lines, &mut self.names, &mut self.numbers, line) {

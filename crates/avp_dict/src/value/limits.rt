@@ -2,18 +2,18 @@
 
 ghost use Rattle.std.specs.Prelude.{◌≡◌, length};
 ghost use Rattle.std.specs.Option.{option_map_or};
-ghost use Rattle.avp_dict.specs.Limits.{extended_room, fits, greatest_length, is_known, is_of_kind, is_typed, is_value_within, is_within, most_number, most_octets, vendor_room};
+ghost use Rattle.avp_dict.specs.Limits.{extended_room, fits, greatest_length, is_known, is_of_kind, is_typed, is_value_within, is_within, max_number, max_octets, vendor_room};
 ghost use Rattle.avp_dict.specs.Octets.{ends_in_nul, number_octets, octets_of};
 
-use crate::attribute_numbers::{MOST_PLAIN, is_extended_type};
+use crate::attribute_numbers::{MAX_PLAIN, is_extended_type};
 use crate::dictionaries::Dictionary;
 use crate::entries::{Format, Kind};
-use crate::file::values::most_of;
-use crate::value::octets::{MOST_HIDDEN_OCTETS, ends_in_nul};
+use crate::file::values::max_of;
+use crate::value::octets::{MAX_HIDDEN_OCTETS, ends_in_nul};
 use avp_lists::{AttrId, Pair, Value};
 
 // A packet has at most 4096 octets, and 4012 of one value in 16 fragments fill it (RFC 6929, section 2.2).
-const MOST_LONG_OCTETS: usize = 4012;
+const MAX_LONG_OCTETS: usize = 4012;
 
 fn vendor_room(format: Format) -> usize
     ensures { result ≡ vendor_room format }
@@ -28,25 +28,25 @@ fn extended_room(t: u8) -> usize
 {
     match t {
         241..=244 => 252,
-        245 | 246 => MOST_LONG_OCTETS,
+        245 | 246 => MAX_LONG_OCTETS,
         _ => 0,
     }
 }
 
 // The greatest number of a type.
-fn most_number(kind: Kind) -> Option<u64>
-    ensures { result ≡ most_number kind }
+fn max_number(kind: Kind) -> Option<u64>
+    ensures { result ≡ max_number kind }
 {
     match kind {
         Kind::Date => Some(u32::MAX as u64),
-        other => most_of(other),
+        other => max_of(other),
     }
 }
 
 fn is_number_of(number: u64, kind: Kind) -> bool
     ensures { result ≡ is_of_kind (Value.Int number) kind }
 {
-    match most_number(kind) {
+    match max_number(kind) {
         Some(most) => number <= most,
         None => false,
     }
@@ -110,16 +110,16 @@ fn ends_with_nul(kind: Option<Kind>, value: &Value) -> bool
 
 impl Dictionary {
     /// The most octets of an id's attribute.
-    #[tactic(auto, unfolding(crate::specs::Limits::most_octets))]
-    fn most_octets(&self, id: AttrId) -> usize
-        ensures { result ≡ most_octets id self.now }
+    #[tactic(auto, unfolding(crate::specs::Limits::max_octets))]
+    fn max_octets(&self, id: AttrId) -> usize
+        ensures { result ≡ max_octets id self.now }
     {
         match id {
             AttrId::Plain(number) => {
-                if number <= MOST_PLAIN {
+                if number <= MAX_PLAIN {
                     253
                 } else {
-                    MOST_LONG_OCTETS
+                    MAX_LONG_OCTETS
                 }
             }
             AttrId::Vendor(vendor, _) => match self.vendor(vendor) {
@@ -137,9 +137,9 @@ impl Dictionary {
     pub fn greatest_length(&self, id: AttrId) -> usize
         ensures { result ≡ greatest_length id self.now }
     {
-        let most = self.most_octets(id);
+        let most = self.max_octets(id);
         if self.is_hidden(id) {
-            most.min(MOST_HIDDEN_OCTETS)
+            most.min(MAX_HIDDEN_OCTETS)
         } else {
             most
         }
@@ -184,7 +184,7 @@ impl Dictionary {
         ensures { result ≡ is_within id value.now self.now }
     {
         match value {
-            Value::Raw(octets) => octets.as_slice().len() <= self.most_octets(id),
+            Value::Raw(octets) => octets.as_slice().len() <= self.max_octets(id),
             other => self.is_value_within(id, other),
         }
     }

@@ -14,7 +14,7 @@ use avp_lists::{AttrId, Octets, Value};
 use std::alloc::{AllocError, Global};
 
 /// The most octets of a hidden value (RFC 2865, section 5.2).
-pub(crate) const MOST_HIDDEN_OCTETS: usize = 128;
+pub(crate) const MAX_HIDDEN_OCTETS: usize = 128;
 
 // A number's octets, the highest first: those of 64 bits without the first ones.
 fn octets_of_number(alloc: Global, kind: Option<Kind>, number: u64) -> Result<Vec<u8>, AllocError>
@@ -164,7 +164,7 @@ pub(crate) fn ends_in_nul(octets: &[u8]) -> bool
 fn is_hideable(octets: &[u8]) -> bool
     ensures { result ≡ is_hideable octets.now }
 {
-    octets.len() <= MOST_HIDDEN_OCTETS && !ends_in_nul(octets)
+    octets.len() <= MAX_HIDDEN_OCTETS && !ends_in_nul(octets)
 }
 
 impl Dictionary {

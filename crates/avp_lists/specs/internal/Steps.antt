@@ -89,8 +89,8 @@ abbrev pub CountsGrow : List Step → Type 0
 CountsGrow steps = (j k : ℕ) → j ≤ k → k < length steps → ((step_at steps j).slots ≤ (step_at steps k).slots) × ((step_at steps j).pairs ≤ (step_at steps k).pairs)
 
 -- how many pairs there are at most after an edit at a place
-abbrev pub most_kept : List Step → ℕ → ℕ
-most_kept steps k = (step_at steps k).pairs + 1
+abbrev pub max_kept : List Step → ℕ → ℕ
+max_kept steps k = (step_at steps k).pairs + 1
 
 -- in each state, the slots that show a pair and those pairs are among those that its step counts
 abbrev pub AllHoused : List Slot → List Step → Type 0

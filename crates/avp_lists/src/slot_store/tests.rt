@@ -4,7 +4,7 @@ use crate::attributes::{AttrId, Pair, Value};
 use crate::bytes::Octets;
 use crate::edits::{Edit, Op};
 use crate::history::Store;
-use crate::lists::{List, MOST_PAIRS};
+use crate::lists::{List, MAX_PAIRS};
 use crate::slot_store::SlotStore;
 use std::alloc::Global;
 use std::process::Abort;
@@ -34,7 +34,7 @@ fn store_of(rt: &impl Abort, alloc: Global, count: usize) -> Result<SlotStore, F
     for _ in 0..count {
         reply.push(class(alloc, 1)?)?;
     }
-    assert!(rt; reply.len() <= MOST_PAIRS);
+    assert!(rt; reply.len() <= MAX_PAIRS);
     let store = SlotStore::new(alloc, Vec::new(alloc), reply, Vec::new(alloc))?;
     Ok(store)
 }
@@ -52,10 +52,10 @@ fn undone_appends_leave_one_pair_at_the_most(rt: HostRuntime) -> Result<(), Fail
 
 #[test]
 fn appends_copy_no_other_list(rt: HostRuntime) -> Result<(), Fail> {
-    let mut store = store_of(&rt, rt.alloc(), MOST_PAIRS)?;
+    let mut store = store_of(&rt, rt.alloc(), MAX_PAIRS)?;
     for _ in 0..APPENDS {
         append(rt.alloc(), &mut store, 2)?;
     }
-    assert!(rt; store.pool.len() <= MOST_PAIRS + APPENDS);
+    assert!(rt; store.pool.len() <= MAX_PAIRS + APPENDS);
     Ok(())
 }

@@ -14,7 +14,7 @@ use Rattle.avp_step.specs.declared.frames.Frame.{Frame}
 use Rattle.avp_step.specs.declared.frames.Frame.TheVariants.{Statements, Lines, Branches, End}
 use Rattle.avp_step.specs.declared.frames.Next.{Next}
 use Rattle.avp_step.specs.declared.frames.Next.TheVariants as next
-use Rattle.avp_step.specs.declared.frames.TheConstants.{MOST_FRAMES}
+use Rattle.avp_step.specs.declared.frames.TheConstants.{MAX_FRAMES}
 
 -- the state at each position
 abbrev pub States : Type 0
@@ -73,7 +73,7 @@ frames_suit dictionary fs = list_all (frame_suits dictionary) fs
 
 -- a frame at this height has the room that it may need, and names a position up to the place
 pub record Sits (place height : ℕ) (f : Frame) : Type 0 where
-  pub room : height + 1 + frame_depth f ≤ MOST_FRAMES
+  pub room : height + 1 + frame_depth f ≤ MAX_FRAMES
   pub entry : frame_entry f ≤ place
 
 -- each frame does, the first at this height
@@ -140,7 +140,7 @@ pub record StaysSuited (before : Dictionary → Bool) (next : Option Next) (new 
 
 -- what comes next has the room that it may need above the frames, and names a position up to the place
 pub record NextSits (place : ℕ) (n : Next) (fs : List Frame) : Type 0 where
-  pub room : length fs + next_depth n ≤ MOST_FRAMES
+  pub room : length fs + next_depth n ≤ MAX_FRAMES
   pub entry : next_entry n ≤ place
 
 abbrev pub NextSit : ℕ → Option Next → List Frame → Type 0

@@ -12,7 +12,7 @@ use Rattle.avp_step.specs.Walk.{Walk, entry_at}
 use Rattle.avp_step.specs.internal.Frames.{Sit, States, frames_suit, rest}
 use Rattle.avp_step.specs.internal.Stepping.{StatesFit, entry_of}
 use Rattle.avp_step.specs.declared.frames.Frame.{Frame}
-use Rattle.avp_step.specs.declared.frames.TheConstants.{MOST_FRAMES}
+use Rattle.avp_step.specs.declared.frames.TheConstants.{MAX_FRAMES}
 use Rattle.avp_step.specs.declared.marks.Mark.{Mark}
 
 -- the trace from the store's first state
@@ -54,6 +54,6 @@ pub record IsHeld (dictionary : Dictionary) (statements : List Statement) (h : H
   pub sit : Sit (length marks - 1) 0 frames
   pub fit : IsTrue (frames_suit dictionary frames)
   pub states : StatesFit dictionary h
-  pub room_of_frames : MOST_FRAMES ≤ frames_room
+  pub room_of_frames : MAX_FRAMES ≤ frames_room
   pub room_of_marks : length (trace_from dictionary statements h) ≤ marks_room
   pub room_of_store : length (trace_from dictionary statements h) ≤ h.place + left + 1

@@ -1,5 +1,5 @@
 use Rattle.std.proofs.Common.{◌≤◌, vec_capacity}
-use Rattle.avp_step.specs.declared.frames.TheConstants.{MOST_FRAMES}
+use Rattle.avp_step.specs.declared.frames.TheConstants.{MAX_FRAMES}
 use Rattle.avp_step.specs.internal.Frames.{rest, IsSame, Sit, StaysSuited, all_skips, frames_suit}
 use Rattle.std.specs.Prelude.{None}
 use Rattle.avp_step.proofs.frames.next_of.Given as goal
@@ -9,7 +9,7 @@ invariant-loop-frame l = record {
   same : IsSame (λ d at. rest d at l.initial.frames.items) None l.frames.items l.stopped l.place;
   sit : Sit l.place 0 l.frames.items;
   fit : StaysSuited (λ d. frames_suit d l.initial.frames.items) None l.frames.items;
-  capacity : MOST_FRAMES ≤ vec_capacity l.frames;
+  capacity : MAX_FRAMES ≤ vec_capacity l.frames;
 }
 
 abbrev pub decreases-loop-frame : goal.decreases-loop-frame

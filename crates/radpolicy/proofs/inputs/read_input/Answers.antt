@@ -11,9 +11,9 @@ read_whole (Some octets) front read limit empty short same =
     let all = simp length-take at cut in
     taken ∙ take_all limit octets (omega (arith, all))
 
-pub returns-then-count-le-MOST_OCTETS-clause-all :
-    goal.returns-then-count-le-MOST_OCTETS-clause-all
-returns-then-count-le-MOST_OCTETS-clause-all g c =
+pub returns-then-count-le-MAX_INPUT_OCTETS-clause-all :
+    goal.returns-then-count-le-MAX_INPUT_OCTETS-clause-all
+returns-then-count-le-MAX_INPUT_OCTETS-clause-all g c =
     let short : length c.read_to_end.new.buf.items < c.take.result.limit = search rules in
     let whole = read_whole _ _ _ _ c.new-octets.ensures.items short c.in_ok-count.ensures.bytes in
     rw (c.from_vec.ensures, ← c.take.ensures.inner) whole

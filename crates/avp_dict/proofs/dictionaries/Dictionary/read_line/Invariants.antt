@@ -1,5 +1,5 @@
 use Rattle.std.proofs.Common.{◌≡◌, ◌≤◌, length}
-use Rattle.avp_lists.specs.States.{most_pairs}
+use Rattle.avp_lists.specs.States.{max_pairs}
 use Rattle.avp_dict.specs.declared.request.tokens.Side.TheVariants.{Name}
 use Rattle.avp_dict.specs.RequestLines.{tokens_at}
 use Rattle.avp_dict.specs.internal.LineReading.{after_pairs, pairs_at}
@@ -8,7 +8,7 @@ use Rattle.avp_dict.proofs.dictionaries.Dictionary.read_line.Given as goal
 abbrev pub invariant-loop-first : goal.invariant-loop-first
 invariant-loop-first l = record {
   read : after_pairs l.pairs.items (pairs_at l.self (tokens_at Name l.rest)) ≡ after_pairs l.fn.pairs.items (pairs_at l.self (tokens_at Name l.line));
-  few : length l.pairs.items ≤ most_pairs;
+  few : length l.pairs.items ≤ max_pairs;
 }
 
 abbrev pub decreases-loop-first : goal.decreases-loop-first

@@ -1,5 +1,5 @@
 use Rattle.std.proofs.Common.{◌≡◌, ◌+◌, ◌≤◌, length}
-use Rattle.avp_lists.specs.States.{most_pairs}
+use Rattle.avp_lists.specs.States.{max_pairs}
 use Rattle.avp_dict.specs.Lines.{texts_of}
 use Rattle.avp_dict.specs.RequestLines.{is_idle_line, without_front}
 use Rattle.avp_dict.specs.internal.LineReading.{after_pairs, packet_pairs}
@@ -8,7 +8,7 @@ use Rattle.avp_dict.proofs.dictionaries.Dictionary.read_request.Given as goal
 abbrev pub invariant-loop-line : goal.invariant-loop-line
 invariant-loop-line l = record {
   read : after_pairs l.pairs.items (packet_pairs l.self (texts_of l.rest)) ≡ packet_pairs l.self (without_front is_idle_line (texts_of l.text));
-  few : length l.pairs.items ≤ most_pairs;
+  few : length l.pairs.items ≤ max_pairs;
   count : l.number + length l.rest ≤ length l.text;
 }
 

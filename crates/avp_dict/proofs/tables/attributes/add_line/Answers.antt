@@ -1,6 +1,6 @@
 use Rattle.std.proofs.Common.{◌≡◌, rules, ap, map, subst, sym, length, ◌≤◌, ◌∙◌, All, bytes_eq}
 use Rattle.std.proofs.lemmas.List.Elements.{All-push}
-use Rattle.avp_dict.specs.Letters.{most_name}
+use Rattle.avp_dict.specs.Letters.{max_name}
 use Rattle.avp_dict.specs.Dictionary.{attribute_key}
 use Rattle.avp_dict.specs.internal.Tables.{id_key, same_id_key}
 use Rattle.avp_dict.specs.Words.{lower}
@@ -17,5 +17,5 @@ returns-clause-tables c =
     record {
       by_name = line_added bytes_eq attribute_key lines line c.in_ok-put.ensures tables.by_name at (c.of_short.ensures ∙ ap (map lower) c.as_slice.ensures) grown;
       by_id = line_added same_id_key (λ a. id_key a.id) lines line c.in_ok-put-2.ensures tables.by_id at c.id_key.ensures grown;
-      short = subst (All (λ a. length a.name ≤ most_name)) (sym grown) (All-push (λ a. length a.name ≤ most_name) lines line tables.short c.requires.short);
+      short = subst (All (λ a. length a.name ≤ max_name)) (sym grown) (All-push (λ a. length a.name ≤ max_name) lines line tables.short c.requires.short);
     }

@@ -5,22 +5,22 @@ use Rattle.avp_lists.proofs.Lengths.{grows_past, length-apply}
 use Rattle.avp_lists.proofs.slot_store.SlotStore.is_full.Goals as goal
 
 -- a list of the greatest length is one longer, or no longer
-pub returns-then-count-eq-MOST_PAIRS : goal.returns-then-count-eq-MOST_PAIRS
-returns-then-count-eq-MOST_PAIRS c =
+pub returns-then-count-eq-MAX_PAIRS : goal.returns-then-count-eq-MAX_PAIRS
+returns-then-count-eq-MAX_PAIRS c =
     let s = c.args.self.now in
     let e = c.args.edit.now in
     let xs = list_of e.list (get_or (states_of s.pool.items s.slots.items s.steps.items) s.place empty_state) in
     let test = c.adds_one.ensures in
-    let long = sym c.count.ensures ∙ c.if-count-eq-MOST_PAIRS.true in
+    let long = sym c.count.ensures ∙ c.if-count-eq-MAX_PAIRS.true in
     let grows = grows_past e.op e.pair xs 4096 long in
     (λ h. grows.0 (sym test ∙ h), λ h. test ∙ grows.1 h)
 
 -- a shorter list has room for one more
-pub returns-else-count-eq-MOST_PAIRS : goal.returns-else-count-eq-MOST_PAIRS
-returns-else-count-eq-MOST_PAIRS c =
+pub returns-else-count-eq-MAX_PAIRS : goal.returns-else-count-eq-MAX_PAIRS
+returns-else-count-eq-MAX_PAIRS c =
     let s = c.args.self.now in
     let e = c.args.edit.now in
     let xs = list_of e.list (get_or (states_of s.pool.items s.slots.items s.steps.items) s.place empty_state) in
     let most = s.limited s.place e.list in
     let grown = length-apply e.op e.pair xs in
-    grind (arith, c.count.ensures, most, grown, c.if-count-eq-MOST_PAIRS.false)
+    grind (arith, c.count.ensures, most, grown, c.if-count-eq-MAX_PAIRS.false)

@@ -8,10 +8,10 @@ use Rattle.avp_lists.specs.internal.Slots.{Housed}
 use Rattle.avp_lists.specs.States.{IsLimited}
 use Rattle.avp_lists.proofs.Settling.{housed_all, standing-alone, counted-alone, counts-alone, grow-alone, below-alone, housed-alone, states-alone, limited-alone}
 use Rattle.avp_lists.proofs.Starting.{started-length, started-state}
-use Rattle.avp_lists.specs.States.{most_pairs}
+use Rattle.avp_lists.specs.States.{max_pairs}
 use Rattle.avp_lists.proofs.slot_store.SlotStore.new.Goals as goal
 
-limited_given : (s : State) → length s.request ≤ most_pairs → length s.reply ≤ most_pairs → length s.control ≤ most_pairs → IsLimited s
+limited_given : (s : State) → length s.request ≤ max_pairs → length s.reply ≤ max_pairs → length s.control ≤ max_pairs → IsLimited s
 limited_given s r p c Request = r
 limited_given s r p c Reply = p
 limited_given s r p c Control = c

@@ -1,5 +1,5 @@
 use Rattle.std.proofs.Common.{◌≡◌, ◌+◌, ◌-◌, ◌≤◌, ◌++◌, List, length}
-use Rattle.avp_dict.specs.declared.file.gather.TheConstants.{MOST_LEVELS}
+use Rattle.avp_dict.specs.declared.file.gather.TheConstants.{MAX_LEVELS}
 use Rattle.avp_dict.specs.Lines.{Line, expanded, lines_below, lines_in, texts_of}
 use Rattle.avp_dict.specs.Meanings.{context_of}
 use Rattle.avp_dict.specs.Readings.{read_lines}
@@ -15,7 +15,7 @@ invariant-loop-rest l = record {
   room : length l.self.readings.items ≤ l.limit;
   longer : length l.fn.self.readings.items ≤ length l.self.readings.items;
   few : l.number ≤ length l.self.readings.items + 1;
-  deep : l.depth ≡ MOST_LEVELS - l.levels;
+  deep : l.depth ≡ MAX_LEVELS - l.levels;
   so_far : (ls : List Line) → read_lines l.limit l.files (reading_views l.self.readings.items) (expanded (lines_below l.files (lines_in l.files (l.levels - 1))) l.place l.depth l.number (texts_of l.rest) ++ ls)
       ≡ read_lines l.limit l.files (reading_views l.fn.self.readings.items) (lines_in l.files l.levels l.place ++ ls);
 }
