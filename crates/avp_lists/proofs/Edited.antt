@@ -16,21 +16,21 @@ use Rattle.avp_lists.specs.Instances.{has_id, is_other}
 use Rattle.avp_lists.specs.Operators.{agrees, replace, apply}
 use Rattle.avp_lists.specs.Pairs.{pair_eq}
 use Rattle.avp_lists.specs.internal.Plans.{end_of, goes, taken, names_in}
-use Rattle.avp_lists.specs.internal.Shown.{same_list, shows, shows_id, no_pair, pair_of, pairs_of, state_of}
+use Rattle.avp_lists.specs.internal.Shown.{same_list, shows, shows_id, no_pair, pair_of, shown_pairs, state_of}
 use Rattle.avp_lists.specs.internal.Slots.{no_slot, slot_at, flipped, PairsWithin}
 use Rattle.avp_lists.specs.States.{with_list, edited, edited_list}
 use Rattle.avp_lists.proofs.Editing.{turned_if, end-turned, taken_away}
-use Rattle.avp_lists.proofs.InOrder.{in_order, shown_of, in_order-map, any-in_order, pairs_of-in_order}
+use Rattle.avp_lists.proofs.InOrder.{in_order, shown_of, in_order-map, any-in_order, shown_pairs-in_order}
 use Rattle.avp_lists.proofs.Lengths.{none_first}
 use Rattle.avp_lists.proofs.ShownPairs.{list_of-state_of, beside}
 
 -- an edit's list, and the other two
-by_list : (w : WhichList) (L : List Pair) (pool other : List Pair) (c d : List Slot) → pairs_of w other d ≡ L → ((which : WhichList) → same_list which w ≡ false → pairs_of which other d ≡ pairs_of which pool c) → state_of other d ≡ with_list w L (state_of pool c)
+by_list : (w : WhichList) (L : List Pair) (pool other : List Pair) (c d : List Slot) → shown_pairs w other d ≡ L → ((which : WhichList) → same_list which w ≡ false → shown_pairs which other d ≡ shown_pairs which pool c) → state_of other d ≡ with_list w L (state_of pool c)
 by_list Request L pool other c d own others = rw (own, others Reply refl, others Control refl) refl
 by_list Reply L pool other c d own others = rw (own, others Request refl, others Control refl) refl
 by_list Control L pool other c d own others = rw (own, others Request refl, others Reply refl) refl
 
-pub state_edited : (e : Edit) (pool other : List Pair) (c d : List Slot) → pairs_of e.list other d ≡ apply e.op e.pair (pairs_of e.list pool c) → ((which : WhichList) → same_list which e.list ≡ false → pairs_of which other d ≡ pairs_of which pool c) → state_of other d ≡ edited e (state_of pool c)
+pub state_edited : (e : Edit) (pool other : List Pair) (c d : List Slot) → shown_pairs e.list other d ≡ apply e.op e.pair (shown_pairs e.list pool c) → ((which : WhichList) → same_list which e.list ≡ false → shown_pairs which other d ≡ shown_pairs which pool c) → state_of other d ≡ edited e (state_of pool c)
 state_edited e pool other c d own others =
     by_list e.list (edited_list e (state_of pool c)) pool other c d (own ∙ ap (apply e.op e.pair) (sym (list_of-state_of e.list pool c))) others
 
@@ -84,13 +84,13 @@ shown_stay which w pool q (s ∷ ss) ne =
       ]
     ] refl
 
-pub others_stay : (which w : WhichList) (pool : List Pair) (q : Slot → Bool) (c : List Slot) → same_list which w ≡ false → pairs_of which pool (map (turned_if (λ s. shows w s && q s)) c) ≡ pairs_of which pool c
+pub others_stay : (which w : WhichList) (pool : List Pair) (q : Slot → Bool) (c : List Slot) → same_list which w ≡ false → shown_pairs which pool (map (turned_if (λ s. shows w s && q s)) c) ≡ shown_pairs which pool c
 others_stay which w pool q c ne =
     let f = turned_if (λ s. shows w s && q s) in
-    pairs_of-in_order which pool (map f c)
+    shown_pairs-in_order which pool (map f c)
     ∙ ap (shown_of which pool) (in_order-map f (end-turned (λ s. shows w s && q s)) c)
     ∙ shown_stay which w pool q (in_order c) ne
-    ∙ sym (pairs_of-in_order which pool c)
+    ∙ sym (shown_pairs-in_order which pool c)
 
 -- what is turned off shows no pair
 turned-within : (n : ℕ) (p : Slot → Bool) (c : List Slot) → ((s : Slot) → p s ≡ true → s.mark.live ≡ true) → PairsWithin n c → PairsWithin n (map (turned_if p) c)
@@ -152,7 +152,7 @@ pub state-removed : (e : Edit) (pool : List Pair) (c : List Slot) → removes e.
 state-removed e pool c h =
     let d = map (turned_if (taken e pool)) c in
     state_edited e pool pool c d
-    (taken_away e.list pool (goes e.op e.pair) c ∙ taken-applied e.op e.pair (pairs_of e.list pool c) h)
+    (taken_away e.list pool (goes e.op e.pair) c ∙ taken-applied e.op e.pair (shown_pairs e.list pool c) h)
     (λ which ne. others_stay which e.list pool (λ s. goes e.op e.pair (pair_of pool s)) c ne)
 
 -- whether there is an instance
@@ -165,11 +165,11 @@ any_of_shown w id pool (s ∷ ss) =
       | false ↦ rest
     ]
 
-pub any-shown : (w : WhichList) (id : AttrId) (pool : List Pair) (c : List Slot) → list_any (shows_id w id pool) c ≡ list_any (has_id id) (pairs_of w pool c)
+pub any-shown : (w : WhichList) (id : AttrId) (pool : List Pair) (c : List Slot) → list_any (shows_id w id pool) c ≡ list_any (has_id id) (shown_pairs w pool c)
 any-shown w id pool c =
     sym (any-in_order (shows_id w id pool) c)
     ∙ any_of_shown w id pool (in_order c)
-    ∙ sym (ap (list_any (has_id id)) (pairs_of-in_order w pool c))
+    ∙ sym (ap (list_any (has_id id)) (shown_pairs-in_order w pool c))
 
 -- an operator that adds one adds it at its end
 replace-none : (p : Pair) (xs : List Pair) → list_any (has_id p.id) xs ≡ false → replace p xs ≡ xs ++ p ∷ []

@@ -6,9 +6,9 @@ use Rattle.avp_lists.specs.declared.attributes.Pair.{Pair}
 use Rattle.avp_lists.specs.declared.lists.List.{List as WhichList}
 use Rattle.avp_lists.specs.declared.slots.Slot.{Slot}
 use Rattle.avp_lists.specs.internal.Slots.{no_slot, flipped, turn, turn_all}
-use Rattle.avp_lists.specs.internal.Shown.{same_list, shows, pair_of, pairs_of}
+use Rattle.avp_lists.specs.internal.Shown.{same_list, shows, pair_of, shown_pairs}
 use Rattle.avp_lists.specs.internal.Plans.{names_in}
-use Rattle.avp_lists.proofs.InOrder.{in_order, shown_of, in_order-map, pairs_of-in_order}
+use Rattle.avp_lists.proofs.InOrder.{in_order, shown_of, in_order-map, shown_pairs-in_order}
 
 abbrev pub turned_if : (Slot → Bool) → Slot → Slot
 turned_if p s = cond (p s) (flipped s) s
@@ -55,10 +55,10 @@ pub end-turned : (p : Slot → Bool) (s : Slot) → (turned_if p s).end ≡ s.en
 end-turned p s = elim (p s) as (λ b. (cond b (flipped s) s).end ≡ s.end) [ true ↦ refl | false ↦ refl ]
 
 -- the pairs that pass are taken away, and the others stay in order
-pub taken_away : (which : WhichList) (pool : List Pair) (q : Pair → Bool) (c : List Slot) → pairs_of which pool (map (turned_if (λ s. shows which s && q (pair_of pool s))) c) ≡ filter (λ x. not (q x)) (pairs_of which pool c)
+pub taken_away : (which : WhichList) (pool : List Pair) (q : Pair → Bool) (c : List Slot) → shown_pairs which pool (map (turned_if (λ s. shows which s && q (pair_of pool s))) c) ≡ filter (λ x. not (q x)) (shown_pairs which pool c)
 taken_away which pool q c =
     let f = turned_if (λ s. shows which s && q (pair_of pool s)) in
-    pairs_of-in_order which pool (map f c)
+    shown_pairs-in_order which pool (map f c)
     ∙ ap (shown_of which pool) (in_order-map f (end-turned (λ s. shows which s && q (pair_of pool s))) c)
     ∙ shown_taken which pool q (in_order c)
-    ∙ sym (ap (filter (λ x. not (q x))) (pairs_of-in_order which pool c))
+    ∙ sym (ap (filter (λ x. not (q x))) (shown_pairs-in_order which pool c))

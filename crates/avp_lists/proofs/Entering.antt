@@ -14,14 +14,14 @@ use Rattle.avp_lists.specs.Growth.{adds_one}
 use Rattle.avp_lists.specs.Instances.{has_id, is_other}
 use Rattle.avp_lists.specs.Operators.{replace, apply}
 use Rattle.avp_lists.specs.internal.Plans.{end_of, goes, taken, names_in}
-use Rattle.avp_lists.specs.internal.Shown.{same_list, shows, shows_id, no_pair, pair_of, pairs_of, ahead, state_of}
+use Rattle.avp_lists.specs.internal.Shown.{same_list, shows, shows_id, no_pair, pair_of, shown_pairs, ahead, state_of}
 use Rattle.avp_lists.specs.internal.Slots.{no_slot, flipped, turn, turn_all, swap_at, forward, other_pair, with_other, PairsWithin}
 use Rattle.avp_lists.specs.States.{edited}
 use Rattle.avp_lists.proofs.Editing.{turned_if, turned_where, end-turned, shown_taken, turn_at}
 use Rattle.avp_lists.proofs.Edited.{state_edited, same_itself, hidden_elsewhere, and_first, and_second, shown_stay, names_in-within, taken-within, any_of_shown, added-applied, agree-more, within-more, within-append, within-one}
 use Rattle.avp_lists.proofs.Growing.{turn_all-grown}
-use Rattle.avp_lists.proofs.InOrder.{in_order, shown_of, in_order-middle, behind, ahead-map, behind-map, all-in_order, pairs_of-in_order}
-use Rattle.avp_lists.proofs.ShownPairs.{shown-append, shown-agree, beside, beside_none, pairs_of-more, pairs_of-agree}
+use Rattle.avp_lists.proofs.InOrder.{in_order, shown_of, in_order-middle, behind, ahead-map, behind-map, all-in_order, shown_pairs-in_order}
+use Rattle.avp_lists.proofs.ShownPairs.{shown-append, shown-agree, beside, beside_none, shown_pairs-more, shown_pairs-agree}
 
 -- the pair is in the pool of one more
 there : (pool : List Pair) (p : Pair) → get_or (pool ++ p ∷ []) (length pool) no_pair ≡ p
@@ -35,7 +35,7 @@ one_hidden : (which : WhichList) (pool : List Pair) (s : Slot) → shows which s
 one_hidden which pool s h = rw h refl
 
 -- at an end: the slot is the last one, shows the pair, its list is the edit's, and its end is that of the operator
-module _ (e : Edit) (pool : List Pair) (c : List Slot) (s : Slot) (pooled : PairsWithin (length pool) c) (adds : adds_one e.op e.pair.id (pairs_of e.list pool c) ≡ true) (of_list : s.list ≡ e.list) (at_end : s.end ≡ end_of e.op) (off : s.mark.live ≡ false) (pair : s.mark.pair ≡ length pool) where
+module _ (e : Edit) (pool : List Pair) (c : List Slot) (s : Slot) (pooled : PairsWithin (length pool) c) (adds : adds_one e.op e.pair.id (shown_pairs e.list pool c) ≡ true) (of_list : s.list ≡ e.list) (at_end : s.end ≡ end_of e.op) (off : s.mark.live ≡ false) (pair : s.mark.pair ≡ length pool) where
   pub added-turned : turn_all (length c ∷ []) (c ++ s ∷ []) ≡ c ++ flipped s ∷ []
   added-turned = turn_at c [] s ∙ append-nil (c ++ flipped s ∷ [])
 
@@ -49,19 +49,19 @@ module _ (e : Edit) (pool : List Pair) (c : List Slot) (s : Slot) (pooled : Pair
   state-added =
       let other = pool ++ e.pair ∷ [] in
       let d = c ++ flipped s ∷ [] in
-      let kept : (which : WhichList) → pairs_of which other d ≡ beside (end_of e.op) (shown_of which other (flipped s ∷ [])) (pairs_of which pool c) = λ which.
-      pairs_of-more which other c (flipped s)
-      ∙ ap₂ (λ (end : End) (xs : List Pair). beside end (shown_of which other (flipped s ∷ [])) xs) at_end (pairs_of-agree which other pool c (agree-more pool e.pair c pooled)) in
+      let kept : (which : WhichList) → shown_pairs which other d ≡ beside (end_of e.op) (shown_of which other (flipped s ∷ [])) (shown_pairs which pool c) = λ which.
+      shown_pairs-more which other c (flipped s)
+      ∙ ap₂ (λ (end : End) (xs : List Pair). beside end (shown_of which other (flipped s ∷ [])) xs) at_end (shown_pairs-agree which other pool c (agree-more pool e.pair c pooled)) in
       state_edited e pool other c d
       (
       kept e.list
-      ∙ ap (λ (xs : List Pair). beside (end_of e.op) xs (pairs_of e.list pool c)) (one_shown e.list other (flipped s) (last_shows e.list ∙ same_itself e.list) ∙ ap (λ (x : Pair). x ∷ []) last_pair)
-      ∙ sym (added-applied e.op e.pair (pairs_of e.list pool c) adds)
+      ∙ ap (λ (xs : List Pair). beside (end_of e.op) xs (shown_pairs e.list pool c)) (one_shown e.list other (flipped s) (last_shows e.list ∙ same_itself e.list) ∙ ap (λ (x : Pair). x ∷ []) last_pair)
+      ∙ sym (added-applied e.op e.pair (shown_pairs e.list pool c) adds)
       )
       (λ which ne.
       kept which
-      ∙ ap (λ (xs : List Pair). beside (end_of e.op) xs (pairs_of which pool c)) (one_hidden which other (flipped s) (last_shows which ∙ ne))
-      ∙ beside_none (end_of e.op) (pairs_of which pool c))
+      ∙ ap (λ (xs : List Pair). beside (end_of e.op) xs (shown_pairs which pool c)) (one_hidden which other (flipped s) (last_shows which ∙ ne))
+      ∙ beside_none (end_of e.op) (shown_pairs which pool c))
 
   pub added-within : PairsWithin (length (pool ++ e.pair ∷ [])) (c ++ flipped s ∷ [])
   added-within =
@@ -201,14 +201,14 @@ module _ (e : Edit) (pool : List Pair) (before after : List Slot) (s : Slot) (w 
       let all : PairsWithin (length pool) (s ∷ last_slots) = within-right (length pool) first_slots (s ∷ last_slots) order_within in
       taken-within e pool (length pool) last_slots (λ i. all (suc i))
 
-  parts : (which : WhichList) → pairs_of which (pool ++ e.pair ∷ []) ((map (turned_if (taken e pool)) before ++ with_other w s ∷ []) ++ map (turned_if (taken e pool)) after) ≡ (shown_of which pool (map (turned_if (taken e pool)) first_slots) ++ shown_of which (pool ++ e.pair ∷ []) (with_other w s ∷ [])) ++ shown_of which pool (map (turned_if (taken e pool)) last_slots)
+  parts : (which : WhichList) → shown_pairs which (pool ++ e.pair ∷ []) ((map (turned_if (taken e pool)) before ++ with_other w s ∷ []) ++ map (turned_if (taken e pool)) after) ≡ (shown_of which pool (map (turned_if (taken e pool)) first_slots) ++ shown_of which (pool ++ e.pair ∷ []) (with_other w s ∷ [])) ++ shown_of which pool (map (turned_if (taken e pool)) last_slots)
   parts which =
       let g = turned_if (taken e pool) in
       let other = pool ++ e.pair ∷ [] in
       let s' = with_other w s in
       let left = map g first_slots in
       let rest = map g last_slots in
-      pairs_of-in_order which other ((map g before ++ s' ∷ []) ++ map g after)
+      shown_pairs-in_order which other ((map g before ++ s' ∷ []) ++ map g after)
       ∙ ap (shown_of which other) is_in_order
       ∙ shown-append which other (left ++ s' ∷ []) rest
       ∙ ap (λ (xs : List Pair). xs ++ shown_of which other rest) (shown-append which other left (s' ∷ []))
@@ -224,19 +224,19 @@ module _ (e : Edit) (pool : List Pair) (before after : List Slot) (s : Slot) (w 
       let B = shown_of e.list pool first_slots in
       let A = shown_of e.list pool last_slots in
       let is_pair : pair_of other s' ≡ e.pair = ap (λ (n : ℕ). get_or other n no_pair) new_pair ∙ there pool e.pair in
-      let old_list : (which : WhichList) → pairs_of which pool (before ++ s ∷ after) ≡ shown_of which pool first_slots ++ shown_of which pool (s ∷ last_slots) = λ which.
-      pairs_of-in_order which pool (before ++ s ∷ after) ∙ ap (shown_of which pool) was_in_order ∙ shown-append which pool first_slots (s ∷ last_slots) in
+      let old_list : (which : WhichList) → shown_pairs which pool (before ++ s ∷ after) ≡ shown_of which pool first_slots ++ shown_of which pool (s ∷ last_slots) = λ which.
+      shown_pairs-in_order which pool (before ++ s ∷ after) ∙ ap (shown_of which pool) was_in_order ∙ shown-append which pool first_slots (s ∷ last_slots) in
       let none_shown : list_any (has_id e.pair.id) B ≡ false = sym (any_of_shown e.list e.pair.id pool first_slots) ∙ none in
       let kept : shown_of e.list pool (map g first_slots) ≡ B = shown_taken e.list pool (goes e.op e.pair) first_slots ∙ ap (λ (o : Op). filter (λ y. not (goes o e.pair y)) B) op ∙ none_filtered (has_id e.pair.id) B none_shown in
       let gone : shown_of e.list pool (map g last_slots) ≡ filter (is_other e.pair.id) A = shown_taken e.list pool (goes e.op e.pair) last_slots ∙ ap (λ (o : Op). filter (λ y. not (goes o e.pair y)) A) op in
-      let own : pairs_of e.list other d ≡ apply e.op e.pair (pairs_of e.list pool (before ++ s ∷ after)) =
+      let own : shown_pairs e.list other d ≡ apply e.op e.pair (shown_pairs e.list pool (before ++ s ∷ after)) =
       parts e.list
       ∙ ap₂ (λ (xs ys : List Pair). (xs ++ shown_of e.list other (s' ∷ [])) ++ ys) kept gone
       ∙ ap (λ (xs : List Pair). (B ++ xs) ++ filter (is_other e.pair.id) A) (one_shown e.list other s' shown_here ∙ ap (λ (y : Pair). y ∷ []) is_pair)
       ∙ append_assoc B (e.pair ∷ []) (filter (is_other e.pair.id) A)
       ∙ sym (replace_at e.pair B A x none_shown (and_second (shows e.list s) (has_id e.pair.id x) first))
       ∙ sym (ap (replace e.pair) (old_list e.list ∙ ap (λ (xs : List Pair). B ++ xs) (rw shown_here refl)))
-      ∙ sym (ap (λ (o : Op). apply o e.pair (pairs_of e.list pool (before ++ s ∷ after))) op) in
+      ∙ sym (ap (λ (o : Op). apply o e.pair (shown_pairs e.list pool (before ++ s ∷ after))) op) in
       state_edited e pool other (before ++ s ∷ after) d own (λ which ne.
       let hidden : shows which s ≡ false = hidden_elsewhere which e.list s.mark.live s ne shown_here in
       let stay : (c : List Slot) → shown_of which pool (map g c) ≡ shown_of which pool c = λ c. shown_stay which e.list pool (λ t. goes e.op e.pair (pair_of pool t)) c ne in

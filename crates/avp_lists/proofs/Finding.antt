@@ -12,10 +12,10 @@ use Rattle.avp_lists.specs.declared.slots.End.{End}
 use Rattle.avp_lists.specs.declared.slots.End.TheVariants.{Head, Tail}
 use Rattle.avp_lists.specs.declared.slots.Slot.{Slot}
 use Rattle.avp_lists.specs.Instances.{has_id}
-use Rattle.avp_lists.specs.internal.Shown.{shows, shows_at, shows_id, shows_id_at, same_end, entered_at, no_pair, pair_of, pairs_at, pairs_of, ahead, ahead_at}
+use Rattle.avp_lists.specs.internal.Shown.{shows, shows_at, shows_id, shows_id_at, same_end, entered_at, no_pair, pair_of, pairs_at, shown_pairs, ahead, ahead_at}
 use Rattle.avp_lists.specs.internal.Slots.{no_slot, slot_at}
 use Rattle.avp_lists.proofs.Edited.{any-shown, any_of_shown, and_first, and_second}
-use Rattle.avp_lists.proofs.InOrder.{in_order, shown_of, any-reverse, any_filter, any-ends, in_order-middle, behind, pairs_of-in_order}
+use Rattle.avp_lists.proofs.InOrder.{in_order, shown_of, any-reverse, any_filter, any-ends, in_order-middle, behind, shown_pairs-in_order}
 use Rattle.avp_lists.proofs.ShownPairs.{shown-append}
 
 -- a place among the pairs of both ends
@@ -29,7 +29,7 @@ get_right [] ys i n e = let same : n ≡ i = omega (arith, e) in ap (slice_get y
 get_right (x ∷ xs) ys i zero e = absurd (omega (arith, e))
 get_right (x ∷ xs) ys i (suc n) e = get_right xs ys i n (omega (arith, e))
 
-pub get_at_head : (which : WhichList) (pool : List Pair) (c : List Slot) (heads at : ℕ) → heads ≡ length (filter (shows_at Head which) c) → at < heads → slice_get (pairs_of which pool c) at ≡ slice_get (pairs_at Head which pool c) (heads - 1 - at)
+pub get_at_head : (which : WhichList) (pool : List Pair) (c : List Slot) (heads at : ℕ) → heads ≡ length (filter (shows_at Head which) c) → at < heads → slice_get (shown_pairs which pool c) at ≡ slice_get (pairs_at Head which pool c) (heads - 1 - at)
 get_at_head which pool c heads at count lt =
     let xs = pairs_at Head which pool c in
     let long : length xs ≡ heads = length-map (filter (shows_at Head which) c) (pair_of pool) ∙ sym count in
@@ -43,7 +43,7 @@ get_at_head which pool c heads at count lt =
     ∙ ap (λ (n : ℕ). Some (get_or xs (n - 1 - at) no_pair)) long
     ∙ sym (slice_get-get_or xs (heads - 1 - at) no_pair back)
 
-pub get_at_tail : (which : WhichList) (pool : List Pair) (c : List Slot) (heads at : ℕ) → heads ≡ length (filter (shows_at Head which) c) → heads ≤ at → slice_get (pairs_of which pool c) at ≡ slice_get (pairs_at Tail which pool c) (at - heads)
+pub get_at_tail : (which : WhichList) (pool : List Pair) (c : List Slot) (heads at : ℕ) → heads ≡ length (filter (shows_at Head which) c) → heads ≤ at → slice_get (shown_pairs which pool c) at ≡ slice_get (pairs_at Tail which pool c) (at - heads)
 get_at_tail which pool c heads at count ge =
     let xs = pairs_at Head which pool c in
     let long : length (reverse xs) ≡ heads = length-reverse xs ∙ length-map (filter (shows_at Head which) c) (pair_of pool) ∙ sym count in
@@ -67,7 +67,7 @@ find_after p (b ∷ bs) after x none h =
     ] none
 
 -- the first slot that shows an instance shows the first instance
-pub found-first : (which : WhichList) (id : AttrId) (pool : List Pair) (c : List Slot) (at : ℕ) → at < length c → shows_id which id pool (slot_at c at) ≡ true → list_any (shows_id which id pool) (ahead_at at c) ≡ false → find (has_id id) (pairs_of which pool c) ≡ Some (pair_of pool (slot_at c at))
+pub found-first : (which : WhichList) (id : AttrId) (pool : List Pair) (c : List Slot) (at : ℕ) → at < length c → shows_id which id pool (slot_at c at) ≡ true → list_any (shows_id which id pool) (ahead_at at c) ≡ false → find (has_id id) (shown_pairs which pool c) ≡ Some (pair_of pool (slot_at c at))
 found-first which id pool c at within shown none =
     let before = take at c in
     let s = slot_at c at in
@@ -77,16 +77,16 @@ found-first which id pool c at within shown none =
     let whole : c ≡ before ++ s ∷ after = sym (take-append-drop at c) ∙ ap (λ (xs : List Slot). before ++ xs) (drop_more c at no_slot within) in
     let order : in_order c ≡ first ++ s ∷ last = ap in_order whole ∙ in_order-middle before after s in
     let here : shows which s ≡ true = and_first (shows which s) (has_id id (pair_of pool s)) shown in
-    let parts : pairs_of which pool c ≡ shown_of which pool first ++ pair_of pool s ∷ shown_of which pool last =
-    pairs_of-in_order which pool c
+    let parts : shown_pairs which pool c ≡ shown_of which pool first ++ pair_of pool s ∷ shown_of which pool last =
+    shown_pairs-in_order which pool c
     ∙ ap (shown_of which pool) order
     ∙ shown-append which pool first (s ∷ last)
     ∙ ap (λ (b : Bool). shown_of which pool first ++ map (pair_of pool) (cond b (s ∷ filter (shows which) last) (filter (shows which) last))) here in
     ap (find (has_id id)) parts
     ∙ find_after (has_id id) (shown_of which pool first) (shown_of which pool last) (pair_of pool s) (sym (any_of_shown which id pool first) ∙ none) (and_second (shows which s) (has_id id (pair_of pool s)) shown)
 
-pub found-none : (which : WhichList) (id : AttrId) (pool : List Pair) (c : List Slot) → list_any (shows_id which id pool) c ≡ false → find (has_id id) (pairs_of which pool c) ≡ None
-found-none which id pool c none = find_none (has_id id) (pairs_of which pool c) (sym (any-shown which id pool c) ∙ none)
+pub found-none : (which : WhichList) (id : AttrId) (pool : List Pair) (c : List Slot) → list_any (shows_id which id pool) c ≡ false → find (has_id id) (shown_pairs which pool c) ≡ None
+found-none which id pool c none = find_none (has_id id) (shown_pairs which pool c) (sym (any-shown which id pool c) ∙ none)
 
 -- the last one at the head, or else the first one at the tail, is the first
 end_is : (a b : End) → same_end a b ≡ true → b ≡ a

@@ -10,7 +10,7 @@ use Rattle.avp_lists.specs.declared.lists.List.{List as WhichList}
 use Rattle.avp_lists.specs.declared.slots.End.{End}
 use Rattle.avp_lists.specs.declared.slots.End.TheVariants.{Head, Tail}
 use Rattle.avp_lists.specs.declared.slots.Slot.{Slot}
-use Rattle.avp_lists.specs.internal.Shown.{shows, pair_of, same_end, entered_at, pairs_at, pairs_of, ahead}
+use Rattle.avp_lists.specs.internal.Shown.{shows, pair_of, same_end, entered_at, pairs_at, shown_pairs, ahead}
 use Rattle.avp_lists.specs.internal.Slots.{slot_at}
 
 -- those that entered at the head, the last one first, and then those that entered at the tail
@@ -257,8 +257,8 @@ any-in_order p c =
     ∙ any-ends p c
 
 -- a list's pairs are those of its slots in order
-pub pairs_of-in_order : (which : WhichList) (pool : List Pair) (c : List Slot) → pairs_of which pool c ≡ shown_of which pool (in_order c)
-pairs_of-in_order which pool c =
+pub shown_pairs-in_order : (which : WhichList) (pool : List Pair) (c : List Slot) → shown_pairs which pool c ≡ shown_of which pool (in_order c)
+shown_pairs-in_order which pool c =
     let heads = filter (entered_at Head) c in
     let tails = filter (entered_at Tail) c in
     let part : (end : End) → pairs_at end which pool c ≡ shown_of which pool (filter (entered_at end) c) = λ end. ap (map (pair_of pool)) (sym (filter_both (shows which) (entered_at end) c)) in

@@ -14,7 +14,7 @@ use Rattle.avp_lists.specs.Growth.{adds_one, removes}
 use Rattle.avp_lists.specs.Instances.{has_id}
 use Rattle.avp_lists.specs.Operators.{apply}
 use Rattle.avp_lists.specs.internal.Plans.{end_of, taken, names_in, IsPlan}
-use Rattle.avp_lists.specs.internal.Shown.{shows_id, ahead_at, pairs_of, state_of}
+use Rattle.avp_lists.specs.internal.Shown.{shows_id, ahead_at, shown_pairs, state_of}
 use Rattle.avp_lists.specs.internal.Slots.{no_slot, slot_at, flipped, turn_all, with_other, forward, NamesWithin, PairsWithin}
 use Rattle.avp_lists.specs.States.{edited}
 use Rattle.avp_lists.proofs.Editing.{turned_if, turned_where}
@@ -29,7 +29,7 @@ none_added : (s : Slot) → None ≡ Some s → ⊥
 none_added s h = cc
 
 -- the pair gets a slot of its own
-pub plan-added : (e : Edit) (pool : List Pair) (c : List Slot) (s : Slot) (v : Vec ℕ Global) → PairsWithin (length pool) c → adds_one e.op e.pair.id (pairs_of e.list pool c) ≡ true → s.list ≡ e.list → s.end ≡ end_of e.op → s.mark.live ≡ false → s.mark.pair ≡ length pool → s.first ≡ s.mark → v.items ≡ length c ∷ [] → IsPlan e pool c (record { turned = v; swap = None; added = Some s })
+pub plan-added : (e : Edit) (pool : List Pair) (c : List Slot) (s : Slot) (v : Vec ℕ Global) → PairsWithin (length pool) c → adds_one e.op e.pair.id (shown_pairs e.list pool c) ≡ true → s.list ≡ e.list → s.end ≡ end_of e.op → s.mark.live ≡ false → s.mark.pair ≡ length pool → s.first ≡ s.mark → v.items ≡ length c ∷ [] → IsPlan e pool c (record { turned = v; swap = None; added = Some s })
 plan-added e pool c s v fits adds of_list at_end off pair first N =
     let turned : turn_all v.items (c ++ s ∷ []) ≡ c ++ flipped s ∷ [] = ap (λ (ns : List ℕ). turn_all ns (c ++ s ∷ [])) N ∙ added-turned e pool c s fits adds of_list at_end off pair in
     let P : List Slot → Type 0 = λ d. PairsWithin (length (pool ++ e.pair ∷ [])) d in
@@ -74,11 +74,11 @@ kept_applied op p xs is none =
     ap (λ (o : Op). apply o p xs) is
     ∙ elim (list_any (has_id p.id) xs) as (λ b. not b ≡ false → cond b xs (xs ++ p ∷ []) ≡ xs) [ true ↦ λ h. refl | false ↦ λ h. cc ] there
 
-pub plan-kept : (e : Edit) (pool : List Pair) (c : List Slot) (v : Vec ℕ Global) → PairsWithin (length pool) c → e.op ≡ AddNew → adds_one e.op e.pair.id (pairs_of e.list pool c) ≡ false → v.items ≡ [] → IsPlan e pool c (record { turned = v; swap = None; added = None })
+pub plan-kept : (e : Edit) (pool : List Pair) (c : List Slot) (v : Vec ℕ Global) → PairsWithin (length pool) c → e.op ≡ AddNew → adds_one e.op e.pair.id (shown_pairs e.list pool c) ≡ false → v.items ≡ [] → IsPlan e pool c (record { turned = v; swap = None; added = None })
 plan-kept e pool c v fits op none N =
     let Q : List ℕ → Type 0 = λ ns. NamesWithin (length c) ns in
     plain e pool c c v (subst Q (sym N) (λ i h. absurd (omega (arith, h)))) (ap (λ (ns : List ℕ). turn_all ns c) N) fits
-    (state_edited e pool pool c c (sym (kept_applied e.op e.pair (pairs_of e.list pool c) op none)) (λ which ne. refl))
+    (state_edited e pool pool c c (sym (kept_applied e.op e.pair (shown_pairs e.list pool c) op none)) (λ which ne. refl))
 
 -- names of two parts
 names_both : (n : ℕ) (a b : List ℕ) → NamesWithin n a → NamesWithin n b → NamesWithin n (a ++ b)

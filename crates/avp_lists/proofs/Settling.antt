@@ -16,8 +16,8 @@ use Rattle.avp_lists.specs.declared.steps.Step.{Step}
 use Rattle.avp_lists.specs.States.{empty_state, IsLimited}
 use Rattle.avp_lists.specs.internal.Slots.{no_slot, slot_at, is_live, at_first, kept, turn_all, Housed, PairsWithin}
 use Rattle.avp_lists.specs.internal.Steps.{states_of, after, every, slots_at, step_at, change_at, turns, BacksBelow, NamesCounted, AllCounted, CountsWithin, CountsGrow, AllHoused, StatesLimited}
-use Rattle.avp_lists.specs.internal.Shown.{shows, pair_of, pairs_of, state_of}
-use Rattle.avp_lists.proofs.InOrder.{in_order, shown_of, in_order-map, in_order-filter, pairs_of-in_order}
+use Rattle.avp_lists.specs.internal.Shown.{shows, pair_of, shown_pairs, state_of}
+use Rattle.avp_lists.proofs.InOrder.{in_order, shown_of, in_order-map, in_order-filter, shown_pairs-in_order}
 
 pub firsts-kept : (c : List Slot) → map at_first (map kept c) ≡ map kept c
 firsts-kept [] = refl
@@ -31,15 +31,15 @@ shown-kept which pool (s ∷ ss) =
       | false ↦ shown-kept which pool ss
     ]
 
-pairs_of-kept : (which : WhichList) (pool : List Pair) (c : List Slot) → pairs_of which pool (map kept c) ≡ pairs_of which pool c
-pairs_of-kept which pool c =
-    pairs_of-in_order which pool (map kept c)
+shown_pairs-kept : (which : WhichList) (pool : List Pair) (c : List Slot) → shown_pairs which pool (map kept c) ≡ shown_pairs which pool c
+shown_pairs-kept which pool c =
+    shown_pairs-in_order which pool (map kept c)
     ∙ ap (shown_of which pool) (in_order-map kept (λ s. refl) c)
     ∙ shown-kept which pool (in_order c)
-    ∙ sym (pairs_of-in_order which pool c)
+    ∙ sym (shown_pairs-in_order which pool c)
 
 state_of-kept : (pool : List Pair) (c : List Slot) → state_of pool (map kept c) ≡ state_of pool c
-state_of-kept pool c = rw (pairs_of-kept Request pool c, pairs_of-kept Reply pool c, pairs_of-kept Control pool c) refl
+state_of-kept pool c = rw (shown_pairs-kept Request pool c, shown_pairs-kept Reply pool c, shown_pairs-kept Control pool c) refl
 
 kept-housed : (n : ℕ) (c : List Slot) → PairsWithin n c → PairsWithin n (map kept c)
 kept-housed n c pooled i = elim (cases_lt i (length c)) [
@@ -68,12 +68,12 @@ shown-live which pool (s ∷ ss) =
       | false ↦ λ h. rest ∙ sym (ap (λ (b : Bool). map (pair_of pool) (cond b (s ∷ filter (shows which) ss) (filter (shows which) ss))) (live-shows which s h))
     ] refl
 
-pairs_of-live : (which : WhichList) (pool : List Pair) (c : List Slot) → pairs_of which pool (filter is_live c) ≡ pairs_of which pool c
-pairs_of-live which pool c =
-    pairs_of-in_order which pool (filter is_live c)
+shown_pairs-live : (which : WhichList) (pool : List Pair) (c : List Slot) → shown_pairs which pool (filter is_live c) ≡ shown_pairs which pool c
+shown_pairs-live which pool c =
+    shown_pairs-in_order which pool (filter is_live c)
     ∙ ap (shown_of which pool) (in_order-filter is_live c)
     ∙ shown-live which pool (in_order c)
-    ∙ sym (pairs_of-in_order which pool c)
+    ∙ sym (shown_pairs-in_order which pool c)
 
 live-within : (n : ℕ) (c : List Slot) → PairsWithin n c → PairsWithin n (filter is_live c)
 live-within n [] pooled = pooled
@@ -92,7 +92,7 @@ pub settled_within : (n : ℕ) (c after_slots : List Slot) → after_slots ≡ m
 settled_within n c after_slots K pooled = subst (PairsWithin n) (sym K) (kept-housed n (filter is_live c) (live-within n c pooled))
 
 pub settled_state : (pool : List Pair) (c : List Slot) → state_of pool (map kept (filter is_live c)) ≡ state_of pool c
-settled_state pool c = state_of-kept pool (filter is_live c) ∙ rw (pairs_of-live Request pool c, pairs_of-live Reply pool c, pairs_of-live Control pool c) refl
+settled_state pool c = state_of-kept pool (filter is_live c) ∙ rw (shown_pairs-live Request pool c, shown_pairs-live Reply pool c, shown_pairs-live Control pool c) refl
 
 empty_limited : IsLimited empty_state
 empty_limited Request = omega arith

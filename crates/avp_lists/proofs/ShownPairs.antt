@@ -17,11 +17,11 @@ use Rattle.avp_lists.specs.declared.steps.Step.{Step}
 use Rattle.avp_lists.specs.internal.Slots.{no_slot, slot_at, Housed, PairsWithin}
 use Rattle.avp_lists.specs.States.{empty_state, list_of}
 use Rattle.avp_lists.specs.internal.Steps.{every, slots_at, states_of, step_at, AllHoused, CountsWithin}
-use Rattle.avp_lists.specs.internal.Shown.{same_list, shows, shows_id, pair_of, same_end, entered_at, pairs_of, state_of}
+use Rattle.avp_lists.specs.internal.Shown.{same_list, shows, shows_id, pair_of, same_end, entered_at, shown_pairs, state_of}
 use Rattle.avp_lists.specs.internal.SlotLaws.{length-every}
-use Rattle.avp_lists.proofs.InOrder.{in_order, shown_of, in_order-append, in_order-filter, all-filter, all-reverse, all-in_order, length-in_order, pairs_of-in_order}
+use Rattle.avp_lists.proofs.InOrder.{in_order, shown_of, in_order-append, in_order-filter, all-filter, all-reverse, all-in_order, length-in_order, shown_pairs-in_order}
 
-pub list_of-state_of : (which : WhichList) (pool : List Pair) (c : List Slot) → list_of which (state_of pool c) ≡ pairs_of which pool c
+pub list_of-state_of : (which : WhichList) (pool : List Pair) (c : List Slot) → list_of which (state_of pool c) ≡ shown_pairs which pool c
 list_of-state_of Request pool c = refl
 list_of-state_of Reply pool c = refl
 list_of-state_of Control pool c = refl
@@ -32,7 +32,7 @@ present-shown pool slots steps place within standing =
     let inside : place < length (every slots steps) = omega (arith, length-every slots steps) in
     get_or-map (state_of pool) (every slots steps) place [] empty_state inside ∙ ap (state_of pool) standing
 
-pub present-list : (which : WhichList) (pool : List Pair) (slots : List Slot) (steps : List Step) (place : ℕ) → place < length steps → slots_at slots steps place ≡ slots → list_of which (get_or (states_of pool slots steps) place empty_state) ≡ pairs_of which pool slots
+pub present-list : (which : WhichList) (pool : List Pair) (slots : List Slot) (steps : List Step) (place : ℕ) → place < length steps → slots_at slots steps place ≡ slots → list_of which (get_or (states_of pool slots steps) place empty_state) ≡ shown_pairs which pool slots
 present-list which pool slots steps place within standing = ap (list_of which) (present-shown pool slots steps place within standing) ∙ list_of-state_of which pool slots
 
 -- the pairs that are shown are in the pool
@@ -69,23 +69,23 @@ one_order Tail c s which pool h =
     ap (shown_of which pool) (in_order-append c (s ∷ []) ∙ ap₂ (λ (xs ys : List Slot). reverse xs ++ (in_order c ++ ys)) (alone s Head Tail h) (alone s Tail Tail h))
     ∙ shown-append which pool (in_order c) (s ∷ [])
 
-pub pairs_of-more : (which : WhichList) (pool : List Pair) (c : List Slot) (s : Slot) → pairs_of which pool (c ++ s ∷ []) ≡ beside s.end (shown_of which pool (s ∷ [])) (pairs_of which pool c)
-pairs_of-more which pool c s =
-    pairs_of-in_order which pool (c ++ s ∷ [])
+pub shown_pairs-more : (which : WhichList) (pool : List Pair) (c : List Slot) (s : Slot) → shown_pairs which pool (c ++ s ∷ []) ≡ beside s.end (shown_of which pool (s ∷ [])) (shown_pairs which pool c)
+shown_pairs-more which pool c s =
+    shown_pairs-in_order which pool (c ++ s ∷ [])
     ∙ one_order s.end c s which pool refl
-    ∙ ap (beside s.end (shown_of which pool (s ∷ []))) (sym (pairs_of-in_order which pool c))
+    ∙ ap (beside s.end (shown_of which pool (s ∷ []))) (sym (shown_pairs-in_order which pool c))
 
-pub pairs_of-tails : (which : WhichList) (pool : List Pair) (c d : List Slot) → filter (entered_at Head) d ≡ [] → filter (entered_at Tail) d ≡ d → pairs_of which pool (c ++ d) ≡ pairs_of which pool c ++ shown_of which pool d
-pairs_of-tails which pool c d heads tails =
-    pairs_of-in_order which pool (c ++ d)
+pub shown_pairs-tails : (which : WhichList) (pool : List Pair) (c d : List Slot) → filter (entered_at Head) d ≡ [] → filter (entered_at Tail) d ≡ d → shown_pairs which pool (c ++ d) ≡ shown_pairs which pool c ++ shown_of which pool d
+shown_pairs-tails which pool c d heads tails =
+    shown_pairs-in_order which pool (c ++ d)
     ∙ ap (shown_of which pool) (in_order-append c d ∙ ap₂ (λ (xs ys : List Slot). reverse xs ++ (in_order c ++ ys)) heads tails)
     ∙ shown-append which pool (in_order c) d
-    ∙ ap (λ (xs : List Pair). xs ++ shown_of which pool d) (sym (pairs_of-in_order which pool c))
+    ∙ ap (λ (xs : List Pair). xs ++ shown_of which pool d) (sym (shown_pairs-in_order which pool c))
 
 -- the number of pairs
-pub length-pairs_of : (which : WhichList) (pool : List Pair) (c : List Slot) → length (pairs_of which pool c) ≡ length (filter (shows which) c)
-length-pairs_of which pool c =
-    ap length (pairs_of-in_order which pool c)
+pub length-shown_pairs : (which : WhichList) (pool : List Pair) (c : List Slot) → length (shown_pairs which pool c) ≡ length (filter (shows which) c)
+length-shown_pairs which pool c =
+    ap length (shown_pairs-in_order which pool c)
     ∙ length-map (filter (shows which) (in_order c)) (pair_of pool)
     ∙ ap length (sym (in_order-filter (shows which) c))
     ∙ length-in_order (filter (shows which) c)
@@ -118,30 +118,30 @@ shown-agree which pool other (s ∷ ss) agree =
       | false ↦ λ h. rest
     ] refl
 
-pub pairs_of-agree : (which : WhichList) (pool other : List Pair) (c : List Slot) → ((i : ℕ) → (slot_at c i).mark.live ≡ true → pair_of pool (slot_at c i) ≡ pair_of other (slot_at c i)) → pairs_of which pool c ≡ pairs_of which other c
-pairs_of-agree which pool other c agree =
+pub shown_pairs-agree : (which : WhichList) (pool other : List Pair) (c : List Slot) → ((i : ℕ) → (slot_at c i).mark.live ≡ true → pair_of pool (slot_at c i) ≡ pair_of other (slot_at c i)) → shown_pairs which pool c ≡ shown_pairs which other c
+shown_pairs-agree which pool other c agree =
     let P : Slot → Type 0 = λ s. s.mark.live ≡ true → pair_of pool s ≡ pair_of other s in
-    pairs_of-in_order which pool c ∙ shown-agree which pool other (in_order c) (all-in_order P c agree) ∙ sym (pairs_of-in_order which other c)
+    shown_pairs-in_order which pool c ∙ shown-agree which pool other (in_order c) (all-in_order P c agree) ∙ sym (shown_pairs-in_order which other c)
 
 -- slots more that show nothing
-dark_more : (which : WhichList) (pool : List Pair) (c d : List Slot) → ((i : ℕ) → (slot_at d i).mark.live ≡ true → ⊥) → pairs_of which pool (c ++ d) ≡ pairs_of which pool c
+dark_more : (which : WhichList) (pool : List Pair) (c d : List Slot) → ((i : ℕ) → (slot_at d i).mark.live ≡ true → ⊥) → shown_pairs which pool (c ++ d) ≡ shown_pairs which pool c
 dark_more which pool c d dark =
     let P : Slot → Type 0 = λ s. s.mark.live ≡ true → ⊥ in
     let heads = filter (entered_at Head) d in
     let tails = filter (entered_at Tail) d in
     let none_before : shown_of which pool (reverse heads) ≡ [] = shown-dark which pool (reverse heads) (all-reverse P heads (all-filter P (entered_at Head) d dark)) in
     let none_after : shown_of which pool tails ≡ [] = shown-dark which pool tails (all-filter P (entered_at Tail) d dark) in
-    pairs_of-in_order which pool (c ++ d)
+    shown_pairs-in_order which pool (c ++ d)
     ∙ ap (shown_of which pool) (in_order-append c d)
     ∙ shown-append which pool (reverse heads) (in_order c ++ tails)
     ∙ ap₂ (λ (a b : List Pair). a ++ b) none_before (shown-append which pool (in_order c) tails ∙ ap (λ (a : List Pair). shown_of which pool (in_order c) ++ a) none_after ∙ append-nil (shown_of which pool (in_order c)))
-    ∙ sym (pairs_of-in_order which pool c)
+    ∙ sym (shown_pairs-in_order which pool c)
 
 -- what is shown is not changed by slots that show nothing, nor by another pool that has the same pairs there
 module _ (pool other : List Pair) (c d more : List Slot) (dark : (i : ℕ) → (slot_at d i).mark.live ≡ true → ⊥) (dark_more_slots : (i : ℕ) → (slot_at more i).mark.live ≡ true → ⊥) (agree : (i : ℕ) → (slot_at c i).mark.live ≡ true → pair_of other (slot_at c i) ≡ pair_of pool (slot_at c i)) where
-  pairs_of-same : (which : WhichList) → pairs_of which other (c ++ more) ≡ pairs_of which pool (c ++ d)
-  pairs_of-same which =
-      dark_more which other c more dark_more_slots ∙ pairs_of-agree which other pool c agree ∙ sym (dark_more which pool c d dark)
+  shown_pairs-same : (which : WhichList) → shown_pairs which other (c ++ more) ≡ shown_pairs which pool (c ++ d)
+  shown_pairs-same which =
+      dark_more which other c more dark_more_slots ∙ shown_pairs-agree which other pool c agree ∙ sym (dark_more which pool c d dark)
 
   pub state_of-same : state_of other (c ++ more) ≡ state_of pool (c ++ d)
-  state_of-same = rw (pairs_of-same Request, pairs_of-same Reply, pairs_of-same Control) refl
+  state_of-same = rw (shown_pairs-same Request, shown_pairs-same Reply, shown_pairs-same Control) refl

@@ -7,11 +7,11 @@ use Rattle.avp_lists.specs.declared.lists.List.{List as WhichList}
 use Rattle.avp_lists.specs.declared.lists.List.TheVariants.{Request, Reply, Control}
 use Rattle.avp_lists.specs.declared.slots.End.TheVariants.{Head, Tail}
 use Rattle.avp_lists.specs.declared.slots.Slot.{Slot}
-use Rattle.avp_lists.specs.internal.Shown.{same_list, shows, no_pair, pair_of, entered_at, pairs_of, state_of}
+use Rattle.avp_lists.specs.internal.Shown.{same_list, shows, no_pair, pair_of, entered_at, shown_pairs, state_of}
 use Rattle.avp_lists.specs.internal.Slots.{slot_at, at_first, PairsWithin}
 use Rattle.avp_lists.proofs.Edited.{same_itself, within-append, within-more}
 use Rattle.avp_lists.proofs.InOrder.{shown_of}
-use Rattle.avp_lists.proofs.ShownPairs.{pairs_of-tails, pairs_of-agree}
+use Rattle.avp_lists.proofs.ShownPairs.{shown_pairs-tails, shown_pairs-agree}
 use Rattle.avp_lists.specs.internal.Plans.{fresh_slot, fresh}
 
 pub fresh_more : (which : WhichList) (at n : ℕ) → fresh which at (suc n) ≡ fresh which at n ++ fresh_slot which (at + n) ∷ []
@@ -92,7 +92,7 @@ module _ (which : WhichList) (pool xs other : List Pair) (slots more : List Slot
       let A : List Slot → Type 0 = λ c. PairsWithin (length other) c in
       subst A (sym N) (within-append (length other) slots end (within-more (length pool) (length other) slots (omega (arith, long)) within) (fresh-within which (length pool) (length xs) (length other) (omega (arith, long))))
 
-  pub started-pairs : PairsWithin (length pool) slots → (one : WhichList) → pairs_of one other more ≡ pairs_of one pool slots ++ cond (same_list one which) xs []
+  pub started-pairs : PairsWithin (length pool) slots → (one : WhichList) → shown_pairs one other more ≡ shown_pairs one pool slots ++ cond (same_list one which) xs []
   started-pairs within one =
       let end = fresh which (length pool) (length xs) in
       let long : length other ≡ length pool + length xs = ap length P ∙ length-append pool xs in
@@ -106,9 +106,9 @@ module _ (which : WhichList) (pool xs other : List Pair) (slots more : List Slot
             ∙ take_all (length xs) xs (omega arith)
         | false ↦ λ h. ap (map (pair_of other)) (fresh-hidden one which h (length pool) (length xs))
       ] refl in
-      ap (pairs_of one other) N
-      ∙ pairs_of-tails one other slots end (fresh-heads which (length pool) (length xs)) (fresh-tails which (length pool) (length xs))
-      ∙ ap₂ (λ (a b : List Pair). a ++ b) (pairs_of-agree one other pool slots agree) new
+      ap (shown_pairs one other) N
+      ∙ shown_pairs-tails one other slots end (fresh-heads which (length pool) (length xs)) (fresh-tails which (length pool) (length xs))
+      ∙ ap₂ (λ (a b : List Pair). a ++ b) (shown_pairs-agree one other pool slots agree) new
 
 -- the three lists
 pub started-state : (pool0 pool1 pool2 pool : List Pair) (slots0 slots1 slots2 slots : List Slot) (R P C : List Pair) → pool0 ≡ [] → slots0 ≡ [] → pool1 ≡ pool0 ++ R → slots1 ≡ slots0 ++ fresh Request (length pool0) (length R) → pool2 ≡ pool1 ++ P → slots2 ≡ slots1 ++ fresh Reply (length pool1) (length P) → pool ≡ pool2 ++ C → slots ≡ slots2 ++ fresh Control (length pool2) (length C) → (state_of pool slots ≡ record { request = R; reply = P; control = C }) × (map at_first slots ≡ slots) × PairsWithin (length pool) slots
@@ -122,12 +122,12 @@ started-state pool0 pool1 pool2 pool slots0 slots1 slots2 slots R P C zp zs p1 s
     let f1 = started-firsts Request pool0 R pool1 slots0 slots1 p1 s1 f0 in
     let f2 = started-firsts Reply pool1 P pool2 slots1 slots2 p2 s2 f1 in
     let f3 = started-firsts Control pool2 C pool slots2 slots p3 s3 f2 in
-    let all : (one : WhichList) → pairs_of one pool slots ≡ (cond (same_list one Request) R [] ++ cond (same_list one Reply) P []) ++ cond (same_list one Control) C [] = λ one.
-    let none : pairs_of one pool0 slots0 ≡ [] = ap (pairs_of one pool0) zs in
+    let all : (one : WhichList) → shown_pairs one pool slots ≡ (cond (same_list one Request) R [] ++ cond (same_list one Reply) P []) ++ cond (same_list one Control) C [] = λ one.
+    let none : shown_pairs one pool0 slots0 ≡ [] = ap (shown_pairs one pool0) zs in
     started-pairs Control pool2 C pool slots2 slots p3 s3 w2 one
     ∙ ap (λ (x : List Pair). x ++ cond (same_list one Control) C []) (started-pairs Reply pool1 P pool2 slots1 slots2 p2 s2 w1 one
     ∙ ap (λ (x : List Pair). x ++ cond (same_list one Reply) P []) (started-pairs Request pool0 R pool1 slots0 slots1 p1 s1 w0 one ∙ ap (λ (x : List Pair). x ++ cond (same_list one Request) R []) none)) in
-    let request : pairs_of Request pool slots ≡ R = all Request ∙ append-nil (R ++ []) ∙ append-nil R in
-    let reply : pairs_of Reply pool slots ≡ P = all Reply ∙ append-nil P in
-    let control : pairs_of Control pool slots ≡ C = all Control in
+    let request : shown_pairs Request pool slots ≡ R = all Request ∙ append-nil (R ++ []) ∙ append-nil R in
+    let reply : shown_pairs Reply pool slots ≡ P = all Reply ∙ append-nil P in
+    let control : shown_pairs Control pool slots ≡ C = all Control in
     (rw (request, reply, control) refl, f3, w3)

@@ -2,7 +2,7 @@
 ghost use Rattle.std.specs.Prelude.{◌≡◌, ◌≤◌, ◌<◌, ◌++◌, true, false, IfOk, OnOk, length, drop, take};
 ghost use Rattle.std.specs.List.{list_any};
 ghost use Rattle.avp_lists.specs.internal.Slots.{slot_at, PairsWithin};
-ghost use Rattle.avp_lists.specs.internal.Shown.{shows_id, ahead_at, pairs_of};
+ghost use Rattle.avp_lists.specs.internal.Shown.{shows_id, ahead_at, shown_pairs};
 ghost use Rattle.avp_lists.specs.Growth.{adds_one, removes};
 ghost use Rattle.avp_lists.specs.internal.Plans.{enters, end_of, goes, taken, names_in, IsPlan};
 ghost use Rattle.avp_lists.specs.declared.edits.Op.TheVariants.{AddNew, Replace};
@@ -85,7 +85,7 @@ fn plan_addition(
     edit: &Edit,
 ) -> Result<Plan, AllocError>
     requires pooled { PairsWithin (length pool.now) slots.now }
-    requires adds { adds_one edit.now.op edit.now.pair.id (pairs_of edit.now.list pool.now slots.now) ≡ true }
+    requires adds { adds_one edit.now.op edit.now.pair.id (shown_pairs edit.now.list pool.now slots.now) ≡ true }
     ensures { IfOk result (λ plan. IsPlan edit.now pool.now slots.now plan) }
 {
     let mut turned = Vec::new(alloc);

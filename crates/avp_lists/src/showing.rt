@@ -5,7 +5,7 @@ ghost use Rattle.std.specs.List.{list_any};
 ghost use Rattle.avp_lists.specs.Instances.{has_id};
 ghost use Rattle.avp_lists.specs.internal.Slots.{slot_at, PairsWithin};
 ghost use Rattle.avp_lists.specs.declared.slots.End.TheVariants.{Head, Tail};
-ghost use Rattle.avp_lists.specs.internal.Shown.{shows, shows_at, shows_id, shows_id_at, ahead_at, pairs_at, pairs_of};
+ghost use Rattle.avp_lists.specs.internal.Shown.{shows, shows_at, shows_id, shows_id_at, ahead_at, pairs_at, shown_pairs};
 
 use crate::attributes::{AttrId, Pair, copy_pair};
 use crate::lists::List;
@@ -50,7 +50,7 @@ pub(crate) fn first_shown<'a>(
     id: AttrId,
 ) -> Option<&'a Pair>
     requires { PairsWithin (length pool.now) slots.now }
-    ensures { option_copied result ≡ find (has_id id) (pairs_of list pool.now slots.now) }
+    ensures { option_copied result ≡ find (has_id id) (shown_pairs list pool.now slots.now) }
 {
     let name = first_slot(slots, pool, list, id)?;
     Some(&pool[slots[name].mark.pair])
@@ -76,14 +76,14 @@ fn push_shown(
 }
 
 // A copy of a list.
-pub(crate) fn copy_shown(
+pub(crate) fn shown_pairs(
     alloc: Global,
     slots: &[Slot],
     pool: &[Pair],
     list: List,
 ) -> Result<Vec<Pair>, AllocError>
     requires { PairsWithin (length pool.now) slots.now }
-    ensures { IfOk result (λ made. made.items ≡ pairs_of list pool.now slots.now) }
+    ensures { IfOk result (λ made. made.items ≡ shown_pairs list pool.now slots.now) }
 {
     let mut made = Vec::new(alloc);
     push_shown(&mut made, slots, pool, list, End::Head)?;
@@ -123,7 +123,7 @@ pub(crate) fn pair_shown<'a>(
     at: usize,
 ) -> Option<&'a Pair>
     requires { PairsWithin (length pool.now) slots.now }
-    ensures { option_copied result ≡ slice_get (pairs_of list pool.now slots.now) at }
+    ensures { option_copied result ≡ slice_get (shown_pairs list pool.now slots.now) at }
 {
     let heads = count_at(slots, list, End::Head);
     if at < heads {

@@ -14,7 +14,7 @@ use crate::edits::{Edit, EditFault, Op};
 use crate::history::Store;
 use crate::lists::{List, MAX_PAIRS};
 use crate::planning::{Plan, plan_edit};
-use crate::showing::{copy_shown, count_shown, first_shown, first_slot, pair_shown};
+use crate::showing::{count_shown, first_shown, first_slot, pair_shown, shown_pairs};
 use crate::slots::{End, Mark, Slot, forget_dark, turn_slots};
 use crate::snapshots::ListsRefused;
 use crate::steps::{Change, Step, cut_and_push, make_room, make_room_beside, move_to, node};
@@ -312,7 +312,7 @@ impl Store for SlotStore {
     }
 
     fn list(&self, list: List) -> Result<Vec<Pair>, AllocError> {
-        copy_shown(self.alloc, &self.slots, &self.pool, list)
+        shown_pairs(self.alloc, &self.slots, &self.pool, list)
     }
 
     fn pair(&self, list: List, at: usize) -> Option<&Pair> {

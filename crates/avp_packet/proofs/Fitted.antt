@@ -12,7 +12,7 @@ use Rattle.avp_dict.specs.Limits.{fits, greatest_length, is_known, is_of_kind, i
 use Rattle.avp_dict.specs.Names.{Described, described}
 use Rattle.avp_dict.specs.Octets.{ends_in_nul, is_hidden, is_hideable, octets, octets_of, read_by, read_value, value_of_octets, value_read}
 use Rattle.avp_packet.specs.Hiding.{shown}
-use Rattle.avp_packet.specs.Meanings.{pair_of, value_of, value_shown}
+use Rattle.avp_packet.specs.Meanings.{pair_of, value_meant, value_shown}
 use Rattle.avp_packet.proofs.Octets.{AreBytes, IsRead, IsShown, octets_read, shown_holds}
 use Rattle.avp_packet.proofs.Rooms.{and_right, by_test}
 
@@ -89,8 +89,8 @@ module _ (dictionary : Dictionary) where
     shown_fits id os bytes short None h = raw_fits id os short
     shown_fits id os bytes short (Some password) h = octets_fit id password h.bytes (let low = h.short in omega arith)
 
-    value_fits : (id : AttrId) (os : List ℕ) → AreBytes os → length os ≤ max_octets id dictionary → IsFitting id (value_of dictionary secret authenticator id os)
-    unfolding value_of
+    value_fits : (id : AttrId) (os : List ℕ) → AreBytes os → length os ≤ max_octets id dictionary → IsFitting id (value_meant dictionary secret authenticator id os)
+    unfolding value_meant
     value_fits id os bytes short =
         by_test (IsFitting id (cond (is_hidden id dictionary) (value_shown dictionary id os (shown secret authenticator os)) (value_of_octets id os dictionary))) (is_hidden id dictionary)
         (λ h. rw h (shown_fits id os bytes short (shown secret authenticator os) (shown_holds secret authenticator os bytes)))

@@ -22,7 +22,7 @@ use Rattle.avp_dict.specs.Settled.{holds, is_in_format}
 use Rattle.avp_dict.specs.Vendors.{is_format}
 use Rattle.avp_packet.specs.Meanings.{Piece, Run, Sub, are_subs, begins_sub, extended_pair, extended_type, first_pairs, first_run, first_sub, joined, long_pair, meaning, meaning_behind, others, pair_of, piece_in, piece_of, raw_pair, run, run_with, sub_length, sub_pair, subs, subs_behind, subs_by, vendor_of, vendor_pairs, vendor_subs}
 use Rattle.avp_packet.specs.Splitting.{Part, is_whole, parts, parts_behind}
-use Rattle.avp_packet.specs.VendorFormats.{known_format, usable}
+use Rattle.avp_packet.specs.VendorFormats.{known_format, usable_format}
 use Rattle.avp_packet.proofs.Fitted.{pair_fits}
 use Rattle.avp_packet.proofs.Octets.{AreBytes, bytes-append, bytes-drop, bytes-take}
 use Rattle.avp_packet.proofs.Rooms.{and_left, and_right, by_test, format_of_size}
@@ -151,13 +151,13 @@ known_own n v two good = record {
   good = good;
 }
 
-known_of : (n : ℕ) (f : Format) (o : Option VendorFormat) → option_and_then usable (option_and_then unless_three o) ≡ Some f → IsKnownFormat n f o
+known_of : (n : ℕ) (f : Format) (o : Option VendorFormat) → option_and_then usable_format (option_and_then unless_three o) ≡ Some f → IsKnownFormat n f o
 known_of n f None e = absurd (cc)
 known_of n f (Some v) e =
     by_test (IsKnownFormat n f (Some v)) v.third
     (λ three. let none : None ≡ Some f = rw three at e in absurd (cc))
     (λ two.
-    let some : usable (record { t = v.t; l = v.l }) ≡ Some f = rw two at e in
+    let some : usable_format (record { t = v.t; l = v.l }) ≡ Some f = rw two at e in
     by_test (IsKnownFormat n f (Some v)) (is_format v.t v.l)
     (λ good.
     let is : Some (record { t = v.t; l = v.l }) ≡ Some f = rw good at some in

@@ -20,7 +20,7 @@ use Rattle.avp_dict.specs.Sent.{is_block_length, is_canonical, is_container, is_
 use Rattle.avp_dict.specs.Soundness.{IsSound}
 use Rattle.avp_dict.specs.Types.{is_text_kind}
 use Rattle.avp_packet.specs.Hiding.{shown}
-use Rattle.avp_packet.specs.Meanings.{meaning, pair_of, raw_pair, value_of, value_shown}
+use Rattle.avp_packet.specs.Meanings.{meaning, pair_of, raw_pair, value_meant, value_shown}
 use Rattle.avp_packet.specs.Own.{IsOwn}
 use Rattle.avp_packet.specs.Splitting.{Part, parts}
 use Rattle.avp_packet.proofs.Fitted.{octets_same, pair_fits}
@@ -76,8 +76,8 @@ module _ (dictionary : Dictionary) (sound : IsSound dictionary) where
     shown_own id os h None e is = rw (none_shown os e)
     shown_own id os h (Some password) e is = password_shown id password is.hideable (described id dictionary) refl h
 
-    value_own : (id : AttrId) (os : List ℕ) → AreBytes os → let v = value_of dictionary secret authenticator id os in cond (is_hidden id dictionary) (is_shown v) (value_eq v (value_of_octets id (octets id v dictionary) dictionary)) ≡ true
-    unfolding value_of
+    value_own : (id : AttrId) (os : List ℕ) → AreBytes os → let v = value_meant dictionary secret authenticator id os in cond (is_hidden id dictionary) (is_shown v) (value_eq v (value_of_octets id (octets id v dictionary) dictionary)) ≡ true
+    unfolding value_meant
     value_own id os bytes =
         let v : Value = cond (is_hidden id dictionary) (value_shown dictionary id os (shown secret authenticator os)) (value_of_octets id os dictionary) in
         by_test (cond (is_hidden id dictionary) (is_shown v) (value_eq v (value_of_octets id (octets id v dictionary) dictionary)) ≡ true) (is_hidden id dictionary)

@@ -26,7 +26,7 @@ use Rattle.avp_dict.specs.Vendors.{is_format}
 use Rattle.avp_packet.specs.AttributeOctets.{attribute_octets, fragments, is_long, part, parts_holding, parts_of, parts_of_pair, sent_octets, vendor_value}
 use Rattle.avp_packet.specs.Meanings.{Run, are_subs, are_subs_behind, begins_sub, extended_type, first_run, first_sub, meaning, others, pair_of, piece_of, run, sub_length, subs, subs_behind, vendor_of, vendor_subs}
 use Rattle.avp_packet.specs.Splitting.{Part, left, part_octets, parts}
-use Rattle.avp_packet.specs.VendorFormats.{HasKnownFormats, known_format, usable}
+use Rattle.avp_packet.specs.VendorFormats.{HasKnownFormats, known_format, usable_format}
 use Rattle.avp_packet.specs.internal.Holding.{CanHold, FitsFormat}
 use Rattle.avp_packet.specs.internal.Ranges.{IsVendorInRange}
 use Rattle.avp_packet.proofs.Means.{meaning-cons, meaning-nil}
@@ -141,7 +141,7 @@ module _ (f : Format) (good : is_format f.t f.l ≡ true) (number : ℕ) (os : L
 
 -- ---- the format of a known vendor
 
-known_by : (n : ℕ) (o : Option VendorFormat) → holds n o ≡ true → IfSome (option_and_then unless_three o) (λ f. is_format f.t f.l ≡ true) → (f : Format) × (option_and_then usable (option_and_then unless_three o) ≡ Some f) × (is_format f.t f.l ≡ true)
+known_by : (n : ℕ) (o : Option VendorFormat) → holds n o ≡ true → IfSome (option_and_then unless_three o) (λ f. is_format f.t f.l ≡ true) → (f : Format) × (option_and_then usable_format (option_and_then unless_three o) ≡ Some f) × (is_format f.t f.l ≡ true)
 known_by n None h formats = absurd (false≢true h)
 known_by n (Some f) h formats =
     let two : f.third ≡ false = not_false f.third (and_left (not f.third) _ h) in

@@ -5,7 +5,7 @@ use Rattle.avp_packet.specs.declared.faults.PacketFault.{PacketFault}
 use Rattle.avp_packet.specs.declared.faults.PacketFault.TheVariants.{BadAttribute}
 use Rattle.avp_packet.specs.declared.packets.Packet.{Packet}
 use Rattle.avp_packet.specs.Decoded.{decoded, request_read, unless_left}
-use Rattle.avp_packet.specs.Packets.{attributes_of, is_length, length_of}
+use Rattle.avp_packet.specs.Packets.{attributes_of, is_packet_length, length_of}
 use Rattle.avp_packet.specs.Splitting.{Part, begins_whole, left, part_octets}
 use Rattle.avp_packet.proofs.Splits.{left-none, left-octets, left_short}
 
@@ -14,7 +14,7 @@ bad_by end [] read some = absurd (omega arith)
 bad_by end (o ∷ os) read some = refl
 
 -- the first attribute that is not whole
-pub decoded_bad : (dictionary : Dictionary) (secret os : List ℕ) (offset : ℕ) → nat_lt (length os) 20 ≡ false → is_length (length_of os) ≡ true → nat_lt (length os) (length_of os) ≡ false
+pub decoded_bad : (dictionary : Dictionary) (secret os : List ℕ) (offset : ℕ) → nat_lt (length os) 20 ≡ false → is_packet_length (length_of os) ≡ true → nat_lt (length os) (length_of os) ≡ false
     → 0 < length (left (attributes_of os)) → offset ≡ length (attributes_of os) - length (left (attributes_of os)) → decoded dictionary secret os ≡ Err (BadAttribute (20 + offset))
 unfolding decoded
 decoded_bad dictionary secret os offset a b d some e =

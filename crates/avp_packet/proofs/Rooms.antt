@@ -22,7 +22,7 @@ use Rattle.avp_dict.specs.Vendors.{is_format}
 use Rattle.avp_packet.specs.AttributeOctets.{attribute_octets, parts_holding, parts_of, sent_octets}
 use Rattle.avp_packet.specs.Hiding.{hidden}
 use Rattle.avp_packet.specs.Splitting.{part_octets}
-use Rattle.avp_packet.specs.VendorFormats.{known_format, usable}
+use Rattle.avp_packet.specs.VendorFormats.{known_format, usable_format}
 use Rattle.avp_packet.specs.internal.Holding.{CanHold, FitsFormat}
 use Rattle.avp_packet.proofs.Nuls.{length-hidden, short_of, some_hidden}
 
@@ -62,7 +62,7 @@ module _ (dictionary : Dictionary) where
   IsShort id os = (length os ≤ 128) ⊎ (length os ≤ max_octets id dictionary)
 
   vendor_holds : (n : ℕ) (os : List ℕ) (o : Option VendorFormat) → holds n o ≡ true → ((length os ≤ 128) ⊎ (length os ≤ option_map_or vendor_room (option_and_then unless_three o) 0))
-      → IfSome (option_and_then usable (option_and_then unless_three o)) (FitsFormat n os)
+      → IfSome (option_and_then usable_format (option_and_then unless_three o)) (FitsFormat n os)
   vendor_holds n os None h short = tt
   vendor_holds n os (Some f) h short = go f.third refl
     where
@@ -77,11 +77,11 @@ module _ (dictionary : Dictionary) where
           room (inr (inl e)) l (inr s) = omega arith
           room (inr (inr e)) l (inr s) = omega arith
 
-      go : (third : Bool) → f.third ≡ third → IfSome (option_and_then usable (option_and_then unless_three (Some f))) (FitsFormat n os)
+      go : (third : Bool) → f.third ≡ third → IfSome (option_and_then usable_format (option_and_then unless_three (Some f))) (FitsFormat n os)
       go true e = rw e tt
       go false e =
           let short_by : (length os ≤ 128) ⊎ (length os ≤ 249 - f.t - f.l) = rw e at short in
-          rw e (by_test (IfSome (usable (record { t = f.t; l = f.l })) (FitsFormat n os)) (is_format f.t f.l) (λ u. rw u (sized u (and_right (not f.third) (is_held n f) h) short_by)) (λ u. rw u tt))
+          rw e (by_test (IfSome (usable_format (record { t = f.t; l = f.l })) (FitsFormat n os)) (is_format f.t f.l) (λ u. rw u (sized u (and_right (not f.third) (is_held n f) h) short_by)) (λ u. rw u tt))
 
   can_hold : (id : AttrId) (os : List ℕ) → is_known id dictionary ≡ true → is_internal id ≡ false → IsShort id os → CanHold dictionary id os
   unfolding is_known max_octets known_format vendor_format is_in_format

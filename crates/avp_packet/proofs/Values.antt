@@ -19,7 +19,7 @@ use Rattle.avp_dict.specs.Types.{is_text_kind}
 use Rattle.avp_dict.proofs.Found.{is_described}
 use Rattle.avp_packet.specs.AttributeOctets.{sent_octets}
 use Rattle.avp_packet.specs.Hiding.{shown}
-use Rattle.avp_packet.specs.Meanings.{value_of}
+use Rattle.avp_packet.specs.Meanings.{value_meant}
 use Rattle.avp_packet.proofs.Nuls.{shown-hidden}
 use Rattle.avp_packet.proofs.Rooms.{and_left, and_right, by_test, fits_typed, fits_within, within_hideable}
 
@@ -78,32 +78,32 @@ module _ (dictionary : Dictionary) (sound : IsSound dictionary) where
 
   -- the value of a canonical pair is read back
   module _ (secret authenticator : List ℕ) where
-    raw_back : (id : AttrId) (os : List ℕ) → is_hidden id dictionary ≡ true → is_shown (Raw os) ≡ true → value_of dictionary secret authenticator id (sent_octets dictionary secret authenticator (record { id = id; value = Raw os })) ≡ Raw os
-    unfolding value_of sent_octets octets
+    raw_back : (id : AttrId) (os : List ℕ) → is_hidden id dictionary ≡ true → is_shown (Raw os) ≡ true → value_meant dictionary secret authenticator id (sent_octets dictionary secret authenticator (record { id = id; value = Raw os })) ≡ Raw os
+    unfolding value_meant sent_octets octets
     raw_back id os h s = rw (h, shown_none secret authenticator os (not_false (is_block_length (length os)) s))
 
-    typed_back : (id : AttrId) (v : Value) → fits (record { id = id; value = v }) dictionary ≡ true → is_hidden id dictionary ≡ true → is_raw v ≡ false → value_of dictionary secret authenticator id (sent_octets dictionary secret authenticator (record { id = id; value = v })) ≡ v
-    unfolding value_of sent_octets
+    typed_back : (id : AttrId) (v : Value) → fits (record { id = id; value = v }) dictionary ≡ true → is_hidden id dictionary ≡ true → is_raw v ≡ false → value_meant dictionary secret authenticator id (sent_octets dictionary secret authenticator (record { id = id; value = v })) ≡ v
+    unfolding value_meant sent_octets
     typed_back id v f h r =
         let p : Pair = record { id = id; value = v } in
         let os : List ℕ = octets id v dictionary in
         let good : is_hideable os ≡ true = within_hideable dictionary id v h r (fits_within dictionary p f) in
         rw (h, r, shown-hidden secret authenticator os good) (text_by id v (described id dictionary) refl h r (fits_typed dictionary p f) good)
 
-    hidden_back : (id : AttrId) (v : Value) → fits (record { id = id; value = v }) dictionary ≡ true → is_hidden id dictionary ≡ true → is_shown v ≡ true → value_of dictionary secret authenticator id (sent_octets dictionary secret authenticator (record { id = id; value = v })) ≡ v
+    hidden_back : (id : AttrId) (v : Value) → fits (record { id = id; value = v }) dictionary ≡ true → is_hidden id dictionary ≡ true → is_shown v ≡ true → value_meant dictionary secret authenticator id (sent_octets dictionary secret authenticator (record { id = id; value = v })) ≡ v
     hidden_back id (Raw os) f h s = raw_back id os h s
     hidden_back id v f h s = typed_back id v f h refl
 
-    plain_back : (p : Pair) → is_hidden p.id dictionary ≡ false → value_eq p.value (value_of_octets p.id (octets p.id p.value dictionary) dictionary) ≡ true → value_of dictionary secret authenticator p.id (sent_octets dictionary secret authenticator p) ≡ p.value
-    unfolding value_of sent_octets
+    plain_back : (p : Pair) → is_hidden p.id dictionary ≡ false → value_eq p.value (value_of_octets p.id (octets p.id p.value dictionary) dictionary) ≡ true → value_meant dictionary secret authenticator p.id (sent_octets dictionary secret authenticator p) ≡ p.value
+    unfolding value_meant sent_octets
     plain_back p h e = rw h (sym (same_value p.value (value_of_octets p.id (octets p.id p.value dictionary) dictionary) e))
 
-    pub value_back : (p : Pair) → is_canonical p dictionary ≡ true → value_of dictionary secret authenticator p.id (sent_octets dictionary secret authenticator p) ≡ p.value
+    pub value_back : (p : Pair) → is_canonical p dictionary ≡ true → value_meant dictionary secret authenticator p.id (sent_octets dictionary secret authenticator p) ≡ p.value
     unfolding is_canonical
     value_back p h =
         let own : Bool = value_eq p.value (value_of_octets p.id (octets p.id p.value dictionary) dictionary) in
         let fitting : fits p dictionary ≡ true = and_left (fits p dictionary) (cond (is_hidden p.id dictionary) (is_shown p.value) own) h in
         let same : cond (is_hidden p.id dictionary) (is_shown p.value) own ≡ true = and_right (fits p dictionary) (cond (is_hidden p.id dictionary) (is_shown p.value) own) h in
-        by_test (value_of dictionary secret authenticator p.id (sent_octets dictionary secret authenticator p) ≡ p.value) (is_hidden p.id dictionary)
+        by_test (value_meant dictionary secret authenticator p.id (sent_octets dictionary secret authenticator p) ≡ p.value) (is_hidden p.id dictionary)
         (λ e. hidden_back p.id p.value fitting e (rw e at same))
         (λ e. plain_back p e (rw e at same))

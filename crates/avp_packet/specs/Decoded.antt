@@ -8,13 +8,13 @@ use Rattle.avp_packet.specs.declared.faults.PacketFault.{PacketFault}
 use Rattle.avp_packet.specs.declared.faults.PacketFault.TheVariants.{TooShort, LengthOutOfRange, CutShort, BadAttribute, CodeNotTaken, WrongAuthenticator, WrongMessageAuthenticator}
 use Rattle.avp_packet.specs.declared.packets.Packet.{Packet}
 use Rattle.avp_packet.specs.Meanings.{meaning}
-use Rattle.avp_packet.specs.Packets.{access_request, accounting_request, attributes_of, authenticator_of, code_of, hiding_authenticator, id_of, is_length, length_of, zeros}
+use Rattle.avp_packet.specs.Packets.{access_request, accounting_request, attributes_of, authenticator_of, code_of, hiding_authenticator, id_of, is_packet_length, length_of, zeros}
 use Rattle.avp_packet.specs.Signed.{is_signature, is_signed}
 use Rattle.avp_packet.specs.Splitting.{left, parts}
 
 -- the digest that the authenticator of an Accounting-Request has to be
-abbrev pub is_accounting : List ℕ → List ℕ → Bool
-is_accounting os secret = bytes_eq (authenticator_of os) (md5 (take 4 os ++ zeros ++ attributes_of os ++ secret))
+abbrev pub is_accounting_request : List ℕ → List ℕ → Bool
+is_accounting_request os secret = bytes_eq (authenticator_of os) (md5 (take 4 os ++ zeros ++ attributes_of os ++ secret))
 
 abbrev pub packet_read : Dictionary → List ℕ → List ℕ → Packet
 packet_read dictionary secret os = record {
@@ -36,7 +36,7 @@ is_wrongly_signed os secret = (code_of os == access_request)
 abbrev pub request_read : Dictionary → List ℕ → List ℕ → Result Packet PacketFault
 request_read dictionary secret os =
     if not ((code_of os == access_request) || (code_of os == accounting_request)) then Err CodeNotTaken
-    else (if (code_of os == accounting_request) && not (is_accounting os secret) then Err WrongAuthenticator
+    else (if (code_of os == accounting_request) && not (is_accounting_request os secret) then Err WrongAuthenticator
     else (if is_wrongly_signed os secret then Err WrongMessageAuthenticator
     else Ok (packet_read dictionary secret os)))
 
@@ -53,6 +53,6 @@ unless_bad attributes read = unless_left (20 + length attributes) (left attribut
 unfoldable pub decoded : Dictionary → List ℕ → List ℕ → Result Packet PacketFault
 decoded dictionary secret os =
     if nat_lt (length os) 20 then Err TooShort
-    else (if not (is_length (length_of os)) then Err LengthOutOfRange
+    else (if not (is_packet_length (length_of os)) then Err LengthOutOfRange
     else (if nat_lt (length os) (length_of os) then Err CutShort
     else unless_bad (attributes_of os) (request_read dictionary secret os)))

@@ -21,15 +21,15 @@ value_shown dictionary id os (Some password) = value_of_octets id password dicti
 value_shown dictionary id os None = Raw os
 
 -- the value of an attribute's octets, shown first where they are hidden
-unfoldable pub value_of : Dictionary → List ℕ → List ℕ → AttrId → List ℕ → Value
-value_of dictionary secret authenticator id os =
+unfoldable pub value_meant : Dictionary → List ℕ → List ℕ → AttrId → List ℕ → Value
+value_meant dictionary secret authenticator id os =
     if is_hidden id dictionary
     then value_shown dictionary id os (shown secret authenticator os)
     else value_of_octets id os dictionary
 
 abbrev pub pair_of : Dictionary → List ℕ → List ℕ → AttrId → List ℕ → Pair
 pair_of dictionary secret authenticator id os =
-    record { id = id; value = value_of dictionary secret authenticator id os }
+    record { id = id; value = value_meant dictionary secret authenticator id os }
 
 -- an attribute whose octets are not looked into
 abbrev pub raw_pair : Part → Pair

@@ -132,11 +132,11 @@ authenticator_of os = take 16 (drop 4 os)
 abbrev pub attributes_of : List ℕ → List ℕ
 attributes_of os = drop 20 (take (length_of os) os)
 
-abbrev pub is_length : ℕ → Bool
-is_length n = nat_le 20 n && nat_le n 4096
+abbrev pub is_packet_length : ℕ → Bool
+is_packet_length n = nat_le 20 n && nat_le n 4096
 
 -- a reply by its Response Authenticator, to a request with this authenticator; octets past Length are not looked at
 unfoldable pub is_reply : List ℕ → List ℕ → List ℕ → Bool
 is_reply os authenticator secret =
-    nat_le 20 (length os) && is_length (length_of os) && nat_le (length_of os) (length os)
+    nat_le 20 (length os) && is_packet_length (length_of os) && nat_le (length_of os) (length os)
     && bytes_eq (authenticator_of os) (md5 (take 4 os ++ authenticator ++ attributes_of os ++ secret))

@@ -3,7 +3,7 @@ use Rattle.std.specs.Prelude.{ℕ, Bool, false, ◌&&◌, ◌==◌, nat_le, if�
 use Rattle.std.specs.List.{flat_map}
 use Rattle.std.specs.Str.{bytes_eq}
 use Rattle.avp_packet.specs.Hmac.{hmac}
-use Rattle.avp_packet.specs.Packets.{attributes_of, is_length, length_of, zeros}
+use Rattle.avp_packet.specs.Packets.{attributes_of, is_packet_length, length_of, zeros}
 use Rattle.avp_packet.specs.Splitting.{Part, left, part_octets, parts}
 
 abbrev pub is_signature : Part → Bool
@@ -30,6 +30,6 @@ is_only digest _ = false
 -- a Length of 20 to 4096 that the octets reach, whole attributes, and among them one Message-Authenticator, the digest under the secret; octets past Length are not looked at
 unfoldable pub is_signed : List ℕ → List ℕ → List ℕ → Bool
 is_signed os authenticator secret =
-    nat_le 20 (length os) && is_length (length_of os) && nat_le (length_of os) (length os)
+    nat_le 20 (length os) && is_packet_length (length_of os) && nat_le (length_of os) (length os)
     && (length (left (attributes_of os)) == 0)
     && is_only (hmac secret (signed_text os authenticator)) (signatures (parts (attributes_of os)))

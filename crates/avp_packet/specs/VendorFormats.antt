@@ -6,12 +6,12 @@ use Rattle.avp_dict.specs.Dictionary.{Dictionary}
 use Rattle.avp_dict.specs.Names.{vendor_format}
 use Rattle.avp_dict.specs.Vendors.{is_format}
 
-abbrev pub usable : Format → Option Format
-usable f = if is_format f.t f.l then Some f else None
+abbrev pub usable_format : Format → Option Format
+usable_format f = if is_format f.t f.l then Some f else None
 
 -- a vendor's format of two parts: 1, 2 or 4 octets of type, and at most 2 of length
 unfoldable pub known_format : ℕ → Dictionary → Option Format
-known_format vendor dictionary = option_and_then usable (vendor_format vendor dictionary)
+known_format vendor dictionary = option_and_then usable_format (vendor_format vendor dictionary)
 
 -- no vendor has a format of two other parts, as in every dictionary that was read
 abbrev pub HasKnownFormats : Dictionary → Type 0

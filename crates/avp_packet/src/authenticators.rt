@@ -4,8 +4,8 @@ ghost use Rattle.std.specs.Prelude.{◌≡◌, ◌≤◌, ◌<◌, ◌+◌, ◌�
 ghost use Rattle.std.specs.Int.{to_be_bytes, w16};
 ghost use Rattle.std.specs.Str.{bytes_eq};
 ghost use Rattle.md5.specs.Md5.{md5};
-ghost use Rattle.avp_packet.specs.Decoded.{is_accounting};
-ghost use Rattle.avp_packet.specs.Packets.{authenticator_of, digest_over, is_length, is_reply, length_of, zeros};
+ghost use Rattle.avp_packet.specs.Decoded.{is_accounting_request};
+ghost use Rattle.avp_packet.specs.Packets.{authenticator_of, digest_over, is_packet_length, is_reply, length_of, zeros};
 
 use crate::hiding::BLOCK_OCTETS;
 use md5::{Digest, Md5};
@@ -23,13 +23,13 @@ pub(crate) const AUTHENTICATOR_PLACE: usize = 4;
 pub(crate) const ZEROS: [u8; BLOCK_OCTETS] = [0; BLOCK_OCTETS];
 
 pub(crate) fn is_packet_length(length: usize) -> bool
-    ensures { result ≡ is_length length }
+    ensures { result ≡ is_packet_length length }
 {
     length >= HEAD_OCTETS && length <= MAX_PACKET_OCTETS
 }
 
 /// The Length in a packet.
-pub(crate) fn length_in(octets: &[u8]) -> usize
+pub(crate) fn length_of(octets: &[u8]) -> usize
     requires { HEAD_OCTETS ≤ length octets.now }
     ensures { result ≡ length_of octets.now }
 {
@@ -48,7 +48,7 @@ fn digest_of_four(first: &[u8], second: &[u8], third: &[u8], fourth: &[u8]) -> [
 }
 
 /// The authenticator in a packet.
-pub(crate) fn authenticator_in(octets: &[u8]) -> &[u8]
+pub(crate) fn authenticator_of(octets: &[u8]) -> &[u8]
     requires { HEAD_OCTETS ≤ length octets.now }
     ensures { result.now ≡ authenticator_of octets.now }
 {
@@ -84,16 +84,16 @@ fn has_digest(octets: &[u8], end: usize, authenticator: &[u8; 16], secret: &[u8]
         attributes_in(octets, end),
         secret,
     );
-    are_equal(authenticator_in(octets), &digest)
+    are_equal(authenticator_of(octets), &digest)
 }
 
 /// Whether the authenticator of an Accounting-Request is the digest over zeros.
 pub(crate) fn is_accounting_request(octets: &[u8], secret: &[u8]) -> bool
     requires head { HEAD_OCTETS ≤ length_of octets.now }
     requires whole { length_of octets.now ≤ length octets.now }
-    ensures { result ≡ is_accounting octets.now secret.now }
+    ensures { result ≡ is_accounting_request octets.now secret.now }
 {
-    has_digest(octets, length_in(octets), &ZEROS, secret)
+    has_digest(octets, length_of(octets), &ZEROS, secret)
 }
 
 /// Whether octets are a reply to the request with this authenticator, by the Response Authenticator (RFC 2865, section
@@ -106,7 +106,7 @@ pub fn check_reply(reply: &[u8], request_authenticator: &[u8; 16], secret: &[u8]
     if reply.len() < HEAD_OCTETS {
         return false;
     }
-    let length = length_in(reply);
+    let length = length_of(reply);
     if !is_packet_length(length) || length > reply.len() {
         return false;
     }
@@ -124,7 +124,7 @@ pub(crate) fn head_of(code: u8, id: u8, attributes: usize) -> [u8; 4]
 
 /// The digest over a packet with these octets as its authenticator, and over the secret.
 #[tactic(auto, unfolding(crate::specs::Packets::digest_over, crate::specs::Packets::packet))]
-pub(crate) fn digest_of_packet(
+pub(crate) fn digest_over(
     code: u8,
     id: u8,
     authenticator: &[u8; 16],

@@ -13,10 +13,10 @@ ghost use Rattle.avp_packet.specs.Packets.{IsRequestCode, attributes_of, authent
 ghost use Rattle.avp_packet.specs.Splitting.{parts};
 
 use crate::authenticators::{
-    HEAD_OCTETS, MAX_PACKET_OCTETS, ZEROS, attributes_in, authenticator_in, is_accounting_request,
-    is_packet_length, length_in,
+    HEAD_OCTETS, MAX_PACKET_OCTETS, ZEROS, attributes_in, authenticator_of, is_accounting_request,
+    is_packet_length, length_of,
 };
-use crate::encoding::authenticator_to_hide_by;
+use crate::encoding::hiding_authenticator;
 use crate::faults::PacketFault;
 use crate::packets::{ACCESS_REQUEST, ACCOUNTING_REQUEST, Packet};
 use crate::pairs::read_pairs;
@@ -31,7 +31,7 @@ fn copy_authenticator(octets: &[u8]) -> [u8; 16]
     ensures { result ≡ authenticator_of octets.now }
 {
     let mut authenticator = ZEROS;
-    authenticator.copy_from_slice(authenticator_in(octets));
+    authenticator.copy_from_slice(authenticator_of(octets));
     authenticator
 }
 
@@ -55,8 +55,8 @@ fn read_packet(
 {
     let code = octets[0];
     let authenticator = copy_authenticator(octets);
-    let hidden_by = authenticator_to_hide_by(code, &authenticator);
-    let attributes = attributes_in(octets, length_in(octets));
+    let hidden_by = hiding_authenticator(code, &authenticator);
+    let attributes = attributes_in(octets, length_of(octets));
     let pairs = read_pairs(alloc, dictionary, secret, &hidden_by, attributes, count)?;
     Ok(Packet {
         code,
@@ -74,7 +74,7 @@ fn is_wrongly_signed(octets: &[u8], secret: &[u8]) -> bool
     ensures { result ≡ is_wrongly_signed octets.now secret.now }
 {
     octets[0] == ACCESS_REQUEST
-        && has_signature(attributes_in(octets, length_in(octets)))
+        && has_signature(attributes_in(octets, length_of(octets)))
         && !check_message(octets, &copy_authenticator(octets), secret)
 }
 
@@ -138,7 +138,7 @@ pub fn decode(
     if octets.len() < HEAD_OCTETS {
         return Err(PacketFault::TooShort);
     }
-    let length = length_in(octets);
+    let length = length_of(octets);
     if !is_packet_length(length) {
         return Err(PacketFault::LengthOutOfRange);
     }

@@ -13,7 +13,7 @@ ghost use Rattle.avp_packet.specs.Splitting.{left, parts};
 ghost use Rattle.avp_packet.specs.internal.Filling.{IsPlace, divided_octets, divided_signed, filled};
 ghost use Rattle.avp_packet.specs.internal.Ranges.{IsVendorInRange};
 
-use crate::authenticators::{HEAD_OCTETS, MAX_PACKET_OCTETS, ZEROS, digest_of_packet, head_of};
+use crate::authenticators::{HEAD_OCTETS, MAX_PACKET_OCTETS, ZEROS, digest_over, head_of};
 use crate::dividing::{Division, divide_reply, divide_request};
 use crate::faults::EncodeFault;
 use crate::hmac::{SIGNATURE_OCTETS, signature_between};
@@ -24,7 +24,7 @@ use avp_lists::Pair;
 use std::alloc::{AllocError, Global};
 
 /// What the first block of a password is hidden by.
-pub(crate) fn authenticator_to_hide_by(code: u8, authenticator: &[u8; 16]) -> [u8; 16]
+pub(crate) fn hiding_authenticator(code: u8, authenticator: &[u8; 16]) -> [u8; 16]
     ensures { result ≡ hiding_authenticator code authenticator.now }
 {
     if code == ACCOUNTING_REQUEST || code == ACCOUNTING_RESPONSE {
@@ -46,7 +46,7 @@ fn request_authenticator(
     ensures { result ≡ request_authenticator code id authenticator.now attributes.now secret.now }
 {
     if code == ACCOUNTING_REQUEST {
-        digest_of_packet(code, id, &ZEROS, attributes, secret)
+        digest_over(code, id, &ZEROS, attributes, secret)
     } else {
         *authenticator
     }
@@ -107,7 +107,7 @@ fn signed_attributes(
     ensures proxies_ranged { OnOk result (All (λ pair. IsVendorInRange pair.id) proxy_states.now) }
     ensures too_long { result ≡ Err EncodeFault.TooLong → MAX_ATTRIBUTE_OCTETS < length (divided_octets dictionary.now secret.now (hiding_authenticator code authenticator.now) division.now proxy_states.now zeros) }
 {
-    let hide_by = authenticator_to_hide_by(code, authenticator);
+    let hide_by = hiding_authenticator(code, authenticator);
     let written = write_attributes(alloc, dictionary, secret, &hide_by, division, proxy_states)?;
     let mut octets = written.octets;
     sign(&mut octets, written.place, code, id, authenticator, secret);
@@ -115,7 +115,7 @@ fn signed_attributes(
 }
 
 #[tactic(auto, unfolding(crate::specs::Packets::packet))]
-fn assemble(
+fn packet(
     alloc: Global,
     code: u8,
     id: u8,
@@ -172,7 +172,7 @@ pub fn encode_request(
         &[],
     )?;
     let authenticator = request_authenticator(code, id, authenticator, &attributes, secret);
-    let octets = assemble(alloc, code, id, &authenticator, &attributes)?;
+    let octets = packet(alloc, code, id, &authenticator, &attributes)?;
     Ok(octets)
 }
 
@@ -257,7 +257,7 @@ pub fn encode_reply(
         &division,
         proxy_states,
     )?;
-    let authenticator = digest_of_packet(code, id, request_authenticator, &attributes, secret);
-    let octets = assemble(alloc, code, id, &authenticator, &attributes)?;
+    let authenticator = digest_over(code, id, request_authenticator, &attributes, secret);
+    let octets = packet(alloc, code, id, &authenticator, &attributes)?;
     Ok(octets)
 }

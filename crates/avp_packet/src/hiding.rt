@@ -27,7 +27,7 @@ fn mask_of(secret: &[u8], before: &[u8; 16]) -> [u8; 16]
 }
 
 /// Each octet exclusive-or the mask's octet.
-pub(crate) fn masked_block<const N: usize>(mask: &[u8; N], block: &[u8; N]) -> [u8; N]
+pub(crate) fn masked<const N: usize>(mask: &[u8; N], block: &[u8; N]) -> [u8; N]
     ensures { result ≡ masked mask.now block.now }
 {
     let mut octets = *mask;
@@ -37,7 +37,7 @@ pub(crate) fn masked_block<const N: usize>(mask: &[u8; N], block: &[u8; N]) -> [
     octets
 }
 
-fn count_of_blocks(length: usize) -> usize
+fn block_count(length: usize) -> usize
     requires { length ≤ MAX_PASSWORD_OCTETS }
     ensures { result ≡ block_count length }
 {
@@ -45,16 +45,16 @@ fn count_of_blocks(length: usize) -> usize
 }
 
 // The password, with NULs up to whole blocks.
-fn pad(alloc: Global, password: &[u8]) -> Result<Vec<u8>, AllocError>
+fn padded(alloc: Global, password: &[u8]) -> Result<Vec<u8>, AllocError>
     requires { length password.now ≤ MAX_PASSWORD_OCTETS }
     ensures { IfOk result (λ octets. octets.items ≡ padded password.now) }
 {
     let mut octets = Vec::from_slice(alloc, password)?;
-    octets.resize(BLOCK_OCTETS * count_of_blocks(password.len()), 0)?;
+    octets.resize(BLOCK_OCTETS * block_count(password.len()), 0)?;
     Ok(octets)
 }
 
-fn hide_blocks(
+fn hidden_blocks(
     alloc: Global,
     secret: &[u8],
     authenticator: &[u8; 16],
@@ -66,14 +66,14 @@ fn hide_blocks(
     let mut before = *authenticator;
     let mut rest = padded;
     while let Some((block, after)) = rest.split_first_chunk::<16>() {
-        before = masked_block(&mask_of(secret, &before), block);
+        before = masked(&mask_of(secret, &before), block);
         octets.extend_from_slice(&before)?;
         rest = after;
     }
     Ok(octets)
 }
 
-fn show_blocks(
+fn shown_blocks(
     alloc: Global,
     secret: &[u8],
     authenticator: &[u8; 16],
@@ -85,14 +85,14 @@ fn show_blocks(
     let mut before = *authenticator;
     let mut rest = hidden;
     while let Some((block, after)) = rest.split_first_chunk::<16>() {
-        octets.extend_from_slice(&masked_block(&mask_of(secret, &before), block))?;
+        octets.extend_from_slice(&masked(&mask_of(secret, &before), block))?;
         before = *block;
         rest = after;
     }
     Ok(octets)
 }
 
-fn is_last_nul(octets: &[u8]) -> bool
+fn ends_in_nul(octets: &[u8]) -> bool
     ensures { result ≡ ends_in_nul octets.now }
 {
     match octets.last() {
@@ -104,19 +104,19 @@ fn is_last_nul(octets: &[u8]) -> bool
 fn drop_last_nuls(octets: &mut Vec<u8>)
     ensures { octets.new.items ≡ without_last_nuls octets.old.items }
 {
-    while is_last_nul(octets) {
+    while ends_in_nul(octets) {
         octets.pop();
     }
 }
 
-fn can_be_hidden(password: &[u8]) -> bool
+fn is_hideable(password: &[u8]) -> bool
     ensures test { result ≡ is_hideable password.now }
     ensures short { IsTrue result → length password.now ≤ MAX_PASSWORD_OCTETS }
 {
-    password.len() <= MAX_PASSWORD_OCTETS && !is_last_nul(password)
+    password.len() <= MAX_PASSWORD_OCTETS && !ends_in_nul(password)
 }
 
-fn is_of_blocks(length: usize) -> bool
+fn is_block_length(length: usize) -> bool
     ensures { result ≡ is_block_length length }
 {
     length % BLOCK_OCTETS == 0 && length >= BLOCK_OCTETS && length <= MAX_PASSWORD_OCTETS
@@ -124,7 +124,7 @@ fn is_of_blocks(length: usize) -> bool
 
 /// A short password's octets hidden.
 #[tactic(auto, unfolding(crate::specs::Hiding::hidden))]
-pub(crate) fn hide_short(
+pub(crate) fn hidden(
     alloc: Global,
     secret: &[u8],
     authenticator: &[u8; 16],
@@ -133,8 +133,8 @@ pub(crate) fn hide_short(
     requires { length password.now ≤ MAX_PASSWORD_OCTETS }
     ensures { IfOk result (λ octets. octets.items ≡ hidden secret.now authenticator.now password.now) }
 {
-    let padded = pad(alloc, password)?;
-    let octets = hide_blocks(alloc, secret, authenticator, &padded)?;
+    let padded = padded(alloc, password)?;
+    let octets = hidden_blocks(alloc, secret, authenticator, &padded)?;
     Ok(octets)
 }
 
@@ -153,10 +153,10 @@ pub fn hide(
     // What is hidden is shown again.
     ensures shown { IfOk result (λ octets. shown secret.now authenticator.now octets.items ≡ Some password.now) }
 {
-    if !can_be_hidden(password) {
+    if !is_hideable(password) {
         return Err(HideFault::TooLong);
     }
-    Ok(hide_short(alloc, secret, authenticator, password)?)
+    Ok(hidden(alloc, secret, authenticator, password)?)
 }
 
 /// Hidden octets shown, without the NULs at their end; `None` where their number is not 16, 32, .. 128.
@@ -170,10 +170,10 @@ pub fn unhide(
     requires { 0 < length secret.now }
     ensures { IfOk result (λ password. option_map (λ octets. octets.items) password ≡ shown secret.now authenticator.now hidden.now) }
 {
-    if !is_of_blocks(hidden.len()) {
+    if !is_block_length(hidden.len()) {
         return Ok(None);
     }
-    let mut octets = show_blocks(alloc, secret, authenticator, hidden)?;
+    let mut octets = shown_blocks(alloc, secret, authenticator, hidden)?;
     drop_last_nuls(&mut octets);
     Ok(Some(octets))
 }

@@ -8,7 +8,7 @@ ghost use Rattle.avp_packet.specs.Hmac.{hmac, key_block};
 ghost use Rattle.avp_packet.specs.Packets.{zeros};
 ghost use Rattle.avp_packet.specs.Splitting.{part_octets};
 
-use crate::hiding::masked_block;
+use crate::hiding::masked;
 use md5::{Digest, Md5};
 
 /// The octets of a block of MD5.
@@ -45,7 +45,7 @@ fn keyed_hasher(pad: &[u8; KEY_OCTETS], key: &[u8; KEY_OCTETS]) -> Md5
     ensures { Holds result (masked pad.now key.now) }
 {
     let mut hasher = Md5::new();
-    hasher.update(&masked_block(pad, key));
+    hasher.update(&masked(pad, key));
     hasher
 }
 

@@ -2,10 +2,10 @@
 
 ghost use Rattle.std.specs.Prelude.{◌≡◌, ◌<◌, ◌∷◌, ◌++◌, [], length, OnOk, IfOk};
 ghost use Rattle.avp_packet.specs.AttributeOctets.{part};
-ghost use Rattle.avp_packet.specs.Meanings.{extended_pair, pair_of, raw_pair, value_of};
+ghost use Rattle.avp_packet.specs.Meanings.{extended_pair, pair_of, raw_pair, value_meant};
 
 use crate::hiding::unhide;
-use crate::sending::hides;
+use crate::sending::is_hidden;
 use avp_dict::Dictionary;
 use avp_lists::{AttrId, Octets, Pair, Value};
 use std::alloc::{AllocError, Global};
@@ -18,8 +18,8 @@ fn copy_of(alloc: Global, octets: &[u8]) -> Result<Octets, AllocError>
 }
 
 /// The value of an attribute's octets, shown first where they are hidden.
-#[tactic(auto, unfolding(crate::specs::Meanings::value_of))]
-fn read_value(
+#[tactic(auto, unfolding(crate::specs::Meanings::value_meant))]
+fn value_meant(
     alloc: Global,
     dictionary: &Dictionary,
     secret: &[u8],
@@ -28,9 +28,9 @@ fn read_value(
     octets: &[u8],
 ) -> Result<Value, AllocError>
     requires { 0 < length secret.now }
-    ensures { IfOk result (λ value. value ≡ value_of dictionary.now secret.now authenticator.now id octets.now) }
+    ensures { IfOk result (λ value. value ≡ value_meant dictionary.now secret.now authenticator.now id octets.now) }
 {
-    if !hides(dictionary, id) {
+    if !is_hidden(dictionary, id) {
         return dictionary.value_of_bytes(alloc, id, octets);
     }
     match unhide(alloc, secret, authenticator, octets)? {
@@ -40,7 +40,7 @@ fn read_value(
 }
 
 // The same value of joined octets, which it keeps.
-#[tactic(auto, unfolding(crate::specs::Meanings::value_of))]
+#[tactic(auto, unfolding(crate::specs::Meanings::value_meant))]
 fn keep_value(
     dictionary: &Dictionary,
     secret: &[u8],
@@ -49,9 +49,9 @@ fn keep_value(
     octets: Vec<u8>,
 ) -> Result<Value, AllocError>
     requires { 0 < length secret.now }
-    ensures { IfOk result (λ value. value ≡ value_of dictionary.now secret.now authenticator.now id octets.items) }
+    ensures { IfOk result (λ value. value ≡ value_meant dictionary.now secret.now authenticator.now id octets.items) }
 {
-    if !hides(dictionary, id) {
+    if !is_hidden(dictionary, id) {
         return Ok(dictionary.value_of_vec(id, octets));
     }
     match unhide(*octets.allocator(), secret, authenticator, &octets)? {
@@ -72,7 +72,7 @@ pub(crate) fn push_read(
     requires { 0 < length secret.now }
     ensures { OnOk result (pairs.new.items ≡ pairs.old.items ++ pair_of dictionary.now secret.now authenticator.now id octets.now ∷ []) }
 {
-    let value = read_value(
+    let value = value_meant(
         *pairs.allocator(),
         dictionary,
         secret,

@@ -14,7 +14,7 @@ ghost use Rattle.avp_packet.specs.internal.Ranges.{IsVendorInRange};
 use crate::authenticators::{HEAD_OCTETS, MAX_PACKET_OCTETS};
 use crate::dividing::{Division, MESSAGE_AUTHENTICATOR};
 use crate::faults::EncodeFault;
-use crate::hiding::hide_short;
+use crate::hiding::hidden;
 use crate::hmac::BLANK;
 use crate::writing::push_holding;
 use avp_dict::Dictionary;
@@ -26,7 +26,7 @@ use std::borrow::CowSlice;
 pub(crate) const MAX_ATTRIBUTE_OCTETS: usize = MAX_PACKET_OCTETS - HEAD_OCTETS;
 
 /// Whether an id's values are hidden.
-pub(crate) fn hides(dictionary: &Dictionary, id: AttrId) -> bool
+pub(crate) fn is_hidden(dictionary: &Dictionary, id: AttrId) -> bool
     ensures { result ≡ is_hidden id dictionary.now }
 {
     match dictionary.by_id(id) {
@@ -35,7 +35,7 @@ pub(crate) fn hides(dictionary: &Dictionary, id: AttrId) -> bool
     }
 }
 
-fn is_raw_value(value: &Value) -> bool
+fn is_raw(value: &Value) -> bool
     ensures { result ≡ is_raw value.now }
 {
     match value {
@@ -45,7 +45,7 @@ fn is_raw_value(value: &Value) -> bool
 }
 
 // Whether an attribute is never sent.
-fn is_internal_id(id: AttrId) -> bool
+fn is_internal(id: AttrId) -> bool
     ensures test { result ≡ is_internal id }
     ensures ranged { IsVendorInRange id }
 {
@@ -70,7 +70,7 @@ fn kept_octets(value: &Value) -> Option<&[u8]>
 
 // The octets of a pair's value: hidden where the attribute is, but for raw ones.
 #[tactic(auto, unfolding(crate::specs::AttributeOctets::sent_octets), using(crate::proofs::Rooms::hidden_short))]
-fn octets_to_send<'a>(
+fn sent_octets<'a>(
     alloc: Global,
     dictionary: &Dictionary,
     secret: &[u8],
@@ -80,9 +80,9 @@ fn octets_to_send<'a>(
     requires { fits pair.now dictionary.now ≡ true }
     ensures { IfOk result (λ octets. cow_slice_items octets ≡ sent_octets dictionary.now secret.now authenticator.now pair.now) }
 {
-    if hides(dictionary, pair.id) && !is_raw_value(&pair.value) {
+    if is_hidden(dictionary, pair.id) && !is_raw(&pair.value) {
         let plain = dictionary.bytes_of_value(alloc, pair.id, &pair.value)?;
-        let hidden = hide_short(alloc, secret, authenticator, &plain)?;
+        let hidden = hidden(alloc, secret, authenticator, &plain)?;
         return Ok(CowSlice::Owned(hidden));
     }
     if let Some(octets) = kept_octets(&pair.value) {
@@ -104,10 +104,10 @@ fn push_pair(
     ensures octets { OnOk result (octets.new.items ≡ octets.old.items ++ attribute_octets dictionary.now secret.now authenticator.now (pair.now ∷ [])) }
     ensures ranged { OnOk result (IsVendorInRange pair.now.id) }
 {
-    if is_internal_id(pair.id) {
+    if is_internal(pair.id) {
         return Ok(());
     }
-    let value = octets_to_send(*octets.allocator(), dictionary, secret, authenticator, pair)?;
+    let value = sent_octets(*octets.allocator(), dictionary, secret, authenticator, pair)?;
     let value = value.as_slice();
     if value.is_empty() {
         return Ok(());

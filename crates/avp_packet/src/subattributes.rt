@@ -7,7 +7,7 @@ ghost use Rattle.avp_packet.specs.AttributeOctets.{part};
 ghost use Rattle.avp_packet.specs.Meanings.{are_subs, are_subs_behind, begins_sub, first_sub, sub_length, sub_pair, subs, vendor_of, vendor_pairs, vendor_subs};
 ghost use Rattle.avp_packet.specs.internal.Views.{sub_view};
 
-use crate::formats::format_of;
+use crate::formats::known_format;
 use crate::reading::{push_raw, push_read};
 use crate::writing::VENDOR_SPECIFIC;
 use avp_dict::{Dictionary, Format};
@@ -40,7 +40,7 @@ fn number_in(octets: &[u8]) -> u32
 }
 
 // What the first attribute's length counts.
-fn length_in(format: Format, octets: &[u8]) -> usize
+fn sub_length(format: Format, octets: &[u8]) -> usize
     requires format { is_format format.t format.l ≡ true }
     requires room { format.t + format.l ≤ length octets.now }
     ensures { result ≡ sub_length format octets.now }
@@ -53,7 +53,7 @@ fn length_in(format: Format, octets: &[u8]) -> usize
     number_in(&behind[..usize::from(format.l)]) as usize
 }
 
-fn first_of(format: Format, octets: &[u8]) -> Option<Sub<'_>>
+fn first_sub(format: Format, octets: &[u8]) -> Option<Sub<'_>>
     requires { is_format format.t format.l ≡ true }
     ensures begins { IfSome result (λ sub. begins_sub format octets.now ≡ true) }
     ensures sub { IfSome result (λ sub. sub_view sub ≡ first_sub format octets.now) }
@@ -64,7 +64,7 @@ fn first_of(format: Format, octets: &[u8]) -> Option<Sub<'_>>
     if octets.len() < head {
         return None;
     }
-    let length = length_in(format, octets);
+    let length = sub_length(format, octets);
     if length < head || length > octets.len() {
         return None;
     }
@@ -82,7 +82,7 @@ fn are_whole(format: Format, octets: &[u8]) -> bool
     ensures { result ≡ are_subs_behind format 0 octets.now }
 {
     let mut rest = octets;
-    while let Some(sub) = first_of(format, rest) {
+    while let Some(sub) = first_sub(format, rest) {
         rest = sub.rest;
     }
     rest.is_empty()
@@ -103,7 +103,7 @@ fn push_subs(
     ensures { OnOk result (pairs.new.items ≡ pairs.old.items ++ map (sub_pair dictionary.now secret.now authenticator.now vendor) (subs format octets.now)) }
 {
     let mut rest = octets;
-    while let Some(sub) = first_of(format, rest) {
+    while let Some(sub) = first_sub(format, rest) {
         push_read(
             pairs,
             dictionary,
@@ -128,7 +128,7 @@ fn format_behind(dictionary: &Dictionary, value: &[u8]) -> Option<Format>
     if value.len() < VENDOR_ID_OCTETS {
         return None;
     }
-    let format = format_of(dictionary, number_in(&value[..VENDOR_ID_OCTETS]))?;
+    let format = known_format(dictionary, number_in(&value[..VENDOR_ID_OCTETS]))?;
     let octets = &value[VENDOR_ID_OCTETS..];
     if !octets.is_empty() && are_whole(format, octets) {
         Some(format)

@@ -8,7 +8,7 @@ ghost use Rattle.avp_packet.specs.AttributeOctets.{fragments, part, parts_holdin
 ghost use Rattle.avp_packet.specs.Splitting.{part_octets};
 ghost use Rattle.avp_packet.specs.internal.Holding.{CanHold, FitsFormat};
 
-use crate::formats::format_of;
+use crate::formats::known_format;
 use avp_dict::{Dictionary, Format};
 use avp_lists::AttrId;
 use std::alloc::AllocError;
@@ -115,7 +115,7 @@ pub(crate) fn push_holding(
 {
     match id {
         AttrId::Plain(number) => push_attribute(octets, number as u8, &[], value),
-        AttrId::Vendor(vendor, number) => match format_of(dictionary, vendor) {
+        AttrId::Vendor(vendor, number) => match known_format(dictionary, vendor) {
             Some(format) => push_vendor(octets, format, vendor, number, value),
             None => Ok(()),
         },

@@ -23,7 +23,7 @@ use avp_lists::{Edit, EditFault, Store};
 use avp_unlang::{Block, Branch, Code, Line, Statement, Unresolved, holds, resolve};
 use std::alloc::{AllocError, Global};
 
-fn is_stop(code: Code) -> bool
+fn stops(code: Code) -> bool
     ensures { result ≡ stops code }
 {
     match code {
@@ -72,7 +72,7 @@ fn step_word<S: Store>(store: &mut S, line: usize, word: Code) -> Mark
     Mark {
         label: Label::Word(line),
         code: word,
-        stopped: is_stop(word),
+        stopped: stops(word),
     }
 }
 

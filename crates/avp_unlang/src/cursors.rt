@@ -8,7 +8,7 @@ ghost use Rattle.avp_unlang.specs.Steps.{Counts, Follows};
 ghost use Rattle.avp_unlang.specs.declared.tokens.Token.TheVariants.{End, Operator, Word};
 
 use crate::faults::{PolicyFault, PolicyKind};
-use crate::tokens::{Sign, Token, first_token, front};
+use crate::tokens::{Sign, Token, front, token_at};
 use std::marker::Model;
 
 /// A place in a policy text: what is left of it, on which line that begins, and how much may still be added to the
@@ -136,7 +136,7 @@ impl<'a> Cursor<'a> {
         ensures shorter { result.0 ≢ End → length result.1.text < length self.now.text }
     {
         let (line, start) = skip(self.line, self.text);
-        let (found, text) = first_token(start);
+        let (found, text) = token_at(start);
         let after = Cursor {
             text,
             line,

@@ -28,7 +28,7 @@ fn escaped_letter(letter: u8) -> u8
 }
 
 // The octet that is escaped after a `\`, and how many octets stand for it.
-fn escape(text: &[u8]) -> (u8, usize)
+fn double_escape(text: &[u8]) -> (u8, usize)
     ensures octet { result.0 ≡ (double_escape text.now).octet }
     ensures taken { result.1 ≡ (double_escape text.now).taken }
     ensures within { result.1 ≤ length text.now }
@@ -52,7 +52,7 @@ fn octet<'a>(text: &Excerpt<'a>) -> Option<(u8, Excerpt<'a>)>
     match text.as_slice() {
         [] => None,
         [b'\\', rest @ ..] => {
-            let (octet, taken) = escape(rest);
+            let (octet, taken) = double_escape(rest);
             Some((octet, Excerpt::new(&rest[taken..])))
         }
         [b'%', b'%', rest @ ..] => Some((b'%', Excerpt::new(rest))),

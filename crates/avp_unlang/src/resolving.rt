@@ -121,7 +121,7 @@ fn parts_text<S: Store>(
 }
 
 // The value of the id's type with these octets, if there is one.
-fn typed_value(
+fn read_value(
     alloc: Global,
     dictionary: &Dictionary,
     id: AttrId,
@@ -157,7 +157,7 @@ fn read_by_type(
             | Kind::Integer
             | Kind::Date
             | Kind::Integer64
-            | Kind::Signed => typed_value(alloc, dictionary, id, octets),
+            | Kind::Signed => read_value(alloc, dictionary, id, octets),
         },
     }
 }

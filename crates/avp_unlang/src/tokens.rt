@@ -244,7 +244,7 @@ fn quote_of(octet: u8) -> Option<QuoteMark>
 
 /// The token that a text begins with, and the text after it.
 #[tactic(auto, unfolding(crate::specs::Tokens::token_at, crate::specs::Tokens::text_at))]
-pub(crate) fn first_token<'a>(text: &'a [u8]) -> (Token<'a>, &'a [u8])
+pub(crate) fn token_at<'a>(text: &'a [u8]) -> (Token<'a>, &'a [u8])
     ensures same { (result.0, result.1.now) ≡ token_at text.now }
     ensures within { length result.1.now ≤ length text.now }
     ensures shorter { result.0 ≢ End → length result.1.now < length text.now }

@@ -34,13 +34,13 @@ fn number_order(value: &Value, other: &Value) -> Option<Ordering>
     }
 }
 
-fn is_same(code: Code, word: Code) -> bool
+fn same_code(code: Code, word: Code) -> bool
     ensures { result ≡ same_code code word }
 {
     code == word
 }
 
-fn is_met(relation: Relation, order: Ordering) -> bool
+fn meets(relation: Relation, order: Ordering) -> bool
     ensures { result ≡ meets relation order }
 {
     match relation {
@@ -84,7 +84,7 @@ pub(crate) fn relates(kind: Kind, relation: Relation, value: &Value, other: &Val
     ensures { result ≡ relates kind relation value.now other.now }
 {
     match order(kind, value, other) {
-        Some(order) => is_met(relation, order),
+        Some(order) => meets(relation, order),
         None => false,
     }
 }
@@ -107,7 +107,7 @@ fn compared_with<'a, S: Store>(comparand: &'a Comparand, store: &'a S) -> Option
     }
 }
 
-fn compares<S: Store>(comparison: &Comparison, store: &S) -> bool
+fn is_met<S: Store>(comparison: &Comparison, store: &S) -> bool
     requires { IsTrue (is_comparable comparison.now (present (S.history store.now))) }
     ensures { result ≡ is_met comparison.now (present (S.history store.now)) }
 {
@@ -157,8 +157,8 @@ pub fn holds<S: Store>(cond: &Cond, store: &S, code: Code) -> bool
         Cond::Any(conds) => any_holds(conds.as_slice(), store, code),
         Cond::All(conds) => all_hold(conds.as_slice(), store, code),
         Cond::Not(cond) => !holds(cond.get(), store, code),
-        Cond::Last(word) => is_same(code, *word),
+        Cond::Last(word) => same_code(code, *word),
         Cond::Present(list, id) => store.first(*list, *id).is_some(),
-        Cond::Compare(comparison) => compares(comparison, store),
+        Cond::Compare(comparison) => is_met(comparison, store),
     }
 }

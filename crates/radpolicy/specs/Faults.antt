@@ -21,95 +21,95 @@ use Rattle.radpolicy.specs.declared.faults.Fault.TheVariants as fault
 abbrev pub memory_number : ℕ
 memory_number = 9
 
-abbrev pub dict_number : DictKind → ℕ
-dict_number dict.Unreadable = 10
-dict_number dict.OutOfRange = 11
-dict_number dict.OtherNumber = 12
-dict_number dict.UnknownVendor = 13
-dict_number dict.Unmatched = 14
-dict_number dict.NoFile = 15
-dict_number dict.TooDeep = 16
-dict_number dict.TooLong = 17
-dict_number dict.NoAttribute = 18
-dict_number dict.OtherValue = 19
-dict_number dict.Memory = memory_number
+abbrev pub dict_fault_number : DictKind → ℕ
+dict_fault_number dict.Unreadable = 10
+dict_fault_number dict.OutOfRange = 11
+dict_fault_number dict.OtherNumber = 12
+dict_fault_number dict.UnknownVendor = 13
+dict_fault_number dict.Unmatched = 14
+dict_fault_number dict.NoFile = 15
+dict_fault_number dict.TooDeep = 16
+dict_fault_number dict.TooLong = 17
+dict_fault_number dict.NoAttribute = 18
+dict_fault_number dict.OtherValue = 19
+dict_fault_number dict.Memory = memory_number
 
-abbrev pub dict_text : DictKind → List ℕ
-dict_text dict.Unreadable = codes "unreadable line"
-dict_text dict.OutOfRange = codes "number out of range"
-dict_text dict.OtherNumber = codes "name has another number"
-dict_text dict.UnknownVendor = codes "unknown vendor"
-dict_text dict.Unmatched = codes "BEGIN and END differ"
-dict_text dict.NoFile = codes "file not handed in"
-dict_text dict.TooDeep = codes "includes too deep"
-dict_text dict.TooLong = codes "too many lines"
-dict_text dict.NoAttribute = codes "VALUE of no ATTRIBUTE"
-dict_text dict.OtherValue = codes "VALUE has another number"
-dict_text dict.Memory = codes "out of memory"
+abbrev pub dict_fault_text : DictKind → List ℕ
+dict_fault_text dict.Unreadable = codes "unreadable line"
+dict_fault_text dict.OutOfRange = codes "number out of range"
+dict_fault_text dict.OtherNumber = codes "name has another number"
+dict_fault_text dict.UnknownVendor = codes "unknown vendor"
+dict_fault_text dict.Unmatched = codes "BEGIN and END differ"
+dict_fault_text dict.NoFile = codes "file not handed in"
+dict_fault_text dict.TooDeep = codes "includes too deep"
+dict_fault_text dict.TooLong = codes "too many lines"
+dict_fault_text dict.NoAttribute = codes "VALUE of no ATTRIBUTE"
+dict_fault_text dict.OtherValue = codes "VALUE has another number"
+dict_fault_text dict.Memory = codes "out of memory"
 
-abbrev pub line_number : LineKind → ℕ
-line_number line.NotValue = 30
-line_number line.TooLong = 31
-line_number line.Unknown = 32
-line_number line.NotWritable = 33
-line_number line.SecondPacket = 34
-line_number line.TooMany = 35
-line_number line.Unreadable = 36
-line_number line.Memory = memory_number
+abbrev pub line_fault_number : LineKind → ℕ
+line_fault_number line.NotValue = 30
+line_fault_number line.TooLong = 31
+line_fault_number line.Unknown = 32
+line_fault_number line.NotWritable = 33
+line_fault_number line.SecondPacket = 34
+line_fault_number line.TooMany = 35
+line_fault_number line.Unreadable = 36
+line_fault_number line.Memory = memory_number
 
-abbrev pub line_text : LineKind → List ℕ
-line_text line.NotValue = codes "not a value"
-line_text line.TooLong = codes "too long"
-line_text line.Unknown = codes "unknown attribute"
-line_text line.NotWritable = codes "not writable"
-line_text line.SecondPacket = codes "second packet"
-line_text line.TooMany = codes "too many pairs"
-line_text line.Unreadable = codes "unreadable line"
-line_text line.Memory = codes "out of memory"
+abbrev pub line_fault_text : LineKind → List ℕ
+line_fault_text line.NotValue = codes "not a value"
+line_fault_text line.TooLong = codes "too long"
+line_fault_text line.Unknown = codes "unknown attribute"
+line_fault_text line.NotWritable = codes "not writable"
+line_fault_text line.SecondPacket = codes "second packet"
+line_fault_text line.TooMany = codes "too many pairs"
+line_fault_text line.Unreadable = codes "unreadable line"
+line_fault_text line.Memory = codes "out of memory"
 
-abbrev pub packet_number : PacketFault → ℕ
-packet_number packet.TooShort = 40
-packet_number packet.LengthOutOfRange = 41
-packet_number packet.CutShort = 42
-packet_number (packet.BadAttribute offset) = 43
-packet_number packet.CodeNotTaken = 44
-packet_number packet.WrongAuthenticator = 45
-packet_number packet.WrongMessageAuthenticator = 47
-packet_number packet.Memory = memory_number
+abbrev pub packet_fault_number : PacketFault → ℕ
+packet_fault_number packet.TooShort = 40
+packet_fault_number packet.LengthOutOfRange = 41
+packet_fault_number packet.CutShort = 42
+packet_fault_number (packet.BadAttribute offset) = 43
+packet_fault_number packet.CodeNotTaken = 44
+packet_fault_number packet.WrongAuthenticator = 45
+packet_fault_number packet.WrongMessageAuthenticator = 47
+packet_fault_number packet.Memory = memory_number
 
-abbrev pub packet_text : PacketFault → List ℕ
-packet_text packet.TooShort = codes "fewer than 20 octets"
-packet_text packet.LengthOutOfRange = codes "bad packet length"
-packet_text packet.CutShort = codes "packet cut short"
-packet_text (packet.BadAttribute offset) = codes "bad attribute length"
-packet_text packet.CodeNotTaken = codes "code not taken"
-packet_text packet.WrongAuthenticator = codes "wrong authenticator"
-packet_text packet.WrongMessageAuthenticator = codes "wrong Message-Authenticator"
-packet_text packet.Memory = codes "out of memory"
+abbrev pub packet_fault_text : PacketFault → List ℕ
+packet_fault_text packet.TooShort = codes "fewer than 20 octets"
+packet_fault_text packet.LengthOutOfRange = codes "bad packet length"
+packet_fault_text packet.CutShort = codes "packet cut short"
+packet_fault_text (packet.BadAttribute offset) = codes "bad attribute length"
+packet_fault_text packet.CodeNotTaken = codes "code not taken"
+packet_fault_text packet.WrongAuthenticator = codes "wrong authenticator"
+packet_fault_text packet.WrongMessageAuthenticator = codes "wrong Message-Authenticator"
+packet_fault_text packet.Memory = codes "out of memory"
 
-abbrev pub policy_number : PolicyKind → ℕ
-policy_number policy.NotValue = 30
-policy_number policy.TooLong = 31
-policy_number policy.Unknown = 32
-policy_number policy.NotWritable = 33
-policy_number policy.Unreadable = 50
-policy_number policy.Misplaced = 51
-policy_number policy.TooDeep = 53
-policy_number policy.TooLarge = 54
-policy_number policy.OtherType = 55
-policy_number policy.Memory = memory_number
+abbrev pub policy_fault_number : PolicyKind → ℕ
+policy_fault_number policy.NotValue = 30
+policy_fault_number policy.TooLong = 31
+policy_fault_number policy.Unknown = 32
+policy_fault_number policy.NotWritable = 33
+policy_fault_number policy.Unreadable = 50
+policy_fault_number policy.Misplaced = 51
+policy_fault_number policy.TooDeep = 53
+policy_fault_number policy.TooLarge = 54
+policy_fault_number policy.OtherType = 55
+policy_fault_number policy.Memory = memory_number
 
-abbrev pub policy_text : PolicyKind → List ℕ
-policy_text policy.NotValue = codes "not a value"
-policy_text policy.TooLong = codes "too long"
-policy_text policy.Unknown = codes "unknown attribute"
-policy_text policy.NotWritable = codes "not writable"
-policy_text policy.Unreadable = codes "unreadable token"
-policy_text policy.Misplaced = codes "token does not fit"
-policy_text policy.TooDeep = codes "nested too deep"
-policy_text policy.TooLarge = codes "policy too large"
-policy_text policy.OtherType = codes "types differ"
-policy_text policy.Memory = codes "out of memory"
+abbrev pub policy_fault_text : PolicyKind → List ℕ
+policy_fault_text policy.NotValue = codes "not a value"
+policy_fault_text policy.TooLong = codes "too long"
+policy_fault_text policy.Unknown = codes "unknown attribute"
+policy_fault_text policy.NotWritable = codes "not writable"
+policy_fault_text policy.Unreadable = codes "unreadable token"
+policy_fault_text policy.Misplaced = codes "token does not fit"
+policy_fault_text policy.TooDeep = codes "nested too deep"
+policy_fault_text policy.TooLarge = codes "policy too large"
+policy_fault_text policy.OtherType = codes "types differ"
+policy_fault_text policy.Memory = codes "out of memory"
 
 abbrev pub fault_number : Fault → ℕ
 fault_number fault.Help = 0
@@ -121,11 +121,11 @@ fault_number fault.NotHex = 5
 fault_number (fault.ScriptWord line) = 6
 fault_number fault.Write = 7
 fault_number fault.Memory = memory_number
-fault_number (fault.Dictionary f) = dict_number f.kind
-fault_number (fault.Request f) = line_number f.kind
-fault_number (fault.Packet f) = packet_number f
+fault_number (fault.Dictionary f) = dict_fault_number f.kind
+fault_number (fault.Request f) = line_fault_number f.kind
+fault_number (fault.Packet f) = packet_fault_number f
 fault_number fault.PacketTooLong = 46
-fault_number (fault.Policy f) = policy_number f.kind
+fault_number (fault.Policy f) = policy_fault_number f.kind
 
 abbrev pub fault_text : Fault → List ℕ
 fault_text fault.Help = codes "help"
@@ -137,11 +137,11 @@ fault_text fault.NotHex = codes "not hex"
 fault_text (fault.ScriptWord line) = codes "unknown script word"
 fault_text fault.Write = codes "write fault"
 fault_text fault.Memory = codes "out of memory"
-fault_text (fault.Dictionary f) = dict_text f.kind
-fault_text (fault.Request f) = line_text f.kind
-fault_text (fault.Packet f) = packet_text f
+fault_text (fault.Dictionary f) = dict_fault_text f.kind
+fault_text (fault.Request f) = line_fault_text f.kind
+fault_text (fault.Packet f) = packet_fault_text f
 fault_text fault.PacketTooLong = codes "packet too long"
-fault_text (fault.Policy f) = policy_text f.kind
+fault_text (fault.Policy f) = policy_fault_text f.kind
 
 -- whether a fault is want of memory
 abbrev pub is_memory : Fault → Bool

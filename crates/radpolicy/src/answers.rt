@@ -20,8 +20,8 @@ use crate::checks::text_of_check;
 use crate::faults::Fault;
 use crate::jobs::{Command, Job, Outcome};
 use crate::outputs::{Output, put_all};
-use crate::received::request_of;
-use crate::reports::{push_packet, text_of_packet};
+use crate::received::request_for;
+use crate::reports::{packet_text, push_packet};
 use crate::running::report_of_run;
 use crate::scripts::{ScriptWord, read_script};
 use crate::secrets::secret_in;
@@ -48,7 +48,7 @@ fn policy_of(job: &Job) -> &[u8]
 }
 
 // Reads the dictionary.
-fn dictionary_of(alloc: Global, job: &Job) -> Result<Dictionary, Fault>
+fn dictionary_for(alloc: Global, job: &Job) -> Result<Dictionary, Fault>
     requires sound { IsSound (asked_by_job job.now) }
     ensures ok { IfOk result (λ dictionary. dictionary_for job.now ≡ Ok dictionary) }
     ensures noted { IfOk result (λ dictionary.
@@ -63,7 +63,7 @@ fn dictionary_of(alloc: Global, job: &Job) -> Result<Dictionary, Fault>
 }
 
 // The secret, where the job has one.
-fn secret_of(job: &Job) -> Result<Option<&[u8]>, Fault>
+fn secret_for(job: &Job) -> Result<Option<&[u8]>, Fault>
     ensures ok { IfOk result (λ secret. secret_for job.now ≡ Some (option_copied secret)) }
     ensures some { IfOk result (λ secret. IfSome secret (λ octets. 0 < length octets.now)) }
     ensures there { job.now.secret ≢ None → IfOk result (λ secret. secret ≢ None) }
@@ -87,8 +87,8 @@ fn open<'a>(alloc: Global, job: &'a Job) -> Result<(Dictionary, Option<&'a [u8]>
     ensures refused { IfErr result (λ f. (f ≡ fault.Memory) ⊎ IsOpenRefusal job.now f) }
     ensures printed { IfErr result (λ f. IsPrintedWith job.now.files f) }
 {
-    let dictionary = dictionary_of(alloc, job)?;
-    match secret_of(job) {
+    let dictionary = dictionary_for(alloc, job)?;
+    match secret_for(job) {
         Ok(secret) => Ok((dictionary, secret)),
         Err(fault) => Err(fault),
     }
@@ -128,7 +128,7 @@ fn run_report_of(
     ensures printed { IfErr result (λ f. IsPrintedWith job.now.files f) }
 {
     let policy = policy_for(alloc, dictionary, secret, job)?;
-    let request = request_of(alloc, dictionary, secret, job)?;
+    let request = request_for(alloc, dictionary, secret, job)?;
     let report = report_of_run(alloc, dictionary, job.form, secret, &policy, request)?;
     Ok(report)
 }
@@ -168,7 +168,7 @@ fn step_report_of(
 {
     let policy = policy_for(alloc, dictionary, secret, job)?;
     let script = script_for(alloc, job)?;
-    let request = request_of(alloc, dictionary, secret, job)?;
+    let request = request_for(alloc, dictionary, secret, job)?;
     Ok(report_of_walk(alloc, dictionary, &policy, &script, request)?)
 }
 
@@ -185,7 +185,7 @@ fn encode_report_of(
     ensures refused { IfErr result (λ f. (f ≡ fault.Memory) ⊎ IsMakingRefusal encode_report job.now f) }
     ensures printed { IfErr result (λ f. IsPrintedWith job.now.files f) }
 {
-    let request = request_of(alloc, dictionary, Some(secret), job)?;
+    let request = request_for(alloc, dictionary, Some(secret), job)?;
     let octets = encode_request(
         alloc,
         dictionary,
@@ -213,8 +213,8 @@ fn decode_report_of(
     ensures refused { IfErr result (λ f. (f ≡ fault.Memory) ⊎ IsMakingRefusal decode_report job.now f) }
     ensures printed { IfErr result (λ f. IsPrintedWith job.now.files f) }
 {
-    let request = request_of(alloc, dictionary, Some(secret), job)?;
-    Ok((text_of_packet(alloc, dictionary, &request)?, NO_RUN))
+    let request = request_for(alloc, dictionary, Some(secret), job)?;
+    Ok((packet_text(alloc, dictionary, &request)?, NO_RUN))
 }
 
 // The report of a job that reads a request, by its command.
@@ -259,7 +259,7 @@ fn check_report_of(alloc: Global, job: &Job) -> Result<(Vec<u8>, Outcome), Fault
     ensures refused { IfErr result (λ f. (f ≡ fault.Memory) ⊎ IsCheckRefusal job.now f) }
     ensures printed { IfErr result (λ f. IsPrintedWith job.now.files f) }
 {
-    let dictionary = dictionary_of(alloc, job)?;
+    let dictionary = dictionary_for(alloc, job)?;
     let size = size_of_policy(alloc, &dictionary, job)?;
     Ok((text_of_check(alloc, &job.files, &dictionary, size)?, NO_RUN))
 }

@@ -2,7 +2,7 @@
 
 ghost use Rattle.std.specs.Prelude.{◌≡◌};
 ghost use Rattle.radpolicy.specs.declared.faults.Fault.TheVariants.{Memory};
-ghost use Rattle.radpolicy.specs.Faults.{dict_number, dict_text, fault_number, fault_of_dict, fault_of_encode, fault_of_line, fault_of_packet, fault_of_policy, fault_text, is_memory, line_number, line_text, packet_number, packet_text, policy_number, policy_text, status_of};
+ghost use Rattle.radpolicy.specs.Faults.{dict_fault_number, dict_fault_text, fault_number, fault_of_dict, fault_of_encode, fault_of_line, fault_of_packet, fault_of_policy, fault_text, is_memory, line_fault_number, line_fault_text, packet_fault_number, packet_fault_text, policy_fault_number, policy_fault_text, status_of};
 
 use avp_dict::{DictFault, DictKind, LineFault, LineKind};
 use avp_packet::{EncodeFault, PacketFault};
@@ -105,8 +105,8 @@ impl<T: Drop> From<AllocFailed<T>> for Fault {
 const MEMORY: u8 = 9;
 
 // The number of a dictionary's fault.
-fn dict_number(kind: DictKind) -> u8
-    ensures { result ≡ dict_number kind }
+fn dict_fault_number(kind: DictKind) -> u8
+    ensures { result ≡ dict_fault_number kind }
 {
     match kind {
         DictKind::Unreadable => 10,
@@ -124,8 +124,8 @@ fn dict_number(kind: DictKind) -> u8
 }
 
 // What the line of a dictionary's fault says.
-fn dict_text(kind: DictKind) -> &'static str
-    ensures { result.now ≡ dict_text kind }
+fn dict_fault_text(kind: DictKind) -> &'static str
+    ensures { result.now ≡ dict_fault_text kind }
 {
     match kind {
         DictKind::Unreadable => "unreadable line",
@@ -143,8 +143,8 @@ fn dict_text(kind: DictKind) -> &'static str
 }
 
 // The number of a request line's fault.
-fn line_number(kind: LineKind) -> u8
-    ensures { result ≡ line_number kind }
+fn line_fault_number(kind: LineKind) -> u8
+    ensures { result ≡ line_fault_number kind }
 {
     match kind {
         LineKind::NotValue => 30,
@@ -159,8 +159,8 @@ fn line_number(kind: LineKind) -> u8
 }
 
 // What the line of a request line's fault says.
-fn line_text(kind: LineKind) -> &'static str
-    ensures { result.now ≡ line_text kind }
+fn line_fault_text(kind: LineKind) -> &'static str
+    ensures { result.now ≡ line_fault_text kind }
 {
     match kind {
         LineKind::NotValue => "not a value",
@@ -175,8 +175,8 @@ fn line_text(kind: LineKind) -> &'static str
 }
 
 // The number of a packet's fault.
-fn packet_number(fault: PacketFault) -> u8
-    ensures { result ≡ packet_number fault }
+fn packet_fault_number(fault: PacketFault) -> u8
+    ensures { result ≡ packet_fault_number fault }
 {
     match fault {
         PacketFault::TooShort => 40,
@@ -191,8 +191,8 @@ fn packet_number(fault: PacketFault) -> u8
 }
 
 // What the line of a packet's fault says.
-fn packet_text(fault: PacketFault) -> &'static str
-    ensures { result.now ≡ packet_text fault }
+fn packet_fault_text(fault: PacketFault) -> &'static str
+    ensures { result.now ≡ packet_fault_text fault }
 {
     match fault {
         PacketFault::TooShort => "fewer than 20 octets",
@@ -207,8 +207,8 @@ fn packet_text(fault: PacketFault) -> &'static str
 }
 
 // The number of a policy's fault.
-fn policy_number(kind: PolicyKind) -> u8
-    ensures { result ≡ policy_number kind }
+fn policy_fault_number(kind: PolicyKind) -> u8
+    ensures { result ≡ policy_fault_number kind }
 {
     match kind {
         PolicyKind::NotValue => 30,
@@ -225,8 +225,8 @@ fn policy_number(kind: PolicyKind) -> u8
 }
 
 // What the line of a policy's fault says.
-fn policy_text(kind: PolicyKind) -> &'static str
-    ensures { result.now ≡ policy_text kind }
+fn policy_fault_text(kind: PolicyKind) -> &'static str
+    ensures { result.now ≡ policy_fault_text kind }
 {
     match kind {
         PolicyKind::NotValue => "not a value",
@@ -257,11 +257,11 @@ impl Fault {
             Fault::ScriptWord { .. } => 6,
             Fault::Write => 7,
             Fault::Memory => MEMORY,
-            Fault::Dictionary(fault) => dict_number(fault.kind),
-            Fault::Request(fault) => line_number(fault.kind),
-            Fault::Packet(fault) => packet_number(fault),
+            Fault::Dictionary(fault) => dict_fault_number(fault.kind),
+            Fault::Request(fault) => line_fault_number(fault.kind),
+            Fault::Packet(fault) => packet_fault_number(fault),
             Fault::PacketTooLong => 46,
-            Fault::Policy(fault) => policy_number(fault.kind),
+            Fault::Policy(fault) => policy_fault_number(fault.kind),
         }
     }
 
@@ -279,11 +279,11 @@ impl Fault {
             Fault::ScriptWord { .. } => "unknown script word",
             Fault::Write => "write fault",
             Fault::Memory => "out of memory",
-            Fault::Dictionary(fault) => dict_text(fault.kind),
-            Fault::Request(fault) => line_text(fault.kind),
-            Fault::Packet(fault) => packet_text(fault),
+            Fault::Dictionary(fault) => dict_fault_text(fault.kind),
+            Fault::Request(fault) => line_fault_text(fault.kind),
+            Fault::Packet(fault) => packet_fault_text(fault),
             Fault::PacketTooLong => "packet too long",
-            Fault::Policy(fault) => policy_text(fault.kind),
+            Fault::Policy(fault) => policy_fault_text(fault.kind),
         }
     }
 

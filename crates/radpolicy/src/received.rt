@@ -42,7 +42,7 @@ fn without_spaces(alloc: Global, text: &[u8]) -> Result<Vec<u8>, AllocError>
 
 // The octets that hexadecimal digits stand for.
 #[tactic(auto, unfolding(crate::specs::Received::hex_octets))]
-fn octets_of_hex(alloc: Global, text: &[u8]) -> Result<Option<Vec<u8>>, AllocError>
+fn hex_octets(alloc: Global, text: &[u8]) -> Result<Option<Vec<u8>>, AllocError>
     ensures none { result ≡ Ok None → hex_octets text.now ≡ None }
     ensures some { IfOk result (λ octets. IfSome octets (λ os. hex_octets text.now ≡ Some os.items)) }
 {
@@ -70,7 +70,7 @@ fn packet_of_hex(
     ensures refused { IfErr result (λ f. (f ≡ fault.Memory) ⊎ IsUnread f (packet_for dictionary.now secret.now (hex_octets job.now.request))) }
     ensures printed { IfErr result (λ f. IsPrintedWith job.now.files f) }
 {
-    let Some(octets) = octets_of_hex(alloc, job.request.as_slice())? else {
+    let Some(octets) = hex_octets(alloc, job.request.as_slice())? else {
         return Err(Fault::NotHex);
     };
     match decode(alloc, dictionary, secret, &octets) {
@@ -106,7 +106,7 @@ fn packet_of_lines(
 }
 
 /// The request of a job, by its form. A request in hexadecimal digits wants a secret.
-pub(crate) fn request_of(
+pub(crate) fn request_for(
     alloc: Global,
     dictionary: &Dictionary,
     secret: Option<&[u8]>,

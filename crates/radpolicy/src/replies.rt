@@ -171,7 +171,7 @@ fn reply_pairs(last: Code, reply: &[Pair]) -> &[Pair]
 
 /// The reply packet of a run that ended with this code and this reply list, if it sends one.
 #[tactic(auto, unfolding(crate::specs::internal::ReplyHeads::answered_by), using(crate::proofs::PacketRoom::is_within, crate::proofs::PacketRoom::is_too_long))]
-pub(crate) fn reply_of(
+pub(crate) fn answered_by(
     alloc: Global,
     dictionary: &Dictionary,
     head: &ReplyHead<'_>,

@@ -145,7 +145,7 @@ pub(crate) fn push_no_packet(text: &mut Vec<u8>) -> Result<(), AllocError>
 }
 
 /// The head of a packet, and the request list.
-pub(crate) fn text_of_packet(
+pub(crate) fn packet_text(
     alloc: Global,
     dictionary: &Dictionary,
     packet: &Packet,

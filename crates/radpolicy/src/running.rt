@@ -20,7 +20,7 @@ ghost use Rattle.radpolicy.specs.declared.faults.Fault.TheVariants as fault;
 
 use crate::faults::Fault;
 use crate::jobs::{Form, Outcome};
-use crate::replies::{ReplyHead, reply_head, reply_of};
+use crate::replies::{ReplyHead, answered_by, reply_head};
 use crate::reports::{push_no_packet, push_packet, text_of_run};
 use avp_dict::Dictionary;
 use avp_lists::{List, Pair, SlotStore, Store};
@@ -67,7 +67,7 @@ fn push_reply(
     ensures read { OnOk result (AnswerIsRead dictionary.now head.now last reply.now) }
 {
     let alloc = *text.allocator();
-    match reply_of(alloc, dictionary, head, last, reply) {
+    match answered_by(alloc, dictionary, head, last, reply) {
         Ok(Some(octets)) => Ok(push_packet(text, &octets)?),
         Ok(None) => Ok(push_no_packet(text)?),
         Err(fault) => Err(fault),

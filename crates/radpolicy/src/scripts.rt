@@ -40,7 +40,7 @@ fn word_named(word: &[u8]) -> Option<ScriptWord>
 
 // What words stand for; none where one is unknown.
 #[tactic(auto, using(crate::proofs::ScriptWords::none_read, crate::proofs::ScriptWords::next_word, crate::proofs::ScriptWords::next_unknown, crate::proofs::ScriptWords::no_more_words))]
-fn words_of_texts(alloc: Global, texts: &[&[u8]]) -> Result<Option<Vec<ScriptWord>>, AllocError>
+fn words_named(alloc: Global, texts: &[&[u8]]) -> Result<Option<Vec<ScriptWord>>, AllocError>
     ensures none { result ≡ Ok None → words_named (map (λ text. text.now) texts.now) ≡ None }
     ensures some { IfOk result (λ found. IfSome found (λ words. words_named (map (λ text. text.now) texts.now) ≡ Some words.items)) }
 {
@@ -60,7 +60,7 @@ fn words_of_line(alloc: Global, line: &[u8]) -> Result<Option<Vec<ScriptWord>>, 
     ensures some { IfOk result (λ found. IfSome found (λ words. words_named (line_words line.now) ≡ Some words.items)) }
 {
     let texts = words_between_blanks(alloc, line)?;
-    words_of_texts(alloc, &texts)
+    words_named(alloc, &texts)
 }
 
 /// The words of a script. The first unknown one is refused, with its line.

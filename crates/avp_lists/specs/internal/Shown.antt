@@ -55,8 +55,8 @@ abbrev pub pairs_at : End → WhichList → List Pair → List Slot → List Pai
 pairs_at end which pool c = map (pair_of pool) (filter (shows_at end which) c)
 
 -- the pairs of a list: those that entered at its head, the last one first, and then those that entered at its tail
-abbrev pub pairs_of : WhichList → List Pair → List Slot → List Pair
-pairs_of which pool c = reverse (pairs_at Head which pool c) ++ pairs_at Tail which pool c
+abbrev pub shown_pairs : WhichList → List Pair → List Slot → List Pair
+shown_pairs which pool c = reverse (pairs_at Head which pool c) ++ pairs_at Tail which pool c
 
 -- the slots whose pairs come before that of a slot, which entered at this end and lies between these
 abbrev pub ahead : End → List Slot → List Slot → List Slot
@@ -68,4 +68,4 @@ ahead_at i c = ahead (slot_at c i).end (take i c) (drop (i + 1) c)
 
 -- the state that the slots show
 abbrev pub state_of : List Pair → List Slot → State
-state_of pool c = record { request = pairs_of Request pool c; reply = pairs_of Reply pool c; control = pairs_of Control pool c }
+state_of pool c = record { request = shown_pairs Request pool c; reply = shown_pairs Reply pool c; control = shown_pairs Control pool c }

@@ -4,7 +4,7 @@ use Rattle.avp_lists.specs.declared.attributes.Pair.{Pair}
 use Rattle.avp_packet.specs.declared.packets.Packet.{Packet}
 use Rattle.avp_packet.specs.Meanings.{meaning}
 use Rattle.avp_packet.specs.Means.{Means}
-use Rattle.avp_packet.specs.Packets.{attributes_of, hiding_authenticator, is_length, length_of}
+use Rattle.avp_packet.specs.Packets.{attributes_of, hiding_authenticator, is_packet_length, length_of}
 use Rattle.avp_packet.specs.Splitting.{left, parts}
 use Rattle.avp_packet.proofs.OneMeaning.{meant_by, ok_by, only_by}
 use Rattle.avp_packet.proofs.Refused.{decoded_bad}
@@ -14,8 +14,8 @@ pub returns-in-Err-clause-read : goal.returns-in-Err-clause-read
 returns-in-Err-clause-read c =
     let os = c.args.octets.now in
     let long : nat_lt (length os) 20 ≡ false = grind (arith, common_steps) in
-    let ranged : is_length (length_of os) ≡ true = cc (c.is_packet_length.ensures, c.if-not-is_packet_length.false, c.length_in-length.ensures) in
-    let same : c.length_in-length.result ≡ length_of os = c.length_in-length.ensures in
+    let ranged : is_packet_length (length_of os) ≡ true = cc (c.is_packet_length.ensures, c.if-not-is_packet_length.false, c.length_of-length.ensures) in
+    let same : c.length_of-length.result ≡ length_of os = c.length_of-length.ensures in
     let here : length_of os < length os + 1 = omega arith in
     let whole : nat_lt (length os) (length_of os) ≡ false = grind (arith, common_steps) in
     let attributes : c.attributes_in.result.now ≡ attributes_of os = c.attributes_in.ensures ∙ ap (λ n. drop 20 (take n os)) same in

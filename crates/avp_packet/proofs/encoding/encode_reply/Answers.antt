@@ -35,7 +35,7 @@ unfolding reply
 returns-clause-octets c =
     let content : Content = reply_content c.args.signed c.args.list.now c.args.proxy_states.now in
     let made : c.in_ok-octets.octets.items ≡ packet c.args.code c.args.id (digest_over c.args.code c.args.id c.args.request_authenticator.now c.in_ok-attributes.attributes.items c.args.secret.now) c.in_ok-attributes.attributes.items =
-    cc (c.in_ok-octets.ensures, c.digest_of_packet-authenticator.ensures, c.deref.ensures.value, c.deref-2.ensures.value) in
+    cc (c.in_ok-octets.ensures, c.digest_over-authenticator.ensures, c.deref.ensures.value, c.deref-2.ensures.value) in
     made ∙ ap (λ (os : List ℕ). packet c.args.code c.args.id (digest_over c.args.code c.args.id c.args.request_authenticator.now os c.args.secret.now) os)
     (c.in_ok-attributes.ensures.octets ∙ sym (signed_octets c.args.dictionary.now c.args.secret.now c.args.code c.args.id c.args.request_authenticator.now content c.divide_reply-division.result c.divide_reply-division.ensures.divided))
 
@@ -51,7 +51,7 @@ pub returns-clause-accepted : goal.returns-clause-accepted
 returns-clause-accepted c =
     let attributes = c.in_ok-attributes.attributes.items in
     let made : c.in_ok-octets.octets.items ≡ packet c.args.code c.args.id (digest_over c.args.code c.args.id c.args.request_authenticator.now attributes c.args.secret.now) attributes =
-    cc (c.in_ok-octets.ensures, c.digest_of_packet-authenticator.ensures, c.deref.ensures.value, c.deref-2.ensures.value) in
+    cc (c.in_ok-octets.ensures, c.digest_over-authenticator.ensures, c.deref.ensures.value, c.deref-2.ensures.value) in
     rw made (is_reply-packet c.args.code c.args.id c.args.request_authenticator.now attributes c.args.secret.now c.in_ok-attributes.ensures.short)
 
 pub returns-clause-whole : goal.returns-clause-whole
@@ -60,7 +60,7 @@ returns-clause-whole c =
     let attributes = c.in_ok-attributes.attributes.items in
     let digest = digest_over c.args.code c.args.id c.args.request_authenticator.now attributes c.args.secret.now in
     let made : c.in_ok-octets.octets.items ≡ packet c.args.code c.args.id digest attributes =
-    cc (c.in_ok-octets.ensures, c.digest_of_packet-authenticator.ensures, c.deref.ensures.value, c.deref-2.ensures.value) in
+    cc (c.in_ok-octets.ensures, c.digest_over-authenticator.ensures, c.deref.ensures.value, c.deref-2.ensures.value) in
     let apart = attributes_of-packet c.args.code c.args.id digest attributes (length-digest_over c.args.code c.args.id c.args.request_authenticator.now attributes c.args.secret.now) c.in_ok-attributes.ensures.short in
     ap left (ap attributes_of made ∙ apart ∙ c.in_ok-attributes.ensures.octets)
     ∙ laid_whole c.args.dictionary.now c.args.secret.now c.args.code c.args.id c.args.request_authenticator.now content c.divide_reply-division.result c.divide_reply-division.ensures.divided _
@@ -74,7 +74,7 @@ returns-clause-means c = λ clean too.
     let attributes = c.in_ok-attributes.attributes.items in
     let digest = digest_over c.args.code c.args.id c.args.request_authenticator.now attributes c.args.secret.now in
     let made : c.in_ok-octets.octets.items ≡ packet c.args.code c.args.id digest attributes =
-    cc (c.in_ok-octets.ensures, c.digest_of_packet-authenticator.ensures, c.deref.ensures.value, c.deref-2.ensures.value) in
+    cc (c.in_ok-octets.ensures, c.digest_over-authenticator.ensures, c.deref.ensures.value, c.deref-2.ensures.value) in
     let apart = attributes_of-packet c.args.code c.args.id digest attributes (length-digest_over c.args.code c.args.id c.args.request_authenticator.now attributes c.args.secret.now) c.in_ok-attributes.ensures.short in
     let laid = c.in_ok-attributes.ensures.octets ∙ sym (signed_octets dictionary c.args.secret.now c.args.code c.args.id c.args.request_authenticator.now content division c.divide_reply-division.ensures.divided) in
     meant_by dictionary c.args.secret.now by (parts (attributes_of c.in_ok-octets.octets.items)) _ (
@@ -98,7 +98,7 @@ returns-clause-signed c = λ is.
     let attributes = c.in_ok-attributes.attributes.items in
     let digest = digest_over code id own attributes secret in
     let made : c.in_ok-octets.octets.items ≡ packet code id digest attributes =
-    cc (c.in_ok-octets.ensures, c.digest_of_packet-authenticator.ensures, c.deref.ensures.value, c.deref-2.ensures.value) in
+    cc (c.in_ok-octets.ensures, c.digest_over-authenticator.ensures, c.deref.ensures.value, c.deref-2.ensures.value) in
     let laid : attributes ≡ octets signature = c.in_ok-attributes.ensures.octets in
     let kept = c.divide_reply-division.ensures.kept (λ (p : Pair). fits p dictionary) c.requires.fits in
     let signing = divided.signed ∙ is in

@@ -5,5 +5,5 @@ use Rattle.avp_packet.proofs.hiding.hide.Goals as goal
 
 pub returns-clause-shown : goal.returns-clause-shown
 returns-clause-shown c =
-    let good : is_hideable c.args.password.now ≡ true = cc (c.can_be_hidden.ensures.test, c.if-not-can_be_hidden.false) in
-    rw c.in_ok-hide_short.ensures (shown-hidden c.args.secret.now c.args.authenticator.now c.args.password.now good)
+    let good : is_hideable c.args.password.now ≡ true = cc (c.is_hideable.ensures.test, c.if-not-is_hideable.false) in
+    rw c.in_ok-hidden.ensures (shown-hidden c.args.secret.now c.args.authenticator.now c.args.password.now good)

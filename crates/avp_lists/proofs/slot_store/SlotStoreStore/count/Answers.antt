@@ -2,7 +2,7 @@ use Rattle.std.proofs.Common.{List, length, sym, ap, ◌∙◌}
 use Rattle.std.specs.List.{filter}
 use Rattle.avp_lists.specs.declared.slots.Slot.{Slot}
 use Rattle.avp_lists.specs.internal.Shown.{shows}
-use Rattle.avp_lists.proofs.ShownPairs.{present-list, length-pairs_of}
+use Rattle.avp_lists.proofs.ShownPairs.{present-list, length-shown_pairs}
 use Rattle.avp_lists.proofs.slot_store.SlotStoreStore.count.Goals as goal
 
 pub returns : goal.returns
@@ -11,5 +11,5 @@ returns c =
     let which = c.args.list in
     c.count_shown.ensures
     ∙ ap (λ (xs : List Slot). length (filter (shows which) xs)) c.deref.ensures.value
-    ∙ sym (length-pairs_of which s.pool.items s.slots.items)
+    ∙ sym (length-shown_pairs which s.pool.items s.slots.items)
     ∙ sym (ap length (present-list which s.pool.items s.slots.items s.steps.items s.place s.placed s.standing))

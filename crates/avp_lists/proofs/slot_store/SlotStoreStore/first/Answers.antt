@@ -3,7 +3,7 @@ use Rattle.std.specs.List.{find}
 use Rattle.avp_lists.specs.declared.attributes.Pair.{Pair}
 use Rattle.avp_lists.specs.declared.slots.Slot.{Slot}
 use Rattle.avp_lists.specs.Instances.{has_id}
-use Rattle.avp_lists.specs.internal.Shown.{pairs_of}
+use Rattle.avp_lists.specs.internal.Shown.{shown_pairs}
 use Rattle.avp_lists.proofs.Fronts.{find-front}
 use Rattle.avp_lists.proofs.ShownPairs.{present-list}
 use Rattle.avp_lists.proofs.slot_store.SlotStoreStore.first.Goals as goal
@@ -14,6 +14,6 @@ returns c =
     let which = c.args.list in
     let id = c.args.id in
     c.first_shown.ensures
-    ∙ ap₂ (λ (p : List Pair) (xs : List Slot). find (has_id id) (pairs_of which p xs)) c.deref-2.ensures.value c.deref.ensures.value
+    ∙ ap₂ (λ (p : List Pair) (xs : List Slot). find (has_id id) (shown_pairs which p xs)) c.deref-2.ensures.value c.deref.ensures.value
     ∙ ap (find (has_id id)) (sym (present-list which s.pool.items s.slots.items s.steps.items s.place s.placed s.standing))
     ∙ find-front (has_id id) _

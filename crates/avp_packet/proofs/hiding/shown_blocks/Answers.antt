@@ -1,7 +1,7 @@
 use Rattle.std.proofs.Common.{append_assoc, append-nil, arith, ◌/◌, ◌≤◌, length, take}
 use Rattle.avp_packet.specs.Hiding.{shown_blocks}
 use Rattle.avp_packet.proofs.Masks.{shown_blocks_more, shown_blocks_none}
-use Rattle.avp_packet.proofs.hiding.show_blocks.Goals as goal
+use Rattle.avp_packet.proofs.hiding.shown_blocks.Goals as goal
 
 pub loop-block-preserved : goal.loop-block-preserved
 loop-block-preserved c =
@@ -13,7 +13,7 @@ loop-block-preserved c =
       cases.0,
       cases.1,
       shown_blocks_more c.args.secret.now c.loop-block.before rest long,
-      append_assoc c.loop-block.octets.items c.masked_block.result (shown_blocks (length after / 16) c.args.secret.now (take 16 rest) after),
+      append_assoc c.loop-block.octets.items c.masked.result (shown_blocks (length after / 16) c.args.secret.now (take 16 rest) after),
       c.in_ok-extend_from_slice.ensures.items,
       c.loop-block.invariant,
     )

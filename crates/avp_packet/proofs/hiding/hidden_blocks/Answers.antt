@@ -1,14 +1,14 @@
 use Rattle.std.proofs.Common.{append_assoc, append-nil, arith, ◌/◌, ◌≤◌, length}
 use Rattle.avp_packet.specs.Hiding.{hidden_blocks}
 use Rattle.avp_packet.proofs.Masks.{hidden_blocks_more, hidden_blocks_none}
-use Rattle.avp_packet.proofs.hiding.hide_blocks.Goals as goal
+use Rattle.avp_packet.proofs.hiding.hidden_blocks.Goals as goal
 
 pub loop-block-preserved : goal.loop-block-preserved
 loop-block-preserved c =
     let cases = c.in-Some.ensures.cases in
     let rest = c.loop-block.rest.now in
     let long : 16 ≤ length rest = omega (arith, cases.2) in
-    let before = c.masked_block-before.result in
+    let before = c.masked-before.result in
     let after = c.in-Some.after.now in
     cc (
       cases.0,

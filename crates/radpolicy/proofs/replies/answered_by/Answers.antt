@@ -3,7 +3,7 @@ use Rattle.avp_dict.specs.Sent.{is_clean}
 use Rattle.radpolicy.proofs.Replying.{reply_clean}
 use Rattle.radpolicy.proofs.ReplyReads.{nothing_read, sent_read}
 use Rattle.radpolicy.specs.Replies.{reply_code, reply_pairs}
-use Rattle.radpolicy.proofs.replies.reply_of.Goals as goal
+use Rattle.radpolicy.proofs.replies.answered_by.Goals as goal
 
 pub returns-in_default-clause-read : goal.returns-in_default-clause-read
 returns-in_default-clause-read c =

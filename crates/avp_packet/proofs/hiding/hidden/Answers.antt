@@ -1,7 +1,7 @@
 use Rattle.std.proofs.Common.{◌≡◌, ◌/◌, length}
 use Rattle.avp_packet.specs.Hiding.{hidden_blocks}
 use Rattle.avp_packet.proofs.Nuls.{hidden_by}
-use Rattle.avp_packet.proofs.hiding.hide_short.Goals as goal
+use Rattle.avp_packet.proofs.hiding.hidden.Goals as goal
 
 pub returns : goal.returns
 returns c =

@@ -1,6 +1,6 @@
 use Rattle.std.proofs.Common.{rules, arith}
 use Rattle.avp_unlang.proofs.Typed.{read_none, read_some, read_typed}
-use Rattle.avp_unlang.proofs.resolving.typed_value.Goals as goal
+use Rattle.avp_unlang.proofs.resolving.read_value.Goals as goal
 
 pub returns-in-Raw-clause-read : goal.returns-in-Raw-clause-read
 returns-in-Raw-clause-read c = read_none c.args.dictionary.now c.args.id c.args.octets.now c.in_ok-value.value (search rules) (search rules)

@@ -1,6 +1,6 @@
 use Rattle.std.proofs.Common.{arith}
 use Rattle.avp_packet.proofs.Masks.{masked_more}
-use Rattle.avp_packet.proofs.hiding.masked_block.Goals as goal
+use Rattle.avp_packet.proofs.hiding.masked.Goals as goal
 
 pub loop-place-preserved : goal.loop-place-preserved
 loop-place-preserved g c =
