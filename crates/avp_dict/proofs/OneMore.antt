@@ -10,7 +10,7 @@ use Rattle.avp_dict.specs.declared.faults.LineError.TheVariants.{Memory, Refused
 use Rattle.avp_dict.specs.declared.file.meanings.Reading.{Reading as CodeReading}
 use Rattle.avp_dict.specs.declared.faults.DictFault.{DictFault}
 use Rattle.avp_dict.specs.Lines.{Line}
-use Rattle.avp_dict.specs.Meanings.{Context, Meaning, Reading, after_line, context_of, no_context}
+use Rattle.avp_dict.specs.Meanings.{Context, Meaning, Reading, after_reading, context_of, no_context}
 use Rattle.avp_dict.specs.Outcomes.{If, Refuses, is_memory, want_of_memory}
 use Rattle.avp_dict.specs.Readings.{read_line, read_lines, within}
 use Rattle.avp_dict.specs.Steps.{refused_at, ◌>>=◌}
@@ -18,9 +18,9 @@ use Rattle.avp_dict.specs.internal.Meanings.{reading_view, reading_views}
 use Rattle.avp_dict.specs.internal.Outcomes.{Fails}
 use Rattle.avp_dict.specs.internal.Refused.{fault_at}
 
-pub context_of_push : (lines : List Reading) (r : Reading) → context_of (lines ++ r ∷ []) ≡ after_line (context_of lines) r
+pub context_of_push : (lines : List Reading) (r : Reading) → context_of (lines ++ r ∷ []) ≡ after_reading (context_of lines) r
 unfolding context_of
-context_of_push lines r = fold_push after_line no_context lines r
+context_of_push lines r = fold_push after_reading no_context lines r
 
 pub context_of_none : context_of [] ≡ no_context
 unfolding context_of
@@ -63,7 +63,7 @@ read_within limit before read m h =
     (ltb-true (length before) limit parts.0, parts.1)
 
 -- what a line leaves for the next one
-pub context_after : (before : List Reading) (was now : Context) (r : Reading) (after : List Reading) → was ≡ context_of before → now ≡ after_line was r → after ≡ before ++ r ∷ [] → now ≡ context_of after
+pub context_after : (before : List Reading) (was now : Context) (r : Reading) (after : List Reading) → was ≡ context_of before → now ≡ after_reading was r → after ≡ before ++ r ∷ [] → now ≡ context_of after
 context_after before was now r after is_was is_now is_after = rw (is_after, context_of_push, ← is_was) is_now
 
 -- the refusal of a line is what its definition gives

@@ -15,7 +15,7 @@ use Rattle.avp_dict.specs.Names.{named}
 use Rattle.avp_dict.specs.Lines.{texts_of}
 use Rattle.avp_dict.specs.RequestLines.{Assignment, Token, Comma, Sign, Run, assigned, assignments_of, is_blank_line, is_idle_line, joined, packet_assignments, pairs_of, tokens_at, value_text, without_front}
 use Rattle.avp_dict.specs.Requests.{few_enough, pair_named, pair_spelled, pairs_spelled, request_spelled}
-use Rattle.avp_dict.specs.internal.LineReading.{IsRefused, RefusesLine, after_pairs, assigned_after, packet_pairs, pair_of_token, pairs_after, pairs_at}
+use Rattle.avp_dict.specs.internal.LineReading.{IsNoRequest, RefusesLine, after_pairs, assigned_after, packet_pairs, pair_of_token, pairs_after, pairs_at}
 use Rattle.avp_dict.specs.internal.RequestTokens.{side_after, token_view}
 
 -- ---- one list after another
@@ -162,13 +162,13 @@ unfolding after_pairs
 after_more pairs pair others = sym (joined_assoc (Some pairs) (Some (pair ∷ [])) others)
 
 -- there is none here, and the pairs before it are those of the whole
-pub none_refused : (before pairs : List Pair) (whole here : Option (List Pair)) → after_pairs pairs here ≡ after_pairs before whole → here ≡ None → IsRefused before whole
-unfolding IsRefused
+pub none_refused : (before pairs : List Pair) (whole here : Option (List Pair)) → after_pairs pairs here ≡ after_pairs before whole → here ≡ None → IsNoRequest before whole
+unfolding IsNoRequest
 none_refused before pairs whole here same none = λ more. rw (← same, after_none pairs here none)
 
 -- one pair more than a list may have
-pub many_refused : (before pairs : List Pair) (whole here after : Option (List Pair)) (pair : Pair) → after_pairs pairs here ≡ after_pairs before whole → here ≡ after_pairs (pair ∷ []) after → length pairs ≡ max_pairs → IsRefused before whole
-unfolding IsRefused after_pairs
+pub many_refused : (before pairs : List Pair) (whole here after : Option (List Pair)) (pair : Pair) → after_pairs pairs here ≡ after_pairs before whole → here ≡ after_pairs (pair ∷ []) after → length pairs ≡ max_pairs → IsNoRequest before whole
+unfolding IsNoRequest after_pairs
 many_refused before pairs whole here None pair same one full = λ more. rw (← same, one)
 many_refused before pairs whole here (Some ps) pair same one full = λ more. rw (← same, one) (go more)
   where
@@ -208,8 +208,8 @@ module _ (text : List ℕ) (d : Dictionary) (pairs : List Pair) (lines : List (L
   request_fails end = rw (← read, after_none pairs (packet_pairs d lines) end)
 
 -- a line is refused
-pub request_refused : (text : List ℕ) (d : Dictionary) (pairs : List Pair) (line : List ℕ) (lines : List (List ℕ)) → after_pairs pairs (packet_pairs d (line ∷ lines)) ≡ packet_pairs d (without_front is_idle_line (texts_of text)) → is_blank_line line ≡ false → IsRefused pairs (pairs_at d (tokens_at Name line)) → request_spelled text d ≡ None
-unfolding request_spelled assignments_of packet_pairs IsRefused after_pairs
+pub request_refused : (text : List ℕ) (d : Dictionary) (pairs : List Pair) (line : List ℕ) (lines : List (List ℕ)) → after_pairs pairs (packet_pairs d (line ∷ lines)) ≡ packet_pairs d (without_front is_idle_line (texts_of text)) → is_blank_line line ≡ false → IsNoRequest pairs (pairs_at d (tokens_at Name line)) → request_spelled text d ≡ None
+unfolding request_spelled assignments_of packet_pairs IsNoRequest after_pairs
 request_refused text d pairs line lines read filled h =
     rw (← read, packet_line d line lines filled, ← joined_assoc (Some pairs) (pairs_at d (tokens_at Name line)) (packet_pairs d lines)) (h (packet_pairs d lines))
 

@@ -13,9 +13,9 @@ use Rattle.avp_dict.proofs.Cuts.{found_within}
 use Rattle.avp_dict.proofs.OneMore.{then_both}
 use Rattle.avp_dict.specs.Blocks.{innermost}
 use Rattle.avp_dict.specs.Dictionary.{Dictionary, id_named}
-use Rattle.avp_dict.specs.DictionaryReading.{dictionary_of, outline_of, settled, unless_open}
+use Rattle.avp_dict.specs.DictionaryReading.{dictionary_of, outline_of, settled_dictionary, unless_open}
 use Rattle.avp_dict.specs.Lines.{Line, expanded, file_included, file_named, has_name, included_by, lines_below, lines_in, lines_of, octets_at, texts_of}
-use Rattle.avp_dict.specs.Meanings.{Meaning, Value, BeginVendor, BeginTlv, End, Reading, Context, after_line, context_of, no_context}
+use Rattle.avp_dict.specs.Meanings.{Meaning, Value, BeginVendor, BeginTlv, End, Reading, Context, after_reading, context_of, no_context}
 use Rattle.avp_dict.specs.Outcomes.{If, Refuses, is_memory, want_of_memory}
 use Rattle.avp_dict.specs.Readings.{read_line, read_lines, within}
 use Rattle.avp_dict.specs.Settled.{skipped_names}
@@ -83,15 +83,15 @@ module _ (n : ℕ) where
       let r : Reading = record { file = line.file; line = line.number; meaning = meaning } in
       read_lines_in limit files (before ++ r ∷ []) lines (All-push (IsIn n) before r were (All-head (IsLineIn n) line lines are)) (All-tail (IsLineIn n) line lines are))
 
-  after_line_in : (context : Context) (file line : ℕ) (m : Meaning) → All (IsIn n) context.opened → file < n → All (IsIn n) (after_line context (record { file = file; line = line; meaning = m })).opened
+  after_line_in : (context : Context) (file line : ℕ) (m : Meaning) → All (IsIn n) context.opened → file < n → All (IsIn n) (after_reading context (record { file = file; line = line; meaning = m })).opened
   after_line_in context file line (BeginVendor name v) are is = All-push (IsIn n) context.opened (record { file = file; line = line; meaning = BeginVendor name v }) are is
   after_line_in context file line (BeginTlv name) are is = All-push (IsIn n) context.opened (record { file = file; line = line; meaning = BeginTlv name }) are is
   after_line_in context file line (End noted) are is = All-take (IsIn n) (length context.opened - 1) context.opened are
   after_line_in context file line _ are is = are
 
-  fold_in : (context : Context) (readings : List Reading) → All (IsIn n) context.opened → All (IsIn n) readings → All (IsIn n) (fold after_line context readings).opened
+  fold_in : (context : Context) (readings : List Reading) → All (IsIn n) context.opened → All (IsIn n) readings → All (IsIn n) (fold after_reading context readings).opened
   fold_in context [] were are = were
-  fold_in context (r ∷ rs) were are = fold_in (after_line context r) rs (after_line_in context r.file r.line r.meaning were (All-head (IsIn n) r rs are)) (All-tail (IsIn n) r rs are)
+  fold_in context (r ∷ rs) were are = fold_in (after_reading context r) rs (after_line_in context r.file r.line r.meaning were (All-head (IsIn n) r rs are)) (All-tail (IsIn n) r rs are)
 
   opened_in : (readings : List Reading) → All (IsIn n) readings → All (IsIn n) (context_of readings).opened
   unfolding context_of
@@ -126,8 +126,8 @@ module _ (n : ℕ) where
       (with_line_in skipped dictionary r r.meaning refl were (All-head (IsIn n) r rs are))
       (λ more now. resolve_in skipped more rs now (All-tail (IsIn n) r rs are)) (λ e h. h)
 
-  settled_in : (readings : List Reading) → All (IsIn n) readings → IsDictionaryIn n (settled readings)
-  unfolding settled
+  settled_in : (readings : List Reading) → All (IsIn n) readings → IsDictionaryIn n (settled_dictionary readings)
+  unfolding settled_dictionary
   settled_in readings are = resolve_in (skipped_names (context_of readings).vendors readings) (outline_of (context_of readings)) readings (All-nil (IsNoteIn n)) are
 
 pub dictionary_in : (limit : ℕ) (files : List NamedFile) → 0 < length files → IsDictionaryIn (length files) (dictionary_of limit files)

@@ -18,8 +18,8 @@ use Rattle.avp_dict.proofs.OneMore.{then_both}
 use Rattle.avp_dict.proofs.SoundLines.{AllRead, AreRead, IsReadAttribute, is_ranged, none_read, read_lines_read}
 use Rattle.avp_dict.specs.Blocks.{innermost}
 use Rattle.avp_dict.specs.Dictionary.{Dictionary, id_named, number_named, typing_of_id}
-use Rattle.avp_dict.specs.DictionaryReading.{dictionary_of, outline_of, settled, unless_open}
-use Rattle.avp_dict.specs.Letters.{is_word_octet, max_name}
+use Rattle.avp_dict.specs.DictionaryReading.{dictionary_of, outline_of, settled_dictionary, unless_open}
+use Rattle.avp_dict.specs.Letters.{is_value_name_octet, max_name}
 use Rattle.avp_dict.specs.Limits.{is_known}
 use Rattle.avp_dict.specs.Lines.{lines_of}
 use Rattle.avp_dict.specs.Meanings.{Meaning, Value, Reading, Context, context_of}
@@ -81,7 +81,7 @@ value_more values new are is =
 no_number : (name : List ℕ) → not (is_value_name name) ≡ false → reads_as_number name ≡ false
 unfolding is_value_name
 no_number name h =
-    not-true (reads_as_number name) (and_parts (list_all is_word_octet name && nat_le (length name) max_name) (not (reads_as_number name)) (not-false (is_value_name name) h)).1
+    not-true (reads_as_number name) (and_parts (list_all is_value_name_octet name && nat_le (length name) max_name) (not (reads_as_number name)) (not-false (is_value_name name) h)).1
 
 -- what a line adds is sound
 abbrev AddsSound : List ValueLine → Result (Option ValueLine) DictKind → Type 0
@@ -149,8 +149,8 @@ resolve_sound skipped d [] sound = sound
 resolve_sound skipped d (r ∷ rs) sound =
     then_both AllSound AllSound (with_line skipped d r) _ (line_sound skipped d sound r r.meaning refl) (λ more is. resolve_sound skipped more rs is) (λ e h. tt)
 
-settled_sound : (readings : List Reading) → AreRead (context_of readings) → AllSound (settled readings)
-unfolding settled
+settled_sound : (readings : List Reading) → AreRead (context_of readings) → AllSound (settled_dictionary readings)
+unfolding settled_dictionary
 settled_sound readings are = resolve_sound (skipped_names (context_of readings).vendors readings) (outline_of (context_of readings)) readings (outline_sound (context_of readings) are)
 
 -- ---- the dictionary

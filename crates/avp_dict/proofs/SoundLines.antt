@@ -29,8 +29,8 @@ use Rattle.avp_dict.specs.Blocks.{begin_known, begin_tlv, begin_vendor, block_ve
 use Rattle.avp_dict.specs.Dictionary.{format_of, id_named, vendor_named}
 use Rattle.avp_dict.specs.Letters.{begins_as_attr, is_comma, is_dot, is_name_octet, is_visible, word_before_bracket, max_name}
 use Rattle.avp_dict.specs.Lines.{Line, file_included, is_include}
-use Rattle.avp_dict.specs.Meanings.{Meaning, Vendor, Attribute, BeginVendor, Reading, Context, after_line, context_of}
-use Rattle.avp_dict.specs.Readings.{include, plain_line, read_head, read_line, read_lines, read_words, skipped, value, within}
+use Rattle.avp_dict.specs.Meanings.{Meaning, Vendor, Attribute, BeginVendor, Reading, Context, after_reading, context_of}
+use Rattle.avp_dict.specs.Readings.{include, plain_line, read_head, read_line, read_lines, read_words, skipped_line, value, within}
 use Rattle.avp_dict.specs.Soundness.{IsSoundVendor, names_other_id}
 use Rattle.avp_dict.specs.Steps.{refused_at, ◌>>=◌}
 use Rattle.avp_dict.specs.Types.{are_flags, is_fixed, is_hiding, is_opaque, is_text_kind, kind_word, typing_by, typing_of}
@@ -90,7 +90,7 @@ attribute_more lines new are new_is =
     (λ k d lt. let a = get_or lines k d in one_line_more lines new a (are k d lt) (other_id_sym new.name a.name new.id a.id (is.alone k d lt)))
     (one_line_more lines new new is (agrees_itself new.name new.id))
 
-one_more : (before : Context) (r : Reading) (m : Meaning) → r.meaning ≡ m → AreRead before → IsRead before m → AreRead (after_line before r)
+one_more : (before : Context) (r : Reading) (m : Meaning) → r.meaning ≡ m → AreRead before → IsRead before m → AreRead (after_reading before r)
 one_more before r (Attribute a) e are is = rw e (record { attributes = attribute_more before.attributes a are.attributes is; vendors = are.vendors })
 one_more before r (Vendor v) e are is = rw e (record { attributes = are.attributes; vendors = All-push IsReadVendor before.vendors v are.vendors is })
 one_more before r _ e are is = rw e (record { attributes = are.attributes; vendors = are.vendors })
@@ -280,7 +280,7 @@ module _ (before : Context) where
 
   -- ---- a line
 
-  skipped_reads : (head : List ℕ) (rest : List (List ℕ)) → IsRead before (skipped head rest)
+  skipped_reads : (head : List ℕ) (rest : List (List ℕ)) → IsRead before (skipped_line head rest)
   skipped_reads head [] = tt
   skipped_reads head (name ∷ rest) = cond_both (same_name head (codes "attribute")) _ _ (IsRead before) (λ h. tt) (λ other. tt)
 

@@ -9,7 +9,7 @@ use Rattle.avp_dict.specs.declared.file.files.NamedFile.{NamedFile}
 use Rattle.avp_dict.proofs.OneMore.{read_lines_none, refuses_through}
 use Rattle.avp_dict.specs.Blocks.{innermost}
 use Rattle.avp_dict.specs.Dictionary.{Dictionary}
-use Rattle.avp_dict.specs.DictionaryReading.{dictionary_of, settled, unless_open}
+use Rattle.avp_dict.specs.DictionaryReading.{dictionary_of, settled_dictionary, unless_open}
 use Rattle.avp_dict.specs.Lines.{lines_in, lines_of}
 use Rattle.avp_dict.specs.Meanings.{Context, Reading, context_of}
 use Rattle.avp_dict.specs.Outcomes.{Refuses, is_memory}
@@ -35,7 +35,7 @@ module _ (limit : ℕ) (files : List NamedFile) (readings : List Reading) (is_re
       let e : unless_open (innermost (context_of readings).opened) readings ≡ Err fault = rw is_open at h in
       rw (are_read, e)
 
-  pub dictionary_resolved : (opened : List Reading) → opened ≡ (context_of readings).opened → innermost opened ≡ None → dictionary_of limit files ≡ settled readings
+  pub dictionary_resolved : (opened : List Reading) → opened ≡ (context_of readings).opened → innermost opened ≡ None → dictionary_of limit files ≡ settled_dictionary readings
   unfolding dictionary_of
   dictionary_resolved opened is_open closed =
       let e : innermost (context_of readings).opened ≡ None = rw is_open at closed in
@@ -53,6 +53,6 @@ open_refuses opened readings fault read h e = rw (open_certain opened readings f
 
 -- the lines by what they define before the names of values
 pub settled_by : (lines : List Reading) (context : Context) (attributes : List AttributeLine) (values : List ValueLine) (notes : List Note) → context ≡ context_of lines → attributes ≡ used context.vendors context.attributes → values ≡ [] → notes ≡ []
-    → settled lines ≡ resolve (skipped_names context.vendors lines) (record { attributes = attributes; values = values; vendors = context.vendors; notes = notes }) lines
-unfolding settled
+    → settled_dictionary lines ≡ resolve (skipped_names context.vendors lines) (record { attributes = attributes; values = values; vendors = context.vendors; notes = notes }) lines
+unfolding settled_dictionary
 settled_by lines context attributes values notes is are none unnoted = rw (are, none, unnoted, is)

@@ -27,8 +27,8 @@ abbrev pub is_name_octet : ℕ → Bool
 is_name_octet o = is_letter o || is_decimal o || (o == 45) || (o == 95) || (o == 46) || (o == 47)
 
 -- and ':', '@'
-abbrev pub is_word_octet : ℕ → Bool
-is_word_octet o = is_name_octet o || (o == 58) || (o == 64)
+abbrev pub is_value_name_octet : ℕ → Bool
+is_value_name_octet o = is_name_octet o || (o == 58) || (o == 64)
 
 -- attr- and a digit
 abbrev pub begins_as_attr : List ℕ → Bool

@@ -40,8 +40,8 @@ abbrev pub with_opened : Context → List Reading → Context
 with_opened context opened = record { attributes = context.attributes; vendors = context.vendors; opened = opened }
 
 -- a BEGIN line opens a block, and an END line closes the last open one
-abbrev pub after_line : Context → Reading → Context
-after_line context r = elim r.meaning [
+abbrev pub after_reading : Context → Reading → Context
+after_reading context r = elim r.meaning [
   | Attribute a ↦ with_attribute context a
   | Vendor v ↦ with_vendor context v
   | BeginVendor name vendor ↦ with_opened context (context.opened ++ r ∷ [])
@@ -54,4 +54,4 @@ abbrev pub no_context : Context
 no_context = record { attributes = []; vendors = []; opened = [] }
 
 unfoldable pub context_of : List Reading → Context
-context_of lines = fold after_line no_context lines
+context_of lines = fold after_reading no_context lines

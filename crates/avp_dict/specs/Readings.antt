@@ -36,9 +36,9 @@ value _ = Err Unreadable
 -- ---- a line
 
 -- a line in a skipped block, other than its BEGIN and END, includes and blank lines
-abbrev pub skipped : List ℕ → List (List ℕ) → Meaning
-skipped head [] = Skipped
-skipped head (name ∷ words) = if same_name head (codes "attribute") then SkippedAttribute name else Skipped
+abbrev pub skipped_line : List ℕ → List (List ℕ) → Meaning
+skipped_line head [] = Skipped
+skipped_line head (name ∷ words) = if same_name head (codes "attribute") then SkippedAttribute name else Skipped
 
 unfoldable pub plain_line : Context → Option ℕ → List ℕ → List (List ℕ) → Result Meaning DictKind
 plain_line before block head rest =
@@ -55,7 +55,7 @@ read_head before found depth head rest =
     else (if same_name head (codes "end-vendor") then end_vendor before.opened rest
     else (if same_name head (codes "begin-tlv") then begin_tlv rest
     else (if same_name head (codes "end-tlv") then end_tlv before.opened rest
-    else (if is_skipping before.opened then Ok (skipped head rest)
+    else (if is_skipping before.opened then Ok (skipped_line head rest)
     else plain_line before (block_vendor before.opened) head rest)))))
 
 unfoldable pub read_words : Context → Option ℕ → ℕ → List (List ℕ) → Result Meaning DictKind

@@ -14,7 +14,7 @@ use Rattle.avp_dict.specs.declared.faults.DictKind.TheVariants.{OutOfRange, NoAt
 use Rattle.avp_dict.specs.declared.faults.DictFault.{DictFault}
 use Rattle.avp_dict.specs.AttributeNumbers.{greatest_number, greatest_value}
 use Rattle.avp_dict.specs.Dictionary.{Dictionary, id_named, number_named, typing_of_id}
-use Rattle.avp_dict.specs.Letters.{is_word_octet, max_name}
+use Rattle.avp_dict.specs.Letters.{is_value_name_octet, max_name}
 use Rattle.avp_dict.specs.Meanings.{Meaning, Skipped, SkippedAttribute, Attribute, Value, BeginVendor, BeginTlv, End, Reading}
 use Rattle.avp_dict.specs.Settled.{is_kept}
 use Rattle.avp_dict.specs.Steps.{◌>>=◌, refused_at}
@@ -30,7 +30,7 @@ abbrev pub reads_as_number : List ℕ → Bool
 reads_as_number word = is_some (if begins_hexadecimal word then digits 16 (drop 2 word) else digits 10 word)
 
 unfoldable pub is_value_name : List ℕ → Bool
-is_value_name name = list_all is_word_octet name && nat_le (length name) max_name && not (reads_as_number name)
+is_value_name name = list_all is_value_name_octet name && nat_le (length name) max_name && not (reads_as_number name)
 
 -- ---- a VALUE line
 

@@ -12,14 +12,14 @@ use Rattle.avp_lists.specs.declared.steps.Change.{Change}
 use Rattle.avp_lists.specs.declared.steps.Change.TheVariants.{Turned, Back}
 use Rattle.avp_lists.specs.declared.steps.Step.{Step}
 use Rattle.avp_lists.specs.internal.Slots.{no_slot, slot_at, at_first, forward, NamesWithin, SwapWithin, Housed, PairsWithin}
-use Rattle.avp_lists.specs.internal.Steps.{last_or, after, replay, every, slots_at, states_of, no_step, step_at, change_at, names_of, swap_of, StepsWithin, BacksBelow, AllCounted, CountsWithin, CountsGrow, AllHoused}
-use Rattle.avp_lists.specs.internal.Shown.{no_pair, pair_of, state_of}
+use Rattle.avp_lists.specs.internal.Steps.{last_or, after, replay, every, slots_at, shown_states, no_step, step_at, change_at, names_of, swap_of, StepsWithin, BacksBelow, AllCounted, CountsWithin, CountsGrow, AllHoused}
+use Rattle.avp_lists.specs.internal.Shown.{no_pair, slot_pair, shown_state}
 use Rattle.avp_lists.specs.internal.SlotLaws.{length-every}
 use Rattle.avp_lists.proofs.Turning.{length-forward, firsts-forward}
 use Rattle.avp_lists.proofs.Moves.{names_in_more}
 use Rattle.avp_lists.proofs.Replay.{every-take, every-push}
 use Rattle.avp_lists.proofs.Growing.{every-grown, length-each}
-use Rattle.avp_lists.proofs.ShownPairs.{state_of-same}
+use Rattle.avp_lists.proofs.ShownPairs.{shown_state-same}
 use Rattle.avp_lists.proofs.Settling.{housed_all}
 use Rattle.avp_lists.proofs.Continuing.{counted-more, counts-more, grow-more, below-more, housed-more}
 
@@ -130,15 +130,15 @@ module _ (pool : List Pair) (slots : List Slot) (steps : List Step) (k : ℕ) (p
       ]
 
   -- what stays shows the present state
-  pub state-few : state_of (take (step_at steps k).pairs pool) (few slots steps k) ≡ state_of pool slots
+  pub state-few : shown_state (take (step_at steps k).pairs pool) (few slots steps k) ≡ shown_state pool slots
   state-few =
       let q = (step_at steps k).pairs in
       let now = get_or (base slots steps k) k [] in
       let below : k < k + 1 = omega arith in
-      let agree : (i : ℕ) → (slot_at now i).mark.live ≡ true → pair_of (take q pool) (slot_at now i) ≡ pair_of pool (slot_at now i) = λ i live. let h = housed-at k below i live in get_or-take q pool (slot_at now i).mark.pair no_pair h.1 in
-      ap (state_of (take q pool)) (sym standing-few ∙ sym (append-nil now))
-      ∙ state_of-same pool (take q pool) now (gone slots steps k) [] dark-gone (λ i live. cc) agree
-      ∙ ap (state_of pool) (sym (at-old k below) ∙ standing)
+      let agree : (i : ℕ) → (slot_at now i).mark.live ≡ true → slot_pair (take q pool) (slot_at now i) ≡ slot_pair pool (slot_at now i) = λ i live. let h = housed-at k below i live in get_or-take q pool (slot_at now i).mark.pair no_pair h.1 in
+      ap (shown_state (take q pool)) (sym standing-few ∙ sym (append-nil now))
+      ∙ shown_state-same pool (take q pool) now (gone slots steps k) [] dark-gone (λ i live. cc) agree
+      ∙ ap (shown_state pool) (sym (at-old k below) ∙ standing)
 
   pub fits-few : PairsWithin (length (take (step_at steps k).pairs pool)) (few slots steps k)
   fits-few =
@@ -186,7 +186,7 @@ module _ (pool : List Pair) (slots : List Slot) (steps : List Step) (k : ℕ) (p
         ∙ get_or_append_left done (new ∷ []) [] j inside
         ∙ get_or-map g (base slots steps k) j [] [] within
 
-    agree : (j : ℕ) → j < k + 1 → (i : ℕ) → (slot_at (get_or (base slots steps k) j []) i).mark.live ≡ true → pair_of (take (step_at steps k).pairs pool ++ xs) (slot_at (get_or (base slots steps k) j []) i) ≡ pair_of pool (slot_at (get_or (base slots steps k) j []) i)
+    agree : (j : ℕ) → j < k + 1 → (i : ℕ) → (slot_at (get_or (base slots steps k) j []) i).mark.live ≡ true → slot_pair (take (step_at steps k).pairs pool ++ xs) (slot_at (get_or (base slots steps k) j []) i) ≡ slot_pair pool (slot_at (get_or (base slots steps k) j []) i)
     agree j below i live =
         let q = (step_at steps k).pairs in
         let at = (slot_at (get_or (base slots steps k) j []) i).mark.pair in
@@ -199,24 +199,24 @@ module _ (pool : List Pair) (slots : List Slot) (steps : List Step) (k : ℕ) (p
         let inside : at < length (take q pool) = omega (arith, lt, long-pairs) in
         get_or_append_left (take q pool) xs no_pair at inside ∙ get_or-take q pool at no_pair lt
 
-    pub states-new : states_of (take (step_at steps k).pairs pool ++ xs) new (old steps k ++ e ∷ []) ≡ take (k + 1) (states_of pool slots steps) ++ state_of (take (step_at steps k).pairs pool ++ xs) new ∷ []
+    pub states-new : shown_states (take (step_at steps k).pairs pool ++ xs) new (old steps k ++ e ∷ []) ≡ take (k + 1) (shown_states pool slots steps) ++ shown_state (take (step_at steps k).pairs pool ++ xs) new ∷ []
     states-new =
         let other = take (step_at steps k).pairs pool ++ xs in
         let g : List Slot → List Slot = λ c. c ++ more in
         let h : List Slot → List Slot = λ c. c ++ gone slots steps k in
         let all = base slots steps k in
-        let each : (j : ℕ) → j < length all → state_of other (g (get_or all j [])) ≡ state_of pool (h (get_or all j [])) = λ j lt.
+        let each : (j : ℕ) → j < length all → shown_state other (g (get_or all j [])) ≡ shown_state pool (h (get_or all j [])) = λ j lt.
         let below : j < k + 1 = omega (arith, lt, long-base) in
-        state_of-same pool other (get_or all j []) (gone slots steps k) more dark-gone dark-more (agree j below) in
-        let same : map (state_of other) (map g all) ≡ take (k + 1) (states_of pool slots steps) =
-        map-twice (state_of other) g all
-        ∙ maps_agree (λ (c : List Slot). state_of other (g c)) (λ (c : List Slot). state_of pool (h c)) all each
-        ∙ sym (map-twice (state_of pool) h all)
-        ∙ ap (map (state_of pool)) (sym every-old)
-        ∙ sym (take-map (state_of pool) (k + 1) (every slots steps)) in
-        ap (map (state_of other)) every-new
-        ∙ map_push (state_of other) (map g all) new
-        ∙ ap (λ (ss : List State). ss ++ state_of other new ∷ []) same
+        shown_state-same pool other (get_or all j []) (gone slots steps k) more dark-gone dark-more (agree j below) in
+        let same : map (shown_state other) (map g all) ≡ take (k + 1) (shown_states pool slots steps) =
+        map-twice (shown_state other) g all
+        ∙ maps_agree (λ (c : List Slot). shown_state other (g c)) (λ (c : List Slot). shown_state pool (h c)) all each
+        ∙ sym (map-twice (shown_state pool) h all)
+        ∙ ap (map (shown_state pool)) (sym every-old)
+        ∙ sym (take-map (shown_state pool) (k + 1) (every slots steps)) in
+        ap (map (shown_state other)) every-new
+        ∙ map_push (shown_state other) (map g all) new
+        ∙ ap (λ (ss : List State). ss ++ shown_state other new ∷ []) same
 
     pub below-new : BacksBelow steps → BacksBelow (old steps k ++ e ∷ [])
     below-new backs =

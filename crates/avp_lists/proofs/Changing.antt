@@ -11,11 +11,11 @@ use Rattle.avp_lists.specs.declared.slots.Mark.{Mark}
 use Rattle.avp_lists.specs.declared.steps.Change.TheVariants.{Turned}
 use Rattle.avp_lists.specs.declared.steps.Step.{Step}
 use Rattle.avp_lists.specs.internal.Plans.{widened, planned, enters, pooled, IsPlan}
-use Rattle.avp_lists.specs.internal.Shown.{state_of}
-use Rattle.avp_lists.specs.internal.SlotLaws.{length-states_of}
+use Rattle.avp_lists.specs.internal.Shown.{shown_state}
+use Rattle.avp_lists.specs.internal.SlotLaws.{length-shown_states}
 use Rattle.avp_lists.specs.internal.Slots.{slot_at, at_first, PairsWithin}
 use Rattle.avp_lists.specs.States.{empty_state, edited, IsLimited}
-use Rattle.avp_lists.specs.internal.Steps.{slots_at, states_of, step_at, max_kept, BacksBelow, AllCounted, CountsWithin, CountsGrow, AllHoused, StatesLimited}
+use Rattle.avp_lists.specs.internal.Steps.{slots_at, shown_states, step_at, max_kept, BacksBelow, AllCounted, CountsWithin, CountsGrow, AllHoused, StatesLimited}
 use Rattle.avp_lists.proofs.Adding.{long-few, long-pairs, state-few, standing-new, states-new, below-new, counted-new, counts-new, grow-new, housed-new}
 use Rattle.avp_lists.proofs.Continuing.{limited-continued}
 use Rattle.avp_lists.proofs.ShownPairs.{present-shown}
@@ -103,24 +103,24 @@ module _ (e : Edit) (pool : List Pair) (slots : List Slot) (steps : List Step) (
       ap (λ (x : List Step). slots_at new_slots x (k + 1)) S
       ∙ standing-new pool slots steps k placed counted counts grow housed standing (option_to_list p.added) firsts dark (entering p e.pair) p.turned p.swap step new_slots N T
 
-  now_is : state_of new_pool new_slots ≡ edited e (get_or (states_of pool slots steps) k empty_state)
+  now_is : shown_state new_pool new_slots ≡ edited e (get_or (shown_states pool slots steps) k empty_state)
   now_is =
-      ap (λ (x : List Pair). state_of x new_slots) P
-      ∙ ap (state_of (pooled p e.pair (take (step_at steps k).pairs pool))) N
+      ap (λ (x : List Pair). shown_state x new_slots) P
+      ∙ ap (shown_state (pooled p e.pair (take (step_at steps k).pairs pool))) N
       ∙ plan.state
       ∙ ap (edited e) (state-few pool slots steps k placed counted counts grow housed standing ∙ sym (present-shown pool slots steps k placed standing))
 
-  pub states-changed : states_of new_pool new_slots new_steps ≡ take (k + 1) (states_of pool slots steps) ++ edited e (get_or (states_of pool slots steps) k empty_state) ∷ []
+  pub states-changed : shown_states new_pool new_slots new_steps ≡ take (k + 1) (shown_states pool slots steps) ++ edited e (get_or (shown_states pool slots steps) k empty_state) ∷ []
   states-changed =
       let other = take (step_at steps k).pairs pool ++ entering p e.pair in
-      ap (λ (x : List Pair). states_of x new_slots new_steps) pool_is
-      ∙ ap (states_of other new_slots) S
+      ap (λ (x : List Pair). shown_states x new_slots new_steps) pool_is
+      ∙ ap (shown_states other new_slots) S
       ∙ states-new pool slots steps k placed counted counts grow housed standing (option_to_list p.added) firsts dark (entering p e.pair) p.turned p.swap step new_slots N T
-      ∙ ap (λ (x : State). take (k + 1) (states_of pool slots steps) ++ x ∷ []) (ap (λ (x : List Pair). state_of x new_slots) (sym pool_is) ∙ now_is)
+      ∙ ap (λ (x : State). take (k + 1) (shown_states pool slots steps) ++ x ∷ []) (ap (λ (x : List Pair). shown_state x new_slots) (sym pool_is) ∙ now_is)
 
-  pub limited-changed : StatesLimited pool slots steps → IsLimited (edited e (get_or (states_of pool slots steps) k empty_state)) → StatesLimited new_pool new_slots new_steps
+  pub limited-changed : StatesLimited pool slots steps → IsLimited (edited e (get_or (shown_states pool slots steps) k empty_state)) → StatesLimited new_pool new_slots new_steps
   limited-changed limited new j =
-      let all = states_of pool slots steps in
-      let within : k + 1 ≤ length all = omega (arith, length-states_of pool slots steps, placed) in
+      let all = shown_states pool slots steps in
+      let within : k + 1 ≤ length all = omega (arith, length-shown_states pool slots steps, placed) in
       let Q : List State → Type 0 = λ xs. IsLimited (get_or xs j empty_state) in
       subst Q (sym states-changed) (limited-continued all (k + 1) (edited e (get_or all k empty_state)) within limited new j)

@@ -10,8 +10,8 @@ use Rattle.avp_lists.specs.declared.steps.Change.TheVariants.{Back}
 use Rattle.avp_lists.specs.declared.steps.Step.{Step}
 use Rattle.avp_lists.specs.States.{empty_state, IsLimited}
 use Rattle.avp_lists.specs.internal.Slots.{at_first, slot_at, Housed}
-use Rattle.avp_lists.specs.internal.Steps.{after, every, slots_at, states_of, no_step, step_at, change_at, turns, node, BacksBelow, NamesCounted, AllCounted, CountsWithin, CountsGrow, AllHoused}
-use Rattle.avp_lists.specs.internal.Shown.{state_of}
+use Rattle.avp_lists.specs.internal.Steps.{after, every, slots_at, shown_states, no_step, step_at, change_at, turns, node, BacksBelow, NamesCounted, AllCounted, CountsWithin, CountsGrow, AllHoused}
+use Rattle.avp_lists.specs.internal.Shown.{shown_state}
 use Rattle.avp_lists.specs.internal.SlotLaws.{length-every}
 use Rattle.avp_lists.proofs.Replay.{every-take, every-push, node_fits}
 use Rattle.avp_lists.proofs.Moves.{states-same}
@@ -42,12 +42,12 @@ empty_limited Control = omega arith
 pub limited-continued : (all : List State) (n : ℕ) (last : State) → n ≤ length all → ((k : ℕ) → IsLimited (get_or all k empty_state)) → IsLimited last → (k : ℕ) → IsLimited (get_or (take n all ++ last ∷ []) k empty_state)
 limited-continued all n last within each one = each-continued IsLimited empty_state all n last within empty_limited (λ k below. each k) one
 
-pub state-each : (pool : List Pair) (all : List (List Slot)) (k : ℕ) → get_or (map (state_of pool) all) k empty_state ≡ state_of pool (get_or all k [])
+pub state-each : (pool : List Pair) (all : List (List Slot)) (k : ℕ) → get_or (map (shown_state pool) all) k empty_state ≡ shown_state pool (get_or all k [])
 state-each pool all k = elim (cases_lt k (length all)) [
-  | inl within ↦ get_or-map (state_of pool) all k [] empty_state within
+  | inl within ↦ get_or-map (shown_state pool) all k [] empty_state within
   | inr past ↦
-      let long : length (map (state_of pool) all) ≤ k = omega (arith, length-map all (state_of pool)) in
-      get_or_past (map (state_of pool) all) k empty_state long ∙ sym (ap (state_of pool) (get_or_past all k [] past))
+      let long : length (map (shown_state pool) all) ≤ k = omega (arith, length-map all (shown_state pool)) in
+      get_or_past (map (shown_state pool) all) k empty_state long ∙ sym (ap (shown_state pool) (get_or_past all k [] past))
 ]
 
 -- more are counted
@@ -150,11 +150,11 @@ module _ (slots : List Slot) (steps : List Step) (n w : ℕ) (e : Step) (within 
       ∙ ap (λ (xs : List (List Slot)). xs ++ after f xs e.change ∷ []) (every-take slots steps n within)
       ∙ ap (λ (x : List Slot). take n all ++ x ∷ []) last
 
-  pub states-back : (pool : List Pair) → states_of pool slots (take n steps ++ e ∷ []) ≡ take n (states_of pool slots steps) ++ get_or (states_of pool slots steps) w empty_state ∷ []
+  pub states-back : (pool : List Pair) → shown_states pool slots (take n steps ++ e ∷ []) ≡ take n (shown_states pool slots steps) ++ get_or (shown_states pool slots steps) w empty_state ∷ []
   states-back pool =
-      ap (map (state_of pool)) every-back
-      ∙ map_push (state_of pool) (take n (every slots steps)) (slots_at slots steps w)
-      ∙ ap₂ (λ (xs : List State) (x : State). xs ++ x ∷ []) (sym (take-map (state_of pool) n (every slots steps))) (sym (state-each pool (every slots steps) w))
+      ap (map (shown_state pool)) every-back
+      ∙ map_push (shown_state pool) (take n (every slots steps)) (slots_at slots steps w)
+      ∙ ap₂ (λ (xs : List State) (x : State). xs ++ x ∷ []) (sym (take-map (shown_state pool) n (every slots steps))) (sym (state-each pool (every slots steps) w))
 
   pub standing-back : slots_at slots (take n steps ++ e ∷ []) n ≡ slots_at slots steps w
   standing-back =
@@ -179,17 +179,17 @@ module _ (slots : List Slot) (steps : List Step) (n w : ℕ) (e : Step) (within 
       housed-more steps n e within slots each last
 
 -- going back to the place that the state at a place stands for
-pub states-rolled : (pool : List Pair) (slots moved : List Slot) (steps : List Step) (n to w : ℕ) (e : Step) → n ≤ length steps → to < n → BacksBelow steps → w ≡ node steps to → e.change ≡ Back w → map at_first moved ≡ map at_first slots → states_of pool moved (take n steps ++ e ∷ []) ≡ take n (states_of pool slots steps) ++ get_or (states_of pool slots steps) to empty_state ∷ []
+pub states-rolled : (pool : List Pair) (slots moved : List Slot) (steps : List Step) (n to w : ℕ) (e : Step) → n ≤ length steps → to < n → BacksBelow steps → w ≡ node steps to → e.change ≡ Back w → map at_first moved ≡ map at_first slots → shown_states pool moved (take n steps ++ e ∷ []) ≡ take n (shown_states pool slots steps) ++ get_or (shown_states pool slots steps) to empty_state ∷ []
 states-rolled pool slots moved steps n to w e within below backs is back firsts =
     let lt : to < length steps = omega arith in
     let fits = node_fits moved steps to backs lt in
     let low : node steps to ≤ to = fits.0 in
     let earlier : w < n = omega arith in
-    let same : get_or (states_of pool moved steps) w empty_state ≡ get_or (states_of pool moved steps) to empty_state =
+    let same : get_or (shown_states pool moved steps) w empty_state ≡ get_or (shown_states pool moved steps) to empty_state =
     state-each pool (every moved steps) w
-    ∙ ap (λ (m : ℕ). state_of pool (slots_at moved steps m)) is
-    ∙ ap (state_of pool) fits.2
+    ∙ ap (λ (m : ℕ). shown_state pool (slots_at moved steps m)) is
+    ∙ ap (shown_state pool) fits.2
     ∙ sym (state-each pool (every moved steps) to) in
     states-back moved steps n w e within back earlier pool
-    ∙ ap (λ (x : State). take n (states_of pool moved steps) ++ x ∷ []) same
+    ∙ ap (λ (x : State). take n (shown_states pool moved steps) ++ x ∷ []) same
     ∙ ap (λ (xs : List State). take n xs ++ get_or xs to empty_state ∷ []) (states-same pool slots moved steps firsts)

@@ -15,24 +15,24 @@ use Rattle.avp_lists.specs.Growth.{adds_one, removes}
 use Rattle.avp_lists.specs.Instances.{has_id, is_other}
 use Rattle.avp_lists.specs.Operators.{agrees, replace, apply}
 use Rattle.avp_lists.specs.Pairs.{pair_eq}
-use Rattle.avp_lists.specs.internal.Plans.{end_of, goes, taken, names_in}
-use Rattle.avp_lists.specs.internal.Shown.{same_list, shows, shows_id, no_pair, pair_of, shown_pairs, state_of}
+use Rattle.avp_lists.specs.internal.Plans.{end_for, goes, taken, names_in}
+use Rattle.avp_lists.specs.internal.Shown.{same_list, shows, shows_id, no_pair, slot_pair, shown_pairs, shown_state}
 use Rattle.avp_lists.specs.internal.Slots.{no_slot, slot_at, flipped, PairsWithin}
 use Rattle.avp_lists.specs.States.{with_list, edited, edited_list}
 use Rattle.avp_lists.proofs.Editing.{turned_if, end-turned, taken_away}
 use Rattle.avp_lists.proofs.InOrder.{in_order, shown_of, in_order-map, any-in_order, shown_pairs-in_order}
 use Rattle.avp_lists.proofs.Lengths.{none_first}
-use Rattle.avp_lists.proofs.ShownPairs.{list_of-state_of, beside}
+use Rattle.avp_lists.proofs.ShownPairs.{list_of-shown_state, beside}
 
 -- an edit's list, and the other two
-by_list : (w : WhichList) (L : List Pair) (pool other : List Pair) (c d : List Slot) → shown_pairs w other d ≡ L → ((which : WhichList) → same_list which w ≡ false → shown_pairs which other d ≡ shown_pairs which pool c) → state_of other d ≡ with_list w L (state_of pool c)
+by_list : (w : WhichList) (L : List Pair) (pool other : List Pair) (c d : List Slot) → shown_pairs w other d ≡ L → ((which : WhichList) → same_list which w ≡ false → shown_pairs which other d ≡ shown_pairs which pool c) → shown_state other d ≡ with_list w L (shown_state pool c)
 by_list Request L pool other c d own others = rw (own, others Reply refl, others Control refl) refl
 by_list Reply L pool other c d own others = rw (own, others Request refl, others Control refl) refl
 by_list Control L pool other c d own others = rw (own, others Request refl, others Reply refl) refl
 
-pub state_edited : (e : Edit) (pool other : List Pair) (c d : List Slot) → shown_pairs e.list other d ≡ apply e.op e.pair (shown_pairs e.list pool c) → ((which : WhichList) → same_list which e.list ≡ false → shown_pairs which other d ≡ shown_pairs which pool c) → state_of other d ≡ edited e (state_of pool c)
+pub state_edited : (e : Edit) (pool other : List Pair) (c d : List Slot) → shown_pairs e.list other d ≡ apply e.op e.pair (shown_pairs e.list pool c) → ((which : WhichList) → same_list which e.list ≡ false → shown_pairs which other d ≡ shown_pairs which pool c) → shown_state other d ≡ edited e (shown_state pool c)
 state_edited e pool other c d own others =
-    by_list e.list (edited_list e (state_of pool c)) pool other c d (own ∙ ap (apply e.op e.pair) (sym (list_of-state_of e.list pool c))) others
+    by_list e.list (edited_list e (shown_state pool c)) pool other c d (own ∙ ap (apply e.op e.pair) (sym (list_of-shown_state e.list pool c))) others
 
 pub same_itself : (which : WhichList) → same_list which which ≡ true
 same_itself Request = refl
@@ -78,8 +78,8 @@ shown_stay which w pool q (s ∷ ss) ne =
       | true ↦ λ h.
           let shown = and_first (shows w s) (q s) h in
           skip (flipped s) (hidden_elsewhere which w (not s.mark.live) s ne shown) ∙ rest ∙ sym (same (hidden_elsewhere which w s.mark.live s ne shown))
-      | false ↦ λ h. elim (shows which s) as (λ b. map (pair_of pool) (cond b (s ∷ filter (shows which) turned) (filter (shows which) turned)) ≡ map (pair_of pool) (cond b (s ∷ filter (shows which) ss) (filter (shows which) ss))) [
-        | true ↦ ap (λ (xs : List Pair). pair_of pool s ∷ xs) rest
+      | false ↦ λ h. elim (shows which s) as (λ b. map (slot_pair pool) (cond b (s ∷ filter (shows which) turned) (filter (shows which) turned)) ≡ map (slot_pair pool) (cond b (s ∷ filter (shows which) ss) (filter (shows which) ss))) [
+        | true ↦ ap (λ (xs : List Pair). slot_pair pool s ∷ xs) rest
         | false ↦ rest
       ]
     ] refl
@@ -109,7 +109,7 @@ turned-within n p c off pooled i =
     ]
 
 pub taken-within : (e : Edit) (pool : List Pair) (n : ℕ) (c : List Slot) → PairsWithin n c → PairsWithin n (map (turned_if (taken e pool)) c)
-taken-within e pool n c pooled = turned-within n (taken e pool) c (λ s h. and_first s.mark.live (same_list e.list s.list) (and_first (shows e.list s) (goes e.op e.pair (pair_of pool s)) h)) pooled
+taken-within e pool n c pooled = turned-within n (taken e pool) c (λ s h. and_first s.mark.live (same_list e.list s.list) (and_first (shows e.list s) (goes e.op e.pair (slot_pair pool s)) h)) pooled
 
 pub names_in-within : (p : Slot → Bool) (n : ℕ) (c : List Slot) (i : ℕ) → i < length (names_in p n c) → get_or (names_in p n c) i 0 < n + length c
 names_in-within p n [] i h = absurd (omega (arith, h))
@@ -148,20 +148,20 @@ taken-applied Prepend p xs h = cc
 taken-applied AddNew p xs h = cc
 taken-applied Replace p xs h = cc
 
-pub state-removed : (e : Edit) (pool : List Pair) (c : List Slot) → removes e.op ≡ true → state_of pool (map (turned_if (taken e pool)) c) ≡ edited e (state_of pool c)
+pub state-removed : (e : Edit) (pool : List Pair) (c : List Slot) → removes e.op ≡ true → shown_state pool (map (turned_if (taken e pool)) c) ≡ edited e (shown_state pool c)
 state-removed e pool c h =
     let d = map (turned_if (taken e pool)) c in
     state_edited e pool pool c d
     (taken_away e.list pool (goes e.op e.pair) c ∙ taken-applied e.op e.pair (shown_pairs e.list pool c) h)
-    (λ which ne. others_stay which e.list pool (λ s. goes e.op e.pair (pair_of pool s)) c ne)
+    (λ which ne. others_stay which e.list pool (λ s. goes e.op e.pair (slot_pair pool s)) c ne)
 
 -- whether there is an instance
 pub any_of_shown : (w : WhichList) (id : AttrId) (pool : List Pair) (c : List Slot) → list_any (shows_id w id pool) c ≡ list_any (has_id id) (shown_of w pool c)
 any_of_shown w id pool [] = refl
 any_of_shown w id pool (s ∷ ss) =
     let rest = any_of_shown w id pool ss in
-    elim (shows w s) as (λ b. ((b && has_id id (pair_of pool s)) || list_any (shows_id w id pool) ss) ≡ list_any (has_id id) (map (pair_of pool) (cond b (s ∷ filter (shows w) ss) (filter (shows w) ss)))) [
-      | true ↦ ap (λ (t : Bool). has_id id (pair_of pool s) || t) rest
+    elim (shows w s) as (λ b. ((b && has_id id (slot_pair pool s)) || list_any (shows_id w id pool) ss) ≡ list_any (has_id id) (map (slot_pair pool) (cond b (s ∷ filter (shows w) ss) (filter (shows w) ss)))) [
+      | true ↦ ap (λ (t : Bool). has_id id (slot_pair pool s) || t) rest
       | false ↦ rest
     ]
 
@@ -179,7 +179,7 @@ replace-none p xs h =
     let past : length xs ≤ position_or_len (has_id p.id) xs + 1 = omega (arith, first) in
     ap₂ (λ (a b : List Pair). a ++ p ∷ filter (is_other p.id) b) (take_all (position_or_len (has_id p.id) xs) xs all) (drop_all (position_or_len (has_id p.id) xs + 1) xs past)
 
-pub added-applied : (op : Op) (p : Pair) (xs : List Pair) → adds_one op p.id xs ≡ true → apply op p xs ≡ beside (end_of op) (p ∷ []) xs
+pub added-applied : (op : Op) (p : Pair) (xs : List Pair) → adds_one op p.id xs ≡ true → apply op p xs ≡ beside (end_for op) (p ∷ []) xs
 added-applied AddNew p xs h = elim (list_any (has_id p.id) xs) as (λ b. not b ≡ true → cond b xs (xs ++ p ∷ []) ≡ xs ++ p ∷ []) [ true ↦ λ e. cc | false ↦ λ e. refl ] h
 added-applied Replace p xs h = replace-none p xs (elim (list_any (has_id p.id) xs) as (λ b. not b ≡ true → b ≡ false) [ true ↦ λ e. cc | false ↦ λ e. refl ] h)
 added-applied Append p xs h = refl
@@ -189,7 +189,7 @@ added-applied KeepEqual p xs h = cc
 added-applied RemoveAll p xs h = cc
 
 -- a pool with one more agrees on what was shown
-pub agree-more : (pool : List Pair) (p : Pair) (c : List Slot) → PairsWithin (length pool) c → (i : ℕ) → (slot_at c i).mark.live ≡ true → pair_of (pool ++ p ∷ []) (slot_at c i) ≡ pair_of pool (slot_at c i)
+pub agree-more : (pool : List Pair) (p : Pair) (c : List Slot) → PairsWithin (length pool) c → (i : ℕ) → (slot_at c i).mark.live ≡ true → slot_pair (pool ++ p ∷ []) (slot_at c i) ≡ slot_pair pool (slot_at c i)
 agree-more pool p c pooled i live = get_or_append_left pool (p ∷ []) no_pair (slot_at c i).mark.pair (pooled i live)
 
 pub within-more : (n m : ℕ) (c : List Slot) → n ≤ m → PairsWithin n c → PairsWithin m c

@@ -6,7 +6,7 @@ use Rattle.avp_lists.specs.declared.attributes.Pair.{Pair}
 use Rattle.avp_lists.specs.declared.lists.List.{List as WhichList}
 use Rattle.avp_lists.specs.declared.slots.Slot.{Slot}
 use Rattle.avp_lists.specs.internal.Slots.{no_slot, flipped, turn, turn_all}
-use Rattle.avp_lists.specs.internal.Shown.{same_list, shows, pair_of, shown_pairs}
+use Rattle.avp_lists.specs.internal.Shown.{same_list, shows, slot_pair, shown_pairs}
 use Rattle.avp_lists.specs.internal.Plans.{names_in}
 use Rattle.avp_lists.proofs.InOrder.{in_order, shown_of, in_order-map, shown_pairs-in_order}
 
@@ -37,17 +37,17 @@ and_true : (b x : Bool) → (b && x) ≡ true → (not b && x) ≡ false
 and_true true x h = refl
 and_true false x h = cc
 
-cases_of : (which : WhichList) (pool : List Pair) (q : Pair → Bool) (s : Slot) (ss more : List Slot) → shown_of which pool more ≡ filter (λ x. not (q x)) (shown_of which pool ss) → (shows which s ≡ true → shows which (flipped s) ≡ false) → (b r : Bool) → shows which s ≡ b → q (pair_of pool s) ≡ r → shown_of which pool (cond (b && r) (flipped s) s ∷ more) ≡ filter (λ y. not (q y)) (map (pair_of pool) (cond b (s ∷ filter (shows which) ss) (filter (shows which) ss)))
+cases_of : (which : WhichList) (pool : List Pair) (q : Pair → Bool) (s : Slot) (ss more : List Slot) → shown_of which pool more ≡ filter (λ x. not (q x)) (shown_of which pool ss) → (shows which s ≡ true → shows which (flipped s) ≡ false) → (b r : Bool) → shows which s ≡ b → q (slot_pair pool s) ≡ r → shown_of which pool (cond (b && r) (flipped s) s ∷ more) ≡ filter (λ y. not (q y)) (map (slot_pair pool) (cond b (s ∷ filter (shows which) ss) (filter (shows which) ss)))
 cases_of which pool q s ss more rest hidden true true e h = rw (hidden e, h) rest
-cases_of which pool q s ss more rest hidden true false e h = rw (e, h) (ap (λ (xs : List Pair). pair_of pool s ∷ xs) rest)
+cases_of which pool q s ss more rest hidden true false e h = rw (e, h) (ap (λ (xs : List Pair). slot_pair pool s ∷ xs) rest)
 cases_of which pool q s ss more rest hidden false r e h = rw e rest
 
-pub shown_taken : (which : WhichList) (pool : List Pair) (q : Pair → Bool) (c : List Slot) → shown_of which pool (map (turned_if (λ s. shows which s && q (pair_of pool s))) c) ≡ filter (λ x. not (q x)) (shown_of which pool c)
+pub shown_taken : (which : WhichList) (pool : List Pair) (q : Pair → Bool) (c : List Slot) → shown_of which pool (map (turned_if (λ s. shows which s && q (slot_pair pool s))) c) ≡ filter (λ x. not (q x)) (shown_of which pool c)
 shown_taken which pool q [] = refl
 shown_taken which pool q (s ∷ ss) =
-    let p : Slot → Bool = λ t. shows which t && q (pair_of pool t) in
+    let p : Slot → Bool = λ t. shows which t && q (slot_pair pool t) in
     let rest = shown_taken which pool q ss in
-    let x = pair_of pool s in
+    let x = slot_pair pool s in
     let hidden : shows which s ≡ true → shows which (flipped s) ≡ false = and_true s.mark.live (same_list which s.list) in
     cases_of which pool q s ss (map (turned_if p) ss) rest hidden (shows which s) (q x) refl refl
 
@@ -55,10 +55,10 @@ pub end-turned : (p : Slot → Bool) (s : Slot) → (turned_if p s).end ≡ s.en
 end-turned p s = elim (p s) as (λ b. (cond b (flipped s) s).end ≡ s.end) [ true ↦ refl | false ↦ refl ]
 
 -- the pairs that pass are taken away, and the others stay in order
-pub taken_away : (which : WhichList) (pool : List Pair) (q : Pair → Bool) (c : List Slot) → shown_pairs which pool (map (turned_if (λ s. shows which s && q (pair_of pool s))) c) ≡ filter (λ x. not (q x)) (shown_pairs which pool c)
+pub taken_away : (which : WhichList) (pool : List Pair) (q : Pair → Bool) (c : List Slot) → shown_pairs which pool (map (turned_if (λ s. shows which s && q (slot_pair pool s))) c) ≡ filter (λ x. not (q x)) (shown_pairs which pool c)
 taken_away which pool q c =
-    let f = turned_if (λ s. shows which s && q (pair_of pool s)) in
+    let f = turned_if (λ s. shows which s && q (slot_pair pool s)) in
     shown_pairs-in_order which pool (map f c)
-    ∙ ap (shown_of which pool) (in_order-map f (end-turned (λ s. shows which s && q (pair_of pool s))) c)
+    ∙ ap (shown_of which pool) (in_order-map f (end-turned (λ s. shows which s && q (slot_pair pool s))) c)
     ∙ shown_taken which pool q (in_order c)
     ∙ sym (ap (filter (λ x. not (q x))) (shown_pairs-in_order which pool c))

@@ -13,8 +13,8 @@ use Rattle.avp_lists.specs.declared.slots.Swap.{Swap}
 use Rattle.avp_lists.specs.Growth.{adds_one}
 use Rattle.avp_lists.specs.Instances.{has_id, is_other}
 use Rattle.avp_lists.specs.Operators.{replace, apply}
-use Rattle.avp_lists.specs.internal.Plans.{end_of, goes, taken, names_in}
-use Rattle.avp_lists.specs.internal.Shown.{same_list, shows, shows_id, no_pair, pair_of, shown_pairs, ahead, state_of}
+use Rattle.avp_lists.specs.internal.Plans.{end_for, goes, taken, names_in}
+use Rattle.avp_lists.specs.internal.Shown.{same_list, shows, shows_id, no_pair, slot_pair, shown_pairs, ahead, shown_state}
 use Rattle.avp_lists.specs.internal.Slots.{no_slot, flipped, turn, turn_all, swap_at, forward, other_pair, with_other, PairsWithin}
 use Rattle.avp_lists.specs.States.{edited}
 use Rattle.avp_lists.proofs.Editing.{turned_if, turned_where, end-turned, shown_taken, turn_at}
@@ -28,40 +28,40 @@ there : (pool : List Pair) (p : Pair) → get_or (pool ++ p ∷ []) (length pool
 there pool p = get_or_push pool p no_pair (length pool) refl
 
 -- what one slot shows
-one_shown : (which : WhichList) (pool : List Pair) (s : Slot) → shows which s ≡ true → shown_of which pool (s ∷ []) ≡ pair_of pool s ∷ []
+one_shown : (which : WhichList) (pool : List Pair) (s : Slot) → shows which s ≡ true → shown_of which pool (s ∷ []) ≡ slot_pair pool s ∷ []
 one_shown which pool s h = rw h refl
 
 one_hidden : (which : WhichList) (pool : List Pair) (s : Slot) → shows which s ≡ false → shown_of which pool (s ∷ []) ≡ []
 one_hidden which pool s h = rw h refl
 
 -- at an end: the slot is the last one, shows the pair, its list is the edit's, and its end is that of the operator
-module _ (e : Edit) (pool : List Pair) (c : List Slot) (s : Slot) (pooled : PairsWithin (length pool) c) (adds : adds_one e.op e.pair.id (shown_pairs e.list pool c) ≡ true) (of_list : s.list ≡ e.list) (at_end : s.end ≡ end_of e.op) (off : s.mark.live ≡ false) (pair : s.mark.pair ≡ length pool) where
+module _ (e : Edit) (pool : List Pair) (c : List Slot) (s : Slot) (pooled : PairsWithin (length pool) c) (adds : adds_one e.op e.pair.id (shown_pairs e.list pool c) ≡ true) (of_list : s.list ≡ e.list) (at_end : s.end ≡ end_for e.op) (off : s.mark.live ≡ false) (pair : s.mark.pair ≡ length pool) where
   pub added-turned : turn_all (length c ∷ []) (c ++ s ∷ []) ≡ c ++ flipped s ∷ []
   added-turned = turn_at c [] s ∙ append-nil (c ++ flipped s ∷ [])
 
   last_shows : (which : WhichList) → shows which (flipped s) ≡ same_list which e.list
   last_shows which = ap (λ (b : Bool). not b && same_list which s.list) off ∙ ap (same_list which) of_list
 
-  last_pair : pair_of (pool ++ e.pair ∷ []) (flipped s) ≡ e.pair
+  last_pair : slot_pair (pool ++ e.pair ∷ []) (flipped s) ≡ e.pair
   last_pair = ap (λ (n : ℕ). get_or (pool ++ e.pair ∷ []) n no_pair) pair ∙ there pool e.pair
 
-  pub state-added : state_of (pool ++ e.pair ∷ []) (c ++ flipped s ∷ []) ≡ edited e (state_of pool c)
+  pub state-added : shown_state (pool ++ e.pair ∷ []) (c ++ flipped s ∷ []) ≡ edited e (shown_state pool c)
   state-added =
       let other = pool ++ e.pair ∷ [] in
       let d = c ++ flipped s ∷ [] in
-      let kept : (which : WhichList) → shown_pairs which other d ≡ beside (end_of e.op) (shown_of which other (flipped s ∷ [])) (shown_pairs which pool c) = λ which.
+      let kept : (which : WhichList) → shown_pairs which other d ≡ beside (end_for e.op) (shown_of which other (flipped s ∷ [])) (shown_pairs which pool c) = λ which.
       shown_pairs-more which other c (flipped s)
       ∙ ap₂ (λ (end : End) (xs : List Pair). beside end (shown_of which other (flipped s ∷ [])) xs) at_end (shown_pairs-agree which other pool c (agree-more pool e.pair c pooled)) in
       state_edited e pool other c d
       (
       kept e.list
-      ∙ ap (λ (xs : List Pair). beside (end_of e.op) xs (shown_pairs e.list pool c)) (one_shown e.list other (flipped s) (last_shows e.list ∙ same_itself e.list) ∙ ap (λ (x : Pair). x ∷ []) last_pair)
+      ∙ ap (λ (xs : List Pair). beside (end_for e.op) xs (shown_pairs e.list pool c)) (one_shown e.list other (flipped s) (last_shows e.list ∙ same_itself e.list) ∙ ap (λ (x : Pair). x ∷ []) last_pair)
       ∙ sym (added-applied e.op e.pair (shown_pairs e.list pool c) adds)
       )
       (λ which ne.
       kept which
-      ∙ ap (λ (xs : List Pair). beside (end_of e.op) xs (shown_pairs which pool c)) (one_hidden which other (flipped s) (last_shows which ∙ ne))
-      ∙ beside_none (end_of e.op) (shown_pairs which pool c))
+      ∙ ap (λ (xs : List Pair). beside (end_for e.op) xs (shown_pairs which pool c)) (one_hidden which other (flipped s) (last_shows which ∙ ne))
+      ∙ beside_none (end_for e.op) (shown_pairs which pool c))
 
   pub added-within : PairsWithin (length (pool ++ e.pair ∷ [])) (c ++ flipped s ∷ [])
   added-within =
@@ -145,7 +145,7 @@ module _ (e : Edit) (pool : List Pair) (before after : List Slot) (s : Slot) (w 
       ∙ sym (append_assoc left (with_other w s ∷ []) rest)
 
   shown_here : shows e.list s ≡ true
-  shown_here = and_first (shows e.list s) (has_id e.pair.id (pair_of pool s)) first
+  shown_here = and_first (shows e.list s) (has_id e.pair.id (slot_pair pool s)) first
 
   new_pair : (with_other w s).mark.pair ≡ length pool
   new_pair = ap (λ (n : ℕ). other_pair n w.new s.mark.pair) old ∙ same_now w.new s.mark.pair ∙ new
@@ -214,16 +214,16 @@ module _ (e : Edit) (pool : List Pair) (before after : List Slot) (s : Slot) (w 
       ∙ ap (λ (xs : List Pair). xs ++ shown_of which other rest) (shown-append which other left (s' ∷ []))
       ∙ ap₂ (λ (xs ys : List Pair). (xs ++ shown_of which other (s' ∷ [])) ++ ys) (shown-agree which other pool left (agree-more pool e.pair left firsts_within)) (shown-agree which other pool rest (agree-more pool e.pair rest lasts_within))
 
-  pub state-replaced : state_of (pool ++ e.pair ∷ []) ((map (turned_if (taken e pool)) before ++ with_other w s ∷ []) ++ map (turned_if (taken e pool)) after) ≡ edited e (state_of pool (before ++ s ∷ after))
+  pub state-replaced : shown_state (pool ++ e.pair ∷ []) ((map (turned_if (taken e pool)) before ++ with_other w s ∷ []) ++ map (turned_if (taken e pool)) after) ≡ edited e (shown_state pool (before ++ s ∷ after))
   state-replaced =
       let g = turned_if (taken e pool) in
       let other = pool ++ e.pair ∷ [] in
       let s' = with_other w s in
       let d = (map g before ++ s' ∷ []) ++ map g after in
-      let x = pair_of pool s in
+      let x = slot_pair pool s in
       let B = shown_of e.list pool first_slots in
       let A = shown_of e.list pool last_slots in
-      let is_pair : pair_of other s' ≡ e.pair = ap (λ (n : ℕ). get_or other n no_pair) new_pair ∙ there pool e.pair in
+      let is_pair : slot_pair other s' ≡ e.pair = ap (λ (n : ℕ). get_or other n no_pair) new_pair ∙ there pool e.pair in
       let old_list : (which : WhichList) → shown_pairs which pool (before ++ s ∷ after) ≡ shown_of which pool first_slots ++ shown_of which pool (s ∷ last_slots) = λ which.
       shown_pairs-in_order which pool (before ++ s ∷ after) ∙ ap (shown_of which pool) was_in_order ∙ shown-append which pool first_slots (s ∷ last_slots) in
       let none_shown : list_any (has_id e.pair.id) B ≡ false = sym (any_of_shown e.list e.pair.id pool first_slots) ∙ none in
@@ -239,7 +239,7 @@ module _ (e : Edit) (pool : List Pair) (before after : List Slot) (s : Slot) (w 
       ∙ sym (ap (λ (o : Op). apply o e.pair (shown_pairs e.list pool (before ++ s ∷ after))) op) in
       state_edited e pool other (before ++ s ∷ after) d own (λ which ne.
       let hidden : shows which s ≡ false = hidden_elsewhere which e.list s.mark.live s ne shown_here in
-      let stay : (c : List Slot) → shown_of which pool (map g c) ≡ shown_of which pool c = λ c. shown_stay which e.list pool (λ t. goes e.op e.pair (pair_of pool t)) c ne in
+      let stay : (c : List Slot) → shown_of which pool (map g c) ≡ shown_of which pool c = λ c. shown_stay which e.list pool (λ t. goes e.op e.pair (slot_pair pool t)) c ne in
       parts which
       ∙ ap₂ (λ (xs ys : List Pair). (xs ++ shown_of which other (s' ∷ [])) ++ ys) (stay first_slots) (stay last_slots)
       ∙ ap (λ (xs : List Pair). (shown_of which pool first_slots ++ xs) ++ shown_of which pool last_slots) (one_hidden which other s' hidden)

@@ -12,7 +12,7 @@ use Rattle.avp_lists.specs.declared.slots.End.{End}
 use Rattle.avp_lists.specs.declared.slots.End.TheVariants.{Head, Tail}
 use Rattle.avp_lists.specs.declared.slots.Slot.{Slot}
 use Rattle.avp_lists.specs.Instances.{has_id}
-use Rattle.avp_lists.specs.internal.Shown.{shows, shows_at, shows_id, shows_id_at, same_end, entered_at, no_pair, pair_of, pairs_at, shown_pairs, ahead, ahead_at}
+use Rattle.avp_lists.specs.internal.Shown.{shows, shows_at, shows_id, shows_id_at, same_end, entered_at, no_pair, slot_pair, shown_pairs_at, shown_pairs, ahead, ahead_at}
 use Rattle.avp_lists.specs.internal.Slots.{no_slot, slot_at}
 use Rattle.avp_lists.proofs.Edited.{any-shown, any_of_shown, and_first, and_second}
 use Rattle.avp_lists.proofs.InOrder.{in_order, shown_of, any-reverse, any_filter, any-ends, in_order-middle, behind, shown_pairs-in_order}
@@ -29,25 +29,25 @@ get_right [] ys i n e = let same : n ≡ i = omega (arith, e) in ap (slice_get y
 get_right (x ∷ xs) ys i zero e = absurd (omega (arith, e))
 get_right (x ∷ xs) ys i (suc n) e = get_right xs ys i n (omega (arith, e))
 
-pub get_at_head : (which : WhichList) (pool : List Pair) (c : List Slot) (heads at : ℕ) → heads ≡ length (filter (shows_at Head which) c) → at < heads → slice_get (shown_pairs which pool c) at ≡ slice_get (pairs_at Head which pool c) (heads - 1 - at)
+pub get_at_head : (which : WhichList) (pool : List Pair) (c : List Slot) (heads at : ℕ) → heads ≡ length (filter (shows_at Head which) c) → at < heads → slice_get (shown_pairs which pool c) at ≡ slice_get (shown_pairs_at Head which pool c) (heads - 1 - at)
 get_at_head which pool c heads at count lt =
-    let xs = pairs_at Head which pool c in
-    let long : length xs ≡ heads = length-map (filter (shows_at Head which) c) (pair_of pool) ∙ sym count in
+    let xs = shown_pairs_at Head which pool c in
+    let long : length xs ≡ heads = length-map (filter (shows_at Head which) c) (slot_pair pool) ∙ sym count in
     let same = length-reverse xs in
     let inside : at < length (reverse xs) = omega (arith, same, long, lt) in
     let below : at < length xs = omega (arith, long, lt) in
     let back : heads - 1 - at < length xs = omega (arith, long, lt) in
-    get_left (reverse xs) (pairs_at Tail which pool c) at inside
+    get_left (reverse xs) (shown_pairs_at Tail which pool c) at inside
     ∙ slice_get-get_or (reverse xs) at no_pair inside
     ∙ ap (λ (p : Pair). Some p) (get_or-reverse xs at no_pair below)
     ∙ ap (λ (n : ℕ). Some (get_or xs (n - 1 - at) no_pair)) long
     ∙ sym (slice_get-get_or xs (heads - 1 - at) no_pair back)
 
-pub get_at_tail : (which : WhichList) (pool : List Pair) (c : List Slot) (heads at : ℕ) → heads ≡ length (filter (shows_at Head which) c) → heads ≤ at → slice_get (shown_pairs which pool c) at ≡ slice_get (pairs_at Tail which pool c) (at - heads)
+pub get_at_tail : (which : WhichList) (pool : List Pair) (c : List Slot) (heads at : ℕ) → heads ≡ length (filter (shows_at Head which) c) → heads ≤ at → slice_get (shown_pairs which pool c) at ≡ slice_get (shown_pairs_at Tail which pool c) (at - heads)
 get_at_tail which pool c heads at count ge =
-    let xs = pairs_at Head which pool c in
-    let long : length (reverse xs) ≡ heads = length-reverse xs ∙ length-map (filter (shows_at Head which) c) (pair_of pool) ∙ sym count in
-    get_right (reverse xs) (pairs_at Tail which pool c) (at - heads) at (omega (arith, long, ge))
+    let xs = shown_pairs_at Head which pool c in
+    let long : length (reverse xs) ≡ heads = length-reverse xs ∙ length-map (filter (shows_at Head which) c) (slot_pair pool) ∙ sym count in
+    get_right (reverse xs) (shown_pairs_at Tail which pool c) (at - heads) at (omega (arith, long, ge))
 
 -- the first that passes a test
 find_none : (p : Pair → Bool) (xs : List Pair) → list_any p xs ≡ false → find p xs ≡ None
@@ -67,7 +67,7 @@ find_after p (b ∷ bs) after x none h =
     ] none
 
 -- the first slot that shows an instance shows the first instance
-pub found-first : (which : WhichList) (id : AttrId) (pool : List Pair) (c : List Slot) (at : ℕ) → at < length c → shows_id which id pool (slot_at c at) ≡ true → list_any (shows_id which id pool) (ahead_at at c) ≡ false → find (has_id id) (shown_pairs which pool c) ≡ Some (pair_of pool (slot_at c at))
+pub found-first : (which : WhichList) (id : AttrId) (pool : List Pair) (c : List Slot) (at : ℕ) → at < length c → shows_id which id pool (slot_at c at) ≡ true → list_any (shows_id which id pool) (ahead_at at c) ≡ false → find (has_id id) (shown_pairs which pool c) ≡ Some (slot_pair pool (slot_at c at))
 found-first which id pool c at within shown none =
     let before = take at c in
     let s = slot_at c at in
@@ -76,14 +76,14 @@ found-first which id pool c at within shown none =
     let last = behind s.end before after in
     let whole : c ≡ before ++ s ∷ after = sym (take-append-drop at c) ∙ ap (λ (xs : List Slot). before ++ xs) (drop_more c at no_slot within) in
     let order : in_order c ≡ first ++ s ∷ last = ap in_order whole ∙ in_order-middle before after s in
-    let here : shows which s ≡ true = and_first (shows which s) (has_id id (pair_of pool s)) shown in
-    let parts : shown_pairs which pool c ≡ shown_of which pool first ++ pair_of pool s ∷ shown_of which pool last =
+    let here : shows which s ≡ true = and_first (shows which s) (has_id id (slot_pair pool s)) shown in
+    let parts : shown_pairs which pool c ≡ shown_of which pool first ++ slot_pair pool s ∷ shown_of which pool last =
     shown_pairs-in_order which pool c
     ∙ ap (shown_of which pool) order
     ∙ shown-append which pool first (s ∷ last)
-    ∙ ap (λ (b : Bool). shown_of which pool first ++ map (pair_of pool) (cond b (s ∷ filter (shows which) last) (filter (shows which) last))) here in
+    ∙ ap (λ (b : Bool). shown_of which pool first ++ map (slot_pair pool) (cond b (s ∷ filter (shows which) last) (filter (shows which) last))) here in
     ap (find (has_id id)) parts
-    ∙ find_after (has_id id) (shown_of which pool first) (shown_of which pool last) (pair_of pool s) (sym (any_of_shown which id pool first) ∙ none) (and_second (shows which s) (has_id id (pair_of pool s)) shown)
+    ∙ find_after (has_id id) (shown_of which pool first) (shown_of which pool last) (slot_pair pool s) (sym (any_of_shown which id pool first) ∙ none) (and_second (shows which s) (has_id id (slot_pair pool s)) shown)
 
 pub found-none : (which : WhichList) (id : AttrId) (pool : List Pair) (c : List Slot) → list_any (shows_id which id pool) c ≡ false → find (has_id id) (shown_pairs which pool c) ≡ None
 found-none which id pool c none = find_none (has_id id) (shown_pairs which pool c) (sym (any-shown which id pool c) ∙ none)

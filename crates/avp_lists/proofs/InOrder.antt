@@ -10,7 +10,7 @@ use Rattle.avp_lists.specs.declared.lists.List.{List as WhichList}
 use Rattle.avp_lists.specs.declared.slots.End.{End}
 use Rattle.avp_lists.specs.declared.slots.End.TheVariants.{Head, Tail}
 use Rattle.avp_lists.specs.declared.slots.Slot.{Slot}
-use Rattle.avp_lists.specs.internal.Shown.{shows, pair_of, same_end, entered_at, pairs_at, shown_pairs, ahead}
+use Rattle.avp_lists.specs.internal.Shown.{shows, slot_pair, same_end, entered_at, shown_pairs_at, shown_pairs, ahead}
 use Rattle.avp_lists.specs.internal.Slots.{slot_at}
 
 -- those that entered at the head, the last one first, and then those that entered at the tail
@@ -19,7 +19,7 @@ in_order c = reverse (filter (entered_at Head) c) ++ filter (entered_at Tail) c
 
 -- the pairs that slots show in a list, one after the other
 abbrev pub shown_of : WhichList → List Pair → List Slot → List Pair
-shown_of which pool c = map (pair_of pool) (filter (shows which) c)
+shown_of which pool c = map (slot_pair pool) (filter (shows which) c)
 
 -- reversed lists
 pub reverse_more : {X : Type 0} (x : X) (xs : List X) → reverse (x ∷ xs) ≡ reverse xs ++ x ∷ []
@@ -261,10 +261,10 @@ pub shown_pairs-in_order : (which : WhichList) (pool : List Pair) (c : List Slot
 shown_pairs-in_order which pool c =
     let heads = filter (entered_at Head) c in
     let tails = filter (entered_at Tail) c in
-    let part : (end : End) → pairs_at end which pool c ≡ shown_of which pool (filter (entered_at end) c) = λ end. ap (map (pair_of pool)) (sym (filter_both (shows which) (entered_at end) c)) in
+    let part : (end : End) → shown_pairs_at end which pool c ≡ shown_of which pool (filter (entered_at end) c) = λ end. ap (map (slot_pair pool)) (sym (filter_both (shows which) (entered_at end) c)) in
     sym (
-    ap (map (pair_of pool)) (filter-append (shows which) (reverse heads) tails ∙ ap (λ (a : List Slot). a ++ filter (shows which) tails) (filter-reverse (shows which) heads))
-    ∙ map-append (pair_of pool) (reverse (filter (shows which) heads)) (filter (shows which) tails)
-    ∙ ap (λ (a : List Pair). a ++ shown_of which pool tails) (map-reverse (pair_of pool) (filter (shows which) heads))
+    ap (map (slot_pair pool)) (filter-append (shows which) (reverse heads) tails ∙ ap (λ (a : List Slot). a ++ filter (shows which) tails) (filter-reverse (shows which) heads))
+    ∙ map-append (slot_pair pool) (reverse (filter (shows which) heads)) (filter (shows which) tails)
+    ∙ ap (λ (a : List Pair). a ++ shown_of which pool tails) (map-reverse (slot_pair pool) (filter (shows which) heads))
     ∙ sym (ap₂ (λ (a b : List Pair). reverse a ++ b) (part Head) (part Tail))
     )

@@ -6,14 +6,14 @@ use Rattle.avp_lists.specs.declared.slots.Slot.{Slot}
 use Rattle.avp_lists.specs.declared.steps.Step.{Step}
 use Rattle.avp_lists.specs.States.{empty_state, IsLimited}
 use Rattle.avp_lists.specs.internal.Slots.{at_first}
-use Rattle.avp_lists.specs.internal.Steps.{replay, states_of, slots_at, step_at, change_at, turns, node, names_of, swap_of, BacksBelow, StepsWithin, AllCounted, CountsWithin, AllHoused, StatesLimited}
-use Rattle.avp_lists.specs.internal.Shown.{state_of}
+use Rattle.avp_lists.specs.internal.Steps.{replay, shown_states, slots_at, step_at, change_at, turns, node, names_of, swap_of, BacksBelow, StepsWithin, AllCounted, CountsWithin, AllHoused, StatesLimited}
+use Rattle.avp_lists.specs.internal.Shown.{shown_state}
 use Rattle.avp_lists.specs.internal.Slots.{NamesWithin, SwapWithin, Housed}
 use Rattle.avp_lists.proofs.Replay.{node_fits, slots_at-same}
 
 module _ (pool : List Pair) (slots moved : List Slot) (steps : List Step) (firsts : map at_first moved ≡ map at_first slots) where
-  pub states-same : states_of pool moved steps ≡ states_of pool slots steps
-  states-same = ap (λ (f : List Slot). map (state_of pool) (replay f [] steps)) firsts
+  pub states-same : shown_states pool moved steps ≡ shown_states pool slots steps
+  states-same = ap (λ (f : List Slot). map (shown_state pool) (replay f [] steps)) firsts
 
   pub housed-same : AllHoused slots steps → AllHoused moved steps
   housed-same housed k = subst (Housed (step_at steps k).slots (step_at steps k).pairs) (sym (slots_at-same moved slots steps k firsts)) (housed k)

@@ -13,8 +13,8 @@ use Rattle.avp_lists.specs.declared.slots.Swap.{Swap}
 use Rattle.avp_lists.specs.Growth.{adds_one, removes}
 use Rattle.avp_lists.specs.Instances.{has_id}
 use Rattle.avp_lists.specs.Operators.{apply}
-use Rattle.avp_lists.specs.internal.Plans.{end_of, taken, names_in, IsPlan}
-use Rattle.avp_lists.specs.internal.Shown.{shows_id, ahead_at, shown_pairs, state_of}
+use Rattle.avp_lists.specs.internal.Plans.{end_for, taken, names_in, IsPlan}
+use Rattle.avp_lists.specs.internal.Shown.{shows_id, ahead_at, shown_pairs, shown_state}
 use Rattle.avp_lists.specs.internal.Slots.{no_slot, slot_at, flipped, turn_all, with_other, forward, NamesWithin, PairsWithin}
 use Rattle.avp_lists.specs.States.{edited}
 use Rattle.avp_lists.proofs.Editing.{turned_if, turned_where}
@@ -29,7 +29,7 @@ none_added : (s : Slot) → None ≡ Some s → ⊥
 none_added s h = cc
 
 -- the pair gets a slot of its own
-pub plan-added : (e : Edit) (pool : List Pair) (c : List Slot) (s : Slot) (v : Vec ℕ Global) → PairsWithin (length pool) c → adds_one e.op e.pair.id (shown_pairs e.list pool c) ≡ true → s.list ≡ e.list → s.end ≡ end_of e.op → s.mark.live ≡ false → s.mark.pair ≡ length pool → s.first ≡ s.mark → v.items ≡ length c ∷ [] → IsPlan e pool c (record { turned = v; swap = None; added = Some s })
+pub plan-added : (e : Edit) (pool : List Pair) (c : List Slot) (s : Slot) (v : Vec ℕ Global) → PairsWithin (length pool) c → adds_one e.op e.pair.id (shown_pairs e.list pool c) ≡ true → s.list ≡ e.list → s.end ≡ end_for e.op → s.mark.live ≡ false → s.mark.pair ≡ length pool → s.first ≡ s.mark → v.items ≡ length c ∷ [] → IsPlan e pool c (record { turned = v; swap = None; added = Some s })
 plan-added e pool c s v fits adds of_list at_end off pair first N =
     let turned : turn_all v.items (c ++ s ∷ []) ≡ c ++ flipped s ∷ [] = ap (λ (ns : List ℕ). turn_all ns (c ++ s ∷ [])) N ∙ added-turned e pool c s fits adds of_list at_end off pair in
     let P : List Slot → Type 0 = λ d. PairsWithin (length (pool ++ e.pair ∷ [])) d in
@@ -40,11 +40,11 @@ plan-added e pool c s v fits adds of_list at_end off pair first N =
       swap = omega arith;
       added = λ t is. let same : s ≡ t = cc in subst R same (off, first);
       within = subst P (sym turned) (added-within e pool c s fits adds of_list at_end off pair);
-      state = ap (state_of (pool ++ e.pair ∷ [])) turned ∙ state-added e pool c s fits adds of_list at_end off pair;
+      state = ap (shown_state (pool ++ e.pair ∷ [])) turned ∙ state-added e pool c s fits adds of_list at_end off pair;
     }
 
 -- what is turned without a swap and without a slot more
-plain : (e : Edit) (pool : List Pair) (c d : List Slot) (v : Vec ℕ Global) → NamesWithin (length c) v.items → turn_all v.items c ≡ d → PairsWithin (length pool) d → state_of pool d ≡ edited e (state_of pool c) → IsPlan e pool c (record { turned = v; swap = None; added = None })
+plain : (e : Edit) (pool : List Pair) (c d : List Slot) (v : Vec ℕ Global) → NamesWithin (length c) v.items → turn_all v.items c ≡ d → PairsWithin (length pool) d → shown_state pool d ≡ edited e (shown_state pool c) → IsPlan e pool c (record { turned = v; swap = None; added = None })
 plain e pool c d v names turned within state =
     let same : turn_all v.items (c ++ []) ≡ d = ap (turn_all v.items) (append-nil c) ∙ turned in
     let P : List Slot → Type 0 = λ x. PairsWithin (length pool) x in
@@ -54,7 +54,7 @@ plain e pool c d v names turned within state =
       swap = omega arith;
       added = λ t is. absurd (none_added t is);
       within = subst P (sym same) within;
-      state = ap (state_of pool) same ∙ state;
+      state = ap (shown_state pool) same ∙ state;
     }
 
 -- pairs go
@@ -118,5 +118,5 @@ plan-replaced e pool c first w v fits op within shown none at old new N =
       swap = omega (arith, at, end, within);
       added = λ t is. absurd (none_added t is);
       within = subst A (sym turned) (replaced-within e pool before after s w op parts_fit shown none here old new);
-      state = ap (state_of other) turned ∙ state-replaced e pool before after s w op parts_fit shown none here old new ∙ ap (λ (x : List Slot). edited e (state_of pool x)) (sym whole);
+      state = ap (shown_state other) turned ∙ state-replaced e pool before after s w op parts_fit shown none here old new ∙ ap (λ (x : List Slot). edited e (shown_state pool x)) (sym whole);
     }

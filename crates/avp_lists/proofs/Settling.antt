@@ -15,8 +15,8 @@ use Rattle.avp_lists.specs.declared.steps.Change.TheVariants.{Turned, Back}
 use Rattle.avp_lists.specs.declared.steps.Step.{Step}
 use Rattle.avp_lists.specs.States.{empty_state, IsLimited}
 use Rattle.avp_lists.specs.internal.Slots.{no_slot, slot_at, is_live, at_first, kept, turn_all, Housed, PairsWithin}
-use Rattle.avp_lists.specs.internal.Steps.{states_of, after, every, slots_at, step_at, change_at, turns, BacksBelow, NamesCounted, AllCounted, CountsWithin, CountsGrow, AllHoused, StatesLimited}
-use Rattle.avp_lists.specs.internal.Shown.{shows, pair_of, shown_pairs, state_of}
+use Rattle.avp_lists.specs.internal.Steps.{shown_states, after, every, slots_at, step_at, change_at, turns, BacksBelow, NamesCounted, AllCounted, CountsWithin, CountsGrow, AllHoused, StatesLimited}
+use Rattle.avp_lists.specs.internal.Shown.{shows, slot_pair, shown_pairs, shown_state}
 use Rattle.avp_lists.proofs.InOrder.{in_order, shown_of, in_order-map, in_order-filter, shown_pairs-in_order}
 
 pub firsts-kept : (c : List Slot) → map at_first (map kept c) ≡ map kept c
@@ -26,8 +26,8 @@ firsts-kept (s ∷ ss) = ap (λ (xs : List Slot). kept s ∷ xs) (firsts-kept ss
 shown-kept : (which : WhichList) (pool : List Pair) (c : List Slot) → shown_of which pool (map kept c) ≡ shown_of which pool c
 shown-kept which pool [] = refl
 shown-kept which pool (s ∷ ss) =
-    elim (shows which s) as (λ b. map (pair_of pool) (cond b (kept s ∷ filter (shows which) (map kept ss)) (filter (shows which) (map kept ss))) ≡ map (pair_of pool) (cond b (s ∷ filter (shows which) ss) (filter (shows which) ss))) [
-      | true ↦ ap (λ (xs : List Pair). pair_of pool s ∷ xs) (shown-kept which pool ss)
+    elim (shows which s) as (λ b. map (slot_pair pool) (cond b (kept s ∷ filter (shows which) (map kept ss)) (filter (shows which) (map kept ss))) ≡ map (slot_pair pool) (cond b (s ∷ filter (shows which) ss) (filter (shows which) ss))) [
+      | true ↦ ap (λ (xs : List Pair). slot_pair pool s ∷ xs) (shown-kept which pool ss)
       | false ↦ shown-kept which pool ss
     ]
 
@@ -38,8 +38,8 @@ shown_pairs-kept which pool c =
     ∙ shown-kept which pool (in_order c)
     ∙ sym (shown_pairs-in_order which pool c)
 
-state_of-kept : (pool : List Pair) (c : List Slot) → state_of pool (map kept c) ≡ state_of pool c
-state_of-kept pool c = rw (shown_pairs-kept Request pool c, shown_pairs-kept Reply pool c, shown_pairs-kept Control pool c) refl
+shown_state-kept : (pool : List Pair) (c : List Slot) → shown_state pool (map kept c) ≡ shown_state pool c
+shown_state-kept pool c = rw (shown_pairs-kept Request pool c, shown_pairs-kept Reply pool c, shown_pairs-kept Control pool c) refl
 
 kept-housed : (n : ℕ) (c : List Slot) → PairsWithin n c → PairsWithin n (map kept c)
 kept-housed n c pooled i = elim (cases_lt i (length c)) [
@@ -61,11 +61,11 @@ shown-live which pool [] = refl
 shown-live which pool (s ∷ ss) =
     let rest = shown-live which pool ss in
     elim (is_live s) as (λ b. is_live s ≡ b → shown_of which pool (cond b (s ∷ filter is_live ss) (filter is_live ss)) ≡ shown_of which pool (s ∷ ss)) [
-      | true ↦ λ h. elim (shows which s) as (λ b. map (pair_of pool) (cond b (s ∷ filter (shows which) (filter is_live ss)) (filter (shows which) (filter is_live ss))) ≡ map (pair_of pool) (cond b (s ∷ filter (shows which) ss) (filter (shows which) ss))) [
-        | true ↦ ap (λ (xs : List Pair). pair_of pool s ∷ xs) rest
+      | true ↦ λ h. elim (shows which s) as (λ b. map (slot_pair pool) (cond b (s ∷ filter (shows which) (filter is_live ss)) (filter (shows which) (filter is_live ss))) ≡ map (slot_pair pool) (cond b (s ∷ filter (shows which) ss) (filter (shows which) ss))) [
+        | true ↦ ap (λ (xs : List Pair). slot_pair pool s ∷ xs) rest
         | false ↦ rest
       ]
-      | false ↦ λ h. rest ∙ sym (ap (λ (b : Bool). map (pair_of pool) (cond b (s ∷ filter (shows which) ss) (filter (shows which) ss))) (live-shows which s h))
+      | false ↦ λ h. rest ∙ sym (ap (λ (b : Bool). map (slot_pair pool) (cond b (s ∷ filter (shows which) ss) (filter (shows which) ss))) (live-shows which s h))
     ] refl
 
 shown_pairs-live : (which : WhichList) (pool : List Pair) (c : List Slot) → shown_pairs which pool (filter is_live c) ≡ shown_pairs which pool c
@@ -91,8 +91,8 @@ live-within n (s ∷ ss) pooled =
 pub settled_within : (n : ℕ) (c after_slots : List Slot) → after_slots ≡ map kept (filter is_live c) → PairsWithin n c → PairsWithin n after_slots
 settled_within n c after_slots K pooled = subst (PairsWithin n) (sym K) (kept-housed n (filter is_live c) (live-within n c pooled))
 
-pub settled_state : (pool : List Pair) (c : List Slot) → state_of pool (map kept (filter is_live c)) ≡ state_of pool c
-settled_state pool c = state_of-kept pool (filter is_live c) ∙ rw (shown_pairs-live Request pool c, shown_pairs-live Reply pool c, shown_pairs-live Control pool c) refl
+pub settled_state : (pool : List Pair) (c : List Slot) → shown_state pool (map kept (filter is_live c)) ≡ shown_state pool c
+settled_state pool c = shown_state-kept pool (filter is_live c) ∙ rw (shown_pairs-live Request pool c, shown_pairs-live Reply pool c, shown_pairs-live Control pool c) refl
 
 empty_limited : IsLimited empty_state
 empty_limited Request = omega arith
@@ -166,15 +166,15 @@ module _ (slots : List Slot) (steps : List Step) (v : Vec ℕ Global) (e : Step)
       let Q : List (List Slot) → Type 0 = λ xs. (k : ℕ) → Housed (step_at (e ∷ []) k).slots (step_at (e ∷ []) k).pairs (get_or xs k []) in
       subst P (sym N) (subst Q (sym every-alone) (λ k. housed-one k housed))
 
-  pub states-alone : (pool : List Pair) → states_of pool slots steps ≡ state_of pool slots ∷ []
-  states-alone pool = ap (map (state_of pool)) every-alone
+  pub states-alone : (pool : List Pair) → shown_states pool slots steps ≡ shown_state pool slots ∷ []
+  states-alone pool = ap (map (shown_state pool)) every-alone
 
   one-limited : (s : State) (k : ℕ) → IsLimited s → IsLimited (get_or (s ∷ []) k empty_state)
   one-limited s zero limited = limited
   one-limited s (suc k) limited = empty_limited
 
-  pub limited-alone : (pool : List Pair) → IsLimited (state_of pool slots) → StatesLimited pool slots steps
-  limited-alone pool limited k = let P : List State → Type 0 = λ xs. IsLimited (get_or xs k empty_state) in subst P (sym (states-alone pool)) (one-limited (state_of pool slots) k limited)
+  pub limited-alone : (pool : List Pair) → IsLimited (shown_state pool slots) → StatesLimited pool slots steps
+  limited-alone pool limited k = let P : List State → Type 0 = λ xs. IsLimited (get_or xs k empty_state) in subst P (sym (states-alone pool)) (one-limited (shown_state pool slots) k limited)
 
 -- one slot more is kept
 pub kept_more : (xs : List Slot) (i : ℕ) → i < length xs → set (map kept (take i xs) ++ drop i xs) i (kept (get_or (map kept (take i xs) ++ drop i xs) i no_slot)) ≡ map kept (take (i + 1) xs) ++ drop (i + 1) xs

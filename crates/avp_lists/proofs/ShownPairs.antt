@@ -16,24 +16,24 @@ use Rattle.avp_lists.specs.declared.slots.Slot.{Slot}
 use Rattle.avp_lists.specs.declared.steps.Step.{Step}
 use Rattle.avp_lists.specs.internal.Slots.{no_slot, slot_at, Housed, PairsWithin}
 use Rattle.avp_lists.specs.States.{empty_state, list_of}
-use Rattle.avp_lists.specs.internal.Steps.{every, slots_at, states_of, step_at, AllHoused, CountsWithin}
-use Rattle.avp_lists.specs.internal.Shown.{same_list, shows, shows_id, pair_of, same_end, entered_at, shown_pairs, state_of}
+use Rattle.avp_lists.specs.internal.Steps.{every, slots_at, shown_states, step_at, AllHoused, CountsWithin}
+use Rattle.avp_lists.specs.internal.Shown.{same_list, shows, shows_id, slot_pair, same_end, entered_at, shown_pairs, shown_state}
 use Rattle.avp_lists.specs.internal.SlotLaws.{length-every}
 use Rattle.avp_lists.proofs.InOrder.{in_order, shown_of, in_order-append, in_order-filter, all-filter, all-reverse, all-in_order, length-in_order, shown_pairs-in_order}
 
-pub list_of-state_of : (which : WhichList) (pool : List Pair) (c : List Slot) → list_of which (state_of pool c) ≡ shown_pairs which pool c
-list_of-state_of Request pool c = refl
-list_of-state_of Reply pool c = refl
-list_of-state_of Control pool c = refl
+pub list_of-shown_state : (which : WhichList) (pool : List Pair) (c : List Slot) → list_of which (shown_state pool c) ≡ shown_pairs which pool c
+list_of-shown_state Request pool c = refl
+list_of-shown_state Reply pool c = refl
+list_of-shown_state Control pool c = refl
 
 -- the present state is what the slots show
-pub present-shown : (pool : List Pair) (slots : List Slot) (steps : List Step) (place : ℕ) → place < length steps → slots_at slots steps place ≡ slots → get_or (states_of pool slots steps) place empty_state ≡ state_of pool slots
+pub present-shown : (pool : List Pair) (slots : List Slot) (steps : List Step) (place : ℕ) → place < length steps → slots_at slots steps place ≡ slots → get_or (shown_states pool slots steps) place empty_state ≡ shown_state pool slots
 present-shown pool slots steps place within standing =
     let inside : place < length (every slots steps) = omega (arith, length-every slots steps) in
-    get_or-map (state_of pool) (every slots steps) place [] empty_state inside ∙ ap (state_of pool) standing
+    get_or-map (shown_state pool) (every slots steps) place [] empty_state inside ∙ ap (shown_state pool) standing
 
-pub present-list : (which : WhichList) (pool : List Pair) (slots : List Slot) (steps : List Step) (place : ℕ) → place < length steps → slots_at slots steps place ≡ slots → list_of which (get_or (states_of pool slots steps) place empty_state) ≡ shown_pairs which pool slots
-present-list which pool slots steps place within standing = ap (list_of which) (present-shown pool slots steps place within standing) ∙ list_of-state_of which pool slots
+pub present-list : (which : WhichList) (pool : List Pair) (slots : List Slot) (steps : List Step) (place : ℕ) → place < length steps → slots_at slots steps place ≡ slots → list_of which (get_or (shown_states pool slots steps) place empty_state) ≡ shown_pairs which pool slots
+present-list which pool slots steps place within standing = ap (list_of which) (present-shown pool slots steps place within standing) ∙ list_of-shown_state which pool slots
 
 -- the pairs that are shown are in the pool
 pub pairs-now : (m n : ℕ) (slots : List Slot) (steps : List Step) (place : ℕ) → AllHoused slots steps → CountsWithin m n steps → slots_at slots steps place ≡ slots → PairsWithin n slots
@@ -47,7 +47,7 @@ pairs-now m n slots steps place housed counts standing i live =
 
 -- slots more
 pub shown-append : (which : WhichList) (pool : List Pair) (xs ys : List Slot) → shown_of which pool (xs ++ ys) ≡ shown_of which pool xs ++ shown_of which pool ys
-shown-append which pool xs ys = ap (map (pair_of pool)) (filter-append (shows which) xs ys) ∙ map-append (pair_of pool) (filter (shows which) xs) (filter (shows which) ys)
+shown-append which pool xs ys = ap (map (slot_pair pool)) (filter-append (shows which) xs ys) ∙ map-append (slot_pair pool) (filter (shows which) xs) (filter (shows which) ys)
 
 -- the pairs that are put at one end of others
 abbrev pub beside : End → List Pair → List Pair → List Pair
@@ -86,7 +86,7 @@ shown_pairs-tails which pool c d heads tails =
 pub length-shown_pairs : (which : WhichList) (pool : List Pair) (c : List Slot) → length (shown_pairs which pool c) ≡ length (filter (shows which) c)
 length-shown_pairs which pool c =
     ap length (shown_pairs-in_order which pool c)
-    ∙ length-map (filter (shows which) (in_order c)) (pair_of pool)
+    ∙ length-map (filter (shows which) (in_order c)) (slot_pair pool)
     ∙ ap length (sym (in_order-filter (shows which) c))
     ∙ length-in_order (filter (shows which) c)
 
@@ -100,27 +100,27 @@ pub shown-dark : (which : WhichList) (pool : List Pair) (c : List Slot) → ((i 
 shown-dark which pool [] dark = refl
 shown-dark which pool (s ∷ ss) dark =
     let rest = shown-dark which pool ss (λ i live. dark (suc i) live) in
-    elim s.mark.live as (λ b. s.mark.live ≡ b → map (pair_of pool) (cond (b && same_list which s.list) (s ∷ filter (shows which) ss) (filter (shows which) ss)) ≡ []) [
+    elim s.mark.live as (λ b. s.mark.live ≡ b → map (slot_pair pool) (cond (b && same_list which s.list) (s ∷ filter (shows which) ss) (filter (shows which) ss)) ≡ []) [
       | true ↦ λ h. absurd (dark 0 h)
       | false ↦ λ h. rest
     ] refl
 
 -- pools that agree on what is shown
-pub shown-agree : (which : WhichList) (pool other : List Pair) (c : List Slot) → ((i : ℕ) → (slot_at c i).mark.live ≡ true → pair_of pool (slot_at c i) ≡ pair_of other (slot_at c i)) → shown_of which pool c ≡ shown_of which other c
+pub shown-agree : (which : WhichList) (pool other : List Pair) (c : List Slot) → ((i : ℕ) → (slot_at c i).mark.live ≡ true → slot_pair pool (slot_at c i) ≡ slot_pair other (slot_at c i)) → shown_of which pool c ≡ shown_of which other c
 shown-agree which pool other [] agree = refl
 shown-agree which pool other (s ∷ ss) agree =
     let rest = shown-agree which pool other ss (λ i live. agree (suc i) live) in
-    elim s.mark.live as (λ b. s.mark.live ≡ b → map (pair_of pool) (cond (b && same_list which s.list) (s ∷ filter (shows which) ss) (filter (shows which) ss)) ≡ map (pair_of other) (cond (b && same_list which s.list) (s ∷ filter (shows which) ss) (filter (shows which) ss))) [
-      | true ↦ λ h. elim (same_list which s.list) as (λ b. map (pair_of pool) (cond b (s ∷ filter (shows which) ss) (filter (shows which) ss)) ≡ map (pair_of other) (cond b (s ∷ filter (shows which) ss) (filter (shows which) ss))) [
+    elim s.mark.live as (λ b. s.mark.live ≡ b → map (slot_pair pool) (cond (b && same_list which s.list) (s ∷ filter (shows which) ss) (filter (shows which) ss)) ≡ map (slot_pair other) (cond (b && same_list which s.list) (s ∷ filter (shows which) ss) (filter (shows which) ss))) [
+      | true ↦ λ h. elim (same_list which s.list) as (λ b. map (slot_pair pool) (cond b (s ∷ filter (shows which) ss) (filter (shows which) ss)) ≡ map (slot_pair other) (cond b (s ∷ filter (shows which) ss) (filter (shows which) ss))) [
         | true ↦ ap₂ (λ (x : Pair) (xs : List Pair). x ∷ xs) (agree 0 h) rest
         | false ↦ rest
       ]
       | false ↦ λ h. rest
     ] refl
 
-pub shown_pairs-agree : (which : WhichList) (pool other : List Pair) (c : List Slot) → ((i : ℕ) → (slot_at c i).mark.live ≡ true → pair_of pool (slot_at c i) ≡ pair_of other (slot_at c i)) → shown_pairs which pool c ≡ shown_pairs which other c
+pub shown_pairs-agree : (which : WhichList) (pool other : List Pair) (c : List Slot) → ((i : ℕ) → (slot_at c i).mark.live ≡ true → slot_pair pool (slot_at c i) ≡ slot_pair other (slot_at c i)) → shown_pairs which pool c ≡ shown_pairs which other c
 shown_pairs-agree which pool other c agree =
-    let P : Slot → Type 0 = λ s. s.mark.live ≡ true → pair_of pool s ≡ pair_of other s in
+    let P : Slot → Type 0 = λ s. s.mark.live ≡ true → slot_pair pool s ≡ slot_pair other s in
     shown_pairs-in_order which pool c ∙ shown-agree which pool other (in_order c) (all-in_order P c agree) ∙ sym (shown_pairs-in_order which other c)
 
 -- slots more that show nothing
@@ -138,10 +138,10 @@ dark_more which pool c d dark =
     ∙ sym (shown_pairs-in_order which pool c)
 
 -- what is shown is not changed by slots that show nothing, nor by another pool that has the same pairs there
-module _ (pool other : List Pair) (c d more : List Slot) (dark : (i : ℕ) → (slot_at d i).mark.live ≡ true → ⊥) (dark_more_slots : (i : ℕ) → (slot_at more i).mark.live ≡ true → ⊥) (agree : (i : ℕ) → (slot_at c i).mark.live ≡ true → pair_of other (slot_at c i) ≡ pair_of pool (slot_at c i)) where
+module _ (pool other : List Pair) (c d more : List Slot) (dark : (i : ℕ) → (slot_at d i).mark.live ≡ true → ⊥) (dark_more_slots : (i : ℕ) → (slot_at more i).mark.live ≡ true → ⊥) (agree : (i : ℕ) → (slot_at c i).mark.live ≡ true → slot_pair other (slot_at c i) ≡ slot_pair pool (slot_at c i)) where
   shown_pairs-same : (which : WhichList) → shown_pairs which other (c ++ more) ≡ shown_pairs which pool (c ++ d)
   shown_pairs-same which =
       dark_more which other c more dark_more_slots ∙ shown_pairs-agree which other pool c agree ∙ sym (dark_more which pool c d dark)
 
-  pub state_of-same : state_of other (c ++ more) ≡ state_of pool (c ++ d)
-  state_of-same = rw (shown_pairs-same Request, shown_pairs-same Reply, shown_pairs-same Control) refl
+  pub shown_state-same : shown_state other (c ++ more) ≡ shown_state pool (c ++ d)
+  shown_state-same = rw (shown_pairs-same Request, shown_pairs-same Reply, shown_pairs-same Control) refl

@@ -7,7 +7,7 @@ use Rattle.avp_lists.specs.declared.lists.List.{List as WhichList}
 use Rattle.avp_lists.specs.declared.lists.List.TheVariants.{Request, Reply, Control}
 use Rattle.avp_lists.specs.declared.slots.End.TheVariants.{Head, Tail}
 use Rattle.avp_lists.specs.declared.slots.Slot.{Slot}
-use Rattle.avp_lists.specs.internal.Shown.{same_list, shows, no_pair, pair_of, entered_at, shown_pairs, state_of}
+use Rattle.avp_lists.specs.internal.Shown.{same_list, shows, no_pair, slot_pair, entered_at, shown_pairs, shown_state}
 use Rattle.avp_lists.specs.internal.Slots.{slot_at, at_first, PairsWithin}
 use Rattle.avp_lists.proofs.Edited.{same_itself, within-append, within-more}
 use Rattle.avp_lists.proofs.InOrder.{shown_of}
@@ -58,7 +58,7 @@ fresh-tails which at zero = refl
 fresh-tails which at (suc n) = ap (λ (xs : List Slot). fresh_slot which at ∷ xs) (fresh-tails which (at + 1) n)
 
 -- and stand for a part of the pool
-pub fresh-pairs : (pool : List Pair) (which : WhichList) (at n : ℕ) → at + n ≤ length pool → map (pair_of pool) (fresh which at n) ≡ take n (drop at pool)
+pub fresh-pairs : (pool : List Pair) (which : WhichList) (at n : ℕ) → at + n ≤ length pool → map (slot_pair pool) (fresh which at n) ≡ take n (drop at pool)
 fresh-pairs pool which at zero h = refl
 fresh-pairs pool which at (suc n) h =
     let lt : at < length pool = omega (arith, h) in
@@ -96,22 +96,22 @@ module _ (which : WhichList) (pool xs other : List Pair) (slots more : List Slot
   started-pairs within one =
       let end = fresh which (length pool) (length xs) in
       let long : length other ≡ length pool + length xs = ap length P ∙ length-append pool xs in
-      let agree : (i : ℕ) → (slot_at slots i).mark.live ≡ true → pair_of other (slot_at slots i) ≡ pair_of pool (slot_at slots i) = λ i live. ap (λ (x : List Pair). pair_of x (slot_at slots i)) P ∙ get_or_append_left pool xs no_pair (slot_at slots i).mark.pair (within i live) in
+      let agree : (i : ℕ) → (slot_at slots i).mark.live ≡ true → slot_pair other (slot_at slots i) ≡ slot_pair pool (slot_at slots i) = λ i live. ap (λ (x : List Pair). slot_pair x (slot_at slots i)) P ∙ get_or_append_left pool xs no_pair (slot_at slots i).mark.pair (within i live) in
       let new : shown_of one other end ≡ cond (same_list one which) xs [] = elim (same_list one which) as (λ b. same_list one which ≡ b → shown_of one other end ≡ cond b xs []) [
         | true ↦ λ h.
-            ap (map (pair_of other)) (fresh-of one which h (length pool) (length xs))
+            ap (map (slot_pair other)) (fresh-of one which h (length pool) (length xs))
             ∙ fresh-pairs other which (length pool) (length xs) (omega (arith, long))
             ∙ ap (λ (x : List Pair). take (length xs) (drop (length pool) x)) P
             ∙ ap (take (length xs)) (drop_at pool xs (length pool) refl)
             ∙ take_all (length xs) xs (omega arith)
-        | false ↦ λ h. ap (map (pair_of other)) (fresh-hidden one which h (length pool) (length xs))
+        | false ↦ λ h. ap (map (slot_pair other)) (fresh-hidden one which h (length pool) (length xs))
       ] refl in
       ap (shown_pairs one other) N
       ∙ shown_pairs-tails one other slots end (fresh-heads which (length pool) (length xs)) (fresh-tails which (length pool) (length xs))
       ∙ ap₂ (λ (a b : List Pair). a ++ b) (shown_pairs-agree one other pool slots agree) new
 
 -- the three lists
-pub started-state : (pool0 pool1 pool2 pool : List Pair) (slots0 slots1 slots2 slots : List Slot) (R P C : List Pair) → pool0 ≡ [] → slots0 ≡ [] → pool1 ≡ pool0 ++ R → slots1 ≡ slots0 ++ fresh Request (length pool0) (length R) → pool2 ≡ pool1 ++ P → slots2 ≡ slots1 ++ fresh Reply (length pool1) (length P) → pool ≡ pool2 ++ C → slots ≡ slots2 ++ fresh Control (length pool2) (length C) → (state_of pool slots ≡ record { request = R; reply = P; control = C }) × (map at_first slots ≡ slots) × PairsWithin (length pool) slots
+pub started-state : (pool0 pool1 pool2 pool : List Pair) (slots0 slots1 slots2 slots : List Slot) (R P C : List Pair) → pool0 ≡ [] → slots0 ≡ [] → pool1 ≡ pool0 ++ R → slots1 ≡ slots0 ++ fresh Request (length pool0) (length R) → pool2 ≡ pool1 ++ P → slots2 ≡ slots1 ++ fresh Reply (length pool1) (length P) → pool ≡ pool2 ++ C → slots ≡ slots2 ++ fresh Control (length pool2) (length C) → (shown_state pool slots ≡ record { request = R; reply = P; control = C }) × (map at_first slots ≡ slots) × PairsWithin (length pool) slots
 started-state pool0 pool1 pool2 pool slots0 slots1 slots2 slots R P C zp zs p1 s1 p2 s2 p3 s3 =
     let A : List Slot → Type 0 = λ c. PairsWithin (length pool0) c in
     let w0 : PairsWithin (length pool0) slots0 = subst A (sym zs) (λ i live. cc) in

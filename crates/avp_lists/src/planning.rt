@@ -4,7 +4,7 @@ ghost use Rattle.std.specs.List.{list_any};
 ghost use Rattle.avp_lists.specs.internal.Slots.{slot_at, PairsWithin};
 ghost use Rattle.avp_lists.specs.internal.Shown.{shows_id, ahead_at, shown_pairs};
 ghost use Rattle.avp_lists.specs.Growth.{adds_one, removes};
-ghost use Rattle.avp_lists.specs.internal.Plans.{enters, end_of, goes, taken, names_in, IsPlan};
+ghost use Rattle.avp_lists.specs.internal.Plans.{enters, end_for, goes, taken, names_in, IsPlan};
 ghost use Rattle.avp_lists.specs.declared.edits.Op.TheVariants.{AddNew, Replace};
 
 use crate::attributes::Pair;
@@ -68,8 +68,8 @@ fn push_going(
 }
 
 // The end at which an operator adds its pair.
-fn end_of(op: Op) -> End
-    ensures { result ≡ end_of op }
+fn end_for(op: Op) -> End
+    ensures { result ≡ end_for op }
 {
     match op {
         Op::Prepend => End::Head,
@@ -96,7 +96,7 @@ fn plan_addition(
     };
     let added = Slot {
         list: edit.list,
-        end: end_of(edit.op),
+        end: end_for(edit.op),
         mark,
         first: mark,
     };

@@ -5,7 +5,7 @@ ghost use Rattle.std.specs.List.{list_any};
 ghost use Rattle.avp_lists.specs.Instances.{has_id};
 ghost use Rattle.avp_lists.specs.internal.Slots.{slot_at, PairsWithin};
 ghost use Rattle.avp_lists.specs.declared.slots.End.TheVariants.{Head, Tail};
-ghost use Rattle.avp_lists.specs.internal.Shown.{shows, shows_at, shows_id, shows_id_at, ahead_at, pairs_at, shown_pairs};
+ghost use Rattle.avp_lists.specs.internal.Shown.{shows, shows_at, shows_id, shows_id_at, ahead_at, shown_pairs_at, shown_pairs};
 
 use crate::attributes::{AttrId, Pair, copy_pair};
 use crate::lists::List;
@@ -65,7 +65,7 @@ fn push_shown(
     end: End,
 ) -> Result<(), AllocError>
     requires { PairsWithin (length pool.now) slots.now }
-    ensures { OnOk result (made.new.items ≡ made.old.items ++ pairs_at end list pool.now slots.now) }
+    ensures { OnOk result (made.new.items ≡ made.old.items ++ shown_pairs_at end list pool.now slots.now) }
 {
     for slot in slots {
         if shows_at(slot, list, end) {
@@ -101,7 +101,7 @@ fn pair_at<'a>(
     at: usize,
 ) -> Option<&'a Pair>
     requires { PairsWithin (length pool.now) slots.now }
-    ensures { option_copied result ≡ slice_get (pairs_at end list pool.now slots.now) at }
+    ensures { option_copied result ≡ slice_get (shown_pairs_at end list pool.now slots.now) at }
 {
     let mut left = at;
     for slot in slots {

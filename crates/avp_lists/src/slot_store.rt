@@ -289,9 +289,9 @@ impl SlotStore {
 
 impl Store for SlotStore {
     ghost use Rattle.std.specs.Prelude.{◌+◌, ◌-◌, min, vec_capacity};
-    ghost use Rattle.avp_lists.specs.internal.Steps.{states_of};
+    ghost use Rattle.avp_lists.specs.internal.Steps.{shown_states};
 
-    ghost history = { λ s. record { states = states_of s.pool.items s.slots.items s.steps.items; place = s.place } };
+    ghost history = { λ s. record { states = shown_states s.pool.items s.slots.items s.steps.items; place = s.place } };
 
     ghost room = { λ s. min (vec_capacity s.steps) (vec_capacity s.nexts) - (s.place + 1) };
 

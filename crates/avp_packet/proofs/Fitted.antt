@@ -12,7 +12,7 @@ use Rattle.avp_dict.specs.Limits.{fits, greatest_length, is_known, is_of_kind, i
 use Rattle.avp_dict.specs.Names.{Described, described}
 use Rattle.avp_dict.specs.Octets.{ends_in_nul, is_hidden, is_hideable, octets, octets_of, read_by, read_value, value_of_octets, value_read}
 use Rattle.avp_packet.specs.Hiding.{shown}
-use Rattle.avp_packet.specs.Meanings.{pair_of, value_meant, value_shown}
+use Rattle.avp_packet.specs.Meanings.{pair_meant, value_meant, value_shown}
 use Rattle.avp_packet.proofs.Octets.{AreBytes, IsRead, IsShown, octets_read, shown_holds}
 use Rattle.avp_packet.proofs.Rooms.{and_right, by_test}
 
@@ -97,7 +97,7 @@ module _ (dictionary : Dictionary) where
         (λ h. rw h (octets_fit id os bytes short))
 
     -- a pair read fits where its id is known and holds so many octets
-    pub pair_fits : (id : AttrId) (os : List ℕ) → is_known id dictionary ≡ true → AreBytes os → length os ≤ max_octets id dictionary → fits (pair_of dictionary secret authenticator id os) dictionary ≡ true
+    pub pair_fits : (id : AttrId) (os : List ℕ) → is_known id dictionary ≡ true → AreBytes os → length os ≤ max_octets id dictionary → fits (pair_meant dictionary secret authenticator id os) dictionary ≡ true
     unfolding fits
     pair_fits id os known bytes short =
         let v = value_fits id os bytes short in

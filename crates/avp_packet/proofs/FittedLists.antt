@@ -20,8 +20,8 @@ use Rattle.avp_dict.specs.Names.{unless_three, vendor_format}
 use Rattle.avp_dict.specs.Sent.{is_container}
 use Rattle.avp_dict.specs.Settled.{holds, is_in_format}
 use Rattle.avp_dict.specs.Vendors.{is_format}
-use Rattle.avp_packet.specs.Meanings.{Piece, Run, Sub, are_subs, begins_sub, extended_pair, extended_type, first_pairs, first_run, first_sub, joined, long_pair, meaning, meaning_behind, others, pair_of, piece_in, piece_of, raw_pair, run, run_with, sub_length, sub_pair, subs, subs_behind, subs_by, vendor_of, vendor_pairs, vendor_subs}
-use Rattle.avp_packet.specs.Splitting.{Part, is_whole, parts, parts_behind}
+use Rattle.avp_packet.specs.Meanings.{Piece, Run, Sub, are_subs, begins_sub, extended_pair, extended_type, first_pairs, first_run, first_sub, joined, long_pair, attribute_pairs, meaning_behind, others, pair_meant, piece_in, piece_of, raw_pair, run, run_with, sub_length, sub_pair, subs, subs_behind, subs_by, vendor_of, vendor_pairs, vendor_subs}
+use Rattle.avp_packet.specs.Splitting.{Part, is_whole_attribute, parts, parts_behind}
 use Rattle.avp_packet.specs.VendorFormats.{known_format, usable_format}
 use Rattle.avp_packet.proofs.Fitted.{pair_fits}
 use Rattle.avp_packet.proofs.Octets.{AreBytes, bytes-append, bytes-drop, bytes-take}
@@ -49,7 +49,7 @@ good_behind (suc k) [] h = tt
 good_behind (suc k) (o ∷ os) h = good_behind k os h.1
 good_behind zero (t ∷ []) h = tt
 good_behind zero (t ∷ n ∷ os) h =
-    by_test (AreGood (cond (is_whole n os) (record { number = t; value = take (n - 2) os } ∷ parts_behind (n - 2) os) [])) (is_whole n os)
+    by_test (AreGood (cond (is_whole_attribute n os) (record { number = t; value = take (n - 2) os } ∷ parts_behind (n - 2) os) [])) (is_whole_attribute n os)
     (λ e. rw e (record { number = h.0; short = let few = length-take (n - 2) os in let low : n < 256 = h.1.0 in omega arith; bytes = bytes-take (n - 2) os h.1.1 }, good_behind (n - 2) os h.1.1))
     (λ e. rw e tt)
 
@@ -60,7 +60,7 @@ size_behind (suc k) [] = omega arith
 size_behind (suc k) (o ∷ os) = size_behind k os
 size_behind zero (t ∷ []) = omega arith
 size_behind zero (t ∷ n ∷ os) =
-    by_test (size (cond (is_whole n os) (record { number = t; value = take (n - 2) os } ∷ parts_behind (n - 2) os) []) ≤ length (t ∷ n ∷ os)) (is_whole n os)
+    by_test (size (cond (is_whole_attribute n os) (record { number = t; value = take (n - 2) os } ∷ parts_behind (n - 2) os) []) ≤ length (t ∷ n ∷ os)) (is_whole_attribute n os)
     (λ e. let others = size_behind (n - 2) os in
     let long : n - 2 ≤ length os = grind (arith, common_steps) in
     let few = length-take-le (n - 2) os long in
@@ -206,7 +206,7 @@ subs_good f most zero (o ∷ os) bytes few =
 
 -- P holds of each pair of a known id and octets that the id's attributes hold
 abbrev pub HoldsOfMade : Dictionary → List ℕ → List ℕ → (Pair → Type 0) → Type 0
-HoldsOfMade dictionary secret authenticator P = (id : AttrId) (os : List ℕ) → is_known id dictionary ≡ true → AreBytes os → length os ≤ max_octets id dictionary → P (pair_of dictionary secret authenticator id os)
+HoldsOfMade dictionary secret authenticator P = (id : AttrId) (os : List ℕ) → is_known id dictionary ≡ true → AreBytes os → length os ≤ max_octets id dictionary → P (pair_meant dictionary secret authenticator id os)
 
 -- P holds of each attribute that holds others and is not looked into
 abbrev pub HoldsOfKept : (Pair → Type 0) → Type 0
@@ -227,7 +227,7 @@ module _ (dictionary : Dictionary) (secret authenticator : List ℕ) (P : Pair �
   holds-append [] ys h k = k
   holds-append (x ∷ xs) ys h k = (h.0, holds-append xs ys h.1 k)
 
-  plain_good : (p : Part) → IsGood p → P (pair_of dictionary secret authenticator (Plain p.number) p.value)
+  plain_good : (p : Part) → IsGood p → P (pair_meant dictionary secret authenticator (Plain p.number) p.value)
   unfolding is_known max_octets
   plain_good p good =
       let number : nat_le p.number 255 ≡ true = let low = good.number in grind (arith, common_steps) in
@@ -318,10 +318,10 @@ module _ (dictionary : Dictionary) (secret authenticator : List ℕ) (P : Pair �
       holds-append (first_pairs dictionary secret authenticator p ps) (meaning_behind dictionary secret authenticator (others p ps) ps) (first_good_pairs p ps good few) (meaning_holds (others p ps) ps good.1 (omega arith))
 
   -- it holds of the pairs of a packet's attributes
-  pub octets_hold : (os : List ℕ) → AreBytes os → length os ≤ 4076 → All P (meaning dictionary secret authenticator (parts os))
+  pub octets_hold : (os : List ℕ) → AreBytes os → length os ≤ 4076 → All P (attribute_pairs dictionary secret authenticator (parts os))
   octets_hold os bytes short =
       let few = size_behind 0 os in
-      All-from_recursion P (meaning dictionary secret authenticator (parts os)) (meaning_holds 0 (parts os) (good_behind 0 os bytes) (omega arith))
+      All-from_recursion P (attribute_pairs dictionary secret authenticator (parts os)) (meaning_holds 0 (parts os) (good_behind 0 os bytes) (omega arith))
 
 -- ---- pairs that fit
 
@@ -337,5 +337,5 @@ module _ (dictionary : Dictionary) (secret authenticator : List ℕ) where
       rw (number, short)
 
   -- the pairs of a packet's attributes fit
-  pub octets_fit : (os : List ℕ) → AreBytes os → length os ≤ 4076 → All Fits (meaning dictionary secret authenticator (parts os))
+  pub octets_fit : (os : List ℕ) → AreBytes os → length os ≤ 4076 → All Fits (attribute_pairs dictionary secret authenticator (parts os))
   octets_fit os bytes short = octets_hold dictionary secret authenticator Fits (pair_fits dictionary secret authenticator) raw_fits os bytes short

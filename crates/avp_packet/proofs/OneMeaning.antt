@@ -6,11 +6,11 @@ use Rattle.avp_lists.specs.declared.attributes.AttrId.TheVariants.{Plain, Extend
 use Rattle.avp_lists.specs.declared.attributes.Pair.{Pair}
 use Rattle.avp_dict.specs.Dictionary.{Dictionary}
 use Rattle.avp_dict.specs.Sent.{is_container}
-use Rattle.avp_packet.specs.Meanings.{Run, Sub, extended_pair, extended_type, first_run, meaning, pair_of, raw_pair, sub_pair, vendor_of, vendor_subs}
+use Rattle.avp_packet.specs.Meanings.{Run, Sub, extended_pair, extended_type, first_run, attribute_pairs, pair_meant, raw_pair, sub_pair, vendor_of, vendor_subs}
 use Rattle.avp_packet.specs.Means.{IsExtended, IsLong, IsUnread, Means}
 use Rattle.avp_packet.specs.Means as cases
 use Rattle.avp_packet.specs.Splitting.{Part}
-use Rattle.avp_packet.proofs.Means.{meaning-cons, meaning-nil}
+use Rattle.avp_packet.proofs.Means.{attribute_pairs-cons, attribute_pairs-nil}
 use Rattle.avp_packet.proofs.Rooms.{by_test}
 use Rattle.avp_packet.proofs.Runs.{run_rest}
 
@@ -46,17 +46,17 @@ module _ (dictionary : Dictionary) (secret authenticator : List ℕ) where
   Meant ps pairs = Means dictionary secret authenticator ps pairs
 
   abbrev means : List Part → List Pair
-  means ps = meaning dictionary secret authenticator ps
+  means ps = attribute_pairs dictionary secret authenticator ps
 
   -- ---- no other list
 
   raw_only : (p : Part) (ps : List Part) (pairs : List Pair) → IsUnread dictionary p ps → pairs ≡ means ps → raw_pair p ∷ pairs ≡ means (p ∷ ps)
   raw_only p ps pairs (inl e) h =
       let x = vendor_tested p.number e.0 in
-      sym (meaning-cons dictionary secret authenticator p ps ∙ rw (x.is_vendor, x.is_long, e.1, h))
+      sym (attribute_pairs-cons dictionary secret authenticator p ps ∙ rw (x.is_vendor, x.is_long, e.1, h))
   raw_only p ps pairs (inr (inl e)) h =
       let x = extended_tested p.number e.0 in
-      sym (meaning-cons dictionary secret authenticator p ps ∙ rw (x.is_vendor, x.is_extended, x.is_long, h) (ap (λ (pair : Pair). pair ∷ means ps) (short p.value refl e.1)))
+      sym (attribute_pairs-cons dictionary secret authenticator p ps ∙ rw (x.is_vendor, x.is_extended, x.is_long, h) (ap (λ (pair : Pair). pair ∷ means ps) (short p.value refl e.1)))
     where
       short : (value : List ℕ) → p.value ≡ value → length p.value < 2 → extended_pair dictionary secret authenticator p ≡ raw_pair p
       short [] e lt = rw e
@@ -64,28 +64,28 @@ module _ (dictionary : Dictionary) (secret authenticator : List ℕ) where
       short (n ∷ o ∷ os) e lt = let long = ap length e in absurd (omega arith)
   raw_only p ps pairs (inr (inr e)) h =
       let x = long_tested p.number e.0 in
-      sym (meaning-cons dictionary secret authenticator p ps ∙ rw (x.is_vendor, x.is_extended, x.is_long, e.1, h))
+      sym (attribute_pairs-cons dictionary secret authenticator p ps ∙ rw (x.is_vendor, x.is_extended, x.is_long, e.1, h))
 
   pub only_meaning : (ps : List Part) (pairs : List Pair) → Meant ps pairs → pairs ≡ means ps
-  only_meaning ps pairs cases.nothing = sym (meaning-nil dictionary secret authenticator)
+  only_meaning ps pairs cases.nothing = sym (attribute_pairs-nil dictionary secret authenticator)
   only_meaning ps pairs (cases.of_vendor p qs subs others_ e f rest) =
       let h = only_meaning qs others_ rest in
       let x = vendor_tested p.number e in
-      sym (meaning-cons dictionary secret authenticator p qs ∙ rw (x.is_vendor, x.is_long, f, h))
+      sym (attribute_pairs-cons dictionary secret authenticator p qs ∙ rw (x.is_vendor, x.is_long, f, h))
   only_meaning ps pairs (cases.of_extended t n o os qs others_ e rest) =
       let h = only_meaning qs others_ rest in
       let x = extended_tested t e in
-      sym (meaning-cons dictionary secret authenticator (record { number = t; value = n ∷ o ∷ os }) qs ∙ rw (x.is_vendor, x.is_extended, x.is_long, h))
+      sym (attribute_pairs-cons dictionary secret authenticator (record { number = t; value = n ∷ o ∷ os }) qs ∙ rw (x.is_vendor, x.is_extended, x.is_long, h))
   only_meaning ps pairs (cases.of_run p qs run others_ e f rest) =
       let h = only_meaning run.rest others_ rest in
       let x = long_tested p.number e in
       let behind = run_rest p.number (extended_type p) p qs run f in
-      sym (meaning-cons dictionary secret authenticator p qs ∙ rw (x.is_vendor, x.is_extended, x.is_long, f, ← behind, h))
+      sym (attribute_pairs-cons dictionary secret authenticator p qs ∙ rw (x.is_vendor, x.is_extended, x.is_long, f, ← behind, h))
   only_meaning ps pairs (cases.as_raw p qs others_ e rest) = raw_only p qs others_ e (only_meaning qs others_ rest)
   only_meaning ps pairs (cases.as_plain p qs others_ e rest) =
       let h = only_meaning qs others_ rest in
       let x = plain_tested p.number e in
-      sym (meaning-cons dictionary secret authenticator p qs ∙ rw (x.is_vendor, x.is_extended, x.is_long, h))
+      sym (attribute_pairs-cons dictionary secret authenticator p qs ∙ rw (x.is_vendor, x.is_extended, x.is_long, h))
 
   -- ---- and that list
 
@@ -110,7 +110,7 @@ module _ (dictionary : Dictionary) (secret authenticator : List ℕ) where
   first_extended t (n ∷ []) ps e rest = first_raw (record { number = t; value = n ∷ [] }) ps (inr (inl (e, omega arith))) rest
   first_extended t (n ∷ o ∷ os) ps e rest =
       let p : Part = record { number = t; value = n ∷ o ∷ os } in
-      let all : List Pair = pair_of dictionary secret authenticator (Extended t n) (o ∷ os) ∷ means ps in
+      let all : List Pair = pair_meant dictionary secret authenticator (Extended t n) (o ∷ os) ∷ means ps in
       let h : Meant (p ∷ ps) all = cases.of_extended t n o os ps (means ps) e rest in
       read_to (p ∷ ps) all (only_meaning (p ∷ ps) all h) h
 
@@ -119,13 +119,13 @@ module _ (dictionary : Dictionary) (secret authenticator : List ℕ) where
   first_long p ps e rest (Some run) f =
       let behind = run_rest p.number (extended_type p) p ps run f in
       let after : IsMeant run.rest = subst (λ (qs : List Part). IsMeant qs) (sym behind) (rest (length ps - length run.rest)) in
-      let all : List Pair = pair_of dictionary secret authenticator (Extended p.number (extended_type p)) run.os ∷ means run.rest in
+      let all : List Pair = pair_meant dictionary secret authenticator (Extended p.number (extended_type p)) run.os ∷ means run.rest in
       let h : Meant (p ∷ ps) all = cases.of_run p ps run (means run.rest) e f after in
       read_to (p ∷ ps) all (only_meaning (p ∷ ps) all h) h
 
   first_plain : (p : Part) (ps : List Part) → is_container (Plain p.number) ≡ false → IsMeant ps → IsMeant (p ∷ ps)
   first_plain p ps e rest =
-      let all : List Pair = pair_of dictionary secret authenticator (Plain p.number) p.value ∷ means ps in
+      let all : List Pair = pair_meant dictionary secret authenticator (Plain p.number) p.value ∷ means ps in
       let h : Meant (p ∷ ps) all = cases.as_plain p ps (means ps) e rest in
       read_to (p ∷ ps) all (only_meaning (p ∷ ps) all h) h
 
@@ -142,8 +142,8 @@ module _ (dictionary : Dictionary) (secret authenticator : List ℕ) where
       (λ h. let plain : is_container (Plain p.number) ≡ false = grind (arith, common_steps) in first_plain p ps plain (rest 0)))))
 
   all_meant : (ps : List Part) (k : ℕ) → IsMeant (drop k ps)
-  all_meant [] zero = read_to [] [] (sym (meaning-nil dictionary secret authenticator)) cases.nothing
-  all_meant [] (suc k) = read_to [] [] (sym (meaning-nil dictionary secret authenticator)) cases.nothing
+  all_meant [] zero = read_to [] [] (sym (attribute_pairs-nil dictionary secret authenticator)) cases.nothing
+  all_meant [] (suc k) = read_to [] [] (sym (attribute_pairs-nil dictionary secret authenticator)) cases.nothing
   all_meant (p ∷ ps) zero = first_meant p ps (all_meant ps)
   all_meant (p ∷ ps) (suc k) = all_meant ps k
 

@@ -20,8 +20,8 @@ use Rattle.avp_dict.specs.Sent.{is_block_length, is_canonical, is_container, is_
 use Rattle.avp_dict.specs.Soundness.{IsSound}
 use Rattle.avp_dict.specs.Types.{is_text_kind}
 use Rattle.avp_packet.specs.Hiding.{shown}
-use Rattle.avp_packet.specs.Meanings.{meaning, pair_of, raw_pair, value_meant, value_shown}
-use Rattle.avp_packet.specs.Own.{IsOwn}
+use Rattle.avp_packet.specs.Meanings.{attribute_pairs, pair_meant, raw_pair, value_meant, value_shown}
+use Rattle.avp_packet.specs.Own.{IsCanonicalOrContainer}
 use Rattle.avp_packet.specs.Splitting.{Part, parts}
 use Rattle.avp_packet.proofs.Fitted.{octets_same, pair_fits}
 use Rattle.avp_packet.proofs.FittedLists.{IsGood, octets_hold}
@@ -84,13 +84,13 @@ module _ (dictionary : Dictionary) (sound : IsSound dictionary) where
         (λ h. rw h (shown_own id os h (shown secret authenticator os) refl (shown_holds secret authenticator os bytes)))
         (λ h. rw h (plain_own dictionary id os bytes))
 
-    pair_own : (id : AttrId) (os : List ℕ) → is_known id dictionary ≡ true → AreBytes os → length os ≤ max_octets id dictionary → IsOwn dictionary (pair_of dictionary secret authenticator id os)
+    pair_own : (id : AttrId) (os : List ℕ) → is_known id dictionary ≡ true → AreBytes os → length os ≤ max_octets id dictionary → IsCanonicalOrContainer dictionary (pair_meant dictionary secret authenticator id os)
     unfolding is_canonical
     pair_own id os known bytes short = λ alone. rw (pair_fits dictionary secret authenticator id os known bytes short) (value_own id os bytes)
 
-    kept_own : (p : Part) → IsGood p → is_container (Plain p.number) ≡ true → IsOwn dictionary (raw_pair p)
+    kept_own : (p : Part) → IsGood p → is_container (Plain p.number) ≡ true → IsCanonicalOrContainer dictionary (raw_pair p)
     kept_own p good held = λ alone. absurd (false≢true (sym alone ∙ held))
 
     -- the pairs of a packet's attributes
-    pub octets_own : (os : List ℕ) → AreBytes os → length os ≤ 4076 → All (IsOwn dictionary) (meaning dictionary secret authenticator (parts os))
-    octets_own os bytes short = octets_hold dictionary secret authenticator (IsOwn dictionary) pair_own kept_own os bytes short
+    pub octets_own : (os : List ℕ) → AreBytes os → length os ≤ 4076 → All (IsCanonicalOrContainer dictionary) (attribute_pairs dictionary secret authenticator (parts os))
+    octets_own os bytes short = octets_hold dictionary secret authenticator (IsCanonicalOrContainer dictionary) pair_own kept_own os bytes short

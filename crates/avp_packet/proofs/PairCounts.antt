@@ -8,7 +8,7 @@ use Rattle.avp_lists.specs.declared.attributes.AttrId.TheVariants.{Plain}
 use Rattle.avp_lists.specs.declared.attributes.Pair.{Pair}
 use Rattle.avp_dict.specs.declared.entries.Format.{Format}
 use Rattle.avp_dict.specs.Dictionary.{Dictionary}
-use Rattle.avp_packet.specs.Meanings.{Sub, are_subs, begins_sub, extended_pair, first_pairs, first_run, first_sub, long_pair, meaning, meaning_behind, others, pair_of, sub_length, sub_pair, subs, subs_behind, subs_by, vendor_of, vendor_pairs, vendor_subs}
+use Rattle.avp_packet.specs.Meanings.{Sub, are_subs, begins_sub, extended_pair, first_pairs, first_run, first_sub, long_pair, attribute_pairs, meaning_behind, others, pair_meant, sub_length, sub_pair, subs, subs_behind, subs_by, vendor_of, vendor_pairs, vendor_subs}
 use Rattle.avp_packet.specs.Splitting.{Part, left, part_octets, parts}
 use Rattle.avp_packet.specs.VendorFormats.{known_format}
 use Rattle.avp_packet.proofs.Splits.{is_split}
@@ -59,7 +59,7 @@ module _ (dictionary : Dictionary) (secret authenticator : List ℕ) where
       let one : (p : Pair) → length (p ∷ []) ≤ n = λ p. omega arith in
       chosen _ _ (part.number == 26) n (vendor_short part)
       (chosen _ _ (nat_le 241 part.number && nat_le part.number 244) n (one (extended_pair dictionary secret authenticator part))
-      (chosen _ _ ((part.number == 245) || (part.number == 246)) n (one (long_pair dictionary secret authenticator part (first_run part ps))) (one (pair_of dictionary secret authenticator (Plain part.number) part.value))))
+      (chosen _ _ ((part.number == 245) || (part.number == 246)) n (one (long_pair dictionary secret authenticator part (first_run part ps))) (one (pair_meant dictionary secret authenticator (Plain part.number) part.value))))
 
   meaning_short : (k : ℕ) (ps : List Part) → length (meaning_behind dictionary secret authenticator k ps) ≤ length (flat_map part_octets ps)
   unfolding meaning_behind
@@ -76,7 +76,7 @@ module _ (dictionary : Dictionary) (secret authenticator : List ℕ) where
       omega (arith, first, rest, here, all)
 
   -- octets mean no more pairs than there are octets
-  pub few_pairs : (os : List ℕ) → length (meaning dictionary secret authenticator (parts os)) ≤ length os
+  pub few_pairs : (os : List ℕ) → length (attribute_pairs dictionary secret authenticator (parts os)) ≤ length os
   few_pairs os =
       let short = meaning_short 0 (parts os) in
       let whole = ap length ((is_split os).whole) ∙ length-append (flat_map part_octets (parts os)) (left os) in

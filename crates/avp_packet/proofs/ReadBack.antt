@@ -24,12 +24,12 @@ use Rattle.avp_dict.specs.Settled.{holds, is_in_format}
 use Rattle.avp_dict.specs.Soundness.{IsSound}
 use Rattle.avp_dict.specs.Vendors.{is_format}
 use Rattle.avp_packet.specs.AttributeOctets.{attribute_octets, fragments, is_long, part, parts_holding, parts_of, parts_of_pair, sent_octets, vendor_value}
-use Rattle.avp_packet.specs.Meanings.{Run, are_subs, are_subs_behind, begins_sub, extended_type, first_run, first_sub, meaning, others, pair_of, piece_of, run, sub_length, subs, subs_behind, vendor_of, vendor_subs}
+use Rattle.avp_packet.specs.Meanings.{Run, are_subs, are_subs_behind, begins_sub, extended_type, first_run, first_sub, attribute_pairs, others, pair_meant, piece_of, run, sub_length, subs, subs_behind, vendor_of, vendor_subs}
 use Rattle.avp_packet.specs.Splitting.{Part, left, part_octets, parts}
 use Rattle.avp_packet.specs.VendorFormats.{HasKnownFormats, known_format, usable_format}
 use Rattle.avp_packet.specs.internal.Holding.{CanHold, FitsFormat}
 use Rattle.avp_packet.specs.internal.Ranges.{IsVendorInRange}
-use Rattle.avp_packet.proofs.Means.{meaning-cons, meaning-nil}
+use Rattle.avp_packet.proofs.Means.{attribute_pairs-cons, attribute_pairs-nil}
 use Rattle.avp_packet.proofs.Rooms.{and_left, and_right, by_test, fits_known, format_of_size, sent_by, sent_held}
 use Rattle.avp_packet.proofs.Runs.{run-some, run_rest}
 use Rattle.avp_packet.proofs.Splits.{left-all, left-none, parts-all, parts-none}
@@ -156,10 +156,10 @@ known_by n (Some f) h formats =
 
 module _ (dictionary : Dictionary) (sound : IsSound dictionary) (formats : HasKnownFormats dictionary) (secret authenticator : List ℕ) where
   abbrev means : List Part → List Pair
-  means ps = meaning dictionary secret authenticator ps
+  means ps = attribute_pairs dictionary secret authenticator ps
 
   abbrev pair_from : AttrId → List ℕ → Pair
-  pair_from id os = pair_of dictionary secret authenticator id os
+  pair_from id os = pair_meant dictionary secret authenticator id os
 
   known_format_of : (v n : ℕ) → is_in_format v n dictionary.vendors ≡ true → (f : Format) × (known_format v dictionary ≡ Some f) × (is_format f.t f.l ≡ true)
   unfolding is_in_format known_format vendor_format
@@ -171,7 +171,7 @@ module _ (dictionary : Dictionary) (sound : IsSound dictionary) (formats : HasKn
       let a : (n == 26) ≡ false = grind (arith, common_steps) in
       let b : (nat_le 241 n && nat_le n 244) ≡ false = grind (arith, common_steps) in
       let d : ((n == 245) || (n == 246)) ≡ false = grind (arith, common_steps) in
-      meaning-cons dictionary secret authenticator (part n os) rest ∙ rw (a, b, d)
+      attribute_pairs-cons dictionary secret authenticator (part n os) rest ∙ rw (a, b, d)
 
   -- an extended attribute
   extended_read : (t n o : ℕ) (os : List ℕ) (rest : List Part) → 241 ≤ t → t ≤ 244 → means (part t (n ∷ o ∷ os) ∷ rest) ≡ pair_from (Extended t n) (o ∷ os) ∷ means rest
@@ -179,7 +179,7 @@ module _ (dictionary : Dictionary) (sound : IsSound dictionary) (formats : HasKn
       let a : (t == 26) ≡ false = grind (arith, common_steps) in
       let b : (nat_le 241 t && nat_le t 244) ≡ true = grind (arith, common_steps) in
       let d : ((t == 245) || (t == 246)) ≡ false = grind (arith, common_steps) in
-      meaning-cons dictionary secret authenticator (part t (n ∷ o ∷ os)) rest ∙ rw (a, b, d)
+      attribute_pairs-cons dictionary secret authenticator (part t (n ∷ o ∷ os)) rest ∙ rw (a, b, d)
 
   -- a long one
   long_read : (p : Part) (ps : List Part) (r : Run) → 245 ≤ p.number → p.number ≤ 246 → first_run p ps ≡ Some r → means (p ∷ ps) ≡ pair_from (Extended p.number (extended_type p)) r.os ∷ means r.rest
@@ -189,7 +189,7 @@ module _ (dictionary : Dictionary) (sound : IsSound dictionary) (formats : HasKn
       let b : (nat_le 241 t && nat_le t 244) ≡ false = grind (arith, common_steps) in
       let d : ((t == 245) || (t == 246)) ≡ true = grind (arith, common_steps) in
       let rest = run_rest p.number (extended_type p) p ps r h in
-      meaning-cons dictionary secret authenticator p ps ∙ rw (a, b, d, h) (ap (λ (qs : List Part). pair_from (Extended p.number (extended_type p)) r.os ∷ means qs) (sym rest))
+      attribute_pairs-cons dictionary secret authenticator p ps ∙ rw (a, b, d, h) (ap (λ (qs : List Part). pair_from (Extended p.number (extended_type p)) r.os ∷ means qs) (sym rest))
 
   -- a vendor's
   vendor_subs_is : (v n : ℕ) (os : List ℕ) (f : Format) → v < 2 ^ 32 → known_format v dictionary ≡ Some f → is_format f.t f.l ≡ true → FitsFormat n os f → vendor_subs dictionary (vendor_value v n os f) ≡ Some (record { number = n; value = os } ∷ [])
@@ -203,7 +203,7 @@ module _ (dictionary : Dictionary) (sound : IsSound dictionary) (formats : HasKn
   vendor_read : (v n : ℕ) (os : List ℕ) (f : Format) (rest : List Part) → v < 2 ^ 32 → known_format v dictionary ≡ Some f → is_format f.t f.l ≡ true → FitsFormat n os f → means (part 26 (vendor_value v n os f) ∷ rest) ≡ pair_from (Vendor v n) os ∷ means rest
   vendor_read v n os f rest small known good held =
       let vendor : vendor_of (vendor_value v n os f) ≡ v = number_back 4 v (omega arith) (omega arith) in
-      meaning-cons dictionary secret authenticator (part 26 (vendor_value v n os f)) rest ∙ rw (vendor_subs_is v n os f small known good held, vendor)
+      attribute_pairs-cons dictionary secret authenticator (part 26 (vendor_value v n os f)) rest ∙ rw (vendor_subs_is v n os f small known good held, vendor)
 
   -- ---- pieces
 
@@ -292,7 +292,7 @@ module _ (dictionary : Dictionary) (sound : IsSound dictionary) (formats : HasKn
   clean_read pairs rest clean ranged = list_read pairs rest clean (recursion_from_All (λ (p : Pair). IsVendorInRange p.id) pairs ranged)
 
   pub nothing_read : means [] ≡ []
-  nothing_read = meaning-nil dictionary secret authenticator
+  nothing_read = attribute_pairs-nil dictionary secret authenticator
 
   -- ---- octets
 

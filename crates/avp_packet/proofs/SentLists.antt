@@ -19,9 +19,9 @@ use Rattle.avp_dict.specs.Soundness.{IsSound}
 use Rattle.avp_packet.specs.declared.dividing.Division.{Division}
 use Rattle.avp_packet.specs.AttributeOctets.{attribute_octets, fragments, is_long, part, parts_holding, parts_of, parts_of_pair, sent_octets, vendor_part}
 use Rattle.avp_packet.specs.Hmac.{hmac}
-use Rattle.avp_packet.specs.Meanings.{meaning, pair_of, raw_pair}
+use Rattle.avp_packet.specs.Meanings.{attribute_pairs, pair_meant, raw_pair}
 use Rattle.avp_packet.specs.Packets.{attributes_signed, attributes_with, hiding_authenticator, octets_sent, packet, pairs_meant, signature_of, zeros}
-use Rattle.avp_packet.specs.Sending.{Content, message_authenticator, pairs_sent, without_signatures}
+use Rattle.avp_packet.specs.Sending.{Content, message_authenticator_id, pairs_sent, without_signatures}
 use Rattle.avp_packet.specs.Signed.{blanked, is_signature, signatures}
 use Rattle.avp_packet.specs.Splitting.{Part, left, part_octets, parts}
 use Rattle.avp_packet.specs.VendorFormats.{HasKnownFormats, known_format}
@@ -40,7 +40,7 @@ unsigned_fragments zero t number os h = let other : (t == 80) ≡ false = grind 
 unsigned_fragments (suc n) t number os h = let other : (t == 80) ≡ false = grind (arith, common_steps) in rw other (unsigned_fragments n t number (drop 251 os) h)
 
 module _ (dictionary : Dictionary) where
-  unsigned_id : (id : AttrId) (os : List ℕ) → is_known id dictionary ≡ true → id_eq id message_authenticator ≡ false → signatures (parts_holding dictionary id os) ≡ []
+  unsigned_id : (id : AttrId) (os : List ℕ) → is_known id dictionary ≡ true → id_eq id message_authenticator_id ≡ false → signatures (parts_holding dictionary id os) ≡ []
   unfolding parts_holding is_known
   unsigned_id (Plain n) os known other = rw other refl
   unsigned_id (Vendor v n) os known other = go (known_format v dictionary)
@@ -61,7 +61,7 @@ module _ (dictionary : Dictionary) where
     unsigned_by [] h = refl
     unsigned_by (p ∷ ps) h =
         let others = unsigned_by ps h.1 in
-        by_test (signatures (parts_of dictionary secret hide_by (without_signatures (p ∷ ps))) ≡ []) (id_eq p.id message_authenticator)
+        by_test (signatures (parts_of dictionary secret hide_by (without_signatures (p ∷ ps))) ≡ []) (id_eq p.id message_authenticator_id)
         (λ e. rw e others)
         (λ e. by_test (signatures (parts_of dictionary secret hide_by (without_signatures (p ∷ ps))) ≡ []) (is_sent dictionary p)
         (λ s. rw (e, s) (filter-append is_signature (parts_of_pair dictionary secret hide_by p) (parts_of dictionary secret hide_by (without_signatures ps)) ∙ rw (unsigned_id p.id (sent_octets dictionary secret hide_by p) (fits_known dictionary p h.0) e, others) refl))
@@ -101,7 +101,7 @@ module _ (dictionary : Dictionary) (pairs : List Pair) (division : Division) (cl
   unfolding is_clean
   behind_clean =
       let q : Pair → Bool = is_clean_pair dictionary in
-      pass_all q (without_signatures division.behind.now) (All-filter (is_other message_authenticator) (λ (p : Pair). q p ≡ true) division.behind.now (kept q (all_pass q pairs clean)).behind)
+      pass_all q (without_signatures division.behind.now) (All-filter (is_other message_authenticator_id) (λ (p : Pair). q p ≡ true) division.behind.now (kept q (all_pass q pairs clean)).behind)
 
 -- Proxy-States are no Message-Authenticators
 pub proxies_unsigned : (pairs : List Pair) → All (λ p. p.id ≡ Plain 33) pairs → without_signatures pairs ≡ pairs
@@ -109,7 +109,7 @@ proxies_unsigned pairs h = go pairs (recursion_from_All (λ (p : Pair). p.id ≡
   where
     go : (ps : List Pair) → AllByRecursion (λ p. p.id ≡ Plain 33) ps → without_signatures ps ≡ ps
     go [] k = refl
-    go (p ∷ ps) k = let other : is_other message_authenticator p ≡ true = ap (λ (i : AttrId). not (id_eq i message_authenticator)) k.0 in rw other (ap (λ (qs : List Pair). p ∷ qs) (go ps k.1))
+    go (p ∷ ps) k = let other : is_other message_authenticator_id p ≡ true = ap (λ (i : AttrId). not (id_eq i message_authenticator_id)) k.0 in rw other (ap (λ (qs : List Pair). p ∷ qs) (go ps k.1))
 
 -- ---- attributes laid out
 
@@ -240,7 +240,7 @@ module _ (dictionary : Dictionary) (secret : List ℕ) (code id : ℕ) (authenti
 
   module _ (sound : IsSound dictionary) (formats : HasKnownFormats dictionary) (before_clean : is_clean before dictionary ≡ true) (behind_clean : is_clean behind dictionary ≡ true) (proxies_clean : is_clean content.proxy_states dictionary ≡ true) (before_ranged : All (λ p. IsVendorInRange p.id) before) (behind_ranged : All (λ p. IsVendorInRange p.id) division.behind.now) (proxies_ranged : All (λ p. IsVendorInRange p.id) content.proxy_states) where
     abbrev means : List Part → List Pair
-    means ps = meaning dictionary secret hide_by ps
+    means ps = attribute_pairs dictionary secret hide_by ps
 
     last_means : means (parts_of dictionary secret hide_by content.proxy_states) ≡ sent content.proxy_states dictionary
     last_means =
@@ -250,23 +250,23 @@ module _ (dictionary : Dictionary) (secret : List ℕ) (code id : ℕ) (authenti
 
     behind_means : means (parts_of dictionary secret hide_by behind ++ parts_of dictionary secret hide_by content.proxy_states) ≡ sent behind dictionary ++ sent content.proxy_states dictionary
     behind_means =
-        clean_read dictionary sound formats secret hide_by behind (parts_of dictionary secret hide_by content.proxy_states) behind_clean (All-filter (is_other message_authenticator) (λ (p : Pair). IsVendorInRange p.id) division.behind.now behind_ranged)
+        clean_read dictionary sound formats secret hide_by behind (parts_of dictionary secret hide_by content.proxy_states) behind_clean (All-filter (is_other message_authenticator_id) (λ (p : Pair). IsVendorInRange p.id) division.behind.now behind_ranged)
         ∙ rw last_means refl
 
-    rest_means : (t : Bool) (os : List ℕ) → means ((if t then part 80 os ∷ [] else []) ++ (parts_of dictionary secret hide_by behind ++ parts_of dictionary secret hide_by content.proxy_states)) ≡ (if t then pair_of dictionary secret hide_by (Plain 80) os ∷ [] else []) ++ (sent behind dictionary ++ sent content.proxy_states dictionary)
-    rest_means true os = plain_read dictionary sound formats secret hide_by 80 os (parts_of dictionary secret hide_by behind ++ parts_of dictionary secret hide_by content.proxy_states) refl ∙ ap (λ (ps : List Pair). pair_of dictionary secret hide_by (Plain 80) os ∷ ps) behind_means
+    rest_means : (t : Bool) (os : List ℕ) → means ((if t then part 80 os ∷ [] else []) ++ (parts_of dictionary secret hide_by behind ++ parts_of dictionary secret hide_by content.proxy_states)) ≡ (if t then pair_meant dictionary secret hide_by (Plain 80) os ∷ [] else []) ++ (sent behind dictionary ++ sent content.proxy_states dictionary)
+    rest_means true os = plain_read dictionary sound formats secret hide_by 80 os (parts_of dictionary secret hide_by behind ++ parts_of dictionary secret hide_by content.proxy_states) refl ∙ ap (λ (ps : List Pair). pair_meant dictionary secret hide_by (Plain 80) os ∷ ps) behind_means
     rest_means false os = behind_means
 
     regrouped : {A : Type 0} (a b d e : List A) → a ++ b ++ d ++ e ≡ a ++ (b ++ (d ++ e))
     regrouped a b d e = simp append_assoc
 
-    laid_means : (os : List ℕ) → means (laid_parts os) ≡ laid_pairs (pair_of dictionary secret hide_by (Plain 80) os)
+    laid_means : (os : List ℕ) → means (laid_parts os) ≡ laid_pairs (pair_meant dictionary secret hide_by (Plain 80) os)
     laid_means os =
         let first : List Part = parts_of dictionary secret hide_by before in
         let middle : List Part = parts_of dictionary secret hide_by behind in
         let last : List Part = parts_of dictionary secret hide_by content.proxy_states in
         let one : List Part = if division.signed then part 80 os ∷ [] else [] in
-        let own : List Pair = if division.signed then pair_of dictionary secret hide_by (Plain 80) os ∷ [] else [] in
+        let own : List Pair = if division.signed then pair_meant dictionary secret hide_by (Plain 80) os ∷ [] else [] in
         ap means (regrouped first one middle last)
         ∙ clean_read dictionary sound formats secret hide_by before (one ++ (middle ++ last)) before_clean before_ranged
         ∙ ap (λ (ps : List Pair). sent before dictionary ++ ps) (rest_means division.signed os)
@@ -277,4 +277,4 @@ module _ (dictionary : Dictionary) (secret : List ℕ) (code id : ℕ) (authenti
         let os : List ℕ = signature_of dictionary secret code id authenticator content in
         ap (λ (ps : List ℕ). means (parts ps)) (octets_are os ∙ octets_laid os)
         ∙ ap means (parts_whole (laid_parts os)) ∙ laid_means os
-        ∙ sym (pairs_are (pair_of dictionary secret hide_by (Plain 80) os))
+        ∙ sym (pairs_are (pair_meant dictionary secret hide_by (Plain 80) os))

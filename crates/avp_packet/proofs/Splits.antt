@@ -3,7 +3,7 @@ use Rattle.std.proofs.Common.{◌≡◌, ◌∙◌, ℕ, zero, suc, ◌+◌, ◌
 use Rattle.std.specs.List.{flat_map}
 use Rattle.std.proofs.lemmas.Grind.{common_steps}
 use Rattle.std.proofs.lemmas.List.{length-append, length-drop, take_at, drop_at, take-append-drop, length-take-le, drop-drop, drop_all}
-use Rattle.avp_packet.specs.Splitting.{IsSplit, Part, begins_whole, is_whole, items_from, left, left_behind, part_octets, parts, parts_behind, placed, placed_from}
+use Rattle.avp_packet.specs.Splitting.{IsSplit, Part, begins_whole, is_whole_attribute, items_from, left, left_behind, part_octets, parts, parts_behind, placed, placed_from}
 
 -- ---- the octets behind the first so many
 
@@ -22,18 +22,18 @@ left_behind-drop (suc k) (o ∷ os) = left_behind-drop k os
 -- ---- a whole attribute stands first
 
 module _ (t n : ℕ) (os : List ℕ) where
-  pub parts-first : is_whole n os ≡ true → parts (t ∷ n ∷ os) ≡ record { number = t; value = take (n - 2) os } ∷ parts (drop (n - 2) os)
+  pub parts-first : is_whole_attribute n os ≡ true → parts (t ∷ n ∷ os) ≡ record { number = t; value = take (n - 2) os } ∷ parts (drop (n - 2) os)
   unfolding parts_behind
   parts-first h = rw h (ap (λ (ps : List Part). record { number = t; value = take (n - 2) os } ∷ ps) (parts_behind-drop (n - 2) os))
 
-  pub left-first : is_whole n os ≡ true → left (t ∷ n ∷ os) ≡ left (drop (n - 2) os)
+  pub left-first : is_whole_attribute n os ≡ true → left (t ∷ n ∷ os) ≡ left (drop (n - 2) os)
   unfolding left_behind
   left-first h = rw h (left_behind-drop (n - 2) os)
 
-  whole_length : is_whole n os ≡ true → (2 ≤ n) × (n ≤ 2 + length os)
+  whole_length : is_whole_attribute n os ≡ true → (2 ≤ n) × (n ≤ 2 + length os)
   whole_length h = (grind (arith, common_steps), grind (arith, common_steps))
 
-  pub octets-first : is_whole n os ≡ true → t ∷ n ∷ os ≡ part_octets (record { number = t; value = take (n - 2) os }) ++ drop (n - 2) os
+  pub octets-first : is_whole_attribute n os ≡ true → t ∷ n ∷ os ≡ part_octets (record { number = t; value = take (n - 2) os }) ++ drop (n - 2) os
   octets-first h =
       let w = whole_length h in
       let e = length-take-le (n - 2) os (omega (arith, w.0, w.1)) in
@@ -68,7 +68,7 @@ split_behind (suc k) [] = refl
 split_behind (suc k) (o ∷ os) = split_behind k os
 split_behind zero (t ∷ []) = refl
 split_behind zero (t ∷ n ∷ os) =
-    by_test _ (is_whole n os)
+    by_test _ (is_whole_attribute n os)
     (λ h. let e = split_behind (n - 2) os in
     let p : Part = record { number = t; value = take (n - 2) os } in
     rw h (octets-first t n os h ∙ ap (λ (xs : List ℕ). part_octets p ++ xs) e ∙ sym (append_assoc (part_octets p) (flat_map part_octets (parts_behind (n - 2) os)) (left_behind (n - 2) os))))
@@ -80,7 +80,7 @@ ends_behind zero [] = refl
 ends_behind (suc k) [] = refl
 ends_behind (suc k) (o ∷ os) = ends_behind k os
 ends_behind zero (t ∷ []) = refl
-ends_behind zero (t ∷ n ∷ os) = by_test _ (is_whole n os) (λ h. rw h (ends_behind (n - 2) os)) (λ h. rw h h)
+ends_behind zero (t ∷ n ∷ os) = by_test _ (is_whole_attribute n os) (λ h. rw h (ends_behind (n - 2) os)) (λ h. rw h h)
 
 pub is_split : (os : List ℕ) → IsSplit os (parts os) (left os)
 is_split os = record { whole = split_behind 0 os; ends = ends_behind 0 os }
@@ -93,21 +93,21 @@ left_short os =
 
 -- ---- and they are read back
 
-is_whole-itself : (value os : List ℕ) → is_whole (2 + length value) (value ++ os) ≡ true
-is_whole-itself value os = let e = length-append value os in grind (arith, common_steps)
+is_whole_attribute-itself : (value os : List ℕ) → is_whole_attribute (2 + length value) (value ++ os) ≡ true
+is_whole_attribute-itself value os = let e = length-append value os in grind (arith, common_steps)
 
 pub parts-octets : (p : Part) (os : List ℕ) → parts (part_octets p ++ os) ≡ p ∷ parts os
 parts-octets p os =
     let n : ℕ = 2 + length p.value in
     let same : n - 2 ≡ length p.value = omega arith in
-    parts-first p.number n (p.value ++ os) (is_whole-itself p.value os)
+    parts-first p.number n (p.value ++ os) (is_whole_attribute-itself p.value os)
     ∙ rw (same, take_at p.value os (length p.value) refl, drop_at p.value os (length p.value) refl)
 
 pub left-octets : (p : Part) (os : List ℕ) → left (part_octets p ++ os) ≡ left os
 left-octets p os =
     let n : ℕ = 2 + length p.value in
     let same : n - 2 ≡ length p.value = omega arith in
-    left-first p.number n (p.value ++ os) (is_whole-itself p.value os)
+    left-first p.number n (p.value ++ os) (is_whole_attribute-itself p.value os)
     ∙ rw (same, drop_at p.value os (length p.value) refl)
 
 pub parts-all : (ps : List Part) (os : List ℕ) → parts (flat_map part_octets ps ++ os) ≡ ps ++ parts os

@@ -15,9 +15,9 @@ use Rattle.avp_dict.specs.Sent.{is_sent, sent}
 use Rattle.avp_packet.proofs.Rooms.{by_test}
 use Rattle.avp_dict.specs.declared.entries.Format.{Format}
 use Rattle.avp_packet.specs.AttributeOctets.{attribute_octets, fragments, part, parts_of, parts_of_pair, vendor_part, vendor_value}
-use Rattle.avp_packet.specs.Sending.{message_authenticator}
+use Rattle.avp_packet.specs.Sending.{message_authenticator_id}
 use Rattle.avp_packet.specs.Splitting.{part_octets}
-use Rattle.avp_packet.specs.internal.Filling.{kept}
+use Rattle.avp_packet.specs.internal.Filling.{kept_pairs}
 
 -- ---- vendors
 
@@ -92,18 +92,18 @@ module _ (dictionary : Dictionary) (secret authenticator : List ℕ) where
   written-nil = refl
 
   -- those that are kept
-  pub kept-cons : (all : Bool) (p : Pair) (ps : List Pair) → written (kept all (p ∷ ps)) ≡ written (kept all (p ∷ [])) ++ written (kept all ps)
+  pub kept-cons : (all : Bool) (p : Pair) (ps : List Pair) → written (kept_pairs all (p ∷ ps)) ≡ written (kept_pairs all (p ∷ [])) ++ written (kept_pairs all ps)
   kept-cons true p ps = written-cons p ps
   kept-cons false p ps =
-      by_test (written (kept false (p ∷ ps)) ≡ written (kept false (p ∷ [])) ++ written (kept false ps)) (is_other message_authenticator p)
-      (λ e. rw e (written-cons p (kept false ps)))
+      by_test (written (kept_pairs false (p ∷ ps)) ≡ written (kept_pairs false (p ∷ [])) ++ written (kept_pairs false ps)) (is_other message_authenticator_id p)
+      (λ e. rw e (written-cons p (kept_pairs false ps)))
       (λ e. rw (e, written-nil) refl)
 
   -- one pair more
-  pub written-more : (all : Bool) (old new : List ℕ) (pairs : List Pair) (i : ℕ) (d : Pair) → i < length pairs → new ≡ old ++ written (kept all (get_or pairs i d ∷ [])) → new ++ written (kept all (drop (i + 1) pairs)) ≡ old ++ written (kept all (drop i pairs))
+  pub written-more : (all : Bool) (old new : List ℕ) (pairs : List Pair) (i : ℕ) (d : Pair) → i < length pairs → new ≡ old ++ written (kept_pairs all (get_or pairs i d ∷ [])) → new ++ written (kept_pairs all (drop (i + 1) pairs)) ≡ old ++ written (kept_pairs all (drop i pairs))
   written-more all old new pairs i d lt e =
       rw (e, append_assoc, drop_more pairs i d lt, kept-cons all (get_or pairs i d) (drop (i + 1) pairs))
 
-  pub kept-nil : (all : Bool) → written (kept all []) ≡ []
+  pub kept-nil : (all : Bool) → written (kept_pairs all []) ≡ []
   kept-nil true = written-nil
   kept-nil false = written-nil

@@ -7,7 +7,7 @@ use Rattle.avp_dict.specs.Dictionary.{Dictionary}
 use Rattle.avp_packet.specs.declared.faults.PacketFault.{PacketFault}
 use Rattle.avp_packet.specs.declared.faults.PacketFault.TheVariants.{TooShort, LengthOutOfRange, CutShort, BadAttribute, CodeNotTaken, WrongAuthenticator, WrongMessageAuthenticator}
 use Rattle.avp_packet.specs.declared.packets.Packet.{Packet}
-use Rattle.avp_packet.specs.Meanings.{meaning}
+use Rattle.avp_packet.specs.Meanings.{attribute_pairs}
 use Rattle.avp_packet.specs.Packets.{access_request, accounting_request, attributes_of, authenticator_of, code_of, hiding_authenticator, id_of, is_packet_length, length_of, zeros}
 use Rattle.avp_packet.specs.Signed.{is_signature, is_signed}
 use Rattle.avp_packet.specs.Splitting.{left, parts}
@@ -22,7 +22,7 @@ packet_read dictionary secret os = record {
   id = id_of os;
   authenticator = authenticator_of os;
   list =
-      meaning dictionary secret (hiding_authenticator (code_of os) (authenticator_of os))
+      attribute_pairs dictionary secret (hiding_authenticator (code_of os) (authenticator_of os))
       (parts (attributes_of os));
 }
 

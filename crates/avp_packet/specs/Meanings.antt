@@ -27,8 +27,8 @@ value_meant dictionary secret authenticator id os =
     then value_shown dictionary id os (shown secret authenticator os)
     else value_of_octets id os dictionary
 
-abbrev pub pair_of : Dictionary → List ℕ → List ℕ → AttrId → List ℕ → Pair
-pair_of dictionary secret authenticator id os =
+abbrev pub pair_meant : Dictionary → List ℕ → List ℕ → AttrId → List ℕ → Pair
+pair_meant dictionary secret authenticator id os =
     record { id = id; value = value_meant dictionary secret authenticator id os }
 
 -- an attribute whose octets are not looked into
@@ -87,7 +87,7 @@ vendor_subs dictionary os =
 
 abbrev pub sub_pair : Dictionary → List ℕ → List ℕ → ℕ → Sub → Pair
 sub_pair dictionary secret authenticator vendor sub =
-    pair_of dictionary secret authenticator (Vendor vendor sub.number) sub.value
+    pair_meant dictionary secret authenticator (Vendor vendor sub.number) sub.value
 
 -- a pair for each of the vendor's attributes, else the attribute as it is
 abbrev pub vendor_pairs : Dictionary → List ℕ → List ℕ → Part → Option (List Sub) → List Pair
@@ -99,7 +99,7 @@ vendor_pairs dictionary secret authenticator part None = raw_pair part ∷ []
 
 abbrev pub extended_pair : Dictionary → List ℕ → List ℕ → Part → Pair
 extended_pair dictionary secret authenticator part = elim part.value [
-  | n ∷ o ∷ os ↦ pair_of dictionary secret authenticator (Extended part.number n) (o ∷ os)
+  | n ∷ o ∷ os ↦ pair_meant dictionary secret authenticator (Extended part.number n) (o ∷ os)
   | _ ↦ raw_pair part
 ]
 
@@ -146,7 +146,7 @@ first_run part parts = run part.number (extended_type part) (part ∷ parts)
 
 abbrev pub long_pair : Dictionary → List ℕ → List ℕ → Part → Option Run → Pair
 long_pair dictionary secret authenticator part (Some run) =
-    pair_of dictionary secret authenticator (Extended part.number (extended_type part)) run.os
+    pair_meant dictionary secret authenticator (Extended part.number (extended_type part)) run.os
 long_pair dictionary secret authenticator part None = raw_pair part
 
 -- ---- attributes
@@ -160,7 +160,7 @@ first_pairs dictionary secret authenticator part parts =
     then extended_pair dictionary secret authenticator part ∷ []
     else (if (part.number == 245) || (part.number == 246)
     then long_pair dictionary secret authenticator part (first_run part parts) ∷ []
-    else (pair_of dictionary secret authenticator (Plain part.number) part.value ∷ [])))
+    else (pair_meant dictionary secret authenticator (Plain part.number) part.value ∷ [])))
 
 -- how many of the attributes behind the first its value goes on in
 abbrev pub others_in : List Part → Option Run → ℕ
@@ -180,6 +180,6 @@ meaning_behind dictionary secret authenticator zero (part ∷ parts) =
     ++ meaning_behind dictionary secret authenticator (others part parts) parts
 
 -- the pairs that attributes mean
-abbrev pub meaning : Dictionary → List ℕ → List ℕ → List Part → List Pair
-meaning dictionary secret authenticator attributes =
+abbrev pub attribute_pairs : Dictionary → List ℕ → List ℕ → List Part → List Pair
+attribute_pairs dictionary secret authenticator attributes =
     meaning_behind dictionary secret authenticator 0 attributes

@@ -4,7 +4,7 @@ use Rattle.avp_lists.specs.declared.attributes.AttrId.TheVariants.{Plain, Extend
 use Rattle.avp_lists.specs.declared.attributes.Pair.{Pair}
 use Rattle.avp_dict.specs.Dictionary.{Dictionary}
 use Rattle.avp_dict.specs.Sent.{is_container}
-use Rattle.avp_packet.specs.Meanings.{Run, Sub, extended_type, first_run, pair_of, raw_pair, sub_pair, vendor_of, vendor_subs}
+use Rattle.avp_packet.specs.Meanings.{Run, Sub, extended_type, first_run, pair_meant, raw_pair, sub_pair, vendor_of, vendor_subs}
 use Rattle.avp_packet.specs.Splitting.{Part}
 
 -- the types that hold one attribute, and those that hold long values
@@ -31,12 +31,12 @@ pub data Means (dictionary : Dictionary) (secret authenticator : List ℕ)
   of_extended : (t n o : ℕ) (os : List ℕ) (parts : List Part) (pairs : List Pair) → IsExtended t
       → Means dictionary secret authenticator parts pairs
       → Means dictionary secret authenticator (record { number = t; value = n ∷ o ∷ os } ∷ parts)
-      (pair_of dictionary secret authenticator (Extended t n) (o ∷ os) ∷ pairs)
+      (pair_meant dictionary secret authenticator (Extended t n) (o ∷ os) ∷ pairs)
   of_run : (part : Part) (parts : List Part) (run : Run) (pairs : List Pair)
       → IsLong part.number → first_run part parts ≡ Some run
       → Means dictionary secret authenticator run.rest pairs
       → Means dictionary secret authenticator (part ∷ parts)
-      (pair_of dictionary secret authenticator (Extended part.number (extended_type part)) run.os
+      (pair_meant dictionary secret authenticator (Extended part.number (extended_type part)) run.os
       ∷ pairs)
   as_raw : (part : Part) (parts : List Part) (pairs : List Pair) → IsUnread dictionary part parts
       → Means dictionary secret authenticator parts pairs
@@ -45,4 +45,4 @@ pub data Means (dictionary : Dictionary) (secret authenticator : List ℕ)
       → is_container (Plain part.number) ≡ false
       → Means dictionary secret authenticator parts pairs
       → Means dictionary secret authenticator (part ∷ parts)
-      (pair_of dictionary secret authenticator (Plain part.number) part.value ∷ pairs)
+      (pair_meant dictionary secret authenticator (Plain part.number) part.value ∷ pairs)

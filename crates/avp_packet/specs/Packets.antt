@@ -10,7 +10,7 @@ use Rattle.avp_lists.specs.declared.attributes.Pair.{Pair}
 use Rattle.avp_dict.specs.Dictionary.{Dictionary}
 use Rattle.avp_packet.specs.AttributeOctets.{part, parts_of_pair}
 use Rattle.avp_packet.specs.Hmac.{hmac}
-use Rattle.avp_packet.specs.Meanings.{pair_of, raw_pair}
+use Rattle.avp_packet.specs.Meanings.{pair_meant, raw_pair}
 use Rattle.avp_packet.specs.Sending.{Content, Kind, Access, Accounting, Reply, pairs_sent}
 use Rattle.avp_packet.specs.Splitting.{part_octets}
 
@@ -87,7 +87,7 @@ attributes_signed dictionary secret code id authenticator content =
 -- the pairs that these attributes mean, where the lists are clean
 abbrev pub pairs_meant : Dictionary → List ℕ → ℕ → ℕ → List ℕ → Content → List Pair
 pairs_meant dictionary secret code id authenticator content = pairs_sent dictionary content
-    (pair_of dictionary secret (hiding_authenticator code authenticator) (Plain 80)
+    (pair_meant dictionary secret (hiding_authenticator code authenticator) (Plain 80)
     (signature_of dictionary secret code id authenticator content))
 
 abbrev pub request_kind : ℕ → Kind

@@ -8,12 +8,12 @@ use Rattle.avp_lists.specs.declared.attributes.Pair.{Pair}
 use Rattle.avp_dict.specs.Dictionary.{Dictionary}
 use Rattle.avp_dict.specs.Sent.{sent}
 
-abbrev pub message_authenticator : AttrId
-message_authenticator = Plain 80
+abbrev pub message_authenticator_id : AttrId
+message_authenticator_id = Plain 80
 
 -- a list's pairs but for its Message-Authenticators
 abbrev pub without_signatures : List Pair → List Pair
-without_signatures pairs = filter (is_other message_authenticator) pairs
+without_signatures pairs = filter (is_other message_authenticator_id) pairs
 
 -- what a list is sent in: an Access-Request, an Accounting-Request, or a reply, signed or not
 pub data Kind : Type 0 where
@@ -23,19 +23,19 @@ pub data Kind : Type 0 where
 
 -- an Access-Request is signed where its list has a Message-Authenticator, an Accounting-Request never, a reply where it is asked for
 abbrev pub is_to_sign : Kind → List Pair → Bool
-is_to_sign Access pairs = has_instance message_authenticator pairs
+is_to_sign Access pairs = has_instance message_authenticator_id pairs
 is_to_sign Accounting pairs = false
 is_to_sign (Reply signed) pairs = signed
 
 -- the list's pairs before the packet's Message-Authenticator, which is where an Access-Request's list has its first, and first in a reply; all pairs of an Accounting-Request, and of a request with none
 abbrev pub before_signature : Kind → List Pair → List Pair
-before_signature Access pairs = before_first (has_id message_authenticator) pairs
+before_signature Access pairs = before_first (has_id message_authenticator_id) pairs
 before_signature Accounting pairs = pairs
 before_signature (Reply signed) pairs = []
 
 -- those behind it, among which no other one is sent
 abbrev pub behind_signature : Kind → List Pair → List Pair
-behind_signature Access pairs = without_signatures (after_first (has_id message_authenticator) pairs)
+behind_signature Access pairs = without_signatures (after_first (has_id message_authenticator_id) pairs)
 behind_signature Accounting pairs = []
 behind_signature (Reply signed) pairs = without_signatures pairs
 

@@ -13,24 +13,24 @@ abbrev pub part_octets : Part → List ℕ
 part_octets part = part.number ∷ (2 + length part.value) ∷ part.value
 
 -- so many octets of Length, with these after it, end a whole attribute
-abbrev pub is_whole : ℕ → List ℕ → Bool
-is_whole n os = nat_le 2 n && nat_le n (2 + length os)
+abbrev pub is_whole_attribute : ℕ → List ℕ → Bool
+is_whole_attribute n os = nat_le 2 n && nat_le n (2 + length os)
 
 -- a whole attribute comes first
 abbrev pub begins_whole : List ℕ → Bool
-begins_whole (t ∷ n ∷ os) = is_whole n os
+begins_whole (t ∷ n ∷ os) = is_whole_attribute n os
 begins_whole _ = false
 
 -- the whole attributes of the octets behind the first so many
 unfoldable pub parts_behind : ℕ → List ℕ → List Part
 parts_behind (suc k) (o ∷ os) = parts_behind k os
-parts_behind zero (t ∷ n ∷ os) = if is_whole n os then (record { number = t; value = take (n - 2) os } ∷ parts_behind (n - 2) os) else []
+parts_behind zero (t ∷ n ∷ os) = if is_whole_attribute n os then (record { number = t; value = take (n - 2) os } ∷ parts_behind (n - 2) os) else []
 parts_behind _ _ = []
 
 -- what no whole attribute begins with, of the octets behind the first so many
 unfoldable pub left_behind : ℕ → List ℕ → List ℕ
 left_behind (suc k) (o ∷ os) = left_behind k os
-left_behind zero (t ∷ n ∷ os) = if is_whole n os then left_behind (n - 2) os else (t ∷ n ∷ os)
+left_behind zero (t ∷ n ∷ os) = if is_whole_attribute n os then left_behind (n - 2) os else (t ∷ n ∷ os)
 left_behind zero (t ∷ []) = t ∷ []
 left_behind _ [] = []
 

@@ -11,7 +11,7 @@ use crate::hiding::BLOCK_OCTETS;
 use md5::{Digest, Md5};
 
 /// Octets before the attributes: Code, Identifier, Length and Authenticator (RFC 2865, section 3).
-pub const HEAD_OCTETS: usize = 20;
+pub const PACKET_HEAD_OCTETS: usize = 20;
 
 /// The most octets of a packet, of every code.
 pub const MAX_PACKET_OCTETS: usize = 4096;
@@ -25,12 +25,12 @@ pub(crate) const ZEROS: [u8; BLOCK_OCTETS] = [0; BLOCK_OCTETS];
 pub(crate) fn is_packet_length(length: usize) -> bool
     ensures { result ≡ is_packet_length length }
 {
-    length >= HEAD_OCTETS && length <= MAX_PACKET_OCTETS
+    length >= PACKET_HEAD_OCTETS && length <= MAX_PACKET_OCTETS
 }
 
 /// The Length in a packet.
 pub(crate) fn length_of(octets: &[u8]) -> usize
-    requires { HEAD_OCTETS ≤ length octets.now }
+    requires { PACKET_HEAD_OCTETS ≤ length octets.now }
     ensures { result ≡ length_of octets.now }
 {
     usize::from(u16::from_be_bytes([octets[2], octets[3]]))
@@ -49,20 +49,20 @@ fn digest_of_four(first: &[u8], second: &[u8], third: &[u8], fourth: &[u8]) -> [
 
 /// The authenticator in a packet.
 pub(crate) fn authenticator_of(octets: &[u8]) -> &[u8]
-    requires { HEAD_OCTETS ≤ length octets.now }
+    requires { PACKET_HEAD_OCTETS ≤ length octets.now }
     ensures { result.now ≡ authenticator_of octets.now }
 {
-    &octets[AUTHENTICATOR_PLACE..HEAD_OCTETS]
+    &octets[AUTHENTICATOR_PLACE..PACKET_HEAD_OCTETS]
 }
 
 /// What is behind the authenticator, up to the end.
 pub(crate) fn attributes_in(octets: &[u8], end: usize) -> &[u8]
-    requires head { HEAD_OCTETS ≤ end }
+    requires head { PACKET_HEAD_OCTETS ≤ end }
     requires whole { end ≤ length octets.now }
     ensures { result.now ≡ drop 20 (take end octets.now) }
 {
     let whole = &octets[..end];
-    &whole[HEAD_OCTETS..]
+    &whole[PACKET_HEAD_OCTETS..]
 }
 
 /// Whether octets are the same.
@@ -74,7 +74,7 @@ pub(crate) fn are_equal(octets: &[u8], others: &[u8]) -> bool
 
 // Whether the authenticator is the digest with these octets in its place.
 fn has_digest(octets: &[u8], end: usize, authenticator: &[u8; 16], secret: &[u8]) -> bool
-    requires head { HEAD_OCTETS ≤ end }
+    requires head { PACKET_HEAD_OCTETS ≤ end }
     requires whole { end ≤ length octets.now }
     ensures { result ≡ bytes_eq (authenticator_of octets.now) (md5 (take 4 octets.now ++ authenticator.now ++ drop 20 (take end octets.now) ++ secret.now)) }
 {
@@ -89,7 +89,7 @@ fn has_digest(octets: &[u8], end: usize, authenticator: &[u8; 16], secret: &[u8]
 
 /// Whether the authenticator of an Accounting-Request is the digest over zeros.
 pub(crate) fn is_accounting_request(octets: &[u8], secret: &[u8]) -> bool
-    requires head { HEAD_OCTETS ≤ length_of octets.now }
+    requires head { PACKET_HEAD_OCTETS ≤ length_of octets.now }
     requires whole { length_of octets.now ≤ length octets.now }
     ensures { result ≡ is_accounting_request octets.now secret.now }
 {
@@ -103,7 +103,7 @@ pub fn check_reply(reply: &[u8], request_authenticator: &[u8; 16], secret: &[u8]
     requires { 0 < length secret.now }
     ensures { result ≡ is_reply reply.now request_authenticator.now secret.now }
 {
-    if reply.len() < HEAD_OCTETS {
+    if reply.len() < PACKET_HEAD_OCTETS {
         return false;
     }
     let length = length_of(reply);
@@ -118,7 +118,7 @@ pub(crate) fn head_of(code: u8, id: u8, attributes: usize) -> [u8; 4]
     requires { attributes ≤ MAX_PACKET_OCTETS }
     ensures { result ≡ code ∷ id ∷ to_be_bytes w16 (20 + attributes) }
 {
-    let length = ((HEAD_OCTETS + attributes) as u16).to_be_bytes();
+    let length = ((PACKET_HEAD_OCTETS + attributes) as u16).to_be_bytes();
     [code, id, length[0], length[1]]
 }
 

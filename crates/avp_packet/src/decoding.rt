@@ -4,22 +4,22 @@ ghost use Rattle.std.specs.Prelude.{◌≡◌, ◌≤◌, ◌<◌, true, List, l
 ghost use Rattle.avp_lists.specs.declared.attributes.Pair.{Pair};
 ghost use Rattle.avp_lists.specs.States.{max_pairs};
 ghost use Rattle.avp_dict.specs.Limits.{fits};
-ghost use Rattle.avp_packet.specs.Meanings.{meaning};
+ghost use Rattle.avp_packet.specs.Meanings.{attribute_pairs};
 ghost use Rattle.avp_packet.specs.Means.{Means};
 ghost use Rattle.avp_packet.specs.Outcomes.{Gives};
-ghost use Rattle.avp_packet.specs.Own.{IsOwn};
+ghost use Rattle.avp_packet.specs.Own.{IsCanonicalOrContainer};
 ghost use Rattle.avp_packet.specs.Decoded.{decoded, is_wrongly_signed, packet_read, request_read};
 ghost use Rattle.avp_packet.specs.Packets.{IsRequestCode, attributes_of, authenticator_of, hiding_authenticator, length_of};
 ghost use Rattle.avp_packet.specs.Splitting.{parts};
 
 use crate::authenticators::{
-    HEAD_OCTETS, MAX_PACKET_OCTETS, ZEROS, attributes_in, authenticator_of, is_accounting_request,
-    is_packet_length, length_of,
+    MAX_PACKET_OCTETS, PACKET_HEAD_OCTETS, ZEROS, attributes_in, authenticator_of,
+    is_accounting_request, is_packet_length, length_of,
 };
 use crate::encoding::hiding_authenticator;
 use crate::faults::PacketFault;
 use crate::packets::{ACCESS_REQUEST, ACCOUNTING_REQUEST, Packet};
-use crate::pairs::read_pairs;
+use crate::pairs::attribute_pairs;
 use crate::signing::{check_message, has_signature};
 use crate::walking::count_attributes;
 use avp_dict::Dictionary;
@@ -27,7 +27,7 @@ use avp_lists::Pairs;
 use std::alloc::{AllocError, Global};
 
 fn copy_authenticator(octets: &[u8]) -> [u8; 16]
-    requires { HEAD_OCTETS ≤ length octets.now }
+    requires { PACKET_HEAD_OCTETS ≤ length octets.now }
     ensures { result ≡ authenticator_of octets.now }
 {
     let mut authenticator = ZEROS;
@@ -44,12 +44,12 @@ fn read_packet(
     count: usize,
 ) -> Result<Packet, AllocError>
     requires secret { 0 < length secret.now }
-    requires head { HEAD_OCTETS ≤ length_of octets.now }
+    requires head { PACKET_HEAD_OCTETS ≤ length_of octets.now }
     requires whole { length_of octets.now ≤ length octets.now }
     requires short { length_of octets.now ≤ MAX_PACKET_OCTETS }
     ensures fits { IfOk result (λ packet. All (λ pair. fits pair dictionary.now ≡ true) packet.list) }
-    ensures own { IfOk result (λ packet. All (IsOwn dictionary.now) packet.list) }
-    ensures means { IfOk result (λ packet. packet.list ≡ meaning dictionary.now secret.now (hiding_authenticator packet.code packet.authenticator) (parts (attributes_of octets.now))) }
+    ensures own { IfOk result (λ packet. All (IsCanonicalOrContainer dictionary.now) packet.list) }
+    ensures means { IfOk result (λ packet. packet.list ≡ attribute_pairs dictionary.now secret.now (hiding_authenticator packet.code packet.authenticator) (parts (attributes_of octets.now))) }
     ensures packet { IfOk result (λ packet. packet ≡ packet_read dictionary.now secret.now octets.now) }
     ensures few { IfOk result (λ packet. length packet.list ≤ length_of octets.now) }
 {
@@ -57,7 +57,7 @@ fn read_packet(
     let authenticator = copy_authenticator(octets);
     let hidden_by = hiding_authenticator(code, &authenticator);
     let attributes = attributes_in(octets, length_of(octets));
-    let pairs = read_pairs(alloc, dictionary, secret, &hidden_by, attributes, count)?;
+    let pairs = attribute_pairs(alloc, dictionary, secret, &hidden_by, attributes, count)?;
     Ok(Packet {
         code,
         id: octets[1],
@@ -69,7 +69,7 @@ fn read_packet(
 // Whether an Access-Request has a Message-Authenticator that does not sign it.
 fn is_wrongly_signed(octets: &[u8], secret: &[u8]) -> bool
     requires secret { 0 < length secret.now }
-    requires head { HEAD_OCTETS ≤ length_of octets.now }
+    requires head { PACKET_HEAD_OCTETS ≤ length_of octets.now }
     requires whole { length_of octets.now ≤ length octets.now }
     ensures { result ≡ is_wrongly_signed octets.now secret.now }
 {
@@ -86,12 +86,12 @@ fn read_request(
     count: usize,
 ) -> Result<Packet, PacketFault>
     requires secret { 0 < length secret.now }
-    requires head { HEAD_OCTETS ≤ length_of octets.now }
+    requires head { PACKET_HEAD_OCTETS ≤ length_of octets.now }
     requires whole { length_of octets.now ≤ length octets.now }
     requires short { length_of octets.now ≤ MAX_PACKET_OCTETS }
     ensures fits { IfOk result (λ packet. All (λ pair. fits pair dictionary.now ≡ true) packet.list) }
-    ensures own { IfOk result (λ packet. All (IsOwn dictionary.now) packet.list) }
-    ensures means { IfOk result (λ packet. packet.list ≡ meaning dictionary.now secret.now (hiding_authenticator packet.code packet.authenticator) (parts (attributes_of octets.now))) }
+    ensures own { IfOk result (λ packet. All (IsCanonicalOrContainer dictionary.now) packet.list) }
+    ensures means { IfOk result (λ packet. packet.list ≡ attribute_pairs dictionary.now secret.now (hiding_authenticator packet.code packet.authenticator) (parts (attributes_of octets.now))) }
     ensures read { Gives result (request_read dictionary.now secret.now octets.now) }
     ensures code { IfOk result (λ packet. IsRequestCode packet.code) }
     ensures few { IfOk result (λ packet. length packet.list ≤ length_of octets.now) }
@@ -126,7 +126,7 @@ pub fn decode(
     ensures fits { IfOk result (λ packet. All (λ pair. fits pair dictionary.now ≡ true) packet.list) }
 
     // Each pair's own octets stand for its value, but for an attribute that holds others and is not looked into.
-    ensures own { IfOk result (λ packet. All (IsOwn dictionary.now) packet.list) }
+    ensures own { IfOk result (λ packet. All (IsCanonicalOrContainer dictionary.now) packet.list) }
 
     // The list is the one that the attributes mean.
     ensures means { IfOk result (λ packet. Means dictionary.now secret.now (hiding_authenticator packet.code packet.authenticator) (parts (attributes_of octets.now)) packet.list) }
@@ -135,7 +135,7 @@ pub fn decode(
     ensures code { IfOk result (λ packet. IsRequestCode packet.code) }
     ensures few { IfOk result (λ packet. length packet.list ≤ max_pairs) }
 {
-    if octets.len() < HEAD_OCTETS {
+    if octets.len() < PACKET_HEAD_OCTETS {
         return Err(PacketFault::TooShort);
     }
     let length = length_of(octets);
@@ -147,6 +147,6 @@ pub fn decode(
     }
     match count_attributes(attributes_in(octets, length)) {
         Ok(count) => read_request(alloc, dictionary, secret, octets, count),
-        Err(bad) => Err(PacketFault::BadAttribute(HEAD_OCTETS + bad.offset)),
+        Err(bad) => Err(PacketFault::BadAttribute(PACKET_HEAD_OCTETS + bad.offset)),
     }
 }

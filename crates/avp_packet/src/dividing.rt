@@ -5,7 +5,7 @@ ghost use Rattle.std.specs.List.{position_or_len};
 ghost use Rattle.avp_lists.specs.Instances.{has_id};
 ghost use Rattle.avp_lists.specs.declared.attributes.Pair.{Pair};
 ghost use Rattle.avp_packet.specs.Packets.{request_kind};
-ghost use Rattle.avp_packet.specs.Sending.{Access, Reply, message_authenticator, without_signatures};
+ghost use Rattle.avp_packet.specs.Sending.{Access, Reply, message_authenticator_id, without_signatures};
 ghost use Rattle.avp_packet.specs.internal.Filling.{IsDivided, KeepsAll};
 
 use crate::packets::ACCOUNTING_REQUEST;
@@ -25,7 +25,7 @@ pub(crate) struct Division<'a> {
 
 // Where a list has its first Message-Authenticator, or its length.
 fn signature_place(list: &[Pair]) -> usize
-    ensures place { result ≡ position_or_len (has_id message_authenticator) list.now }
+    ensures place { result ≡ position_or_len (has_id message_authenticator_id) list.now }
     ensures within { result ≤ length list.now }
 {
     for place in 0..list.len() {

@@ -13,7 +13,7 @@ ghost use Rattle.avp_packet.specs.Splitting.{left, parts};
 ghost use Rattle.avp_packet.specs.internal.Filling.{IsPlace, divided_octets, divided_signed, filled};
 ghost use Rattle.avp_packet.specs.internal.Ranges.{IsVendorInRange};
 
-use crate::authenticators::{HEAD_OCTETS, MAX_PACKET_OCTETS, ZEROS, digest_over, head_of};
+use crate::authenticators::{MAX_PACKET_OCTETS, PACKET_HEAD_OCTETS, ZEROS, digest_over, head_of};
 use crate::dividing::{Division, divide_reply, divide_request};
 use crate::faults::EncodeFault;
 use crate::hmac::{SIGNATURE_OCTETS, signature_between};
@@ -125,7 +125,7 @@ fn packet(
     requires { length attributes.now ≤ MAX_ATTRIBUTE_OCTETS }
     ensures { IfOk result (λ octets. octets.items ≡ packet code id authenticator.now attributes.now) }
 {
-    let mut octets = Vec::with_capacity(alloc, HEAD_OCTETS + attributes.len())?;
+    let mut octets = Vec::with_capacity(alloc, PACKET_HEAD_OCTETS + attributes.len())?;
     octets.extend_from_slice(&head_of(code, id, attributes.len()))?;
     octets.extend_from_slice(authenticator)?;
     octets.extend_from_slice(attributes)?;

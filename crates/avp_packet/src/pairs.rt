@@ -3,8 +3,8 @@
 ghost use Rattle.std.specs.Prelude.{◌≡◌, ◌<◌, ◌≤◌, ◌∷◌, ◌++◌, [], true, length, drop, slice_index, All, IfOk, OnOk};
 ghost use Rattle.avp_dict.specs.Limits.{fits};
 ghost use Rattle.avp_packet.specs.AttributeOctets.{part};
-ghost use Rattle.avp_packet.specs.Meanings.{first_pairs, first_run, long_pair, meaning, others, others_in};
-ghost use Rattle.avp_packet.specs.Own.{IsOwn};
+ghost use Rattle.avp_packet.specs.Meanings.{first_pairs, first_run, long_pair, attribute_pairs, others, others_in};
+ghost use Rattle.avp_packet.specs.Own.{IsCanonicalOrContainer};
 ghost use Rattle.avp_packet.specs.Splitting.{part_octets, parts};
 
 use crate::fragments::join_run;
@@ -98,7 +98,7 @@ fn push_first<'a>(
 }
 
 /// The pairs that whole attributes mean, in a list with room for so many.
-pub(crate) fn read_pairs(
+pub(crate) fn attribute_pairs(
     alloc: Global,
     dictionary: &Dictionary,
     secret: &[u8],
@@ -108,9 +108,9 @@ pub(crate) fn read_pairs(
 ) -> Result<Vec<Pair>, AllocError>
     requires secret { 0 < length secret.now }
     requires short { length octets.now ≤ MAX_ATTRIBUTE_OCTETS }
-    ensures pairs { IfOk result (λ pairs. pairs.items ≡ meaning dictionary.now secret.now authenticator.now (parts octets.now)) }
+    ensures pairs { IfOk result (λ pairs. pairs.items ≡ attribute_pairs dictionary.now secret.now authenticator.now (parts octets.now)) }
     ensures fits { IfOk result (λ pairs. All (λ pair. fits pair dictionary.now ≡ true) pairs.items) }
-    ensures own { IfOk result (λ pairs. All (IsOwn dictionary.now) pairs.items) }
+    ensures own { IfOk result (λ pairs. All (IsCanonicalOrContainer dictionary.now) pairs.items) }
 {
     dictionary.is_sound();
     let mut pairs = Vec::with_capacity(alloc, count)?;

@@ -2,7 +2,7 @@
 
 ghost use Rattle.std.specs.Prelude.{◌≡◌, ◌<◌, ◌∷◌, ◌++◌, [], length, OnOk, IfOk};
 ghost use Rattle.avp_packet.specs.AttributeOctets.{part};
-ghost use Rattle.avp_packet.specs.Meanings.{extended_pair, pair_of, raw_pair, value_meant};
+ghost use Rattle.avp_packet.specs.Meanings.{extended_pair, pair_meant, raw_pair, value_meant};
 
 use crate::hiding::unhide;
 use crate::sending::is_hidden;
@@ -70,7 +70,7 @@ pub(crate) fn push_read(
     octets: &[u8],
 ) -> Result<(), AllocError>
     requires { 0 < length secret.now }
-    ensures { OnOk result (pairs.new.items ≡ pairs.old.items ++ pair_of dictionary.now secret.now authenticator.now id octets.now ∷ []) }
+    ensures { OnOk result (pairs.new.items ≡ pairs.old.items ++ pair_meant dictionary.now secret.now authenticator.now id octets.now ∷ []) }
 {
     let value = value_meant(
         *pairs.allocator(),
@@ -94,7 +94,7 @@ pub(crate) fn push_joined(
     octets: Vec<u8>,
 ) -> Result<(), AllocError>
     requires { 0 < length secret.now }
-    ensures { OnOk result (pairs.new.items ≡ pairs.old.items ++ pair_of dictionary.now secret.now authenticator.now id octets.items ∷ []) }
+    ensures { OnOk result (pairs.new.items ≡ pairs.old.items ++ pair_meant dictionary.now secret.now authenticator.now id octets.items ∷ []) }
 {
     let value = keep_value(dictionary, secret, authenticator, id, octets)?;
     pairs.push(Pair { id, value })?;

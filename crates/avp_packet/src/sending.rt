@@ -8,10 +8,10 @@ ghost use Rattle.avp_dict.specs.Octets.{is_hidden, octets_of};
 ghost use Rattle.avp_dict.specs.Sent.{is_internal, is_raw};
 ghost use Rattle.avp_packet.specs.AttributeOctets.{attribute_octets, sent_octets};
 ghost use Rattle.avp_packet.specs.Packets.{zeros};
-ghost use Rattle.avp_packet.specs.internal.Filling.{IsPlace, divided_octets, filled, kept, place_if, signature_if};
+ghost use Rattle.avp_packet.specs.internal.Filling.{IsPlace, divided_octets, filled, kept_pairs, place_if, signature_if};
 ghost use Rattle.avp_packet.specs.internal.Ranges.{IsVendorInRange};
 
-use crate::authenticators::{HEAD_OCTETS, MAX_PACKET_OCTETS};
+use crate::authenticators::{MAX_PACKET_OCTETS, PACKET_HEAD_OCTETS};
 use crate::dividing::{Division, MESSAGE_AUTHENTICATOR};
 use crate::faults::EncodeFault;
 use crate::hiding::hidden;
@@ -23,7 +23,7 @@ use std::alloc::{AllocError, Global};
 use std::borrow::CowSlice;
 
 /// The most octets of a packet's attributes.
-pub(crate) const MAX_ATTRIBUTE_OCTETS: usize = MAX_PACKET_OCTETS - HEAD_OCTETS;
+pub(crate) const MAX_ATTRIBUTE_OCTETS: usize = MAX_PACKET_OCTETS - PACKET_HEAD_OCTETS;
 
 /// Whether an id's values are hidden.
 pub(crate) fn is_hidden(dictionary: &Dictionary, id: AttrId) -> bool
@@ -118,8 +118,8 @@ fn push_pair(
 
 // Whether a pair is sent: a Message-Authenticator only where all are.
 fn is_kept(pair: &Pair, all: bool) -> bool
-    ensures kept { IsTrue result → kept all (pair.now ∷ []) ≡ pair.now ∷ [] }
-    ensures left { result ≡ false → kept all (pair.now ∷ []) ≡ [] }
+    ensures kept { IsTrue result → kept_pairs all (pair.now ∷ []) ≡ pair.now ∷ [] }
+    ensures left { result ≡ false → kept_pairs all (pair.now ∷ []) ≡ [] }
     ensures ranged { result ≡ false → IsVendorInRange pair.now.id }
 {
     all || !pair.id.equals(MESSAGE_AUTHENTICATOR)
@@ -136,10 +136,10 @@ fn push_kept(
 ) -> Result<(), EncodeFault>
     requires fits { fits pair.now dictionary.now ≡ true }
     requires short { length octets.old.items ≤ MAX_ATTRIBUTE_OCTETS }
-    ensures ok { OnOk result (octets.new.items ≡ octets.old.items ++ attribute_octets dictionary.now secret.now authenticator.now (kept all (pair.now ∷ []))) }
+    ensures ok { OnOk result (octets.new.items ≡ octets.old.items ++ attribute_octets dictionary.now secret.now authenticator.now (kept_pairs all (pair.now ∷ []))) }
     ensures ranged { OnOk result (IsVendorInRange pair.now.id) }
     ensures short { OnOk result (length octets.new.items ≤ MAX_ATTRIBUTE_OCTETS) }
-    ensures too_long { result ≡ Err EncodeFault.TooLong → MAX_ATTRIBUTE_OCTETS < length octets.old.items + length (attribute_octets dictionary.now secret.now authenticator.now (kept all (pair.now ∷ []))) }
+    ensures too_long { result ≡ Err EncodeFault.TooLong → MAX_ATTRIBUTE_OCTETS < length octets.old.items + length (attribute_octets dictionary.now secret.now authenticator.now (kept_pairs all (pair.now ∷ []))) }
 {
     if !is_kept(pair, all) {
         return Ok(());
@@ -163,10 +163,10 @@ fn push_list(
 ) -> Result<(), EncodeFault>
     requires fits { All (λ pair. fits pair dictionary.now ≡ true) list.now }
     requires short { length octets.old.items ≤ MAX_ATTRIBUTE_OCTETS }
-    ensures ok { OnOk result (octets.new.items ≡ octets.old.items ++ attribute_octets dictionary.now secret.now authenticator.now (kept all list.now)) }
+    ensures ok { OnOk result (octets.new.items ≡ octets.old.items ++ attribute_octets dictionary.now secret.now authenticator.now (kept_pairs all list.now)) }
     ensures ranged { OnOk result (All (λ pair. IsVendorInRange pair.id) list.now) }
     ensures short { OnOk result (length octets.new.items ≤ MAX_ATTRIBUTE_OCTETS) }
-    ensures too_long { result ≡ Err EncodeFault.TooLong → MAX_ATTRIBUTE_OCTETS < length octets.old.items + length (attribute_octets dictionary.now secret.now authenticator.now (kept all list.now)) }
+    ensures too_long { result ≡ Err EncodeFault.TooLong → MAX_ATTRIBUTE_OCTETS < length octets.old.items + length (attribute_octets dictionary.now secret.now authenticator.now (kept_pairs all list.now)) }
 {
     for pair in list {
         push_kept(octets, dictionary, secret, authenticator, pair, all)?;

@@ -8,7 +8,7 @@ ghost use Rattle.avp_packet.specs.Signed.{blanked, is_only, is_signature, is_sig
 ghost use Rattle.avp_packet.specs.Splitting.{left, part_octets, parts};
 
 use crate::authenticators::{
-    AUTHENTICATOR_PLACE, HEAD_OCTETS, are_equal, attributes_in, is_packet_length, length_of,
+    AUTHENTICATOR_PLACE, PACKET_HEAD_OCTETS, are_equal, attributes_in, is_packet_length, length_of,
 };
 use crate::hmac::signature_between;
 use crate::splitting::first_attribute;
@@ -79,7 +79,7 @@ pub fn check_message(octets: &[u8], authenticator: &[u8; 16], secret: &[u8]) -> 
     requires { 0 < length secret.now }
     ensures { result ≡ is_signed octets.now authenticator.now secret.now }
 {
-    if octets.len() < HEAD_OCTETS {
+    if octets.len() < PACKET_HEAD_OCTETS {
         return false;
     }
     let length = length_of(octets);

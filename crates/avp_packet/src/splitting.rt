@@ -7,7 +7,7 @@ ghost use Rattle.avp_packet.specs.Splitting.{IsSplit, begins_whole, items, left,
 use thiserror::Error;
 
 /// Octets of an attribute's Type and Length.
-pub(crate) const HEAD_OCTETS: usize = 2;
+pub(crate) const ATTRIBUTE_HEAD_OCTETS: usize = 2;
 
 /// An attribute, where it is.
 #[derive(Clone, Copy, Debug)]
@@ -50,10 +50,10 @@ pub(crate) fn first_attribute(octets: &[u8]) -> Option<Front<'_>>
     match octets {
         [number, length, after @ ..] => {
             let length = usize::from(*length);
-            if length < HEAD_OCTETS || length > HEAD_OCTETS + after.len() {
+            if length < ATTRIBUTE_HEAD_OCTETS || length > ATTRIBUTE_HEAD_OCTETS + after.len() {
                 return None;
             }
-            let (value, rest) = after.split_at(length - HEAD_OCTETS);
+            let (value, rest) = after.split_at(length - ATTRIBUTE_HEAD_OCTETS);
             Some(Front {
                 number: *number,
                 value,

@@ -17,7 +17,7 @@ use Rattle.avp_step.specs.Trace.{Entry, Steps, end_of, start, trace_of}
 use Rattle.avp_step.specs.internal.Frames.{States, frames_suit, rest, Sit}
 use Rattle.avp_step.specs.internal.Stepping.{standing, entry_of, Names, IsStep, IsOver, IsRefused, HasRoom, StatesFit}
 use Rattle.avp_step.specs.Walk.{IsLineLabel, Walk, entry, entry_at, moved_forward, answer_of_forward}
-use Rattle.avp_step.specs.internal.Held.{trace_from, walk_of, made, states_of, nowhere, IsHeld}
+use Rattle.avp_step.specs.internal.Held.{trace_from, walk_of, made, walk_states, nowhere, IsHeld}
 use Rattle.avp_step.proofs.Ends.{end_of-append}
 use Rattle.avp_step.proofs.Sizes.{trace_size}
 use Rattle.avp_unlang.specs.Depth.{depth_of}
@@ -86,9 +86,9 @@ module _ (d : Dictionary) (ss : List Statement) (h : History) (left : ℕ) (ms :
 
   pub held_within : p < length (trace_from d ss h)
   held_within =
-      omega (arith, held.within, length_made ms h.states held.each, ap length held.trace, length-append (made ms h.states) (rest d (states_of (walk_of d ss h p)) fs (end_of nowhere (made ms h.states))))
+      omega (arith, held.within, length_made ms h.states held.each, ap length held.trace, length-append (made ms h.states) (rest d (walk_states (walk_of d ss h p)) fs (end_of nowhere (made ms h.states))))
 
-  pub held_names : Names (states_of (walk_of d ss h p)) h
+  pub held_names : Names (walk_states (walk_of d ss h p)) h
   held_names k le =
       let lt : k < length ms = omega (arith, held.within, held.place) in
       ap (λ (e : Entry). e.outcome.state) (held_at k (start empty_state) no_mark empty_state lt)
@@ -109,47 +109,47 @@ module _ (d : Dictionary) (ss : List Statement) (h : History) (left : ℕ) (ms :
 
   module _ (last : Mark) (at_last : last ≡ get_or ms p last) (end' : p + 1 ≡ length ms) where
     -- the trace by the last mark
-    pub frontier : before ++ rest d (states_of walk) fs (standing last h) ≡ trace_from d ss h
+    pub frontier : before ++ rest d (walk_states walk) fs (standing last h) ≡ trace_from d ss h
     frontier =
-        ap (λ o. before ++ rest d (states_of walk) fs o) (ap (λ m. standing m h) at_last ∙ sym (held_standing last end'))
+        ap (λ o. before ++ rest d (walk_states walk) fs o) (ap (λ m. standing m h) at_last ∙ sym (held_standing last end'))
         ∙ held.trace
 
     pub held_room : HasRoom d fs last h left
     held_room = record {
-      at = states_of walk;
+      at = walk_states walk;
       names = held_names;
       room = λ e es is.
-          omega (arith, held.room_of_store, held.place, length_made ms h.states held.each, ap length frontier, length-append before (rest d (states_of walk) fs (standing last h)), ap length is);
+          omega (arith, held.room_of_store, held.place, length_made ms h.states held.each, ap length frontier, length-append before (rest d (walk_states walk) fs (standing last h)), ap length is);
     }
 
     -- the first of the other steps is at the next position
-    next_at : (e : Entry) (es : List Entry) (x : Entry) → rest d (states_of walk) fs (standing last h) ≡ e ∷ es → get_or (trace_from d ss h) (p + 1) x ≡ e
+    next_at : (e : Entry) (es : List Entry) (x : Entry) → rest d (walk_states walk) fs (standing last h) ≡ e ∷ es → get_or (trace_from d ss h) (p + 1) x ≡ e
     next_at e es x is =
         let at : length before ≡ p + 1 = omega (arith, length_made ms h.states held.each) in
         ap (λ l. get_or l (p + 1) x) (sym frontier ∙ ap (λ r. before ++ r) is)
         ∙ ap (λ k. get_or (before ++ e ∷ es) k x) (sym at)
         ∙ get_or-append_seam before e es x
 
-    next_within : (e : Entry) (es : List Entry) → rest d (states_of walk) fs (standing last h) ≡ e ∷ es → p + 1 < length (trace_from d ss h)
+    next_within : (e : Entry) (es : List Entry) → rest d (walk_states walk) fs (standing last h) ≡ e ∷ es → p + 1 < length (trace_from d ss h)
     next_within e es is =
-        omega (arith, length_made ms h.states held.each, ap length frontier, length-append before (rest d (states_of walk) fs (standing last h)), ap length is)
+        omega (arith, length_made ms h.states held.each, ap length frontier, length-append before (rest d (walk_states walk) fs (standing last h)), ap length is)
 
     pub refused_line : (t : States → Steps) (fs1 : List Frame) → t ≡ (λ at. rest d at fs) → IsRefused d t last h fs1 → IsLineLabel (entry_at walk (p + 1)).label
     refused_line t fs1 same r =
-        let f = r.line (states_of walk) held_names in
-        subst (λ (e : Entry). IsLineLabel e.label) (sym (next_at f.0 f.1 (start empty_state) (ap (λ (t : States → Steps). t (states_of walk) (standing last h)) (sym same) ∙ f.2))) f.3
+        let f = r.line (walk_states walk) held_names in
+        subst (λ (e : Entry). IsLineLabel e.label) (sym (next_at f.0 f.1 (start empty_state) (ap (λ (t : States → Steps). t (walk_states walk) (standing last h)) (sym same) ∙ f.2))) f.3
 
     -- the run is over
     pub over_end : (t : States → Steps) → t ≡ (λ at. rest d at fs) → IsOver t last h → length (trace_from d ss h) ≡ p + 1
     over_end t same over =
-        let none : rest d (states_of walk) fs (standing last h) ≡ [] = ap (λ (t : States → Steps). t (states_of walk) (standing last h)) (sym same) ∙ over.none (states_of walk) held_names in
-        omega (arith, length_made ms h.states held.each, ap length frontier, length-append before (rest d (states_of walk) fs (standing last h)), ap length none)
+        let none : rest d (walk_states walk) fs (standing last h) ≡ [] = ap (λ (t : States → Steps). t (walk_states walk) (standing last h)) (sym same) ∙ over.none (walk_states walk) held_names in
+        omega (arith, length_made ms h.states held.each, ap length frontier, length-append before (rest d (walk_states walk) fs (standing last h)), ap length none)
 
     pub over_held : (t : States → Steps) (h1 : History) (left1 : ℕ) (fs1 : List Frame) (r3 : ℕ) → t ≡ (λ at. rest d at fs) → IsOver t last h → fs1 ≡ [] → h1 ≡ h → h.place + left ≤ h1.place + left1 → MAX_FRAMES ≤ r3 → IsHeld d ss h1 left1 ms p fs1 r1 r3
     over_held t h1 left1 fs1 r3 same over none still more room =
         let more' : h.place + left ≤ h.place + left1 = omega (arith, more, ap (λ (k : History). k.place) still) in
         subst (λ k. IsHeld d ss k left1 ms p fs1 r1 r3) (sym still) (subst (λ l. IsHeld d ss h left1 ms p l r1 r3) (sym none) (record {
-          trace = ap (λ es. before ++ es) (sym (over.none (states_of walk) held_names) ∙ ap (λ (t : States → Steps). t (states_of walk) (standing last h)) same) ∙ frontier;
+          trace = ap (λ es. before ++ es) (sym (over.none (walk_states walk) held_names) ∙ ap (λ (t : States → Steps). t (walk_states walk) (standing last h)) same) ∙ frontier;
           each = held.each;
           place = held.place;
           within = held.within;
@@ -171,9 +171,9 @@ module _ (d : Dictionary) (ss : List Statement) (h : History) (left : ℕ) (ms :
     -- a refused step
     pub refused_held : (t : States → Steps) (h1 : History) (left1 : ℕ) (fs1 : List Frame) (r3 : ℕ) → t ≡ (λ at. rest d at fs) → IsRefused d t last h fs1 → h1 ≡ h → h.place + left ≤ h1.place + left1 → Sit h1.place 0 fs1 → IsTrue (frames_suit d fs1) → MAX_FRAMES ≤ r3 → IsHeld d ss h1 left1 ms p fs1 r1 r3
     refused_held t h1 left1 fs1 r3 same r kept more sit fit room =
-        let other : rest d (states_of walk) fs1 (standing last h) ≡ rest d (states_of walk) fs (standing last h) = r.same (states_of walk) held_names ∙ ap (λ (t : States → Steps). t (states_of walk) (standing last h)) same in
-        let trace1 : before ++ rest d (states_of walk) fs1 (end_of nowhere before) ≡ trace_from d ss h =
-        ap (λ o. before ++ rest d (states_of walk) fs1 o) (held_standing last end' ∙ ap (λ m. standing m h) (sym at_last)) ∙ ap (λ es. before ++ es) other ∙ frontier in
+        let other : rest d (walk_states walk) fs1 (standing last h) ≡ rest d (walk_states walk) fs (standing last h) = r.same (walk_states walk) held_names ∙ ap (λ (t : States → Steps). t (walk_states walk) (standing last h)) same in
+        let trace1 : before ++ rest d (walk_states walk) fs1 (end_of nowhere before) ≡ trace_from d ss h =
+        ap (λ o. before ++ rest d (walk_states walk) fs1 o) (held_standing last end' ∙ ap (λ m. standing m h) (sym at_last)) ∙ ap (λ es. before ++ es) other ∙ frontier in
         let at : h1.place ≡ h.place = ap (λ (k : History). k.place) kept in
         subst (λ k. IsHeld d ss k left1 ms p fs1 r1 r3) (sym kept) (record {
           trace = trace1;
@@ -200,8 +200,8 @@ module _ (d : Dictionary) (ss : List Statement) (h : History) (left : ℕ) (ms :
           let some : 0 < length h.states = omega (arith, held.each, held.within) in
           ap (λ l. get_or l 0 empty_state) states_added ∙ get_or-append h.states (present h1 ∷ []) empty_state 0 some
 
-      first_step : rest d (states_of walk) fs (standing last h) ≡ entry_of mark (present h1) ∷ rest d (states_of walk) fs1 (standing mark h1)
-      first_step = ap (λ (t : States → Steps). t (states_of walk) (standing last h)) (sym same) ∙ step.same (states_of walk) held_names
+      first_step : rest d (walk_states walk) fs (standing last h) ≡ entry_of mark (present h1) ∷ rest d (walk_states walk) fs1 (standing mark h1)
+      first_step = ap (λ (t : States → Steps). t (walk_states walk) (standing last h)) (sym same) ∙ step.same (walk_states walk) held_names
 
       pub mark_room : length ms < r1
       mark_room = omega (arith, held.room_of_marks, next_within _ _ first_step)
@@ -222,16 +222,16 @@ module _ (d : Dictionary) (ss : List Statement) (h : History) (left : ℕ) (ms :
           let e = entry_of mark (present h1) in
           let ms' = ms ++ mark ∷ [] in
           let pushed : made ms' h1.states ≡ before ++ e ∷ [] = ap (made ms') states_added ∙ made_push ms h.states mark (present h1) held.each in
-          let trace1 : made ms' h1.states ++ rest d (states_of walk) fs1 (end_of nowhere (made ms' h1.states)) ≡ trace_from d ss h =
-          ap (λ es. es ++ rest d (states_of walk) fs1 (end_of nowhere es)) pushed
-          ∙ ap (λ o. (before ++ e ∷ []) ++ rest d (states_of walk) fs1 o) (end_of-append nowhere before (e ∷ []))
-          ∙ append_assoc before (e ∷ []) (rest d (states_of walk) fs1 (standing mark h1))
+          let trace1 : made ms' h1.states ++ rest d (walk_states walk) fs1 (end_of nowhere (made ms' h1.states)) ≡ trace_from d ss h =
+          ap (λ es. es ++ rest d (walk_states walk) fs1 (end_of nowhere es)) pushed
+          ∙ ap (λ o. (before ++ e ∷ []) ++ rest d (walk_states walk) fs1 o) (end_of-append nowhere before (e ∷ []))
+          ∙ append_assoc before (e ∷ []) (rest d (walk_states walk) fs1 (standing mark h1))
           ∙ ap (λ es. before ++ es) (sym first_step)
           ∙ frontier in
           let len : length ms' ≡ length ms + 1 = omega (arith, length-append ms (mark ∷ [])) in
           let same_length : length (trace_from d ss h1) ≡ length (trace_from d ss h) = ap (λ s. length (trace_of d ss s)) first_stays in
           subst (λ l. IsHeld d ss h1 left1 l (p + 1) fs1 r3 r4) (sym more) (record {
-            trace = subst (λ s. made ms' h1.states ++ rest d (states_of (record { dictionary = d; trace = trace_of d ss s; position = p + 1 })) fs1 (end_of nowhere (made ms' h1.states)) ≡ trace_of d ss s) (sym first_stays) trace1;
+            trace = subst (λ s. made ms' h1.states ++ rest d (walk_states (record { dictionary = d; trace = trace_of d ss s; position = p + 1 })) fs1 (end_of nowhere (made ms' h1.states)) ≡ trace_of d ss s) (sym first_stays) trace1;
             each = omega (arith, ap length states_added, length-append h.states (present h1 ∷ []), held.each, len);
             place = omega (arith, at, held.place);
             within = omega (arith, held.within, len);
@@ -254,7 +254,7 @@ module _ (d : Dictionary) (ss : List Statement) (h : History) (left : ℕ) (ms :
   module _ (h1 : History) (moved : h1.states ≡ h.states) (known : p + 1 < length ms) where
     known_within : p + 1 < length (trace_from d ss h)
     known_within =
-        omega (arith, known, length_made ms h.states held.each, ap length held.trace, length-append (made ms h.states) (rest d (states_of (walk_of d ss h p)) fs (end_of nowhere (made ms h.states))))
+        omega (arith, known, length_made ms h.states held.each, ap length held.trace, length-append (made ms h.states) (rest d (walk_states (walk_of d ss h p)) fs (end_of nowhere (made ms h.states))))
 
     pub redone_walk : walk_of d ss h1 (p + 1) ≡ moved_forward walk
     redone_walk =

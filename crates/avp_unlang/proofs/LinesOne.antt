@@ -24,7 +24,7 @@ use Rattle.avp_unlang.specs.Lines.{TargetIs, OpIs, LineIs, after_reference, op_o
 use Rattle.avp_unlang.specs.Parts.{PartsAre}
 use Rattle.avp_unlang.specs.Places.{Place}
 use Rattle.avp_unlang.specs.References.{ReadableIs, AlikeIs, readable, reference}
-use Rattle.avp_unlang.specs.Sources.{literal, filled, FilledIs, ValueFrom, ValueIs, IgnoredFrom, IgnoredIs, SourceBy, SourceIs, is_removal}
+use Rattle.avp_unlang.specs.Sources.{literal, filled_source, FilledIs, ValueFrom, ValueIs, IgnoredFrom, IgnoredIs, SourceBy, SourceIs, is_removal}
 use Rattle.avp_unlang.specs.Steps.{Counts, Follows}
 use Rattle.avp_unlang.specs.Tokens.{next_token}
 use Rattle.avp_unlang.proofs.Determined.{IsOne, IsSure, some_is, pair_one, gives_one, becomes_one, after_one, then_one}
@@ -67,17 +67,17 @@ module _ (dictionary : Dictionary) where
   -- ---- sources
 
   pub filled_reads : (name : Named) (text : List ℕ) (parts : List Part) → is_barred name dictionary ≡ false → PartsAre dictionary text parts → (r : Result Source PolicyFault)
-      → IfOk r (λ source. filled dictionary name parts ≡ Some source) → IfErr r (λ fault. fault.kind ≢ Memory → filled dictionary name parts ≡ None)
+      → IfOk r (λ source. filled_source dictionary name parts ≡ Some source) → IfErr r (λ fault. fault.kind ≢ Memory → filled_source dictionary name parts ≡ None)
       → ReadsAll (FilledIs dictionary name text) r
   filled_reads name text parts free are (Ok source) ok err = (free, parts, are, ok)
   filled_reads name text parts free are (Err fault) ok err = λ some source h.
       let same = parts_one dictionary text h.1 parts h.2 are in
-      none_some source (filled dictionary name parts) (err some) (subst (λ ps. filled dictionary name ps ≡ Some source) same h.3)
+      none_some source (filled_source dictionary name parts) (err some) (subst (λ ps. filled_source dictionary name ps ≡ Some source) same h.3)
 
   filled_one : (name : Named) (text : List ℕ) (x y : Source) → FilledIs dictionary name text x → FilledIs dictionary name text y → x ≡ y
   filled_one name text x y h g =
       let same = parts_one dictionary text h.1 g.1 h.2 g.2 in
-      some_is x y (sym (subst (λ ps. filled dictionary name ps ≡ Some x) same h.3) ∙ g.3)
+      some_is x y (sym (subst (λ ps. filled_source dictionary name ps ≡ Some x) same h.3) ∙ g.3)
 
   value_from_one : (name : Named) (token : Token) → IsOne (ValueFrom dictionary name token)
   value_from_one name (Word text) p x y r s h g = becomes_one (option_map Literal (literal dictionary name text)) p x y r s h g

@@ -15,7 +15,7 @@ use Rattle.avp_dict.specs.Dictionary.{Dictionary}
 use Rattle.avp_dict.specs.declared.value.faults.ValueFault.{ValueFault}
 use Rattle.avp_unlang.specs.Forms.{Form, Step, Chain, Others, While}
 use Rattle.avp_unlang.specs.Places.{Place}
-use Rattle.avp_unlang.specs.Sources.{ValueFrom, filled, fitting, literal, whole_text}
+use Rattle.avp_unlang.specs.Sources.{ValueFrom, filled_source, fitting, literal, whole_text}
 use Rattle.avp_unlang.specs.Statements.{BlockIs}
 use Rattle.avp_unlang.specs.declared.tokens.Sign.TheVariants as sign
 use Rattle.avp_unlang.specs.declared.tokens.Token.{Token}
@@ -80,8 +80,8 @@ module _ (dictionary : Dictionary) (name : Named) where
     filled_by_holds parts (Some text) s e = literal_holds text s e
     filled_by_holds parts None s e = subst P (some_is (source.Text name.raw parts) s e) (of_text parts)
 
-    filled_holds : (parts : List Part) (s : Source) → filled dictionary name parts ≡ Some s → P s
-    unfolding filled
+    filled_holds : (parts : List Part) (s : Source) → filled_source dictionary name parts ≡ Some s → P s
+    unfolding filled_source
     filled_holds parts s e = filled_by_holds parts (whole_text parts) s e
 
     pub value_holds : (t : Token) → Holds P (ValueFrom dictionary name t)

@@ -47,8 +47,8 @@ whole_text (part.Text octets ∷ []) = Some octets
 whole_text _ = None
 
 -- such a text is a literal, and any other is kept, with whether the name is one by number
-unfoldable pub filled : Dictionary → Named → List Part → Option Source
-filled dictionary name parts = elim (whole_text parts) [
+unfoldable pub filled_source : Dictionary → Named → List Part → Option Source
+filled_source dictionary name parts = elim (whole_text parts) [
   | Some text ↦ option_map Literal (literal dictionary name text)
   | None ↦ Some (Text name.raw parts)
 ]
@@ -56,7 +56,7 @@ filled dictionary name parts = elim (whole_text parts) [
 abbrev pub FilledIs : Dictionary → Named → List ℕ → Source → Type 0
 FilledIs dictionary name text source =
     (is_barred name dictionary ≡ false) × (parts : List Part) × PartsAre dictionary text parts
-    × (filled dictionary name parts ≡ Some source)
+    × (filled_source dictionary name parts ≡ Some source)
 
 -- ---- sources
 

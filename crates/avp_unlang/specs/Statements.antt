@@ -34,13 +34,13 @@ abbrev pub keyword_in : Token → Keyword
 keyword_in (token.Word word) = keyword_named word
 keyword_in _ = keyword.Other
 
-abbrev pub is_word : Token → Bool
-is_word (token.Word word) = true
-is_word _ = false
+abbrev pub is_word_token : Token → Bool
+is_word_token (token.Word word) = true
+is_word_token _ = false
 
 -- a statement begins with a word
 abbrev pub begins_word : Place → Bool
-begins_word p = is_word (next_token p).0
+begins_word p = is_word_token (next_token p).0
 
 -- the list that is named next, and the place after it; else the request
 abbrev pub list_from : Place → Token × Place → Name × Place

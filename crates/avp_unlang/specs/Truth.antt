@@ -44,10 +44,10 @@ is_numeric kinds.Short = true
 is_numeric kinds.Signed = true
 is_numeric kinds.Integer64 = true
 
-abbrev pub is_number : Value → Bool
-is_number (Int n) = true
-is_number (Signed z) = true
-is_number _ = false
+abbrev pub is_number_value : Value → Bool
+is_number_value (Int n) = true
+is_number_value (Signed z) = true
+is_number_value _ = false
 
 -- the order of two numbers; raw octets are none
 abbrev pub number_order : Value → Value → Option Ordering

@@ -4,7 +4,7 @@ ghost use Rattle.std.specs.Prelude.{◌≡◌, ◌≢◌, ◌≤◌, ◌<◌, le
 ghost use Rattle.avp_dict.specs.declared.value.faults.ValueFault.TheVariants as value_faults;
 ghost use Rattle.avp_dict.specs.Quotes.{octets_between};
 ghost use Rattle.avp_unlang.specs.Forms.{Reads, ReadsAll, Takes};
-ghost use Rattle.avp_unlang.specs.Sources.{FilledIs, IgnoredIs, SourceIs, ValueIs, filled, is_removal, literal, whole_text};
+ghost use Rattle.avp_unlang.specs.Sources.{FilledIs, IgnoredIs, SourceIs, ValueIs, filled_source, is_removal, literal, whole_text};
 ghost use Rattle.avp_unlang.specs.declared.faults.PolicyKind.TheVariants.{Memory};
 
 use crate::cursors::Cursor;
@@ -98,16 +98,16 @@ fn whole_text(parts: &Parts) -> Option<&[u8]>
 }
 
 // The source of these parts: a literal if nothing is put in.
-#[tactic(auto, unfolding(crate::specs::Sources::filled))]
-fn filled(
+#[tactic(auto, unfolding(crate::specs::Sources::filled_source))]
+fn filled_source(
     alloc: Global,
     dictionary: &Dictionary,
     named: Named,
     parts: Parts,
     lines: SourceLines,
 ) -> Result<Source, PolicyFault>
-    ensures ok { IfOk result (λ source. filled dictionary.now named parts ≡ Some source) }
-    ensures err { IfErr result (λ fault. fault.kind ≢ Memory → filled dictionary.now named parts ≡ None) }
+    ensures ok { IfOk result (λ source. filled_source dictionary.now named parts ≡ Some source) }
+    ensures err { IfErr result (λ fault. fault.kind ≢ Memory → filled_source dictionary.now named parts ≡ None) }
 {
     match whole_text(&parts) {
         None => Ok(Source::Text(named.raw, parts)),
@@ -132,7 +132,7 @@ fn filled_text(
         return Err(fault_at(lines.name, PolicyKind::NotWritable));
     }
     let parts = parts(alloc, dictionary, text, lines.source)?;
-    filled(alloc, dictionary, named, parts, lines)
+    filled_source(alloc, dictionary, named, parts, lines)
 }
 
 // A source whose value is looked at.

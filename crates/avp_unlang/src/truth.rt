@@ -6,7 +6,7 @@ ghost use Rattle.std.specs.Option.{option_copied};
 ghost use Rattle.avp_lists.specs.History.{present};
 ghost use Rattle.avp_dict.specs.Octets.{octets_of};
 ghost use Rattle.avp_dict.specs.declared.entries.Kind.{Kind};
-ghost use Rattle.avp_unlang.specs.Truth.{are_related, comparable, compared_with, first_value, is_alike, is_comparable, is_met, is_number, is_numeric, meets, number_order, order, relates, same_code, truth};
+ghost use Rattle.avp_unlang.specs.Truth.{are_related, comparable, compared_with, first_value, is_alike, is_comparable, is_met, is_number_value, is_numeric, meets, number_order, order, relates, same_code, truth};
 
 use crate::codes::Code;
 use crate::tree::{Comparand, Comparison, Cond, Relation};
@@ -55,7 +55,7 @@ fn meets(relation: Relation, order: Ordering) -> bool
 
 // The octets of a value that is no number.
 fn octets(value: &Value) -> &[u8]
-    requires { is_number value.now ≡ false }
+    requires { is_number_value value.now ≡ false }
     ensures { (kind : Option Kind) → result.now ≡ octets_of kind value.now }
 {
     match value {

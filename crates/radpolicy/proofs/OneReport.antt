@@ -7,8 +7,8 @@ use Rattle.radpolicy.specs.declared.faults.Fault.TheVariants as fault
 use Rattle.radpolicy.specs.declared.jobs.Command.{Command}
 use Rattle.radpolicy.specs.declared.jobs.Command.TheVariants.{Check, Decode, Encode, Run, Step}
 use Rattle.radpolicy.specs.declared.jobs.Job.{Job}
-use Rattle.radpolicy.specs.JobReports.{IsCheckRefusal, IsCheckReport, IsDictionaryRefusal, IsOpenRefusal, IsOpened, IsPacketRefusal, IsPacketReport, IsPolicy, IsReceived, IsRefused, IsReport, IsRequestRefusal, IsRunRefusal, IsRunReport, IsScript, IsSizeOf, IsStepRefusal, IsStepReport, Opened, RefusalOf, ReportOf, decode_report, dictionary_for, encode_report, policy_of, report_of_run, script_of, step_report, walk_of}
-use Rattle.radpolicy.specs.Received.{IsUnread, request_for}
+use Rattle.radpolicy.specs.JobReports.{IsCheckRefusal, IsCheckReport, IsDictionaryRefusal, IsOpenRefusal, IsOpened, IsPacketRefusal, IsPacketReport, IsPolicy, IsReceived, IsRefused, IsReport, IsRequestRefusal, IsRunRefusal, IsRunReport, IsScript, IsSizeOf, IsStepRefusal, IsStepReport, Opened, RefusalOf, ReportOf, decode_report, dictionary_for, encode_report, policy_of, report_of_run, script_of, step_report, request_walk}
+use Rattle.radpolicy.specs.Received.{IsUnreadRequest, request_for}
 use Rattle.radpolicy.specs.Reports.{Report, check_report}
 use Rattle.radpolicy.specs.Scripts.{IsUnknownWord, script_spelled}
 use Rattle.radpolicy.specs.Secrets.{secret_for}
@@ -84,8 +84,8 @@ module _ (job : Job) where
       let size = one_size job.policy g.dictionary h.size g.size (subst (λ (d : Dictionary). IsSizeOf job.policy job d h.size) same h.policy) g.policy in
       h.text ∙ ap₂ (λ d n. check_report job.files d n) same size ∙ sym g.text
 
-  step_of_other : (o : Opened) (a : Report) (h : IsStepReport job a) → h.opened ≡ o → (statements : List Statement) × (request : Packet) × IsPolicy job o.dictionary statements × IsReceived job o request × (a ≡ step_report h.script (walk_of o.dictionary statements request))
-  step_of_other o a h e = subst (λ (p : Opened). (statements : List Statement) × (request : Packet) × IsPolicy job p.dictionary statements × IsReceived job p request × (a ≡ step_report h.script (walk_of p.dictionary statements request))) e (h.statements, h.request, h.policy, h.received, h.made)
+  step_of_other : (o : Opened) (a : Report) (h : IsStepReport job a) → h.opened ≡ o → (statements : List Statement) × (request : Packet) × IsPolicy job o.dictionary statements × IsReceived job o request × (a ≡ step_report h.script (request_walk o.dictionary statements request))
+  step_of_other o a h e = subst (λ (p : Opened). (statements : List Statement) × (request : Packet) × IsPolicy job p.dictionary statements × IsReceived job p request × (a ≡ step_report h.script (request_walk p.dictionary statements request))) e (h.statements, h.request, h.policy, h.received, h.made)
 
   one_step_report : (a b : Report) → IsStepReport job a → IsStepReport job b → a ≡ b
   one_step_report a b h g =
@@ -94,8 +94,8 @@ module _ (job : Job) where
       let statements = one_statements o.dictionary r.0 g.statements r.2 g.policy in
       let request = one_request o r.1 g.request r.3 g.received in
       let script = the_ok h.script g.script (script_spelled (script_of job)) h.words g.words in
-      r.4 ∙ ap (λ w. step_report w (walk_of o.dictionary r.0 r.1)) script ∙ ap (λ s. step_report g.script (walk_of o.dictionary s r.1)) statements
-      ∙ ap (λ q. step_report g.script (walk_of o.dictionary g.statements q)) request ∙ sym g.made
+      r.4 ∙ ap (λ w. step_report w (request_walk o.dictionary r.0 r.1)) script ∙ ap (λ s. step_report g.script (request_walk o.dictionary s r.1)) statements
+      ∙ ap (λ q. step_report g.script (request_walk o.dictionary g.statements q)) request ∙ sym g.made
 
   one_report_of : (command : Command) (a b : Report) → ReportOf command job a → ReportOf command job b → a ≡ b
   one_report_of Run a b h g = one_run_report a b h g
@@ -115,7 +115,7 @@ module _ (job : Job) where
   opened_not o f h (inr refused) = not_both_some o.secret (secret_for job) h.secret refused.secret
 
   request_read : (o : Opened) (request : Packet) (f : Fault) → IsReceived job o request → IsRequestRefusal job o f → ⊥
-  request_read o request f h refused = subst (IsUnread f) h refused
+  request_read o request f h refused = subst (IsUnreadRequest f) h refused
 
   run_not : (report : Report) (f : Fault) → IsRunReport job report → IsRunRefusal job f → ⊥
   run_not report f h (inl refused) = opened_not h.opened f h.opens refused

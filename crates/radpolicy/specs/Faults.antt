@@ -169,12 +169,12 @@ abbrev pub place_text : List NamedFile → Fault → List ℕ
 place_text files f = if is_memory f then [] else place_of files f
 
 -- the letter E and two digits
-abbrev pub code_text : ℕ → List ℕ
-code_text n = 69 ∷ (48 + n / 10) ∷ (48 + n % 10) ∷ []
+abbrev pub fault_code_text : ℕ → List ℕ
+fault_code_text n = 69 ∷ (48 + n / 10) ∷ (48 + n % 10) ∷ []
 
 -- the line of a fault
 unfoldable pub fault_line : List NamedFile → Fault → List ℕ
-fault_line files f = codes "radpolicy: " ++ code_text (fault_number f) ++ place_text files f ++ codes ": " ++ fault_text f ++ codes "\n"
+fault_line files f = codes "radpolicy: " ++ fault_code_text (fault_number f) ++ place_text files f ++ codes ": " ++ fault_text f ++ codes "\n"
 
 -- the exit status for a fault
 abbrev pub status_of : Fault → ℕ

@@ -21,7 +21,7 @@ use Rattle.avp_unlang.specs.declared.codes.Code.TheVariants as Code
 use Rattle.avp_step.specs.Trace.{trace_of}
 use Rattle.avp_step.specs.Walk.{Walk, entry}
 use Rattle.avp_unlang.specs.Sizes.{size_of}
-use Rattle.radpolicy.specs.Received.{IsUnread, request_for}
+use Rattle.radpolicy.specs.Received.{IsUnreadRequest, request_for}
 use Rattle.radpolicy.specs.Replies.{answer_of, request_packet}
 use Rattle.radpolicy.specs.Reports.{Report, answer_line, check_report, packet_line, packet_text, plain_report, run_report}
 use Rattle.radpolicy.specs.Scripts.{IsUnknownWord, after_script, script_spelled, script_text}
@@ -99,8 +99,8 @@ abbrev pub IsScript : Job → List ScriptWord → Type 0
 IsScript job script = script_spelled (script_of job) ≡ Ok script
 
 -- the walk over the policy's trace, at its start
-abbrev pub walk_of : Dictionary → List Statement → Packet → Walk
-walk_of dictionary statements request = record { dictionary = dictionary; trace = trace_of dictionary statements (entry_state request.list); position = 0 }
+abbrev pub request_walk : Dictionary → List Statement → Packet → Walk
+request_walk dictionary statements request = record { dictionary = dictionary; trace = trace_of dictionary statements (entry_state request.list); position = 0 }
 
 -- the report of a walk by a script
 abbrev pub step_report : List ScriptWord → Walk → Report
@@ -118,7 +118,7 @@ pub record IsStepReport (job : Job) (report : Report) : Type 0 where
   pub policy : IsPolicy job opened.dictionary statements
   pub words : IsScript job script
   pub received : IsReceived job opened request
-  pub made : report ≡ step_report script (walk_of opened.dictionary statements request)
+  pub made : report ≡ step_report script (request_walk opened.dictionary statements request)
 
 -- ---- packets
 
@@ -195,7 +195,7 @@ pub record IsPolicyRefusal (job : Job) (f : Fault) : Type 0 where
 
 -- the request is none
 abbrev pub IsRequestRefusal : Job → Opened → Fault → Type 0
-IsRequestRefusal job opened f = IsUnread f (request_for opened.dictionary opened.secret job)
+IsRequestRefusal job opened f = IsUnreadRequest f (request_for opened.dictionary opened.secret job)
 
 -- after a policy that is one, the request is none, or a packet of the run is too long
 pub record IsRequestOrReplyRefusal (job : Job) (f : Fault) : Type 0 where

@@ -65,6 +65,6 @@ IsUnreadBy BadLines (fault.Request f) = f.kind ≢ line.Memory
 IsUnreadBy _ _ = ⊥
 
 -- the request is none, with this fault
-abbrev pub IsUnread : Fault → Result Packet Unread → Type 0
-IsUnread f (Ok packet) = ⊥
-IsUnread f (Err unread) = IsUnreadBy unread f
+abbrev pub IsUnreadRequest : Fault → Result Packet Unread → Type 0
+IsUnreadRequest f (Ok packet) = ⊥
+IsUnreadRequest f (Err unread) = IsUnreadBy unread f

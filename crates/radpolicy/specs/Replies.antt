@@ -7,7 +7,7 @@ use Rattle.avp_lists.specs.Instances.{has_instance, instances}
 use Rattle.avp_dict.specs.Dictionary.{Dictionary}
 use Rattle.avp_packet.specs.declared.packets.Packet.{Packet}
 use Rattle.avp_packet.specs.Packets.{authenticator_of, reply, request}
-use Rattle.avp_packet.specs.Sending.{message_authenticator}
+use Rattle.avp_packet.specs.Sending.{message_authenticator_id}
 use Rattle.avp_unlang.specs.declared.codes.Code.{Code}
 use Rattle.avp_unlang.specs.declared.codes.Code.TheVariants as code
 use Rattle.radpolicy.specs.declared.jobs.Form.{Form}
@@ -48,7 +48,7 @@ proxy_states r = instances (Plain 33) r.list
 
 -- the reply to an Access-Request with a Message-Authenticator is signed
 abbrev pub signs_reply : Packet → Bool
-signs_reply r = (r.code == 1) && has_instance message_authenticator r.list
+signs_reply r = (r.code == 1) && has_instance message_authenticator_id r.list
 
 -- the authenticator that a reply answers: that of the request, which for the lines of an Accounting-Request is that of its packet
 abbrev pub answered_authenticator : Form → Dictionary → List ℕ → Packet → Option (List ℕ)

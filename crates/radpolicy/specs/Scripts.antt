@@ -63,14 +63,14 @@ moved move.Start w = moved_to_start w
 moved move.End w = moved_to_end w
 
 -- where a walk is after a word
-abbrev pub after_word : ScriptWord → Walk → Walk
-after_word (word.Make m) w = moved m w
-after_word word.Show w = w
+abbrev pub after_script_word : ScriptWord → Walk → Walk
+after_script_word (word.Make m) w = moved m w
+after_script_word word.Show w = w
 
 -- where a walk is after a script
 abbrev pub after_script : List ScriptWord → Walk → Walk
 after_script [] w = w
-after_script (x ∷ xs) w = after_script xs (after_word x w)
+after_script (x ∷ xs) w = after_script xs (after_script_word x w)
 
 abbrev pub truth_text : Bool → List ℕ
 truth_text true = codes "true"
@@ -106,4 +106,4 @@ word_text word.Show w = state_text w.dictionary (entry w).outcome.state
 -- what a script prints
 unfoldable pub script_text : List ScriptWord → Walk → List ℕ
 script_text [] w = []
-script_text (x ∷ xs) w = word_text x w ++ script_text xs (after_word x w)
+script_text (x ∷ xs) w = word_text x w ++ script_text xs (after_script_word x w)

@@ -20,14 +20,14 @@ abbrev pub secret_in : List ℕ → List ℕ
 secret_in file = without_last_controls (before_first is_line_end file)
 
 -- a secret of one octet at least
-abbrev pub usable : List ℕ → Option (List ℕ)
-usable [] = None
-usable secret = Some secret
+abbrev pub usable_secret : List ℕ → Option (List ℕ)
+usable_secret [] = None
+usable_secret secret = Some secret
 
 -- Without a file there is no secret; with one it is the file's, which is refused (`None`) if it has no octets.
 abbrev pub secret_from : Option (List ℕ) → Option (Option (List ℕ))
 secret_from None = Some None
-secret_from (Some file) = elim (usable (secret_in file)) [ None ↦ None | Some secret ↦ Some (Some secret) ]
+secret_from (Some file) = elim (usable_secret (secret_in file)) [ None ↦ None | Some secret ↦ Some (Some secret) ]
 
 abbrev pub secret_for : Job → Option (Option (List ℕ))
 secret_for job = secret_from job.secret

@@ -10,7 +10,7 @@ ghost use Rattle.radpolicy.specs.Fitting.{AllFit};
 ghost use Rattle.avp_dict.specs.Requests.{request_spelled};
 ghost use Rattle.avp_dict.specs.Sent.{is_clean};
 ghost use Rattle.radpolicy.specs.Replies.{proxy_states};
-ghost use Rattle.radpolicy.specs.Received.{IsUnread, hex_octets, is_no_space, lines_for, packet_for, request_for};
+ghost use Rattle.radpolicy.specs.Received.{IsUnreadRequest, hex_octets, is_no_space, lines_for, packet_for, request_for};
 ghost use Rattle.radpolicy.specs.declared.faults.Fault.TheVariants as fault;
 ghost use Rattle.radpolicy.specs.declared.jobs.Form.TheVariants.{Hex as InHex};
 
@@ -67,7 +67,7 @@ fn packet_of_hex(
     ensures few { IfOk result (λ packet. length packet.list ≤ max_pairs) }
     ensures fit { IfOk result (λ packet. AllFit dictionary.now packet.list) }
     ensures proxies { IfOk result (λ packet. is_clean (proxy_states packet) dictionary.now ≡ true) }
-    ensures refused { IfErr result (λ f. (f ≡ fault.Memory) ⊎ IsUnread f (packet_for dictionary.now secret.now (hex_octets job.now.request))) }
+    ensures refused { IfErr result (λ f. (f ≡ fault.Memory) ⊎ IsUnreadRequest f (packet_for dictionary.now secret.now (hex_octets job.now.request))) }
     ensures printed { IfErr result (λ f. IsPrintedWith job.now.files f) }
 {
     let Some(octets) = hex_octets(alloc, job.request.as_slice())? else {
@@ -91,7 +91,7 @@ fn packet_of_lines(
     ensures few { IfOk result (λ packet. length packet.list ≤ max_pairs) }
     ensures fit { IfOk result (λ packet. AllFit dictionary.now packet.list) }
     ensures proxies { IfOk result (λ packet. is_clean (proxy_states packet) dictionary.now ≡ true) }
-    ensures refused { IfErr result (λ f. (f ≡ fault.Memory) ⊎ IsUnread f (lines_for code job.now (request_spelled job.now.request dictionary.now))) }
+    ensures refused { IfErr result (λ f. (f ≡ fault.Memory) ⊎ IsUnreadRequest f (lines_for code job.now (request_spelled job.now.request dictionary.now))) }
     ensures printed { IfErr result (λ f. IsPrintedWith job.now.files f) }
 {
     match dictionary.read_request(alloc, job.request.as_slice()) {
@@ -119,7 +119,7 @@ pub(crate) fn request_for(
     ensures few { IfOk result (λ packet. length packet.list ≤ max_pairs) }
     ensures fit { IfOk result (λ packet. AllFit dictionary.now packet.list) }
     ensures proxies { IfOk result (λ packet. is_clean (proxy_states packet) dictionary.now ≡ true) }
-    ensures refused { IfErr result (λ f. (f ≡ fault.Memory) ⊎ IsUnread f (request_for dictionary.now (option_copied secret.entry) job.now)) }
+    ensures refused { IfErr result (λ f. (f ≡ fault.Memory) ⊎ IsUnreadRequest f (request_for dictionary.now (option_copied secret.entry) job.now)) }
     ensures printed { IfErr result (λ f. IsPrintedWith job.now.files f) }
 {
     match (job.form, secret) {

@@ -6,7 +6,7 @@ ghost use Rattle.avp_lists.specs.Instances.{has_instance, instances};
 ghost use Rattle.avp_lists.specs.declared.attributes.AttrId.TheVariants.{Plain};
 ghost use Rattle.radpolicy.specs.Fitting.{AllFit};
 ghost use Rattle.avp_packet.specs.Packets.{IsReplyCode, IsRequestCode, authenticator_of};
-ghost use Rattle.avp_packet.specs.Sending.{message_authenticator};
+ghost use Rattle.avp_packet.specs.Sending.{message_authenticator_id};
 ghost use Rattle.radpolicy.specs.Replies.{answer_of, answered_authenticator, proxy_states, reply_code, reply_pairs, request_packet, signs_reply};
 ghost use Rattle.radpolicy.specs.internal.ReplyHeads.{AnswerIsRead, IsAnswer, IsHeadOf, IsUsable, answered_by};
 ghost use Rattle.avp_dict.specs.Sent.{is_clean};
@@ -56,7 +56,7 @@ fn proxy_states_of(alloc: Global, pairs: &[Pair]) -> Result<Vec<Pair>, AllocErro
 
 // Whether there is a Message-Authenticator among pairs.
 fn has_message_authenticator(pairs: &[Pair]) -> bool
-    ensures { result ≡ has_instance message_authenticator pairs.now }
+    ensures { result ≡ has_instance message_authenticator_id pairs.now }
 {
     pairs
         .iter()

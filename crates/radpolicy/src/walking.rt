@@ -5,8 +5,8 @@ ghost use Rattle.avp_lists.specs.States.{max_pairs};
 ghost use Rattle.avp_step.specs.Walk.{entry};
 ghost use Rattle.avp_unlang.specs.Suiting.{IsSpelled};
 ghost use Rattle.radpolicy.specs.Fitting.{AllFit};
-ghost use Rattle.radpolicy.specs.JobReports.{step_report, walk_of};
-ghost use Rattle.radpolicy.specs.Scripts.{after_script, after_word, label_text, move_line, moved, script_text, stays_text, truth_text, word_text};
+ghost use Rattle.radpolicy.specs.JobReports.{step_report, request_walk};
+ghost use Rattle.radpolicy.specs.Scripts.{after_script, after_script_word, label_text, move_line, moved, script_text, stays_text, truth_text, word_text};
 
 use crate::jobs::Outcome;
 use crate::reports::{code_text, push_lists};
@@ -123,7 +123,7 @@ fn push_word<S: Store>(
 ) -> Result<(), AllocError>
     requires { stepper.old.dictionary ≡ dictionary.now }
     ensures text { OnOk result (text.new.items ≡ text.old.items ++ word_text word stepper.old) }
-    ensures after { OnOk result (stepper.new ≡ after_word word stepper.old) }
+    ensures after { OnOk result (stepper.new ≡ after_script_word word stepper.old) }
 {
     match word {
         ScriptWord::Make(step) => {
@@ -167,7 +167,7 @@ pub(crate) fn report_of_walk(
     requires policy { IsSpelled dictionary.now policy.now }
     requires few { length request.list ≤ max_pairs }
     requires fit { AllFit dictionary.now request.list }
-    ensures { IfOk result (λ report. step_report script.now (walk_of dictionary.now policy.now request) ≡ record { text = report.0.items; outcome = report.1 }) }
+    ensures { IfOk result (λ report. step_report script.now (request_walk dictionary.now policy.now request) ≡ record { text = report.0.items; outcome = report.1 }) }
 {
     let store = entry_store(alloc, request)?;
     let Ok(mut stepper) = Stepper::new(alloc, dictionary, policy, store) else {

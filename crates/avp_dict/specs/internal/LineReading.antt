@@ -53,5 +53,5 @@ unfoldable pub after_pairs : List Pair → Option (List Pair) → Option (List P
 after_pairs front others = joined (Some front) others
 
 -- these pairs and those here are no request, whatever follows
-unfoldable pub IsRefused : List Pair → Option (List Pair) → Type 0
-IsRefused pairs here = (more : Option (List Pair)) → option_and_then few_enough (joined (after_pairs pairs here) more) ≡ None
+unfoldable pub IsNoRequest : List Pair → Option (List Pair) → Type 0
+IsNoRequest pairs here = (more : Option (List Pair)) → option_and_then few_enough (joined (after_pairs pairs here) more) ≡ None

@@ -3,7 +3,7 @@
 ghost use Rattle.std.specs.Prelude.{◌≡◌, [], OnOk};
 ghost use Rattle.std.specs.Option.{option_map};
 ghost use Rattle.avp_dict.specs.Blocks.{block_vendor, innermost, is_skipping, opened_vendor, opens_skipped};
-ghost use Rattle.avp_dict.specs.Meanings.{after_line, no_context};
+ghost use Rattle.avp_dict.specs.Meanings.{after_reading, no_context};
 ghost use Rattle.avp_dict.specs.internal.Meanings.{IsShort, context_view, reading_view, reading_views};
 
 use crate::entries::{AttributeLine, VendorLine};
@@ -34,7 +34,7 @@ impl<'a> Context<'a> {
     /// One line more.
     pub fn add(&mut self, alloc: Global, reading: Reading<'a>) -> Result<(), AllocError>
         requires { IsShort reading.meaning }
-        ensures { OnOk result (context_view self.new ≡ after_line (context_view self.old) (reading_view reading.entry)) }
+        ensures { OnOk result (context_view self.new ≡ after_reading (context_view self.old) (reading_view reading.entry)) }
     {
         match reading.meaning {
             Meaning::Attribute(name, id, typing) => {

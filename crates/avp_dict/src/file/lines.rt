@@ -1,7 +1,7 @@
 //! A line of a file set.
 
 ghost use Rattle.std.specs.Prelude.{◌≡◌};
-ghost use Rattle.avp_dict.specs.Readings.{plain_line, read_head, read_words, skipped, value, value_words};
+ghost use Rattle.avp_dict.specs.Readings.{plain_line, read_head, read_words, skipped_line, value, value_words};
 ghost use Rattle.avp_dict.specs.internal.Meanings.{context_view, meaning_view};
 ghost use Rattle.avp_dict.specs.internal.Outcomes.{Means};
 ghost use Rattle.avp_dict.specs.internal.Views.{views};
@@ -42,7 +42,7 @@ fn read_value<'a>(words: &[&'a [u8]]) -> Result<Meaning<'a>, LineError>
 }
 
 fn skip_line<'a>(head: &[u8], words: &[&'a [u8]]) -> Meaning<'a>
-    ensures { meaning_view result ≡ skipped head.now (views words.now) }
+    ensures { meaning_view result ≡ skipped_line head.now (views words.now) }
 {
     match words {
         [] => Meaning::Skipped,

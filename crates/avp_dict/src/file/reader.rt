@@ -2,7 +2,7 @@
 
 ghost use Rattle.std.specs.Prelude.{◌≡◌, ◌∷◌, ◌++◌, ◌+◌, ◌<◌, ◌≤◌, ◌^◌, [], Err, None, List, OnOk, IfErr, length};
 ghost use Rattle.avp_dict.specs.Blocks.{innermost};
-ghost use Rattle.avp_dict.specs.DictionaryReading.{dictionary_of, settled, unless_open};
+ghost use Rattle.avp_dict.specs.DictionaryReading.{dictionary_of, settled_dictionary, unless_open};
 ghost use Rattle.avp_dict.specs.Lines.{Line as SetLine, file_included, lines_in};
 ghost use Rattle.avp_dict.specs.Meanings.{Reading as SetReading, context_of};
 ghost use Rattle.avp_dict.specs.Outcomes.{Refuses};
@@ -168,7 +168,7 @@ pub fn read_set<'a>(
     requires read { reading_views read.old.readings.items ≡ [] }
     requires tracked { context_view read.old.context ≡ context_of [] }
     ensures tracked { OnOk result (context_view read.new.context ≡ context_of (reading_views read.new.readings.items)) }
-    ensures read { OnOk result (dictionary_of limit files.now ≡ settled (reading_views read.new.readings.items)) }
+    ensures read { OnOk result (dictionary_of limit files.now ≡ settled_dictionary (reading_views read.new.readings.items)) }
     ensures refused { IfErr result (λ fault. Refuses fault (dictionary_of limit files.now)) }
 {
     read.read_file(alloc, files, limit, MAX_LEVELS, 0)?;

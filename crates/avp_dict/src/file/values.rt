@@ -3,8 +3,8 @@
 ghost use Rattle.std.specs.Prelude.{◌≡◌, ◌∷◌, [], ℕ, List, Option, Ok, ◌≤◌, length, is_some, OnOk, IfErr, IfOk, IfSome, IsTrue};
 ghost use Rattle.std.specs.Option.{option_and_then, option_copied};
 ghost use Rattle.std.specs.List.{list_all};
-ghost use Rattle.avp_dict.specs.DictionaryReading.{outline_of, settled};
-ghost use Rattle.avp_dict.specs.Letters.{is_word_octet, max_name};
+ghost use Rattle.avp_dict.specs.DictionaryReading.{outline_of, settled_dictionary};
+ghost use Rattle.avp_dict.specs.Letters.{is_value_name_octet, max_name};
 ghost use Rattle.avp_dict.specs.Meanings.{Reading as SetReading, context_of};
 ghost use Rattle.avp_dict.specs.Outcomes.{Answers, Refuses};
 ghost use Rattle.avp_dict.specs.Settled.{skipped_names};
@@ -29,16 +29,16 @@ use crate::tables::{Attributes, NameSet, Values, Vendors};
 use avp_lists::AttrId;
 use std::alloc::{AllocError, Global};
 
-fn is_word_octet(octet: u8) -> bool
-    ensures { result ≡ is_word_octet octet }
+fn is_value_name_octet(octet: u8) -> bool
+    ensures { result ≡ is_value_name_octet octet }
 {
     is_name_octet(octet) || octet == b':' || octet == b'@'
 }
 
 fn are_octets_of_word(name: &[u8]) -> bool
-    ensures { result ≡ list_all is_word_octet name.now }
+    ensures { result ≡ list_all is_value_name_octet name.now }
 {
-    name.iter().all(|octet| is_word_octet(*octet))
+    name.iter().all(|octet| is_value_name_octet(*octet))
 }
 
 fn is_read(number: Number) -> bool
@@ -289,14 +289,14 @@ fn add_all(
 }
 
 /// The dictionary of lines that were read.
-#[tactic(auto, unfolding(crate::specs::DictionaryReading::settled))]
+#[tactic(auto, unfolding(crate::specs::DictionaryReading::settled_dictionary))]
 pub fn settle(
     alloc: Global,
     readings: &[Reading<'_>],
     context: Context<'_>,
 ) -> Result<Contents, DictFault>
     requires { context_view context ≡ context_of (reading_views readings.now) }
-    ensures { Answers contents_view result (settled (reading_views readings.now)) }
+    ensures { Answers contents_view result (settled_dictionary (reading_views readings.now)) }
 {
     let Context {
         attributes,

@@ -10,7 +10,7 @@ ghost use Rattle.avp_dict.specs.Lines.{is_line_end, texts_of};
 ghost use Rattle.avp_dict.specs.RequestLines.{is_blank_line, is_idle_line, joined, pairs_of, tokens_at, without_front};
 ghost use Rattle.avp_dict.specs.Requests.{few_enough, pair_named, request_spelled};
 ghost use Rattle.avp_dict.specs.Sent.{is_clean};
-ghost use Rattle.avp_dict.specs.internal.LineReading.{IsRefused, ReadsLine, RefusesLine, after_pairs, assigned_after, packet_pairs, pair_of_token, pairs_after, pairs_at};
+ghost use Rattle.avp_dict.specs.internal.LineReading.{IsNoRequest, ReadsLine, RefusesLine, after_pairs, assigned_after, packet_pairs, pair_of_token, pairs_after, pairs_at};
 ghost use Rattle.avp_dict.specs.internal.RequestTokens.{side_after, token_view};
 
 use crate::dictionaries::Dictionary;
@@ -172,7 +172,7 @@ impl Dictionary {
         requires { length pairs.old.items ≤ max_pairs }
         ensures read { OnOk result (after_pairs pairs.old.items (pairs_at self.now (tokens_at Side.Name line.now)) ≡ Some pairs.new.items) }
         ensures few { OnOk result (length pairs.new.items ≤ max_pairs) }
-        ensures refused { IfErr result (λ kind. kind ≢ LineKind.Memory → IsRefused pairs.old.items (pairs_at self.now (tokens_at Side.Name line.now))) }
+        ensures refused { IfErr result (λ kind. kind ≢ LineKind.Memory → IsNoRequest pairs.old.items (pairs_at self.now (tokens_at Side.Name line.now))) }
     {
         let mut rest = line;
         while let Some((first, after)) = next_token(Side::Name, rest) {

@@ -12,14 +12,14 @@ use Rattle.avp_lists.specs.declared.slots.End.TheVariants.{Head, Tail}
 use Rattle.avp_lists.specs.declared.slots.Slot.{Slot}
 use Rattle.avp_lists.specs.Instances.{has_id}
 use Rattle.avp_lists.specs.Pairs.{pair_eq}
-use Rattle.avp_lists.specs.internal.Shown.{shows, pair_of, state_of}
+use Rattle.avp_lists.specs.internal.Shown.{shows, slot_pair, shown_state}
 use Rattle.avp_lists.specs.internal.Slots.{forward, NamesWithin, SwapWithin, PairsWithin}
 use Rattle.avp_lists.specs.States.{edited}
 
 -- the end at which an operator adds its pair
-abbrev pub end_of : Op → End
-end_of Prepend = Head
-end_of _ = Tail
+abbrev pub end_for : Op → End
+end_for Prepend = Head
+end_for _ = Tail
 
 -- an operator takes the other pair away, where it is not the first instance
 abbrev pub goes : Op → Pair → Pair → Bool
@@ -31,7 +31,7 @@ goes _ p q = false
 
 -- the pair of the slot is taken away
 abbrev pub taken : Edit → List Pair → Slot → Bool
-taken e pool s = shows e.list s && goes e.op e.pair (pair_of pool s)
+taken e pool s = shows e.list s && goes e.op e.pair (slot_pair pool s)
 
 -- the names of the slots that pass, the first of which has the name n
 abbrev pub names_in : (Slot → Bool) → ℕ → List Slot → List ℕ
@@ -58,7 +58,7 @@ pub record IsPlan (e : Edit) (pool : List Pair) (c : List Slot) (p : Plan) : Typ
   pub swap : SwapWithin (length (widened p c)) p.swap
   pub added : (s : Slot) → p.added ≡ Some s → (s.mark.live ≡ false) × (s.first ≡ s.mark)
   pub within : PairsWithin (length (pooled p e.pair pool)) (planned p c)
-  pub state : state_of (pooled p e.pair pool) (planned p c) ≡ edited e (state_of pool c)
+  pub state : shown_state (pooled p e.pair pool) (planned p c) ≡ edited e (shown_state pool c)
 
 -- n slots of the first state, from a place in the pool on
 abbrev pub fresh_slot : WhichList → ℕ → Slot

@@ -27,12 +27,12 @@ abbrev pub no_pair : Pair
 no_pair = record { id = Plain 0; value = Int 0 }
 
 -- the pair of a slot, if it shows one
-abbrev pub pair_of : List Pair → Slot → Pair
-pair_of pool s = slice_index_or pool s.mark.pair no_pair
+abbrev pub slot_pair : List Pair → Slot → Pair
+slot_pair pool s = slice_index_or pool s.mark.pair no_pair
 
 -- it shows an instance of the id, in that list
 abbrev pub shows_id : WhichList → AttrId → List Pair → Slot → Bool
-shows_id which id pool s = shows which s && has_id id (pair_of pool s)
+shows_id which id pool s = shows which s && has_id id (slot_pair pool s)
 
 abbrev pub same_end : End → End → Bool
 same_end Head Head = true
@@ -51,12 +51,12 @@ abbrev pub shows_id_at : End → WhichList → AttrId → List Pair → Slot →
 shows_id_at end which id pool s = entered_at end s && shows_id which id pool s
 
 -- the pairs of a list that entered at one end, in the order of their slots
-abbrev pub pairs_at : End → WhichList → List Pair → List Slot → List Pair
-pairs_at end which pool c = map (pair_of pool) (filter (shows_at end which) c)
+abbrev pub shown_pairs_at : End → WhichList → List Pair → List Slot → List Pair
+shown_pairs_at end which pool c = map (slot_pair pool) (filter (shows_at end which) c)
 
 -- the pairs of a list: those that entered at its head, the last one first, and then those that entered at its tail
 abbrev pub shown_pairs : WhichList → List Pair → List Slot → List Pair
-shown_pairs which pool c = reverse (pairs_at Head which pool c) ++ pairs_at Tail which pool c
+shown_pairs which pool c = reverse (shown_pairs_at Head which pool c) ++ shown_pairs_at Tail which pool c
 
 -- the slots whose pairs come before that of a slot, which entered at this end and lies between these
 abbrev pub ahead : End → List Slot → List Slot → List Slot
@@ -67,5 +67,5 @@ abbrev pub ahead_at : ℕ → List Slot → List Slot
 ahead_at i c = ahead (slot_at c i).end (take i c) (drop (i + 1) c)
 
 -- the state that the slots show
-abbrev pub state_of : List Pair → List Slot → State
-state_of pool c = record { request = shown_pairs Request pool c; reply = shown_pairs Reply pool c; control = shown_pairs Control pool c }
+abbrev pub shown_state : List Pair → List Slot → State
+shown_state pool c = record { request = shown_pairs Request pool c; reply = shown_pairs Reply pool c; control = shown_pairs Control pool c }

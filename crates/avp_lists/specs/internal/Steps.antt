@@ -8,7 +8,7 @@ use Rattle.avp_lists.specs.declared.steps.Change.{Change}
 use Rattle.avp_lists.specs.declared.steps.Change.TheVariants.{Turned, Back}
 use Rattle.avp_lists.specs.declared.steps.Step.{Step}
 use Rattle.avp_lists.specs.internal.Slots.{at_first, forward, NamesWithin, SwapWithin, Housed}
-use Rattle.avp_lists.specs.internal.Shown.{state_of}
+use Rattle.avp_lists.specs.internal.Shown.{shown_state}
 use Rattle.avp_lists.specs.States.{empty_state, IsLimited}
 
 -- the slots of the state after a change, by those of the states before it, and by those of the first state where there are none
@@ -32,8 +32,8 @@ abbrev pub slots_at : List Slot → List Step → ℕ → List Slot
 slots_at slots steps k = slice_index_or (every slots steps) k []
 
 -- every state
-abbrev pub states_of : List Pair → List Slot → List Step → List State
-states_of pool slots steps = map (state_of pool) (every slots steps)
+abbrev pub shown_states : List Pair → List Slot → List Step → List State
+shown_states pool slots steps = map (shown_state pool) (every slots steps)
 
 -- the step that leads to a place; past the last one a step that names and counts nothing
 abbrev pub no_step : Step
@@ -97,4 +97,4 @@ abbrev pub AllHoused : List Slot → List Step → Type 0
 AllHoused slots steps = (k : ℕ) → Housed (step_at steps k).slots (step_at steps k).pairs (slots_at slots steps k)
 
 abbrev pub StatesLimited : List Pair → List Slot → List Step → Type 0
-StatesLimited pool slots steps = (k : ℕ) → IsLimited (slice_index_or (states_of pool slots steps) k empty_state)
+StatesLimited pool slots steps = (k : ℕ) → IsLimited (slice_index_or (shown_states pool slots steps) k empty_state)

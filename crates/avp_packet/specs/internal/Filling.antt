@@ -11,9 +11,9 @@ use Rattle.avp_packet.specs.Sending.{Kind, before_signature, behind_signature, i
 use Rattle.avp_packet.specs.Splitting.{part_octets}
 
 -- the pairs of a list, with its Message-Authenticators or without
-abbrev pub kept : Bool → List Pair → List Pair
-kept true pairs = pairs
-kept false pairs = without_signatures pairs
+abbrev pub kept_pairs : Bool → List Pair → List Pair
+kept_pairs true pairs = pairs
+kept_pairs false pairs = without_signatures pairs
 
 -- what is before and behind the Message-Authenticator, if there is one
 pub record IsDivided (kind : Kind) (pairs : List Pair) (division : Division) : Type 0 where

@@ -33,8 +33,8 @@ made (m ∷ ms) [] = []
 made (m ∷ ms) (s ∷ states) = entry_of m s ∷ made ms states
 
 -- the states of a trace
-abbrev pub states_of : Walk → States
-states_of w k = (entry_at w k).outcome.state
+abbrev pub walk_states : Walk → States
+walk_states w k = (entry_at w k).outcome.state
 
 -- where a run begins that has made no step
 abbrev pub nowhere : Outcome
@@ -45,7 +45,7 @@ pub record IsHeld (dictionary : Dictionary) (statements : List Statement) (h : H
     (marks : List Mark) (position : ℕ) (frames : List Frame) (marks_room frames_room : ℕ)
     : Type 0 where
   pub trace : made marks h.states
-      ++ rest dictionary (states_of (walk_of dictionary statements h position)) frames
+      ++ rest dictionary (walk_states (walk_of dictionary statements h position)) frames
       (end_of nowhere (made marks h.states))
       ≡ trace_from dictionary statements h
   pub each : length h.states ≡ length marks

@@ -6,4 +6,4 @@ pub returns : goal.returns
 returns c =
     let slots = c.args.slots.now in
     let names = c.in_ok-push.ensures.items ∙ ap (λ (ns : List _). ns ++ length slots ∷ []) c.new-turned.ensures.items in
-    plan-added c.args.edit.now c.args.pool.now slots _ c.push.new.self c.requires.pooled c.requires.adds refl c.end_of.ensures refl refl refl names
+    plan-added c.args.edit.now c.args.pool.now slots _ c.push.new.self c.requires.pooled c.requires.adds refl c.end_for.ensures refl refl refl names

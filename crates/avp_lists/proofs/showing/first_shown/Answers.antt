@@ -2,7 +2,7 @@ use Rattle.std.proofs.Common.{◌≡◌, ◌<◌, ◌∙◌, Some, true, length,
 use Rattle.std.proofs.lemmas.List.{get_or_read}
 use Rattle.avp_lists.specs.declared.attributes.Pair.{Pair}
 use Rattle.avp_lists.specs.Instances.{has_id}
-use Rattle.avp_lists.specs.internal.Shown.{same_list, shows, no_pair, pair_of}
+use Rattle.avp_lists.specs.internal.Shown.{same_list, shows, no_pair, slot_pair}
 use Rattle.avp_lists.specs.internal.Slots.{slot_at}
 use Rattle.avp_lists.proofs.Edited.{and_first}
 use Rattle.avp_lists.proofs.Finding.{found-first, found-none}
@@ -18,7 +18,7 @@ returns c =
     let name = c.in_ok-name.name in
     let shown = c.in_ok-name.ensures.shown in
     let s = slot_at c.args.slots.now name in
-    let live : s.mark.live ≡ true = and_first s.mark.live (same_list which s.list) (and_first (shows which s) (has_id c.args.id (pair_of pool s)) shown.1) in
+    let live : s.mark.live ≡ true = and_first s.mark.live (same_list which s.list) (and_first (shows which s) (has_id c.args.id (slot_pair pool s)) shown.1) in
     let within : s.mark.pair < length pool = c.requires name live in
     ap (λ (p : Pair). Some p) (get_or_read pool s.mark.pair c.index-pool-slots.result within c.index-pool-slots.is no_pair)
     ∙ sym (found-first which c.args.id pool c.args.slots.now name shown.0 shown.1 c.in_ok-name.ensures.none_before)

@@ -2,7 +2,7 @@ use Rattle.std.proofs.Common.{◌≡◌, ◌∙◌, ◌<◌, ◌-◌, ◌+◌, t
 use Rattle.std.proofs.lemmas.Grind.{common_steps}
 use Rattle.avp_lists.specs.declared.attributes.Pair.{Pair}
 use Rattle.avp_packet.specs.declared.packets.Packet.{Packet}
-use Rattle.avp_packet.specs.Meanings.{meaning}
+use Rattle.avp_packet.specs.Meanings.{attribute_pairs}
 use Rattle.avp_packet.specs.Means.{Means}
 use Rattle.avp_packet.specs.Packets.{attributes_of, hiding_authenticator, is_packet_length, length_of}
 use Rattle.avp_packet.specs.Splitting.{left, parts}
@@ -28,7 +28,7 @@ returns-in-Ok-clause-means c =
     let d = c.args.dictionary.now in
     let s = c.args.secret.now in
     let ps = parts (attributes_of c.args.octets.now) in
-    ok_by (λ (p : Packet). p.list ≡ meaning d s (hiding_authenticator p.code p.authenticator) ps) (λ (p : Packet). Means d s (hiding_authenticator p.code p.authenticator) ps p.list) c.read_request.result
+    ok_by (λ (p : Packet). p.list ≡ attribute_pairs d s (hiding_authenticator p.code p.authenticator) ps) (λ (p : Packet). Means d s (hiding_authenticator p.code p.authenticator) ps p.list) c.read_request.result
     (λ p e. meant_by d s (hiding_authenticator p.code p.authenticator) ps p.list (sym e)) c.read_request.ensures.means
 
 pub returns-in-Ok-clause-only : goal.returns-in-Ok-clause-only
@@ -36,5 +36,5 @@ returns-in-Ok-clause-only c =
     let d = c.args.dictionary.now in
     let s = c.args.secret.now in
     let ps = parts (attributes_of c.args.octets.now) in
-    ok_by (λ (p : Packet). p.list ≡ meaning d s (hiding_authenticator p.code p.authenticator) ps) (λ (p : Packet). (pairs : List Pair) → Means d s (hiding_authenticator p.code p.authenticator) ps pairs → pairs ≡ p.list) c.read_request.result
+    ok_by (λ (p : Packet). p.list ≡ attribute_pairs d s (hiding_authenticator p.code p.authenticator) ps) (λ (p : Packet). (pairs : List Pair) → Means d s (hiding_authenticator p.code p.authenticator) ps pairs → pairs ≡ p.list) c.read_request.result
     (λ p e. only_by d s (hiding_authenticator p.code p.authenticator) ps p.list e) c.read_request.ensures.means

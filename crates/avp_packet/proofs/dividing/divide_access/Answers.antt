@@ -3,13 +3,13 @@ use Rattle.std.specs.List.{position_or_len}
 use Rattle.std.proofs.lemmas.List.Elements.{All-take}
 use Rattle.avp_lists.specs.Instances.{has_id}
 use Rattle.avp_lists.specs.declared.attributes.Pair.{Pair}
-use Rattle.avp_packet.specs.Sending.{message_authenticator, without_signatures}
+use Rattle.avp_packet.specs.Sending.{message_authenticator_id, without_signatures}
 use Rattle.avp_packet.proofs.Divided.{any_behind, behind_first, kept_behind, none_before, none_behind, nothing_behind}
 use Rattle.avp_packet.proofs.dividing.divide_access.Goals as goal
 
 pub returns-in-len1-up-clause-divided : goal.returns-in-len1-up-clause-divided
 returns-in-len1-up-clause-divided c =
-    let f : Pair → Bool = has_id message_authenticator in
+    let f : Pair → Bool = has_id message_authenticator_id in
     let xs : List Pair = c.args.list.now in
     let rest : List Pair = c.split_at.result.1.now in
     let back : rest ≡ drop (position_or_len f xs) xs = c.split_at.ensures.back ∙ ap (λ n. drop n xs) c.signature_place.ensures.place in
@@ -22,7 +22,7 @@ returns-in-len1-up-clause-divided c =
 
 pub returns-in_default-clause-divided : goal.returns-in_default-clause-divided
 returns-in_default-clause-divided c =
-    let f : Pair → Bool = has_id message_authenticator in
+    let f : Pair → Bool = has_id message_authenticator_id in
     let xs : List Pair = c.args.list.now in
     let rest : List Pair = c.split_at.result.1.now in
     let back : rest ≡ drop (position_or_len f xs) xs = c.split_at.ensures.back ∙ ap (λ n. drop n xs) c.signature_place.ensures.place in
@@ -44,7 +44,7 @@ returns-in-len1-up-clause-kept c = λ q h.
 pub returns-in-len1-up-clause-unsigned : goal.returns-in-len1-up-clause-unsigned
 returns-in-len1-up-clause-unsigned c =
     let front = c.split_at.ensures.front ∙ ap (λ n. take n c.args.list.now) c.signature_place.ensures.place in
-    rw front (none_before (has_id message_authenticator) c.args.list.now)
+    rw front (none_before (has_id message_authenticator_id) c.args.list.now)
 
 pub returns-in_default-clause-kept : goal.returns-in_default-clause-kept
 returns-in_default-clause-kept c = λ q h. record {
@@ -55,4 +55,4 @@ returns-in_default-clause-kept c = λ q h. record {
 pub returns-in_default-clause-unsigned : goal.returns-in_default-clause-unsigned
 returns-in_default-clause-unsigned c =
     let front = c.split_at.ensures.front ∙ ap (λ n. take n c.args.list.now) c.signature_place.ensures.place in
-    rw front (none_before (has_id message_authenticator) c.args.list.now)
+    rw front (none_before (has_id message_authenticator_id) c.args.list.now)

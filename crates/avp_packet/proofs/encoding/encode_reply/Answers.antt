@@ -3,7 +3,7 @@ use Rattle.avp_lists.specs.declared.attributes.Pair.{Pair}
 use Rattle.avp_dict.specs.Limits.{fits}
 use Rattle.avp_packet.specs.declared.faults.EncodeFault.TheVariants.{TooLong}
 use Rattle.avp_packet.specs.Hmac.{hmac}
-use Rattle.avp_packet.specs.Meanings.{meaning}
+use Rattle.avp_packet.specs.Meanings.{attribute_pairs}
 use Rattle.avp_packet.specs.Packets.{attributes_of, digest_over, hiding_authenticator, packet, reply, reply_content, zeros}
 use Rattle.avp_packet.specs.Sending.{Content}
 use Rattle.avp_packet.specs.Splitting.{left, parts}
@@ -78,7 +78,7 @@ returns-clause-means c = λ clean too.
     let apart = attributes_of-packet c.args.code c.args.id digest attributes (length-digest_over c.args.code c.args.id c.args.request_authenticator.now attributes c.args.secret.now) c.in_ok-attributes.ensures.short in
     let laid = c.in_ok-attributes.ensures.octets ∙ sym (signed_octets dictionary c.args.secret.now c.args.code c.args.id c.args.request_authenticator.now content division c.divide_reply-division.ensures.divided) in
     meant_by dictionary c.args.secret.now by (parts (attributes_of c.in_ok-octets.octets.items)) _ (
-    ap (λ (os : List ℕ). meaning dictionary c.args.secret.now by (parts os)) (ap attributes_of made ∙ apart ∙ laid)
+    ap (λ (os : List ℕ). attribute_pairs dictionary c.args.secret.now by (parts os)) (ap attributes_of made ∙ apart ∙ laid)
     ∙ signed_means dictionary c.args.secret.now c.args.code c.args.id c.args.request_authenticator.now content division c.divide_reply-division.ensures.divided c.is_sound.ensures.sound c.is_sound.ensures.formats
     (before_clean dictionary c.args.list.now division clean c.divide_reply-division.ensures.kept) (behind_clean dictionary c.args.list.now division clean c.divide_reply-division.ensures.kept) too
     c.in_ok-attributes.ensures.before_ranged c.in_ok-attributes.ensures.behind_ranged c.in_ok-attributes.ensures.proxies_ranged)

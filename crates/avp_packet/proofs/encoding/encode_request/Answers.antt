@@ -5,7 +5,7 @@ use Rattle.avp_dict.specs.Limits.{fits}
 use Rattle.avp_dict.specs.Sent.{is_clean}
 use Rattle.avp_packet.specs.declared.faults.EncodeFault.TheVariants.{TooLong}
 use Rattle.avp_packet.specs.Hmac.{hmac}
-use Rattle.avp_packet.specs.Meanings.{meaning}
+use Rattle.avp_packet.specs.Meanings.{attribute_pairs}
 use Rattle.avp_packet.specs.Packets.{attributes_of, hiding_authenticator, packet, request, request_authenticator, request_content, zeros}
 use Rattle.avp_packet.specs.Sending.{Content}
 use Rattle.avp_packet.specs.Splitting.{left, parts}
@@ -74,7 +74,7 @@ returns-clause-means c = λ clean.
     let apart = attributes_of-packet c.args.code c.args.id digest attributes (length-request_authenticator c.args.code c.args.id c.args.authenticator.now attributes c.args.secret.now c.told-authenticator) c.in_ok-attributes.ensures.short in
     let laid = c.in_ok-attributes.ensures.octets ∙ sym (signed_octets dictionary c.args.secret.now c.args.code c.args.id c.args.authenticator.now content division c.divide_request-division.ensures.divided) in
     meant_by dictionary c.args.secret.now by (parts (attributes_of c.in_ok-octets.octets.items)) _ (
-    ap (λ (os : List ℕ). meaning dictionary c.args.secret.now by (parts os)) (ap attributes_of made ∙ apart ∙ laid)
+    ap (λ (os : List ℕ). attribute_pairs dictionary c.args.secret.now by (parts os)) (ap attributes_of made ∙ apart ∙ laid)
     ∙ signed_means dictionary c.args.secret.now c.args.code c.args.id c.args.authenticator.now content division c.divide_request-division.ensures.divided c.is_sound.ensures.sound c.is_sound.ensures.formats
     (before_clean dictionary c.args.list.now division clean c.divide_request-division.ensures.kept) (behind_clean dictionary c.args.list.now division clean c.divide_request-division.ensures.kept) refl
     c.in_ok-attributes.ensures.before_ranged c.in_ok-attributes.ensures.behind_ranged c.in_ok-attributes.ensures.proxies_ranged)

@@ -10,4 +10,4 @@ returns-in_err-parts c =
 
 pub returns : goal.returns
 returns c =
-    filled_reads c.args.dictionary.now c.args.named c.args.text c.in_ok-parts.parts (sym c.if-is_barred.ensures) c.in_ok-parts.ensures c.filled.result c.filled.ensures.ok c.filled.ensures.err
+    filled_reads c.args.dictionary.now c.args.named c.args.text c.in_ok-parts.parts (sym c.if-is_barred.ensures) c.in_ok-parts.ensures c.filled_source.result c.filled_source.ensures.ok c.filled_source.ensures.err

@@ -1,6 +1,6 @@
 use Rattle.std.proofs.Common.{◌∙◌, sym, get_or, arith}
 use Rattle.avp_lists.specs.States.{empty_state, list_of}
-use Rattle.avp_lists.specs.internal.Steps.{states_of}
+use Rattle.avp_lists.specs.internal.Steps.{shown_states}
 use Rattle.avp_lists.proofs.Lengths.{grows_past, length-apply}
 use Rattle.avp_lists.proofs.slot_store.SlotStore.is_full.Goals as goal
 
@@ -9,7 +9,7 @@ pub returns-then-count-eq-MAX_PAIRS : goal.returns-then-count-eq-MAX_PAIRS
 returns-then-count-eq-MAX_PAIRS c =
     let s = c.args.self.now in
     let e = c.args.edit.now in
-    let xs = list_of e.list (get_or (states_of s.pool.items s.slots.items s.steps.items) s.place empty_state) in
+    let xs = list_of e.list (get_or (shown_states s.pool.items s.slots.items s.steps.items) s.place empty_state) in
     let test = c.adds_one.ensures in
     let long = sym c.count.ensures ∙ c.if-count-eq-MAX_PAIRS.true in
     let grows = grows_past e.op e.pair xs 4096 long in
@@ -20,7 +20,7 @@ pub returns-else-count-eq-MAX_PAIRS : goal.returns-else-count-eq-MAX_PAIRS
 returns-else-count-eq-MAX_PAIRS c =
     let s = c.args.self.now in
     let e = c.args.edit.now in
-    let xs = list_of e.list (get_or (states_of s.pool.items s.slots.items s.steps.items) s.place empty_state) in
+    let xs = list_of e.list (get_or (shown_states s.pool.items s.slots.items s.steps.items) s.place empty_state) in
     let most = s.limited s.place e.list in
     let grown = length-apply e.op e.pair xs in
     grind (arith, c.count.ensures, most, grown, c.if-count-eq-MAX_PAIRS.false)

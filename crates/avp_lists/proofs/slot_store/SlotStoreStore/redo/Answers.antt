@@ -1,5 +1,5 @@
 use Rattle.std.proofs.Common.{arith}
-use Rattle.avp_lists.specs.internal.SlotLaws.{length-states_of}
+use Rattle.avp_lists.specs.internal.SlotLaws.{length-shown_states}
 use Rattle.avp_lists.proofs.Moves.{steps_within}
 use Rattle.avp_lists.proofs.slot_store.SlotStoreStore.redo.Goals as goal
 
@@ -14,12 +14,12 @@ move_to-requires-clause-below c = rw c.deref.ensures.value c.args.self.now.below
 pub returns-then-to-len-clause-variant : goal.returns-then-to-len-clause-variant
 returns-then-to-len-clause-variant c =
     let s = c.args.self.now in
-    let long = length-states_of s.pool.items s.slots.items s.steps.items in
+    let long = length-shown_states s.pool.items s.slots.items s.steps.items in
     grind (arith, long, s.steps.ok.0, c.len.ensures)
 
 pub returns-clause-variant : goal.returns-clause-variant
 returns-clause-variant c =
     let s = c.args.self.now in
-    let long = length-states_of s.pool.items s.slots.items s.steps.items in
+    let long = length-shown_states s.pool.items s.slots.items s.steps.items in
     let some = s.placed in
     grind (arith, long, some, s.steps.ok.0, c.len.ensures)

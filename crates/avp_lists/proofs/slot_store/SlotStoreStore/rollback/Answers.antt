@@ -5,9 +5,9 @@ use Rattle.avp_lists.specs.declared.steps.Change.TheVariants.{Back}
 use Rattle.avp_lists.specs.declared.steps.Step.{Step}
 use Rattle.avp_lists.specs.History.{History}
 use Rattle.avp_lists.specs.States.{empty_state, IsLimited}
-use Rattle.avp_lists.specs.internal.Steps.{slots_at, states_of, no_step, step_at, change_at, turns, node, BacksBelow, AllCounted, CountsWithin, CountsGrow, AllHoused, StatesLimited}
+use Rattle.avp_lists.specs.internal.Steps.{slots_at, shown_states, no_step, step_at, change_at, turns, node, BacksBelow, AllCounted, CountsWithin, CountsGrow, AllHoused, StatesLimited}
 use Rattle.avp_lists.proofs.Replay.{node_fits}
-use Rattle.avp_lists.specs.internal.SlotLaws.{length-states_of}
+use Rattle.avp_lists.specs.internal.SlotLaws.{length-shown_states}
 use Rattle.avp_lists.proofs.Moves.{housed-same, steps_within}
 use Rattle.avp_lists.proofs.Continuing.{length-more, counted-more, counts-more, grow-more, below-more, standing-back, housed-back, limited-continued, states-rolled}
 use Rattle.avp_lists.proofs.slot_store.SlotStoreStore.rollback.Goals as goal
@@ -75,7 +75,7 @@ invariant_of-self-2 c =
     let counts : CountsWithin (length moved) (length pool) steps = let P : ℕ → Type 0 = λ m. CountsWithin m (length pool) steps in subst P (sym same_slots) s.counts in
     let of_w = most w earlier in
     let states = states-rolled pool slots moved steps n to w e fine (omega (arith, before)) s.below is refl firsts in
-    let within : n ≤ length (states_of pool slots steps) = omega (arith, length-states_of pool slots steps, fine) in
+    let within : n ≤ length (shown_states pool slots steps) = omega (arith, length-shown_states pool slots steps, fine) in
     record {
       placed = omega (arith, ap length new, long);
       beside = c.cut_and_push.ensures.nexts ∙ sym (ap length new ∙ long);
@@ -85,7 +85,7 @@ invariant_of-self-2 c =
       grow = subst CountsGrow (sym new) (grow-more steps n e fine s.grow most);
       housed = subst (AllHoused moved) (sym new) (housed-back moved steps n w e fine refl earlier (housed-same pool slots moved steps firsts s.housed) of_w.0 of_w.1);
       standing = let P : List Step → Type 0 = λ xs. slots_at moved xs n ≡ moved in subst P (sym new) (standing-back moved steps n w e fine refl earlier ∙ ap (slots_at moved steps) is ∙ fits.2 ∙ there);
-      limited = subst (StatesLimited pool moved) (sym new) (λ k. let P : List State → Type 0 = λ xs. IsLimited (get_or xs k empty_state) in subst P (sym states) (limited-continued (states_of pool slots steps) n (get_or (states_of pool slots steps) to empty_state) within s.limited (s.limited to) k));
+      limited = subst (StatesLimited pool moved) (sym new) (λ k. let P : List State → Type 0 = λ xs. IsLimited (get_or xs k empty_state) in subst P (sym states) (limited-continued (shown_states pool slots steps) n (get_or (shown_states pool slots steps) to empty_state) within s.limited (s.limited to) k));
     }
 
 pub returns-clause-ok : goal.returns-clause-ok
@@ -103,4 +103,4 @@ returns-clause-ok c =
     let fine : n ≤ length steps = omega (arith, s.placed) in
     let before : to < n = omega (arith, c.requires) in
     ap (λ (xs : List State). let h : History = record { states = xs; place = n } in h)
-    (ap (states_of s.pool.items moved) new ∙ states-rolled s.pool.items s.slots.items moved steps n to w e fine before s.below is refl c.move_to.ensures.firsts)
+    (ap (shown_states s.pool.items moved) new ∙ states-rolled s.pool.items s.slots.items moved steps n to w e fine before s.below is refl c.move_to.ensures.firsts)

@@ -4,7 +4,7 @@ use Rattle.avp_lists.specs.declared.lists.State.{State}
 use Rattle.avp_lists.specs.declared.steps.Change.TheVariants.{Turned}
 use Rattle.avp_lists.specs.declared.steps.Step.{Step}
 use Rattle.avp_lists.specs.History.{History}
-use Rattle.avp_lists.specs.internal.Shown.{state_of}
+use Rattle.avp_lists.specs.internal.Shown.{shown_state}
 use Rattle.avp_lists.specs.internal.Slots.{is_live, at_first, Housed}
 use Rattle.avp_lists.specs.States.{IsLimited}
 use Rattle.avp_lists.proofs.Settling.{firsts-kept, settled_state, settled_within, housed_all, standing-alone, counted-alone, counts-alone, grow-alone, below-alone, housed-alone, states-alone, limited-alone}
@@ -38,7 +38,7 @@ invariant_of-self c =
       grow = grow-alone new steps v e firsts N refl Z;
       housed = housed-alone new steps v e firsts N refl Z H;
       standing = standing-alone new steps v e firsts N refl Z;
-      limited = limited-alone new steps v e firsts N refl Z pool (subst IsLimited (shown ∙ sym (ap (state_of pool) K ∙ settled_state pool slots)) (s.limited s.place));
+      limited = limited-alone new steps v e firsts N refl Z pool (subst IsLimited (shown ∙ sym (ap (shown_state pool) K ∙ settled_state pool slots)) (s.limited s.place));
     }
 
 pub returns-clause-settled : goal.returns-clause-settled
@@ -54,4 +54,4 @@ returns-clause-settled c =
     let firsts : map at_first new ≡ new = ap (map at_first) K ∙ firsts-kept (filter is_live slots) ∙ sym K in
     let shown = present-shown pool slots s.steps.items s.place s.placed s.standing in
     ap (λ (xs : List State). let h : History = record { states = xs; place = 0 } in h)
-    (states-alone new steps v e firsts c.cut_and_push.ensures.steps refl c.new.ensures.items pool ∙ ap (λ (x : State). x ∷ []) (ap (state_of pool) K ∙ settled_state pool slots ∙ sym shown))
+    (states-alone new steps v e firsts c.cut_and_push.ensures.steps refl c.new.ensures.items pool ∙ ap (λ (x : State). x ∷ []) (ap (shown_state pool) K ∙ settled_state pool slots ∙ sym shown))

@@ -5,7 +5,7 @@ use Rattle.avp_packet.proofs.FittedLists.{octets_fit}
 use Rattle.avp_packet.proofs.Octets.{bytes_by_index}
 use Rattle.avp_packet.proofs.Means.{none_left, one_read}
 use Rattle.avp_packet.proofs.Own.{octets_own}
-use Rattle.avp_packet.proofs.pairs.read_pairs.Goals as goal
+use Rattle.avp_packet.proofs.pairs.attribute_pairs.Goals as goal
 
 pub loop-front-preserved : goal.loop-front-preserved
 loop-front-preserved c =
