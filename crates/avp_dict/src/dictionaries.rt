@@ -50,7 +50,7 @@ impl Model for Dictionary {
     ghost invariant = { λ d. IsSound (contents_view d.contents) };
 }
 
-fn two_part_format(format: VendorFormat) -> Option<Format>
+fn unless_three(format: VendorFormat) -> Option<Format>
     ensures { result ≡ unless_three format }
 {
     if format.third {
@@ -146,7 +146,7 @@ impl Dictionary {
         ensures { result ≡ vendor_format number self.now }
     {
         match self.contents.vendors.format_of(number) {
-            Some(format) => two_part_format(format),
+            Some(format) => unless_three(format),
             None => None,
         }
     }

@@ -8,7 +8,7 @@ ghost use Rattle.avp_dict.specs.internal.Numbers.{Reads};
 
 use crate::attribute_numbers::{MAX_PLAIN, VENDOR_SPECIFIC};
 use crate::file::attributes::extended_id;
-use crate::file::numbers::{MAX_NUMBER, Number, digits_of};
+use crate::file::numbers::{MAX_NUMBER, Number, digits};
 use crate::file::parts::first_between;
 use crate::file::settling::is_in_format;
 use crate::tables::Vendors;
@@ -83,8 +83,8 @@ fn id_by_parts(vendors: &Vendors, t: &[u8], v: &[u8], rest: &[u8]) -> Option<Att
 {
     match first_between(b'.', rest) {
         None => {
-            if is_vendor_specific(digits_of(10, t)) {
-                vendor_id_numbered(vendors, digits_of(10, v), digits_of(10, rest))
+            if is_vendor_specific(digits(10, t)) {
+                vendor_id_numbered(vendors, digits(10, v), digits(10, rest))
             } else {
                 None
             }
@@ -98,9 +98,9 @@ pub fn id_by_numbers(vendors: &Vendors, numbers: &[u8]) -> Option<AttrId>
     ensures { result ≡ id_numbered vendors.now (slice_split is_dot numbers.now) }
 {
     match first_between(b'.', numbers) {
-        None => plain_numbered(digits_of(10, numbers)),
+        None => plain_numbered(digits(10, numbers)),
         Some((t, rest)) => match first_between(b'.', rest) {
-            None => extended_numbered(digits_of(10, t), digits_of(10, rest)),
+            None => extended_numbered(digits(10, t), digits(10, rest)),
             Some((v, rest)) => id_by_parts(vendors, t, v, rest),
         },
     }

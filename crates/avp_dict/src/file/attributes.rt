@@ -15,10 +15,10 @@ use crate::entries::VendorFormat;
 use crate::faults::{DictKind, LineError};
 use crate::file::context::Context;
 use crate::file::meanings::Meaning;
-use crate::file::numbers::{MAX_NUMBER, Number, read_number};
+use crate::file::numbers::{MAX_NUMBER, Number, number_of};
 use crate::file::parts::parts_between;
 use crate::file::types::{are_flags, typing_of};
-use crate::file::words::{MAX_NAME, is_same_name};
+use crate::file::words::{MAX_NAME, same_name};
 use crate::tables::{Attributes, Vendors};
 use avp_lists::AttrId;
 use std::alloc::Global;
@@ -126,7 +126,7 @@ fn dotted_word(block: Option<u32>, t: Number, x: Number) -> Result<Option<AttrId
 fn is_number(word: &[u8]) -> bool
     ensures { result ≡ is_number word.now }
 {
-    match read_number(word) {
+    match number_of(word) {
         Number::Unreadable => false,
         Number::TooGreat => true,
         Number::Is(_) => true,
@@ -165,8 +165,8 @@ fn id_word(
     ensures { Gives result (id_word vendors.now block (views parts.now)) }
 {
     match parts {
-        [number] => number_word(vendors, block, read_number(number)),
-        [t, x] => dotted_word(block, read_number(t), read_number(x)),
+        [number] => number_word(vendors, block, number_of(number)),
+        [t, x] => dotted_word(block, number_of(t), number_of(x)),
         _ => many_words(parts),
     }
 }
@@ -204,7 +204,7 @@ fn are_octets_of_name(name: &[u8]) -> bool
 pub fn begins_as_attr(name: &[u8]) -> bool
     ensures { result ≡ begins_as_attr name.now }
 {
-    name.len() >= 6 && is_same_name(&name[..5], b"attr-") && is_decimal(name[5])
+    name.len() >= 6 && same_name(&name[..5], b"attr-") && is_decimal(name[5])
 }
 
 #[tactic(auto, unfolding(crate::specs::Attributes::is_attribute_name))]

@@ -14,14 +14,14 @@ use crate::file::context::{innermost, is_skipping};
 use crate::file::gather::MAX_DEPTH;
 use crate::file::keywords::DOLLAR_INCLUDE;
 use crate::file::meanings::{Meaning, Reading};
-use crate::file::words::is_same_name;
+use crate::file::words::same_name;
 use crate::tables::Vendors;
 
 fn opens_vendor_named(reading: Reading<'_>, name: &[u8]) -> bool
     ensures { result ≡ opens_vendor_named name.now (reading_view reading.entry) }
 {
     match reading.meaning {
-        Meaning::BeginVendor(other, _) => is_same_name(other, name),
+        Meaning::BeginVendor(other, _) => same_name(other, name),
         _ => false,
     }
 }
@@ -30,7 +30,7 @@ fn opens_tlv_named(reading: Reading<'_>, name: &[u8]) -> bool
     ensures { result ≡ opens_tlv_named name.now (reading_view reading.entry) }
 {
     match reading.meaning {
-        Meaning::BeginTlv(other) => is_same_name(other, name),
+        Meaning::BeginTlv(other) => same_name(other, name),
         _ => false,
     }
 }
@@ -171,7 +171,7 @@ pub fn include<'a>(
     ensures { Means result (include found depth head.now (views words.now)) }
 {
     match words {
-        [_] => include_line(is_same_name(head, DOLLAR_INCLUDE), found, depth),
+        [_] => include_line(same_name(head, DOLLAR_INCLUDE), found, depth),
         _ => Err(LineError::Refused(DictKind::Unreadable)),
     }
 }

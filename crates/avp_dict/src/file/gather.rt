@@ -8,7 +8,7 @@ ghost use Rattle.avp_dict.specs.internal.Views.{views};
 
 use crate::file::files::{NamedFile, last_component};
 use crate::file::keywords::{DOLLAR_INCLUDE, DOLLAR_INCLUDE_IF_THERE};
-use crate::file::words::is_same_name;
+use crate::file::words::same_name;
 
 /// How many lines are read, counted as often as they are read.
 pub const MAX_LINES: usize = 200_000;
@@ -53,7 +53,7 @@ fn file_named(files: &[NamedFile], name: &[u8]) -> Option<usize>
 pub fn is_include(word: &[u8]) -> bool
     ensures { result ≡ is_include word.now }
 {
-    is_same_name(word, DOLLAR_INCLUDE) || is_same_name(word, DOLLAR_INCLUDE_IF_THERE)
+    same_name(word, DOLLAR_INCLUDE) || same_name(word, DOLLAR_INCLUDE_IF_THERE)
 }
 
 fn included<'a>(words: &[&'a [u8]]) -> Option<&'a [u8]>
@@ -76,7 +76,7 @@ pub fn place_included(files: &[NamedFile], words: &[&[u8]]) -> Option<usize>
 }
 
 /// What a file of the set holds.
-pub fn octets_of(files: &[NamedFile], place: usize) -> &[u8]
+pub fn octets_at(files: &[NamedFile], place: usize) -> &[u8]
     ensures { result.now ≡ octets_at files.now place }
 {
     match files.get(place) {

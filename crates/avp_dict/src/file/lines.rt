@@ -15,9 +15,9 @@ use crate::file::keywords::{
     ATTRIBUTE, BEGIN_TLV, BEGIN_VENDOR, END_TLV, END_VENDOR, VALUE, VENDOR,
 };
 use crate::file::meanings::Meaning;
-use crate::file::numbers::{MAX_VALUE, number_up_to};
+use crate::file::numbers::{MAX_VALUE, bounded};
 use crate::file::vendors::read_vendor;
-use crate::file::words::is_same_name;
+use crate::file::words::same_name;
 use std::alloc::Global;
 
 fn value_words<'a>(
@@ -27,7 +27,7 @@ fn value_words<'a>(
 ) -> Result<Meaning<'a>, LineError>
     ensures { Means result (value_words attribute.now name.now number.now) }
 {
-    let number = number_up_to(MAX_VALUE, number)?;
+    let number = bounded(MAX_VALUE, number)?;
     Ok(Meaning::Value(attribute, name, number))
 }
 
@@ -47,7 +47,7 @@ fn skip_line<'a>(head: &[u8], words: &[&'a [u8]]) -> Meaning<'a>
     match words {
         [] => Meaning::Skipped,
         [name, ..] => {
-            if is_same_name(head, ATTRIBUTE) {
+            if same_name(head, ATTRIBUTE) {
                 Meaning::SkippedAttribute(name)
             } else {
                 Meaning::Skipped
@@ -66,11 +66,11 @@ fn plain_line<'a>(
 ) -> Result<Meaning<'a>, LineError>
     ensures { Means result (plain_line (context_view before.now) block head.now (views words.now)) }
 {
-    if is_same_name(head, ATTRIBUTE) {
+    if same_name(head, ATTRIBUTE) {
         read_attribute(alloc, before, block, words)
-    } else if is_same_name(head, VALUE) {
+    } else if same_name(head, VALUE) {
         read_value(words)
-    } else if is_same_name(head, VENDOR) {
+    } else if same_name(head, VENDOR) {
         read_vendor(alloc, &before.vendors, words)
     } else {
         Err(LineError::Refused(DictKind::Unreadable))
@@ -92,13 +92,13 @@ fn read_head<'a>(
     let opened = before.opened.as_slice();
     if is_include(head) {
         include(found, depth, head, words)
-    } else if is_same_name(head, BEGIN_VENDOR) {
+    } else if same_name(head, BEGIN_VENDOR) {
         begin_vendor(&before.vendors, opened, words)
-    } else if is_same_name(head, END_VENDOR) {
+    } else if same_name(head, END_VENDOR) {
         end_vendor(opened, words)
-    } else if is_same_name(head, BEGIN_TLV) {
+    } else if same_name(head, BEGIN_TLV) {
         begin_tlv(words)
-    } else if is_same_name(head, END_TLV) {
+    } else if same_name(head, END_TLV) {
         end_tlv(opened, words)
     } else if is_skipping(opened) {
         Ok(skip_line(head, words))

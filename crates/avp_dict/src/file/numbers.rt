@@ -35,7 +35,7 @@ fn digit(octet: u8) -> u64
 }
 
 /// The number that the digits of a word are.
-pub fn digits_of(base: u64, word: &[u8]) -> Number
+pub fn digits(base: u64, word: &[u8]) -> Number
     requires { 2 ≤ base }
     ensures { Reads result (digits base word.now) }
 {
@@ -71,20 +71,20 @@ fn extended(base: u64, number: Number, next: u64) -> Number
 }
 
 /// The number that a word is: decimal digits, or `0x` and hexadecimal ones.
-pub fn read_number(word: &[u8]) -> Number
+pub fn number_of(word: &[u8]) -> Number
     ensures { Reads result (number_of word.now) }
 {
     match word {
-        [b'0', b'x', rest @ ..] => digits_of(16, rest),
-        _ => digits_of(10, word),
+        [b'0', b'x', rest @ ..] => digits(16, rest),
+        _ => digits(10, word),
     }
 }
 
 /// A number of a line, within its bound.
-pub fn number_up_to(most: u64, word: &[u8]) -> Result<u64, LineError>
+pub fn bounded(most: u64, word: &[u8]) -> Result<u64, LineError>
     ensures { Gives result (bounded most word.now) }
 {
-    match read_number(word) {
+    match number_of(word) {
         Number::Unreadable => Err(LineError::Refused(DictKind::Unreadable)),
         Number::TooGreat => Err(LineError::Refused(DictKind::OutOfRange)),
         Number::Is(number) => {

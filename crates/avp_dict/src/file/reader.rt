@@ -16,7 +16,7 @@ ghost use Rattle.avp_dict.specs.internal.Views.{views};
 use crate::faults::{DictFault, DictKind, LineError};
 use crate::file::context::{Context, innermost};
 use crate::file::files::NamedFile;
-use crate::file::gather::{Line, MAX_LEVELS, octets_of, place_included, split_line};
+use crate::file::gather::{Line, MAX_LEVELS, octets_at, place_included, split_line};
 use crate::file::lines::read_words;
 use crate::file::meanings::{Meaning, Reading};
 use crate::file::words::words;
@@ -119,7 +119,7 @@ impl<'a> ReadLines<'a> {
             return Ok(());
         }
         let depth = MAX_LEVELS - levels;
-        let mut rest = octets_of(files, place);
+        let mut rest = octets_at(files, place);
         let mut number = 1;
         while !rest.is_empty() {
             let (text, after) = split_line(rest);

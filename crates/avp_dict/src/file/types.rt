@@ -14,20 +14,20 @@ use crate::file::keywords::{
     ARRAY, BYTE, CONCAT, DATE, ENCRYPT_1, ENCRYPT_2, ENCRYPT_3, ETHER, HAS_TAG, INTEGER, INTEGER64,
     IPADDR, OCTETS, SECRET, SHORT, SIGNED, STRING, VIRTUAL,
 };
-use crate::file::words::is_same_name;
+use crate::file::words::same_name;
 use avp_lists::AttrId;
 
 fn is_flag(flag: &[u8]) -> bool
     ensures { result ≡ is_flag flag.now }
 {
-    is_same_name(flag, HAS_TAG)
-        || is_same_name(flag, ENCRYPT_1)
-        || is_same_name(flag, ENCRYPT_2)
-        || is_same_name(flag, ENCRYPT_3)
-        || is_same_name(flag, CONCAT)
-        || is_same_name(flag, ARRAY)
-        || is_same_name(flag, SECRET)
-        || is_same_name(flag, VIRTUAL)
+    same_name(flag, HAS_TAG)
+        || same_name(flag, ENCRYPT_1)
+        || same_name(flag, ENCRYPT_2)
+        || same_name(flag, ENCRYPT_3)
+        || same_name(flag, CONCAT)
+        || same_name(flag, ARRAY)
+        || same_name(flag, SECRET)
+        || same_name(flag, VIRTUAL)
 }
 
 /// Whether each flag is one of the list.
@@ -47,13 +47,13 @@ pub fn are_flags(flags: &[&[u8]]) -> bool
 fn is_opaque(flag: &[u8]) -> bool
     ensures { result ≡ is_opaque flag.now }
 {
-    is_same_name(flag, HAS_TAG) || is_same_name(flag, ENCRYPT_2) || is_same_name(flag, ENCRYPT_3)
+    same_name(flag, HAS_TAG) || same_name(flag, ENCRYPT_2) || same_name(flag, ENCRYPT_3)
 }
 
 fn is_hiding(flag: &[u8]) -> bool
     ensures { result ≡ is_hiding flag.now }
 {
-    is_same_name(flag, ENCRYPT_1)
+    same_name(flag, ENCRYPT_1)
 }
 
 fn any_makes_octets(flags: &[&[u8]]) -> bool
@@ -85,25 +85,25 @@ fn any_hides(flags: &[&[u8]]) -> bool
 fn kind_word(word: &[u8]) -> Option<Kind>
     ensures { result ≡ kind_word word.now }
 {
-    if is_same_name(word, STRING) {
+    if same_name(word, STRING) {
         Some(Kind::Text)
-    } else if is_same_name(word, OCTETS) {
+    } else if same_name(word, OCTETS) {
         Some(Kind::Bytes)
-    } else if is_same_name(word, IPADDR) {
+    } else if same_name(word, IPADDR) {
         Some(Kind::Addr)
-    } else if is_same_name(word, INTEGER) {
+    } else if same_name(word, INTEGER) {
         Some(Kind::Integer)
-    } else if is_same_name(word, DATE) {
+    } else if same_name(word, DATE) {
         Some(Kind::Date)
-    } else if is_same_name(word, BYTE) {
+    } else if same_name(word, BYTE) {
         Some(Kind::Byte)
-    } else if is_same_name(word, SHORT) {
+    } else if same_name(word, SHORT) {
         Some(Kind::Short)
-    } else if is_same_name(word, SIGNED) {
+    } else if same_name(word, SIGNED) {
         Some(Kind::Signed)
-    } else if is_same_name(word, INTEGER64) {
+    } else if same_name(word, INTEGER64) {
         Some(Kind::Integer64)
-    } else if is_same_name(word, ETHER) {
+    } else if same_name(word, ETHER) {
         Some(Kind::Ether)
     } else {
         None
@@ -126,7 +126,7 @@ fn before_bracket(word: &[u8]) -> &[u8]
     }
 }
 
-fn without_bracket(word: &[u8]) -> &[u8]
+fn word_before_bracket(word: &[u8]) -> &[u8]
     ensures { result.now ≡ word_before_bracket word.now }
 {
     if word.is_empty() || word[word.len() - 1] != b']' {
@@ -187,7 +187,7 @@ pub fn typing_of(id: AttrId, kind: &[u8], flags: &[&[u8]]) -> Typing
         }
     } else {
         typing_by(
-            kind_word(without_bracket(kind)),
+            kind_word(word_before_bracket(kind)),
             any_makes_octets(flags),
             any_hides(flags),
         )

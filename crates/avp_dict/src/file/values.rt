@@ -21,7 +21,7 @@ use crate::faults::{DictFault, DictKind, LineError};
 use crate::file::attributes::is_name_octet;
 use crate::file::context::Context;
 use crate::file::meanings::{Meaning, Reading};
-use crate::file::numbers::{Number, digits_of};
+use crate::file::numbers::{Number, digits};
 use crate::file::settling::{is_kept, used};
 use crate::file::words::MAX_NAME;
 use crate::octets::copy_of;
@@ -55,9 +55,9 @@ fn reads_as_number(word: &[u8]) -> bool
     ensures { result ≡ reads_as_number word.now }
 {
     match word {
-        [b'0', b'x', rest @ ..] => is_read(digits_of(16, rest)),
-        [b'0', b'X', rest @ ..] => is_read(digits_of(16, rest)),
-        _ => is_read(digits_of(10, word)),
+        [b'0', b'x', rest @ ..] => is_read(digits(16, rest)),
+        [b'0', b'X', rest @ ..] => is_read(digits(16, rest)),
+        _ => is_read(digits(10, word)),
     }
 }
 

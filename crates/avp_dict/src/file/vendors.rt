@@ -12,9 +12,9 @@ use crate::entries::VendorFormat;
 use crate::faults::{DictKind, LineError};
 use crate::file::keywords::FORMAT_KEY;
 use crate::file::meanings::Meaning;
-use crate::file::numbers::{MAX_NUMBER, Number, number_up_to, read_number};
+use crate::file::numbers::{MAX_NUMBER, Number, bounded, number_of};
 use crate::file::parts::parts_between;
-use crate::file::words::{MAX_NAME, is_same_name};
+use crate::file::words::{MAX_NAME, same_name};
 use crate::tables::Vendors;
 use std::alloc::{AllocError, Global};
 
@@ -54,7 +54,7 @@ fn is_other_vendor(number: u32, found: Option<u32>) -> bool
 }
 
 #[tactic(auto, unfolding(crate::specs::Vendors::vendor_numbered))]
-fn vendor_line<'a>(
+fn vendor_numbered<'a>(
     vendors: &Vendors,
     name: &'a [u8],
     format: VendorFormat,
@@ -71,7 +71,7 @@ fn vendor_line<'a>(
 }
 
 #[tactic(auto, unfolding(crate::specs::Vendors::vendor_line))]
-fn read_vendor_line<'a>(
+fn vendor_line<'a>(
     vendors: &Vendors,
     name: &'a [u8],
     number: &[u8],
@@ -85,8 +85,8 @@ fn read_vendor_line<'a>(
             if !is_vendor_name(name) {
                 return Err(LineError::Refused(DictKind::Unreadable));
             }
-            let number = number_up_to(MAX_NUMBER, number)?;
-            vendor_line(vendors, name, format, number)
+            let number = bounded(MAX_NUMBER, number)?;
+            vendor_numbered(vendors, name, format, number)
         }
     }
 }
@@ -114,8 +114,8 @@ fn format_parts(parts: &[&[u8]]) -> Option<VendorFormat>
     ensures { result ≡ format_parts (views parts.now) }
 {
     match parts {
-        [t, l] => two_parts(false, read_number(t), read_number(l)),
-        [t, l, _] => two_parts(true, read_number(t), read_number(l)),
+        [t, l] => two_parts(false, number_of(t), number_of(l)),
+        [t, l, _] => two_parts(true, number_of(t), number_of(l)),
         _ => None,
     }
 }
@@ -128,14 +128,14 @@ fn format_after_key(alloc: Global, rest: &[u8]) -> Result<Option<VendorFormat>, 
 }
 
 #[tactic(auto, unfolding(crate::specs::Vendors::format_word))]
-fn read_format(alloc: Global, word: &[u8]) -> Result<Option<VendorFormat>, AllocError>
+fn format_word(alloc: Global, word: &[u8]) -> Result<Option<VendorFormat>, AllocError>
     ensures { IfOk result (λ format. format ≡ format_word word.now) }
 {
     if word.len() < 7 {
         return Ok(None);
     }
     let (key, rest) = word.split_at(7);
-    if !is_same_name(key, FORMAT_KEY) {
+    if !same_name(key, FORMAT_KEY) {
         return Ok(None);
     }
     format_after_key(alloc, rest)
@@ -151,10 +151,10 @@ pub fn read_vendor<'a>(
     ensures { Means result (vendor vendors.now (views words.now)) }
 {
     match words {
-        [name, number] => read_vendor_line(vendors, name, number, Some(STANDARD_FORMAT)),
+        [name, number] => vendor_line(vendors, name, number, Some(STANDARD_FORMAT)),
         [name, number, format] => {
-            let format = read_format(alloc, format)?;
-            read_vendor_line(vendors, name, number, format)
+            let format = format_word(alloc, format)?;
+            vendor_line(vendors, name, number, format)
         }
         _ => Err(LineError::Refused(DictKind::Unreadable)),
     }

@@ -87,7 +87,7 @@ pub fn lower(octet: u8) -> u8
 
 /// Whether two words are the same, without regard to ASCII case.
 #[tactic(auto, using(crate::proofs::Folding::other_length))]
-pub fn is_same_name(a: &[u8], b: &[u8]) -> bool
+pub fn same_name(a: &[u8], b: &[u8]) -> bool
     ensures { result ≡ same_name a.now b.now }
 {
     // Most names differ in length, and many begin alike.

@@ -114,7 +114,7 @@ fn push_pair(pairs: &mut Vec<Pair>, pair: Pair) -> Result<(), LineKind>
 
 impl Dictionary {
     // The pair of a text under a name.
-    fn pair_of_text(&self, alloc: Global, named: Named, text: &[u8]) -> Result<Pair, LineKind>
+    fn pair_named(&self, alloc: Global, named: Named, text: &[u8]) -> Result<Pair, LineKind>
         ensures { ReadsLine result (pair_named self.now text.now named) }
     {
         let value = self.value_of_text(alloc, named, text)?;
@@ -130,10 +130,10 @@ impl Dictionary {
     {
         match token {
             Token::Run([b'=', ..]) => Err(LineKind::Unreadable),
-            Token::Run(text) => self.pair_of_text(alloc, named, text),
+            Token::Run(text) => self.pair_named(alloc, named, text),
             Token::Quoted(mark, text) => {
                 let octets = octets_between(alloc, mark, text)?;
-                self.pair_of_text(alloc, named, &octets)
+                self.pair_named(alloc, named, &octets)
             }
             Token::Comma | Token::Sign | Token::Unended => Err(LineKind::Unreadable),
         }

@@ -17,7 +17,7 @@ use std::alloc::{AllocError, Global};
 pub(crate) const MAX_HIDDEN_OCTETS: usize = 128;
 
 // A number's octets, the highest first: those of 64 bits without the first ones.
-fn octets_of_number(alloc: Global, kind: Option<Kind>, number: u64) -> Result<Vec<u8>, AllocError>
+fn number_octets(alloc: Global, kind: Option<Kind>, number: u64) -> Result<Vec<u8>, AllocError>
     ensures { IfOk result (λ octets. octets.items ≡ number_octets kind number) }
 {
     let octets = number.to_be_bytes();
@@ -29,7 +29,7 @@ fn octets_of_number(alloc: Global, kind: Option<Kind>, number: u64) -> Result<Ve
     }
 }
 
-pub(crate) fn octets_by_kind(
+pub(crate) fn octets_of(
     alloc: Global,
     kind: Option<Kind>,
     value: &Value,
@@ -39,7 +39,7 @@ pub(crate) fn octets_by_kind(
     match value {
         Value::Text(octets) => Vec::from_slice(alloc, octets.as_slice()),
         Value::Bytes(octets) => Vec::from_slice(alloc, octets.as_slice()),
-        Value::Int(number) => octets_of_number(alloc, kind, *number),
+        Value::Int(number) => number_octets(alloc, kind, *number),
         Value::Signed(number) => Vec::from_slice(alloc, &number.cast_unsigned().to_be_bytes()),
         Value::Addr(address) => Vec::from_slice(alloc, address),
         Value::Ether(address) => Vec::from_slice(alloc, address),
@@ -129,7 +129,7 @@ fn read_sized(kind: Kind, octets: &[u8]) -> Option<Value>
     }
 }
 
-fn read_by_kind(alloc: Global, kind: Kind, octets: &[u8]) -> Result<Option<Value>, AllocError>
+fn value_read(alloc: Global, kind: Kind, octets: &[u8]) -> Result<Option<Value>, AllocError>
     ensures { IfOk result (λ value. value ≡ value_read kind octets.now) }
 {
     match kind {
@@ -199,12 +199,12 @@ impl Dictionary {
         requires { IsTrue (fits (record { id = id; value = value.now }) self.now) }
         ensures { IfOk result (λ bytes. bytes.items ≡ octets id value.now self.now) }
     {
-        octets_by_kind(alloc, self.kind(id), value)
+        octets_of(alloc, self.kind(id), value)
     }
 
     // The value of the id's type with these octets.
     #[tactic(auto, unfolding(crate::specs::Octets::read_value))]
-    fn read_octets(
+    fn read_value(
         &self,
         alloc: Global,
         id: AttrId,
@@ -217,7 +217,7 @@ impl Dictionary {
                 if entry.hidden && !is_hideable(octets) {
                     Ok(None)
                 } else {
-                    read_by_kind(alloc, entry.kind, octets)
+                    value_read(alloc, entry.kind, octets)
                 }
             }
             None => Ok(None),
@@ -235,7 +235,7 @@ impl Dictionary {
     ) -> Result<Value, AllocError>
         ensures { IfOk result (λ value. value ≡ value_of_octets id octets.now self.now) }
     {
-        match self.read_octets(alloc, id, octets)? {
+        match self.read_value(alloc, id, octets)? {
             Some(value) => Ok(value),
             None => Ok(Value::Raw(copy_of(alloc, octets)?)),
         }

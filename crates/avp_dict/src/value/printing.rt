@@ -9,7 +9,7 @@ ghost use Rattle.avp_dict.specs.Sent.{is_raw};
 
 use crate::dictionaries::Dictionary;
 use crate::entries::Kind;
-use crate::value::octets::octets_by_kind;
+use crate::value::octets::octets_of;
 use crate::value::quotes::quote;
 use crate::value::texts::is_container;
 use avp_lists::{AttrId, Value};
@@ -174,7 +174,7 @@ impl Dictionary {
     fn octets_text(&self, alloc: Global, id: AttrId, value: &Value) -> Result<Vec<u8>, AllocError>
         ensures { IfOk result (λ text. text.items ≡ hexadecimal (octets id value.now self.now)) }
     {
-        let octets = octets_by_kind(alloc, self.kind(id), value)?;
+        let octets = octets_of(alloc, self.kind(id), value)?;
         hexadecimal(alloc, &octets)
     }
 

@@ -14,7 +14,7 @@ ghost use Rattle.avp_dict.specs.internal.Numbers.{Reads};
 use crate::attribute_numbers::{VENDOR_SPECIFIC, is_extended_type};
 use crate::dictionaries::Dictionary;
 use crate::entries::{Kind, Named, Typing};
-use crate::file::numbers::{Number, digits_of, read_number};
+use crate::file::numbers::{Number, digits, number_of};
 use crate::file::parts::first_between;
 use crate::octets::copy_of;
 use crate::value::faults::ValueFault;
@@ -24,7 +24,7 @@ use std::alloc::{AllocError, Global};
 
 // The octets that `0x` and hexadecimal digits stand for.
 #[tactic(auto, unfolding(crate::specs::Spellings::octets_spelled))]
-fn octets_of_text(alloc: Global, text: &[u8]) -> Result<Option<Octets>, AllocError>
+fn octets_spelled(alloc: Global, text: &[u8]) -> Result<Option<Octets>, AllocError>
     ensures { IfOk result (λ octets. octets ≡ octets_spelled text.now) }
 {
     match text {
@@ -39,16 +39,16 @@ fn octets_of_text(alloc: Global, text: &[u8]) -> Result<Option<Octets>, AllocErr
 
 // The octets of a text, and those of `0x` and hexadecimal digits.
 #[tactic(auto, unfolding(crate::specs::Spellings::bytes_spelled))]
-fn bytes_of_text(alloc: Global, by_text: bool, text: &[u8]) -> Result<Option<Octets>, AllocError>
+fn bytes_spelled(alloc: Global, by_text: bool, text: &[u8]) -> Result<Option<Octets>, AllocError>
     ensures { IfOk result (λ octets. octets ≡ bytes_spelled by_text text.now) }
 {
     match text {
-        [b'0', b'x', ..] => octets_of_text(alloc, text),
+        [b'0', b'x', ..] => octets_spelled(alloc, text),
         _ => {
             if by_text {
                 Ok(Some(copy_of(alloc, text)?))
             } else {
-                octets_of_text(alloc, text)
+                octets_spelled(alloc, text)
             }
         }
     }
@@ -80,7 +80,7 @@ impl Number {
 fn positive(text: &[u8]) -> Option<i32>
     ensures { result ≡ option_map pos (up_to greatest_signed (digits 10 text.now)) }
 {
-    match digits_of(10, text).up_to(i32::MAX as u64) {
+    match digits(10, text).up_to(i32::MAX as u64) {
         Some(number) => Some(number as i32),
         None => None,
     }
@@ -89,14 +89,14 @@ fn positive(text: &[u8]) -> Option<i32>
 fn negative(text: &[u8]) -> Option<i32>
     ensures { result ≡ option_map negated (up_to (greatest_signed + 1) (digits 10 text.now)) }
 {
-    match digits_of(10, text).up_to(i32::MAX as u64 + 1) {
+    match digits(10, text).up_to(i32::MAX as u64 + 1) {
         Some(number) => Some(-(number as i64) as i32),
         None => None,
     }
 }
 
 #[tactic(auto, unfolding(crate::specs::Spellings::signed_spelled))]
-fn signed_of_text(text: &[u8]) -> Option<i32>
+fn signed_spelled(text: &[u8]) -> Option<i32>
     ensures { result ≡ signed_spelled text.now }
 {
     match text {
@@ -112,7 +112,7 @@ fn decimal_octet(part: &[u8]) -> Option<u8>
     if part.len() > 3 {
         return None;
     }
-    match digits_of(10, part).up_to(255) {
+    match digits(10, part).up_to(255) {
         Some(number) => Some(number as u8),
         None => None,
     }
@@ -125,14 +125,14 @@ fn digit_pair(part: &[u8]) -> Option<u8>
     if part.len() != 2 {
         return None;
     }
-    match digits_of(16, part).up_to(255) {
+    match digits(16, part).up_to(255) {
         Some(number) => Some(number as u8),
         None => None,
     }
 }
 
 #[tactic(auto, unfolding(crate::specs::Spellings::each_number))]
-fn address_of_text(text: &[u8]) -> Option<[u8; 4]>
+fn address_spelled(text: &[u8]) -> Option<[u8; 4]>
     ensures { result ≡ address_spelled text.now }
 {
     let (a, rest) = first_between(b'.', text)?;
@@ -150,7 +150,7 @@ fn address_of_text(text: &[u8]) -> Option<[u8; 4]>
 }
 
 #[tactic(auto, unfolding(crate::specs::Spellings::each_number))]
-fn ether_of_text(text: &[u8]) -> Option<[u8; 6]>
+fn ether_spelled(text: &[u8]) -> Option<[u8; 6]>
     ensures { result ≡ ether_spelled text.now }
 {
     let (a, rest) = first_between(b':', text)?;
@@ -174,10 +174,10 @@ fn ether_of_text(text: &[u8]) -> Option<[u8; 6]>
 impl Dictionary {
     // A number, or the name of one.
     #[tactic(auto, unfolding(crate::specs::Spellings::number_spelled))]
-    fn number_of_text(&self, most: u64, id: AttrId, text: &[u8]) -> Option<u64>
+    fn number_spelled(&self, most: u64, id: AttrId, text: &[u8]) -> Option<u64>
         ensures { result ≡ number_spelled most id text.now self.now }
     {
-        match read_number(text) {
+        match number_of(text) {
             Number::Unreadable => match self.value_number(id, text) {
                 Some(number) => Number::Is(number).up_to(most),
                 None => None,
@@ -190,13 +190,13 @@ impl Dictionary {
     fn number_value(&self, most: u64, id: AttrId, text: &[u8]) -> Option<Value>
         ensures { result ≡ option_map Value.Int (number_spelled most id text.now self.now) }
     {
-        match self.number_of_text(most, id, text) {
+        match self.number_spelled(most, id, text) {
             Some(number) => Some(Value::Int(number)),
             None => None,
         }
     }
 
-    fn value_by_typing(
+    fn spelled_by(
         &self,
         alloc: Global,
         typing: Typing,
@@ -207,36 +207,31 @@ impl Dictionary {
     {
         match typing.kind {
             Kind::Text => Ok(Some(Value::Text(copy_of(alloc, text)?))),
-            Kind::Bytes => Ok(bytes_of_text(alloc, typing.by_text, text)?.map(Value::Bytes)),
-            Kind::Addr => Ok(address_of_text(text).map(Value::Addr)),
-            Kind::Ether => Ok(ether_of_text(text).map(Value::Ether)),
+            Kind::Bytes => Ok(bytes_spelled(alloc, typing.by_text, text)?.map(Value::Bytes)),
+            Kind::Addr => Ok(address_spelled(text).map(Value::Addr)),
+            Kind::Ether => Ok(ether_spelled(text).map(Value::Ether)),
             Kind::Byte => Ok(self.number_value(255, id, text)),
             Kind::Short => Ok(self.number_value(u16::MAX as u64, id, text)),
             Kind::Integer => Ok(self.number_value(u32::MAX as u64, id, text)),
             Kind::Integer64 => Ok(self.number_value(u64::MAX, id, text)),
-            Kind::Date => Ok(read_number(text).up_to(u32::MAX as u64).map(Value::Int)),
-            Kind::Signed => Ok(signed_of_text(text).map(Value::Signed)),
+            Kind::Date => Ok(number_of(text).up_to(u32::MAX as u64).map(Value::Int)),
+            Kind::Signed => Ok(signed_spelled(text).map(Value::Signed)),
         }
     }
 
     // The value of a text, its length aside.
     #[tactic(auto, unfolding(crate::specs::Spellings::spelled))]
-    fn spelled_value(
-        &self,
-        alloc: Global,
-        name: Named,
-        text: &[u8],
-    ) -> Result<Option<Value>, AllocError>
+    fn spelled(&self, alloc: Global, name: Named, text: &[u8]) -> Result<Option<Value>, AllocError>
         ensures { IfOk result (λ value. value ≡ spelled name text.now self.now) }
     {
         if name.raw {
-            match octets_of_text(alloc, text)? {
+            match octets_spelled(alloc, text)? {
                 Some(octets) => Ok(Some(self.value_of_bytes(alloc, name.id, octets.as_slice())?)),
                 None => Ok(None),
             }
         } else {
             match self.typing(name.id) {
-                Some(typing) => self.value_by_typing(alloc, typing, name.id, text),
+                Some(typing) => self.spelled_by(alloc, typing, name.id, text),
                 None => Ok(None),
             }
         }
@@ -265,7 +260,7 @@ impl Dictionary {
         if self.is_barred(named) {
             return Err(ValueFault::NotWritable);
         }
-        match self.spelled_value(alloc, named, text)? {
+        match self.spelled(alloc, named, text)? {
             Some(value) => {
                 if self.is_within(named.id, &value) {
                     Ok(value)

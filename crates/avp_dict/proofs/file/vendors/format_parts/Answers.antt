@@ -4,7 +4,7 @@ use Rattle.avp_dict.proofs.file.vendors.format_parts.Goals as goal
 
 pub returns-in-len3 : goal.returns-in-len3
 returns-in-len3 c =
-    c.two_parts-in-len3.ensures _ _ c.read_number-in-len3.ensures c.read_number-in-len3-2.ensures
+    c.two_parts-in-len3.ensures _ _ c.number_of-in-len3.ensures c.number_of-in-len3-2.ensures
     ∙ three_parts c.args.parts.now _ _ (omega arith)
 
 pub returns-in_default : goal.returns-in_default

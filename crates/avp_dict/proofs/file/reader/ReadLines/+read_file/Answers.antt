@@ -19,7 +19,7 @@ loop-rest-init t c = record {
   longer = omega arith;
   few = omega arith;
   deep = refl;
-  so_far = λ ls. rw (c.octets_of-rest.ensures, lines_in_open c.args.files.now c.args.levels c.args.place (omega arith));
+  so_far = λ ls. rw (c.octets_at-rest.ensures, lines_in_open c.args.files.now c.args.levels c.args.place (omega arith));
 }
 
 pub returns-in_err-read_next-clause-refused : goal.returns-in_err-read_next-clause-refused

@@ -1,5 +1,5 @@
 use Rattle.std.proofs.Common.{◌≡◌, ℕ, drop}
-use Rattle.avp_dict.proofs.file.numbers.digits_of.Given as goal
+use Rattle.avp_dict.proofs.file.numbers.digits.Given as goal
 use Rattle.avp_dict.specs.Words.{digits, number_after}
 use Rattle.avp_dict.specs.internal.Numbers.{Holds}
 

@@ -3,7 +3,7 @@ use Rattle.avp_dict.specs.Letters.{is_dot}
 use Rattle.avp_dict.specs.Spellings.{decimal_octet}
 use Rattle.std.specs.List.{slice_split}
 use Rattle.avp_dict.proofs.Spelling.{in_parts-more, some_part}
-use Rattle.avp_dict.proofs.value.texts.address_of_text.Goals as goal
+use Rattle.avp_dict.proofs.value.texts.address_spelled.Goals as goal
 
 pub returns-in-Some : goal.returns-in-Some
 returns-in-Some c =

@@ -1,5 +1,5 @@
 use Rattle.std.proofs.Common.{◌≡◌, length}
-use Rattle.avp_dict.proofs.file.words.is_same_name.Given as goal
+use Rattle.avp_dict.proofs.file.words.same_name.Given as goal
 use Rattle.avp_dict.specs.Words.{same_name}
 
 abbrev pub invariant-loop-a : goal.invariant-loop-a
