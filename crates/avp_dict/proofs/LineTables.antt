@@ -10,12 +10,12 @@ use Rattle.std.proofs.lemmas.List.Sums.{fold_push}
 use Rattle.std.proofs.lemmas.Map.Entries.{length-keys_of}
 use Rattle.std.proofs.lemmas.Map.Made.{is_some-lookup, length-from_keys}
 use Rattle.indexmap.specs.IndexMap.{insert_entry}
-use Rattle.avp_lists.specs.declared.attributes.AttrId.{AttrId}
-use Rattle.avp_lists.specs.declared.attributes.AttrId.TheVariants.{Plain, Vendor, Extended}
+use Rattle.avp_lists.specs.declared.pairs.AttrId.{AttrId}
+use Rattle.avp_lists.specs.declared.pairs.AttrId.TheVariants.{Plain, Vendor, Extended}
 use Rattle.avp_lists.specs.Pairs.{id_eq}
 use Rattle.avp_dict.specs.Dictionary.{last_where, with_key}
 use Rattle.avp_dict.specs.internal.Tables.{IsTable, id_key, last_place, same_id_key}
-use Rattle.avp_dict.proofs.Last.{last_found, last_place_kept}
+use Rattle.avp_dict.proofs.LastPlaces.{last_found, last_place_kept}
 
 -- the keys of ids tell them apart
 pub same_key : (a b : AttrId) → same_id_key (id_key a) (id_key b) ≡ id_eq a b

@@ -5,20 +5,20 @@ use Rattle.std.specs.List.{All, slice_split}
 use Rattle.std.specs.Option.{option_map_or, unwrap_or}
 use Rattle.std.proofs.lemmas.Bool.{and_parts, cond_both, false_from_ne_true, not-true, or_parts}
 use Rattle.std.proofs.lemmas.List.Splits.{slice_split_at, slice_split_none}
-use Rattle.avp_lists.specs.declared.attributes.AttrId.{AttrId}
-use Rattle.avp_lists.specs.declared.attributes.AttrId.TheVariants as ids
-use Rattle.avp_lists.specs.declared.attributes.Value.{Value}
-use Rattle.avp_lists.specs.declared.attributes.Value.TheVariants.{Int, Signed, Addr, Ether, Raw}
-use Rattle.avp_lists.specs.declared.attributes.Value.TheVariants as values
+use Rattle.avp_lists.specs.declared.pairs.AttrId.{AttrId}
+use Rattle.avp_lists.specs.declared.pairs.AttrId.TheVariants as ids
+use Rattle.avp_lists.specs.declared.pairs.Value.{Value}
+use Rattle.avp_lists.specs.declared.pairs.Value.TheVariants.{Int, Signed, Addr, Ether, Raw}
+use Rattle.avp_lists.specs.declared.pairs.Value.TheVariants as values
 use Rattle.avp_lists.specs.Pairs.{value_eq}
 use Rattle.avp_lists.proofs.Equality.{same_value}
 use Rattle.avp_dict.specs.declared.entries.Kind.{Kind}
 use Rattle.avp_dict.specs.declared.entries.Kind.TheVariants as kinds
 use Rattle.avp_dict.specs.AttributeNumbers.{greatest_number, greatest_signed, greatest_value}
 use Rattle.avp_dict.specs.Dictionary.{Dictionary, name_numbered, typing_of_id}
-use Rattle.avp_dict.proofs.Found.{is_described, is_named_number, named_back}
+use Rattle.avp_dict.proofs.PrintedNames.{is_described, is_named_number, named_back}
 use Rattle.avp_dict.proofs.Numerals.{IsNumeral, decimal_numeral, digits_numeral, first_of_numeral, number_of_numeral, numeral_without}
-use Rattle.avp_dict.proofs.Separated.{address_back, bytes_back, ether_back, octets_back}
+use Rattle.avp_dict.proofs.PrintedAddresses.{address_back, bytes_back, ether_back, octets_back}
 use Rattle.avp_dict.proofs.Unescaping.{quoted_back}
 use Rattle.avp_dict.specs.Letters.{is_decimal, is_dot}
 use Rattle.avp_dict.specs.Limits.{fits, is_known, is_of_kind, is_typed, is_within}

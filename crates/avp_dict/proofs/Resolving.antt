@@ -4,7 +4,7 @@ use Rattle.std.proofs.lemmas.List.{drop_all}
 use Rattle.avp_dict.specs.declared.faults.DictFault.{DictFault}
 use Rattle.avp_dict.specs.declared.file.meanings.Meaning.TheVariants as meanings
 use Rattle.avp_dict.specs.declared.file.meanings.Reading.{Reading as CodeReading}
-use Rattle.avp_dict.proofs.OneMore.{refuses_through}
+use Rattle.avp_dict.proofs.LinesRead.{refuses_through}
 use Rattle.avp_dict.specs.Dictionary.{Dictionary}
 use Rattle.avp_dict.specs.Meanings.{Reading}
 use Rattle.avp_dict.specs.Outcomes.{Refuses}

@@ -4,8 +4,8 @@ use Rattle.std.specs.List.{All, list_all, list_any}
 use Rattle.std.proofs.Math.Bool.{and-false}
 use Rattle.std.proofs.lemmas.Bool.{and_parts, cond_both, not-false, not-true}
 use Rattle.std.proofs.lemmas.List.Elements.{All-nil, All-push, All-filter, filter_passes}
-use Rattle.avp_lists.specs.declared.attributes.AttrId.{AttrId}
-use Rattle.avp_lists.specs.declared.attributes.AttrId.TheVariants as ids
+use Rattle.avp_lists.specs.declared.pairs.AttrId.{AttrId}
+use Rattle.avp_lists.specs.declared.pairs.AttrId.TheVariants as ids
 use Rattle.avp_lists.specs.Pairs.{id_eq}
 use Rattle.avp_dict.specs.declared.entries.AttributeLine.{AttributeLine}
 use Rattle.avp_dict.specs.declared.entries.ValueLine.{ValueLine}
@@ -13,8 +13,8 @@ use Rattle.avp_dict.specs.declared.faults.DictFault.{DictFault}
 use Rattle.avp_dict.specs.declared.faults.DictKind.{DictKind}
 use Rattle.avp_dict.specs.declared.file.files.NamedFile.{NamedFile}
 use Rattle.avp_dict.proofs.Agreement.{other_value_sym}
-use Rattle.avp_dict.proofs.Alone.{alone_by_number}
-use Rattle.avp_dict.proofs.OneMore.{then_both}
+use Rattle.avp_dict.proofs.AgreeingLines.{alone_by_number}
+use Rattle.avp_dict.proofs.LinesRead.{then_both}
 use Rattle.avp_dict.proofs.SoundLines.{AllRead, AreRead, IsReadAttribute, is_ranged, none_read, read_lines_read}
 use Rattle.avp_dict.specs.Blocks.{innermost}
 use Rattle.avp_dict.specs.Dictionary.{Dictionary, id_named, number_named, typing_of_id}
@@ -26,7 +26,7 @@ use Rattle.avp_dict.specs.Meanings.{Meaning, Value, Reading, Context, context_of
 use Rattle.avp_dict.specs.Readings.{read_lines}
 use Rattle.avp_dict.specs.Settled.{is_kept, is_kept_line, skipped_names, used}
 use Rattle.avp_dict.specs.Soundness.{IsSound, IsSoundAttribute, IsSoundValue, IsSoundVendor, names_other_id, names_other_value}
-use Rattle.avp_dict.specs.Steps.{refused_at, ◌>>=◌}
+use Rattle.avp_dict.specs.Refusals.{refused_at, ◌>>=◌}
 use Rattle.avp_dict.specs.Values.{is_noted, is_of_other_number, is_same_name, is_value_name, max_of_typing, reads_as_number, resolve, value_of, value_up_to, with_line, with_note, with_value}
 use Rattle.avp_dict.specs.Words.{same_name}
 

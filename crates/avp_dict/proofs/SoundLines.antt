@@ -4,8 +4,8 @@ use Rattle.std.proofs.lemmas.Bool.{and_parts, cond_both, leb-true, not-true}
 use Rattle.std.proofs.lemmas.Grind.{common_steps}
 use Rattle.std.specs.List.{All, list_all, list_any, slice_split}
 use Rattle.std.proofs.lemmas.List.Elements.{All-nil, All-push}
-use Rattle.avp_lists.specs.declared.attributes.AttrId.{AttrId}
-use Rattle.avp_lists.specs.declared.attributes.AttrId.TheVariants as ids
+use Rattle.avp_lists.specs.declared.pairs.AttrId.{AttrId}
+use Rattle.avp_lists.specs.declared.pairs.AttrId.TheVariants as ids
 use Rattle.avp_lists.specs.Pairs.{id_eq}
 use Rattle.avp_lists.proofs.Equality.{id_eq-same}
 use Rattle.avp_dict.specs.declared.entries.AttributeLine.{AttributeLine}
@@ -21,8 +21,8 @@ use Rattle.avp_dict.specs.declared.file.files.NamedFile.{NamedFile}
 use Rattle.avp_dict.specs.declared.file.meanings.Meaning.{Meaning as CodeMeaning}
 use Rattle.avp_dict.specs.declared.file.meanings.Meaning.TheVariants as code
 use Rattle.avp_dict.proofs.Agreement.{other_id_sym, same_name_refl}
-use Rattle.avp_dict.proofs.Alone.{AreAloneNames, alone_by_id}
-use Rattle.avp_dict.proofs.OneMore.{context_of_push, context_of_none, then_both}
+use Rattle.avp_dict.proofs.AgreeingLines.{AreAloneNames, alone_by_id}
+use Rattle.avp_dict.proofs.LinesRead.{context_of_push, context_of_none, then_both}
 use Rattle.avp_dict.specs.AttributeNumbers.{greatest_number, greatest_value}
 use Rattle.avp_dict.specs.Attributes.{attribute, attribute_line, attribute_of, dotted_word, id_word, is_attribute_name, is_extended, is_held, is_number, is_of_other_id, number_id, number_word, vendor_id}
 use Rattle.avp_dict.specs.Blocks.{begin_known, begin_tlv, begin_vendor, block_vendor, end_tlv, end_vendor, ended, is_skipping, unless_third}
@@ -32,7 +32,7 @@ use Rattle.avp_dict.specs.Lines.{Line, file_included, is_include}
 use Rattle.avp_dict.specs.Meanings.{Meaning, Vendor, Attribute, BeginVendor, Reading, Context, after_reading, context_of}
 use Rattle.avp_dict.specs.Readings.{include, plain_line, read_head, read_line, read_lines, read_words, skipped_line, value, within}
 use Rattle.avp_dict.specs.Soundness.{IsSoundVendor, names_other_id}
-use Rattle.avp_dict.specs.Steps.{refused_at, ◌>>=◌}
+use Rattle.avp_dict.specs.Refusals.{refused_at, ◌>>=◌}
 use Rattle.avp_dict.specs.Types.{are_flags, is_fixed, is_hiding, is_opaque, is_text_kind, kind_word, typing_by, typing_of}
 use Rattle.avp_dict.specs.Vendors.{bounded, format_parts, format_word, is_format, is_other_vendor, is_vendor_name, standard_format, two_parts, vendor, vendor_line, vendor_numbered}
 use Rattle.avp_dict.specs.Words.{number_of, same_name, words_of}

@@ -4,10 +4,10 @@ use Rattle.std.specs.List.{slice_split}
 use Rattle.std.specs.Result.{result_ok}
 use Rattle.std.proofs.lemmas.Bool.{cond_both, or_parts}
 use Rattle.std.proofs.lemmas.Grind.{common_steps}
-use Rattle.avp_lists.specs.declared.attributes.AttrId.{AttrId}
-use Rattle.avp_lists.specs.declared.attributes.Pair.{Pair}
-use Rattle.avp_lists.specs.declared.attributes.Value.{Value}
-use Rattle.avp_lists.specs.declared.attributes.Value.TheVariants as values
+use Rattle.avp_lists.specs.declared.pairs.AttrId.{AttrId}
+use Rattle.avp_lists.specs.declared.pairs.Pair.{Pair}
+use Rattle.avp_lists.specs.declared.pairs.Value.{Value}
+use Rattle.avp_lists.specs.declared.pairs.Value.TheVariants as values
 use Rattle.avp_dict.specs.declared.entries.Named.{Named}
 use Rattle.avp_dict.specs.declared.entries.Kind.{Kind}
 use Rattle.avp_dict.specs.declared.entries.Kind.TheVariants as kinds

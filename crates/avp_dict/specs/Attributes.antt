@@ -1,8 +1,8 @@
 -- ATTRIBUTE lines: a name, a number, a type and flags.
 use Rattle.std.specs.Prelude.{ℕ, Bool, false, not, ◌&&◌, ◌==◌, nat_le, if◌then◌else◌, List, [], ◌∷◌, length, Option, Some, None, is_some, is_none, Result, Ok, Err}
 use Rattle.std.specs.List.{list_all, slice_split}
-use Rattle.avp_lists.specs.declared.attributes.AttrId.{AttrId}
-use Rattle.avp_lists.specs.declared.attributes.AttrId.TheVariants as ids
+use Rattle.avp_lists.specs.declared.pairs.AttrId.{AttrId}
+use Rattle.avp_lists.specs.declared.pairs.AttrId.TheVariants as ids
 use Rattle.avp_lists.specs.Pairs.{id_eq}
 use Rattle.avp_dict.specs.declared.faults.DictKind.{DictKind}
 use Rattle.avp_dict.specs.declared.faults.DictKind.TheVariants.{Unreadable, OutOfRange, OtherNumber}
@@ -13,7 +13,7 @@ use Rattle.avp_dict.specs.Meanings.{Meaning, Attribute, SkippedAttribute, Contex
 use Rattle.avp_dict.specs.Words.{number_of}
 use Rattle.avp_dict.specs.AttributeNumbers.{greatest_number, is_extended_type}
 use Rattle.avp_dict.specs.Letters.{is_dot, is_comma, is_name_octet, begins_as_attr, max_name}
-use Rattle.avp_dict.specs.Steps.{◌>>=◌}
+use Rattle.avp_dict.specs.Refusals.{◌>>=◌}
 use Rattle.avp_dict.specs.Dictionary.{format_of, id_named}
 use Rattle.avp_dict.specs.Types.{are_flags, typing_of}
 

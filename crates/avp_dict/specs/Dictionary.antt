@@ -3,7 +3,7 @@ use Rattle.std.specs.Prelude.{ℕ, Bool, ◌&&◌, ◌==◌, if◌then◌else◌
 use Rattle.std.specs.Option.{option_map}
 use Rattle.std.specs.List.{find, fold, list_any}
 use Rattle.std.specs.Str.{bytes_eq}
-use Rattle.avp_lists.specs.declared.attributes.AttrId.{AttrId}
+use Rattle.avp_lists.specs.declared.pairs.AttrId.{AttrId}
 use Rattle.avp_lists.specs.Pairs.{id_eq}
 use Rattle.avp_dict.specs.declared.entries.AttributeLine.{AttributeLine}
 use Rattle.avp_dict.specs.declared.entries.ValueLine.{ValueLine}

@@ -9,7 +9,7 @@ use Rattle.avp_dict.specs.Lines.{lines_of}
 use Rattle.avp_dict.specs.Meanings.{Reading, Context, context_of}
 use Rattle.avp_dict.specs.Readings.{read_lines}
 use Rattle.avp_dict.specs.Settled.{used, skipped_names}
-use Rattle.avp_dict.specs.Steps.{◌>>=◌}
+use Rattle.avp_dict.specs.Refusals.{◌>>=◌}
 use Rattle.avp_dict.specs.Values.{resolve}
 
 -- a block left open, at the line that opened it

@@ -15,6 +15,7 @@ pub mod Printing
 pub mod Quotes
 pub mod ReadingBack
 pub mod Readings
+pub mod Refusals
 pub mod RequestLines
 pub mod Requests
 pub mod Sent
@@ -23,7 +24,6 @@ pub mod Soundness
 pub mod SpelledPairs
 pub mod SpelledValues
 pub mod Spellings
-pub mod Steps
 pub mod Types
 pub mod Values
 pub mod Vendors

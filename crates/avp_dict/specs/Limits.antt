@@ -1,12 +1,12 @@
 -- How many octets a value may have, and which pairs fit a dictionary.
 use Rattle.std.specs.Prelude.{ℕ, ◌-◌, min, Bool, true, false, not, ◌&&◌, nat_le, if◌then◌else◌, length, Option, Some}
 use Rattle.std.specs.Option.{option_map_or}
-use Rattle.avp_lists.specs.declared.attributes.AttrId.{AttrId}
-use Rattle.avp_lists.specs.declared.attributes.AttrId.TheVariants as ids
-use Rattle.avp_lists.specs.declared.attributes.Value.{Value}
-use Rattle.avp_lists.specs.declared.attributes.Value.TheVariants.{Int, Signed, Addr, Ether, Raw}
-use Rattle.avp_lists.specs.declared.attributes.Value.TheVariants as values
-use Rattle.avp_lists.specs.declared.attributes.Pair.{Pair}
+use Rattle.avp_lists.specs.declared.pairs.AttrId.{AttrId}
+use Rattle.avp_lists.specs.declared.pairs.AttrId.TheVariants as ids
+use Rattle.avp_lists.specs.declared.pairs.Value.{Value}
+use Rattle.avp_lists.specs.declared.pairs.Value.TheVariants.{Int, Signed, Addr, Ether, Raw}
+use Rattle.avp_lists.specs.declared.pairs.Value.TheVariants as values
+use Rattle.avp_lists.specs.declared.pairs.Pair.{Pair}
 use Rattle.avp_dict.specs.declared.entries.Format.{Format}
 use Rattle.avp_dict.specs.declared.entries.Kind.{Kind}
 use Rattle.avp_dict.specs.declared.entries.Kind.TheVariants as kinds

@@ -3,10 +3,10 @@ use Rattle.std.specs.Prelude.{ℕ, ◌-◌, Bool, false, not, ◌&&◌, ◌==◌
 use Rattle.std.specs.Option.{option_and_then, option_map, option_map_or, unwrap_or}
 use Rattle.std.specs.Int.{to_be_bytes, cast_signed, cast_unsigned, w8, w16, w32, w64}
 use Rattle.std.specs.Int.Digits.{number_from_digits}
-use Rattle.avp_lists.specs.declared.attributes.AttrId.{AttrId}
-use Rattle.avp_lists.specs.declared.attributes.Value.{Value}
-use Rattle.avp_lists.specs.declared.attributes.Value.TheVariants.{Int, Signed, Addr, Ether, Raw}
-use Rattle.avp_lists.specs.declared.attributes.Value.TheVariants as values
+use Rattle.avp_lists.specs.declared.pairs.AttrId.{AttrId}
+use Rattle.avp_lists.specs.declared.pairs.Value.{Value}
+use Rattle.avp_lists.specs.declared.pairs.Value.TheVariants.{Int, Signed, Addr, Ether, Raw}
+use Rattle.avp_lists.specs.declared.pairs.Value.TheVariants as values
 use Rattle.avp_dict.specs.declared.entries.Kind.{Kind}
 use Rattle.avp_dict.specs.declared.entries.Kind.TheVariants as kinds
 use Rattle.avp_dict.specs.Dictionary.{Dictionary}

@@ -7,7 +7,7 @@ use Rattle.avp_dict.specs.declared.faults.DictFault.{DictFault}
 use Rattle.avp_dict.specs.Meanings.{Meaning, Nothing, Skipped, SkippedAttribute, Value, Reading, Context, context_of}
 use Rattle.avp_dict.specs.Lines.{Line, is_include, file_included, max_depth}
 use Rattle.avp_dict.specs.Words.{words_of, same_name}
-use Rattle.avp_dict.specs.Steps.{◌>>=◌, refused_at}
+use Rattle.avp_dict.specs.Refusals.{◌>>=◌, refused_at}
 use Rattle.avp_dict.specs.AttributeNumbers.{greatest_value}
 use Rattle.avp_dict.specs.Blocks.{is_skipping, block_vendor, begin_vendor, end_vendor, begin_tlv, end_tlv}
 use Rattle.avp_dict.specs.Vendors.{bounded, vendor}

@@ -1,7 +1,7 @@
 -- What holds of every dictionary that was read: a name stands for one thing and has no form of a name by number, and each vendor has one of the formats that exist.
 use Rattle.std.specs.Prelude.{◌≡◌, ℕ, Bool, true, false, not, ◌&&◌, ◌==◌, List, Some}
 use Rattle.std.specs.List.{All}
-use Rattle.avp_lists.specs.declared.attributes.AttrId.{AttrId}
+use Rattle.avp_lists.specs.declared.pairs.AttrId.{AttrId}
 use Rattle.avp_lists.specs.Pairs.{id_eq}
 use Rattle.avp_dict.specs.declared.entries.AttributeLine.{AttributeLine}
 use Rattle.avp_dict.specs.declared.entries.ValueLine.{ValueLine}

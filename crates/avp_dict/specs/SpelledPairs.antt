@@ -1,7 +1,7 @@
 -- What texts spell under the names of a dictionary fits it.
 use Rattle.std.specs.Prelude.{◌≡◌, ℕ, IsTrue, List, Some}
 use Rattle.std.specs.Option.{option_and_then}
-use Rattle.avp_lists.specs.declared.attributes.Pair.{Pair}
+use Rattle.avp_lists.specs.declared.pairs.Pair.{Pair}
 use Rattle.avp_dict.specs.Dictionary.{Dictionary}
 use Rattle.avp_dict.specs.Limits.{fits}
 use Rattle.avp_dict.specs.Names.{named}

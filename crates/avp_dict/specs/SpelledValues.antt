@@ -1,6 +1,6 @@
 -- What texts spell is read back as it was written.
 use Rattle.std.specs.Prelude.{◌≡◌, ℕ, true, List, Ok}
-use Rattle.avp_lists.specs.declared.attributes.Value.{Value}
+use Rattle.avp_lists.specs.declared.pairs.Value.{Value}
 use Rattle.avp_dict.specs.declared.entries.Named.{Named}
 use Rattle.avp_dict.specs.Dictionary.{Dictionary}
 use Rattle.avp_dict.specs.Limits.{is_known}

@@ -2,8 +2,8 @@
 use Rattle.std.specs.Prelude.{codes, ℕ, Bool, true, false, not, ◌&&◌, ◌||◌, ◌==◌, if◌then◌else◌, List, Option, Some, None}
 use Rattle.std.specs.Option.{unwrap_or}
 use Rattle.std.specs.List.{list_any, list_all}
-use Rattle.avp_lists.specs.declared.attributes.AttrId.{AttrId}
-use Rattle.avp_lists.specs.declared.attributes.AttrId.TheVariants as ids
+use Rattle.avp_lists.specs.declared.pairs.AttrId.{AttrId}
+use Rattle.avp_lists.specs.declared.pairs.AttrId.TheVariants as ids
 use Rattle.avp_dict.specs.declared.entries.Kind.{Kind}
 use Rattle.avp_dict.specs.declared.entries.Kind.TheVariants as kinds
 use Rattle.avp_dict.specs.declared.entries.Typing.{Typing}

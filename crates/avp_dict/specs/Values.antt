@@ -2,7 +2,7 @@
 use Rattle.std.specs.Prelude.{ℕ, Bool, true, false, not, ◌&&◌, ◌||◌, ◌==◌, nat_le, if◌then◌else◌, List, [], ◌∷◌, ◌++◌, length, drop, slice_index, Option, Some, None, is_none, is_some, Result, Ok, Err}
 use Rattle.std.specs.Option.{option_and_then}
 use Rattle.std.specs.List.{list_any, list_all}
-use Rattle.avp_lists.specs.declared.attributes.AttrId.{AttrId}
+use Rattle.avp_lists.specs.declared.pairs.AttrId.{AttrId}
 use Rattle.avp_dict.specs.declared.entries.Kind.{Kind}
 use Rattle.avp_dict.specs.declared.entries.Kind.TheVariants.{Byte, Short, Integer, Integer64}
 use Rattle.avp_dict.specs.declared.entries.Note.{Note}
@@ -17,7 +17,7 @@ use Rattle.avp_dict.specs.Dictionary.{Dictionary, id_named, number_named, typing
 use Rattle.avp_dict.specs.Letters.{is_value_name_octet, max_name}
 use Rattle.avp_dict.specs.Meanings.{Meaning, Skipped, SkippedAttribute, Attribute, Value, BeginVendor, BeginTlv, End, Reading}
 use Rattle.avp_dict.specs.Settled.{is_kept}
-use Rattle.avp_dict.specs.Steps.{◌>>=◌, refused_at}
+use Rattle.avp_dict.specs.Refusals.{◌>>=◌, refused_at}
 use Rattle.avp_dict.specs.Words.{digits, is_hexadecimal, same_name}
 
 -- ---- the name of a value

@@ -9,7 +9,7 @@ use Rattle.avp_dict.specs.AttributeNumbers.{greatest_number}
 use Rattle.avp_dict.specs.Meanings.{Meaning, Vendor}
 use Rattle.avp_dict.specs.Words.{same_name, number_of}
 use Rattle.avp_dict.specs.Letters.{is_comma, is_visible, max_name}
-use Rattle.avp_dict.specs.Steps.{◌>>=◌}
+use Rattle.avp_dict.specs.Refusals.{◌>>=◌}
 use Rattle.avp_dict.specs.Dictionary.{vendor_named}
 
 abbrev pub at_most : ℕ → ℕ → Result ℕ DictKind

@@ -2,7 +2,7 @@
 use Rattle.std.proofs.Common.{◌≡◌, ℕ, ◌+◌, ◌<◌, ◌≤◌, true, List, [], ◌∷◌, ◌++◌, length, get_or, map, take, sym, ap, ap₂, ◌∙◌, subst, inl, inr, arith}
 use Rattle.std.proofs.lemmas.Bool.{cases_lt}
 use Rattle.std.proofs.lemmas.List.{get_or-take, get_or_append_left, get_or_push, get_or_past, get_or_default, get_or-map, length-map, length-take-le, length_push, map_push, take-map}
-use Rattle.avp_lists.specs.declared.attributes.Pair.{Pair}
+use Rattle.avp_lists.specs.declared.pairs.Pair.{Pair}
 use Rattle.avp_lists.specs.declared.lists.State.{State}
 use Rattle.avp_lists.specs.declared.lists.List.TheVariants.{Request, Reply, Control}
 use Rattle.avp_lists.specs.declared.slots.Slot.{Slot}

@@ -3,15 +3,15 @@ use Rattle.std.proofs.Common.{◌≡◌, ℕ, zero, suc, ◌+◌, ◌<◌, ◌�
 use Rattle.std.specs.List.{filter, list_any, position_or_len}
 use Rattle.std.proofs.lemmas.Bool.{cases_lt}
 use Rattle.std.proofs.lemmas.List.{get_or_past, get_or_append_left, get_or-map, length-map, take_all, drop_all}
-use Rattle.avp_lists.specs.declared.attributes.AttrId.{AttrId}
-use Rattle.avp_lists.specs.declared.attributes.Pair.{Pair}
+use Rattle.avp_lists.specs.declared.pairs.AttrId.{AttrId}
+use Rattle.avp_lists.specs.declared.pairs.Pair.{Pair}
 use Rattle.avp_lists.specs.declared.edits.Edit.{Edit}
 use Rattle.avp_lists.specs.declared.edits.Op.{Op}
 use Rattle.avp_lists.specs.declared.edits.Op.TheVariants.{AddNew, Replace, Append, Prepend, RemoveEqual, KeepEqual, RemoveAll}
 use Rattle.avp_lists.specs.declared.lists.List.{List as WhichList}
 use Rattle.avp_lists.specs.declared.lists.List.TheVariants.{Request, Reply, Control}
 use Rattle.avp_lists.specs.declared.slots.Slot.{Slot}
-use Rattle.avp_lists.specs.Growth.{adds_one, removes}
+use Rattle.avp_lists.specs.internal.Growth.{adds_one, removes}
 use Rattle.avp_lists.specs.Instances.{has_id, is_other}
 use Rattle.avp_lists.specs.Operators.{agrees, replace, apply}
 use Rattle.avp_lists.specs.Pairs.{pair_eq}

@@ -5,8 +5,8 @@ use Rattle.std.specs.List.{filter, find, list_any}
 use Rattle.std.proofs.lemmas.List.{take-append-drop, drop_more, get_or-reverse, length-map, length-reverse}
 use Rattle.std.proofs.lemmas.List.Folds.{list_any-append}
 use Rattle.std.proofs.lemmas.Option.{slice_get-get_or}
-use Rattle.avp_lists.specs.declared.attributes.AttrId.{AttrId}
-use Rattle.avp_lists.specs.declared.attributes.Pair.{Pair}
+use Rattle.avp_lists.specs.declared.pairs.AttrId.{AttrId}
+use Rattle.avp_lists.specs.declared.pairs.Pair.{Pair}
 use Rattle.avp_lists.specs.declared.lists.List.{List as WhichList}
 use Rattle.avp_lists.specs.declared.slots.End.{End}
 use Rattle.avp_lists.specs.declared.slots.End.TheVariants.{Head, Tail}

@@ -1,6 +1,6 @@
 -- What a move of the marks leaves as it was, and what it makes true.
 use Rattle.std.proofs.Common.{◌≡◌, ℕ, ◌<◌, ◌≤◌, true, List, [], length, get_or, map, sym, ap, ◌∙◌, subst, arith}
-use Rattle.avp_lists.specs.declared.attributes.Pair.{Pair}
+use Rattle.avp_lists.specs.declared.pairs.Pair.{Pair}
 use Rattle.avp_lists.specs.declared.lists.State.{State}
 use Rattle.avp_lists.specs.declared.slots.Slot.{Slot}
 use Rattle.avp_lists.specs.declared.steps.Step.{Step}

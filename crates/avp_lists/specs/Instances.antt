@@ -1,8 +1,8 @@
 -- The instances of an attribute in a list: the pairs with its id, in order.
 use Rattle.std.specs.Prelude.{Bool, not, List, [], ◌∷◌, Option, None, Some, filter}
 use Rattle.std.specs.List.{list_any}
-use Rattle.avp_lists.specs.declared.attributes.AttrId.{AttrId}
-use Rattle.avp_lists.specs.declared.attributes.Pair.{Pair}
+use Rattle.avp_lists.specs.declared.pairs.AttrId.{AttrId}
+use Rattle.avp_lists.specs.declared.pairs.Pair.{Pair}
 use Rattle.avp_lists.specs.Pairs.{id_eq}
 
 -- the pair is an instance of the id

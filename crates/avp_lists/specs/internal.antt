@@ -1,3 +1,4 @@
+pub mod Growth
 pub mod Plans
 pub mod Shown
 pub mod SlotLaws

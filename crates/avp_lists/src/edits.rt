@@ -1,5 +1,5 @@
-use crate::attributes::Pair;
 use crate::lists::List;
+use crate::pairs::Pair;
 use thiserror::Error;
 
 /// What an edit does to a list. The signs are those of unlang(5); what each does to several instances

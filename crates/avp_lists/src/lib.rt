@@ -5,25 +5,25 @@
 //! [`SnapshotStore`] with whole states.
 #![tactic(auto)]
 
-mod attributes;
 mod bytes;
 mod edits;
-mod history;
 mod lists;
 mod operators;
+mod pairs;
 mod planning;
 mod showing;
 mod slot_store;
 mod slots;
 mod snapshots;
 mod steps;
+mod store;
 mod undoing;
 
-pub use attributes::{AttrId, Pair, Value, copy_pair};
 pub use bytes::Octets;
 pub use edits::{Edit, EditFault, Op};
-pub use history::Store;
 pub use lists::{List, MAX_PAIRS, Pairs, State};
+pub use pairs::{AttrId, Pair, Value, copy_pair};
 pub use slot_store::SlotStore;
 pub use snapshots::{ListsRefused, SnapshotStore};
+pub use store::Store;
 pub use undoing::{edit_and_undo, undo_by};

@@ -3,13 +3,13 @@ ghost use Rattle.std.specs.Prelude.{◌≡◌, ◌++◌, ◌<◌, ◌↔◌, IfO
 ghost use Rattle.std.specs.List.{find, position};
 ghost use Rattle.std.specs.Option.{option_copied};
 ghost use Rattle.avp_lists.specs.States.{edited, IsFull, IsLimited};
-ghost use Rattle.avp_lists.specs.Growth.{adds_one};
+ghost use Rattle.avp_lists.specs.internal.Growth.{adds_one};
 ghost use Rattle.avp_lists.specs.Instances.{has_id, has_instance, is_other};
 ghost use Rattle.avp_lists.specs.Operators.{differs, agrees, replace, apply};
 
-use crate::attributes::{AttrId, Pair, copy_pair};
 use crate::edits::{Edit, Op};
 use crate::lists::{List, MAX_PAIRS, Pairs, State, push_copies};
+use crate::pairs::{AttrId, Pair, copy_pair};
 use std::alloc::{AllocError, Global};
 
 // Whether the id has an instance.

@@ -3,13 +3,13 @@ ghost use Rattle.std.specs.Prelude.{◌≡◌, ◌≤◌, ◌<◌, ◌++◌, tru
 ghost use Rattle.std.specs.List.{list_any};
 ghost use Rattle.avp_lists.specs.internal.Slots.{slot_at, PairsWithin};
 ghost use Rattle.avp_lists.specs.internal.Shown.{shows_id, ahead_at, shown_pairs};
-ghost use Rattle.avp_lists.specs.Growth.{adds_one, removes};
+ghost use Rattle.avp_lists.specs.internal.Growth.{adds_one, removes};
 ghost use Rattle.avp_lists.specs.internal.Plans.{enters, end_for, goes, taken, names_in, IsPlan};
 ghost use Rattle.avp_lists.specs.declared.edits.Op.TheVariants.{AddNew, Replace};
 
-use crate::attributes::Pair;
 use crate::edits::{Edit, Op};
 use crate::lists::List;
+use crate::pairs::Pair;
 use crate::showing::{first_slot, shows};
 use crate::slots::{End, Mark, Slot, Swap};
 use std::alloc::{AllocError, Global};

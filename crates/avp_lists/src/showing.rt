@@ -7,8 +7,8 @@ ghost use Rattle.avp_lists.specs.internal.Slots.{slot_at, PairsWithin};
 ghost use Rattle.avp_lists.specs.declared.slots.End.TheVariants.{Head, Tail};
 ghost use Rattle.avp_lists.specs.internal.Shown.{shows, shows_at, shows_id, shows_id_at, ahead_at, shown_pairs_at, shown_pairs};
 
-use crate::attributes::{AttrId, Pair, copy_pair};
 use crate::lists::List;
+use crate::pairs::{AttrId, Pair, copy_pair};
 use crate::slots::{End, Slot, entered_at, same_list};
 use std::alloc::{AllocError, Global};
 

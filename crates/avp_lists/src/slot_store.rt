@@ -2,22 +2,22 @@
 ghost use Rattle.std.specs.Prelude.{◌≡◌, ◌↔◌, IsTrue, not, ◌+◌, ◌-◌, ◌≤◌, ◌<◌, ◌++◌, [], OnOk, OnErr, IfOk, IfErr, length, take, min, vec_capacity};
 ghost use Rattle.std.specs.Option.{option_to_list};
 ghost use Rattle.avp_lists.specs.Instances.{has_instance};
-ghost use Rattle.avp_lists.specs.Growth.{adds_one};
+ghost use Rattle.avp_lists.specs.internal.Growth.{adds_one};
 ghost use Rattle.avp_lists.specs.History.{starting, present, after_edit};
 ghost use Rattle.avp_lists.specs.States.{list_of, edited, IsFull, IsLimited};
 ghost use Rattle.avp_lists.specs.internal.Slots.{NamesWithin, SwapWithin};
 ghost use Rattle.avp_lists.specs.internal.Steps.{slots_at, max_kept, BacksBelow, AllCounted, CountsWithin, CountsGrow, AllHoused, StatesLimited};
 ghost use Rattle.avp_lists.specs.internal.Plans.{pooled, widened, planned, fresh};
 
-use crate::attributes::{AttrId, Pair};
 use crate::edits::{Edit, EditFault, Op};
-use crate::history::Store;
 use crate::lists::{List, MAX_PAIRS};
+use crate::pairs::{AttrId, Pair};
 use crate::planning::{Plan, plan_edit};
 use crate::showing::{count_shown, first_shown, first_slot, pair_shown, shown_pairs};
 use crate::slots::{End, Mark, Slot, forget_dark, turn_slots};
 use crate::snapshots::ListsRefused;
 use crate::steps::{Change, Step, cut_and_push, make_room, make_room_beside, move_to, node};
+use crate::store::Store;
 use std::alloc::{AllocError, Global};
 
 #[cfg(test)]

@@ -3,11 +3,11 @@ ghost use Rattle.avp_lists.specs.History.{starting};
 ghost use Rattle.avp_lists.specs.States.{empty_state, IsLimited};
 ghost use Rattle.avp_lists.specs.Snapshots.{snapshot_at, state_of, states_of, own_state, is_whole, NamesEarlier, NamesBelow, AllLimited};
 
-use crate::attributes::{AttrId, Pair};
 use crate::edits::{Edit, EditFault};
-use crate::history::Store;
 use crate::lists::{List, MAX_PAIRS, Pairs, State, copies};
 use crate::operators::{edited, find_instance, is_full};
+use crate::pairs::{AttrId, Pair};
+use crate::store::Store;
 use std::alloc::{AllocError, Global};
 
 // A state of the history.

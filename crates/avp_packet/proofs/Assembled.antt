@@ -4,19 +4,19 @@ use Rattle.std.proofs.lemmas.Grind.{common_steps}
 use Rattle.std.proofs.lemmas.List.{length-append, take_at, drop_at, take_all}
 use Rattle.md5.specs.Md5.{md5}
 use Rattle.md5.proofs.StandardFacts.{length-md5}
-use Rattle.avp_lists.specs.declared.attributes.Pair.{Pair}
+use Rattle.avp_lists.specs.declared.pairs.Pair.{Pair}
 use Rattle.avp_dict.specs.Dictionary.{Dictionary}
 use Rattle.std.specs.Int.{to_be_bytes, w16}
 use Rattle.std.specs.List.{flat_map}
 use Rattle.std.specs.Str.{bytes_eq}
-use Rattle.avp_lists.specs.declared.attributes.Value.TheVariants.{Text}
+use Rattle.avp_lists.specs.declared.pairs.Value.TheVariants.{Text}
 use Rattle.avp_lists.proofs.Equality.{value_eq-same}
 use Rattle.avp_packet.specs.AttributeOctets.{part}
 use Rattle.avp_packet.specs.Hmac.{hmac}
 use Rattle.avp_packet.specs.Packets.{accounting_request, attributes_of, attributes_signed, authenticator_of, digest_over, is_reply, length_of, packet, reply, reply_content, request, request_authenticator, request_content, zeros}
 use Rattle.avp_packet.specs.Signed.{blanked, is_signed, signatures}
 use Rattle.avp_packet.specs.Splitting.{left, part_octets, parts}
-use Rattle.avp_packet.proofs.Rooms.{by_test}
+use Rattle.avp_packet.proofs.AttributeRoom.{by_test}
 
 pub length-packet : (code id : ℕ) (authenticator attributes : List ℕ) → length authenticator ≡ 16 → length (packet code id authenticator attributes) ≡ 20 + length attributes
 unfolding packet

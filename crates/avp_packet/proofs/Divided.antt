@@ -3,8 +3,8 @@ use Rattle.std.proofs.Common.{◌≡◌, ℕ, suc, ◌+◌, ◌-◌, ◌<◌, �
 use Rattle.std.specs.List.{All, after_first, before_first, filter, list_any, position_or_len}
 use Rattle.std.proofs.lemmas.List.{drop-drop, drop_all, length-drop, take_all}
 use Rattle.std.proofs.lemmas.List.Elements.{All-drop, All-take}
-use Rattle.avp_lists.specs.declared.attributes.Pair.{Pair}
-use Rattle.avp_packet.proofs.Rooms.{by_test}
+use Rattle.avp_lists.specs.declared.pairs.Pair.{Pair}
+use Rattle.avp_packet.proofs.AttributeRoom.{by_test}
 
 add-one-left : (n : ℕ) → 1 + n ≡ suc n
 add-one-left n = omega arith

@@ -1,6 +1,6 @@
 -- What attributes mean, one group after the other.
 use Rattle.std.proofs.Common.{◌≡◌, ◌∙◌, ℕ, zero, suc, List, [], ◌∷◌, ◌++◌, drop, refl, ap, append_assoc}
-use Rattle.avp_lists.specs.declared.attributes.Pair.{Pair}
+use Rattle.avp_lists.specs.declared.pairs.Pair.{Pair}
 use Rattle.avp_dict.specs.Dictionary.{Dictionary}
 use Rattle.avp_packet.specs.Meanings.{first_pairs, attribute_pairs, meaning_behind, others}
 use Rattle.avp_packet.specs.Splitting.{Part, parts, part_octets}

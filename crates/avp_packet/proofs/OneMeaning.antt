@@ -2,8 +2,8 @@
 use Rattle.std.proofs.Common.{◌≡◌, ◌∙◌, ℕ, zero, suc, ◌-◌, ◌<◌, Bool, true, false, ◌&&◌, ◌||◌, ◌==◌, nat_le, List, [], ◌∷◌, ◌++◌, length, drop, map, Option, Some, None, Result, Ok, Err, refl, sym, ap, subst, arith, inl, inr}
 use Rattle.std.specs.Prelude.{IfOk}
 use Rattle.std.proofs.lemmas.Grind.{common_steps}
-use Rattle.avp_lists.specs.declared.attributes.AttrId.TheVariants.{Plain, Extended}
-use Rattle.avp_lists.specs.declared.attributes.Pair.{Pair}
+use Rattle.avp_lists.specs.declared.pairs.AttrId.TheVariants.{Plain, Extended}
+use Rattle.avp_lists.specs.declared.pairs.Pair.{Pair}
 use Rattle.avp_dict.specs.Dictionary.{Dictionary}
 use Rattle.avp_dict.specs.Sent.{is_container}
 use Rattle.avp_packet.specs.Meanings.{Run, Sub, extended_pair, extended_type, first_run, attribute_pairs, pair_meant, raw_pair, sub_pair, vendor_of, vendor_subs}
@@ -11,8 +11,8 @@ use Rattle.avp_packet.specs.Means.{IsExtended, IsLong, IsUnread, Means}
 use Rattle.avp_packet.specs.Means as cases
 use Rattle.avp_packet.specs.Splitting.{Part}
 use Rattle.avp_packet.proofs.Means.{attribute_pairs-cons, attribute_pairs-nil}
-use Rattle.avp_packet.proofs.Rooms.{by_test}
-use Rattle.avp_packet.proofs.Runs.{run_rest}
+use Rattle.avp_packet.proofs.AttributeRoom.{by_test}
+use Rattle.avp_packet.proofs.PieceRuns.{run_rest}
 
 -- what holds of a value that was returned, by what else holds of it
 pub ok_by : {X E : Type 0} (P Q : X → Type 0) (r : Result X E) → ((x : X) → P x → Q x) → IfOk r P → IfOk r Q

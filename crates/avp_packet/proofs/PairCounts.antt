@@ -4,8 +4,8 @@ use Rattle.std.specs.Prelude.{IfSome}
 use Rattle.std.specs.List.{flat_map}
 use Rattle.std.specs.Option.{option_and_then}
 use Rattle.std.proofs.lemmas.List.{length-append, length-drop, length-map}
-use Rattle.avp_lists.specs.declared.attributes.AttrId.TheVariants.{Plain}
-use Rattle.avp_lists.specs.declared.attributes.Pair.{Pair}
+use Rattle.avp_lists.specs.declared.pairs.AttrId.TheVariants.{Plain}
+use Rattle.avp_lists.specs.declared.pairs.Pair.{Pair}
 use Rattle.avp_dict.specs.declared.entries.Format.{Format}
 use Rattle.avp_dict.specs.Dictionary.{Dictionary}
 use Rattle.avp_packet.specs.Meanings.{Sub, are_subs, begins_sub, extended_pair, first_pairs, first_run, first_sub, long_pair, attribute_pairs, meaning_behind, others, pair_meant, sub_length, sub_pair, subs, subs_behind, subs_by, vendor_of, vendor_pairs, vendor_subs}

@@ -9,10 +9,10 @@ use Rattle.std.specs.Option.{option_and_then}
 use Rattle.std.proofs.lemmas.Bool.{false≢true}
 use Rattle.std.proofs.lemmas.Grind.{common_steps}
 use Rattle.std.proofs.lemmas.List.{drop_all, drop_at, length-append, length-drop, length-take-le, take_at, take_all, take-append-drop}
-use Rattle.avp_lists.specs.declared.attributes.AttrId.{AttrId}
-use Rattle.avp_lists.specs.declared.attributes.AttrId.TheVariants.{Plain, Vendor, Extended}
-use Rattle.avp_lists.specs.declared.attributes.Pair.{Pair}
-use Rattle.avp_lists.specs.declared.attributes.Value.{Value}
+use Rattle.avp_lists.specs.declared.pairs.AttrId.{AttrId}
+use Rattle.avp_lists.specs.declared.pairs.AttrId.TheVariants.{Plain, Vendor, Extended}
+use Rattle.avp_lists.specs.declared.pairs.Pair.{Pair}
+use Rattle.avp_lists.specs.declared.pairs.Value.{Value}
 use Rattle.avp_dict.specs.declared.entries.Format.{Format}
 use Rattle.avp_dict.specs.Dictionary.{Dictionary}
 use Rattle.avp_dict.specs.declared.entries.VendorFormat.{VendorFormat}
@@ -30,11 +30,11 @@ use Rattle.avp_packet.specs.VendorFormats.{HasKnownFormats, known_format, usable
 use Rattle.avp_packet.specs.internal.Holding.{CanHold, FitsFormat}
 use Rattle.avp_packet.specs.internal.Ranges.{IsVendorInRange}
 use Rattle.avp_packet.proofs.Means.{attribute_pairs-cons, attribute_pairs-nil}
-use Rattle.avp_packet.proofs.Rooms.{and_left, and_right, by_test, fits_known, format_of_size, sent_by, sent_held}
-use Rattle.avp_packet.proofs.Runs.{run-some, run_rest}
+use Rattle.avp_packet.proofs.AttributeRoom.{and_left, and_right, by_test, fits_known, format_of_size, sent_by, sent_held}
+use Rattle.avp_packet.proofs.PieceRuns.{run-some, run_rest}
 use Rattle.avp_packet.proofs.Splits.{left-all, left-none, parts-all, parts-none}
-use Rattle.avp_packet.proofs.Subs.{are_subs_more, subs_more}
-use Rattle.avp_packet.proofs.Values.{value_back}
+use Rattle.avp_packet.proofs.VendorAttributes.{are_subs_more, subs_more}
+use Rattle.avp_packet.proofs.ValuesReadBack.{value_back}
 use Rattle.avp_packet.proofs.Written.{length-bytes_high_first, length-vendor_value}
 
 -- ---- numbers

@@ -7,16 +7,16 @@ use Rattle.std.proofs.lemmas.List.{length-append, map-append}
 use Rattle.std.proofs.lemmas.List.Elements.{All-filter, All-from_recursion, filter-append, recursion_from_All}
 use Rattle.avp_lists.specs.Instances.{is_other}
 use Rattle.avp_lists.specs.Pairs.{id_eq}
-use Rattle.avp_lists.specs.declared.attributes.AttrId.{AttrId}
-use Rattle.avp_lists.specs.declared.attributes.AttrId.TheVariants.{Plain, Vendor, Extended}
-use Rattle.avp_lists.specs.declared.attributes.Pair.{Pair}
+use Rattle.avp_lists.specs.declared.pairs.AttrId.{AttrId}
+use Rattle.avp_lists.specs.declared.pairs.AttrId.TheVariants.{Plain, Vendor, Extended}
+use Rattle.avp_lists.specs.declared.pairs.Pair.{Pair}
 use Rattle.avp_dict.specs.declared.entries.Format.{Format}
 use Rattle.avp_dict.specs.Dictionary.{Dictionary}
 use Rattle.avp_dict.specs.Limits.{fits, is_known}
 use Rattle.avp_dict.specs.Octets.{is_hidden, octets}
 use Rattle.avp_dict.specs.Sent.{is_clean, is_clean_pair, is_sent, sent}
 use Rattle.avp_dict.specs.Soundness.{IsSound}
-use Rattle.avp_packet.specs.declared.dividing.Division.{Division}
+use Rattle.avp_packet.specs.declared.encoding.dividing.Division.{Division}
 use Rattle.avp_packet.specs.AttributeOctets.{attribute_octets, fragments, is_long, part, parts_holding, parts_of, parts_of_pair, sent_octets, vendor_part}
 use Rattle.avp_packet.specs.Hmac.{hmac}
 use Rattle.avp_packet.specs.Meanings.{attribute_pairs, pair_meant, raw_pair}
@@ -28,7 +28,7 @@ use Rattle.avp_packet.specs.VendorFormats.{HasKnownFormats, known_format}
 use Rattle.avp_packet.specs.internal.Filling.{IsDivided, KeepsAll, divided_octets, divided_signed, signature_if}
 use Rattle.avp_packet.specs.internal.Ranges.{IsVendorInRange}
 use Rattle.avp_packet.proofs.ReadBack.{clean_read, nothing_read, plain_read}
-use Rattle.avp_packet.proofs.Rooms.{and_left, and_right, by_test, fits_known}
+use Rattle.avp_packet.proofs.AttributeRoom.{and_left, and_right, by_test, fits_known}
 use Rattle.avp_packet.proofs.Signatures.{unblanked}
 use Rattle.avp_packet.proofs.Splits.{left-all, left-none, parts-all, parts-none}
 

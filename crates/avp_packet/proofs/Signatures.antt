@@ -9,7 +9,7 @@ use Rattle.avp_packet.specs.AttributeOctets.{part}
 use Rattle.avp_packet.specs.Packets.{zeros}
 use Rattle.avp_packet.specs.Signed.{blanked, is_only, is_signature, signatures}
 use Rattle.avp_packet.specs.Splitting.{Part, left, part_octets, parts}
-use Rattle.avp_packet.proofs.Rooms.{by_test}
+use Rattle.avp_packet.proofs.AttributeRoom.{by_test}
 use Rattle.avp_packet.proofs.Splits.{is_split, left-all, left-none, left-octets, parts-all, parts-none, parts-octets}
 
 -- whole attributes' octets are all that there are

@@ -8,11 +8,11 @@ use Rattle.std.proofs.lemmas.Grind.{common_steps}
 use Rattle.std.specs.Prelude.{nat_lt}
 use Rattle.avp_packet.specs.internal.Ranges.{IsVendorInRange}
 use Rattle.std.proofs.lemmas.Grind.{flat_map-append}
-use Rattle.avp_lists.specs.declared.attributes.Pair.{Pair}
+use Rattle.avp_lists.specs.declared.pairs.Pair.{Pair}
 use Rattle.avp_lists.specs.Instances.{is_other}
 use Rattle.avp_dict.specs.Dictionary.{Dictionary}
 use Rattle.avp_dict.specs.Sent.{is_sent, sent}
-use Rattle.avp_packet.proofs.Rooms.{by_test}
+use Rattle.avp_packet.proofs.AttributeRoom.{by_test}
 use Rattle.avp_dict.specs.declared.entries.Format.{Format}
 use Rattle.avp_packet.specs.AttributeOctets.{attribute_octets, fragments, part, parts_of, parts_of_pair, vendor_part, vendor_value}
 use Rattle.avp_packet.specs.Sending.{message_authenticator_id}

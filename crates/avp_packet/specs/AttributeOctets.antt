@@ -3,9 +3,9 @@ use Rattle.std.specs.Prelude.{ℕ, zero, suc, ◌+◌, ◌-◌, ◌/◌, Bool, �
 use Rattle.std.specs.Int.{bytes_high_first}
 use Rattle.std.specs.List.{flat_map}
 use Rattle.std.specs.Option.{option_map_or}
-use Rattle.avp_lists.specs.declared.attributes.AttrId.{AttrId}
-use Rattle.avp_lists.specs.declared.attributes.AttrId.TheVariants.{Plain, Vendor, Extended}
-use Rattle.avp_lists.specs.declared.attributes.Pair.{Pair}
+use Rattle.avp_lists.specs.declared.pairs.AttrId.{AttrId}
+use Rattle.avp_lists.specs.declared.pairs.AttrId.TheVariants.{Plain, Vendor, Extended}
+use Rattle.avp_lists.specs.declared.pairs.Pair.{Pair}
 use Rattle.avp_dict.specs.declared.entries.Format.{Format}
 use Rattle.avp_dict.specs.Dictionary.{Dictionary}
 use Rattle.avp_dict.specs.Octets.{is_hidden, octets}

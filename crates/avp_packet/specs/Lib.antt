@@ -1,11 +1,11 @@
 pub mod AttributeOctets
+pub mod CanonicalOrContainer
 pub mod Decoded
 pub mod Hiding
 pub mod Hmac
 pub mod Meanings
 pub mod Means
 pub mod Outcomes
-pub mod Own
 pub mod Packets
 pub mod Sending
 pub mod Signed

@@ -1,7 +1,7 @@
 -- Which pairs a list of attributes means, in six cases (RFC 2865, section 5.26; RFC 6929, sections 2.1 and 2.2).
 use Rattle.std.specs.Prelude.{◌≡◌, ◌⊎◌, ℕ, ◌<◌, ◌≤◌, false, List, [], ◌∷◌, ◌++◌, length, map, Some, None}
-use Rattle.avp_lists.specs.declared.attributes.AttrId.TheVariants.{Plain, Extended}
-use Rattle.avp_lists.specs.declared.attributes.Pair.{Pair}
+use Rattle.avp_lists.specs.declared.pairs.AttrId.TheVariants.{Plain, Extended}
+use Rattle.avp_lists.specs.declared.pairs.Pair.{Pair}
 use Rattle.avp_dict.specs.Dictionary.{Dictionary}
 use Rattle.avp_dict.specs.Sent.{is_container}
 use Rattle.avp_packet.specs.Meanings.{Run, Sub, extended_type, first_run, pair_meant, raw_pair, sub_pair, vendor_of, vendor_subs}

@@ -5,8 +5,8 @@ use Rattle.std.specs.Int.Digits.{number_from_digits}
 use Rattle.std.specs.List.{flat_map}
 use Rattle.std.specs.Str.{bytes_eq}
 use Rattle.md5.specs.Md5.{md5}
-use Rattle.avp_lists.specs.declared.attributes.AttrId.TheVariants.{Plain}
-use Rattle.avp_lists.specs.declared.attributes.Pair.{Pair}
+use Rattle.avp_lists.specs.declared.pairs.AttrId.TheVariants.{Plain}
+use Rattle.avp_lists.specs.declared.pairs.Pair.{Pair}
 use Rattle.avp_dict.specs.Dictionary.{Dictionary}
 use Rattle.avp_packet.specs.AttributeOctets.{part, parts_of_pair}
 use Rattle.avp_packet.specs.Hmac.{hmac}

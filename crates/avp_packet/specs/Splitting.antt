@@ -1,7 +1,7 @@
 -- The whole attributes that octets begin with, and what is left of the octets (RFC 2865, section 5).
 use Rattle.std.specs.Prelude.{◌≡◌, ℕ, zero, suc, ◌+◌, ◌-◌, Bool, false, ◌&&◌, nat_le, if◌then◌else◌, List, [], ◌∷◌, ◌++◌, length, take, Result, Ok, Err}
 use Rattle.std.specs.List.{flat_map}
-use Rattle.avp_packet.specs.declared.splitting.BadLength.{BadLength}
+use Rattle.avp_packet.specs.declared.attribute.splitting.BadLength.{BadLength}
 
 -- an attribute, wherever it is
 pub record Part : Type 0 where

@@ -4,33 +4,24 @@
 //! [`check_message`] look at their digests, by RFC 2865, RFC 2866, RFC 3579 and RFC 6929.
 #![tactic(auto)]
 
+mod attribute;
 mod authenticators;
 mod decoding;
-mod dividing;
 mod encoding;
 mod faults;
-mod formats;
-mod fragments;
 mod hiding;
 mod hmac;
 mod packets;
-mod pairs;
-mod reading;
-mod sending;
 mod signing;
-mod splitting;
-mod subattributes;
-mod walking;
-mod writing;
 
+pub use attribute::splitting::{Attribute, Attributes, BadLength};
+pub use attribute::walking::attributes;
 pub use authenticators::{MAX_PACKET_OCTETS, check_reply};
-pub use decoding::decode;
-pub use encoding::{encode_reply, encode_request, encoded_authenticator};
+pub use decoding::requests::decode;
+pub use encoding::packets::{encode_reply, encode_request, encoded_authenticator};
 pub use faults::{EncodeFault, HideFault, PacketFault};
 pub use hiding::{hide, unhide};
 pub use packets::{
     ACCESS_ACCEPT, ACCESS_REJECT, ACCESS_REQUEST, ACCOUNTING_REQUEST, ACCOUNTING_RESPONSE, Packet,
 };
 pub use signing::check_message;
-pub use splitting::{Attribute, Attributes, BadLength};
-pub use walking::attributes;

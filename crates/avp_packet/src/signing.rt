@@ -7,12 +7,12 @@ ghost use Rattle.avp_packet.specs.Hmac.{hmac};
 ghost use Rattle.avp_packet.specs.Signed.{blanked, is_only, is_signature, is_signed, signatures};
 ghost use Rattle.avp_packet.specs.Splitting.{left, part_octets, parts};
 
+use crate::attribute::splitting::first_attribute;
+use crate::attribute::walking::count_attributes;
 use crate::authenticators::{
     AUTHENTICATOR_PLACE, PACKET_HEAD_OCTETS, are_equal, attributes_in, is_packet_length, length_of,
 };
 use crate::hmac::signature_between;
-use crate::splitting::first_attribute;
-use crate::walking::count_attributes;
 
 /// The type of a Message-Authenticator.
 pub(crate) const MESSAGE_AUTHENTICATOR: u8 = 80;

@@ -6,7 +6,7 @@ use Rattle.avp_lists.specs.History.{History, continued, present, state_at}
 use Rattle.avp_lists.specs.Instances.{has_id, has_instance, is_other}
 use Rattle.avp_lists.specs.Operators.{agrees, apply, differs}
 use Rattle.avp_lists.specs.States.{IsFull, edited, edited_list, empty_state, list_of, max_pairs, with_list}
-use Rattle.avp_lists.specs.declared.attributes.Pair.{Pair}
+use Rattle.avp_lists.specs.declared.pairs.Pair.{Pair}
 use Rattle.avp_lists.specs.declared.edits.Edit.{Edit}
 use Rattle.avp_lists.specs.declared.edits.Op.{Op}
 use Rattle.avp_lists.specs.declared.edits.Op.TheVariants.{AddNew, Append, KeepEqual, Prepend, RemoveAll, RemoveEqual, Replace}
@@ -17,7 +17,7 @@ use Rattle.avp_dict.specs.Dictionary.{Dictionary}
 use Rattle.avp_dict.specs.Limits.{fits}
 use Rattle.avp_unlang.specs.Meaning.{Edited, Refused, edit_of, line_result, reason, result_from}
 use Rattle.avp_unlang.specs.Resolutions.{StateFits, line_suits, resolution}
-use Rattle.avp_unlang.specs.declared.resolving.Unresolved.{Unresolved}
+use Rattle.avp_unlang.specs.declared.meaning.resolving.Unresolved.{Unresolved}
 use Rattle.avp_unlang.specs.declared.tree.Line.{Line}
 use Rattle.std.proofs.lemmas.Bool.{le-leb, lt-leb}
 use Rattle.avp_step.proofs.Steppings.{added_present}
@@ -30,8 +30,8 @@ use Rattle.avp_unlang.specs.Truth.{comparable}
 use Rattle.avp_unlang.specs.declared.tree.Branch.{Branch, out-Branch}
 use Rattle.avp_unlang.specs.declared.tree.Statement.{Statement}
 use Rattle.avp_unlang.proofs.SpelledSuits.{suits_Branch}
-use Rattle.avp_step.proofs.Opens.{and_left, and_right, put_stays}
-use Rattle.avp_step.proofs.Rests.{and_assoc, and_true, frames_suit_push}
+use Rattle.avp_step.proofs.OpenedFrames.{and_left, and_right, put_stays}
+use Rattle.avp_step.proofs.StepLaws.{and_assoc, and_true, frames_suit_push}
 use Rattle.avp_step.specs.internal.Frames.{StaysSuited, frame_suits, frames_suit}
 use Rattle.avp_step.specs.declared.frames.Frame.{Frame}
 use Rattle.avp_step.specs.declared.frames.Frame.TheVariants.{Statements, Lines, End}

@@ -1,9 +1,9 @@
-pub mod Ends
 pub mod Equations
-pub mod Sizes
-pub mod Rests
-pub mod Opens
-pub mod Steppings
 pub mod Fitting
-pub mod Holding
+pub mod HeldMoves
+pub mod LastSteps
+pub mod OpenedFrames
+pub mod StepLaws
+pub mod Steppings
+pub mod TraceSizes
 pub mod Walks

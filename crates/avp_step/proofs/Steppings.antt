@@ -26,7 +26,7 @@ use Rattle.avp_step.specs.declared.frames.TheConstants.{MAX_FRAMES}
 use Rattle.avp_step.specs.internal.Stepping.{standing, entry_of, Names, IsStep, IsOver, IsRefused, HasRoom, IsLineDone}
 use Rattle.avp_step.specs.Walk.{IsLineLabel}
 use Rattle.avp_unlang.specs.Truth.{truth}
-use Rattle.avp_step.proofs.Rests.{then_cong, then_cong_right, then_assoc, rest_push, goes_on, Sit_push, Sit_later}
+use Rattle.avp_step.proofs.StepLaws.{then_cong, then_cong_right, then_assoc, rest_push, goes_on, Sit_push, Sit_later}
 use Rattle.avp_dict.specs.Dictionary.{Dictionary}
 
 pub added_present : (old new : History) (s : State) → old.place < length old.states → new ≡ continued s old → present new ≡ s

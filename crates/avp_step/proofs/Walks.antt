@@ -11,8 +11,8 @@ use Rattle.avp_step.specs.Trace.{start, trace_of}
 use Rattle.avp_step.specs.Walk.{Walk, entry_at, MoveMay, MovesMay}
 use Rattle.avp_step.specs.declared.labels.Move.{Move}
 use Rattle.avp_step.specs.internal.Held.{nowhere}
-use Rattle.avp_step.proofs.Ends.{trace_end}
-use Rattle.avp_step.proofs.Holding.{end_of_last}
+use Rattle.avp_step.proofs.LastSteps.{trace_end}
+use Rattle.avp_step.proofs.HeldMoves.{end_of_last}
 
 -- one more move
 pub moves_push : (w u v : Walk) (ms : List Move) (m : Move) → MovesMay w ms u → MoveMay u m v → MovesMay w (ms ++ m ∷ []) v

@@ -3,10 +3,10 @@ use Rattle.std.proofs.Common.{◌≡◌, ℕ, Bool, true, false, ◌&&◌, cond,
 use Rattle.std.proofs.lemmas.Bool.{and_parts}
 use Rattle.avp_lists.specs.Instances.{first_instance}
 use Rattle.avp_lists.specs.States.{list_of}
-use Rattle.avp_lists.specs.declared.attributes.AttrId.{AttrId}
-use Rattle.avp_lists.specs.declared.attributes.Pair.{Pair}
-use Rattle.avp_lists.specs.declared.attributes.Value.{Value}
-use Rattle.avp_lists.specs.declared.attributes.Value.TheVariants as values
+use Rattle.avp_lists.specs.declared.pairs.AttrId.{AttrId}
+use Rattle.avp_lists.specs.declared.pairs.Pair.{Pair}
+use Rattle.avp_lists.specs.declared.pairs.Value.{Value}
+use Rattle.avp_lists.specs.declared.pairs.Value.TheVariants as values
 use Rattle.avp_lists.specs.declared.lists.List.{List as Name}
 use Rattle.avp_lists.specs.declared.lists.State.{State}
 use Rattle.avp_dict.specs.Limits.{fits, is_known, is_typed, is_within}
@@ -25,14 +25,14 @@ use Rattle.avp_unlang.specs.Lines.{LineIs, line_of}
 use Rattle.avp_unlang.specs.Resolutions.{given, instance_value, pair_of, paired, parts_text, read_by_kind, resolution, source_value}
 use Rattle.avp_unlang.specs.Sources.{SourceBy, is_removal, literal}
 use Rattle.avp_unlang.specs.Tokens.{next_token}
-use Rattle.avp_unlang.specs.declared.resolving.Unresolved.{Unresolved}
+use Rattle.avp_unlang.specs.declared.meaning.resolving.Unresolved.{Unresolved}
 use Rattle.avp_unlang.specs.declared.tree.Line.{Line}
 use Rattle.avp_unlang.specs.declared.tree.Part.{Part}
 use Rattle.avp_unlang.specs.declared.tree.Source.{Source}
 use Rattle.avp_unlang.specs.declared.tree.Source.TheVariants as source
 use Rattle.avp_unlang.proofs.Determined.{some_is}
 use Rattle.avp_unlang.proofs.KeptReplies.{Adds}
-use Rattle.avp_unlang.proofs.Spelled.{Holds, literal_is, value_holds}
+use Rattle.avp_unlang.proofs.SpelledParts.{Holds, literal_is, value_holds}
 
 ok_is : {A E : Type 0} (x y : A) → (let made : Result A E = Ok x in made ≡ Ok y) → x ≡ y
 ok_is x y e = cc

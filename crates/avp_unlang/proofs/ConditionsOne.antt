@@ -8,9 +8,9 @@ use Rattle.avp_dict.specs.declared.value.quotes.QuoteMark.TheVariants.{Double, S
 use Rattle.avp_dict.specs.Quotes.{single_quoted_octets}
 use Rattle.avp_unlang.specs.declared.codes.Code.{Code}
 use Rattle.avp_unlang.specs.declared.faults.PolicyFault.{PolicyFault}
-use Rattle.avp_unlang.specs.declared.tokens.Sign.TheVariants as sign
-use Rattle.avp_unlang.specs.declared.tokens.Token.{Token}
-use Rattle.avp_unlang.specs.declared.tokens.Token.TheVariants.{Operator, Word, Quoted}
+use Rattle.avp_unlang.specs.declared.text.tokens.Sign.TheVariants as sign
+use Rattle.avp_unlang.specs.declared.text.tokens.Token.{Token}
+use Rattle.avp_unlang.specs.declared.text.tokens.Token.TheVariants.{Operator, Word, Quoted}
 use Rattle.avp_unlang.specs.declared.tree.Comparand.TheVariants.{Literal, Instance}
 use Rattle.avp_unlang.specs.declared.tree.Cond.{Cond}
 use Rattle.avp_unlang.specs.declared.tree.Cond.TheVariants.{Not, Last, Present, Compare}
@@ -20,7 +20,7 @@ use Rattle.avp_unlang.specs.Forms.{Form, After, Chain, Gives, Refuses, Reads}
 use Rattle.avp_unlang.specs.Places.{Place}
 use Rattle.avp_unlang.specs.References.{AlikeIs, ReadableIs}
 use Rattle.avp_unlang.specs.Sources.{literal}
-use Rattle.avp_unlang.specs.Steps.{Follows}
+use Rattle.avp_unlang.specs.Between.{Follows}
 use Rattle.avp_unlang.specs.Tokens.{next_token}
 use Rattle.avp_unlang.specs.Words.{code_named}
 use Rattle.avp_unlang.proofs.Chains.{chain_one}

@@ -6,7 +6,7 @@ use Rattle.std.proofs.lemmas.List.Elements.{All-append, All-cons, All-drop, All-
 use Rattle.avp_lists.specs.Instances.{has_id, has_instance, is_other}
 use Rattle.avp_lists.specs.Operators.{agrees, apply, differs}
 use Rattle.avp_lists.specs.States.{edited, edited_list, max_pairs}
-use Rattle.avp_lists.specs.declared.attributes.Pair.{Pair}
+use Rattle.avp_lists.specs.declared.pairs.Pair.{Pair}
 use Rattle.avp_lists.specs.declared.edits.Op.{Op}
 use Rattle.avp_lists.specs.declared.edits.Op.TheVariants.{AddNew, Append, KeepEqual, Prepend, RemoveAll, RemoveEqual, Replace}
 use Rattle.avp_lists.specs.declared.lists.List.{List as Name}
@@ -21,14 +21,14 @@ use Rattle.avp_unlang.specs.Policies.{SpellsPolicy}
 use Rattle.avp_unlang.specs.Resolutions.{resolution}
 use Rattle.avp_unlang.specs.Sources.{is_removal}
 use Rattle.avp_unlang.specs.Statements.{BlockIs, BranchIs, Nested, Otherwise, StatementFrom, begins_word, branch_of, keyword_in, list_at}
-use Rattle.avp_unlang.specs.Steps.{Follows}
+use Rattle.avp_unlang.specs.Between.{Follows}
 use Rattle.avp_unlang.specs.Tokens.{next_token}
 use Rattle.avp_unlang.specs.Truth.{truth}
 use Rattle.avp_unlang.specs.declared.codes.Code.{Code}
-use Rattle.avp_unlang.specs.declared.resolving.Unresolved.{Unresolved}
-use Rattle.avp_unlang.specs.declared.statements.Keyword.{Keyword}
-use Rattle.avp_unlang.specs.declared.statements.Keyword.TheVariants as keyword
-use Rattle.avp_unlang.specs.declared.tokens.Token.TheVariants as token
+use Rattle.avp_unlang.specs.declared.meaning.resolving.Unresolved.{Unresolved}
+use Rattle.avp_unlang.specs.declared.text.statements.Keyword.{Keyword}
+use Rattle.avp_unlang.specs.declared.text.statements.Keyword.TheVariants as keyword
+use Rattle.avp_unlang.specs.declared.text.tokens.Token.TheVariants as token
 use Rattle.avp_unlang.specs.declared.tree.Branch.{Branch}
 use Rattle.avp_unlang.specs.declared.tree.Cond.{Cond}
 use Rattle.avp_unlang.specs.declared.tree.Line.{Line}
@@ -36,7 +36,7 @@ use Rattle.avp_unlang.specs.declared.tree.Statement.{Statement}
 use Rattle.avp_unlang.specs.declared.tree.Statement.TheFolds.{fold-Branch, fold-roll-Branch, fold-roll-Statement}
 use Rattle.avp_unlang.specs.declared.tree.Statement.TheOpen as layer
 use Rattle.avp_unlang.specs.declared.tree.Statement.TheVariants.{Update, If, Transaction, Word, rolls-Update, rolls-If, rolls-Transaction, rolls-Word}
-use Rattle.avp_unlang.proofs.Spelled.{Holds, block_holds, chain_holds, while_holds}
+use Rattle.avp_unlang.proofs.SpelledParts.{Holds, block_holds, chain_holds, while_holds}
 
 -- ---- edits
 

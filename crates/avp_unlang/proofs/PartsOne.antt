@@ -9,7 +9,7 @@ use Rattle.avp_unlang.specs.declared.tree.Part.TheVariants.{Text, Instance}
 use Rattle.avp_unlang.specs.Parts.{octet_at, begins_octet, OctetIs, braced, InstanceIs, PartIs, PartsAre, is_left}
 use Rattle.avp_unlang.specs.References.{readable}
 use Rattle.avp_unlang.proofs.Determined.{IsOne, some_is}
-use Rattle.avp_unlang.proofs.Runs.{while_one}
+use Rattle.avp_unlang.proofs.ValueRuns.{while_one}
 
 pair_is : {A : Type 0} (o : Option (A × List ℕ)) (x y : A) (r s : List ℕ) → o ≡ Some (x, r) → o ≡ Some (y, s) → (x ≡ y) × (r ≡ s)
 pair_is {A = A} o x y r s h g = let f = some_is (x, r) (y, s) (sym h ∙ g) in (ap (λ (z : A × List ℕ). z.0) f, ap (λ (z : A × List ℕ). z.1) f)

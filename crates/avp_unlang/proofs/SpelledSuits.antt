@@ -3,18 +3,18 @@ use Rattle.std.proofs.Common.{◌≡◌, ℕ, zero, suc, Bool, true, false, ◌&
 use Rattle.std.proofs.lemmas.Bool.{and_parts}
 use Rattle.std.specs.Option.{option_and_then, option_map}
 use Rattle.std.specs.Prelude.{codes}
-use Rattle.avp_lists.specs.declared.attributes.AttrId.{AttrId}
+use Rattle.avp_lists.specs.declared.pairs.AttrId.{AttrId}
 use Rattle.avp_lists.specs.declared.lists.List.{List as Name}
 use Rattle.avp_dict.specs.declared.entries.Named.{Named}
 use Rattle.avp_dict.specs.Dictionary.{Dictionary}
 use Rattle.avp_dict.specs.declared.value.quotes.QuoteMark.TheVariants.{Double, Single}
 use Rattle.avp_dict.specs.Quotes.{single_quoted_octets}
 use Rattle.avp_unlang.specs.declared.codes.Code.{Code}
-use Rattle.avp_unlang.specs.declared.statements.Keyword.{Keyword}
-use Rattle.avp_unlang.specs.declared.statements.Keyword.TheVariants as keyword
-use Rattle.avp_unlang.specs.declared.tokens.Sign.TheVariants as sign
-use Rattle.avp_unlang.specs.declared.tokens.Token.{Token}
-use Rattle.avp_unlang.specs.declared.tokens.Token.TheVariants as token
+use Rattle.avp_unlang.specs.declared.text.statements.Keyword.{Keyword}
+use Rattle.avp_unlang.specs.declared.text.statements.Keyword.TheVariants as keyword
+use Rattle.avp_unlang.specs.declared.text.tokens.Sign.TheVariants as sign
+use Rattle.avp_unlang.specs.declared.text.tokens.Token.{Token}
+use Rattle.avp_unlang.specs.declared.text.tokens.Token.TheVariants as token
 use Rattle.avp_unlang.specs.declared.tree.Branch.{Branch, out-Branch}
 use Rattle.avp_unlang.specs.declared.tree.Comparand.{Comparand}
 use Rattle.avp_unlang.specs.declared.tree.Comparand.TheVariants as comparand
@@ -44,11 +44,11 @@ use Rattle.avp_unlang.specs.Places.{Place, start_of}
 use Rattle.avp_unlang.specs.Policies.{SpellsPolicy}
 use Rattle.avp_unlang.specs.Sources.{literal, SourceBy, is_removal}
 use Rattle.avp_unlang.specs.Statements.{BlockIs, branch_of, BranchIs, Otherwise, StatementFrom, Nested, keyword_in, list_at, begins_word}
-use Rattle.avp_unlang.specs.Steps.{Follows}
+use Rattle.avp_unlang.specs.Between.{Follows}
 use Rattle.avp_unlang.specs.Tokens.{next_token}
 use Rattle.avp_unlang.specs.Words.{code_named}
 use Rattle.avp_unlang.proofs.Determined.{some_is}
-use Rattle.avp_unlang.proofs.Spelled.{Holds, block_holds, chain_holds, literal_is, mapped, value_holds, while_holds}
+use Rattle.avp_unlang.proofs.SpelledParts.{Holds, block_holds, chain_holds, literal_is, mapped, value_holds, while_holds}
 
 -- ---- lists
 

@@ -4,11 +4,11 @@ use Rattle.std.specs.Prelude.{codes}
 use Rattle.avp_dict.specs.Dictionary.{Dictionary}
 use Rattle.avp_unlang.specs.declared.faults.PolicyFault.{PolicyFault}
 use Rattle.avp_unlang.specs.declared.faults.PolicyKind.TheVariants.{Memory}
-use Rattle.avp_unlang.specs.declared.statements.Keyword.{Keyword}
-use Rattle.avp_unlang.specs.declared.statements.Keyword.TheVariants as keyword
-use Rattle.avp_unlang.specs.declared.tokens.Sign.TheVariants as sign
-use Rattle.avp_unlang.specs.declared.tokens.Token.{Token}
-use Rattle.avp_unlang.specs.declared.tokens.Token.TheVariants as token
+use Rattle.avp_unlang.specs.declared.text.statements.Keyword.{Keyword}
+use Rattle.avp_unlang.specs.declared.text.statements.Keyword.TheVariants as keyword
+use Rattle.avp_unlang.specs.declared.text.tokens.Sign.TheVariants as sign
+use Rattle.avp_unlang.specs.declared.text.tokens.Token.{Token}
+use Rattle.avp_unlang.specs.declared.text.tokens.Token.TheVariants as token
 use Rattle.avp_unlang.specs.declared.tree.Branch.{Branch}
 use Rattle.avp_unlang.specs.declared.tree.Cond.{Cond}
 use Rattle.avp_unlang.specs.declared.tree.Line.{Line}
@@ -20,13 +20,13 @@ use Rattle.avp_unlang.specs.Lines.{LineIs, begins_line}
 use Rattle.avp_unlang.specs.Places.{Place, start_of}
 use Rattle.avp_unlang.specs.Policies.{SpellsPolicy}
 use Rattle.avp_unlang.specs.Statements.{keyword_in, begins_word, list_at, BlockIs, branch_of, BranchIs, Otherwise, StatementFrom, StatementIs, Nested}
-use Rattle.avp_unlang.specs.Steps.{Counts, Follows}
+use Rattle.avp_unlang.specs.Between.{Counts, Follows}
 use Rattle.avp_unlang.specs.Tokens.{next_token}
 use Rattle.avp_unlang.proofs.Chains.{chain_one}
 use Rattle.avp_unlang.proofs.ConditionsOne.{closed_one, within_one}
 use Rattle.avp_unlang.proofs.Determined.{IsOne, gives_one, after_one, then_one, then_stops, then_on, after_stops, after_on}
 use Rattle.avp_unlang.proofs.LinesOne.{counts_sure, follows_sure, line_one}
-use Rattle.avp_unlang.proofs.Runs.{while_one}
+use Rattle.avp_unlang.proofs.ValueRuns.{while_one}
 
 -- ---- blocks
 

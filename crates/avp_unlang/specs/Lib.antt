@@ -1,3 +1,4 @@
+pub mod Between
 pub mod Cleanness
 pub mod Conditions
 pub mod Depth
@@ -12,7 +13,6 @@ pub mod Resolutions
 pub mod Sizes
 pub mod Sources
 pub mod Statements
-pub mod Steps
 pub mod Suiting
 pub mod Tokens
 pub mod Truth

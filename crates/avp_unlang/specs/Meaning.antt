@@ -1,7 +1,7 @@
 -- What a policy makes of a state and a code, by recursion over its tree.
 use Rattle.std.specs.Prelude.{ℕ, Bool, true, false, nat_le, if◌then◌else◌, List, [], ◌∷◌, length, map, Option, Some, None, Result, Ok, Err}
 use Rattle.avp_lists.specs.States.{edited, edited_list, max_pairs}
-use Rattle.avp_lists.specs.declared.attributes.Pair.{Pair}
+use Rattle.avp_lists.specs.declared.pairs.Pair.{Pair}
 use Rattle.avp_lists.specs.declared.edits.Edit.{Edit}
 use Rattle.avp_lists.specs.declared.lists.State.{State}
 use Rattle.avp_dict.specs.Dictionary.{Dictionary}
@@ -9,8 +9,8 @@ use Rattle.avp_unlang.specs.Resolutions.{resolution}
 use Rattle.avp_unlang.specs.Truth.{truth}
 use Rattle.avp_unlang.specs.declared.codes.Code.{Code}
 use Rattle.avp_unlang.specs.declared.codes.Code.TheVariants as code
-use Rattle.avp_unlang.specs.declared.resolving.Unresolved.{Unresolved}
-use Rattle.avp_unlang.specs.declared.resolving.Unresolved.TheVariants.{Absent, NotValue, TooLong, Memory}
+use Rattle.avp_unlang.specs.declared.meaning.resolving.Unresolved.{Unresolved}
+use Rattle.avp_unlang.specs.declared.meaning.resolving.Unresolved.TheVariants.{Absent, NotValue, TooLong, Memory}
 use Rattle.avp_unlang.specs.declared.tree.Cond.{Cond}
 use Rattle.avp_unlang.specs.declared.tree.Line.{Line}
 use Rattle.avp_unlang.specs.declared.tree.Statement.{Statement}

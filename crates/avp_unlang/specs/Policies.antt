@@ -1,12 +1,12 @@
 -- The policy that a text spells.
 use Rattle.std.specs.Prelude.{ℕ, List}
 use Rattle.avp_dict.specs.Dictionary.{Dictionary}
-use Rattle.avp_unlang.specs.declared.tokens.Token.TheVariants.{End}
+use Rattle.avp_unlang.specs.declared.text.tokens.Token.TheVariants.{End}
 use Rattle.avp_unlang.specs.declared.tree.Statement.{Statement}
 use Rattle.avp_unlang.specs.Forms.{While}
 use Rattle.avp_unlang.specs.Places.{Place, start_of}
 use Rattle.avp_unlang.specs.Statements.{Nested, begins_word}
-use Rattle.avp_unlang.specs.Steps.{Follows}
+use Rattle.avp_unlang.specs.Between.{Follows}
 
 -- Statement after statement up to the end of the text, with a size of at most 65535 and at most 64 open signs.
 abbrev pub SpellsPolicy : Dictionary → List ℕ → List Statement → Type 0

@@ -1,7 +1,7 @@
 -- Names of lists and attributes in a policy text: what a word refers to, by a dictionary.
 use Rattle.std.specs.Prelude.{◌≡◌, ℕ, List, length, drop, take, bytes_eq, codes, Option, Some, None, unwrap_or, if◌then◌else◌}
 use Rattle.std.specs.Option.{option_and_then, option_map}
-use Rattle.avp_lists.specs.declared.attributes.AttrId.{AttrId}
+use Rattle.avp_lists.specs.declared.pairs.AttrId.{AttrId}
 use Rattle.avp_lists.specs.declared.lists.List.{List as Name}
 use Rattle.avp_lists.specs.declared.lists.List.TheVariants as lists
 use Rattle.avp_dict.specs.declared.entries.Named.{Named}
@@ -11,10 +11,10 @@ use Rattle.avp_dict.specs.Dictionary.{Dictionary}
 use Rattle.avp_dict.specs.Names.{named}
 use Rattle.avp_dict.specs.Octets.{kind_of}
 use Rattle.avp_dict.specs.Sent.{is_container}
-use Rattle.avp_unlang.specs.declared.tokens.Token.TheVariants.{Word}
+use Rattle.avp_unlang.specs.declared.text.tokens.Token.TheVariants.{Word}
 use Rattle.avp_unlang.specs.Forms.{Form}
 use Rattle.avp_unlang.specs.Places.{Place}
-use Rattle.avp_unlang.specs.Steps.{Follows}
+use Rattle.avp_unlang.specs.Between.{Follows}
 
 -- the list that a word names
 unfoldable pub list_named : List ℕ → Option Name

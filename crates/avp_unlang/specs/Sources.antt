@@ -2,7 +2,7 @@
 use Rattle.std.specs.Prelude.{◌≡◌, ℕ, Bool, true, false, List, [], ◌∷◌, Option, Some, None, if◌then◌else◌}
 use Rattle.std.specs.Option.{option_and_then, option_map}
 use Rattle.std.specs.Result.{result_ok}
-use Rattle.avp_lists.specs.declared.attributes.Value.{Value}
+use Rattle.avp_lists.specs.declared.pairs.Value.{Value}
 use Rattle.avp_lists.specs.declared.edits.Op.{Op}
 use Rattle.avp_lists.specs.declared.edits.Op.TheVariants as op
 use Rattle.avp_lists.specs.declared.lists.List.{List as Name}
@@ -14,9 +14,9 @@ use Rattle.avp_dict.specs.Quotes.{single_quoted_octets}
 use Rattle.avp_dict.specs.Requests.{pair_with}
 use Rattle.avp_dict.specs.Sent.{is_container}
 use Rattle.avp_dict.specs.Spellings.{is_barred, value_spelled}
-use Rattle.avp_unlang.specs.declared.tokens.Sign.TheVariants as sign
-use Rattle.avp_unlang.specs.declared.tokens.Token.{Token}
-use Rattle.avp_unlang.specs.declared.tokens.Token.TheVariants.{Operator, Word, Quoted}
+use Rattle.avp_unlang.specs.declared.text.tokens.Sign.TheVariants as sign
+use Rattle.avp_unlang.specs.declared.text.tokens.Token.{Token}
+use Rattle.avp_unlang.specs.declared.text.tokens.Token.TheVariants.{Operator, Word, Quoted}
 use Rattle.avp_unlang.specs.declared.tree.Part.{Part}
 use Rattle.avp_unlang.specs.declared.tree.Part.TheVariants as part
 use Rattle.avp_unlang.specs.declared.tree.Source.{Source}
@@ -25,7 +25,7 @@ use Rattle.avp_unlang.specs.Forms.{Form, Step, Becomes}
 use Rattle.avp_unlang.specs.Parts.{PartsAre}
 use Rattle.avp_unlang.specs.Places.{Place}
 use Rattle.avp_unlang.specs.References.{AlikeIs}
-use Rattle.avp_unlang.specs.Steps.{Follows}
+use Rattle.avp_unlang.specs.Between.{Follows}
 use Rattle.avp_unlang.specs.Tokens.{next_token}
 
 -- ---- literals

@@ -3,11 +3,11 @@ use Rattle.std.specs.Prelude.{◌≡◌, ℕ, zero, suc, ◌<◌, Bool, true, fa
 use Rattle.avp_lists.specs.declared.lists.List.{List as Name}
 use Rattle.avp_lists.specs.declared.lists.List.TheVariants.{Request}
 use Rattle.avp_dict.specs.Dictionary.{Dictionary}
-use Rattle.avp_unlang.specs.declared.statements.Keyword.{Keyword}
-use Rattle.avp_unlang.specs.declared.statements.Keyword.TheVariants as keyword
-use Rattle.avp_unlang.specs.declared.tokens.Sign.TheVariants as sign
-use Rattle.avp_unlang.specs.declared.tokens.Token.{Token}
-use Rattle.avp_unlang.specs.declared.tokens.Token.TheVariants as token
+use Rattle.avp_unlang.specs.declared.text.statements.Keyword.{Keyword}
+use Rattle.avp_unlang.specs.declared.text.statements.Keyword.TheVariants as keyword
+use Rattle.avp_unlang.specs.declared.text.tokens.Sign.TheVariants as sign
+use Rattle.avp_unlang.specs.declared.text.tokens.Token.{Token}
+use Rattle.avp_unlang.specs.declared.text.tokens.Token.TheVariants as token
 use Rattle.avp_unlang.specs.declared.tree.Branch.{Branch}
 use Rattle.avp_unlang.specs.declared.tree.Cond.{Cond}
 use Rattle.avp_unlang.specs.declared.tree.Statement.{Statement}
@@ -18,7 +18,7 @@ use Rattle.avp_unlang.specs.Forms.{Form, After, Chain, Gives, Then, While}
 use Rattle.avp_unlang.specs.Lines.{LineIs, begins_line}
 use Rattle.avp_unlang.specs.Places.{Place}
 use Rattle.avp_unlang.specs.References.{list_named}
-use Rattle.avp_unlang.specs.Steps.{Counts, Follows}
+use Rattle.avp_unlang.specs.Between.{Counts, Follows}
 use Rattle.avp_unlang.specs.Tokens.{next_token}
 use Rattle.avp_unlang.specs.Words.{code_named}
 

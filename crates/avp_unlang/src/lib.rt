@@ -6,29 +6,20 @@
 
 mod boxed;
 mod codes;
-mod conditions;
-mod cursors;
 mod faults;
 mod items;
-mod lines;
-mod parts;
-mod policies;
-mod references;
-mod resolving;
-mod sources;
-mod statements;
-mod tokens;
+mod meaning;
+mod text;
 mod tree;
-mod truth;
 
 pub use boxed::Boxed;
 pub use codes::Code;
 pub use faults::{PolicyFault, PolicyKind};
 pub use items::Items;
-pub use policies::{Policy, keeps_reply_clean, one_policy, read_policy, size};
-pub use resolving::{Unresolved, resolve};
+pub use meaning::resolving::{Unresolved, resolve};
+pub use meaning::truth::holds;
+pub use text::policies::{Policy, keeps_reply_clean, one_policy, read_policy, size};
 pub use tree::{
     Block, Branch, Branches, Comparand, Comparison, Cond, Line, Lines, Part, Parts, Relation,
     Source, Statement,
 };
-pub use truth::holds;

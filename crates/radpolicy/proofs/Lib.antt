@@ -1,10 +1,10 @@
 pub mod Controls
 pub mod DistinctFiles
-pub mod Names
 pub mod OneReport
 pub mod PacketRoom
+pub mod PathNames
 pub mod PresentLists
 pub mod Refusals
-pub mod Replying
 pub mod ReplyReads
+pub mod Replying
 pub mod ScriptWords

@@ -1,6 +1,6 @@
 -- A reply that is sent is accepted, and read as its pairs.
 use Rattle.std.proofs.Common.{◌≡◌, ◌∙◌, ℕ, Bool, true, false, nat_le, cond, List, [], length, Option, Some, None, refl, sym, ap, subst}
-use Rattle.avp_lists.specs.declared.attributes.Pair.{Pair}
+use Rattle.avp_lists.specs.declared.pairs.Pair.{Pair}
 use Rattle.avp_dict.specs.Dictionary.{Dictionary}
 use Rattle.avp_packet.specs.Means.{Means}
 use Rattle.avp_packet.specs.Packets.{attributes_of, code_of, hiding_authenticator, is_reply, packet, pairs_meant, reply, reply_content}

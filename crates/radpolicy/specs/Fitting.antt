@@ -1,6 +1,6 @@
 -- Lists whose pairs fit a dictionary.
 use Rattle.std.specs.Prelude.{IsTrue, All, List}
-use Rattle.avp_lists.specs.declared.attributes.Pair.{Pair}
+use Rattle.avp_lists.specs.declared.pairs.Pair.{Pair}
 use Rattle.avp_dict.specs.Dictionary.{Dictionary}
 use Rattle.avp_dict.specs.Limits.{fits}
 

@@ -1,8 +1,8 @@
 -- The reply packet of a run (RFC 2865, sections 4.2, 4.3 and 5.33; RFC 2866, section 4.2; RFC 3579, section 3.2).
 use Rattle.std.specs.Prelude.{ℕ, Bool, ◌&&◌, ◌==◌, nat_le, if◌then◌else◌, List, [], length, Option, Some, None}
 use Rattle.std.specs.Option.{option_and_then, option_map}
-use Rattle.avp_lists.specs.declared.attributes.AttrId.TheVariants.{Plain}
-use Rattle.avp_lists.specs.declared.attributes.Pair.{Pair}
+use Rattle.avp_lists.specs.declared.pairs.AttrId.TheVariants.{Plain}
+use Rattle.avp_lists.specs.declared.pairs.Pair.{Pair}
 use Rattle.avp_lists.specs.Instances.{has_instance, instances}
 use Rattle.avp_dict.specs.Dictionary.{Dictionary}
 use Rattle.avp_packet.specs.declared.packets.Packet.{Packet}

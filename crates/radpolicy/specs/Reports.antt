@@ -1,7 +1,7 @@
 -- The texts of reports: lists and results of runs, counts and notes of dictionaries.
 use Rattle.std.specs.Prelude.{ℕ, Bool, false, ◌++◌, List, [], Option, None, Some, length, codes, decimal, if◌then◌else◌}
 use Rattle.std.specs.List.{flat_map}
-use Rattle.avp_lists.specs.declared.attributes.Pair.{Pair}
+use Rattle.avp_lists.specs.declared.pairs.Pair.{Pair}
 use Rattle.avp_lists.specs.declared.lists.State.{State}
 use Rattle.avp_dict.specs.declared.entries.Note.{Note}
 use Rattle.avp_dict.specs.declared.file.files.NamedFile.{NamedFile}

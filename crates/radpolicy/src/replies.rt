@@ -3,7 +3,7 @@
 ghost use Rattle.std.specs.Prelude.{◌≡◌, ◌⊎◌, ◌<◌, ◌≤◌, true, false, All, IfOk, OnOk, IfSome, length};
 ghost use Rattle.std.specs.Option.{option_map};
 ghost use Rattle.avp_lists.specs.Instances.{has_instance, instances};
-ghost use Rattle.avp_lists.specs.declared.attributes.AttrId.TheVariants.{Plain};
+ghost use Rattle.avp_lists.specs.declared.pairs.AttrId.TheVariants.{Plain};
 ghost use Rattle.radpolicy.specs.Fitting.{AllFit};
 ghost use Rattle.avp_packet.specs.Packets.{IsReplyCode, IsRequestCode, authenticator_of};
 ghost use Rattle.avp_packet.specs.Sending.{message_authenticator_id};

@@ -1,7 +1,7 @@
 -- What the readers of request lines answer with, and what they are to find.
 use Rattle.std.specs.Prelude.{◌≡◌, ℕ, List, [], ◌∷◌, Option, Some, None, Result, Ok, Err}
 use Rattle.std.specs.Option.{option_and_then}
-use Rattle.avp_lists.specs.declared.attributes.Pair.{Pair}
+use Rattle.avp_lists.specs.declared.pairs.Pair.{Pair}
 use Rattle.avp_dict.specs.declared.entries.Named.{Named}
 use Rattle.avp_dict.specs.declared.request.faults.LineKind.{LineKind}
 use Rattle.avp_dict.specs.declared.request.faults.LineKind.TheVariants as kinds

@@ -1,10 +1,10 @@
 -- What the types of ids and values keep their numbers within.
 use Rattle.std.specs.Prelude.{ℕ, ◌<◌, ◌^◌, List, slice_index, FitsSigned}
 use Rattle.std.specs.Int.{w32}
-use Rattle.avp_lists.specs.declared.attributes.AttrId.{AttrId}
-use Rattle.avp_lists.specs.declared.attributes.AttrId.TheVariants.{Plain, Vendor, Extended}
-use Rattle.avp_lists.specs.declared.attributes.Value.{Value}
-use Rattle.avp_lists.specs.declared.attributes.Value.TheVariants.{Text, Bytes, Int, Signed, Addr, Ether, Raw}
+use Rattle.avp_lists.specs.declared.pairs.AttrId.{AttrId}
+use Rattle.avp_lists.specs.declared.pairs.AttrId.TheVariants.{Plain, Vendor, Extended}
+use Rattle.avp_lists.specs.declared.pairs.Value.{Value}
+use Rattle.avp_lists.specs.declared.pairs.Value.TheVariants.{Text, Bytes, Int, Signed, Addr, Ether, Raw}
 
 abbrev pub AreOctets : List ℕ → Type 0
 AreOctets os = (i : ℕ) → slice_index os i < 256

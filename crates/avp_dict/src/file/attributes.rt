@@ -2,7 +2,7 @@
 
 ghost use Rattle.std.specs.Prelude.{◌≡◌, ◌≤◌, ℕ, Option, Some, None, if◌then◌else◌, IsTrue};
 ghost use Rattle.std.specs.List.{list_all};
-ghost use Rattle.avp_lists.specs.declared.attributes.AttrId.TheVariants.{Extended};
+ghost use Rattle.avp_lists.specs.declared.pairs.AttrId.TheVariants.{Extended};
 ghost use Rattle.avp_dict.specs.Attributes.{attribute, attribute_line, attribute_of, dotted_word, id_word, is_attribute_name, is_extended, is_held, is_number, is_of_other_id, many_words, max_in, number_id, number_word, vendor_id};
 ghost use Rattle.avp_dict.specs.Letters.{begins_as_attr, is_decimal, is_letter, is_name_octet};
 ghost use Rattle.avp_dict.specs.internal.Numbers.{Reads};

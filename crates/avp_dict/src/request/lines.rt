@@ -4,7 +4,7 @@ ghost use Rattle.std.specs.Prelude.{◌≡◌, ◌≢◌, ◌≤◌, ◌<◌, �
 ghost use Rattle.std.specs.List.{before_first, after_first, list_all};
 ghost use Rattle.std.specs.Option.{option_and_then};
 ghost use Rattle.avp_lists.specs.States.{max_pairs};
-ghost use Rattle.avp_lists.specs.declared.attributes.Pair.{Pair};
+ghost use Rattle.avp_lists.specs.declared.pairs.Pair.{Pair};
 ghost use Rattle.avp_dict.specs.Limits.{fits};
 ghost use Rattle.avp_dict.specs.Lines.{is_line_end, texts_of};
 ghost use Rattle.avp_dict.specs.RequestLines.{is_blank_line, is_idle_line, joined, pairs_of, tokens_at, without_front};

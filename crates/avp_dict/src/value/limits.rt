@@ -93,7 +93,7 @@ fn count_of_octets(kind: Option<Kind>, value: &Value) -> usize
 }
 
 // Whether a value's last octet is NUL.
-#[tactic(auto, using(crate::proofs::Items::number_ends_in_nul))]
+#[tactic(auto, using(crate::proofs::NumberOctets::number_ends_in_nul))]
 fn ends_with_nul(kind: Option<Kind>, value: &Value) -> bool
     ensures { result ≡ ends_in_nul (octets_of kind value.now) }
 {

@@ -118,7 +118,7 @@ fn decimal_octet(part: &[u8]) -> Option<u8>
     }
 }
 
-#[tactic(auto, using(crate::proofs::Spelling::two_digits), unfolding(crate::specs::Spellings::digit_pair))]
+#[tactic(auto, using(crate::proofs::Misspellings::two_digits), unfolding(crate::specs::Spellings::digit_pair))]
 fn digit_pair(part: &[u8]) -> Option<u8>
     ensures { result ≡ digit_pair part.now }
 {

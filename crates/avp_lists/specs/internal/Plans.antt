@@ -1,7 +1,7 @@
 -- What an edit turns in the slots, and the slots that a store begins with.
 use Rattle.std.specs.Prelude.{◌≡◌, zero, suc, ◌+◌, ℕ, Bool, true, false, not, ◌&&◌, ◌||◌, if◌then◌else◌, List, [], ◌∷◌, ◌++◌, length, Some}
 use Rattle.std.specs.Option.{is_some, option_to_list}
-use Rattle.avp_lists.specs.declared.attributes.Pair.{Pair}
+use Rattle.avp_lists.specs.declared.pairs.Pair.{Pair}
 use Rattle.avp_lists.specs.declared.edits.Op.{Op}
 use Rattle.avp_lists.specs.declared.edits.Op.TheVariants.{Prepend, RemoveEqual, KeepEqual, RemoveAll, Replace}
 use Rattle.avp_lists.specs.declared.edits.Edit.{Edit}

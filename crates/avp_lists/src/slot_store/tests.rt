@@ -1,11 +1,11 @@
 //! How many pairs the pool holds.
 
-use crate::attributes::{AttrId, Pair, Value};
 use crate::bytes::Octets;
 use crate::edits::{Edit, Op};
-use crate::history::Store;
 use crate::lists::{List, MAX_PAIRS};
+use crate::pairs::{AttrId, Pair, Value};
 use crate::slot_store::SlotStore;
+use crate::store::Store;
 use std::alloc::Global;
 use std::process::Abort;
 use std::test::Fail;

@@ -1,9 +1,9 @@
 -- A list divided at its packet's Message-Authenticator, and where the octets that sign are filled in.
 use Rattle.std.specs.Prelude.{◌≡◌, ◌≤◌, ℕ, ◌+◌, Bool, true, false, if◌then◌else◌, List, [], ◌++◌, take, drop, Option, Some, None}
 use Rattle.std.specs.List.{All}
-use Rattle.avp_lists.specs.declared.attributes.Pair.{Pair}
+use Rattle.avp_lists.specs.declared.pairs.Pair.{Pair}
 use Rattle.avp_dict.specs.Dictionary.{Dictionary}
-use Rattle.avp_packet.specs.declared.dividing.Division.{Division}
+use Rattle.avp_packet.specs.declared.encoding.dividing.Division.{Division}
 use Rattle.avp_packet.specs.AttributeOctets.{attribute_octets, part}
 use Rattle.avp_packet.specs.Hmac.{hmac}
 use Rattle.avp_packet.specs.Packets.{hiding_authenticator, packet, zeros}

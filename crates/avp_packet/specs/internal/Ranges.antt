@@ -1,7 +1,7 @@
 -- What the type of an id keeps a vendor's number within.
 use Rattle.std.specs.Prelude.{◌^◌, ◌<◌}
-use Rattle.avp_lists.specs.declared.attributes.AttrId.{AttrId}
-use Rattle.avp_lists.specs.declared.attributes.AttrId.TheVariants.{Vendor}
+use Rattle.avp_lists.specs.declared.pairs.AttrId.{AttrId}
+use Rattle.avp_lists.specs.declared.pairs.AttrId.TheVariants.{Vendor}
 
 abbrev pub IsVendorInRange : AttrId → Type 0
 IsVendorInRange (Vendor vendor number) = vendor < 2 ^ 32

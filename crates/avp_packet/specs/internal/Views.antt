@@ -1,11 +1,11 @@
 -- Attributes without where they lie in memory, and what an iterator has left.
 use Rattle.std.specs.Prelude.{List, drop, Result, Ok, Err}
-use Rattle.avp_packet.specs.declared.splitting.Attribute.{Attribute}
-use Rattle.avp_packet.specs.declared.splitting.Attributes.{Attributes}
-use Rattle.avp_packet.specs.declared.splitting.BadLength.{BadLength}
-use Rattle.avp_packet.specs.declared.fragments.Joined.{Joined}
-use Rattle.avp_packet.specs.declared.fragments.Piece.{Piece}
-use Rattle.avp_packet.specs.declared.subattributes.Sub.{Sub}
+use Rattle.avp_packet.specs.declared.attribute.splitting.Attribute.{Attribute}
+use Rattle.avp_packet.specs.declared.attribute.splitting.Attributes.{Attributes}
+use Rattle.avp_packet.specs.declared.attribute.splitting.BadLength.{BadLength}
+use Rattle.avp_packet.specs.declared.decoding.fragments.Joined.{Joined}
+use Rattle.avp_packet.specs.declared.decoding.fragments.Piece.{Piece}
+use Rattle.avp_packet.specs.declared.attribute.subattributes.Sub.{Sub}
 use Rattle.avp_packet.specs.Meanings as meanings
 use Rattle.avp_packet.specs.Splitting.{Placed, items_from, parts}
 

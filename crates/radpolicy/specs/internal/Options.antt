@@ -1,7 +1,7 @@
 -- What the options of a command line say of the packet, seen as what is asked for.
 use Rattle.std.specs.Prelude.{is_some}
 use Rattle.std.specs.Option.{unwrap_or}
-use Rattle.radpolicy.specs.declared.words.PacketOptions.{PacketOptions}
+use Rattle.radpolicy.specs.declared.command_line.PacketOptions.{PacketOptions}
 use Rattle.radpolicy.specs.Plans.{AskedPacket}
 
 abbrev pub asked_by_options : PacketOptions → AskedPacket

@@ -2,8 +2,8 @@
 use Rattle.std.specs.Prelude.{◌≡◌, ◌<◌, ◌++◌, ℕ, true, false, All, List, [], length, Option, Some, None, Result, Ok, Err}
 use Rattle.std.specs.declared.alloc.Global.{Global}
 use Rattle.std.specs.declared.vec.Vec.{Vec}
-use Rattle.avp_lists.specs.declared.attributes.AttrId.TheVariants.{Plain}
-use Rattle.avp_lists.specs.declared.attributes.Pair.{Pair}
+use Rattle.avp_lists.specs.declared.pairs.AttrId.TheVariants.{Plain}
+use Rattle.avp_lists.specs.declared.pairs.Pair.{Pair}
 use Rattle.radpolicy.specs.Fitting.{AllFit}
 use Rattle.radpolicy.specs.Reports.{answer_line}
 use Rattle.avp_dict.specs.Dictionary.{Dictionary}

@@ -1,7 +1,7 @@
 use Rattle.std.proofs.Common.{◌≡◌, ◌∙◌, false, not, sym, ap}
 use Rattle.std.proofs.lemmas.List.Folds.{list_any_at}
 use Rattle.avp_lists.specs.declared.edits.Op.{Op}
-use Rattle.avp_lists.specs.Growth.{adds_one}
+use Rattle.avp_lists.specs.internal.Growth.{adds_one}
 use Rattle.avp_lists.specs.internal.Shown.{shows_id, shown_pairs}
 use Rattle.avp_lists.specs.internal.Slots.{no_slot}
 use Rattle.avp_lists.proofs.Edited.{any-shown}

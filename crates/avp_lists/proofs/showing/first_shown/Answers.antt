@@ -1,6 +1,6 @@
 use Rattle.std.proofs.Common.{◌≡◌, ◌<◌, ◌∙◌, Some, true, length, sym, ap}
 use Rattle.std.proofs.lemmas.List.{get_or_read}
-use Rattle.avp_lists.specs.declared.attributes.Pair.{Pair}
+use Rattle.avp_lists.specs.declared.pairs.Pair.{Pair}
 use Rattle.avp_lists.specs.Instances.{has_id}
 use Rattle.avp_lists.specs.internal.Shown.{same_list, shows, no_pair, slot_pair}
 use Rattle.avp_lists.specs.internal.Slots.{slot_at}

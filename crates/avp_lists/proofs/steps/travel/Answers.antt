@@ -1,6 +1,6 @@
 use Rattle.std.proofs.Common.{◌≡◌, ℕ, ◌-◌, ◌<◌, ◌≤◌, suc, true, length, get_or, ◌∙◌, ap, sym, subst, arith, rules}
 use Rattle.avp_lists.specs.internal.Steps.{slots_at, change_at, turns, node}
-use Rattle.avp_lists.proofs.Leading.{leads_before, leads_next, leads_up}
+use Rattle.avp_lists.proofs.NextPlaces.{leads_before, leads_next, leads_up}
 use Rattle.avp_lists.proofs.Replay.{node_fits, slots_at-same}
 use Rattle.avp_lists.proofs.steps.travel.Goals as goal
 

@@ -1,7 +1,7 @@
 use Rattle.std.proofs.Common.{◌≡◌, ◌<◌, ◌+◌, ◌-◌, ℕ, true, length, map}
 use Rattle.avp_lists.specs.internal.Slots.{at_first}
 use Rattle.avp_lists.specs.internal.Steps.{slots_at, change_at, turns}
-use Rattle.avp_lists.proofs.Leading.{Leads}
+use Rattle.avp_lists.proofs.NextPlaces.{Leads}
 use Rattle.avp_lists.proofs.steps.travel.Given as goal
 
 abbrev pub invariant-back : goal.invariant-back

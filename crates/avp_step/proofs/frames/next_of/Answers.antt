@@ -1,5 +1,5 @@
 use Rattle.std.proofs.Common.{arith}
-use Rattle.avp_step.proofs.Opens.{taken, taken_same, taken_stays}
+use Rattle.avp_step.proofs.OpenedFrames.{taken, taken_same, taken_stays}
 use Rattle.avp_step.proofs.frames.next_of.Goals as goal
 
 pub open_frame-requires-clause-room : goal.open_frame-requires-clause-room

@@ -5,7 +5,7 @@ use Rattle.avp_step.specs.internal.Frames.{else_skips}
 use Rattle.avp_unlang.specs.Depth.{else_depth}
 use Rattle.avp_unlang.specs.Depth.{depth_of}
 use Rattle.avp_step.specs.internal.Skips.{skips_of}
-use Rattle.avp_step.proofs.Opens.{opened_else, opened_sits, opened_passes}
+use Rattle.avp_step.proofs.OpenedFrames.{opened_else, opened_sits, opened_passes}
 use Rattle.avp_step.proofs.frames.open_branches.Goals as goal
 
 pub returns-in-Some-clause-same : goal.returns-in-Some-clause-same

@@ -8,8 +8,8 @@ use Rattle.avp_step.specs.internal.Frames.{frames_suit}
 use Rattle.avp_unlang.specs.Depth.{depth_of_branches}
 use Rattle.avp_step.proofs.Equations.{skips_Update, skips_If}
 use Rattle.avp_unlang.proofs.SpelledSuits.{suits_Update, suits_If, suits_Transaction}
-use Rattle.avp_unlang.proofs.Shallow.{depth_Update, depth_If}
-use Rattle.avp_step.proofs.Opens.{opened_Update, opened_If, opened_sits, opened_passes, put_stays}
+use Rattle.avp_unlang.proofs.StatementDepths.{depth_Update, depth_If}
+use Rattle.avp_step.proofs.OpenedFrames.{opened_Update, opened_If, opened_sits, opened_passes, put_stays}
 use Rattle.avp_step.proofs.frames.open_statement.Goals as goal
 
 pub returns-in-Update-clause-same : goal.returns-in-Update-clause-same

@@ -1,6 +1,6 @@
 use Rattle.std.proofs.Common.{rules, refl}
 use Rattle.avp_unlang.specs.Meaning.{edit_of}
-use Rattle.avp_unlang.specs.declared.resolving.Unresolved.TheVariants.{Absent, NotValue, TooLong}
+use Rattle.avp_unlang.specs.declared.meaning.resolving.Unresolved.TheVariants.{Absent, NotValue, TooLong}
 use Rattle.avp_step.proofs.Fitting.{edit_fits, line_edited, line_full, line_unresolved}
 use Rattle.avp_step.proofs.stepping.edit_by.Goals as goal
 

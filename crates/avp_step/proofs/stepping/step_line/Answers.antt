@@ -1,7 +1,7 @@
 use Rattle.std.proofs.Common.{arith, ap}
 use Rattle.avp_lists.specs.History.{History}
 use Rattle.avp_step.proofs.Fitting.{lines_fit_first}
-use Rattle.avp_step.proofs.Rests.{Sit_later}
+use Rattle.avp_step.proofs.StepLaws.{Sit_later}
 use Rattle.avp_step.proofs.Steppings.{edited_step, failed_step, refused_step, put_sits}
 use Rattle.avp_step.proofs.stepping.step_line.Goals as goal
 

@@ -2,7 +2,7 @@ use Rattle.std.proofs.Common.{arith, sym, ap, ◌∙◌, ◌&&◌, true}
 use Rattle.avp_lists.specs.History.{History}
 use Rattle.avp_step.specs.internal.Frames.{frames_suit, next_suits}
 use Rattle.avp_step.proofs.Fitting.{fits_left}
-use Rattle.avp_step.proofs.Rests.{Sit_later}
+use Rattle.avp_step.proofs.StepLaws.{Sit_later}
 use Rattle.avp_step.proofs.Steppings.{step_at_next}
 use Rattle.avp_step.proofs.stepping.step_next.Goals as goal
 

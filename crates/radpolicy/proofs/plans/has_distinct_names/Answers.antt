@@ -1,5 +1,5 @@
 use Rattle.std.proofs.Common.{arith}
-use Rattle.radpolicy.proofs.Names.{distinct_push, names_of_paths-take_all}
+use Rattle.radpolicy.proofs.PathNames.{distinct_push, names_of_paths-take_all}
 use Rattle.radpolicy.proofs.plans.has_distinct_names.Goals as goal
 
 pub loop-i-preserved : goal.loop-i-preserved

@@ -1,6 +1,6 @@
 use Rattle.std.proofs.Common.{◌∙◌, arith}
 use Rattle.std.proofs.lemmas.Slice.Eq.{bytes_eq-Decides}
-use Rattle.radpolicy.proofs.Names.{all_others_push, names_of_paths-take_all}
+use Rattle.radpolicy.proofs.PathNames.{all_others_push, names_of_paths-take_all}
 use Rattle.radpolicy.proofs.plans.has_name.Goals as goal
 
 pub loop-path-preserved : goal.loop-path-preserved

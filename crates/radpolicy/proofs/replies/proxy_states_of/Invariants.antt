@@ -1,6 +1,6 @@
 use Rattle.std.proofs.Common.{◌≡◌, take}
 use Rattle.avp_lists.specs.Instances.{instances}
-use Rattle.avp_lists.specs.declared.attributes.AttrId.TheVariants.{Plain}
+use Rattle.avp_lists.specs.declared.pairs.AttrId.TheVariants.{Plain}
 use Rattle.radpolicy.proofs.replies.proxy_states_of.Given as goal
 
 abbrev pub invariant-loop-pair : goal.invariant-loop-pair

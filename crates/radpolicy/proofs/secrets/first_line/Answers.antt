@@ -1,6 +1,6 @@
 use Rattle.std.proofs.Common.{arith}
 use Rattle.std.proofs.lemmas.Grind.{common_steps}
-use Rattle.avp_dict.proofs.Cuts.{found_at, found_nothing}
+use Rattle.avp_dict.proofs.FoundPositions.{found_at, found_nothing}
 use Rattle.radpolicy.specs.Secrets.{is_line_end}
 use Rattle.radpolicy.proofs.secrets.first_line.Goals as goal
 

@@ -1,7 +1,7 @@
 use Rattle.std.proofs.Common.{rules}
 use Rattle.avp_dict.specs.DictionaryReading.{max_lines}
 use Rattle.avp_dict.specs.internal.Contents.{contents_view}
-use Rattle.avp_dict.proofs.Placed.{fault_in, notes_in}
+use Rattle.avp_dict.proofs.FaultPlaces.{fault_in, notes_in}
 use Rattle.avp_dict.proofs.SoundDictionary.{sound_of}
 use Rattle.avp_dict.proofs.dictionaries.Dictionary.read.Goals as goal
 

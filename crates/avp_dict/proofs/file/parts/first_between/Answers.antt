@@ -1,6 +1,6 @@
 use Rattle.std.proofs.Common.{eqb, arith}
 use Rattle.std.proofs.lemmas.Grind.{common_steps}
-use Rattle.avp_dict.proofs.Cuts.{parts_more, parts_last}
+use Rattle.avp_dict.proofs.FoundPositions.{parts_more, parts_last}
 use Rattle.avp_dict.proofs.file.parts.first_between.Goals as goal
 
 pub returns-in-Some-clause-cut : goal.returns-in-Some-clause-cut

@@ -4,7 +4,7 @@ use Rattle.avp_dict.specs.Lines.{lines_in}
 use Rattle.avp_dict.specs.Outcomes.{Refuses}
 use Rattle.avp_dict.specs.Readings.{read_lines}
 use Rattle.avp_dict.specs.internal.Meanings.{reading_views}
-use Rattle.avp_dict.proofs.Whole.{dictionary_resolved, open_fails, open_refuses, read_fails}
+use Rattle.avp_dict.proofs.Passes.{dictionary_resolved, open_fails, open_refuses, read_fails}
 use Rattle.avp_dict.proofs.file.reader.read_set.Goals as goal
 
 pub returns-in_err-read_file-clause-refused : goal.returns-in_err-read_file-clause-refused

@@ -1,7 +1,7 @@
 use Rattle.std.proofs.Common.{◌∙◌, sym, ap}
 use Rattle.std.specs.List.{list_all}
 use Rattle.avp_dict.specs.Settled.{is_kept_line}
-use Rattle.avp_dict.proofs.Kept.{all_used}
+use Rattle.avp_dict.proofs.UsedLines.{all_used}
 use Rattle.avp_dict.proofs.file.settling.used.Goals as goal
 
 pub returns-then-are_kept : goal.returns-then-are_kept

@@ -1,6 +1,6 @@
 use Rattle.std.proofs.Common.{arith}
 use Rattle.std.proofs.lemmas.Grind.{common_steps}
-use Rattle.avp_dict.proofs.Cuts.{parts_more, parts_last}
+use Rattle.avp_dict.proofs.FoundPositions.{parts_more, parts_last}
 use Rattle.avp_dict.proofs.file.words.first_part.Goals as goal
 use Rattle.avp_dict.specs.Words.{is_blank}
 

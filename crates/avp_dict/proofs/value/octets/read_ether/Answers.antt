@@ -1,6 +1,6 @@
 use Rattle.std.proofs.Common.{arith}
-use Rattle.avp_lists.specs.declared.attributes.Value.TheVariants.{Ether}
-use Rattle.avp_dict.proofs.Items.{of_length-items}
+use Rattle.avp_lists.specs.declared.pairs.Value.TheVariants.{Ether}
+use Rattle.avp_dict.proofs.NumberOctets.{of_length-items}
 use Rattle.avp_dict.proofs.value.octets.read_ether.Goals as goal
 
 pub returns-in-len6 : goal.returns-in-len6

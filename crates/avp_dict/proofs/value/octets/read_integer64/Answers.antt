@@ -1,7 +1,7 @@
 use Rattle.std.proofs.Common.{arith, ap, ◌∙◌, ℕ, Some}
-use Rattle.avp_lists.specs.declared.attributes.Value.TheVariants.{Int}
+use Rattle.avp_lists.specs.declared.pairs.Value.TheVariants.{Int}
 use Rattle.avp_dict.specs.Octets.{number_value}
-use Rattle.avp_dict.proofs.Items.{eight_octets, of_length-items}
+use Rattle.avp_dict.proofs.NumberOctets.{eight_octets, of_length-items}
 use Rattle.avp_dict.proofs.value.octets.read_integer64.Goals as goal
 
 pub returns-in-len8 : goal.returns-in-len8

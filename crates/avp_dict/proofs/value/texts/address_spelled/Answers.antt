@@ -2,7 +2,7 @@ use Rattle.std.proofs.Common.{arith, sym}
 use Rattle.avp_dict.specs.Letters.{is_dot}
 use Rattle.avp_dict.specs.Spellings.{decimal_octet}
 use Rattle.std.specs.List.{slice_split}
-use Rattle.avp_dict.proofs.Spelling.{in_parts-more, some_part}
+use Rattle.avp_dict.proofs.Misspellings.{in_parts-more, some_part}
 use Rattle.avp_dict.proofs.value.texts.address_spelled.Goals as goal
 
 pub returns-in-Some : goal.returns-in-Some

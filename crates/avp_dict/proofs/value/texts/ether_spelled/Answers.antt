@@ -1,7 +1,7 @@
 use Rattle.std.proofs.Common.{arith, sym}
 use Rattle.std.specs.List.{slice_split}
 use Rattle.avp_dict.specs.Spellings.{digit_pair, is_colon}
-use Rattle.avp_dict.proofs.Spelling.{in_parts-more, some_part}
+use Rattle.avp_dict.proofs.Misspellings.{in_parts-more, some_part}
 use Rattle.avp_dict.proofs.value.texts.ether_spelled.Goals as goal
 
 pub returns-in-Some : goal.returns-in-Some

@@ -1,5 +1,5 @@
 use Rattle.std.proofs.Common.{◌∙◌, ap, List, filter}
-use Rattle.avp_lists.specs.declared.attributes.Pair.{Pair}
+use Rattle.avp_lists.specs.declared.pairs.Pair.{Pair}
 use Rattle.avp_lists.specs.Instances.{front, has_id}
 use Rattle.avp_lists.specs.States.{list_of}
 use Rattle.avp_lists.proofs.Fronts.{find-front}

@@ -1,7 +1,7 @@
 use Rattle.std.proofs.Common.{arith, ap, ◌∙◌, refl, Ok, ◌≡◌, ◌+◌, length, ◌<◌, subst}
 use Rattle.avp_step.specs.Walk.{Walk, entry_at, moved_forward, answer_of_forward}
 use Rattle.avp_step.specs.Walk.{IsLineLabel}
-use Rattle.avp_step.proofs.Holding.{held_room, redone_states, redone_walk, redone_answer, over_held, over_after, mark_room, made_held, refused_held, made_walk, made_answer, refused_line}
+use Rattle.avp_step.proofs.HeldMoves.{held_room, redone_states, redone_walk, redone_answer, over_held, over_after, mark_room, made_held, refused_held, made_walk, made_answer, refused_line}
 use Rattle.avp_step.proofs.steppers.Stepper.forward.Goals as goal
 
 pub returns-then-self-len-clause-after : goal.returns-then-self-len-clause-after

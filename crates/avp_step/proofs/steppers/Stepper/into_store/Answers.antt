@@ -2,7 +2,7 @@ use Rattle.std.proofs.Common.{subst, ap, ◌∙◌}
 use Rattle.avp_lists.specs.History.{present}
 use Rattle.avp_unlang.specs.Resolutions.{StateFits}
 use Rattle.avp_step.specs.Walk.{Walk, entry}
-use Rattle.avp_step.proofs.Holding.{held_fits, held_state}
+use Rattle.avp_step.proofs.HeldMoves.{held_fits, held_state}
 use Rattle.avp_step.proofs.steppers.Stepper.into_store.Goals as goal
 
 pub returns-clause-lists : goal.returns-clause-lists

@@ -1,6 +1,6 @@
 use Rattle.std.proofs.Common.{◌≡◌, arith, ap, sym, subst, ◌∙◌}
 use Rattle.avp_lists.specs.History.{present, state_at}
-use Rattle.avp_unlang.proofs.Shallow.{spelled_depth}
+use Rattle.avp_unlang.proofs.StatementDepths.{spelled_depth}
 use Rattle.avp_unlang.proofs.SpelledSuits.{spelled_policy_suits}
 use Rattle.avp_unlang.specs.Depth.{depth_of}
 use Rattle.avp_unlang.specs.Resolutions.{StateFits}
@@ -8,9 +8,9 @@ use Rattle.avp_unlang.specs.Sizes.{size_of}
 use Rattle.avp_unlang.specs.Suiting.{policy_suits}
 use Rattle.avp_unlang.specs.Meaning.{meaning_of}
 use Rattle.avp_unlang.specs.declared.codes.Code.TheVariants as code
-use Rattle.avp_step.proofs.Sizes.{trace_size}
+use Rattle.avp_step.proofs.TraceSizes.{trace_size}
 use Rattle.avp_step.proofs.Walks.{trace_last, settled_first}
-use Rattle.avp_step.proofs.Holding.{start_held}
+use Rattle.avp_step.proofs.HeldMoves.{start_held}
 use Rattle.avp_step.proofs.steppers.Stepper.new.Goals as goal
 
 pub invariant_of-result : goal.invariant_of-result

@@ -1,6 +1,6 @@
 use Rattle.std.proofs.Common.{subst}
 use Rattle.avp_step.specs.Walk.{IsWithin}
-use Rattle.avp_step.proofs.Holding.{held_within}
+use Rattle.avp_step.proofs.HeldMoves.{held_within}
 use Rattle.avp_step.proofs.steppers.Stepper.position.Goals as goal
 
 pub returns-clause-within : goal.returns-clause-within

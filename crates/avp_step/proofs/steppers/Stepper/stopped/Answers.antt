@@ -1,7 +1,7 @@
 use Rattle.std.proofs.Common.{ap, ◌∙◌}
 use Rattle.avp_step.specs.Trace.{Entry}
 use Rattle.avp_step.specs.Walk.{entry}
-use Rattle.avp_step.proofs.Holding.{held_mark}
+use Rattle.avp_step.proofs.HeldMoves.{held_mark}
 use Rattle.avp_step.proofs.steppers.Stepper.stopped.Goals as goal
 
 pub returns : goal.returns

@@ -1,7 +1,7 @@
 use Rattle.std.proofs.Common.{ap, ◌∙◌, ◌-◌}
 use Rattle.avp_dict.specs.Meanings.{with_opened}
 use Rattle.avp_dict.specs.internal.Meanings.{context_view, reading_views}
-use Rattle.avp_dict.proofs.OneMore.{opened_cut}
+use Rattle.avp_dict.proofs.LinesRead.{opened_cut}
 use Rattle.avp_dict.proofs.file.context.Context.add.Goals as goal
 
 pub returns-in-End : goal.returns-in-End

@@ -1,5 +1,5 @@
 use Rattle.std.proofs.Common.{sym, ◌∙◌}
-use Rattle.avp_dict.proofs.OneMore.{context_of_none}
+use Rattle.avp_dict.proofs.LinesRead.{context_of_none}
 use Rattle.avp_dict.proofs.file.reader.ReadLines.new.Goals as goal
 
 pub returns-clause-tracked : goal.returns-clause-tracked

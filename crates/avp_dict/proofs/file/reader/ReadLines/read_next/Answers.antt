@@ -5,7 +5,7 @@ use Rattle.avp_dict.specs.Readings.{read_line, read_lines, within}
 use Rattle.avp_dict.specs.internal.Gathered.{line_view}
 use Rattle.avp_dict.specs.internal.Meanings.{context_view, meaning_view, reading_view, reading_views}
 use Rattle.avp_dict.specs.internal.Outcomes.{Fails}
-use Rattle.avp_dict.proofs.OneMore.{context_after, read_lines_fails, read_lines_ok, read_within, refused_by}
+use Rattle.avp_dict.proofs.LinesRead.{context_after, read_lines_fails, read_lines_ok, read_within, refused_by}
 use Rattle.avp_dict.proofs.SoundLines.{short_read}
 use Rattle.avp_dict.proofs.file.reader.ReadLines.read_next.Goals as goal
 

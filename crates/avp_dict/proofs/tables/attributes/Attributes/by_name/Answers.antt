@@ -1,7 +1,7 @@
 use Rattle.std.proofs.Common.{ap, sym, ◌∙◌, bytes_eq}
 use Rattle.avp_dict.specs.Dictionary.{attribute_key, is_attribute_named, last_where}
 use Rattle.avp_dict.proofs.Folding.{same_folded}
-use Rattle.avp_dict.proofs.Short.{long_where}
+use Rattle.avp_dict.proofs.NameLengths.{long_where}
 use Rattle.avp_dict.proofs.tables.attributes.Attributes.by_name.Goals as goal
 
 pub returns-in-Some : goal.returns-in-Some

@@ -6,7 +6,7 @@ use Rattle.avp_dict.specs.internal.Tables.{same_value_name, value_name_key}
 use Rattle.std.proofs.lemmas.Bool.{and_right}
 use Rattle.avp_dict.proofs.Folding.{same_folded}
 use Rattle.avp_dict.proofs.LineTables.{same_key}
-use Rattle.avp_dict.proofs.Short.{long_where}
+use Rattle.avp_dict.proofs.NameLengths.{long_where}
 use Rattle.avp_dict.proofs.tables.values.Values.by_name.Goals as goal
 
 pub returns-in-Some : goal.returns-in-Some

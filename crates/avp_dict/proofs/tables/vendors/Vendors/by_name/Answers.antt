@@ -2,7 +2,7 @@ use Rattle.std.proofs.Common.{ap, sym, ◌∙◌, bytes_eq}
 use Rattle.avp_dict.specs.Dictionary.{is_vendor_named, last_where}
 use Rattle.avp_dict.specs.internal.Tables.{vendor_key}
 use Rattle.avp_dict.proofs.Folding.{same_folded}
-use Rattle.avp_dict.proofs.Short.{long_where}
+use Rattle.avp_dict.proofs.NameLengths.{long_where}
 use Rattle.avp_dict.proofs.tables.vendors.Vendors.by_name.Goals as goal
 
 pub returns-in-Some : goal.returns-in-Some

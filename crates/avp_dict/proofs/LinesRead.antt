@@ -1,0 +1,81 @@
+-- One line more.
+use Rattle.std.proofs.Common.{◌≡◌, ℕ, Bool, true, false, ◌-◌, ◌∙◌, sym, ap, take, ◌<◌, List, [], ◌∷◌, ◌++◌, Result, Ok, Err, refl, length, if◌then◌else◌, nat_lt, ltb-true}
+use Rattle.std.proofs.lemmas.List.{length-map, take-map}
+use Rattle.std.proofs.lemmas.List.Sums.{fold_push}
+use Rattle.avp_dict.specs.declared.file.files.NamedFile.{NamedFile}
+use Rattle.avp_dict.specs.declared.faults.DictKind.{DictKind}
+use Rattle.avp_dict.specs.declared.faults.DictKind.TheVariants.{TooLong}
+use Rattle.avp_dict.specs.declared.faults.LineError.{LineError}
+use Rattle.avp_dict.specs.declared.faults.LineError.TheVariants.{Memory, Refused}
+use Rattle.avp_dict.specs.declared.file.meanings.Reading.{Reading as CodeReading}
+use Rattle.avp_dict.specs.declared.faults.DictFault.{DictFault}
+use Rattle.avp_dict.specs.Lines.{Line}
+use Rattle.avp_dict.specs.Meanings.{Context, Meaning, Reading, after_reading, context_of, no_context}
+use Rattle.avp_dict.specs.Outcomes.{If, Refuses, is_memory, want_of_memory}
+use Rattle.avp_dict.specs.Readings.{read_line, read_lines, within}
+use Rattle.avp_dict.specs.Refusals.{refused_at, ◌>>=◌}
+use Rattle.avp_dict.specs.internal.Meanings.{reading_view, reading_views}
+use Rattle.avp_dict.specs.internal.Outcomes.{Fails}
+use Rattle.avp_dict.specs.internal.Refused.{fault_at}
+
+pub context_of_push : (lines : List Reading) (r : Reading) → context_of (lines ++ r ∷ []) ≡ after_reading (context_of lines) r
+unfolding context_of
+context_of_push lines r = fold_push after_reading no_context lines r
+
+pub context_of_none : context_of [] ≡ no_context
+unfolding context_of
+context_of_none = refl
+
+pub read_lines_none : (limit : ℕ) (files : List NamedFile) (before : List Reading) → read_lines limit files before [] ≡ Ok before
+unfolding read_lines
+read_lines_none limit files before = refl
+
+pub read_lines_ok : (limit : ℕ) (files : List NamedFile) (before : List Reading) (line : Line) (lines : List Line) (meaning : Meaning) → within limit before (read_line files (context_of before) line) ≡ Ok meaning
+    → read_lines limit files before (line ∷ lines) ≡ read_lines limit files (before ++ record { file = line.file; line = line.number; meaning = meaning } ∷ []) lines
+unfolding read_lines
+read_lines_ok limit files before line lines meaning e = rw e
+
+-- what holds of a step and of each way that it goes on holds of both, one after the other
+pub then_both : {A B E : Type 0} (P : Result A E → Type 0) (Q : Result B E → Type 0) (r : Result A E) (f : A → Result B E) → P r → ((x : A) → P (Ok x) → Q (f x)) → ((e : E) → P (Err e) → Q (Err e)) → Q (r >>= f)
+then_both P Q (Ok x) f h ok err = ok x h
+then_both P Q (Err e) f h ok err = err e h
+
+fails_through : (memory : Bool) (fault : DictFault) (A : Type 0) (B : Type 0) (r : Result A DictFault) (f : A → Result B DictFault) → If memory (fault ≡ want_of_memory) (r ≡ Err fault) → If memory (fault ≡ want_of_memory) (r >>= f ≡ Err fault)
+fails_through true fault A B r f h = h
+fails_through false fault A B r f h = rw h
+
+-- a step that is refused refuses what it is a step of
+pub refuses_through : {A B : Type 0} (fault : DictFault) (r : Result A DictFault) (f : A → Result B DictFault) → Refuses fault r → Refuses fault (r >>= f)
+refuses_through {A} {B} fault r f h = fails_through (is_memory fault.kind) fault A B r f h
+
+pub read_lines_fails : (limit : ℕ) (files : List NamedFile) (before : List Reading) (line : Line) (lines : List Line) (fault : DictFault) → Refuses fault (refused_at line.file line.number (within limit before (read_line files (context_of before) line))) → Refuses fault (read_lines limit files before (line ∷ lines))
+unfolding read_lines
+read_lines_fails limit files before line lines fault h = refuses_through fault (refused_at line.file line.number (within limit before (read_line files (context_of before) line))) _ h
+
+-- one line is read only where there is room
+read_by : (room : Bool) (read : Result Meaning DictKind) (m : Meaning) → (if room then read else Err TooLong) ≡ Ok m → (room ≡ true) × (read ≡ Ok m)
+read_by true read m h = (refl, h)
+read_by false read m h = absurd (cc)
+
+pub read_within : (limit : ℕ) (before : List Reading) (read : Result Meaning DictKind) (m : Meaning) → within limit before read ≡ Ok m → (length before < limit) × (read ≡ Ok m)
+read_within limit before read m h =
+    let parts = read_by (nat_lt (length before) limit) read m h in
+    (ltb-true (length before) limit parts.0, parts.1)
+
+-- what a line leaves for the next one
+pub context_after : (before : List Reading) (was now : Context) (r : Reading) (after : List Reading) → was ≡ context_of before → now ≡ after_reading was r → after ≡ before ++ r ∷ [] → now ≡ context_of after
+context_after before was now r after is_was is_now is_after = rw (is_after, context_of_push, ← is_was) is_now
+
+-- the refusal of a line is what its definition gives
+fault_by : (A : Type 0) (memory : Bool) (file line : ℕ) (kind : DictKind) (read : Result A DictKind) → is_memory kind ≡ memory → read ≡ Err kind
+    → Refuses (if memory then want_of_memory else record { file = file; line = line; kind = kind }) (refused_at file line read)
+fault_by A true file line kind read e h = refl
+fault_by A false file line kind read e h = rw (e, h)
+
+pub refused_by : {A : Type 0} (file line : ℕ) (error : LineError) (read : Result A DictKind) (fault : DictFault) → fault ≡ fault_at file line error → Fails error read → Refuses fault (refused_at file line read)
+refused_by {A} file line Memory read fault e h = rw e
+refused_by {A} file line (Refused kind) read fault e h = rw e (fault_by A (is_memory kind) file line kind read refl h)
+
+-- all open blocks but the innermost
+pub opened_cut : (opened : List CodeReading) (n : ℕ) → n ≡ length opened - 1 → reading_views (take n opened) ≡ take (length (reading_views opened) - 1) (reading_views opened)
+opened_cut opened n e = sym (take-map reading_view n opened) ∙ ap (λ k. take k (reading_views opened)) (e ∙ ap (λ k. k - 1) (sym (length-map opened reading_view)))

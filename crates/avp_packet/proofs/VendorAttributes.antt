@@ -1,0 +1,74 @@
+-- A vendor's attributes, one after the other.
+use Rattle.std.proofs.Common.{◌≡◌, ◌∙◌, ℕ, zero, suc, ◌+◌, ◌-◌, ◌<◌, ◌≤◌, true, false, ◌&&◌, ◌==◌, nat_le, List, [], ◌∷◌, length, drop, refl, ap, arith}
+use Rattle.std.proofs.lemmas.Grind.{common_steps}
+use Rattle.avp_dict.specs.declared.entries.Format.{Format}
+use Rattle.avp_dict.specs.Vendors.{is_format}
+use Rattle.avp_packet.specs.Meanings.{Sub, are_subs_behind, begins_sub, first_sub, sub_length, subs, subs_behind}
+use Rattle.avp_packet.proofs.AttributeRoom.{and_left, and_right, format_of_size}
+use Rattle.std.proofs.Common.{◌⊎◌, inl, inr}
+
+subs_behind-drop : (f : Format) (k : ℕ) (os : List ℕ) → subs_behind f k os ≡ subs f (drop k os)
+unfolding subs_behind
+subs_behind-drop f zero os = refl
+subs_behind-drop f (suc k) [] = refl
+subs_behind-drop f (suc k) (o ∷ os) = subs_behind-drop f k os
+
+are_subs_behind-drop : (f : Format) (k : ℕ) (os : List ℕ) → are_subs_behind f k os ≡ are_subs_behind f 0 (drop k os)
+unfolding are_subs_behind
+are_subs_behind-drop f zero os = refl
+are_subs_behind-drop f (suc k) [] = refl
+are_subs_behind-drop f (suc k) (o ∷ os) = are_subs_behind-drop f k os
+
+some_type : (f : Format) → is_format f.t f.l ≡ true → 1 ≤ f.t
+some_type f h = go (format_of_size f.t f.l h).0
+  where
+    go : ((f.t ≡ 1) ⊎ ((f.t ≡ 2) ⊎ (f.t ≡ 4))) → 1 ≤ f.t
+    go (inl e) = omega arith
+    go (inr (inl e)) = omega arith
+    go (inr (inr e)) = omega arith
+
+-- a length counts something, and no more than there is
+pub sub_size : (f : Format) (os : List ℕ) → is_format f.t f.l ≡ true → begins_sub f os ≡ true → (1 ≤ sub_length f os) × (sub_length f os ≤ length os)
+sub_size f os h b =
+    let some = some_type f h in
+    let whole : nat_le (sub_length f os) (length os) ≡ true = and_right (nat_le (f.t + f.l) (length os) && nat_le (f.t + f.l) (sub_length f os)) (nat_le (sub_length f os) (length os)) b in
+    let counts : nat_le (f.t + f.l) (sub_length f os) ≡ true = and_right (nat_le (f.t + f.l) (length os)) (nat_le (f.t + f.l) (sub_length f os)) (and_left (nat_le (f.t + f.l) (length os) && nat_le (f.t + f.l) (sub_length f os)) (nat_le (sub_length f os) (length os)) b) in
+    let n : ℕ = sub_length f os in
+    (let low : f.t + f.l ≤ n = le_of counts in omega arith, le_of whole)
+  where
+    le_of : {a b : ℕ} → nat_le a b ≡ true → a ≤ b
+    le_of {a} {b} e = grind (arith, common_steps)
+
+drop_one : (n : ℕ) (o : ℕ) (os : List ℕ) → 1 ≤ n → drop (n - 1) os ≡ drop n (o ∷ os)
+drop_one zero o os h = absurd (omega arith)
+drop_one (suc n) o os h = ap (λ k. drop k os) (omega arith)
+
+-- the first one, and the others
+pub subs_more : (f : Format) (os : List ℕ) → is_format f.t f.l ≡ true → 0 < length os → begins_sub f os ≡ true → subs f os ≡ first_sub f os ∷ subs f (drop (sub_length f os) os)
+unfolding subs_behind
+subs_more f [] h some b = absurd (omega arith)
+subs_more f (o ∷ os) h some b =
+    let n : ℕ = sub_length f (o ∷ os) in
+    rw b (ap (λ (ss : List Sub). first_sub f (o ∷ os) ∷ ss) (subs_behind-drop f (n - 1) os ∙ ap (subs_behind f 0) (drop_one n o os (sub_size f (o ∷ os) h b).0)))
+
+pub are_subs_more : (f : Format) (os : List ℕ) → is_format f.t f.l ≡ true → 0 < length os → begins_sub f os ≡ true → are_subs_behind f 0 os ≡ are_subs_behind f 0 (drop (sub_length f os) os)
+unfolding are_subs_behind
+are_subs_more f [] h some b = absurd (omega arith)
+are_subs_more f (o ∷ os) h some b =
+    let n : ℕ = sub_length f (o ∷ os) in
+    rw b (are_subs_behind-drop f (n - 1) os ∙ ap (are_subs_behind f 0) (drop_one n o os (sub_size f (o ∷ os) h b).0))
+
+-- no more
+pub subs_none : (f : Format) (os : List ℕ) → begins_sub f os ≡ false → subs f os ≡ []
+unfolding subs_behind
+subs_none f [] b = refl
+subs_none f (o ∷ os) b = rw b
+
+pub are_subs_none : (f : Format) (os : List ℕ) → begins_sub f os ≡ false → are_subs_behind f 0 os ≡ (length os == 0)
+unfolding are_subs_behind
+are_subs_none f [] b = refl
+are_subs_none f (o ∷ os) b = let some : (length (o ∷ os) == 0) ≡ false = grind (arith, common_steps) in rw (b, some)
+
+-- where one begins there are octets
+pub begins_some : (f : Format) (os : List ℕ) → is_format f.t f.l ≡ true → begins_sub f os ≡ true → 0 < length os
+begins_some f os h b = let s = sub_size f os h b in omega (arith, s.0, s.1)

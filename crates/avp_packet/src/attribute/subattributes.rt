@@ -1,0 +1,164 @@
+//! A vendor's own attributes (RFC 2865, section 5.26).
+
+ghost use Rattle.std.specs.Prelude.{◌≡◌, ◌≤◌, ◌<◌, ◌+◌, ◌++◌, true, false, Some, None, length, drop, map, OnOk, IfOk, IfSome, IfNone};
+ghost use Rattle.std.specs.Int.Digits.{number_from_digits};
+ghost use Rattle.avp_dict.specs.Vendors.{is_format};
+ghost use Rattle.avp_packet.specs.AttributeOctets.{part};
+ghost use Rattle.avp_packet.specs.Meanings.{are_subs, are_subs_behind, begins_sub, first_sub, sub_length, sub_pair, subs, vendor_of, vendor_pairs, vendor_subs};
+ghost use Rattle.avp_packet.specs.internal.Views.{sub_view};
+
+use crate::attribute::formats::known_format;
+use crate::decoding::values::{push_raw, push_read};
+use crate::encoding::attributes::VENDOR_SPECIFIC;
+use avp_dict::{Dictionary, Format};
+use avp_lists::{AttrId, Pair};
+use std::alloc::AllocError;
+
+// The octets of a Vendor-Id.
+const VENDOR_ID_OCTETS: usize = 4;
+
+// One of a vendor's attributes, and what is behind it.
+#[derive(Clone, Copy)]
+struct Sub<'a> {
+    number: u32,
+    value: &'a [u8],
+    rest: &'a [u8],
+}
+
+// A number of at most four octets, the highest of them first.
+fn number_in(octets: &[u8]) -> u32
+    requires { length octets.now ≤ 4 }
+    ensures { result ≡ number_from_digits 256 octets.now }
+{
+    match octets {
+        [a] => u32::from(*a),
+        [a, b] => u32::from(u16::from_be_bytes([*a, *b])),
+        [a, b, c] => u32::from_be_bytes([0, *a, *b, *c]),
+        [a, b, c, d] => u32::from_be_bytes([*a, *b, *c, *d]),
+        _ => 0,
+    }
+}
+
+// What the first attribute's length counts.
+fn sub_length(format: Format, octets: &[u8]) -> usize
+    requires format { is_format format.t format.l ≡ true }
+    requires room { format.t + format.l ≤ length octets.now }
+    ensures { result ≡ sub_length format octets.now }
+{
+    if format.l == 0 {
+        return octets.len();
+    }
+    let start = usize::from(format.t);
+    let behind = &octets[start..];
+    number_in(&behind[..usize::from(format.l)]) as usize
+}
+
+fn first_sub(format: Format, octets: &[u8]) -> Option<Sub<'_>>
+    requires { is_format format.t format.l ≡ true }
+    ensures begins { IfSome result (λ sub. begins_sub format octets.now ≡ true) }
+    ensures sub { IfSome result (λ sub. sub_view sub ≡ first_sub format octets.now) }
+    ensures rest { IfSome result (λ sub. sub.rest.now ≡ drop (sub_length format octets.now) octets.now) }
+    ensures none { IfNone result (begins_sub format octets.now ≡ false) }
+{
+    let head = usize::from(format.t) + usize::from(format.l);
+    if octets.len() < head {
+        return None;
+    }
+    let length = sub_length(format, octets);
+    if length < head || length > octets.len() {
+        return None;
+    }
+    let behind = &octets[head..];
+    Some(Sub {
+        number: number_in(&octets[..usize::from(format.t)]),
+        value: &behind[..length - head],
+        rest: &octets[length..],
+    })
+}
+
+// Whether the octets are whole attributes of the vendor, and none but these.
+fn are_whole(format: Format, octets: &[u8]) -> bool
+    requires { is_format format.t format.l ≡ true }
+    ensures { result ≡ are_subs_behind format 0 octets.now }
+{
+    let mut rest = octets;
+    while let Some(sub) = first_sub(format, rest) {
+        rest = sub.rest;
+    }
+    rest.is_empty()
+}
+
+// Adds a pair for each of the vendor's attributes.
+fn push_subs(
+    pairs: &mut Vec<Pair>,
+    dictionary: &Dictionary,
+    secret: &[u8],
+    authenticator: &[u8; 16],
+    vendor: u32,
+    format: Format,
+    octets: &[u8],
+) -> Result<(), AllocError>
+    requires secret { 0 < length secret.now }
+    requires format { is_format format.t format.l ≡ true }
+    ensures { OnOk result (pairs.new.items ≡ pairs.old.items ++ map (sub_pair dictionary.now secret.now authenticator.now vendor) (subs format octets.now)) }
+{
+    let mut rest = octets;
+    while let Some(sub) = first_sub(format, rest) {
+        push_read(
+            pairs,
+            dictionary,
+            secret,
+            authenticator,
+            AttrId::Vendor(vendor, sub.number),
+            sub.value,
+        )?;
+        rest = sub.rest;
+    }
+    Ok(())
+}
+
+// The format of a vendor whose attributes are behind the Vendor-Id.
+#[tactic(auto, unfolding(crate::specs::Meanings::vendor_subs))]
+fn format_behind(dictionary: &Dictionary, value: &[u8]) -> Option<Format>
+    ensures known { IfSome result (λ f. vendor_subs dictionary.now value.now ≡ Some (subs f (drop 4 value.now))) }
+    ensures format { IfSome result (λ f. is_format f.t f.l ≡ true) }
+    ensures long { IfSome result (λ f. 4 ≤ length value.now) }
+    ensures none { IfNone result (vendor_subs dictionary.now value.now ≡ None) }
+{
+    if value.len() < VENDOR_ID_OCTETS {
+        return None;
+    }
+    let format = known_format(dictionary, number_in(&value[..VENDOR_ID_OCTETS]))?;
+    let octets = &value[VENDOR_ID_OCTETS..];
+    if !octets.is_empty() && are_whole(format, octets) {
+        Some(format)
+    } else {
+        None
+    }
+}
+
+/// Adds a pair for each attribute of a vendor in a Vendor-Specific attribute, and the attribute as it is where it holds
+/// none.
+pub(crate) fn push_vendor_pairs(
+    pairs: &mut Vec<Pair>,
+    dictionary: &Dictionary,
+    secret: &[u8],
+    authenticator: &[u8; 16],
+    value: &[u8],
+) -> Result<(), AllocError>
+    requires { 0 < length secret.now }
+    ensures { OnOk result (pairs.new.items ≡ pairs.old.items ++ vendor_pairs dictionary.now secret.now authenticator.now (part VENDOR_SPECIFIC value.now) (vendor_subs dictionary.now value.now)) }
+{
+    match format_behind(dictionary, value) {
+        Some(format) => push_subs(
+            pairs,
+            dictionary,
+            secret,
+            authenticator,
+            number_in(&value[..VENDOR_ID_OCTETS]),
+            format,
+            &value[VENDOR_ID_OCTETS..],
+        ),
+        None => push_raw(pairs, VENDOR_SPECIFIC, value),
+    }
+}

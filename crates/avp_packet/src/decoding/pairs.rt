@@ -1,0 +1,122 @@
+//! The pairs that attributes mean.
+
+ghost use Rattle.std.specs.Prelude.{◌≡◌, ◌<◌, ◌≤◌, ◌∷◌, ◌++◌, [], true, length, drop, slice_index, All, IfOk, OnOk};
+ghost use Rattle.avp_dict.specs.Limits.{fits};
+ghost use Rattle.avp_packet.specs.AttributeOctets.{part};
+ghost use Rattle.avp_packet.specs.Meanings.{first_pairs, first_run, long_pair, attribute_pairs, others, others_in};
+ghost use Rattle.avp_packet.specs.CanonicalOrContainer.{IsCanonicalOrContainer};
+ghost use Rattle.avp_packet.specs.Splitting.{part_octets, parts};
+
+use crate::attribute::splitting::{Front, first_attribute};
+use crate::attribute::subattributes::push_vendor_pairs;
+use crate::decoding::fragments::join_run;
+use crate::decoding::values::{push_extended, push_joined, push_raw, push_read};
+use crate::encoding::attributes::VENDOR_SPECIFIC;
+use crate::encoding::pairs::MAX_ATTRIBUTE_OCTETS;
+use avp_dict::Dictionary;
+use avp_lists::{AttrId, Pair};
+use std::alloc::{AllocError, Global};
+
+// The Extended-Type of an attribute.
+fn extended_type_of(value: &[u8]) -> u8
+    ensures { result ≡ slice_index value.now 0 }
+{
+    match value {
+        [number, ..] => *number,
+        [] => 0,
+    }
+}
+
+// Adds the pair of an attribute of type 245 or 246, with those that its value goes on in, and gives what is behind
+// them.
+fn push_long<'a>(
+    pairs: &mut Vec<Pair>,
+    dictionary: &Dictionary,
+    secret: &[u8],
+    authenticator: &[u8; 16],
+    octets: &'a [u8],
+    front: Front<'a>,
+) -> Result<&'a [u8], AllocError>
+    requires secret { 0 < length secret.now }
+    requires front { octets.now ≡ part_octets (part front.number front.value.now) ++ front.rest.now }
+    ensures pair { OnOk result (pairs.new.items ≡ pairs.old.items ++ long_pair dictionary.now secret.now authenticator.now (part front.entry.number front.entry.value.now) (first_run (part front.entry.number front.entry.value.now) (parts front.entry.rest.now)) ∷ []) }
+    ensures rest { IfOk result (λ rest. parts rest.now ≡ drop (others_in (parts front.entry.rest.now) (first_run (part front.entry.number front.entry.value.now) (parts front.entry.rest.now))) (parts front.entry.rest.now)) }
+    ensures shorter { IfOk result (λ rest. length rest.now < length octets.now) }
+{
+    let number = extended_type_of(front.value);
+    match join_run(*pairs.allocator(), front.number, number, octets)? {
+        Some(joined) => {
+            let id = AttrId::Extended(front.number, number);
+            push_joined(pairs, dictionary, secret, authenticator, id, joined.octets)?;
+            Ok(joined.rest)
+        }
+        None => {
+            push_raw(pairs, front.number, front.value)?;
+            Ok(front.rest)
+        }
+    }
+}
+
+// Adds the pairs of the first attribute, with those that its value goes on in, and gives what is behind them.
+fn push_first<'a>(
+    pairs: &mut Vec<Pair>,
+    dictionary: &Dictionary,
+    secret: &[u8],
+    authenticator: &[u8; 16],
+    octets: &'a [u8],
+    front: Front<'a>,
+) -> Result<&'a [u8], AllocError>
+    requires secret { 0 < length secret.now }
+    requires front { octets.now ≡ part_octets (part front.number front.value.now) ++ front.rest.now }
+    ensures pairs { OnOk result (pairs.new.items ≡ pairs.old.items ++ first_pairs dictionary.now secret.now authenticator.now (part front.entry.number front.entry.value.now) (parts front.entry.rest.now)) }
+    ensures rest { IfOk result (λ rest. parts rest.now ≡ drop (others (part front.entry.number front.entry.value.now) (parts front.entry.rest.now)) (parts front.entry.rest.now)) }
+    ensures shorter { IfOk result (λ rest. length rest.now < length octets.now) }
+{
+    match front.number {
+        VENDOR_SPECIFIC => push_vendor_pairs(
+            pairs,
+            dictionary,
+            secret,
+            authenticator,
+            front.value,
+        )?,
+        241..=244 => push_extended(
+            pairs,
+            dictionary,
+            secret,
+            authenticator,
+            front.number,
+            front.value,
+        )?,
+        245 | 246 => return push_long(pairs, dictionary, secret, authenticator, octets, front),
+        number => {
+            let id = AttrId::Plain(u32::from(number));
+            push_read(pairs, dictionary, secret, authenticator, id, front.value)?;
+        }
+    }
+    Ok(front.rest)
+}
+
+/// The pairs that whole attributes mean, in a list with room for so many.
+pub(crate) fn attribute_pairs(
+    alloc: Global,
+    dictionary: &Dictionary,
+    secret: &[u8],
+    authenticator: &[u8; 16],
+    octets: &[u8],
+    count: usize,
+) -> Result<Vec<Pair>, AllocError>
+    requires secret { 0 < length secret.now }
+    requires short { length octets.now ≤ MAX_ATTRIBUTE_OCTETS }
+    ensures pairs { IfOk result (λ pairs. pairs.items ≡ attribute_pairs dictionary.now secret.now authenticator.now (parts octets.now)) }
+    ensures fits { IfOk result (λ pairs. All (λ pair. fits pair dictionary.now ≡ true) pairs.items) }
+    ensures own { IfOk result (λ pairs. All (IsCanonicalOrContainer dictionary.now) pairs.items) }
+{
+    dictionary.is_sound();
+    let mut pairs = Vec::with_capacity(alloc, count)?;
+    let mut rest = octets;
+    while let Some(front) = first_attribute(rest) {
+        rest = push_first(&mut pairs, dictionary, secret, authenticator, rest, front)?;
+    }
+    Ok(pairs)
+}

@@ -1,0 +1,130 @@
+//! The attributes that pairs are sent in (RFC 2865, sections 5 and 5.26; RFC 6929, sections 2.1 and 2.2).
+
+ghost use Rattle.std.specs.Prelude.{◌≡◌, ◌≤◌, ◌<◌, ◌+◌, ◌-◌, ◌/◌, ◌^◌, ◌∷◌, ◌++◌, [], true, length, OnOk, IfOk};
+ghost use Rattle.std.specs.Int.{bytes_high_first};
+ghost use Rattle.std.specs.List.{flat_map};
+ghost use Rattle.avp_dict.specs.Vendors.{is_format};
+ghost use Rattle.avp_packet.specs.AttributeOctets.{fragments, part, parts_holding, vendor_part, vendor_value};
+ghost use Rattle.avp_packet.specs.Splitting.{part_octets};
+ghost use Rattle.avp_packet.specs.internal.Holding.{CanHold, FitsFormat};
+
+use crate::attribute::formats::known_format;
+use avp_dict::{Dictionary, Format};
+use avp_lists::AttrId;
+use std::alloc::AllocError;
+
+/// The attribute that holds a vendor's own (RFC 2865, section 5.26).
+pub(crate) const VENDOR_SPECIFIC: u8 = 26;
+
+/// The octets of a piece of a long value (RFC 6929, section 2.2).
+pub(crate) const PIECE_OCTETS: usize = 251;
+
+/// The flag of a piece that another one follows.
+pub(crate) const MORE: u8 = 0x80;
+
+// Adds an attribute whose value begins with the front.
+fn push_attribute(
+    octets: &mut Vec<u8>,
+    number: u8,
+    front: &[u8],
+    rest: &[u8],
+) -> Result<(), AllocError>
+    requires { length front.now + length rest.now ≤ 253 }
+    ensures { OnOk result (octets.new.items ≡ octets.old.items ++ part_octets (part number (front.now ++ rest.now))) }
+{
+    octets.push(number)?;
+    octets.push((2 + front.len() + rest.len()) as u8)?;
+    octets.extend_from_slice(front)?;
+    octets.extend_from_slice(rest)
+}
+
+// Adds a long value in pieces.
+fn push_fragments(octets: &mut Vec<u8>, t: u8, number: u8, value: &[u8]) -> Result<(), AllocError>
+    ensures { OnOk result (octets.new.items ≡ octets.old.items ++ flat_map part_octets (fragments ((length value.now - 1) / 251) t number value.now)) }
+{
+    let mut rest = value;
+    while rest.len() > PIECE_OCTETS {
+        let (piece, after) = rest.split_at(PIECE_OCTETS);
+        push_attribute(octets, t, &[number, MORE], piece)?;
+        rest = after;
+    }
+    push_attribute(octets, t, &[number, 0], rest)?;
+    Ok(())
+}
+
+// Adds the last octets of a number, the highest of them first.
+fn push_number(octets: &mut Vec<u8>, count: u8, number: u32) -> Result<(), AllocError>
+    requires { count ≤ 4 }
+    ensures { OnOk result (octets.new.items ≡ octets.old.items ++ bytes_high_first count number) }
+{
+    match count {
+        0 => Ok(()),
+        1 => octets.extend_from_slice(&number.to_be_bytes()[3..]),
+        2 => octets.extend_from_slice(&number.to_be_bytes()[2..]),
+        3 => octets.extend_from_slice(&number.to_be_bytes()[1..]),
+        _ => octets.extend_from_slice(&number.to_be_bytes()),
+    }
+}
+
+// Adds what comes in an attribute before the value of a vendor's own.
+fn push_vendor_head(
+    octets: &mut Vec<u8>,
+    format: Format,
+    vendor: u32,
+    number: u32,
+    length: u8,
+) -> Result<(), AllocError>
+    requires { is_format format.t format.l ≡ true }
+    ensures { OnOk result (octets.new.items ≡ octets.old.items ++ bytes_high_first 4 vendor ++ bytes_high_first format.t number ++ bytes_high_first format.l length) }
+{
+    octets.extend_from_slice(&vendor.to_be_bytes())?;
+    push_number(octets, format.t, number)?;
+    push_number(octets, format.l, u32::from(length))
+}
+
+// Adds an attribute of a vendor.
+fn push_vendor(
+    octets: &mut Vec<u8>,
+    format: Format,
+    vendor: u32,
+    number: u32,
+    value: &[u8],
+) -> Result<(), AllocError>
+    requires format { is_format format.t format.l ≡ true }
+    requires room { FitsFormat number value.now format }
+    ensures { OnOk result (octets.new.items ≡ octets.old.items ++ flat_map part_octets (vendor_part vendor number value.now format)) }
+{
+    let length = usize::from(format.t) + usize::from(format.l) + value.len();
+    octets.push(VENDOR_SPECIFIC)?;
+    octets.push((6 + length) as u8)?;
+    push_vendor_head(octets, format, vendor, number, length as u8)?;
+    octets.extend_from_slice(value)?;
+    Ok(())
+}
+
+/// Adds the attributes of an id that hold the value.
+#[tactic(auto, unfolding(crate::specs::AttributeOctets::parts_holding))]
+pub(crate) fn push_holding(
+    octets: &mut Vec<u8>,
+    dictionary: &Dictionary,
+    id: AttrId,
+    value: &[u8],
+) -> Result<(), AllocError>
+    requires { CanHold dictionary.now id value.now }
+    ensures { OnOk result (octets.new.items ≡ octets.old.items ++ flat_map part_octets (parts_holding dictionary.now id value.now)) }
+{
+    match id {
+        AttrId::Plain(number) => push_attribute(octets, number as u8, &[], value),
+        AttrId::Vendor(vendor, number) => match known_format(dictionary, vendor) {
+            Some(format) => push_vendor(octets, format, vendor, number, value),
+            None => Ok(()),
+        },
+        AttrId::Extended(t, number) => {
+            if t >= 245 {
+                push_fragments(octets, t, number, value)
+            } else {
+                push_attribute(octets, t, &[number], value)
+            }
+        }
+    }
+}

@@ -1,0 +1,263 @@
+//! Packets written (RFC 2865, section 3; RFC 2866, section 3; RFC 3579, section 3.2).
+
+ghost use Rattle.std.specs.Prelude.{◌≡◌, ◌≤◌, ◌<◌, [], true, false, length, All, OnOk, IfOk, Err, Some};
+ghost use Rattle.avp_lists.specs.declared.pairs.AttrId.TheVariants.{Plain};
+ghost use Rattle.avp_dict.specs.Limits.{fits};
+ghost use Rattle.avp_dict.specs.Sent.{is_clean};
+ghost use Rattle.avp_packet.specs.Hmac.{hmac};
+ghost use Rattle.avp_packet.specs.Means.{Means};
+ghost use Rattle.avp_packet.specs.Packets.{IsReplyCode, IsRequestCode, attributes_of, authenticator_of, hiding_authenticator, is_reply, packet, pairs_meant, reply, reply_content, request, request_authenticator, request_content, request_kind, zeros};
+ghost use Rattle.avp_packet.specs.Sending.{is_to_sign};
+ghost use Rattle.avp_packet.specs.Signed.{is_signed};
+ghost use Rattle.avp_packet.specs.Splitting.{left, parts};
+ghost use Rattle.avp_packet.specs.internal.Filling.{IsPlace, divided_octets, divided_signed, filled};
+ghost use Rattle.avp_packet.specs.internal.Ranges.{IsVendorInRange};
+
+use crate::authenticators::{MAX_PACKET_OCTETS, PACKET_HEAD_OCTETS, ZEROS, digest_over, head_of};
+use crate::encoding::dividing::{Division, divide_reply, divide_request};
+use crate::encoding::pairs::{MAX_ATTRIBUTE_OCTETS, write_attributes};
+use crate::faults::EncodeFault;
+use crate::hmac::{SIGNATURE_OCTETS, signature_between};
+use crate::packets::{ACCOUNTING_REQUEST, ACCOUNTING_RESPONSE};
+use avp_dict::Dictionary;
+use avp_lists::Pair;
+use std::alloc::{AllocError, Global};
+
+/// What the first block of a password is hidden by.
+pub(crate) fn hiding_authenticator(code: u8, authenticator: &[u8; 16]) -> [u8; 16]
+    ensures { result ≡ hiding_authenticator code authenticator.now }
+{
+    if code == ACCOUNTING_REQUEST || code == ACCOUNTING_RESPONSE {
+        ZEROS
+    } else {
+        *authenticator
+    }
+}
+
+// The authenticator of a request with these attributes.
+fn request_authenticator(
+    code: u8,
+    id: u8,
+    authenticator: &[u8; 16],
+    attributes: &[u8],
+    secret: &[u8],
+) -> [u8; 16]
+    requires { length attributes.now ≤ MAX_ATTRIBUTE_OCTETS }
+    ensures { result ≡ request_authenticator code id authenticator.now attributes.now secret.now }
+{
+    if code == ACCOUNTING_REQUEST {
+        digest_over(code, id, &ZEROS, attributes, secret)
+    } else {
+        *authenticator
+    }
+}
+
+// Fills in the octets of a blank Message-Authenticator.
+fn fill_signature(octets: &mut Vec<u8>, place: usize, signature: &[u8; 16])
+    requires place { IsPlace (length octets.old.items) (Some place) }
+    requires blank { filled octets.old.items (Some place) zeros ≡ octets.old.items }
+    ensures { octets.new.items ≡ filled octets.old.items (Some place) signature.now }
+{
+    octets[place + 2..place + SIGNATURE_OCTETS].copy_from_slice(signature);
+}
+
+// Signs the packet of attributes, where there is a blank Message-Authenticator among them.
+#[tactic(auto, unfolding(crate::specs::Packets::packet))]
+fn sign(
+    octets: &mut Vec<u8>,
+    place: Option<usize>,
+    code: u8,
+    id: u8,
+    authenticator: &[u8; 16],
+    secret: &[u8],
+)
+    requires short { length octets.old.items ≤ MAX_ATTRIBUTE_OCTETS }
+    requires place { IsPlace (length octets.old.items) place }
+    requires blank { filled octets.old.items place zeros ≡ octets.old.items }
+    ensures { octets.new.items ≡ filled octets.old.items place (hmac secret.now (packet code id authenticator.now octets.old.items)) }
+{
+    let Some(place) = place else {
+        return;
+    };
+    let head = head_of(code, id, octets.len());
+    let before = &octets[..place];
+    let behind = &octets[place + SIGNATURE_OCTETS..];
+    let signature = signature_between(secret, &head, authenticator, before, behind);
+    fill_signature(octets, place, &signature);
+}
+
+// The attributes of a packet, signed.
+fn signed_attributes(
+    alloc: Global,
+    dictionary: &Dictionary,
+    secret: &[u8],
+    code: u8,
+    id: u8,
+    authenticator: &[u8; 16],
+    division: &Division<'_>,
+    proxy_states: &[Pair],
+) -> Result<Vec<u8>, EncodeFault>
+    requires before_fit { All (λ pair. fits pair dictionary.now ≡ true) division.now.before.now }
+    requires behind_fit { All (λ pair. fits pair dictionary.now ≡ true) division.now.behind.now }
+    requires proxies_fit { All (λ pair. fits pair dictionary.now ≡ true) proxy_states.now }
+    ensures octets { IfOk result (λ octets. octets.items ≡ divided_signed dictionary.now secret.now code id authenticator.now division.now proxy_states.now) }
+    ensures short { IfOk result (λ octets. length octets.items ≤ MAX_ATTRIBUTE_OCTETS) }
+    ensures before_ranged { OnOk result (All (λ pair. IsVendorInRange pair.id) division.now.before.now) }
+    ensures behind_ranged { OnOk result (All (λ pair. IsVendorInRange pair.id) division.now.behind.now) }
+    ensures proxies_ranged { OnOk result (All (λ pair. IsVendorInRange pair.id) proxy_states.now) }
+    ensures too_long { result ≡ Err EncodeFault.TooLong → MAX_ATTRIBUTE_OCTETS < length (divided_octets dictionary.now secret.now (hiding_authenticator code authenticator.now) division.now proxy_states.now zeros) }
+{
+    let hide_by = hiding_authenticator(code, authenticator);
+    let written = write_attributes(alloc, dictionary, secret, &hide_by, division, proxy_states)?;
+    let mut octets = written.octets;
+    sign(&mut octets, written.place, code, id, authenticator, secret);
+    Ok(octets)
+}
+
+#[tactic(auto, unfolding(crate::specs::Packets::packet))]
+fn packet(
+    alloc: Global,
+    code: u8,
+    id: u8,
+    authenticator: &[u8; 16],
+    attributes: &[u8],
+) -> Result<Vec<u8>, AllocError>
+    requires { length attributes.now ≤ MAX_ATTRIBUTE_OCTETS }
+    ensures { IfOk result (λ octets. octets.items ≡ packet code id authenticator.now attributes.now) }
+{
+    let mut octets = Vec::with_capacity(alloc, PACKET_HEAD_OCTETS + attributes.len())?;
+    octets.extend_from_slice(&head_of(code, id, attributes.len()))?;
+    octets.extend_from_slice(authenticator)?;
+    octets.extend_from_slice(attributes)?;
+    Ok(octets)
+}
+
+/// An Access-Request or an Accounting-Request with the pairs of a list. The authenticator of an Accounting-Request is
+/// its digest, and the one given is not used. In an Access-Request the list's first Message-Authenticator, whatever its
+/// value, is sent in its place as one that signs the packet, and later ones are not sent; an Accounting-Request sends
+/// them as they are. [`EncodeFault::TooLong`] is found before the packet is put together.
+#[tactic(auto, unfolding(crate::specs::Packets::request), using(crate::proofs::Assembled::length_request))]
+pub fn encode_request(
+    alloc: Global,
+    dictionary: &Dictionary,
+    secret: &[u8],
+    code: u8,
+    id: u8,
+    authenticator: &[u8; 16],
+    list: &[Pair],
+) -> Result<Vec<u8>, EncodeFault>
+    requires secret { 0 < length secret.now }
+    requires code { IsRequestCode code }
+    requires fits { All (λ pair. fits pair dictionary.now ≡ true) list.now }
+    ensures octets { IfOk result (λ octets. octets.items ≡ request dictionary.now secret.now code id authenticator.now list.now) }
+    ensures short { OnOk result (length (request dictionary.now secret.now code id authenticator.now list.now) ≤ MAX_PACKET_OCTETS) }
+    // The attributes are whole, and what is written of a clean list means the pairs that are sent.
+    ensures whole { IfOk result (λ octets. left (attributes_of octets.items) ≡ []) }
+    ensures means { IfOk result (λ octets. is_clean list.now dictionary.now ≡ true
+        → Means dictionary.now secret.now (hiding_authenticator code authenticator.now) (parts (attributes_of octets.items)) (pairs_meant dictionary.now secret.now code id authenticator.now (request_content code list.now))) }
+    // An Access-Request is signed where its list has a Message-Authenticator.
+    ensures signed { IfOk result (λ octets. is_to_sign (request_kind code) list.now ≡ true → is_signed octets.items authenticator.now secret.now ≡ true) }
+    ensures too_long { result ≡ Err EncodeFault.TooLong → MAX_PACKET_OCTETS < length (request dictionary.now secret.now code id authenticator.now list.now) }
+{
+    dictionary.is_sound();
+    let division = divide_request(code, list);
+    let attributes = signed_attributes(
+        alloc,
+        dictionary,
+        secret,
+        code,
+        id,
+        authenticator,
+        &division,
+        &[],
+    )?;
+    let authenticator = request_authenticator(code, id, authenticator, &attributes, secret);
+    let octets = packet(alloc, code, id, &authenticator, &attributes)?;
+    Ok(octets)
+}
+
+/// The authenticator of the packet that [`encode_request`] makes of the same, without the packet: of an
+/// Accounting-Request its digest.
+#[tactic(auto, unfolding(crate::specs::Packets::request), using(crate::proofs::Assembled::length_request))]
+pub fn encoded_authenticator(
+    alloc: Global,
+    dictionary: &Dictionary,
+    secret: &[u8],
+    code: u8,
+    id: u8,
+    authenticator: &[u8; 16],
+    list: &[Pair],
+) -> Result<[u8; 16], EncodeFault>
+    requires secret { 0 < length secret.now }
+    requires code { IsRequestCode code }
+    requires fits { All (λ pair. fits pair dictionary.now ≡ true) list.now }
+    ensures authenticator { IfOk result (λ own. own ≡ authenticator_of (request dictionary.now secret.now code id authenticator.now list.now)) }
+    ensures short { OnOk result (length (request dictionary.now secret.now code id authenticator.now list.now) ≤ MAX_PACKET_OCTETS) }
+    ensures too_long { result ≡ Err EncodeFault.TooLong → MAX_PACKET_OCTETS < length (request dictionary.now secret.now code id authenticator.now list.now) }
+{
+    let division = divide_request(code, list);
+    let attributes = signed_attributes(
+        alloc,
+        dictionary,
+        secret,
+        code,
+        id,
+        authenticator,
+        &division,
+        &[],
+    )?;
+    Ok(request_authenticator(code, id, authenticator, &attributes, secret))
+}
+
+/// A reply with the pairs of a list, but for the list's Message-Authenticators, and then the Proxy-States of the
+/// request. Where it is signed, a Message-Authenticator comes first, made over the Request Authenticator; the Response
+/// Authenticator is made over it.
+#[tactic(auto, unfolding(crate::specs::Packets::reply), using(crate::proofs::Assembled::length_reply))]
+pub fn encode_reply(
+    alloc: Global,
+    dictionary: &Dictionary,
+    secret: &[u8],
+    code: u8,
+    id: u8,
+    request_authenticator: &[u8; 16],
+    list: &[Pair],
+    proxy_states: &[Pair],
+    signed: bool,
+) -> Result<Vec<u8>, EncodeFault>
+    requires secret { 0 < length secret.now }
+    requires code { IsReplyCode code }
+    requires fits { All (λ pair. fits pair dictionary.now ≡ true) list.now }
+    requires proxies_fit { All (λ pair. fits pair dictionary.now ≡ true) proxy_states.now }
+    // Proxy-State is attribute 33 (RFC 2865, section 5.33).
+    requires proxies { All (λ pair. pair.id ≡ Plain 33) proxy_states.now }
+    // An Accounting-Response has no Message-Authenticator.
+    requires signed { code ≡ ACCOUNTING_RESPONSE → signed ≡ false }
+    ensures octets { IfOk result (λ octets. octets.items ≡ reply dictionary.now secret.now code id request_authenticator.now signed list.now proxy_states.now) }
+    ensures short { OnOk result (length (reply dictionary.now secret.now code id request_authenticator.now signed list.now proxy_states.now) ≤ MAX_PACKET_OCTETS) }
+
+    // The attributes are whole, and what is written of clean lists means the pairs that are sent.
+    ensures whole { IfOk result (λ octets. left (attributes_of octets.items) ≡ []) }
+    ensures means { IfOk result (λ octets. is_clean list.now dictionary.now ≡ true → is_clean proxy_states.now dictionary.now ≡ true
+        → Means dictionary.now secret.now (hiding_authenticator code request_authenticator.now) (parts (attributes_of octets.items)) (pairs_meant dictionary.now secret.now code id request_authenticator.now (reply_content signed list.now proxy_states.now))) }
+
+    // `check_reply` accepts the packet, and `check_message` where `signed` is true.
+    ensures accepted { IfOk result (λ octets. is_reply octets.items request_authenticator.now secret.now ≡ true) }
+    ensures signed { IfOk result (λ octets. signed ≡ true → is_signed octets.items request_authenticator.now secret.now ≡ true) }
+    ensures too_long { result ≡ Err EncodeFault.TooLong → MAX_PACKET_OCTETS < length (reply dictionary.now secret.now code id request_authenticator.now signed list.now proxy_states.now) }
+{
+    dictionary.is_sound();
+    let division = divide_reply(signed, list);
+    let attributes = signed_attributes(
+        alloc,
+        dictionary,
+        secret,
+        code,
+        id,
+        request_authenticator,
+        &division,
+        proxy_states,
+    )?;
+    let authenticator = digest_over(code, id, request_authenticator, &attributes, secret);
+    let octets = packet(alloc, code, id, &authenticator, &attributes)?;
+    Ok(octets)
+}

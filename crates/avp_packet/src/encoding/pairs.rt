@@ -1,0 +1,245 @@
+//! The octets of pairs and lists as they are sent.
+
+ghost use Rattle.std.specs.Prelude.{◌≡◌, ◌≤◌, ◌<◌, ◌+◌, ◌∷◌, ◌++◌, ℕ, List, [], true, false, length, Option, All, OnOk, IfOk, IfSome, IsTrue, Err};
+ghost use Rattle.avp_dict.specs.Limits.{fits};
+ghost use Rattle.std.specs.Cow.{cow_slice_items};
+ghost use Rattle.avp_dict.specs.declared.entries.Kind.{Kind};
+ghost use Rattle.avp_dict.specs.Octets.{is_hidden, octets_of};
+ghost use Rattle.avp_dict.specs.Sent.{is_internal, is_raw};
+ghost use Rattle.avp_packet.specs.AttributeOctets.{attribute_octets, sent_octets};
+ghost use Rattle.avp_packet.specs.Packets.{zeros};
+ghost use Rattle.avp_packet.specs.internal.Filling.{IsPlace, divided_octets, filled, kept_pairs, place_if, signature_if};
+ghost use Rattle.avp_packet.specs.internal.Ranges.{IsVendorInRange};
+
+use crate::authenticators::{MAX_PACKET_OCTETS, PACKET_HEAD_OCTETS};
+use crate::encoding::attributes::push_holding;
+use crate::encoding::dividing::{Division, MESSAGE_AUTHENTICATOR};
+use crate::faults::EncodeFault;
+use crate::hiding::hidden;
+use crate::hmac::BLANK;
+use avp_dict::Dictionary;
+use avp_lists::{AttrId, Pair, Value};
+use std::alloc::{AllocError, Global};
+use std::borrow::CowSlice;
+
+/// The most octets of a packet's attributes.
+pub(crate) const MAX_ATTRIBUTE_OCTETS: usize = MAX_PACKET_OCTETS - PACKET_HEAD_OCTETS;
+
+/// Whether an id's values are hidden.
+pub(crate) fn is_hidden(dictionary: &Dictionary, id: AttrId) -> bool
+    ensures { result ≡ is_hidden id dictionary.now }
+{
+    match dictionary.by_id(id) {
+        Some(entry) => entry.hidden,
+        None => false,
+    }
+}
+
+fn is_raw(value: &Value) -> bool
+    ensures { result ≡ is_raw value.now }
+{
+    match value {
+        Value::Raw(_) => true,
+        _ => false,
+    }
+}
+
+// Whether an attribute is never sent.
+fn is_internal(id: AttrId) -> bool
+    ensures test { result ≡ is_internal id }
+    ensures ranged { IsVendorInRange id }
+{
+    match id {
+        AttrId::Plain(number) => number > 255,
+        AttrId::Vendor(_, _) => false,
+        AttrId::Extended(_, _) => false,
+    }
+}
+
+// The octets that a value keeps: all but numbers and addresses do.
+fn kept_octets(value: &Value) -> Option<&[u8]>
+    ensures { IfSome result (λ octets. (kind : Option Kind) → octets_of kind value.now ≡ octets.now) }
+{
+    match value {
+        Value::Text(octets) => Some(octets.as_slice()),
+        Value::Bytes(octets) => Some(octets.as_slice()),
+        Value::Raw(octets) => Some(octets.as_slice()),
+        _ => None,
+    }
+}
+
+// The octets of a pair's value: hidden where the attribute is, but for raw ones.
+#[tactic(auto, unfolding(crate::specs::AttributeOctets::sent_octets), using(crate::proofs::AttributeRoom::hidden_short))]
+fn sent_octets<'a>(
+    alloc: Global,
+    dictionary: &Dictionary,
+    secret: &[u8],
+    authenticator: &[u8; 16],
+    pair: &'a Pair,
+) -> Result<CowSlice<'a, u8>, AllocError>
+    requires { fits pair.now dictionary.now ≡ true }
+    ensures { IfOk result (λ octets. cow_slice_items octets ≡ sent_octets dictionary.now secret.now authenticator.now pair.now) }
+{
+    if is_hidden(dictionary, pair.id) && !is_raw(&pair.value) {
+        let plain = dictionary.bytes_of_value(alloc, pair.id, &pair.value)?;
+        let hidden = hidden(alloc, secret, authenticator, &plain)?;
+        return Ok(CowSlice::Owned(hidden));
+    }
+    if let Some(octets) = kept_octets(&pair.value) {
+        return Ok(CowSlice::Borrowed(octets));
+    }
+    let plain = dictionary.bytes_of_value(alloc, pair.id, &pair.value)?;
+    Ok(CowSlice::Owned(plain))
+}
+
+// Adds the attributes that a pair is sent in.
+fn push_pair(
+    octets: &mut Vec<u8>,
+    dictionary: &Dictionary,
+    secret: &[u8],
+    authenticator: &[u8; 16],
+    pair: &Pair,
+) -> Result<(), AllocError>
+    requires { fits pair.now dictionary.now ≡ true }
+    ensures octets { OnOk result (octets.new.items ≡ octets.old.items ++ attribute_octets dictionary.now secret.now authenticator.now (pair.now ∷ [])) }
+    ensures ranged { OnOk result (IsVendorInRange pair.now.id) }
+{
+    if is_internal(pair.id) {
+        return Ok(());
+    }
+    let value = sent_octets(*octets.allocator(), dictionary, secret, authenticator, pair)?;
+    let value = value.as_slice();
+    if value.is_empty() {
+        return Ok(());
+    }
+    push_holding(octets, dictionary, pair.id, value)?;
+    Ok(())
+}
+
+// Whether a pair is sent: a Message-Authenticator only where all are.
+fn is_kept(pair: &Pair, all: bool) -> bool
+    ensures kept { IsTrue result → kept_pairs all (pair.now ∷ []) ≡ pair.now ∷ [] }
+    ensures left { result ≡ false → kept_pairs all (pair.now ∷ []) ≡ [] }
+    ensures ranged { result ≡ false → IsVendorInRange pair.now.id }
+{
+    all || !pair.id.equals(MESSAGE_AUTHENTICATOR)
+}
+
+// Adds the attributes that a pair is sent in, unless it is left out, or the octets become too many.
+fn push_kept(
+    octets: &mut Vec<u8>,
+    dictionary: &Dictionary,
+    secret: &[u8],
+    authenticator: &[u8; 16],
+    pair: &Pair,
+    all: bool,
+) -> Result<(), EncodeFault>
+    requires fits { fits pair.now dictionary.now ≡ true }
+    requires short { length octets.old.items ≤ MAX_ATTRIBUTE_OCTETS }
+    ensures ok { OnOk result (octets.new.items ≡ octets.old.items ++ attribute_octets dictionary.now secret.now authenticator.now (kept_pairs all (pair.now ∷ []))) }
+    ensures ranged { OnOk result (IsVendorInRange pair.now.id) }
+    ensures short { OnOk result (length octets.new.items ≤ MAX_ATTRIBUTE_OCTETS) }
+    ensures too_long { result ≡ Err EncodeFault.TooLong → MAX_ATTRIBUTE_OCTETS < length octets.old.items + length (attribute_octets dictionary.now secret.now authenticator.now (kept_pairs all (pair.now ∷ []))) }
+{
+    if !is_kept(pair, all) {
+        return Ok(());
+    }
+    push_pair(octets, dictionary, secret, authenticator, pair)?;
+    if octets.len() > MAX_ATTRIBUTE_OCTETS {
+        return Err(EncodeFault::TooLong);
+    }
+    Ok(())
+}
+
+// Adds the attributes that a list is sent in, with all of its Message-Authenticators or with none, unless the octets
+// become too many.
+fn push_list(
+    octets: &mut Vec<u8>,
+    dictionary: &Dictionary,
+    secret: &[u8],
+    authenticator: &[u8; 16],
+    list: &[Pair],
+    all: bool,
+) -> Result<(), EncodeFault>
+    requires fits { All (λ pair. fits pair dictionary.now ≡ true) list.now }
+    requires short { length octets.old.items ≤ MAX_ATTRIBUTE_OCTETS }
+    ensures ok { OnOk result (octets.new.items ≡ octets.old.items ++ attribute_octets dictionary.now secret.now authenticator.now (kept_pairs all list.now)) }
+    ensures ranged { OnOk result (All (λ pair. IsVendorInRange pair.id) list.now) }
+    ensures short { OnOk result (length octets.new.items ≤ MAX_ATTRIBUTE_OCTETS) }
+    ensures too_long { result ≡ Err EncodeFault.TooLong → MAX_ATTRIBUTE_OCTETS < length octets.old.items + length (attribute_octets dictionary.now secret.now authenticator.now (kept_pairs all list.now)) }
+{
+    for pair in list {
+        push_kept(octets, dictionary, secret, authenticator, pair, all)?;
+    }
+    Ok(())
+}
+
+// Adds a blank Message-Authenticator where there is to be one, and says where it is.
+fn push_blank(octets: &mut Vec<u8>, signed: bool) -> Result<Option<usize>, EncodeFault>
+    requires short { length octets.old.items ≤ MAX_ATTRIBUTE_OCTETS }
+    ensures ok { OnOk result (octets.new.items ≡ octets.old.items ++ signature_if signed zeros) }
+    ensures place { IfOk result (λ place. place ≡ place_if signed (length octets.old.items)) }
+    ensures short { OnOk result (length octets.new.items ≤ MAX_ATTRIBUTE_OCTETS) }
+    ensures too_long { result ≡ Err EncodeFault.TooLong → MAX_ATTRIBUTE_OCTETS < length octets.old.items + length (signature_if signed zeros) }
+{
+    if !signed {
+        return Ok(None);
+    }
+    let place = octets.len();
+    octets.extend_from_slice(&BLANK)?;
+    if octets.len() > MAX_ATTRIBUTE_OCTETS {
+        return Err(EncodeFault::TooLong);
+    }
+    Ok(Some(place))
+}
+
+/// Attributes as they were written, and where a blank Message-Authenticator is among them.
+#[derive(Drop)]
+pub(crate) struct Written {
+    pub octets: Vec<u8>,
+    pub place: Option<usize>,
+}
+
+/// The attributes that a list is sent in and then its Proxy-States, with a blank Message-Authenticator, unless the octets
+/// become too many.
+pub(crate) fn write_attributes(
+    alloc: Global,
+    dictionary: &Dictionary,
+    secret: &[u8],
+    hide_by: &[u8; 16],
+    division: &Division<'_>,
+    proxy_states: &[Pair],
+) -> Result<Written, EncodeFault>
+    requires before_fit { All (λ pair. fits pair dictionary.now ≡ true) division.now.before.now }
+    requires behind_fit { All (λ pair. fits pair dictionary.now ≡ true) division.now.behind.now }
+    requires proxies_fit { All (λ pair. fits pair dictionary.now ≡ true) proxy_states.now }
+    ensures blank { IfOk result (λ w. w.octets.items ≡ divided_octets dictionary.now secret.now hide_by.now division.now proxy_states.now zeros) }
+    ensures filled { IfOk result (λ w. (signature : List ℕ) → filled w.octets.items w.place signature ≡ divided_octets dictionary.now secret.now hide_by.now division.now proxy_states.now signature) }
+    ensures place { IfOk result (λ w. IsPlace (length w.octets.items) w.place) }
+    ensures short { IfOk result (λ w. length w.octets.items ≤ MAX_ATTRIBUTE_OCTETS) }
+    ensures before_ranged { OnOk result (All (λ pair. IsVendorInRange pair.id) division.now.before.now) }
+    ensures behind_ranged { OnOk result (All (λ pair. IsVendorInRange pair.id) division.now.behind.now) }
+    ensures proxies_ranged { OnOk result (All (λ pair. IsVendorInRange pair.id) proxy_states.now) }
+    ensures too_long { result ≡ Err EncodeFault.TooLong → MAX_ATTRIBUTE_OCTETS < length (divided_octets dictionary.now secret.now hide_by.now division.now proxy_states.now zeros) }
+{
+    let mut octets = Vec::with_capacity(alloc, MAX_ATTRIBUTE_OCTETS)?;
+    push_list(
+        &mut octets,
+        dictionary,
+        secret,
+        hide_by,
+        division.before,
+        true,
+    )?;
+    let place = push_blank(&mut octets, division.signed)?;
+    push_list(
+        &mut octets,
+        dictionary,
+        secret,
+        hide_by,
+        division.behind,
+        false,
+    )?;
+    push_list(&mut octets, dictionary, secret, hide_by, proxy_states, true)?;
+    Ok(Written { octets, place })
+}

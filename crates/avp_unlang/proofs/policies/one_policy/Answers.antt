@@ -1,5 +1,0 @@
-use Rattle.avp_unlang.proofs.StatementsOne.{one_policy}
-use Rattle.avp_unlang.proofs.policies.one_policy.Goals as goal
-
-pub returns : goal.returns
-returns c = one_policy

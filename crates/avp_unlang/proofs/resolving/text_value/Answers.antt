@@ -1,9 +1,0 @@
-use Rattle.std.proofs.Common.{rules}
-use Rattle.avp_lists.specs.History.{present}
-use Rattle.avp_unlang.specs.Resolutions.{parts_text}
-use Rattle.avp_unlang.proofs.Typed.{spelled_fits}
-use Rattle.avp_unlang.proofs.resolving.text_value.Goals as goal
-
-pub returns-in-Ok-clause-fits : goal.returns-in-Ok-clause-fits
-returns-in-Ok-clause-fits g c =
-    spelled_fits c.args.dictionary.now c.args.name (parts_text c.args.dictionary.now (present (g.S.Store.history c.args.store.now)) c.args.parts.now) c.in-Ok.value c.requires.known (search rules)

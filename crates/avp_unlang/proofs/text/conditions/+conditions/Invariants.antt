@@ -1,0 +1,40 @@
+use Rattle.std.proofs.Common.{suc, length, ◌+◌, ◌*◌, ◌≤◌}
+use Rattle.avp_unlang.specs.declared.text.tokens.Sign.TheVariants.{And, Or}
+use Rattle.avp_unlang.specs.declared.text.tokens.Token.TheVariants.{Operator}
+use Rattle.avp_unlang.specs.Conditions.{Within, Both}
+use Rattle.avp_unlang.specs.Between.{Follows}
+use Rattle.avp_unlang.proofs.Chains.{IsFront}
+use Rattle.avp_unlang.proofs.text.conditions.+conditions.Given as goal
+
+abbrev pub decreases-closed : goal.decreases-closed
+decreases-closed l = 4 * l.depth
+
+abbrev pub decreases-negated : goal.decreases-negated
+decreases-negated l = 4 * l.depth
+
+abbrev pub decreases-operand : goal.decreases-operand
+decreases-operand l = 4 * l.depth + 1
+
+abbrev pub decreases-both : goal.decreases-both
+decreases-both l = 4 * l.depth + 2
+
+abbrev pub decreases-either : goal.decreases-either
+decreases-either l = 4 * l.depth + 3
+
+abbrev pub invariant-both-conds : goal.invariant-both-conds
+invariant-both-conds l = record {
+  front : IsFront (Follows (Operator And)) (Within l.dictionary (suc l.depth)) l.at l.conds.items l.rest;
+  within : length l.rest.text ≤ length l.at.text;
+}
+
+abbrev pub decreases-both-conds : goal.decreases-both-conds
+decreases-both-conds l = length l.rest.text
+
+abbrev pub invariant-either-conds : goal.invariant-either-conds
+invariant-either-conds l = record {
+  front : IsFront (Follows (Operator Or)) (Both (Within l.dictionary (suc l.depth))) l.at l.conds.items l.rest;
+  within : length l.rest.text ≤ length l.at.text;
+}
+
+abbrev pub decreases-either-conds : goal.decreases-either-conds
+decreases-either-conds l = length l.rest.text

@@ -1,0 +1,13 @@
+use Rattle.std.proofs.Common.{sym}
+use Rattle.avp_unlang.specs.Sources.{FilledIs}
+use Rattle.avp_unlang.proofs.Determined.{exits_all}
+use Rattle.avp_unlang.proofs.LinesOne.{filled_reads}
+use Rattle.avp_unlang.proofs.text.sources.filled_text.Goals as goal
+
+pub returns-in_err-parts : goal.returns-in_err-parts
+returns-in_err-parts c =
+    exits_all (FilledIs c.args.dictionary.now c.args.named c.args.text) _ _ c.from_residual.ensures.1 (λ some source h. c.in_err-parts.ensures some h.1 h.2)
+
+pub returns : goal.returns
+returns c =
+    filled_reads c.args.dictionary.now c.args.named c.args.text c.in_ok-parts.parts (sym c.if-is_barred.ensures) c.in_ok-parts.ensures c.filled_source.result c.filled_source.ensures.ok c.filled_source.ensures.err

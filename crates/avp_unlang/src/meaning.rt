@@ -1,0 +1,4 @@
+//! What lines and conditions mean in a state.
+
+pub mod resolving;
+pub mod truth;

@@ -1,0 +1,11 @@
+//! Policies read from a text.
+
+pub mod conditions;
+pub mod cursors;
+pub mod lines;
+pub mod parts;
+pub mod policies;
+pub mod references;
+pub mod sources;
+pub mod statements;
+pub mod tokens;

@@ -1,0 +1,319 @@
+//! Conditions, read from a text.
+
+ghost use Rattle.std.specs.Prelude.{◌≡◌, ◌≢◌, ◌≤◌, ◌<◌, suc, length, Some, None, false, IfOk, IfErr};
+ghost use Rattle.std.specs.Option.{option_and_then};
+ghost use Rattle.avp_lists.specs.declared.lists.List.{List as Name};
+ghost use Rattle.avp_unlang.specs.Conditions.{Both, Closed, ComparandIs, ComparedIs, Either, Negated, Within, WordFrom, all_of, any_of, has_expansion, plain_octets, relation_of};
+ghost use Rattle.avp_unlang.specs.Forms.{Reads, Then};
+ghost use Rattle.avp_unlang.specs.References.{ReadableIs};
+ghost use Rattle.avp_unlang.specs.Sources.{literal};
+ghost use Rattle.avp_unlang.specs.Words.{code_named};
+ghost use Rattle.avp_unlang.specs.declared.faults.PolicyKind.TheVariants.{Memory};
+
+use crate::boxed::Boxed;
+use crate::codes::code_named;
+use crate::faults::{PolicyFault, PolicyKind};
+use crate::items::Items;
+use crate::text::cursors::Cursor;
+use crate::text::references::{alike, readable, referred, type_of};
+use crate::text::sources::{SourceLines, literal, quoted_literal};
+use crate::text::tokens::{Excerpt, Sign, Token, front};
+use crate::tree::{Comparand, Comparison, Cond, Relation};
+use avp_dict::{Dictionary, Named, QuoteMark};
+use avp_lists::{List, Value};
+use std::alloc::Global;
+
+#[tactic(auto, unfolding(crate::specs::Conditions::relation_of))]
+fn relation_of(token: &Token) -> Option<Relation>
+    ensures { result ≡ relation_of token.now }
+{
+    match token {
+        Token::Operator(Sign::Equal) => Some(Relation::Equal),
+        Token::Operator(Sign::Differs) => Some(Relation::Differs),
+        Token::Operator(Sign::Less) => Some(Relation::Less),
+        Token::Operator(Sign::AtMost) => Some(Relation::AtMost),
+        Token::Operator(Sign::Greater) => Some(Relation::Greater),
+        Token::Operator(Sign::AtLeast) => Some(Relation::AtLeast),
+        _ => None,
+    }
+}
+
+// Whether there is a `%{` in a text with no `\` before either octet.
+fn has_expansion(text: &[u8]) -> bool
+    ensures { result ≡ has_expansion false text.now }
+{
+    let mut escaped = false;
+    let mut rest = text;
+    while let Some((octet, after)) = front(rest) {
+        if !escaped && octet == b'%' && after.first() == Some(&b'{') {
+            return true;
+        }
+        escaped = !escaped && octet == b'\\';
+        rest = after;
+    }
+    false
+}
+
+// The fault of an expansion in a condition; that the name is not writable comes first.
+fn expansion_fault(dictionary: &Dictionary, named: Named, lines: SourceLines) -> PolicyFault {
+    if dictionary.is_barred(named) {
+        return PolicyFault {
+            line: lines.name,
+            kind: PolicyKind::NotWritable,
+        };
+    }
+    PolicyFault {
+        line: lines.source,
+        kind: PolicyKind::Unreadable,
+    }
+}
+
+// The value of a text between double quotes, which may hold no expansion.
+fn plain_literal(
+    alloc: Global,
+    dictionary: &Dictionary,
+    named: Named,
+    text: &Excerpt,
+    lines: SourceLines,
+) -> Result<Value, PolicyFault>
+    ensures ok { IfOk result (λ value. option_and_then (literal dictionary.now named) (plain_octets text.now) ≡ Some value) }
+    ensures err { IfErr result (λ fault. fault.kind ≢ Memory → option_and_then (literal dictionary.now named) (plain_octets text.now) ≡ None) }
+{
+    if has_expansion(text.as_slice()) {
+        return Err(expansion_fault(dictionary, named, lines));
+    }
+    quoted_literal(alloc, dictionary, named, QuoteMark::Double, text, lines)
+}
+
+// What an attribute on this line is compared with.
+fn comparand<'a>(
+    alloc: Global,
+    dictionary: &Dictionary,
+    named: Named,
+    name_line: usize,
+    at: &Cursor<'a>,
+) -> Result<(Comparand, Cursor<'a>), PolicyFault>
+    ensures read { Reads (ComparandIs dictionary.now named at.now) result }
+    ensures shorter { IfOk result (λ x. length x.1.text ≤ length at.now.text) }
+{
+    let (token, after) = at.next();
+    let lines = SourceLines {
+        name: name_line,
+        source: after.line(),
+    };
+    match token {
+        Token::Word(text) => {
+            let value = literal(alloc, dictionary, named, text.as_slice(), lines)?;
+            Ok((Comparand::Literal(value), after))
+        }
+        Token::Quoted(QuoteMark::Single, text) => {
+            let value = quoted_literal(alloc, dictionary, named, QuoteMark::Single, &text, lines)?;
+            Ok((Comparand::Literal(value), after))
+        }
+        Token::Quoted(QuoteMark::Double, text) => {
+            let value = plain_literal(alloc, dictionary, named, &text, lines)?;
+            Ok((Comparand::Literal(value), after))
+        }
+        Token::Operator(Sign::Reference) => match alike(dictionary, named.id, &after) {
+            Ok(((list, other), rest)) => Ok((Comparand::Instance(list, other.id), rest)),
+            Err(fault) => Err(fault),
+        },
+        _ => Err(at.misplaced()),
+    }
+}
+
+// What follows a reference on this line: nothing of the operand, or a comparison.
+fn compared<'a>(
+    alloc: Global,
+    dictionary: &Dictionary,
+    found: (List, Named),
+    name_line: usize,
+    at: Cursor<'a>,
+) -> Result<(Cond, Cursor<'a>), PolicyFault>
+    ensures read { Reads (ComparedIs dictionary.now found at.entry) result }
+    ensures shorter { IfOk result (λ x. length x.1.text ≤ length at.entry.text) }
+{
+    let (list, named) = found;
+    let (token, after) = at.next();
+    match relation_of(&token) {
+        None => Ok((Cond::Present(list, named.id), at)),
+        Some(relation) => match comparand(alloc, dictionary, named, name_line, &after) {
+            Ok((comparand, rest)) => {
+                let comparison = Comparison {
+                    list,
+                    id: named.id,
+                    kind: type_of(dictionary, named.id),
+                    relation,
+                    comparand,
+                };
+                Ok((Cond::Compare(comparison), rest))
+            }
+            Err(fault) => Err(fault),
+        },
+    }
+}
+
+// The operand after an `&`.
+fn referred_operand<'a>(
+    alloc: Global,
+    dictionary: &Dictionary,
+    at: &Cursor<'a>,
+) -> Result<(Cond, Cursor<'a>), PolicyFault>
+    ensures read { Reads (Then (ReadableIs dictionary.now) (ComparedIs dictionary.now) at.now) result }
+    ensures shorter { IfOk result (λ x. length x.1.text ≤ length at.now.text) }
+{
+    let (found, mid) = referred(dictionary, at)?;
+    let line = mid.line();
+    compared(alloc, dictionary, found, line, mid)
+}
+
+// The operand of a word on the line of this place, which is the one after it.
+fn worded_operand<'a>(
+    alloc: Global,
+    dictionary: &Dictionary,
+    word: &[u8],
+    at: Cursor<'a>,
+) -> Result<(Cond, Cursor<'a>), PolicyFault>
+    ensures read { Reads (WordFrom dictionary.now (code_named word.now) word.now at.entry) result }
+    ensures shorter { IfOk result (λ x. length x.1.text ≤ length at.entry.text) }
+{
+    if let Some(code) = code_named(word) {
+        return Ok((Cond::Last(code), at));
+    }
+    match readable(dictionary, word) {
+        Err(kind) => Err(at.fault(kind)),
+        Ok(found) => {
+            let line = at.line();
+            compared(alloc, dictionary, found, line, at)
+        }
+    }
+}
+
+// Operands with `&&` between them; one is itself.
+fn all_of(conds: Vec<Cond>) -> Cond
+    ensures { result ≡ all_of conds.items }
+{
+    let mut conds = conds;
+    if conds.len() == 1 {
+        if let Some(only) = conds.pop() {
+            return only;
+        }
+    }
+    Cond::All(Items::from_vec(conds))
+}
+
+// Operands with `||` between them; one is itself.
+fn any_of(conds: Vec<Cond>) -> Cond
+    ensures { result ≡ any_of conds.items }
+{
+    let mut conds = conds;
+    if conds.len() == 1 {
+        if let Some(only) = conds.pop() {
+            return only;
+        }
+    }
+    Cond::Any(Items::from_vec(conds))
+}
+
+/// An operand. At most `depth` signs are nested in it.
+#[cycle(conditions)]
+fn operand<'a>(
+    alloc: Global,
+    dictionary: &Dictionary,
+    depth: usize,
+    at: &Cursor<'a>,
+) -> Result<(Cond, Cursor<'a>), PolicyFault>
+    ensures read { Reads (Within dictionary.now (suc depth) at.now) result }
+    ensures shorter { IfOk result (λ x. length x.1.text ≤ length at.now.text) }
+{
+    let (token, after) = at.next();
+    match token {
+        Token::Operator(Sign::Not) => negated(alloc, dictionary, depth, &after),
+        Token::Operator(Sign::Open) => closed(alloc, dictionary, depth, &after),
+        Token::Operator(Sign::Reference) => referred_operand(alloc, dictionary, &after),
+        Token::Word(word) => worded_operand(alloc, dictionary, word.as_slice(), after),
+        _ => Err(at.misplaced()),
+    }
+}
+
+// The operand after a `!`, which is on the line of this place.
+#[cycle(conditions)]
+fn negated<'a>(
+    alloc: Global,
+    dictionary: &Dictionary,
+    depth: usize,
+    at: &Cursor<'a>,
+) -> Result<(Cond, Cursor<'a>), PolicyFault>
+    ensures read { Reads (Negated (Within dictionary.now depth) at.now) result }
+    ensures shorter { IfOk result (λ x. length x.1.text ≤ length at.now.text) }
+{
+    if depth == 0 {
+        return Err(at.fault(PolicyKind::TooDeep));
+    }
+    let (cond, rest) = operand(alloc, dictionary, depth - 1, at)?;
+    Ok((Cond::Not(Boxed::new(alloc, cond)?), rest))
+}
+
+/// The condition after a `(`, which is on the line of this place, and the `)`. At most `depth` signs are nested, the
+/// `(` counted.
+#[cycle(conditions)]
+pub(crate) fn closed<'a>(
+    alloc: Global,
+    dictionary: &Dictionary,
+    depth: usize,
+    at: &Cursor<'a>,
+) -> Result<(Cond, Cursor<'a>), PolicyFault>
+    ensures read { Reads (Closed (Within dictionary.now depth) at.now) result }
+    ensures shorter { IfOk result (λ x. length x.1.text ≤ length at.now.text) }
+{
+    if depth == 0 {
+        return Err(at.fault(PolicyKind::TooDeep));
+    }
+    let (cond, end) = either(alloc, dictionary, depth - 1, at)?;
+    let rest = end.expect(Sign::Close)?;
+    Ok((cond, rest))
+}
+
+// Operands with `&&` between them.
+#[cycle(conditions)]
+fn both<'a>(
+    alloc: Global,
+    dictionary: &Dictionary,
+    depth: usize,
+    at: &Cursor<'a>,
+) -> Result<(Cond, Cursor<'a>), PolicyFault>
+    ensures read { Reads (Both (Within dictionary.now (suc depth)) at.now) result }
+    ensures shorter { IfOk result (λ x. length x.1.text ≤ length at.now.text) }
+{
+    let (first, mut rest) = operand(alloc, dictionary, depth, at)?;
+    let mut conds = Vec::new(alloc);
+    conds.push(first)?;
+    'conds: while let Some(next) = rest.after_sign(Sign::And) {
+        let (cond, end) = operand(alloc, dictionary, depth, &next)?;
+        conds.push(cond)?;
+        rest = end;
+    }
+    Ok((all_of(conds), rest))
+}
+
+// Operands with `&&`, and `||` between these.
+#[cycle(conditions)]
+fn either<'a>(
+    alloc: Global,
+    dictionary: &Dictionary,
+    depth: usize,
+    at: &Cursor<'a>,
+) -> Result<(Cond, Cursor<'a>), PolicyFault>
+    ensures read { Reads (Either (Within dictionary.now (suc depth)) at.now) result }
+    ensures shorter { IfOk result (λ x. length x.1.text ≤ length at.now.text) }
+{
+    let (first, mut rest) = both(alloc, dictionary, depth, at)?;
+    let mut conds = Vec::new(alloc);
+    conds.push(first)?;
+    'conds: while let Some(next) = rest.after_sign(Sign::Or) {
+        let (cond, end) = both(alloc, dictionary, depth, &next)?;
+        conds.push(cond)?;
+        rest = end;
+    }
+    Ok((any_of(conds), rest))
+}

@@ -1,0 +1,207 @@
+//! How far a policy text has been read.
+
+ghost use Rattle.std.specs.Prelude.{◌≡◌, ◌≢◌, ◌≤◌, ◌<◌, ◌+◌, ◌^◌, length, IfSome, IfNone, IfOk, false};
+ghost use Rattle.avp_unlang.specs.Forms.{Takes};
+ghost use Rattle.avp_unlang.specs.Tokens.{passed, skipped, next_token};
+ghost use Rattle.avp_unlang.specs.Places.{Place, start_of, counted};
+ghost use Rattle.avp_unlang.specs.Between.{Counts, Follows};
+ghost use Rattle.avp_unlang.specs.declared.text.tokens.Token.TheVariants.{End, Operator, Word};
+
+use crate::faults::{PolicyFault, PolicyKind};
+use crate::text::tokens::{Sign, Token, front, token_at};
+use std::marker::Model;
+
+/// A place in a policy text: what is left of it, on which line that begins, and how much may still be added to the
+/// policy's size.
+#[derive(Debug, Drop)]
+pub(crate) struct Cursor<'a> {
+    text: &'a [u8],
+    line: usize,
+    room: usize,
+}
+
+impl<'a> Model for Cursor<'a> {
+    ghost use Rattle.std.specs.Prelude.{◌+◌, ◌<◌, ◌^◌, length};
+    ghost use Rattle.avp_unlang.specs.Places.{Place};
+
+    ghost Value = { Place };
+
+    ghost view = { λ c. record { text = c.text.now; line = c.line; room = c.room } };
+
+    ghost invariant = { λ c. c.line + length c.text.now < 2 ^ 64 };
+}
+
+#[tactic(auto, unfolding(crate::specs::Tokens::passed))]
+fn pass(line: usize, comment: bool, octet: u8) -> Option<(usize, bool)>
+    requires { line + 1 < 2 ^ 64 }
+    ensures passed { result ≡ passed line comment octet }
+    ensures counted { IfSome result (λ p. p.0 ≤ line + 1) }
+{
+    match octet {
+        b'\n' => Some((line + 1, false)),
+        _ if comment => Some((line, true)),
+        b'#' => Some((line, true)),
+        b' ' | b'\t' | b'\r' => Some((line, false)),
+        _ => None,
+    }
+}
+
+// The line and the text where the next token begins.
+fn skip(line: usize, text: &[u8]) -> (usize, &[u8])
+    requires { line + length text.now < 2 ^ 64 }
+    ensures skipped { (result.0, result.1.now) ≡ skipped line false text.now }
+    ensures counted { result.0 + length result.1.now ≤ line + length text.now }
+    ensures shorter { length result.1.now ≤ length text.now }
+{
+    let mut place = line;
+    let mut comment = false;
+    let mut rest = text;
+    while let Some((octet, after)) = front(rest) {
+        match pass(place, comment, octet) {
+            None => return (place, rest),
+            Some((next, goes_on)) => {
+                place = next;
+                comment = goes_on;
+                rest = after;
+            }
+        }
+    }
+    (place, rest)
+}
+
+/// The greatest size of a policy.
+pub(crate) const MAX_SIZE: usize = 65_535;
+
+impl<'a> Cursor<'a> {
+    /// The beginning of a text.
+    pub(crate) fn new(text: &'a [u8]) -> Cursor<'a>
+        ensures { result ≡ start_of text.now }
+    {
+        Cursor {
+            text,
+            line: 1,
+            room: MAX_SIZE,
+        }
+    }
+
+    /// How much may still be added to the size.
+    pub(crate) fn room(&self) -> usize
+        ensures { result ≡ self.now.room }
+    {
+        self.room
+    }
+
+    /// The same place after so much is added to the size; none where that is too much.
+    #[tactic(auto, unfolding(crate::specs::Places::counted))]
+    fn counted(&self, count: usize) -> Option<Cursor<'a>>
+        ensures value { result ≡ counted count self.now }
+        ensures same { IfSome result (λ start. start.text ≡ self.now.text) }
+    {
+        if count > self.room {
+            return None;
+        }
+        Some(Cursor {
+            text: self.text,
+            line: self.line,
+            room: self.room - count,
+        })
+    }
+
+    /// The same place after so much is added to the size. A fault is at this line.
+    pub(crate) fn count(&self, count: usize, line: usize) -> Result<Cursor<'a>, PolicyFault>
+        ensures taken { Takes (Counts count self.now) result }
+        ensures same { IfOk result (λ start. start.text ≡ self.now.text) }
+    {
+        match self.counted(count) {
+            Some(start) => Ok(start),
+            None => Err(PolicyFault {
+                line,
+                kind: PolicyKind::TooLarge,
+            }),
+        }
+    }
+
+    /// The line, from 1. After [`Cursor::next`] it is that of the token.
+    pub(crate) fn line(&self) -> usize
+        ensures { result ≡ self.now.line }
+    {
+        self.line
+    }
+
+    /// The next token, and the place after it.
+    #[tactic(auto, unfolding(crate::specs::Tokens::next_token))]
+    pub(crate) fn next(&self) -> (Token<'a>, Cursor<'a>)
+        ensures same { result ≡ next_token self.now }
+        ensures within { length result.1.text ≤ length self.now.text }
+        ensures shorter { result.0 ≢ End → length result.1.text < length self.now.text }
+    {
+        let (line, start) = skip(self.line, self.text);
+        let (found, text) = token_at(start);
+        let after = Cursor {
+            text,
+            line,
+            room: self.room,
+        };
+        (found, after)
+    }
+
+    /// The place after this operator or bracket, if it comes next.
+    #[tactic(auto, unfolding(crate::specs::Tokens::next_token))]
+    pub(crate) fn after_sign(&self, sign: Sign) -> Option<Cursor<'a>>
+        ensures found { IfSome result (Follows (Operator sign) self.now) }
+        ensures none { IfNone result ((rest : Place) → Follows (Operator sign) self.now rest → ⊥) }
+        ensures shorter { IfSome result (λ rest. length rest.text < length self.now.text) }
+    {
+        match self.next() {
+            (Token::Operator(other), rest) if other == sign => Some(rest),
+            _ => None,
+        }
+    }
+
+    /// The place after this word, if it comes next.
+    pub(crate) fn after_word(&self, word: &[u8]) -> Option<Cursor<'a>>
+        ensures found { IfSome result (Follows (Word word.now) self.now) }
+        ensures none { IfNone result ((rest : Place) → Follows (Word word.now) self.now rest → ⊥) }
+        ensures shorter { IfSome result (λ rest. length rest.text < length self.now.text) }
+    {
+        let (token, rest) = self.next();
+        match &token {
+            Token::Word(other) if other.as_slice() == word => Some(rest),
+            _ => None,
+        }
+    }
+
+    /// The place after this operator or bracket, which has to come next.
+    pub(crate) fn expect(&self, sign: Sign) -> Result<Cursor<'a>, PolicyFault>
+        ensures taken { Takes (Follows (Operator sign) self.now) result }
+        ensures shorter { IfOk result (λ rest. length rest.text < length self.now.text) }
+    {
+        match self.after_sign(sign) {
+            Some(rest) => Ok(rest),
+            None => Err(self.misplaced()),
+        }
+    }
+
+    /// The fault of a next token that does not fit.
+    pub(crate) fn misplaced(&self) -> PolicyFault {
+        let (token, after) = self.next();
+        let kind = match token {
+            Token::Unreadable => PolicyKind::Unreadable,
+            _ => PolicyKind::Misplaced,
+        };
+        PolicyFault {
+            line: after.line,
+            kind,
+        }
+    }
+
+    /// A fault at this line.
+    pub(crate) fn fault(&self, kind: PolicyKind) -> PolicyFault
+        ensures { result.kind ≡ kind }
+    {
+        PolicyFault {
+            line: self.line,
+            kind,
+        }
+    }
+}

@@ -1,0 +1,129 @@
+//! The lines of an `update`.
+
+ghost use Rattle.std.specs.Prelude.{◌≡◌, ◌≤◌, ◌<◌, length, IfOk};
+ghost use Rattle.avp_unlang.specs.Forms.{Reads, While};
+ghost use Rattle.avp_unlang.specs.Lines.{LineIs, OpIs, TargetIs, after_reference, begins_line, op_of};
+
+use crate::faults::{PolicyFault, PolicyKind};
+use crate::items::Items;
+use crate::text::cursors::Cursor;
+use crate::text::references::reference;
+use crate::text::sources::source;
+use crate::text::tokens::{Sign, Token};
+use crate::tree::{Line, Lines};
+use avp_dict::{Dictionary, Named};
+use avp_lists::{List, Op};
+use std::alloc::Global;
+
+// The place after an `&`, if there is one.
+#[tactic(auto, unfolding(crate::specs::Lines::after_reference))]
+fn after_reference<'a>(at: Cursor<'a>) -> Cursor<'a>
+    ensures same { result ≡ after_reference at.entry }
+    ensures within { length result.text ≤ length at.entry.text }
+{
+    match at.next() {
+        (Token::Operator(Sign::Reference), after) => after,
+        _ => at,
+    }
+}
+
+// A target: its list and what its name stands for.
+fn target<'a>(
+    dictionary: &Dictionary,
+    own: List,
+    at: Cursor<'a>,
+) -> Result<((List, Named), Cursor<'a>), PolicyFault>
+    ensures read { Reads (TargetIs dictionary.now own at.entry) result }
+    ensures shorter { IfOk result (λ x. length x.1.text < length at.entry.text) }
+{
+    let begin = after_reference(at);
+    let (token, after) = begin.next();
+    match &token {
+        Token::Word(word) => match reference(dictionary, own, word.as_slice()) {
+            None => Err(after.fault(PolicyKind::Unknown)),
+            Some(found) => Ok((found, after)),
+        },
+        _ => Err(begin.misplaced()),
+    }
+}
+
+#[tactic(auto, unfolding(crate::specs::Lines::op_of))]
+fn op_of(token: &Token) -> Option<Op>
+    ensures { result ≡ op_of token.now }
+{
+    match token {
+        Token::Operator(Sign::AddNew) => Some(Op::AddNew),
+        Token::Operator(Sign::Replace) => Some(Op::Replace),
+        Token::Operator(Sign::Append) => Some(Op::Append),
+        Token::Operator(Sign::Prepend) => Some(Op::Prepend),
+        Token::Operator(Sign::RemoveEqual) => Some(Op::RemoveEqual),
+        Token::Operator(Sign::Equal) => Some(Op::KeepEqual),
+        Token::Operator(Sign::RemoveAll) => Some(Op::RemoveAll),
+        _ => None,
+    }
+}
+
+fn operator<'a>(at: &Cursor<'a>) -> Result<(Op, Cursor<'a>), PolicyFault>
+    ensures read { Reads (OpIs at.now) result }
+    ensures shorter { IfOk result (λ x. length x.1.text ≤ length at.now.text) }
+{
+    let (token, after) = at.next();
+    match op_of(&token) {
+        None => Err(at.misplaced()),
+        Some(operation) => Ok((operation, after)),
+    }
+}
+
+// A line of an `update` of this list.
+fn line<'a>(
+    alloc: Global,
+    dictionary: &Dictionary,
+    own: List,
+    at: Cursor<'a>,
+) -> Result<(Line, Cursor<'a>), PolicyFault>
+    ensures read { Reads (LineIs dictionary.now own at.entry) result }
+    ensures shorter { IfOk result (λ x. length x.1.text < length at.entry.text) }
+{
+    let first = at.next().1.line();
+    let start = at.count(1, first)?;
+    let ((list, named), mid) = target(dictionary, own, start)?;
+    let (op, end) = operator(&mid)?;
+    let (source, rest) = source(alloc, dictionary, op, named, mid.line(), &end)?;
+    let found = Line {
+        line: first,
+        list,
+        id: named.id,
+        op,
+        source,
+    };
+    Ok((found, rest))
+}
+
+fn begins_line(at: &Cursor) -> bool
+    ensures { result ≡ begins_line at.now }
+{
+    match at.next().0 {
+        Token::Operator(Sign::Reference) | Token::Word(_) => true,
+        _ => false,
+    }
+}
+
+/// The lines of an `update` of this list.
+pub(crate) fn lines<'a>(
+    alloc: Global,
+    dictionary: &Dictionary,
+    own: List,
+    at: Cursor<'a>,
+) -> Result<(Lines, Cursor<'a>), PolicyFault>
+    ensures read { Reads (While begins_line (LineIs dictionary.now own) at.entry) result }
+    ensures shorter { IfOk result (λ x. length x.1.text ≤ length at.entry.text) }
+{
+    let mut lines = Vec::new(alloc);
+    let mut rest = at;
+    'lines: while begins_line(&rest) {
+        let (found, end) = line(alloc, dictionary, own, rest)?;
+        lines.push(found)?;
+        rest = end;
+    }
+    Ok((Items::from_vec(lines), rest))
+}

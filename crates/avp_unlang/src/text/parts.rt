@@ -1,0 +1,171 @@
+//! Texts between double quotes into which values are put.
+
+ghost use Rattle.std.specs.Prelude.{◌≡◌, ◌≤◌, ◌<◌, ◌∷◌, ℕ, List as TheList, length, IfOk, IfSome, IfNone, IsTrue, OnErr, option_map};
+ghost use Rattle.avp_lists.specs.declared.lists.List.{List as Name};
+ghost use Rattle.avp_dict.specs.declared.entries.Named.{Named as TheNamed};
+ghost use Rattle.avp_dict.specs.Quotes.{double_escape, escaped_letter};
+ghost use Rattle.avp_unlang.specs.Forms.{Reads, ReadsAll, While};
+ghost use Rattle.avp_unlang.specs.Parts.{InstanceIs, OctetIs, PartIs, PartsAre, after_opening, begins_octet, braced, is_left, octet_at};
+
+use crate::faults::{PolicyFault, PolicyKind};
+use crate::items::Items;
+use crate::text::references::readable;
+use crate::text::tokens::{Excerpt, word_length};
+use crate::tree::{Part, Parts};
+use avp_dict::{Dictionary, Named};
+use avp_lists::{List, Octets};
+use std::alloc::{AllocError, Global};
+
+fn escaped_letter(letter: u8) -> u8
+    ensures { result ≡ escaped_letter letter }
+{
+    match letter {
+        b'n' => b'\n',
+        b'r' => b'\r',
+        b't' => b'\t',
+        other => other,
+    }
+}
+
+// The octet that is escaped after a `\`, and how many octets stand for it.
+fn double_escape(text: &[u8]) -> (u8, usize)
+    ensures octet { result.0 ≡ (double_escape text.now).octet }
+    ensures taken { result.1 ≡ (double_escape text.now).taken }
+    ensures within { result.1 ≤ length text.now }
+{
+    match text {
+        [] => (b'\\', 0),
+        [a @ b'0'..=b'3', b @ b'0'..=b'7', c @ b'0'..=b'7', ..] => (
+            (*a - b'0') * 64 + (*b - b'0') * 8 + (*c - b'0'),
+            3,
+        ),
+        [letter, ..] => (escaped_letter(*letter), 1),
+    }
+}
+
+// The octet that a text begins with, and the text after it; none at the end and at a `%` that is not followed by another.
+#[tactic(auto, unfolding(crate::specs::Parts::octet_at))]
+fn octet<'a>(text: &Excerpt<'a>) -> Option<(u8, Excerpt<'a>)>
+    ensures same { result ≡ octet_at text.now }
+    ensures shorter { IfSome result (λ x. length x.1 < length text.now) }
+{
+    match text.as_slice() {
+        [] => None,
+        [b'\\', rest @ ..] => {
+            let (octet, taken) = double_escape(rest);
+            Some((octet, Excerpt::new(&rest[taken..])))
+        }
+        [b'%', b'%', rest @ ..] => Some((b'%', Excerpt::new(rest))),
+        [b'%', ..] => None,
+        [octet, rest @ ..] => Some((*octet, Excerpt::new(rest))),
+    }
+}
+
+fn begins_octet(text: &Excerpt) -> bool
+    ensures { result ≡ begins_octet text.now }
+{
+    octet(text).is_some()
+}
+
+// The octets that a text begins with, up to an expansion, and the text after them.
+fn octets<'a>(alloc: Global, text: Excerpt<'a>) -> Result<(Octets, Excerpt<'a>), AllocError>
+    ensures read { IfOk result (λ x. While begins_octet OctetIs text.entry x.0 x.1) }
+    ensures shorter { IfOk result (λ x. IsTrue (begins_octet text.entry) → length x.1 < length text.entry) }
+{
+    let mut octets = Vec::new(alloc);
+    let mut rest = text;
+    'octets: while let Some((found, after)) = octet(&rest) {
+        octets.push(found)?;
+        rest = after;
+    }
+    Ok((Octets::from_vec(octets), rest))
+}
+
+// The text after a `%{`.
+fn after_opening<'a>(text: &Excerpt<'a>) -> Option<Excerpt<'a>>
+    ensures same { result ≡ after_opening text.now }
+    ensures shorter { IfSome result (λ rest. length rest < length text.now) }
+{
+    match text.as_slice() {
+        [b'%', b'{', rest @ ..] => Some(Excerpt::new(rest)),
+        _ => None,
+    }
+}
+
+// The word that a text begins with, and the text after it and a `}`.
+fn braced<'a>(text: &Excerpt<'a>) -> Option<(Excerpt<'a>, Excerpt<'a>)>
+    ensures same { result ≡ braced text.now }
+    ensures shorter { IfSome result (λ x. length x.1 < length text.now) }
+{
+    let (word, after) = text.as_slice().split_at(word_length(text.as_slice()));
+    match after {
+        [b'}', rest @ ..] if !word.is_empty() => Some((Excerpt::new(word), Excerpt::new(rest))),
+        _ => None,
+    }
+}
+
+// What is put in by an expansion, and the text after it.
+fn instance<'a>(
+    dictionary: &Dictionary,
+    text: &Excerpt<'a>,
+) -> Result<((List, Named), Excerpt<'a>), PolicyKind>
+    ensures ok { IfOk result (λ x. InstanceIs dictionary.now text.now x.0 x.1) }
+    ensures err { OnErr result ((found : Name × TheNamed) (rest : TheList ℕ) → InstanceIs dictionary.now text.now found rest → ⊥) }
+    ensures shorter { IfOk result (λ x. length x.1 < length text.now) }
+{
+    let Some(inner) = after_opening(text) else {
+        return Err(PolicyKind::Unreadable);
+    };
+    let Some((word, rest)) = braced(&inner) else {
+        return Err(PolicyKind::Unreadable);
+    };
+    match readable(dictionary, word.as_slice()) {
+        Ok(found) => Ok((found, rest)),
+        Err(kind) => Err(kind),
+    }
+}
+
+// The part that a text begins with, and the text after it.
+fn part<'a>(
+    alloc: Global,
+    dictionary: &Dictionary,
+    text: Excerpt<'a>,
+    line: usize,
+) -> Result<(Part, Excerpt<'a>), PolicyFault>
+    ensures read { Reads (PartIs dictionary.now text.entry) result }
+    ensures shorter { IfOk result (λ x. length x.1 < length text.entry) }
+{
+    if begins_octet(&text) {
+        let (octets, rest) = octets(alloc, text)?;
+        return Ok((Part::Text(octets), rest));
+    }
+    match instance(dictionary, &text) {
+        Ok(((list, named), rest)) => Ok((Part::Instance(list, named.id), rest)),
+        Err(kind) => Err(PolicyFault { line, kind }),
+    }
+}
+
+fn is_left(text: &Excerpt) -> bool
+    ensures { result ≡ is_left text.now }
+{
+    !text.as_slice().is_empty()
+}
+
+/// The parts of a text between double quotes on this line. The first refused place of the text is reported.
+pub(crate) fn parts(
+    alloc: Global,
+    dictionary: &Dictionary,
+    text: Excerpt,
+    line: usize,
+) -> Result<Parts, PolicyFault>
+    ensures { ReadsAll (PartsAre dictionary.now text.entry) result }
+{
+    let mut parts = Vec::new(alloc);
+    let mut rest = text;
+    'parts: while is_left(&rest) {
+        let (found, end) = part(alloc, dictionary, rest, line)?;
+        parts.push(found)?;
+        rest = end;
+    }
+    Ok(Items::from_vec(parts))
+}

@@ -1,0 +1,99 @@
+//! Whole policies.
+
+ghost use Rattle.std.specs.Prelude.{◌≡◌, ◌≤◌, ℕ, List, IfOk, IsTrue};
+ghost use Rattle.avp_dict.specs.Dictionary.{Dictionary};
+ghost use Rattle.avp_unlang.specs.declared.tree.Statement.{Statement as Tree};
+ghost use Rattle.avp_unlang.specs.Cleanness.{KeepsReplyClean};
+ghost use Rattle.avp_unlang.specs.Forms.{ReadsAll};
+ghost use Rattle.avp_unlang.specs.Policies.{SpellsPolicy};
+ghost use Rattle.avp_unlang.specs.Sizes.{size_of};
+ghost use Rattle.avp_unlang.specs.Suiting.{IsSpelled, policy_suits};
+
+use crate::faults::PolicyFault;
+use crate::text::cursors::{Cursor, MAX_SIZE};
+use crate::text::statements::statements;
+use crate::text::tokens::Token;
+use crate::tree::Block;
+use avp_dict::Dictionary;
+use std::alloc::Global;
+use std::marker::Model;
+
+/// How many `{`, `(` and `!` may be open at once.
+const MAX_NESTED: usize = 64;
+
+/// A policy that was read, seen by contracts as its statements.
+#[derive(Debug, Drop)]
+pub struct Policy {
+    statements: Block,
+    size: usize,
+}
+
+impl Model for Policy {
+    ghost use Rattle.std.specs.Prelude.{◌≡◌, ◌≤◌, List};
+    ghost use Rattle.avp_unlang.specs.declared.tree.Statement.{Statement};
+    ghost use Rattle.avp_unlang.specs.Sizes.{size_of};
+    ghost use Rattle.avp_unlang.specs.contracts.tree.Statement as e;
+    ghost use Rattle.std.specs.Coded.{codes};
+
+    ghost Value = { List Statement };
+
+    ghost coded = { Prim.hlevel (codes, e.the_row.coded) };
+
+    ghost view = { λ p. p.statements };
+
+    ghost invariant = { λ p. (p.size ≡ size_of p.statements) × (p.size ≤ 65535) };
+}
+
+impl Policy {
+    /// The statements, in the order of the text.
+    pub fn statements(&self) -> &Block
+        ensures { result.now ≡ self.now }
+    {
+        &self.statements
+    }
+}
+
+/// One for each update line, each condition of an `if` or `elsif` and each word, and two for each transaction.
+pub fn size(policy: &Policy) -> usize
+    ensures count { result ≡ size_of policy.now }
+    ensures within { result ≤ 65535 }
+{
+    policy.size
+}
+
+/// The policy that a text spells, by a dictionary. The first refused place of the text is reported. A fault has the line
+/// of the token that was refused; that of a name has the name's line. Where no value may be written under the name of an
+/// update line or a comparison, this is found at the operator or the source, but has the line of the name.
+pub fn read_policy(
+    alloc: Global,
+    dictionary: &Dictionary,
+    text: &[u8],
+) -> Result<Policy, PolicyFault>
+    ensures read { ReadsAll (SpellsPolicy dictionary.now text.now) result }
+    // Its attributes are known, its literals fit, and what it compares is of one type.
+    ensures suits { IfOk result (λ policy. IsTrue (policy_suits dictionary.now policy)) }
+{
+    dictionary.is_sound();
+    let (statements, end) = statements(alloc, dictionary, MAX_NESTED, Cursor::new(text))?;
+    match end.next().0 {
+        Token::End => Ok(Policy {
+            statements,
+            size: MAX_SIZE - end.room(),
+        }),
+        _ => Err(end.misplaced()),
+    }
+}
+
+/// A text spells at most one policy by a dictionary.
+pub fn one_policy()
+    ensures { (dictionary : Dictionary) (text : List ℕ) (xs ys : List Tree)
+        → SpellsPolicy dictionary text xs → SpellsPolicy dictionary text ys → xs ≡ ys }
+{}
+
+/// A policy that was read by a dictionary keeps reply lists clean: what is written of them is read back as they are.
+pub fn keeps_reply_clean(dictionary: &Dictionary, policy: &Policy)
+    requires { IsSpelled dictionary.now policy.now }
+    ensures { KeepsReplyClean dictionary.now policy.now }
+{
+    dictionary.spelled_values_clean();
+}

@@ -1,0 +1,116 @@
+//! What words refer to.
+
+ghost use Rattle.std.specs.Prelude.{◌≡◌, ◌<◌, length, Some, None, IfOk, OnErr};
+ghost use Rattle.avp_unlang.specs.Forms.{Reads};
+ghost use Rattle.avp_unlang.specs.References.{AlikeIs, ReadableIs, list_named, readable, reference, target_in, type_of};
+
+use crate::faults::{PolicyFault, PolicyKind};
+use crate::text::cursors::Cursor;
+use crate::text::tokens::Token;
+use avp_dict::{Dictionary, Kind, Named, is_container};
+use avp_lists::{AttrId, List};
+
+#[tactic(auto, unfolding(crate::specs::References::list_named))]
+pub(crate) fn list_named(word: &[u8]) -> Option<List>
+    ensures { result ≡ list_named word.now }
+{
+    if word == b"request".as_slice() {
+        Some(List::Request)
+    } else if word == b"reply".as_slice() {
+        Some(List::Reply)
+    } else if word == b"control".as_slice() {
+        Some(List::Control)
+    } else {
+        None
+    }
+}
+
+// The list and the name of a word; a name alone is of the list at hand.
+#[tactic(auto, unfolding(crate::specs::References::target_in))]
+fn target_in(own: List, word: &[u8]) -> (List, &[u8])
+    ensures { (result.0, result.1.now) ≡ target_in own word.now }
+{
+    if let Some(name) = word.strip_prefix(b"request:") {
+        (List::Request, name)
+    } else if let Some(name) = word.strip_prefix(b"reply:") {
+        (List::Reply, name)
+    } else if let Some(name) = word.strip_prefix(b"control:") {
+        (List::Control, name)
+    } else {
+        (own, word)
+    }
+}
+
+/// The list of a word, and what its name stands for; a name alone is of the list at hand.
+#[tactic(auto, unfolding(crate::specs::References::reference))]
+pub(crate) fn reference(dictionary: &Dictionary, own: List, word: &[u8]) -> Option<(List, Named)>
+    ensures { result ≡ reference dictionary.now own word.now }
+{
+    let (list, name) = target_in(own, word);
+    match dictionary.by_name(name) {
+        None => None,
+        Some(named) => Some((list, named)),
+    }
+}
+
+/// The list of a word, and what its name stands for, whose values may be looked at; a name alone is of the request.
+#[tactic(auto, unfolding(crate::specs::References::readable))]
+pub(crate) fn readable(dictionary: &Dictionary, word: &[u8]) -> Result<(List, Named), PolicyKind>
+    ensures ok { IfOk result (λ found. readable dictionary.now word.now ≡ Some found) }
+    ensures err { OnErr result (readable dictionary.now word.now ≡ None) }
+{
+    match reference(dictionary, List::Request, word) {
+        None => Err(PolicyKind::Unknown),
+        Some((list, named)) => {
+            if is_container(named.id) {
+                Err(PolicyKind::NotWritable)
+            } else {
+                Ok((list, named))
+            }
+        }
+    }
+}
+
+/// The reference after an `&`. Its faults have the line of its word.
+pub(crate) fn referred<'a>(
+    dictionary: &Dictionary,
+    at: &Cursor<'a>,
+) -> Result<((List, Named), Cursor<'a>), PolicyFault>
+    ensures read { Reads (ReadableIs dictionary.now at.now) result }
+    ensures shorter { IfOk result (λ x. length x.1.text < length at.now.text) }
+{
+    let (token, after) = at.next();
+    match &token {
+        Token::Word(word) => match readable(dictionary, word.as_slice()) {
+            Ok(found) => Ok((found, after)),
+            Err(kind) => Err(after.fault(kind)),
+        },
+        _ => Err(at.misplaced()),
+    }
+}
+
+/// The type of an attribute's values; octets where the dictionary has none.
+pub(crate) fn type_of(dictionary: &Dictionary, id: AttrId) -> Kind
+    ensures { result ≡ type_of dictionary.now id }
+{
+    match dictionary.by_id(id) {
+        None => Kind::Bytes,
+        Some(entry) => entry.kind,
+    }
+}
+
+/// The reference after an `&` to values of the same type as this attribute's. Its faults have the line of its word.
+pub(crate) fn alike<'a>(
+    dictionary: &Dictionary,
+    id: AttrId,
+    at: &Cursor<'a>,
+) -> Result<((List, Named), Cursor<'a>), PolicyFault>
+    ensures read { Reads (AlikeIs dictionary.now id at.now) result }
+    ensures shorter { IfOk result (λ x. length x.1.text < length at.now.text) }
+{
+    let (found, after) = referred(dictionary, at)?;
+    if type_of(dictionary, id) != type_of(dictionary, found.1.id) {
+        return Err(after.fault(PolicyKind::OtherType));
+    }
+    Ok((found, after))
+}

@@ -1,0 +1,286 @@
+//! Statements, read from a text.
+
+ghost use Rattle.std.specs.Prelude.{◌≡◌, ◌≤◌, ◌<◌, suc, codes, length, IfOk};
+ghost use Rattle.avp_unlang.specs.Forms.{After, Chain, Gives, Reads, While};
+ghost use Rattle.avp_unlang.specs.Lines.{LineIs, begins_line};
+ghost use Rattle.avp_unlang.specs.Statements.{BlockIs, BranchIs, Nested, Otherwise, StatementFrom, begins_word, keyword_in, keyword_named, list_at};
+ghost use Rattle.avp_unlang.specs.Between.{Counts, Follows};
+ghost use Rattle.avp_unlang.specs.declared.text.statements.Keyword.TheVariants as keyword;
+ghost use Rattle.avp_unlang.specs.declared.text.tokens.Token.TheVariants as token;
+ghost use Rattle.avp_unlang.specs.declared.tree.Statement.TheVariants as tree;
+
+use crate::codes::{Code, code_named};
+use crate::faults::{PolicyFault, PolicyKind};
+use crate::items::Items;
+use crate::text::conditions::closed;
+use crate::text::cursors::Cursor;
+use crate::text::lines::lines;
+use crate::text::references::list_named;
+use crate::text::tokens::{Sign, Token};
+use crate::tree::{Block, Branch, Branches, Lines, Statement};
+use avp_dict::Dictionary;
+use avp_lists::List;
+use std::alloc::Global;
+
+/// What a word begins where a statement may begin.
+#[derive(Clone, Copy, Debug)]
+pub(crate) enum Keyword {
+    Update,
+    If,
+    Transaction,
+    Code(Code),
+    /// No statement.
+    Other,
+}
+
+#[tactic(auto, unfolding(crate::specs::Statements::keyword_named))]
+fn keyword_named(word: &[u8]) -> Keyword
+    ensures { result ≡ keyword_named word.now }
+{
+    if word == b"update".as_slice() {
+        Keyword::Update
+    } else if word == b"if".as_slice() {
+        Keyword::If
+    } else if word == b"transaction".as_slice() {
+        Keyword::Transaction
+    } else {
+        match code_named(word) {
+            None => Keyword::Other,
+            Some(code) => Keyword::Code(code),
+        }
+    }
+}
+
+fn keyword_in(token: &Token) -> Keyword
+    ensures { result ≡ keyword_in token.now }
+{
+    match token {
+        Token::Word(word) => keyword_named(word.as_slice()),
+        _ => Keyword::Other,
+    }
+}
+
+fn begins_word(at: &Cursor) -> bool
+    ensures { result ≡ begins_word at.now }
+{
+    match at.next().0 {
+        Token::Word(_) => true,
+        _ => false,
+    }
+}
+
+// The list that is named next, else the request's.
+#[tactic(auto, unfolding(crate::specs::Statements::list_at))]
+fn list_at<'a>(at: Cursor<'a>) -> (List, Cursor<'a>)
+    ensures same { result ≡ list_at at.entry }
+    ensures within { length result.1.text ≤ length at.entry.text }
+{
+    let (token, after) = at.next();
+    if let Token::Word(word) = token {
+        if let Some(list) = list_named(word.as_slice()) {
+            return (list, after);
+        }
+    }
+    (List::Request, at)
+}
+
+// `{`, lines of this list and `}`.
+fn line_block<'a>(
+    alloc: Global,
+    dictionary: &Dictionary,
+    depth: usize,
+    own: List,
+    at: Cursor<'a>,
+) -> Result<(Lines, Cursor<'a>), PolicyFault>
+    ensures read { Reads (BlockIs depth begins_line (LineIs dictionary.now own) at.entry) result }
+    ensures shorter { IfOk result (λ x. length x.1.text < length at.entry.text) }
+{
+    let start = at.expect(Sign::BlockStart)?;
+    if depth == 0 {
+        return Err(start.fault(PolicyKind::TooDeep));
+    }
+    let (found, end) = lines(alloc, dictionary, own, start)?;
+    let rest = end.expect(Sign::BlockEnd)?;
+    Ok((found, rest))
+}
+
+// What follows the word `update`, which is on the line of this place.
+fn update<'a>(
+    alloc: Global,
+    dictionary: &Dictionary,
+    depth: usize,
+    at: Cursor<'a>,
+) -> Result<(Statement, Cursor<'a>), PolicyFault>
+    ensures read { Reads (StatementFrom dictionary.now depth (Nested dictionary.now depth) keyword.Update at.entry) result }
+    ensures shorter { IfOk result (λ x. length x.1.text < length at.entry.text) }
+{
+    let line = at.line();
+    let (own, start) = list_at(at);
+    let (found, rest) = line_block(alloc, dictionary, depth, own, start)?;
+    Ok((Statement::Update(line, found), rest))
+}
+
+// A code, which is on the line of this place.
+fn word<'a>(code: Code, at: &Cursor<'a>) -> Result<(Statement, Cursor<'a>), PolicyFault>
+    ensures read { Reads (After (Counts 1) (Gives (tree.Word at.now.line code)) at.now) result }
+    ensures shorter { IfOk result (λ x. length x.1.text ≤ length at.now.text) }
+{
+    let rest = at.count(1, at.line())?;
+    Ok((Statement::Word(at.line(), code), rest))
+}
+
+/// A statement. At most `depth` signs are nested in it.
+#[cycle(statements)]
+fn statement<'a>(
+    alloc: Global,
+    dictionary: &Dictionary,
+    depth: usize,
+    at: Cursor<'a>,
+) -> Result<(Statement, Cursor<'a>), PolicyFault>
+    ensures read { Reads (Nested dictionary.now (suc depth) at.entry) result }
+    ensures shorter { IfOk result (λ x. length x.1.text < length at.entry.text) }
+{
+    let (token, after) = at.next();
+    match keyword_in(&token) {
+        Keyword::Update => update(alloc, dictionary, depth, after),
+        Keyword::If => conditional(alloc, dictionary, depth, after),
+        Keyword::Transaction => transaction(alloc, dictionary, depth, after),
+        Keyword::Code(code) => word(code, &after),
+        Keyword::Other => Err(at.misplaced()),
+    }
+}
+
+// What follows the word `transaction`, which is on the line of this place.
+#[cycle(statements)]
+fn transaction<'a>(
+    alloc: Global,
+    dictionary: &Dictionary,
+    depth: usize,
+    at: Cursor<'a>,
+) -> Result<(Statement, Cursor<'a>), PolicyFault>
+    ensures read { Reads (StatementFrom dictionary.now depth (Nested dictionary.now depth) keyword.Transaction at.entry) result }
+    ensures shorter { IfOk result (λ x. length x.1.text < length at.entry.text) }
+{
+    let line = at.line();
+    let start = at.count(2, line)?;
+    let (found, rest) = block(alloc, dictionary, depth, start)?;
+    Ok((Statement::Transaction(line, found), rest))
+}
+
+// What follows the word `if`, which is on the line of this place.
+#[cycle(statements)]
+fn conditional<'a>(
+    alloc: Global,
+    dictionary: &Dictionary,
+    depth: usize,
+    at: Cursor<'a>,
+) -> Result<(Statement, Cursor<'a>), PolicyFault>
+    ensures read { Reads (StatementFrom dictionary.now depth (Nested dictionary.now depth) keyword.If at.entry) result }
+    ensures shorter { IfOk result (λ x. length x.1.text < length at.entry.text) }
+{
+    let (branches, mid) = branches(alloc, dictionary, depth, at)?;
+    let (otherwise, rest) = otherwise(alloc, dictionary, depth, mid)?;
+    Ok((Statement::If(branches, otherwise), rest))
+}
+
+// The branch of an `if`, and those of each `elsif` after it.
+#[cycle(statements)]
+fn branches<'a>(
+    alloc: Global,
+    dictionary: &Dictionary,
+    depth: usize,
+    at: Cursor<'a>,
+) -> Result<(Branches, Cursor<'a>), PolicyFault>
+    ensures read { Reads (Chain (Follows (token.Word (codes "elsif"))) (BranchIs dictionary.now depth (Nested dictionary.now depth)) at.entry) result }
+    ensures shorter { IfOk result (λ x. length x.1.text < length at.entry.text) }
+{
+    let (first, mut rest) = branch(alloc, dictionary, depth, at)?;
+    let mut branches = Vec::new(alloc);
+    branches.push(first)?;
+    'branches: while let Some(next) = rest.after_word(b"elsif") {
+        let (branch, end) = branch(alloc, dictionary, depth, next)?;
+        branches.push(branch)?;
+        rest = end;
+    }
+    Ok((Items::from_vec(branches), rest))
+}
+
+// A condition in brackets and a block; the word before them is on the line of this place.
+#[cycle(statements)]
+fn branch<'a>(
+    alloc: Global,
+    dictionary: &Dictionary,
+    depth: usize,
+    at: Cursor<'a>,
+) -> Result<(Branch, Cursor<'a>), PolicyFault>
+    ensures read { Reads (BranchIs dictionary.now depth (Nested dictionary.now depth) at.entry) result }
+    ensures shorter { IfOk result (λ x. length x.1.text < length at.entry.text) }
+{
+    let line = at.line();
+    let start = at.count(1, line)?;
+    let open = start.expect(Sign::Open)?;
+    let (cond, next) = closed(alloc, dictionary, depth, &open)?;
+    let (block, rest) = block(alloc, dictionary, depth, next)?;
+    Ok((Branch { line, cond, block }, rest))
+}
+
+// `else` and its block, if it comes next.
+#[cycle(statements)]
+fn otherwise<'a>(
+    alloc: Global,
+    dictionary: &Dictionary,
+    depth: usize,
+    at: Cursor<'a>,
+) -> Result<(Option<Block>, Cursor<'a>), PolicyFault>
+    ensures read { Reads (Otherwise depth (Nested dictionary.now depth) at.entry) result }
+    ensures shorter { IfOk result (λ x. length x.1.text ≤ length at.entry.text) }
+{
+    match at.after_word(b"else") {
+        None => Ok((None, at)),
+        Some(next) => {
+            let (found, rest) = block(alloc, dictionary, depth, next)?;
+            Ok((Some(found), rest))
+        }
+    }
+}
+
+// `{`, statements and `}`.
+#[cycle(statements)]
+fn block<'a>(
+    alloc: Global,
+    dictionary: &Dictionary,
+    depth: usize,
+    at: Cursor<'a>,
+) -> Result<(Block, Cursor<'a>), PolicyFault>
+    ensures read { Reads (BlockIs depth begins_word (Nested dictionary.now depth) at.entry) result }
+    ensures shorter { IfOk result (λ x. length x.1.text < length at.entry.text) }
+{
+    let start = at.expect(Sign::BlockStart)?;
+    if depth == 0 {
+        return Err(start.fault(PolicyKind::TooDeep));
+    }
+    let (found, end) = statements(alloc, dictionary, depth - 1, start)?;
+    let rest = end.expect(Sign::BlockEnd)?;
+    Ok((found, rest))
+}
+
+/// Statement after statement. At most `depth` signs are nested in each.
+#[cycle(statements)]
+pub(crate) fn statements<'a>(
+    alloc: Global,
+    dictionary: &Dictionary,
+    depth: usize,
+    at: Cursor<'a>,
+) -> Result<(Block, Cursor<'a>), PolicyFault>
+    ensures read { Reads (While begins_word (Nested dictionary.now (suc depth)) at.entry) result }
+    ensures shorter { IfOk result (λ x. length x.1.text ≤ length at.entry.text) }
+{
+    let mut statements = Vec::new(alloc);
+    let mut rest = at;
+    'statements: while begins_word(&rest) {
+        let (found, end) = statement(alloc, dictionary, depth, rest)?;
+        statements.push(found)?;
+        rest = end;
+    }
+    Ok((Items::from_vec(statements), rest))
+}
