@@ -15,6 +15,7 @@ pub mod PieceRuns
 pub mod ReadBack
 pub mod RefusedPackets
 pub mod SentLists
+pub mod SentPackets
 pub mod Signatures
 pub mod Splits
 pub mod ValuesReadBack

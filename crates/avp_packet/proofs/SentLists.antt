@@ -29,6 +29,7 @@ use Rattle.avp_packet.specs.internal.Filling.{IsDivided, KeepsAll, divided_octet
 use Rattle.avp_packet.specs.internal.Ranges.{IsVendorInRange}
 use Rattle.avp_packet.proofs.ReadBack.{clean_read, nothing_read, plain_read}
 use Rattle.avp_packet.proofs.AttributeRoom.{and_left, and_right, by_test, fits_known}
+use Rattle.avp_packet.proofs.Filled.{length-hmac}
 use Rattle.avp_packet.proofs.Signatures.{unblanked}
 use Rattle.avp_packet.proofs.Splits.{left-all, left-none, parts-all, parts-none}
 
@@ -201,6 +202,12 @@ module _ (dictionary : Dictionary) (secret : List ℕ) (code id : ℕ) (authenti
           let g = length-append (first ++ part_octets (part 80 zeros) ++ middle) last in
           omega arith
       go false = refl
+
+  -- signed attributes are as long as with zeros
+  pub length-signed : length (attributes_signed dictionary secret code id authenticator content) ≡ length (laid_octets zeros)
+  length-signed =
+      let text : List ℕ = packet code id authenticator (laid_octets zeros) in
+      ap length signed_octets ∙ length-laid (hmac secret text) (length-hmac secret text)
 
   -- ---- signed
 

@@ -1,14 +1,11 @@
-use Rattle.std.proofs.Common.{rules, ◌≡◌, ◌∙◌, List, [], ℕ, Err, length, sym, ap, arith}
+use Rattle.std.proofs.Common.{rules, ◌≡◌, ◌∙◌, List, ℕ, Err, length, sym, ap, arith}
 use Rattle.avp_lists.specs.declared.pairs.Pair.{Pair}
 use Rattle.avp_dict.specs.Limits.{fits}
 use Rattle.avp_packet.specs.declared.faults.EncodeFault.TheVariants.{TooLong}
-use Rattle.avp_packet.specs.Hmac.{hmac}
-use Rattle.avp_packet.specs.Packets.{authenticator_of, hiding_authenticator, packet, request, request_authenticator, request_content, zeros}
+use Rattle.avp_packet.specs.Packets.{authenticator_of, packet, request, request_authenticator, request_content}
 use Rattle.avp_packet.specs.Sending.{Content}
-use Rattle.avp_packet.specs.internal.Filling.{divided_octets}
 use Rattle.avp_packet.proofs.Assembled.{authenticator_of-packet, length-request_authenticator, length_request}
-use Rattle.avp_packet.proofs.Filled.{length-hmac}
-use Rattle.avp_packet.proofs.SentLists.{length-laid, signed_octets}
+use Rattle.avp_packet.proofs.SentLists.{length-signed, signed_octets}
 use Rattle.avp_packet.proofs.encoding.packets.encoded_authenticator.Goals as goal
 
 pub signed_attributes-requires-clause-behind_fit : goal.signed_attributes-requires-clause-behind_fit
@@ -17,15 +14,11 @@ signed_attributes-requires-clause-behind_fit c = (c.divide_request-division.ensu
 pub returns-in_err-attributes-clause-too_long : goal.returns-in_err-attributes-clause-too_long
 returns-in_err-attributes-clause-too_long c = λ err.
     let content : Content = request_content c.args.code c.args.list.now in
-    let division = c.divide_request-division.result in
     let refused : c.signed_attributes.result ≡ Err TooLong = search rules in
     let long = c.in_err-attributes.ensures.too_long (sym c.in_err-attributes.was ∙ refused) in
     let size = length_request c.args.dictionary.now c.args.secret.now c.args.code c.args.id c.args.authenticator.now c.args.list.now c.told-authenticator in
-    let same = ap length (signed_octets c.args.dictionary.now c.args.secret.now c.args.code c.args.id c.args.authenticator.now content division c.divide_request-division.ensures.divided) in
-    let octets = λ (os : List ℕ). divided_octets c.args.dictionary.now c.args.secret.now (hiding_authenticator c.args.code c.args.authenticator.now) division [] os in
-    let text = packet c.args.code c.args.id c.args.authenticator.now (octets zeros) in
-    let laid = length-laid c.args.dictionary.now c.args.secret.now c.args.code c.args.id c.args.authenticator.now content division c.divide_request-division.ensures.divided (hmac c.args.secret.now text) (length-hmac c.args.secret.now text) in
-    omega (arith, long, size, same, laid)
+    let laid = length-signed c.args.dictionary.now c.args.secret.now c.args.code c.args.id c.args.authenticator.now content c.divide_request-division.result c.divide_request-division.ensures.divided in
+    omega (arith, long, size, laid)
 
 pub returns-clause-authenticator : goal.returns-clause-authenticator
 unfolding request
