@@ -6,6 +6,7 @@ use Rattle.md5.specs.Md5.{md5}
 use Rattle.md5.proofs.StandardFacts.{length-md5}
 use Rattle.avp_lists.specs.declared.pairs.Pair.{Pair}
 use Rattle.avp_dict.specs.Dictionary.{Dictionary}
+use Rattle.avp_dict.specs.AttributeNumbers.{message_authenticator}
 use Rattle.std.specs.Int.{to_be_bytes, w16}
 use Rattle.std.specs.List.{flat_map}
 use Rattle.std.specs.Str.{bytes_eq}
@@ -13,10 +14,10 @@ use Rattle.avp_lists.specs.declared.pairs.Value.TheVariants.{Text}
 use Rattle.avp_lists.proofs.Equality.{value_eq-same}
 use Rattle.avp_packet.specs.AttributeOctets.{part}
 use Rattle.avp_packet.specs.Hmac.{hmac}
-use Rattle.avp_packet.specs.Packets.{accounting_request, attributes_of, attributes_signed, authenticator_of, digest_over, is_reply, length_of, packet, reply, reply_content, request, request_authenticator, request_content, zeros}
+use Rattle.avp_packet.specs.Packets.{accounting_request, attributes_of, attributes_signed, authenticator_of, digest_over, is_reply, length_of, packet, reply, reply_content, request, request_authenticator, request_content, zeros, max_packet_octets}
 use Rattle.avp_packet.specs.Signed.{blanked, is_signed, signatures}
 use Rattle.avp_packet.specs.Splitting.{left, part_octets, parts}
-use Rattle.avp_packet.proofs.AttributeRoom.{by_test}
+use Rattle.avp_packet.proofs.Tests.{by_test}
 
 pub length-packet : (code id : ℕ) (authenticator attributes : List ℕ) → length authenticator ≡ 16 → length (packet code id authenticator attributes) ≡ 20 + length attributes
 unfolding packet
@@ -89,14 +90,14 @@ is_reply-packet code id request_authenticator attributes secret short =
     let told : length_of os ≡ 20 + length attributes = length_of-packet code id digest attributes long short in
     let a : nat_le 20 (length os) ≡ true = grind (arith, common_steps) in
     let b : nat_le 20 (length_of os) ≡ true = grind (arith, common_steps) in
-    let d : nat_le (length_of os) 4096 ≡ true = grind (arith, common_steps) in
+    let d : nat_le (length_of os) max_packet_octets ≡ true = grind (arith, common_steps) in
     let e : nat_le (length_of os) (length os) ≡ true = grind (arith, common_steps) in
     rw (a, b, d, e, head-packet code id digest attributes long short, attributes_of-packet code id digest attributes long short, authenticator_of-packet code id digest attributes long short)
     (ap (bytes_eq digest) (over_request code id request_authenticator attributes secret) ∙ same_octets digest)
 
 -- the octets that sign are those that are looked for
 pub is_signed-packet : (code id : ℕ) (own authenticator attributes blank signature secret : List ℕ) → length own ≡ 16 → length attributes ≤ 4076 → length blank ≡ length attributes → left attributes ≡ []
-    → signatures (parts attributes) ≡ part 80 signature ∷ [] → flat_map part_octets (map blanked (parts attributes)) ≡ blank → signature ≡ hmac secret (packet code id authenticator blank)
+    → signatures (parts attributes) ≡ part message_authenticator signature ∷ [] → flat_map part_octets (map blanked (parts attributes)) ≡ blank → signature ≡ hmac secret (packet code id authenticator blank)
     → is_signed (packet code id own attributes) authenticator secret ≡ true
 unfolding is_signed packet
 is_signed-packet code id own authenticator attributes blank signature secret long short same whole one text made =
@@ -106,6 +107,6 @@ is_signed-packet code id own authenticator attributes blank signature secret lon
     let apart : attributes_of os ≡ attributes = attributes_of-packet code id own attributes long short in
     let a : nat_le 20 (length os) ≡ true = grind (arith, common_steps) in
     let b : nat_le 20 (length_of os) ≡ true = grind (arith, common_steps) in
-    let d : nat_le (length_of os) 4096 ≡ true = grind (arith, common_steps) in
+    let d : nat_le (length_of os) max_packet_octets ≡ true = grind (arith, common_steps) in
     let e : nat_le (length_of os) (length os) ≡ true = grind (arith, common_steps) in
     rw (a, b, d, e, apart, whole, one, text, ← same, ← made) (same_octets signature)

@@ -1,9 +1,10 @@
 -- The octets that a fitting pair is sent in are held by its id's attributes.
-use Rattle.std.proofs.Common.{◌≡◌, ℕ, ◌+◌, ◌-◌, ◌^◌, ◌<◌, ◌≤◌, Bool, true, false, not, ◌&&◌, ◌||◌, cond, nat_le, ◌==◌, List, [], ◌∷◌, length, Option, Some, None, refl, sym, arith, ◌⊎◌, inl, inr, min, append-nil}
+use Rattle.std.proofs.Common.{◌≡◌, ℕ, ◌+◌, ◌-◌, ◌^◌, ◌<◌, ◌≤◌, Bool, true, false, not, ◌&&◌, ◌||◌, cond, nat_le, ◌==◌, List, [], ◌∷◌, length, Option, Some, None, refl, arith, ◌⊎◌, inl, inr, min, append-nil}
 use Rattle.std.specs.Prelude.{IfSome}
 use Rattle.std.specs.List.{flat_map}
 use Rattle.std.specs.Option.{option_and_then, option_map_or}
 use Rattle.std.proofs.lemmas.Grind.{common_steps}
+use Rattle.std.proofs.lemmas.Bool.{and_parts, not-true}
 use Rattle.avp_lists.specs.declared.pairs.AttrId.{AttrId}
 use Rattle.avp_lists.specs.declared.pairs.AttrId.TheVariants.{Plain, Vendor, Extended}
 use Rattle.avp_lists.specs.declared.pairs.Pair.{Pair}
@@ -15,7 +16,7 @@ use Rattle.avp_dict.specs.Attributes.{is_held}
 use Rattle.avp_dict.specs.Dictionary.{format_of}
 use Rattle.avp_dict.specs.Limits.{extended_room, fits, greatest_length, is_known, is_typed, is_within, max_octets, vendor_room}
 use Rattle.avp_dict.specs.Names.{unless_three, vendor_format}
-use Rattle.avp_dict.specs.Octets.{ends_in_nul, is_hidden, is_hideable, octets}
+use Rattle.avp_dict.specs.Octets.{ends_in_nul, is_hidden, is_hideable, octets, max_hidden_octets}
 use Rattle.avp_dict.specs.Sent.{is_internal, is_raw, is_sent, sent}
 use Rattle.avp_dict.specs.Settled.{holds, is_in_format}
 use Rattle.avp_dict.specs.Vendors.{is_format}
@@ -24,26 +25,17 @@ use Rattle.avp_packet.specs.Hiding.{hidden}
 use Rattle.avp_packet.specs.Splitting.{part_octets}
 use Rattle.avp_packet.specs.VendorFormats.{known_format, usable_format}
 use Rattle.avp_packet.specs.internal.Holding.{CanHold, FitsFormat}
+use Rattle.avp_packet.specs.ExtendedTypes.{extended_type_1, extended_type_4}
 use Rattle.avp_packet.proofs.Nuls.{length-hidden, short_of, some_hidden}
-
-pub by_test : (P : Type 0) (b : Bool) → (b ≡ true → P) → (b ≡ false → P) → P
-by_test P true t f = t refl
-by_test P false t f = f refl
-
-pub and_left : (a b : Bool) → (a && b) ≡ true → a ≡ true
-and_left true b h = refl
-and_left false b h = h
-
-pub and_right : (a b : Bool) → (a && b) ≡ true → b ≡ true
-and_right true b h = h
-and_right false b h = cc
+use Rattle.avp_packet.proofs.Tests.{by_test}
 
 -- ---- formats
 
 pub format_of_size : (t l : ℕ) → is_format t l ≡ true → ((t ≡ 1) ⊎ ((t ≡ 2) ⊎ (t ≡ 4))) × (l ≤ 2)
 format_of_size t l h =
-    let short : nat_le l 2 ≡ true = and_right ((t == 1) || (t == 2) || (t == 4)) (nat_le l 2) h in
-    let sized : ((t == 1) || (t == 2) || (t == 4)) ≡ true = and_left ((t == 1) || (t == 2) || (t == 4)) (nat_le l 2) h in (
+    let both = and_parts ((t == 1) || (t == 2) || (t == 4)) (nat_le l 2) h in
+    let sized = both.0 in
+    let short = both.1 in (
       by_test _ (t == 1) (λ e. inl (grind (arith, common_steps))) (λ e. by_test _ (t == 2) (λ f. inr (inl (grind (arith, common_steps)))) (λ f. inr (inr (grind (arith, common_steps))))),
       grind (arith, common_steps),
     )
@@ -59,17 +51,17 @@ held_below n f h k = go (format_of_size f.t f.l h).0
 module _ (dictionary : Dictionary) where
   -- what an id's attributes hold
   abbrev IsShort : AttrId → List ℕ → Type 0
-  IsShort id os = (length os ≤ 128) ⊎ (length os ≤ max_octets id dictionary)
+  IsShort id os = (length os ≤ max_hidden_octets) ⊎ (length os ≤ max_octets id dictionary)
 
-  vendor_holds : (n : ℕ) (os : List ℕ) (o : Option VendorFormat) → holds n o ≡ true → ((length os ≤ 128) ⊎ (length os ≤ option_map_or vendor_room (option_and_then unless_three o) 0))
+  vendor_holds : (n : ℕ) (os : List ℕ) (o : Option VendorFormat) → holds n o ≡ true → ((length os ≤ max_hidden_octets) ⊎ (length os ≤ option_map_or vendor_room (option_and_then unless_three o) 0))
       → IfSome (option_and_then usable_format (option_and_then unless_three o)) (FitsFormat n os)
   vendor_holds n os None h short = tt
   vendor_holds n os (Some f) h short = go f.third refl
     where
-      sized : is_format f.t f.l ≡ true → is_held n f ≡ true → ((length os ≤ 128) ⊎ (length os ≤ 249 - f.t - f.l)) → FitsFormat n os (record { t = f.t; l = f.l })
+      sized : is_format f.t f.l ≡ true → is_held n f ≡ true → ((length os ≤ max_hidden_octets) ⊎ (length os ≤ 249 - f.t - f.l)) → FitsFormat n os (record { t = f.t; l = f.l })
       sized u k s = (held_below n f u k, room (format_of_size f.t f.l u).0 (format_of_size f.t f.l u).1 s)
         where
-          room : ((f.t ≡ 1) ⊎ ((f.t ≡ 2) ⊎ (f.t ≡ 4))) → f.l ≤ 2 → ((length os ≤ 128) ⊎ (length os ≤ 249 - f.t - f.l)) → 6 + f.t + f.l + length os ≤ 255
+          room : ((f.t ≡ 1) ⊎ ((f.t ≡ 2) ⊎ (f.t ≡ 4))) → f.l ≤ 2 → ((length os ≤ max_hidden_octets) ⊎ (length os ≤ 249 - f.t - f.l)) → 6 + f.t + f.l + length os ≤ 255
           room (inl e) l (inl s) = omega arith
           room (inr (inl e)) l (inl s) = omega arith
           room (inr (inr e)) l (inl s) = omega arith
@@ -80,62 +72,62 @@ module _ (dictionary : Dictionary) where
       go : (third : Bool) → f.third ≡ third → IfSome (option_and_then usable_format (option_and_then unless_three (Some f))) (FitsFormat n os)
       go true e = rw e tt
       go false e =
-          let short_by : (length os ≤ 128) ⊎ (length os ≤ 249 - f.t - f.l) = rw e at short in
-          rw e (by_test (IfSome (usable_format (record { t = f.t; l = f.l })) (FitsFormat n os)) (is_format f.t f.l) (λ u. rw u (sized u (and_right (not f.third) (is_held n f) h) short_by)) (λ u. rw u tt))
+          let short_by : (length os ≤ max_hidden_octets) ⊎ (length os ≤ 249 - f.t - f.l) = rw e at short in
+          rw e (by_test (IfSome (usable_format (record { t = f.t; l = f.l })) (FitsFormat n os)) (is_format f.t f.l) (λ u. rw u (sized u (and_parts (not f.third) (is_held n f) h).1 short_by)) (λ u. rw u tt))
 
   can_hold : (id : AttrId) (os : List ℕ) → is_known id dictionary ≡ true → is_internal id ≡ false → IsShort id os → CanHold dictionary id os
   unfolding is_known max_octets known_format vendor_format is_in_format
   can_hold (Plain n) os known sent short = let small : n ≤ 255 = grind (arith, common_steps) in (small, go short)
     where
-      go : ((length os ≤ 128) ⊎ (length os ≤ max_octets (Plain n) dictionary)) → length os ≤ 253
+      go : ((length os ≤ max_hidden_octets) ⊎ (length os ≤ max_octets (Plain n) dictionary)) → length os ≤ 253
       go (inl s) = omega arith
       go (inr s) = grind (arith, common_steps)
   can_hold (Vendor v n) os known sent short = vendor_holds n os (format_of v dictionary.vendors) known short
   can_hold (Extended t n) os known sent short = λ low. go low short
     where
-      go : t ≤ 244 → ((length os ≤ 128) ⊎ (length os ≤ extended_room t)) → length os ≤ 252
+      go : t ≤ extended_type_4 → ((length os ≤ max_hidden_octets) ⊎ (length os ≤ extended_room t)) → length os ≤ 252
       go low (inl s) = omega arith
-      go low (inr s) = let from : 241 ≤ t = grind (arith, common_steps) in grind (arith, common_steps)
+      go low (inr s) = let from : extended_type_1 ≤ t = grind (arith, common_steps) in grind (arith, common_steps)
 
   -- ---- octets of a fitting value
 
   greatest_most : (id : AttrId) (n : ℕ) → nat_le n (greatest_length id dictionary) ≡ true → n ≤ max_octets id dictionary
   unfolding greatest_length
-  greatest_most id n h = by_test _ (is_hidden id dictionary) (λ e. let f : greatest_length id dictionary ≡ min 128 (max_octets id dictionary) = rw e in grind (arith, common_steps)) (λ e. let f : greatest_length id dictionary ≡ max_octets id dictionary = rw e in grind (arith, common_steps))
+  greatest_most id n h = by_test _ (is_hidden id dictionary) (λ e. let f : greatest_length id dictionary ≡ min max_hidden_octets (max_octets id dictionary) = rw e in grind (arith, common_steps)) (λ e. let f : greatest_length id dictionary ≡ max_octets id dictionary = rw e in grind (arith, common_steps))
 
-  greatest_hidden : (id : AttrId) (n : ℕ) → is_hidden id dictionary ≡ true → nat_le n (greatest_length id dictionary) ≡ true → n ≤ 128
+  greatest_hidden : (id : AttrId) (n : ℕ) → is_hidden id dictionary ≡ true → nat_le n (greatest_length id dictionary) ≡ true → n ≤ max_hidden_octets
   unfolding greatest_length
-  greatest_hidden id n e h = let f : greatest_length id dictionary ≡ min 128 (max_octets id dictionary) = rw e in grind (arith, common_steps)
+  greatest_hidden id n e h = let f : greatest_length id dictionary ≡ min max_hidden_octets (max_octets id dictionary) = rw e in grind (arith, common_steps)
 
   within_most : (id : AttrId) (v : Value) → is_within id v dictionary ≡ true → length (octets id v dictionary) ≤ max_octets id dictionary
   unfolding octets
   within_most id (Raw os) h = grind (arith, common_steps)
-  within_most id v h = greatest_most id (length (octets id v dictionary)) (and_left _ _ h)
+  within_most id v h = greatest_most id (length (octets id v dictionary)) (and_parts _ _ h).0
 
   pub within_hideable : (id : AttrId) (v : Value) → is_hidden id dictionary ≡ true → is_raw v ≡ false → is_within id v dictionary ≡ true → is_hideable (octets id v dictionary) ≡ true
   unfolding octets
   within_hideable id (Raw os) e r h = absurd (cc)
   within_hideable id v e r h =
       let os : List ℕ = octets id v dictionary in
-      let short : length os ≤ 128 = greatest_hidden id (length os) e (and_left _ _ h) in
-      let low : nat_le (length os) 128 ≡ true = grind (arith, common_steps) in
-      let kept : not (is_hidden id dictionary && ends_in_nul os) ≡ true = and_right _ _ h in
+      let short : length os ≤ max_hidden_octets = greatest_hidden id (length os) e (and_parts _ _ h).0 in
+      let low : nat_le (length os) max_hidden_octets ≡ true = grind (arith, common_steps) in
+      let kept : not (is_hidden id dictionary && ends_in_nul os) ≡ true = (and_parts _ _ h).1 in
       let ends : not (ends_in_nul os) ≡ true = rw e at kept in
       rw (low, ends)
 
   pub fits_known : (p : Pair) → fits p dictionary ≡ true → is_known p.id dictionary ≡ true
   unfolding fits
-  fits_known p h = and_left (is_known p.id dictionary) (is_typed p.id p.value dictionary) (and_left (is_known p.id dictionary && is_typed p.id p.value dictionary) (is_within p.id p.value dictionary) h)
+  fits_known p h = (and_parts _ _ (and_parts _ _ h).0).0
 
   pub fits_typed : (p : Pair) → fits p dictionary ≡ true → is_typed p.id p.value dictionary ≡ true
   unfolding fits
-  fits_typed p h = and_right (is_known p.id dictionary) (is_typed p.id p.value dictionary) (and_left (is_known p.id dictionary && is_typed p.id p.value dictionary) (is_within p.id p.value dictionary) h)
+  fits_typed p h = (and_parts _ _ (and_parts _ _ h).0).1
 
   pub fits_within : (p : Pair) → fits p dictionary ≡ true → is_within p.id p.value dictionary ≡ true
   unfolding fits
-  fits_within p h = and_right (is_known p.id dictionary && is_typed p.id p.value dictionary) (is_within p.id p.value dictionary) h
+  fits_within p h = (and_parts _ _ h).1
 
-  pub hidden_short : (p : Pair) → fits p dictionary ≡ true → is_hidden p.id dictionary ≡ true → is_raw p.value ≡ false → length (octets p.id p.value dictionary) ≤ 128
+  pub hidden_short : (p : Pair) → fits p dictionary ≡ true → is_hidden p.id dictionary ≡ true → is_raw p.value ≡ false → length (octets p.id p.value dictionary) ≤ max_hidden_octets
   hidden_short p h e r = short_of (octets p.id p.value dictionary) (within_hideable p.id p.value e r (fits_within p h))
 
   -- a fitting pair's attributes hold its octets, also hidden
@@ -144,14 +136,10 @@ module _ (dictionary : Dictionary) where
   sent_held secret authenticator p h sent =
       let os : List ℕ = octets p.id p.value dictionary in
       by_test (CanHold dictionary p.id (cond (is_hidden p.id dictionary && not (is_raw p.value)) (hidden secret authenticator os) os)) (is_hidden p.id dictionary && not (is_raw p.value))
-      (λ e. let hides : is_hidden p.id dictionary ≡ true = and_left _ _ e in
-      let typed : is_raw p.value ≡ false = not_true (is_raw p.value) (and_right _ _ e) in
+      (λ e. let hides : is_hidden p.id dictionary ≡ true = (and_parts _ _ e).0 in
+      let typed : is_raw p.value ≡ false = not-true (is_raw p.value) (and_parts _ _ e).1 in
       rw e (can_hold p.id (hidden secret authenticator os) (fits_known p h) sent (inl (length-hidden secret authenticator os (within_hideable p.id p.value hides typed (fits_within p h))))))
       (λ e. rw e (can_hold p.id os (fits_known p h) sent (inr (within_most p.id p.value (fits_within p h)))))
-    where
-      not_true : (b : Bool) → not b ≡ true → b ≡ false
-      not_true true e = sym e
-      not_true false e = refl
 
   -- ---- a pair that is sent, and one that is not
 

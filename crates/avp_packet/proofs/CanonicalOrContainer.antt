@@ -26,8 +26,8 @@ use Rattle.avp_packet.specs.Splitting.{Part, parts}
 use Rattle.avp_packet.proofs.FittingPairs.{octets_same, pair_fits}
 use Rattle.avp_packet.proofs.FittingLists.{IsGood, octets_hold}
 use Rattle.avp_packet.proofs.OctetRanges.{AreBytes, IsRead, IsShown, octets_read, shown_holds}
-use Rattle.avp_packet.proofs.AttributeRoom.{by_test}
 use Rattle.avp_packet.proofs.ValuesReadBack.{hides_text}
+use Rattle.avp_packet.proofs.Tests.{by_test}
 
 -- the value of a type of text or octets is not raw
 text_shown : (kind : Kind) (os : List ℕ) → is_text_kind (Some kind) ≡ true → is_shown (unwrap_or (value_read kind os) (Raw os)) ≡ true

@@ -4,7 +4,7 @@ use Rattle.std.specs.List.{All, after_first, before_first, filter, list_any, pos
 use Rattle.std.proofs.lemmas.List.{drop-drop, drop_all, length-drop, take_all}
 use Rattle.std.proofs.lemmas.List.Elements.{All-drop, All-take}
 use Rattle.avp_lists.specs.declared.pairs.Pair.{Pair}
-use Rattle.avp_packet.proofs.AttributeRoom.{by_test}
+use Rattle.avp_packet.proofs.Tests.{by_test}
 
 add-one-left : (n : ℕ) → 1 + n ≡ suc n
 add-one-left n = omega arith

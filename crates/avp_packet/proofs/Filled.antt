@@ -4,6 +4,7 @@ use borrow.Rule.Slice.PartMut.{put_mid}
 use Rattle.std.proofs.lemmas.List.{drop-drop, drop_all, length-append, length-drop, length-take-le, take_all, take_at}
 use Rattle.md5.specs.Md5.{block_words, compress, digest_bytes, hash_after, md5, rounds}
 use Rattle.md5.proofs.StandardFacts.{length-md5}
+use Rattle.avp_dict.specs.AttributeNumbers.{message_authenticator}
 use Rattle.avp_packet.specs.AttributeOctets.{part}
 use Rattle.avp_packet.specs.Hiding.{masked}
 use Rattle.avp_packet.specs.Hmac.{hmac, inner_pad, key_block, outer_pad}
@@ -11,21 +12,21 @@ use Rattle.avp_packet.specs.Packets.{zeros}
 use Rattle.avp_packet.specs.Splitting.{part_octets}
 use Rattle.avp_packet.specs.internal.Filling.{IsPlace, filled}
 
-module _ (os : List ℕ) (place : ℕ) (within : place + 18 ≤ length os) (blank : take place os ++ part_octets (part 80 zeros) ++ drop (place + 18) os ≡ os) where
-  head_is : take (place + 2) os ≡ take place os ++ 80 ∷ 18 ∷ []
+module _ (os : List ℕ) (place : ℕ) (within : place + 18 ≤ length os) (blank : take place os ++ part_octets (part message_authenticator zeros) ++ drop (place + 18) os ≡ os) where
+  head_is : take (place + 2) os ≡ take place os ++ message_authenticator ∷ 18 ∷ []
   head_is =
       let front : List ℕ = take place os in
       let here = length-take-le place os (omega arith) in
-      let both = length-append front (80 ∷ 18 ∷ []) in
+      let both = length-append front (message_authenticator ∷ 18 ∷ []) in
       let rest : List ℕ = zeros ++ drop (place + 18) os in
-      let whole : os ≡ (front ++ 80 ∷ 18 ∷ []) ++ rest = sym blank ∙ regrouped front zeros (drop (place + 18) os) in
-      ap (take (place + 2)) whole ∙ take_at (front ++ 80 ∷ 18 ∷ []) rest (place + 2) (omega arith)
+      let whole : os ≡ (front ++ message_authenticator ∷ 18 ∷ []) ++ rest = sym blank ∙ regrouped front zeros (drop (place + 18) os) in
+      ap (take (place + 2)) whole ∙ take_at (front ++ message_authenticator ∷ 18 ∷ []) rest (place + 2) (omega arith)
     where
-      regrouped : (a b d : List ℕ) → a ++ (80 ∷ 18 ∷ b) ++ d ≡ (a ++ 80 ∷ 18 ∷ []) ++ (b ++ d)
+      regrouped : (a b d : List ℕ) → a ++ (message_authenticator ∷ 18 ∷ b) ++ d ≡ (a ++ message_authenticator ∷ 18 ∷ []) ++ (b ++ d)
       regrouped a b d = simp append_assoc
 
   pub signed_in : (len k : ℕ) (now new signature : List ℕ) → len ≡ length os → k ≡ 16 → now ≡ os → new ≡ signature → length signature ≡ 16
-      → take len (put_mid (place + 2) k now new ++ drop (length (put_mid (place + 2) k now new)) os) ≡ take place os ++ part_octets (part 80 signature) ++ drop (place + 18) os
+      → take len (put_mid (place + 2) k now new ++ drop (length (put_mid (place + 2) k now new)) os) ≡ take place os ++ part_octets (part message_authenticator signature) ++ drop (place + 18) os
   signed_in len k now new signature a b d e f =
       let rest : List ℕ = drop 16 (drop (place + 2) os) in
       let made : List ℕ = take (place + 2) os ++ (signature ++ rest) in
@@ -41,7 +42,7 @@ module _ (os : List ℕ) (place : ℕ) (within : place + 18 ≤ length os) (blan
       let eighteen : 2 + length signature ≡ 18 = omega arith in
       rw (a, b, d, e) (rw (none, append-nil made) (take_all (length os) made (omega arith) ∙ rw (head_is, same, eighteen) (regrouped (take place os) signature (drop (place + 18) os))))
     where
-      regrouped : (a b d : List ℕ) → (a ++ 80 ∷ 18 ∷ []) ++ (b ++ d) ≡ a ++ (80 ∷ 18 ∷ b) ++ d
+      regrouped : (a b d : List ℕ) → (a ++ message_authenticator ∷ 18 ∷ []) ++ (b ++ d) ≡ a ++ (message_authenticator ∷ 18 ∷ b) ++ d
       regrouped a b d = simp append_assoc
 
 pub length-filled : (os : List ℕ) (place : Option ℕ) (signature : List ℕ) → IsPlace (length os) place → length signature ≡ 16 → length (filled os place signature) ≡ length os
@@ -49,8 +50,8 @@ length-filled os None signature h e = refl
 length-filled os (Some place) signature h e =
     let front = length-take-le place os (omega arith) in
     let rest = length-drop (place + 18) os in
-    let a = length-append (take place os) (part_octets (part 80 signature)) in
-    let b = length-append (take place os ++ part_octets (part 80 signature)) (drop (place + 18) os) in
+    let a = length-append (take place os) (part_octets (part message_authenticator signature)) in
+    let b = length-append (take place os ++ part_octets (part message_authenticator signature)) (drop (place + 18) os) in
     omega arith
 
 pub length-hmac : (key text : List ℕ) → length (hmac key text) ≡ 16

@@ -1,5 +1,5 @@
 -- What holds of each pair that is read holds of the pairs of whole attributes: they fit the dictionary.
-use Rattle.std.proofs.Common.{◌≡◌, ℕ, zero, suc, ◌+◌, ◌-◌, ◌*◌, ◌^◌, ◌<◌, ◌≤◌, Bool, true, false, ◌&&◌, ◌||◌, ◌==◌, nat_le, cond, List, [], ◌∷◌, ◌++◌, length, take, drop, map, Option, Some, None, refl, ap, subst, arith, ◌⊎◌, inl, inr}
+use Rattle.std.proofs.Common.{◌≡◌, ℕ, zero, suc, ◌+◌, ◌-◌, ◌*◌, ◌^◌, ◌<◌, ◌≤◌, Bool, true, false, ◌&&◌, ◌==◌, nat_le, cond, List, [], ◌∷◌, ◌++◌, length, take, drop, map, Option, Some, None, refl, ap, subst, arith, ◌⊎◌, inl, inr}
 use Rattle.std.specs.Prelude.{IfSome}
 use Rattle.std.specs.List.{All, AllByRecursion}
 use Rattle.std.specs.Option.{option_and_then, option_map, option_map_or}
@@ -7,6 +7,7 @@ use Rattle.std.proofs.lemmas.Grind.{common_steps}
 use Rattle.std.proofs.lemmas.Int.Digits.{number_lt}
 use Rattle.std.proofs.lemmas.List.{length-append, length-drop, length-take, length-take-le}
 use Rattle.std.proofs.lemmas.List.Elements.{All-from_recursion}
+use Rattle.std.proofs.lemmas.Bool.{and_parts}
 use Rattle.avp_lists.specs.declared.pairs.AttrId.{AttrId}
 use Rattle.avp_lists.specs.declared.pairs.AttrId.TheVariants.{Plain, Vendor, Extended}
 use Rattle.avp_lists.specs.declared.pairs.Pair.{Pair}
@@ -20,12 +21,15 @@ use Rattle.avp_dict.specs.Names.{unless_three, vendor_format}
 use Rattle.avp_dict.specs.Sent.{is_container}
 use Rattle.avp_dict.specs.Settled.{holds, is_in_format}
 use Rattle.avp_dict.specs.Vendors.{is_format}
+use Rattle.avp_dict.specs.AttributeNumbers.{vendor_specific}
 use Rattle.avp_packet.specs.Meanings.{Piece, Run, Sub, are_subs, begins_sub, extended_pair, extended_type, first_pairs, first_run, first_sub, joined, long_pair, attribute_pairs, meaning_behind, others, pair_meant, piece_in, piece_of, raw_pair, run, run_with, sub_length, sub_pair, subs, subs_behind, subs_by, vendor_of, vendor_pairs, vendor_subs}
 use Rattle.avp_packet.specs.Splitting.{Part, is_whole_attribute, parts, parts_behind}
 use Rattle.avp_packet.specs.VendorFormats.{known_format, usable_format}
+use Rattle.avp_packet.specs.ExtendedTypes.{extended_type_1, extended_type_4, long_extended_type_1, long_extended_type_2, piece_octets, more_flag, holds_one, holds_long}
 use Rattle.avp_packet.proofs.FittingPairs.{pair_fits}
 use Rattle.avp_packet.proofs.OctetRanges.{AreBytes, bytes-append, bytes-drop, bytes-take}
-use Rattle.avp_packet.proofs.AttributeRoom.{and_left, and_right, by_test, format_of_size}
+use Rattle.avp_packet.proofs.AttributeRoom.{format_of_size}
+use Rattle.avp_packet.proofs.Tests.{by_test}
 
 -- ---- whole attributes
 
@@ -74,8 +78,8 @@ size_behind zero (t ∷ n ∷ os) =
 pub record IsRun (ps : List Part) (r : Run) : Type 0 where
   pub full : ℕ
   pub last : ℕ
-  pub long : length r.os ≡ 251 * full + last
-  pub short : last ≤ 251
+  pub long : length r.os ≡ piece_octets * full + last
+  pub short : last ≤ piece_octets
   pub room : 255 * full + 4 + last ≤ size ps
   pub bytes : AreBytes r.os
 
@@ -90,25 +94,25 @@ piece_good t number p good =
     go (n ∷ []) h = tt
     go (n ∷ f ∷ []) h = tt
     go (n ∷ f ∷ o ∷ os) h =
-        by_test (IfSome (cond (n == number) (Some (record { more = nat_le 128 f; os = o ∷ os })) None) (λ piece. (length piece.os + 2 ≡ length (n ∷ f ∷ o ∷ os)) × AreBytes piece.os)) (n == number)
+        by_test (IfSome (cond (n == number) (Some (record { more = nat_le more_flag f; os = o ∷ os })) None) (λ piece. (length piece.os + 2 ≡ length (n ∷ f ∷ o ∷ os)) × AreBytes piece.os)) (n == number)
         (λ e. rw e (omega arith, h.1.1))
         (λ e. rw e tt)
 
 with_good : (p : Part) (ps : List Part) (piece : Piece) (following : Option Run) → IsGood p → length piece.os + 2 ≡ length p.value → AreBytes piece.os → IfSome following (IsRun ps) → IfSome (run_with piece ps following) (IsRun (p ∷ ps))
 with_good p ps piece following good long bytes rest =
-    by_test (IfSome (cond piece.more (cond (length piece.os == 251) (option_map (joined piece.os) following) None) (Some (record { os = piece.os; rest = ps }))) (IsRun (p ∷ ps))) piece.more
-    (λ e. rw e (by_test (IfSome (cond (length piece.os == 251) (option_map (joined piece.os) following) None) (IsRun (p ∷ ps))) (length piece.os == 251)
-    (λ f. let same : length piece.os ≡ 251 = grind (arith, common_steps) in rw f (go following rest same))
+    by_test (IfSome (cond piece.more (cond (length piece.os == piece_octets) (option_map (joined piece.os) following) None) (Some (record { os = piece.os; rest = ps }))) (IsRun (p ∷ ps))) piece.more
+    (λ e. rw e (by_test (IfSome (cond (length piece.os == piece_octets) (option_map (joined piece.os) following) None) (IsRun (p ∷ ps))) (length piece.os == piece_octets)
+    (λ f. let same : length piece.os ≡ piece_octets = grind (arith, common_steps) in rw f (go following rest same))
     (λ f. rw f tt)))
     (λ e. rw e (record { full = 0; last = length piece.os; long = omega arith; short = let few = good.short in omega arith; room = omega arith; bytes = bytes }))
   where
-    go : (o : Option Run) → IfSome o (IsRun ps) → length piece.os ≡ 251 → IfSome (option_map (joined piece.os) o) (IsRun (p ∷ ps))
+    go : (o : Option Run) → IfSome o (IsRun ps) → length piece.os ≡ piece_octets → IfSome (option_map (joined piece.os) o) (IsRun (p ∷ ps))
     go None h same = tt
     go (Some r) h same =
         let all = length-append piece.os r.os in
         let k = h.full in
         let m = h.last in
-        let a : length r.os ≡ 251 * k + m = h.long in
+        let a : length r.os ≡ piece_octets * k + m = h.long in
         let b : 255 * k + 4 + m ≤ size ps = h.room in
         record { full = suc k; last = m; long = omega arith; short = h.short; room = omega arith; bytes = bytes-append piece.os r.os bytes h.bytes }
 
@@ -126,9 +130,9 @@ pub run_short : (ps : List Part) (r : Run) → IsRun ps r → size ps ≤ 4076 �
 run_short ps r h few =
     let k = h.full in
     let m = h.last in
-    let a : length r.os ≡ 251 * k + m = h.long in
+    let a : length r.os ≡ piece_octets * k + m = h.long in
     let b : 255 * k + 4 + m ≤ size ps = h.room in
-    let d : m ≤ 251 = h.short in
+    let d : m ≤ piece_octets = h.short in
     omega arith
 
 -- ---- vendors
@@ -175,12 +179,11 @@ first_good : (f : Format) (os : List ℕ) (most : ℕ) → AreBytes os → lengt
 first_good f os most bytes few b =
     let n : ℕ = sub_length f os in
     let h : ℕ = f.t + f.l in
-    let whole : nat_le n (length os) ≡ true = and_right (nat_le h (length os) && nat_le h n) (nat_le n (length os)) b in
-    let counts : nat_le h n ≡ true = and_right (nat_le h (length os)) (nat_le h n) (and_left (nat_le h (length os) && nat_le h n) (nat_le n (length os)) b) in
-    let headed : nat_le h (length os) ≡ true = and_left (nat_le h (length os)) (nat_le h n) (and_left (nat_le h (length os) && nat_le h n) (nat_le n (length os)) b) in
-    let a : n ≤ length os = le_of n (length os) whole in
-    let c : h ≤ n = le_of h n counts in
-    let d : h ≤ length os = le_of h (length os) headed in
+    let whole = and_parts (nat_le h (length os) && nat_le h n) (nat_le n (length os)) b in
+    let counts = and_parts (nat_le h (length os)) (nat_le h n) whole.0 in
+    let a : n ≤ length os = le_of n (length os) whole.1 in
+    let c : h ≤ n = le_of h n counts.1 in
+    let d : h ≤ length os = le_of h (length os) counts.0 in
     let t : length (take f.t os) ≡ f.t = length-take-le f.t os (omega arith) in
     let below = number_lt 256 (take f.t os) (bytes-take f.t os bytes) in
     let value = length-take (n - h) (drop h os) in
@@ -212,11 +215,11 @@ HoldsOfMade dictionary secret authenticator P = (id : AttrId) (os : List ℕ) �
 abbrev pub HoldsOfKept : (Pair → Type 0) → Type 0
 HoldsOfKept P = (p : Part) → IsGood p → is_container (Plain p.number) ≡ true → P (raw_pair p)
 
-extended_held : (n : ℕ) → 241 ≤ n → n ≤ 246 → is_container (Plain n) ≡ true
+extended_held : (n : ℕ) → extended_type_1 ≤ n → n ≤ long_extended_type_2 → is_container (Plain n) ≡ true
 extended_held n low high =
-    let a : (n == 26) ≡ false = grind (arith, common_steps) in
-    let b : nat_le 241 n ≡ true = grind (arith, common_steps) in
-    let d : nat_le n 246 ≡ true = grind (arith, common_steps) in
+    let a : (n == vendor_specific) ≡ false = grind (arith, common_steps) in
+    let b : nat_le extended_type_1 n ≡ true = grind (arith, common_steps) in
+    let d : nat_le n long_extended_type_2 ≡ true = grind (arith, common_steps) in
     rw (a, b, d) refl
 
 module _ (dictionary : Dictionary) (secret authenticator : List ℕ) (P : Pair → Type 0) (made : HoldsOfMade dictionary secret authenticator P) (kept : HoldsOfKept P) where
@@ -233,7 +236,7 @@ module _ (dictionary : Dictionary) (secret authenticator : List ℕ) (P : Pair �
       let number : nat_le p.number 255 ≡ true = let low = good.number in grind (arith, common_steps) in
       made (Plain p.number) p.value refl good.bytes (rw number good.short)
 
-  extended_good : (p : Part) → IsGood p → 241 ≤ p.number → p.number ≤ 244 → P (extended_pair dictionary secret authenticator p)
+  extended_good : (p : Part) → IsGood p → extended_type_1 ≤ p.number → p.number ≤ extended_type_4 → P (extended_pair dictionary secret authenticator p)
   unfolding is_known max_octets
   extended_good p good low high = go p.value refl
     where
@@ -247,13 +250,13 @@ module _ (dictionary : Dictionary) (secret authenticator : List ℕ) (P : Pair �
           let few = good.short in
           let same = ap length e in
           let bytes : AreBytes (n ∷ o ∷ os) = rw e at good.bytes in
-          let a : nat_le 241 p.number ≡ true = grind (arith, common_steps) in
-          let b : nat_le p.number 246 ≡ true = grind (arith, common_steps) in
-          let d : nat_le p.number 244 ≡ true = grind (arith, common_steps) in
+          let a : nat_le extended_type_1 p.number ≡ true = grind (arith, common_steps) in
+          let b : nat_le p.number long_extended_type_2 ≡ true = grind (arith, common_steps) in
+          let d : nat_le p.number extended_type_4 ≡ true = grind (arith, common_steps) in
           let short : length (o ∷ os) ≤ 252 = omega arith in
           made (Extended p.number n) (o ∷ os) (rw (a, b)) bytes.1 (rw (a, d) short)
 
-  long_good : (p : Part) (ps : List Part) → AreGood (p ∷ ps) → size (p ∷ ps) ≤ 4076 → 245 ≤ p.number → p.number ≤ 246 → P (long_pair dictionary secret authenticator p (first_run p ps))
+  long_good : (p : Part) (ps : List Part) → AreGood (p ∷ ps) → size (p ∷ ps) ≤ 4076 → long_extended_type_1 ≤ p.number → p.number ≤ long_extended_type_2 → P (long_pair dictionary secret authenticator p (first_run p ps))
   unfolding is_known max_octets
   long_good p ps good few low high = go (first_run p ps) (run_good p.number (extended_type p) (p ∷ ps) good)
     where
@@ -261,10 +264,10 @@ module _ (dictionary : Dictionary) (secret authenticator : List ℕ) (P : Pair �
       go None h = kept p good.0 (extended_held p.number (omega arith) high)
       go (Some r) h =
           let short : length r.os ≤ 4012 = run_short (p ∷ ps) r h few in
-          let a : nat_le 241 p.number ≡ true = grind (arith, common_steps) in
-          let b : nat_le p.number 246 ≡ true = grind (arith, common_steps) in
-          let d : nat_le p.number 244 ≡ false = grind (arith, common_steps) in
-          let e : nat_le 245 p.number ≡ true = grind (arith, common_steps) in
+          let a : nat_le extended_type_1 p.number ≡ true = grind (arith, common_steps) in
+          let b : nat_le p.number long_extended_type_2 ≡ true = grind (arith, common_steps) in
+          let d : nat_le p.number extended_type_4 ≡ false = grind (arith, common_steps) in
+          let e : nat_le long_extended_type_1 p.number ≡ true = grind (arith, common_steps) in
           made (Extended p.number (extended_type p)) r.os (rw (a, b)) h.bytes (rw (a, d, e, b) short)
 
   -- the pairs of a vendor's attributes
@@ -298,15 +301,15 @@ module _ (dictionary : Dictionary) (secret authenticator : List ℕ) (P : Pair �
 
   first_good_pairs : (p : Part) (ps : List Part) → AreGood (p ∷ ps) → size (p ∷ ps) ≤ 4076 → AllHold (first_pairs dictionary secret authenticator p ps)
   first_good_pairs p ps good few =
-      by_test (AllHold (first_pairs dictionary secret authenticator p ps)) (p.number == 26)
+      by_test (AllHold (first_pairs dictionary secret authenticator p ps)) (p.number == vendor_specific)
       (λ e. let held : is_container (Plain p.number) ≡ true = rw e refl in rw e (vendor_good p good.0 held))
-      (λ e. by_test (AllHold (first_pairs dictionary secret authenticator p ps)) (nat_le 241 p.number && nat_le p.number 244)
-      (λ f. let low : 241 ≤ p.number = grind (arith, common_steps) in
-      let high : p.number ≤ 244 = grind (arith, common_steps) in
+      (λ e. by_test (AllHold (first_pairs dictionary secret authenticator p ps)) (holds_one p.number)
+      (λ f. let low : extended_type_1 ≤ p.number = grind (arith, common_steps) in
+      let high : p.number ≤ extended_type_4 = grind (arith, common_steps) in
       rw (e, f) (extended_good p good.0 low high, tt))
-      (λ f. by_test (AllHold (first_pairs dictionary secret authenticator p ps)) ((p.number == 245) || (p.number == 246))
-      (λ g. let low : 245 ≤ p.number = grind (arith, common_steps) in
-      let high : p.number ≤ 246 = grind (arith, common_steps) in
+      (λ f. by_test (AllHold (first_pairs dictionary secret authenticator p ps)) (holds_long p.number)
+      (λ g. let low : long_extended_type_1 ≤ p.number = grind (arith, common_steps) in
+      let high : p.number ≤ long_extended_type_2 = grind (arith, common_steps) in
       rw (e, f, g) (long_good p ps good few low high, tt))
       (λ g. rw (e, f, g) (plain_good p good.0, tt))))
 

@@ -2,7 +2,7 @@
 use Rattle.std.proofs.Common.{◌≡◌, ◌∙◌, ℕ, ◌≤◌, Bool, true, false, not, ◌&&◌, nat_le, cond, List, length, Option, Some, None, refl, sym, ap, arith}
 use Rattle.std.specs.Prelude.{IfSome}
 use Rattle.std.specs.Option.{option_and_then, unwrap_or}
-use Rattle.std.proofs.lemmas.Bool.{false≢true}
+use Rattle.std.proofs.lemmas.Bool.{and_parts, false≢true}
 use Rattle.std.proofs.lemmas.Grind.{common_steps}
 use Rattle.avp_lists.specs.declared.pairs.AttrId.{AttrId}
 use Rattle.avp_lists.specs.declared.pairs.Value.{Value}
@@ -10,11 +10,11 @@ use Rattle.avp_lists.specs.declared.pairs.Value.TheVariants.{Text, Bytes, Int, S
 use Rattle.avp_dict.specs.Dictionary.{Dictionary}
 use Rattle.avp_dict.specs.Limits.{fits, greatest_length, is_known, is_of_kind, is_typed, is_within, max_octets}
 use Rattle.avp_dict.specs.Names.{Described, described}
-use Rattle.avp_dict.specs.Octets.{ends_in_nul, is_hidden, is_hideable, octets, octets_of, read_by, read_value, value_of_octets, value_read}
+use Rattle.avp_dict.specs.Octets.{ends_in_nul, is_hidden, is_hideable, octets, octets_of, read_by, read_value, value_of_octets, value_read, max_hidden_octets}
 use Rattle.avp_packet.specs.Hiding.{shown}
 use Rattle.avp_packet.specs.Meanings.{pair_meant, value_meant, value_shown}
 use Rattle.avp_packet.proofs.OctetRanges.{AreBytes, IsRead, IsShown, octets_read, shown_holds}
-use Rattle.avp_packet.proofs.AttributeRoom.{and_right, by_test}
+use Rattle.avp_packet.proofs.Tests.{by_test}
 
 module _ (dictionary : Dictionary) where
   -- a value that fits beside an id that is known
@@ -40,7 +40,7 @@ module _ (dictionary : Dictionary) where
   unfolding greatest_length
   plain_greatest id h = rw h
 
-  hidden_greatest : (id : AttrId) (n : ℕ) → is_hidden id dictionary ≡ true → n ≤ 128 → n ≤ max_octets id dictionary → n ≤ greatest_length id dictionary
+  hidden_greatest : (id : AttrId) (n : ℕ) → is_hidden id dictionary ≡ true → n ≤ max_hidden_octets → n ≤ max_octets id dictionary → n ≤ greatest_length id dictionary
   unfolding greatest_length
   hidden_greatest id n h a b = rw h (omega arith)
 
@@ -58,8 +58,8 @@ module _ (dictionary : Dictionary) where
       by_test (IsFitting id v) d.hidden
       (λ hidden.
       let good : is_hideable os ≡ true = hideable_by (is_hideable os) (rw hidden at h) in
-      let low : length os ≤ 128 = grind (arith, common_steps) in
-      let ends : not (ends_in_nul os) ≡ true = and_right (nat_le (length os) 128) (not (ends_in_nul os)) good in
+      let low : length os ≤ max_hidden_octets = grind (arith, common_steps) in
+      let ends : not (ends_in_nul os) ≡ true = (and_parts (nat_le (length os) max_hidden_octets) (not (ends_in_nul os)) good).1 in
       let kept : not (is_hidden id dictionary && ends_in_nul (octets id v dictionary)) ≡ true = rw (hides, hidden, same) ends in
       let within : length (octets id v dictionary) ≤ greatest_length id dictionary = hidden_greatest id (length (octets id v dictionary)) (hides ∙ hidden) (omega arith) (omega arith) in
       typed_fits id v d e is.typed within kept (omega arith))

@@ -18,6 +18,7 @@ pub mod SentLists
 pub mod SentPackets
 pub mod Signatures
 pub mod Splits
+pub mod Tests
 pub mod ValuesReadBack
 pub mod VendorAttributes
 pub mod Written

@@ -5,7 +5,7 @@ use Rattle.std.specs.Option.{option_map_or, option_to_list}
 use Rattle.std.proofs.lemmas.Bool.{false≢true}
 use Rattle.std.proofs.lemmas.Grind.{common_steps}
 use Rattle.std.proofs.lemmas.List.{append-nil, length-append, length-replicate}
-use Rattle.avp_dict.specs.Octets.{ends_in_nul, is_hideable, is_nul}
+use Rattle.avp_dict.specs.Octets.{ends_in_nul, is_hideable, is_nul, max_hidden_octets}
 use Rattle.avp_dict.specs.Sent.{is_block_length}
 use Rattle.avp_packet.specs.Hiding.{block_count, hidden, hidden_blocks, padded, shown, without_last_nuls}
 use Rattle.avp_packet.proofs.Masks.{length-hidden_blocks, shown_blocks-hidden_blocks}
@@ -61,14 +61,14 @@ length-padded password =
     let most : length password + room ≡ 16 * block_count (length password) = omega arith in
     length-append password (replicate room 0) ∙ ap (λ n. length password + n) (length-replicate room 0) ∙ most
 
-block_length : (n : ℕ) → n ≤ 128 → is_block_length (16 * block_count n) ≡ true
+block_length : (n : ℕ) → n ≤ max_hidden_octets → is_block_length (16 * block_count n) ≡ true
 block_length n h = grind (arith, common_steps)
 
-pub short_of : (p : List ℕ) → is_hideable p ≡ true → length p ≤ 128
+pub short_of : (p : List ℕ) → is_hideable p ≡ true → length p ≤ max_hidden_octets
 short_of p h = grind (arith, common_steps)
 
 ending_of : (p : List ℕ) → is_hideable p ≡ true → ends_in_nul p ≡ false
-ending_of p h = go (nat_le (length p) 128) (ends_in_nul p) h
+ending_of p h = go (nat_le (length p) max_hidden_octets) (ends_in_nul p) h
   where
     go : (a b : Bool) → (a && not b) ≡ true → b ≡ false
     go true true h = absurd (cc)
@@ -105,7 +105,7 @@ hidden_by secret authenticator password os made e h =
     let count : length (padded password) / 16 ≡ block_count (length password) = omega arith in
     rw (h, e, count)
 
-pub length-hidden : (secret authenticator password : List ℕ) → is_hideable password ≡ true → length (hidden secret authenticator password) ≤ 128
+pub length-hidden : (secret authenticator password : List ℕ) → is_hideable password ≡ true → length (hidden secret authenticator password) ≤ max_hidden_octets
 unfolding hidden
 length-hidden secret authenticator password h =
     let short = short_of password h in

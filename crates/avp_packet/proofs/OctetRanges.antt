@@ -16,12 +16,12 @@ use Rattle.avp_lists.specs.declared.pairs.Value.TheVariants.{Int, Signed, Addr, 
 use Rattle.avp_dict.specs.declared.entries.Kind.{Kind}
 use Rattle.avp_dict.specs.declared.entries.Kind.TheVariants as kinds
 use Rattle.avp_dict.specs.Limits.{is_of_kind}
-use Rattle.avp_dict.specs.Octets.{ends_in_nul, is_hideable, is_nul, octets_of, of_length, value_read}
+use Rattle.avp_dict.specs.Octets.{ends_in_nul, is_hideable, is_nul, octets_of, of_length, value_read, max_hidden_octets}
 use Rattle.avp_dict.specs.Sent.{is_block_length}
 use Rattle.avp_dict.proofs.NumberOctets.{eight_octets}
 use Rattle.avp_packet.specs.Hiding.{masked, shown, shown_blocks, without_last_nuls}
 use Rattle.avp_packet.proofs.Nuls.{last_of_more}
-use Rattle.avp_packet.proofs.AttributeRoom.{by_test}
+use Rattle.avp_packet.proofs.Tests.{by_test}
 
 abbrev pub AreBytes : List ℕ → Type 0
 AreBytes os = AllBelowBase 256 os
@@ -143,8 +143,8 @@ shown_holds secret authenticator os h =
     let b = shown_blocks-short (length os / 16) secret authenticator os in
     by_test (IfSome (cond (is_block_length (length os)) (Some (without_last_nuls made)) None) (IsShown os)) (is_block_length (length os))
     (λ e.
-    let most : length os ≤ 128 = grind (arith, common_steps) in
-    let low : nat_le (length (without_last_nuls made)) 128 ≡ true = grind (arith, common_steps) in
+    let most : length os ≤ max_hidden_octets = grind (arith, common_steps) in
+    let low : nat_le (length (without_last_nuls made)) max_hidden_octets ≡ true = grind (arith, common_steps) in
     rw e (record {
       bytes = bytes-without made (bytes-shown_blocks (length os / 16) secret authenticator os h);
       short = omega arith;

@@ -1,18 +1,20 @@
 -- Attributes mean one list of pairs, which is the one that is read.
-use Rattle.std.proofs.Common.{◌≡◌, ◌∙◌, ℕ, zero, suc, ◌-◌, ◌<◌, Bool, true, false, ◌&&◌, ◌||◌, ◌==◌, nat_le, List, [], ◌∷◌, ◌++◌, length, drop, map, Option, Some, None, Result, Ok, Err, refl, sym, ap, subst, arith, inl, inr}
+use Rattle.std.proofs.Common.{◌≡◌, ◌∙◌, ℕ, zero, suc, ◌-◌, ◌<◌, Bool, true, false, ◌==◌, List, [], ◌∷◌, ◌++◌, length, drop, map, Option, Some, None, Result, Ok, Err, refl, sym, ap, subst, arith, inl, inr}
 use Rattle.std.specs.Prelude.{IfOk}
 use Rattle.std.proofs.lemmas.Grind.{common_steps}
 use Rattle.avp_lists.specs.declared.pairs.AttrId.TheVariants.{Plain, Extended}
 use Rattle.avp_lists.specs.declared.pairs.Pair.{Pair}
 use Rattle.avp_dict.specs.Dictionary.{Dictionary}
 use Rattle.avp_dict.specs.Sent.{is_container}
+use Rattle.avp_dict.specs.AttributeNumbers.{vendor_specific}
 use Rattle.avp_packet.specs.Meanings.{Run, Sub, extended_pair, extended_type, first_run, attribute_pairs, pair_meant, raw_pair, sub_pair, vendor_of, vendor_subs}
 use Rattle.avp_packet.specs.Means.{IsExtended, IsLong, IsUnread, Means}
 use Rattle.avp_packet.specs.Means as cases
 use Rattle.avp_packet.specs.Splitting.{Part}
+use Rattle.avp_packet.specs.ExtendedTypes.{long_extended_type_1, long_extended_type_2, holds_one, holds_long}
 use Rattle.avp_packet.proofs.Means.{attribute_pairs-cons, attribute_pairs-nil}
-use Rattle.avp_packet.proofs.AttributeRoom.{by_test}
 use Rattle.avp_packet.proofs.PieceRuns.{run_rest}
+use Rattle.avp_packet.proofs.Tests.{by_test}
 
 -- what holds of a value that was returned, by what else holds of it
 pub ok_by : {X E : Type 0} (P Q : X → Type 0) (r : Result X E) → ((x : X) → P x → Q x) → IfOk r P → IfOk r Q
@@ -21,11 +23,11 @@ ok_by P Q (Err e) f h = tt
 
 -- what the tests of a type say
 record IsTested (t : ℕ) (vendor extended long : Bool) : Type 0 where
-  is_vendor : (t == 26) ≡ vendor
-  is_extended : (nat_le 241 t && nat_le t 244) ≡ extended
-  is_long : ((t == 245) || (t == 246)) ≡ long
+  is_vendor : (t == vendor_specific) ≡ vendor
+  is_extended : holds_one t ≡ extended
+  is_long : holds_long t ≡ long
 
-vendor_tested : (t : ℕ) → t ≡ 26 → IsTested t true false false
+vendor_tested : (t : ℕ) → t ≡ vendor_specific → IsTested t true false false
 vendor_tested t e = record { is_vendor = grind (arith, common_steps); is_extended = grind (arith, common_steps); is_long = grind (arith, common_steps) }
 
 extended_tested : (t : ℕ) → IsExtended t → IsTested t false true false
@@ -98,7 +100,7 @@ module _ (dictionary : Dictionary) (secret authenticator : List ℕ) where
   first_raw : (p : Part) (ps : List Part) → IsUnread dictionary p ps → IsMeant ps → IsMeant (p ∷ ps)
   first_raw p ps e rest = read_to (p ∷ ps) (raw_pair p ∷ means ps) (raw_only p ps (means ps) e refl) (cases.as_raw p ps (means ps) e rest)
 
-  first_vendor : (p : Part) (ps : List Part) → p.number ≡ 26 → IsMeant ps → (o : Option (List Sub)) → vendor_subs dictionary p.value ≡ o → IsMeant (p ∷ ps)
+  first_vendor : (p : Part) (ps : List Part) → p.number ≡ vendor_specific → IsMeant ps → (o : Option (List Sub)) → vendor_subs dictionary p.value ≡ o → IsMeant (p ∷ ps)
   first_vendor p ps e rest None f = first_raw p ps (inl (e, f)) rest
   first_vendor p ps e rest (Some subs) f =
       let all : List Pair = map (sub_pair dictionary secret authenticator (vendor_of p.value)) subs ++ means ps in
@@ -131,13 +133,13 @@ module _ (dictionary : Dictionary) (secret authenticator : List ℕ) where
 
   first_meant : (p : Part) (ps : List Part) → ((k : ℕ) → IsMeant (drop k ps)) → IsMeant (p ∷ ps)
   first_meant p ps rest =
-      by_test (IsMeant (p ∷ ps)) (p.number == 26)
+      by_test (IsMeant (p ∷ ps)) (p.number == vendor_specific)
       (λ e. first_vendor p ps (grind (arith, common_steps)) (rest 0) (vendor_subs dictionary p.value) refl)
-      (λ e. by_test (IsMeant (p ∷ ps)) (nat_le 241 p.number && nat_le p.number 244)
+      (λ e. by_test (IsMeant (p ∷ ps)) (holds_one p.number)
       (λ f. first_extended p.number p.value ps (grind (arith, common_steps), grind (arith, common_steps)) (rest 0))
-      (λ f. by_test (IsMeant (p ∷ ps)) (p.number == 245)
+      (λ f. by_test (IsMeant (p ∷ ps)) (p.number == long_extended_type_1)
       (λ g. first_long p ps (inl (grind (arith, common_steps))) rest (first_run p ps) refl)
-      (λ g. by_test (IsMeant (p ∷ ps)) (p.number == 246)
+      (λ g. by_test (IsMeant (p ∷ ps)) (p.number == long_extended_type_2)
       (λ h. first_long p ps (inr (grind (arith, common_steps))) rest (first_run p ps) refl)
       (λ h. let plain : is_container (Plain p.number) ≡ false = grind (arith, common_steps) in first_plain p ps plain (rest 0)))))
 

@@ -1,5 +1,5 @@
 -- Attributes mean no more pairs than they have octets.
-use Rattle.std.proofs.Common.{◌∙◌, ℕ, zero, suc, ◌+◌, ◌-◌, ◌≤◌, Bool, true, false, ◌||◌, ◌&&◌, cond, nat_le, ◌==◌, List, [], ◌∷◌, length, drop, Option, Some, None, ap, arith}
+use Rattle.std.proofs.Common.{◌∙◌, ℕ, zero, suc, ◌+◌, ◌-◌, ◌≤◌, Bool, true, false, cond, nat_le, ◌==◌, List, [], ◌∷◌, length, drop, Option, Some, None, ap, arith}
 use Rattle.std.specs.Prelude.{IfSome}
 use Rattle.std.specs.List.{flat_map}
 use Rattle.std.specs.Option.{option_and_then}
@@ -8,9 +8,11 @@ use Rattle.avp_lists.specs.declared.pairs.AttrId.TheVariants.{Plain}
 use Rattle.avp_lists.specs.declared.pairs.Pair.{Pair}
 use Rattle.avp_dict.specs.declared.entries.Format.{Format}
 use Rattle.avp_dict.specs.Dictionary.{Dictionary}
+use Rattle.avp_dict.specs.AttributeNumbers.{vendor_specific}
 use Rattle.avp_packet.specs.Meanings.{Sub, are_subs, begins_sub, extended_pair, first_pairs, first_run, first_sub, long_pair, attribute_pairs, meaning_behind, others, pair_meant, sub_length, sub_pair, subs, subs_behind, subs_by, vendor_of, vendor_pairs, vendor_subs}
 use Rattle.avp_packet.specs.Splitting.{Part, left, part_octets, parts}
 use Rattle.avp_packet.specs.VendorFormats.{known_format}
+use Rattle.avp_packet.specs.ExtendedTypes.{holds_one, holds_long}
 use Rattle.avp_packet.proofs.Splits.{is_split}
 
 kept_short : (b : Bool) (ss : List Sub) (n : ℕ) → length ss ≤ n → length (cond b ss []) ≤ n
@@ -57,9 +59,9 @@ module _ (dictionary : Dictionary) (secret authenticator : List ℕ) where
   first_short part ps =
       let n = 2 + length part.value in
       let one : (p : Pair) → length (p ∷ []) ≤ n = λ p. omega arith in
-      chosen _ _ (part.number == 26) n (vendor_short part)
-      (chosen _ _ (nat_le 241 part.number && nat_le part.number 244) n (one (extended_pair dictionary secret authenticator part))
-      (chosen _ _ ((part.number == 245) || (part.number == 246)) n (one (long_pair dictionary secret authenticator part (first_run part ps))) (one (pair_meant dictionary secret authenticator (Plain part.number) part.value))))
+      chosen _ _ (part.number == vendor_specific) n (vendor_short part)
+      (chosen _ _ (holds_one part.number) n (one (extended_pair dictionary secret authenticator part))
+      (chosen _ _ (holds_long part.number) n (one (long_pair dictionary secret authenticator part (first_run part ps))) (one (pair_meant dictionary secret authenticator (Plain part.number) part.value))))
 
   meaning_short : (k : ℕ) (ps : List Part) → length (meaning_behind dictionary secret authenticator k ps) ≤ length (flat_map part_octets ps)
   unfolding meaning_behind

@@ -3,9 +3,11 @@ use Rattle.std.proofs.Common.{◌≡◌, ◌∙◌, ℕ, ◌-◌, ◌≤◌, tru
 use Rattle.std.specs.Option.{option_and_then, option_map}
 use Rattle.std.proofs.lemmas.Grind.{common_steps}
 use Rattle.std.proofs.lemmas.List.{drop_all, length-drop}
-use Rattle.avp_packet.specs.Meanings.{Piece, Run, joined, piece_of, run, run_with}
-use Rattle.avp_packet.specs.Splitting.{Part}
-use Rattle.avp_packet.proofs.AttributeRoom.{by_test}
+use Rattle.avp_packet.specs.Meanings.{Piece, Run, joined, piece_of, run, run_with, first_run, extended_type}
+use Rattle.avp_packet.specs.Splitting.{Part, parts, part_octets}
+use Rattle.avp_packet.specs.ExtendedTypes.{piece_octets}
+use Rattle.avp_packet.proofs.Tests.{by_test}
+use Rattle.avp_packet.proofs.Splits.{parts-octets}
 
 -- the first piece
 pub run-some : (t number : ℕ) (p : Part) (ps : List Part) (piece : Piece) → piece_of t number p ≡ Some piece → run t number (p ∷ ps) ≡ run_with piece ps (run t number ps)
@@ -26,9 +28,9 @@ pub joined-last : (so_far : List ℕ) (piece : Piece) (ps : List Part) (followin
 joined-last so_far piece ps following h = rw h
 
 -- a full piece behind what was joined before
-pub joined-more : (so_far : List ℕ) (piece : Piece) (ps : List Part) (following : Option Run) → piece.more ≡ true → length piece.os ≡ 251 → option_map (joined so_far) (run_with piece ps following) ≡ option_map (joined (so_far ++ piece.os)) following
+pub joined-more : (so_far : List ℕ) (piece : Piece) (ps : List Part) (following : Option Run) → piece.more ≡ true → length piece.os ≡ piece_octets → option_map (joined so_far) (run_with piece ps following) ≡ option_map (joined (so_far ++ piece.os)) following
 joined-more so_far piece ps following h e =
-    let full : (length piece.os == 251) ≡ true = grind (arith, common_steps) in
+    let full : (length piece.os == piece_octets) ≡ true = grind (arith, common_steps) in
     rw (h, full) (go following)
   where
     go : (o : Option Run) → option_map (joined so_far) (option_map (joined piece.os) o) ≡ option_map (joined (so_far ++ piece.os)) o
@@ -36,7 +38,7 @@ joined-more so_far piece ps following h e =
     go (Some r) = ap (λ (os : List ℕ). Some (record { os = os; rest = r.rest })) (sym (append_assoc so_far piece.os r.os))
 
 -- a piece that is not full, and not the last one
-pub joined-short : (so_far : List ℕ) (piece : Piece) (ps : List Part) (following : Option Run) → piece.more ≡ true → (length piece.os == 251) ≡ false → option_map (joined so_far) (run_with piece ps following) ≡ None
+pub joined-short : (so_far : List ℕ) (piece : Piece) (ps : List Part) (following : Option Run) → piece.more ≡ true → (length piece.os == piece_octets) ≡ false → option_map (joined so_far) (run_with piece ps following) ≡ None
 joined-short so_far piece ps following h e = rw (h, e)
 
 -- ---- what a run leaves
@@ -56,8 +58,8 @@ IsBehind ps (Some r) = (k : ℕ) × (drop k ps ≡ r.rest)
 
 behind_with : (piece : Piece) (ps : List Part) (following : Option Run) → IsBehind ps following → IsBehind ps (run_with piece ps following)
 behind_with piece ps following h =
-    elim piece.more as (λ b. IsBehind ps (cond b (cond (length piece.os == 251) (option_map (joined piece.os) following) None) (Some (record { os = piece.os; rest = ps })))) [
-      | true ↦ elim (length piece.os == 251) as (λ b. IsBehind ps (cond b (option_map (joined piece.os) following) None)) [ true ↦ go following h | false ↦ tt ]
+    elim piece.more as (λ b. IsBehind ps (cond b (cond (length piece.os == piece_octets) (option_map (joined piece.os) following) None) (Some (record { os = piece.os; rest = ps })))) [
+      | true ↦ elim (length piece.os == piece_octets) as (λ b. IsBehind ps (cond b (option_map (joined piece.os) following) None)) [ true ↦ go following h | false ↦ tt ]
       | false ↦ (0, refl)
     ]
   where
@@ -88,3 +90,7 @@ run_rest t number p ps r e =
     let P : Option Run → Type 0 = λ o. IsBehind ps o in
     let h : (k : ℕ) × (drop k ps ≡ r.rest) = subst P e (run_behind t number p ps) in
     sym (ap (λ (rest : List Part). drop (length ps - length rest) ps) (sym h.1) ∙ dropped_again h.0 ps ∙ h.1)
+
+-- the run of octets is that of their first attribute and those behind it
+pub first_run_in : (octets rest : List ℕ) (p : Part) (number : ℕ) → octets ≡ part_octets p ++ rest → number ≡ extended_type p → first_run p (parts rest) ≡ run p.number number (parts octets)
+first_run_in octets rest p number e same = ap (λ n. run p.number n (p ∷ parts rest)) (sym same) ∙ ap (run p.number number) (sym (ap parts e ∙ parts-octets p rest))

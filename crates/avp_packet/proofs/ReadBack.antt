@@ -1,12 +1,12 @@
 -- What is written of clean lists means the pairs that were sent.
-use Rattle.std.proofs.Common.{◌≡◌, ◌∙◌, ℕ, zero, suc, ◌+◌, ◌-◌, ◌*◌, ◌/◌, ◌^◌, ◌<◌, ◌≤◌, Bool, true, false, not, ◌&&◌, ◌||◌, ◌==◌, nat_le, cond, List, [], ◌∷◌, ◌++◌, length, take, drop, Option, Some, None, refl, sym, ap, arith, append-nil, append_assoc, ◌⊎◌, inl, inr}
+use Rattle.std.proofs.Common.{◌≡◌, ◌∙◌, ℕ, zero, suc, ◌+◌, ◌-◌, ◌*◌, ◌/◌, ◌^◌, ◌<◌, ◌≤◌, true, false, not, ◌==◌, nat_le, cond, List, [], ◌∷◌, ◌++◌, length, take, drop, Option, Some, None, refl, sym, ap, arith, append-nil, append_assoc, ◌⊎◌, inl, inr}
 use Rattle.std.specs.Prelude.{IfSome}
 use Rattle.std.specs.Int.{bytes_high_first}
 use Rattle.std.specs.Int.Digits.{number_from_digits}
 use Rattle.std.specs.List.{All, AllByRecursion, flat_map, list_all}
 use Rattle.std.proofs.lemmas.List.Elements.{recursion_from_All}
 use Rattle.std.specs.Option.{option_and_then}
-use Rattle.std.proofs.lemmas.Bool.{false≢true}
+use Rattle.std.proofs.lemmas.Bool.{and_parts, false≢true, not-true}
 use Rattle.std.proofs.lemmas.Grind.{common_steps}
 use Rattle.std.proofs.lemmas.List.{drop_all, drop_at, length-append, length-drop, length-take-le, take_at, take_all, take-append-drop}
 use Rattle.avp_lists.specs.declared.pairs.AttrId.{AttrId}
@@ -23,19 +23,22 @@ use Rattle.avp_dict.specs.Sent.{is_canonical, is_clean, is_clean_pair, is_contai
 use Rattle.avp_dict.specs.Settled.{holds, is_in_format}
 use Rattle.avp_dict.specs.Soundness.{IsSound}
 use Rattle.avp_dict.specs.Vendors.{is_format}
+use Rattle.avp_dict.specs.AttributeNumbers.{vendor_specific}
 use Rattle.avp_packet.specs.AttributeOctets.{attribute_octets, fragments, is_long, part, parts_holding, parts_of, parts_of_pair, sent_octets, vendor_value}
 use Rattle.avp_packet.specs.Meanings.{Run, are_subs, are_subs_behind, begins_sub, extended_type, first_run, first_sub, attribute_pairs, others, pair_meant, piece_of, run, sub_length, subs, subs_behind, vendor_of, vendor_subs}
 use Rattle.avp_packet.specs.Splitting.{Part, left, part_octets, parts}
 use Rattle.avp_packet.specs.VendorFormats.{HasKnownFormats, known_format, usable_format}
 use Rattle.avp_packet.specs.internal.Holding.{CanHold, FitsFormat}
 use Rattle.avp_packet.specs.internal.Ranges.{IsVendorInRange}
+use Rattle.avp_packet.specs.ExtendedTypes.{extended_type_1, extended_type_4, long_extended_type_1, long_extended_type_2, piece_octets, more_flag, holds_one, holds_long}
 use Rattle.avp_packet.proofs.Means.{attribute_pairs-cons, attribute_pairs-nil}
-use Rattle.avp_packet.proofs.AttributeRoom.{and_left, and_right, by_test, fits_known, format_of_size, sent_by, sent_held}
+use Rattle.avp_packet.proofs.AttributeRoom.{fits_known, format_of_size, sent_by, sent_held}
 use Rattle.avp_packet.proofs.PieceRuns.{run-some, run_rest}
 use Rattle.avp_packet.proofs.Splits.{left-all, left-none, parts-all, parts-none}
 use Rattle.avp_packet.proofs.VendorAttributes.{are_subs_more, subs_more}
 use Rattle.avp_packet.proofs.ValuesReadBack.{value_back}
 use Rattle.avp_packet.proofs.Written.{length-bytes_high_first, length-vendor_value}
+use Rattle.avp_packet.proofs.Tests.{by_test}
 
 -- ---- numbers
 
@@ -144,13 +147,9 @@ module _ (f : Format) (good : is_format f.t f.l ≡ true) (number : ℕ) (os : L
 known_by : (n : ℕ) (o : Option VendorFormat) → holds n o ≡ true → IfSome (option_and_then unless_three o) (λ f. is_format f.t f.l ≡ true) → (f : Format) × (option_and_then usable_format (option_and_then unless_three o) ≡ Some f) × (is_format f.t f.l ≡ true)
 known_by n None h formats = absurd (false≢true h)
 known_by n (Some f) h formats =
-    let two : f.third ≡ false = not_false f.third (and_left (not f.third) _ h) in
+    let two : f.third ≡ false = not-true f.third (and_parts (not f.third) _ h).0 in
     let good : is_format f.t f.l ≡ true = rw two at formats in
     (record { t = f.t; l = f.l }, rw (two, good), good)
-  where
-    not_false : (b : Bool) → not b ≡ true → b ≡ false
-    not_false true e = sym e
-    not_false false e = refl
 
 -- ---- the attributes of an id
 
@@ -168,26 +167,26 @@ module _ (dictionary : Dictionary) (sound : IsSound dictionary) (formats : HasKn
   -- a plain attribute
   pub plain_read : (n : ℕ) (os : List ℕ) (rest : List Part) → is_container (Plain n) ≡ false → means (part n os ∷ rest) ≡ pair_from (Plain n) os ∷ means rest
   plain_read n os rest h =
-      let a : (n == 26) ≡ false = grind (arith, common_steps) in
-      let b : (nat_le 241 n && nat_le n 244) ≡ false = grind (arith, common_steps) in
-      let d : ((n == 245) || (n == 246)) ≡ false = grind (arith, common_steps) in
+      let a : (n == vendor_specific) ≡ false = grind (arith, common_steps) in
+      let b : holds_one n ≡ false = grind (arith, common_steps) in
+      let d : holds_long n ≡ false = grind (arith, common_steps) in
       attribute_pairs-cons dictionary secret authenticator (part n os) rest ∙ rw (a, b, d)
 
   -- an extended attribute
-  extended_read : (t n o : ℕ) (os : List ℕ) (rest : List Part) → 241 ≤ t → t ≤ 244 → means (part t (n ∷ o ∷ os) ∷ rest) ≡ pair_from (Extended t n) (o ∷ os) ∷ means rest
+  extended_read : (t n o : ℕ) (os : List ℕ) (rest : List Part) → extended_type_1 ≤ t → t ≤ extended_type_4 → means (part t (n ∷ o ∷ os) ∷ rest) ≡ pair_from (Extended t n) (o ∷ os) ∷ means rest
   extended_read t n o os rest low high =
-      let a : (t == 26) ≡ false = grind (arith, common_steps) in
-      let b : (nat_le 241 t && nat_le t 244) ≡ true = grind (arith, common_steps) in
-      let d : ((t == 245) || (t == 246)) ≡ false = grind (arith, common_steps) in
+      let a : (t == vendor_specific) ≡ false = grind (arith, common_steps) in
+      let b : holds_one t ≡ true = grind (arith, common_steps) in
+      let d : holds_long t ≡ false = grind (arith, common_steps) in
       attribute_pairs-cons dictionary secret authenticator (part t (n ∷ o ∷ os)) rest ∙ rw (a, b, d)
 
   -- a long one
-  long_read : (p : Part) (ps : List Part) (r : Run) → 245 ≤ p.number → p.number ≤ 246 → first_run p ps ≡ Some r → means (p ∷ ps) ≡ pair_from (Extended p.number (extended_type p)) r.os ∷ means r.rest
+  long_read : (p : Part) (ps : List Part) (r : Run) → long_extended_type_1 ≤ p.number → p.number ≤ long_extended_type_2 → first_run p ps ≡ Some r → means (p ∷ ps) ≡ pair_from (Extended p.number (extended_type p)) r.os ∷ means r.rest
   long_read p ps r low high h =
       let t : ℕ = p.number in
-      let a : (t == 26) ≡ false = grind (arith, common_steps) in
-      let b : (nat_le 241 t && nat_le t 244) ≡ false = grind (arith, common_steps) in
-      let d : ((t == 245) || (t == 246)) ≡ true = grind (arith, common_steps) in
+      let a : (t == vendor_specific) ≡ false = grind (arith, common_steps) in
+      let b : holds_one t ≡ false = grind (arith, common_steps) in
+      let d : holds_long t ≡ true = grind (arith, common_steps) in
       let rest = run_rest p.number (extended_type p) p ps r h in
       attribute_pairs-cons dictionary secret authenticator p ps ∙ rw (a, b, d, h) (ap (λ (qs : List Part). pair_from (Extended p.number (extended_type p)) r.os ∷ means qs) (sym rest))
 
@@ -200,14 +199,14 @@ module _ (dictionary : Dictionary) (sound : IsSound dictionary) (formats : HasKn
       let vendor : vendor_of (vendor_value v n os f) ≡ v = number_back 4 v (omega arith) (omega arith) in
       rw (four, vendor, known, are_subs_is f good n os held, subs_is f good n os held)
 
-  vendor_read : (v n : ℕ) (os : List ℕ) (f : Format) (rest : List Part) → v < 2 ^ 32 → known_format v dictionary ≡ Some f → is_format f.t f.l ≡ true → FitsFormat n os f → means (part 26 (vendor_value v n os f) ∷ rest) ≡ pair_from (Vendor v n) os ∷ means rest
+  vendor_read : (v n : ℕ) (os : List ℕ) (f : Format) (rest : List Part) → v < 2 ^ 32 → known_format v dictionary ≡ Some f → is_format f.t f.l ≡ true → FitsFormat n os f → means (part vendor_specific (vendor_value v n os f) ∷ rest) ≡ pair_from (Vendor v n) os ∷ means rest
   vendor_read v n os f rest small known good held =
       let vendor : vendor_of (vendor_value v n os f) ≡ v = number_back 4 v (omega arith) (omega arith) in
-      attribute_pairs-cons dictionary secret authenticator (part 26 (vendor_value v n os f)) rest ∙ rw (vendor_subs_is v n os f small known good held, vendor)
+      attribute_pairs-cons dictionary secret authenticator (part vendor_specific (vendor_value v n os f)) rest ∙ rw (vendor_subs_is v n os f small known good held, vendor)
 
   -- ---- pieces
 
-  run_fragments : (k t n : ℕ) (os : List ℕ) (rest : List Part) → 251 * k < length os → run t n (fragments k t n os ++ rest) ≡ Some (record { os = os; rest = rest })
+  run_fragments : (k t n : ℕ) (os : List ℕ) (rest : List Part) → piece_octets * k < length os → run t n (fragments k t n os ++ rest) ≡ Some (record { os = os; rest = rest })
   unfolding fragments
   run_fragments zero t n [] rest h = absurd (omega arith)
   run_fragments zero t n (o ∷ os) rest h =
@@ -216,19 +215,19 @@ module _ (dictionary : Dictionary) (sound : IsSound dictionary) (formats : HasKn
   run_fragments (suc k) t n [] rest h = absurd (omega arith)
   run_fragments (suc k) t n (o ∷ os) rest h =
       let all : List ℕ = o ∷ os in
-      let first : List ℕ = take 251 all in
-      let full : length first ≡ 251 = length-take-le 251 all (omega arith) in
-      let whole : (length first == 251) ≡ true = grind (arith, common_steps) in
-      let e = length-drop 251 all in
-      let piece : piece_of t n (part t (n ∷ 128 ∷ first)) ≡ Some (record { more = true; os = first }) = rw (test_same t, test_same n) in
-      let others = run_fragments k t n (drop 251 all) rest (omega arith) in
-      run-some t n (part t (n ∷ 128 ∷ first)) (fragments k t n (drop 251 all) ++ rest) (record { more = true; os = first }) piece
-      ∙ rw (whole, others) (ap (λ (xs : List ℕ). Some (record { os = xs; rest = rest })) (take-append-drop 251 all))
+      let first : List ℕ = take piece_octets all in
+      let full : length first ≡ piece_octets = length-take-le piece_octets all (omega arith) in
+      let whole : (length first == piece_octets) ≡ true = grind (arith, common_steps) in
+      let e = length-drop piece_octets all in
+      let piece : piece_of t n (part t (n ∷ more_flag ∷ first)) ≡ Some (record { more = true; os = first }) = rw (test_same t, test_same n) in
+      let others = run_fragments k t n (drop piece_octets all) rest (omega arith) in
+      run-some t n (part t (n ∷ more_flag ∷ first)) (fragments k t n (drop piece_octets all) ++ rest) (record { more = true; os = first }) piece
+      ∙ rw (whole, others) (ap (λ (xs : List ℕ). Some (record { os = xs; rest = rest })) (take-append-drop piece_octets all))
 
-  fragments_read : (k t n : ℕ) (os : List ℕ) (rest : List Part) → 245 ≤ t → t ≤ 246 → 251 * k < length os → means (fragments k t n os ++ rest) ≡ pair_from (Extended t n) os ∷ means rest
+  fragments_read : (k t n : ℕ) (os : List ℕ) (rest : List Part) → long_extended_type_1 ≤ t → t ≤ long_extended_type_2 → piece_octets * k < length os → means (fragments k t n os ++ rest) ≡ pair_from (Extended t n) os ∷ means rest
   unfolding fragments
   fragments_read zero t n os rest low high h = long_read (part t (n ∷ 0 ∷ os)) rest (record { os = os; rest = rest }) low high (run_fragments zero t n os rest h)
-  fragments_read (suc k) t n os rest low high h = long_read (part t (n ∷ 128 ∷ take 251 os)) (fragments k t n (drop 251 os) ++ rest) (record { os = os; rest = rest }) low high (run_fragments (suc k) t n os rest h)
+  fragments_read (suc k) t n os rest low high h = long_read (part t (n ∷ more_flag ∷ take piece_octets os)) (fragments k t n (drop piece_octets os) ++ rest) (record { os = os; rest = rest }) low high (run_fragments (suc k) t n os rest h)
 
   -- ---- the attributes of any id
 
@@ -240,13 +239,13 @@ module _ (dictionary : Dictionary) (sound : IsSound dictionary) (formats : HasKn
       let fitting : FitsFormat n os f.0 = rw f.1 at held in
       rw f.1 (vendor_read v n os f.0 rest ranged f.1 f.2 fitting)
   id_read (Extended t n) os rest known plain ranged held some =
-      let low : 241 ≤ t = grind (arith, common_steps) in
-      let high : t ≤ 246 = grind (arith, common_steps) in
-      by_test (means (cond (is_long t) (fragments ((length os - 1) / 251) t n os) (part t (n ∷ os) ∷ []) ++ rest) ≡ pair_from (Extended t n) os ∷ means rest) (is_long t)
-      (λ e. let long : 245 ≤ t = grind (arith, common_steps) in rw e (fragments_read ((length os - 1) / 251) t n os rest long high (omega arith)))
-      (λ e. let short : t ≤ 244 = grind (arith, common_steps) in rw e (one os some low short))
+      let low : extended_type_1 ≤ t = grind (arith, common_steps) in
+      let high : t ≤ long_extended_type_2 = grind (arith, common_steps) in
+      by_test (means (cond (is_long t) (fragments ((length os - 1) / piece_octets) t n os) (part t (n ∷ os) ∷ []) ++ rest) ≡ pair_from (Extended t n) os ∷ means rest) (is_long t)
+      (λ e. let long : long_extended_type_1 ≤ t = grind (arith, common_steps) in rw e (fragments_read ((length os - 1) / piece_octets) t n os rest long high (omega arith)))
+      (λ e. let short : t ≤ extended_type_4 = grind (arith, common_steps) in rw e (one os some low short))
     where
-      one : (xs : List ℕ) → 0 < length xs → 241 ≤ t → t ≤ 244 → means (part t (n ∷ xs) ∷ rest) ≡ pair_from (Extended t n) xs ∷ means rest
+      one : (xs : List ℕ) → 0 < length xs → extended_type_1 ≤ t → t ≤ extended_type_4 → means (part t (n ∷ xs) ∷ rest) ≡ pair_from (Extended t n) xs ∷ means rest
       one [] h low short = absurd (omega arith)
       one (o ∷ xs) h low short = extended_read t n o xs rest low short
 
@@ -254,18 +253,15 @@ module _ (dictionary : Dictionary) (sound : IsSound dictionary) (formats : HasKn
 
   canonical_fits : (p : Pair) → is_canonical p dictionary ≡ true → fits p dictionary ≡ true
   unfolding is_canonical
-  canonical_fits p h = and_left (fits p dictionary) _ h
-
-  not_false : (b : Bool) → not b ≡ true → b ≡ false
-  not_false true e = sym e
-  not_false false e = refl
+  canonical_fits p h = (and_parts (fits p dictionary) _ h).0
 
   pair_read : (p : Pair) (rest : List Part) → is_clean_pair dictionary p ≡ true → IsVendorInRange p.id → is_sent dictionary p ≡ true → means (parts_of_pair dictionary secret authenticator p ++ rest) ≡ p ∷ means rest
   pair_read p rest clean ranged is =
-      let canonical : is_canonical p dictionary ≡ true = and_left (is_canonical p dictionary) (not (is_container p.id)) clean in
-      let plain : is_container p.id ≡ false = not_false (is_container p.id) (and_right (is_canonical p dictionary) (not (is_container p.id)) clean) in
+      let both = and_parts (is_canonical p dictionary) (not (is_container p.id)) clean in
+      let canonical = both.0 in
+      let plain : is_container p.id ≡ false = not-true (is_container p.id) both.1 in
       let fitting = canonical_fits p canonical in
-      let outside : is_internal p.id ≡ false = not_false (is_internal p.id) (and_left (not (is_internal p.id)) _ is) in
+      let outside : is_internal p.id ≡ false = not-true (is_internal p.id) (and_parts (not (is_internal p.id)) _ is).0 in
       let os : List ℕ = sent_octets dictionary secret authenticator p in
       let there : not (length os == 0) ≡ true = sym (sent_by dictionary secret authenticator p outside) ∙ is in
       let some : 0 < length os = grind (arith, common_steps) in
@@ -280,8 +276,9 @@ module _ (dictionary : Dictionary) (sound : IsSound dictionary) (formats : HasKn
   unfolding parts_of sent
   list_read [] rest clean ranged = refl
   list_read (p ∷ ps) rest clean ranged =
-      let others = list_read ps rest (and_right (is_clean_pair dictionary p) (list_all (is_clean_pair dictionary) ps) clean) ranged.1 in
-      let this : is_clean_pair dictionary p ≡ true = and_left (is_clean_pair dictionary p) (list_all (is_clean_pair dictionary) ps) clean in
+      let both = and_parts (is_clean_pair dictionary p) (list_all (is_clean_pair dictionary) ps) clean in
+      let others = list_read ps rest both.1 ranged.1 in
+      let this = both.0 in
       by_test (means (parts_of dictionary secret authenticator (p ∷ ps) ++ rest) ≡ sent (p ∷ ps) dictionary ++ means rest) (is_sent dictionary p)
       (λ e. rw (e, append_assoc (parts_of_pair dictionary secret authenticator p) (parts_of dictionary secret authenticator ps) rest)
       (pair_read p (parts_of dictionary secret authenticator ps ++ rest) this ranged.0 e ∙ ap (λ (xs : List Pair). p ∷ xs) others))

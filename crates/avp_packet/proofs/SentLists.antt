@@ -5,6 +5,7 @@ use Rattle.std.specs.Option.{option_map_or}
 use Rattle.std.proofs.lemmas.Grind.{common_steps, flat_map-append}
 use Rattle.std.proofs.lemmas.List.{length-append, map-append}
 use Rattle.std.proofs.lemmas.List.Elements.{All-filter, All-from_recursion, filter-append, recursion_from_All}
+use Rattle.std.proofs.lemmas.Bool.{and_parts}
 use Rattle.avp_lists.specs.Instances.{is_other}
 use Rattle.avp_lists.specs.Pairs.{id_eq}
 use Rattle.avp_lists.specs.declared.pairs.AttrId.{AttrId}
@@ -16,6 +17,7 @@ use Rattle.avp_dict.specs.Limits.{fits, is_known}
 use Rattle.avp_dict.specs.Octets.{is_hidden, octets}
 use Rattle.avp_dict.specs.Sent.{is_clean, is_clean_pair, is_sent, sent}
 use Rattle.avp_dict.specs.Soundness.{IsSound}
+use Rattle.avp_dict.specs.AttributeNumbers.{proxy_state, message_authenticator}
 use Rattle.avp_packet.specs.declared.encoding.dividing.Division.{Division}
 use Rattle.avp_packet.specs.AttributeOctets.{attribute_octets, fragments, is_long, part, parts_holding, parts_of, parts_of_pair, sent_octets, vendor_part}
 use Rattle.avp_packet.specs.Hmac.{hmac}
@@ -27,18 +29,20 @@ use Rattle.avp_packet.specs.Splitting.{Part, left, part_octets, parts}
 use Rattle.avp_packet.specs.VendorFormats.{HasKnownFormats, known_format}
 use Rattle.avp_packet.specs.internal.Filling.{IsDivided, KeepsAll, divided_octets, divided_signed, signature_if}
 use Rattle.avp_packet.specs.internal.Ranges.{IsVendorInRange}
+use Rattle.avp_packet.specs.ExtendedTypes.{extended_type_1, piece_octets}
 use Rattle.avp_packet.proofs.ReadBack.{clean_read, nothing_read, plain_read}
-use Rattle.avp_packet.proofs.AttributeRoom.{and_left, and_right, by_test, fits_known}
+use Rattle.avp_packet.proofs.AttributeRoom.{fits_known}
 use Rattle.avp_packet.proofs.Filled.{length-hmac}
 use Rattle.avp_packet.proofs.Signatures.{unblanked}
 use Rattle.avp_packet.proofs.Splits.{left-all, left-none, parts-all, parts-none}
+use Rattle.avp_packet.proofs.Tests.{by_test}
 
 -- ---- attributes of other ids
 
-unsigned_fragments : (n t number : ℕ) (os : List ℕ) → 241 ≤ t → signatures (fragments n t number os) ≡ []
+unsigned_fragments : (n t number : ℕ) (os : List ℕ) → extended_type_1 ≤ t → signatures (fragments n t number os) ≡ []
 unfolding fragments
-unsigned_fragments zero t number os h = let other : (t == 80) ≡ false = grind (arith, common_steps) in rw other refl
-unsigned_fragments (suc n) t number os h = let other : (t == 80) ≡ false = grind (arith, common_steps) in rw other (unsigned_fragments n t number (drop 251 os) h)
+unsigned_fragments zero t number os h = let other : (t == message_authenticator) ≡ false = grind (arith, common_steps) in rw other refl
+unsigned_fragments (suc n) t number os h = let other : (t == message_authenticator) ≡ false = grind (arith, common_steps) in rw other (unsigned_fragments n t number (drop piece_octets os) h)
 
 module _ (dictionary : Dictionary) where
   unsigned_id : (id : AttrId) (os : List ℕ) → is_known id dictionary ≡ true → id_eq id message_authenticator_id ≡ false → signatures (parts_holding dictionary id os) ≡ []
@@ -50,10 +54,10 @@ module _ (dictionary : Dictionary) where
       go None = refl
       go (Some f) = refl
   unsigned_id (Extended t n) os known other =
-      let low : 241 ≤ t = grind (arith, common_steps) in
-      let apart : (t == 80) ≡ false = grind (arith, common_steps) in
-      by_test (signatures (cond (is_long t) (fragments ((length os - 1) / 251) t n os) (part t (n ∷ os) ∷ [])) ≡ []) (is_long t)
-      (λ e. rw e (unsigned_fragments ((length os - 1) / 251) t n os low))
+      let low : extended_type_1 ≤ t = grind (arith, common_steps) in
+      let apart : (t == message_authenticator) ≡ false = grind (arith, common_steps) in
+      by_test (signatures (cond (is_long t) (fragments ((length os - 1) / piece_octets) t n os) (part t (n ∷ os) ∷ [])) ≡ []) (is_long t)
+      (λ e. rw e (unsigned_fragments ((length os - 1) / piece_octets) t n os low))
       (λ e. rw (e, apart) refl)
 
   module _ (secret hide_by : List ℕ) where
@@ -72,9 +76,9 @@ module _ (dictionary : Dictionary) where
     unsigned_parts pairs h = unsigned_by pairs (recursion_from_All (λ (p : Pair). fits p dictionary ≡ true) pairs h)
 
     -- the attribute that signs
-    signature_part : (os : List ℕ) → parts_of_pair dictionary secret hide_by (raw_pair (part 80 os)) ≡ part 80 os ∷ []
+    signature_part : (os : List ℕ) → parts_of_pair dictionary secret hide_by (raw_pair (part message_authenticator os)) ≡ part message_authenticator os ∷ []
     unfolding parts_holding sent_octets octets
-    signature_part os = by_test (parts_of_pair dictionary secret hide_by (raw_pair (part 80 os)) ≡ part 80 os ∷ []) (is_hidden (Plain 80) dictionary) (λ e. rw e refl) (λ e. rw e refl)
+    signature_part os = by_test (parts_of_pair dictionary secret hide_by (raw_pair (part message_authenticator os)) ≡ part message_authenticator os ∷ []) (is_hidden message_authenticator_id dictionary) (λ e. rw e refl) (λ e. rw e refl)
 
 -- ---- lists that pass a test
 
@@ -83,7 +87,7 @@ all_pass q xs h = All-from_recursion (λ (p : Pair). q p ≡ true) xs (go xs h)
   where
     go : (ys : List Pair) → list_all q ys ≡ true → AllByRecursion (λ p. q p ≡ true) ys
     go [] k = tt
-    go (y ∷ ys) k = (and_left (q y) (list_all q ys) k, go ys (and_right (q y) (list_all q ys) k))
+    go (y ∷ ys) k = let both = and_parts (q y) (list_all q ys) k in (both.0, go ys both.1)
 
 pass_all : (q : Pair → Bool) (xs : List Pair) → All (λ p. q p ≡ true) xs → list_all q xs ≡ true
 pass_all q xs h = go xs (recursion_from_All (λ (p : Pair). q p ≡ true) xs h)
@@ -105,10 +109,10 @@ module _ (dictionary : Dictionary) (pairs : List Pair) (division : Division) (cl
       pass_all q (without_signatures division.behind.now) (All-filter (is_other message_authenticator_id) (λ (p : Pair). q p ≡ true) division.behind.now (kept q (all_pass q pairs clean)).behind)
 
 -- Proxy-States are no Message-Authenticators
-pub proxies_unsigned : (pairs : List Pair) → All (λ p. p.id ≡ Plain 33) pairs → without_signatures pairs ≡ pairs
-proxies_unsigned pairs h = go pairs (recursion_from_All (λ (p : Pair). p.id ≡ Plain 33) pairs h)
+pub proxies_unsigned : (pairs : List Pair) → All (λ p. p.id ≡ Plain proxy_state) pairs → without_signatures pairs ≡ pairs
+proxies_unsigned pairs h = go pairs (recursion_from_All (λ (p : Pair). p.id ≡ Plain proxy_state) pairs h)
   where
-    go : (ps : List Pair) → AllByRecursion (λ p. p.id ≡ Plain 33) ps → without_signatures ps ≡ ps
+    go : (ps : List Pair) → AllByRecursion (λ p. p.id ≡ Plain proxy_state) ps → without_signatures ps ≡ ps
     go [] k = refl
     go (p ∷ ps) k = let other : is_other message_authenticator_id p ≡ true = ap (λ (i : AttrId). not (id_eq i message_authenticator_id)) k.0 in rw other (ap (λ (qs : List Pair). p ∷ qs) (go ps k.1))
 
@@ -149,7 +153,7 @@ module _ (dictionary : Dictionary) (secret : List ℕ) (code id : ℕ) (authenti
   laid_pairs pair = laid (sent before dictionary) division.signed pair (sent behind dictionary) (sent content.proxy_states dictionary)
 
   abbrev laid_parts : List ℕ → List Part
-  laid_parts os = laid (parts_of dictionary secret hide_by before) division.signed (part 80 os) (parts_of dictionary secret hide_by behind) (parts_of dictionary secret hide_by content.proxy_states)
+  laid_parts os = laid (parts_of dictionary secret hide_by before) division.signed (part message_authenticator os) (parts_of dictionary secret hide_by behind) (parts_of dictionary secret hide_by content.proxy_states)
 
   abbrev laid_octets : List ℕ → List ℕ
   laid_octets os = divided_octets dictionary secret hide_by division content.proxy_states os
@@ -159,16 +163,16 @@ module _ (dictionary : Dictionary) (secret : List ℕ) (code id : ℕ) (authenti
   pairs_are pair = rw (divided.before, divided.signed, divided.behind) refl
 
   octets_laid : (os : List ℕ) → laid_octets os ≡ flat_map part_octets (laid_parts os)
-  octets_laid os = sym (flat_laid part_octets (parts_of dictionary secret hide_by before) division.signed (part 80 os) (parts_of dictionary secret hide_by behind) (parts_of dictionary secret hide_by content.proxy_states))
+  octets_laid os = sym (flat_laid part_octets (parts_of dictionary secret hide_by before) division.signed (part message_authenticator os) (parts_of dictionary secret hide_by behind) (parts_of dictionary secret hide_by content.proxy_states))
 
-  parts_laid : (os : List ℕ) → flat_map (parts_of_pair dictionary secret hide_by) (laid_pairs (raw_pair (part 80 os))) ≡ laid_parts os
+  parts_laid : (os : List ℕ) → flat_map (parts_of_pair dictionary secret hide_by) (laid_pairs (raw_pair (part message_authenticator os))) ≡ laid_parts os
   unfolding parts_of
   parts_laid os =
-      flat_laid (parts_of_pair dictionary secret hide_by) (sent before dictionary) division.signed (raw_pair (part 80 os)) (sent behind dictionary) (sent content.proxy_states dictionary)
+      flat_laid (parts_of_pair dictionary secret hide_by) (sent before dictionary) division.signed (raw_pair (part message_authenticator os)) (sent behind dictionary) (sent content.proxy_states dictionary)
       ∙ rw (signature_part dictionary secret hide_by os) refl
 
   octets_are : (os : List ℕ) → attributes_with dictionary secret code authenticator content os ≡ laid_octets os
-  octets_are os = ap (octets_sent dictionary secret hide_by) (pairs_are (raw_pair (part 80 os))) ∙ ap (flat_map part_octets) (parts_laid os) ∙ sym (octets_laid os)
+  octets_are os = ap (octets_sent dictionary secret hide_by) (pairs_are (raw_pair (part message_authenticator os))) ∙ ap (flat_map part_octets) (parts_laid os) ∙ sym (octets_laid os)
 
   pub signed_octets : attributes_signed dictionary secret code id authenticator content ≡ divided_signed dictionary secret code id authenticator division content.proxy_states
   unfolding signature_of
@@ -194,12 +198,12 @@ module _ (dictionary : Dictionary) (secret : List ℕ) (code id : ℕ) (authenti
 
       go : (t : Bool) → length (first ++ signature_if t os ++ middle ++ last) ≡ length (first ++ signature_if t zeros ++ middle ++ last)
       go true =
-          let a = length-append first (part_octets (part 80 os)) in
-          let b = length-append (first ++ part_octets (part 80 os)) middle in
-          let d = length-append (first ++ part_octets (part 80 os) ++ middle) last in
-          let e = length-append first (part_octets (part 80 zeros)) in
-          let f = length-append (first ++ part_octets (part 80 zeros)) middle in
-          let g = length-append (first ++ part_octets (part 80 zeros) ++ middle) last in
+          let a = length-append first (part_octets (part message_authenticator os)) in
+          let b = length-append (first ++ part_octets (part message_authenticator os)) middle in
+          let d = length-append (first ++ part_octets (part message_authenticator os) ++ middle) last in
+          let e = length-append first (part_octets (part message_authenticator zeros)) in
+          let f = length-append (first ++ part_octets (part message_authenticator zeros)) middle in
+          let g = length-append (first ++ part_octets (part message_authenticator zeros) ++ middle) last in
           omega arith
       go false = refl
 
@@ -221,15 +225,15 @@ module _ (dictionary : Dictionary) (secret : List ℕ) (code id : ℕ) (authenti
     none_last : signatures (parts_of dictionary secret hide_by content.proxy_states) ≡ []
     none_last = ap (λ (ps : List Pair). signatures (parts_of dictionary secret hide_by ps)) (sym proxies) ∙ unsigned_parts dictionary secret hide_by content.proxy_states proxies_fit
 
-    pub one_signature : (os : List ℕ) → signatures (parts (laid_octets os)) ≡ part 80 os ∷ []
+    pub one_signature : (os : List ℕ) → signatures (parts (laid_octets os)) ≡ part message_authenticator os ∷ []
     one_signature os =
         let first : List Part = parts_of dictionary secret hide_by before in
         let middle : List Part = parts_of dictionary secret hide_by behind in
         let last : List Part = parts_of dictionary secret hide_by content.proxy_states in
         ap (λ (ps : List ℕ). signatures (parts ps)) (octets_laid os) ∙ ap signatures (parts_whole (laid_parts os))
         ∙ rw signed
-        (filter-append is_signature (first ++ part 80 os ∷ [] ++ middle) last
-        ∙ rw (filter-append is_signature (first ++ part 80 os ∷ []) middle, filter-append is_signature first (part 80 os ∷ []), none_first, none_middle, none_last) refl)
+        (filter-append is_signature (first ++ part message_authenticator os ∷ [] ++ middle) last
+        ∙ rw (filter-append is_signature (first ++ part message_authenticator os ∷ []) middle, filter-append is_signature first (part message_authenticator os ∷ []), none_first, none_middle, none_last) refl)
 
     pub blank_text : (os : List ℕ) → flat_map part_octets (map blanked (parts (laid_octets os))) ≡ laid_octets zeros
     blank_text os =
@@ -239,8 +243,8 @@ module _ (dictionary : Dictionary) (secret : List ℕ) (code id : ℕ) (authenti
         ap (λ (ps : List ℕ). flat_map part_octets (map blanked (parts ps))) (octets_laid os)
         ∙ ap (λ (ps : List Part). flat_map part_octets (map blanked ps)) (parts_whole (laid_parts os))
         ∙ ap (flat_map part_octets) (rw signed
-        (map-append blanked (first ++ part 80 os ∷ [] ++ middle) last
-        ∙ rw (map-append blanked (first ++ part 80 os ∷ []) middle, map-append blanked first (part 80 os ∷ []), unblanked first none_first, unblanked middle none_middle, unblanked last none_last) refl))
+        (map-append blanked (first ++ part message_authenticator os ∷ [] ++ middle) last
+        ∙ rw (map-append blanked (first ++ part message_authenticator os ∷ []) middle, map-append blanked first (part message_authenticator os ∷ []), unblanked first none_first, unblanked middle none_middle, unblanked last none_last) refl))
         ∙ sym (octets_laid zeros)
 
   -- ---- what it means
@@ -260,20 +264,20 @@ module _ (dictionary : Dictionary) (secret : List ℕ) (code id : ℕ) (authenti
         clean_read dictionary sound formats secret hide_by behind (parts_of dictionary secret hide_by content.proxy_states) behind_clean (All-filter (is_other message_authenticator_id) (λ (p : Pair). IsVendorInRange p.id) division.behind.now behind_ranged)
         ∙ rw last_means refl
 
-    rest_means : (t : Bool) (os : List ℕ) → means ((if t then part 80 os ∷ [] else []) ++ (parts_of dictionary secret hide_by behind ++ parts_of dictionary secret hide_by content.proxy_states)) ≡ (if t then pair_meant dictionary secret hide_by (Plain 80) os ∷ [] else []) ++ (sent behind dictionary ++ sent content.proxy_states dictionary)
-    rest_means true os = plain_read dictionary sound formats secret hide_by 80 os (parts_of dictionary secret hide_by behind ++ parts_of dictionary secret hide_by content.proxy_states) refl ∙ ap (λ (ps : List Pair). pair_meant dictionary secret hide_by (Plain 80) os ∷ ps) behind_means
+    rest_means : (t : Bool) (os : List ℕ) → means ((if t then part message_authenticator os ∷ [] else []) ++ (parts_of dictionary secret hide_by behind ++ parts_of dictionary secret hide_by content.proxy_states)) ≡ (if t then pair_meant dictionary secret hide_by message_authenticator_id os ∷ [] else []) ++ (sent behind dictionary ++ sent content.proxy_states dictionary)
+    rest_means true os = plain_read dictionary sound formats secret hide_by message_authenticator os (parts_of dictionary secret hide_by behind ++ parts_of dictionary secret hide_by content.proxy_states) refl ∙ ap (λ (ps : List Pair). pair_meant dictionary secret hide_by message_authenticator_id os ∷ ps) behind_means
     rest_means false os = behind_means
 
     regrouped : {A : Type 0} (a b d e : List A) → a ++ b ++ d ++ e ≡ a ++ (b ++ (d ++ e))
     regrouped a b d e = simp append_assoc
 
-    laid_means : (os : List ℕ) → means (laid_parts os) ≡ laid_pairs (pair_meant dictionary secret hide_by (Plain 80) os)
+    laid_means : (os : List ℕ) → means (laid_parts os) ≡ laid_pairs (pair_meant dictionary secret hide_by message_authenticator_id os)
     laid_means os =
         let first : List Part = parts_of dictionary secret hide_by before in
         let middle : List Part = parts_of dictionary secret hide_by behind in
         let last : List Part = parts_of dictionary secret hide_by content.proxy_states in
-        let one : List Part = if division.signed then part 80 os ∷ [] else [] in
-        let own : List Pair = if division.signed then pair_meant dictionary secret hide_by (Plain 80) os ∷ [] else [] in
+        let one : List Part = if division.signed then part message_authenticator os ∷ [] else [] in
+        let own : List Pair = if division.signed then pair_meant dictionary secret hide_by message_authenticator_id os ∷ [] else [] in
         ap means (regrouped first one middle last)
         ∙ clean_read dictionary sound formats secret hide_by before (one ++ (middle ++ last)) before_clean before_ranged
         ∙ ap (λ (ps : List Pair). sent before dictionary ++ ps) (rest_means division.signed os)
@@ -284,4 +288,4 @@ module _ (dictionary : Dictionary) (secret : List ℕ) (code id : ℕ) (authenti
         let os : List ℕ = signature_of dictionary secret code id authenticator content in
         ap (λ (ps : List ℕ). means (parts ps)) (octets_are os ∙ octets_laid os)
         ∙ ap means (parts_whole (laid_parts os)) ∙ laid_means os
-        ∙ sym (pairs_are (pair_meant dictionary secret hide_by (Plain 80) os))
+        ∙ sym (pairs_are (pair_meant dictionary secret hide_by message_authenticator_id os))

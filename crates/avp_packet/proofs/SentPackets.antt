@@ -10,7 +10,7 @@ use Rattle.avp_packet.specs.declared.encoding.dividing.Division.{Division}
 use Rattle.avp_packet.specs.Hmac.{hmac}
 use Rattle.avp_packet.specs.Meanings.{attribute_pairs}
 use Rattle.avp_packet.specs.Means.{Means}
-use Rattle.avp_packet.specs.Packets.{attributes_of, attributes_signed, hiding_authenticator, packet, pairs_meant, zeros}
+use Rattle.avp_packet.specs.Packets.{attributes_of, attributes_signed, hiding_authenticator, packet, pairs_meant, zeros, max_packet_octets}
 use Rattle.avp_packet.specs.Sending.{Content, without_signatures}
 use Rattle.avp_packet.specs.Signed.{is_signed}
 use Rattle.avp_packet.specs.Splitting.{left, parts}
@@ -27,7 +27,7 @@ module _ (dictionary : Dictionary) (secret : List ℕ) (code id : ℕ) (authenti
   sent_attributes = attributes_signed dictionary secret code id authenticator content
 
   -- octets are a packet of the attributes, and no longer than a packet may be
-  module _ (octets own : List ℕ) (made : octets ≡ packet code id own sent_attributes) (long : length own ≡ 16) (short : length (packet code id own sent_attributes) ≤ 4096) where
+  module _ (octets own : List ℕ) (made : octets ≡ packet code id own sent_attributes) (long : length own ≡ 16) (short : length (packet code id own sent_attributes) ≤ max_packet_octets) where
     short_attributes : length sent_attributes ≤ 4076
     short_attributes = omega (arith, length-packet code id own sent_attributes long, short)
 

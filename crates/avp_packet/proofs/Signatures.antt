@@ -5,12 +5,13 @@ use Rattle.std.proofs.lemmas.Bool.{false≢true}
 use Rattle.std.proofs.lemmas.Grind.{flat_map-append}
 use Rattle.std.proofs.lemmas.List.{length-append, map-append, take_at}
 use Rattle.std.proofs.lemmas.List.Elements.{filter-append}
+use Rattle.avp_dict.specs.AttributeNumbers.{message_authenticator}
 use Rattle.avp_packet.specs.AttributeOctets.{part}
 use Rattle.avp_packet.specs.Packets.{zeros}
 use Rattle.avp_packet.specs.Signed.{blanked, is_only, is_signature, signatures}
 use Rattle.avp_packet.specs.Splitting.{Part, left, part_octets, parts}
-use Rattle.avp_packet.proofs.AttributeRoom.{by_test}
 use Rattle.avp_packet.proofs.Splits.{is_split, left-all, left-none, left-octets, parts-all, parts-none, parts-octets}
+use Rattle.avp_packet.proofs.Tests.{by_test}
 
 -- whole attributes' octets are all that there are
 pub whole_octets : (os : List ℕ) → left os ≡ [] → os ≡ flat_map part_octets (parts os)
@@ -79,31 +80,31 @@ passed_more octets rest next p h e other =
 
 -- ---- the first Message-Authenticator
 
-module _ (octets before value behind : List ℕ) (e : octets ≡ before ++ part_octets (part 80 value) ++ behind) (whole : left before ≡ []) (first : signatures (parts before) ≡ []) where
-  listed : parts octets ≡ parts before ++ part 80 value ∷ parts behind
+module _ (octets before value behind : List ℕ) (e : octets ≡ before ++ part_octets (part message_authenticator value) ++ behind) (whole : left before ≡ []) (first : signatures (parts before) ≡ []) where
+  listed : parts octets ≡ parts before ++ part message_authenticator value ∷ parts behind
   listed =
-      ap parts (e ∙ append_assoc before (part_octets (part 80 value)) behind)
-      ∙ parts_behind_whole before (part_octets (part 80 value) ++ behind) whole
-      ∙ ap (λ (ps : List Part). parts before ++ ps) (parts-octets (part 80 value) behind)
+      ap parts (e ∙ append_assoc before (part_octets (part message_authenticator value)) behind)
+      ∙ parts_behind_whole before (part_octets (part message_authenticator value) ++ behind) whole
+      ∙ ap (λ (ps : List Part). parts before ++ ps) (parts-octets (part message_authenticator value) behind)
 
-  pub found_first : signatures (parts octets) ≡ part 80 value ∷ signatures (parts behind)
-  found_first = ap signatures listed ∙ filter-append is_signature (parts before) (part 80 value ∷ parts behind) ∙ rw first refl
+  pub found_first : signatures (parts octets) ≡ part message_authenticator value ∷ signatures (parts behind)
+  found_first = ap signatures listed ∙ filter-append is_signature (parts before) (part message_authenticator value ∷ parts behind) ∙ rw first refl
 
   -- the only one
-  pub blanked_text : left octets ≡ [] → signatures (parts behind) ≡ [] → flat_map part_octets (map blanked (parts octets)) ≡ before ++ part_octets (part 80 zeros) ++ behind
+  pub blanked_text : left octets ≡ [] → signatures (parts behind) ≡ [] → flat_map part_octets (map blanked (parts octets)) ≡ before ++ part_octets (part message_authenticator zeros) ++ behind
   blanked_text all none =
       let left_behind : left behind ≡ [] = sym (left_all_of) ∙ all in
       ap (λ (ps : List Part). flat_map part_octets (map blanked ps)) listed
-      ∙ ap (flat_map part_octets) (map-append blanked (parts before) (part 80 value ∷ parts behind))
-      ∙ flat_map-append part_octets (map blanked (parts before)) (map blanked (part 80 value ∷ parts behind))
+      ∙ ap (flat_map part_octets) (map-append blanked (parts before) (part message_authenticator value ∷ parts behind))
+      ∙ flat_map-append part_octets (map blanked (parts before)) (map blanked (part message_authenticator value ∷ parts behind))
       ∙ rw (unblanked (parts before) first, unblanked (parts behind) none, ← whole_octets before whole, ← whole_octets behind left_behind)
-      (sym (append_assoc before (part_octets (part 80 zeros)) behind))
+      (sym (append_assoc before (part_octets (part message_authenticator zeros)) behind))
     where
       left_all_of : left octets ≡ left behind
       left_all_of =
-          ap left (e ∙ append_assoc before (part_octets (part 80 value)) behind)
-          ∙ ap (λ (xs : List ℕ). left (xs ++ (part_octets (part 80 value) ++ behind))) (whole_octets before whole)
-          ∙ left-all (parts before) (part_octets (part 80 value) ++ behind) ∙ left-octets (part 80 value) behind
+          ap left (e ∙ append_assoc before (part_octets (part message_authenticator value)) behind)
+          ∙ ap (λ (xs : List ℕ). left (xs ++ (part_octets (part message_authenticator value) ++ behind))) (whole_octets before whole)
+          ∙ left-all (parts before) (part_octets (part message_authenticator value) ++ behind) ∙ left-octets (part message_authenticator value) behind
 
 -- ---- how many there are
 

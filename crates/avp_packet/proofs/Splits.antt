@@ -1,9 +1,10 @@
 -- The attributes of octets, one after the other.
-use Rattle.std.proofs.Common.{◌≡◌, ◌∙◌, ℕ, zero, suc, ◌+◌, ◌-◌, ◌<◌, ◌≤◌, Bool, true, false, List, [], ◌∷◌, ◌++◌, length, take, drop, Ok, Err, refl, sym, ap, arith, append-nil, append_assoc}
+use Rattle.std.proofs.Common.{◌≡◌, ◌∙◌, ℕ, zero, suc, ◌+◌, ◌-◌, ◌<◌, ◌≤◌, true, false, List, [], ◌∷◌, ◌++◌, length, take, drop, Ok, Err, refl, sym, ap, arith, append-nil, append_assoc}
 use Rattle.std.specs.List.{flat_map}
 use Rattle.std.proofs.lemmas.Grind.{common_steps}
 use Rattle.std.proofs.lemmas.List.{length-append, length-drop, take_at, drop_at, take-append-drop, length-take-le, drop-drop, drop_all}
 use Rattle.avp_packet.specs.Splitting.{IsSplit, Part, begins_whole, is_whole_attribute, items_from, left, left_behind, part_octets, parts, parts_behind, placed, placed_from}
+use Rattle.avp_packet.proofs.Tests.{by_test}
 
 -- ---- the octets behind the first so many
 
@@ -56,10 +57,6 @@ left-none (t ∷ []) h = refl
 left-none (t ∷ n ∷ os) h = rw h
 
 -- ---- octets are their attributes and what is left
-
-by_test : (P : Type 0) (b : Bool) → (b ≡ true → P) → (b ≡ false → P) → P
-by_test P true t f = t refl
-by_test P false t f = f refl
 
 split_behind : (k : ℕ) (os : List ℕ) → drop k os ≡ flat_map part_octets (parts_behind k os) ++ left_behind k os
 unfolding parts_behind left_behind

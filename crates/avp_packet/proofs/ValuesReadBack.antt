@@ -1,6 +1,6 @@
 -- The value of a canonical pair is read back from the octets that it is sent in.
-use Rattle.std.proofs.Common.{◌≡◌, ◌∙◌, ℕ, Bool, true, false, not, cond, List, length, Option, Some, None, refl, sym, subst}
-use Rattle.std.proofs.lemmas.Bool.{false≢true}
+use Rattle.std.proofs.Common.{◌≡◌, ◌∙◌, ℕ, Bool, true, false, cond, List, length, Option, Some, None, refl, sym, subst}
+use Rattle.std.proofs.lemmas.Bool.{and_parts, false≢true, not-true}
 use Rattle.avp_lists.specs.declared.pairs.AttrId.{AttrId}
 use Rattle.avp_lists.specs.declared.pairs.Pair.{Pair}
 use Rattle.avp_lists.specs.declared.pairs.Value.{Value}
@@ -21,15 +21,12 @@ use Rattle.avp_packet.specs.AttributeOctets.{sent_octets}
 use Rattle.avp_packet.specs.Hiding.{shown}
 use Rattle.avp_packet.specs.Meanings.{value_meant}
 use Rattle.avp_packet.proofs.Nuls.{shown-hidden}
-use Rattle.avp_packet.proofs.AttributeRoom.{and_left, and_right, by_test, fits_typed, fits_within, within_hideable}
+use Rattle.avp_packet.proofs.AttributeRoom.{fits_typed, fits_within, within_hideable}
+use Rattle.avp_packet.proofs.Tests.{by_test}
 
 shown_none : (secret authenticator os : List ℕ) → is_block_length (length os) ≡ false → shown secret authenticator os ≡ None
 unfolding shown
 shown_none secret authenticator os h = rw h
-
-not_false : (b : Bool) → not b ≡ true → b ≡ false
-not_false true e = sym e
-not_false false e = refl
 
 module _ (dictionary : Dictionary) (sound : IsSound dictionary) where
   pub hides_text : (id : AttrId) (d : Described) → described id dictionary ≡ Some d → d.hidden ≡ true → is_text_kind (Some d.kind) ≡ true
@@ -52,18 +49,10 @@ module _ (dictionary : Dictionary) (sound : IsSound dictionary) where
   unfolding octets
   read_text id kinds.Text (Text os) t r h = refl
   read_text id kinds.Bytes (Bytes os) t r h = refl
-  read_text id kinds.Text (Bytes os) t r h = absurd (false≢true h)
-  read_text id kinds.Text (Int n) t r h = absurd (false≢true h)
-  read_text id kinds.Text (Signed z) t r h = absurd (false≢true h)
-  read_text id kinds.Text (Addr os) t r h = absurd (false≢true h)
-  read_text id kinds.Text (Ether os) t r h = absurd (false≢true h)
   read_text id kinds.Text (Raw os) t r h = absurd (false≢true (sym r))
-  read_text id kinds.Bytes (Text os) t r h = absurd (false≢true h)
-  read_text id kinds.Bytes (Int n) t r h = absurd (false≢true h)
-  read_text id kinds.Bytes (Signed z) t r h = absurd (false≢true h)
-  read_text id kinds.Bytes (Addr os) t r h = absurd (false≢true h)
-  read_text id kinds.Bytes (Ether os) t r h = absurd (false≢true h)
   read_text id kinds.Bytes (Raw os) t r h = absurd (false≢true (sym r))
+  read_text id kinds.Text v t r h = absurd (false≢true h)
+  read_text id kinds.Bytes v t r h = absurd (false≢true h)
   read_text id _ v t r h = absurd (false≢true t)
 
   text_by : (id : AttrId) (v : Value) (o : Option Described) → described id dictionary ≡ o → is_hidden id dictionary ≡ true → is_raw v ≡ false → is_typed id v dictionary ≡ true → is_hideable (octets id v dictionary) ≡ true
@@ -80,7 +69,7 @@ module _ (dictionary : Dictionary) (sound : IsSound dictionary) where
   module _ (secret authenticator : List ℕ) where
     raw_back : (id : AttrId) (os : List ℕ) → is_hidden id dictionary ≡ true → is_shown (Raw os) ≡ true → value_meant dictionary secret authenticator id (sent_octets dictionary secret authenticator (record { id = id; value = Raw os })) ≡ Raw os
     unfolding value_meant sent_octets octets
-    raw_back id os h s = rw (h, shown_none secret authenticator os (not_false (is_block_length (length os)) s))
+    raw_back id os h s = rw (h, shown_none secret authenticator os (not-true (is_block_length (length os)) s))
 
     typed_back : (id : AttrId) (v : Value) → fits (record { id = id; value = v }) dictionary ≡ true → is_hidden id dictionary ≡ true → is_raw v ≡ false → value_meant dictionary secret authenticator id (sent_octets dictionary secret authenticator (record { id = id; value = v })) ≡ v
     unfolding value_meant sent_octets
@@ -102,8 +91,7 @@ module _ (dictionary : Dictionary) (sound : IsSound dictionary) where
     unfolding is_canonical
     value_back p h =
         let own : Bool = value_eq p.value (value_of_octets p.id (octets p.id p.value dictionary) dictionary) in
-        let fitting : fits p dictionary ≡ true = and_left (fits p dictionary) (cond (is_hidden p.id dictionary) (is_shown p.value) own) h in
-        let same : cond (is_hidden p.id dictionary) (is_shown p.value) own ≡ true = and_right (fits p dictionary) (cond (is_hidden p.id dictionary) (is_shown p.value) own) h in
+        let both : (fits p dictionary ≡ true) × (cond (is_hidden p.id dictionary) (is_shown p.value) own ≡ true) = and_parts _ _ h in
         by_test (value_meant dictionary secret authenticator p.id (sent_octets dictionary secret authenticator p) ≡ p.value) (is_hidden p.id dictionary)
-        (λ e. hidden_back p.id p.value fitting e (rw e at same))
-        (λ e. plain_back p e (rw e at same))
+        (λ e. hidden_back p.id p.value both.0 e (rw e at both.1))
+        (λ e. plain_back p e (rw e at both.1))

@@ -4,8 +4,9 @@ use Rattle.std.proofs.lemmas.Grind.{common_steps}
 use Rattle.avp_dict.specs.declared.entries.Format.{Format}
 use Rattle.avp_dict.specs.Vendors.{is_format}
 use Rattle.avp_packet.specs.Meanings.{Sub, are_subs_behind, begins_sub, first_sub, sub_length, subs, subs_behind}
-use Rattle.avp_packet.proofs.AttributeRoom.{and_left, and_right, format_of_size}
+use Rattle.avp_packet.proofs.AttributeRoom.{format_of_size}
 use Rattle.std.proofs.Common.{◌⊎◌, inl, inr}
+use Rattle.std.proofs.lemmas.Bool.{and_parts}
 
 subs_behind-drop : (f : Format) (k : ℕ) (os : List ℕ) → subs_behind f k os ≡ subs f (drop k os)
 unfolding subs_behind
@@ -31,10 +32,10 @@ some_type f h = go (format_of_size f.t f.l h).0
 pub sub_size : (f : Format) (os : List ℕ) → is_format f.t f.l ≡ true → begins_sub f os ≡ true → (1 ≤ sub_length f os) × (sub_length f os ≤ length os)
 sub_size f os h b =
     let some = some_type f h in
-    let whole : nat_le (sub_length f os) (length os) ≡ true = and_right (nat_le (f.t + f.l) (length os) && nat_le (f.t + f.l) (sub_length f os)) (nat_le (sub_length f os) (length os)) b in
-    let counts : nat_le (f.t + f.l) (sub_length f os) ≡ true = and_right (nat_le (f.t + f.l) (length os)) (nat_le (f.t + f.l) (sub_length f os)) (and_left (nat_le (f.t + f.l) (length os) && nat_le (f.t + f.l) (sub_length f os)) (nat_le (sub_length f os) (length os)) b) in
+    let parts = and_parts (nat_le (f.t + f.l) (length os) && nat_le (f.t + f.l) (sub_length f os)) (nat_le (sub_length f os) (length os)) b in
+    let counts = (and_parts (nat_le (f.t + f.l) (length os)) (nat_le (f.t + f.l) (sub_length f os)) parts.0).1 in
     let n : ℕ = sub_length f os in
-    (let low : f.t + f.l ≤ n = le_of counts in omega arith, le_of whole)
+    (let low : f.t + f.l ≤ n = le_of counts in omega arith, le_of parts.1)
   where
     le_of : {a b : ℕ} → nat_le a b ≡ true → a ≤ b
     le_of {a} {b} e = grind (arith, common_steps)

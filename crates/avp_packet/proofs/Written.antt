@@ -12,12 +12,14 @@ use Rattle.avp_lists.specs.declared.pairs.Pair.{Pair}
 use Rattle.avp_lists.specs.Instances.{is_other}
 use Rattle.avp_dict.specs.Dictionary.{Dictionary}
 use Rattle.avp_dict.specs.Sent.{is_sent, sent}
-use Rattle.avp_packet.proofs.AttributeRoom.{by_test}
 use Rattle.avp_dict.specs.declared.entries.Format.{Format}
+use Rattle.avp_dict.specs.AttributeNumbers.{vendor_specific}
 use Rattle.avp_packet.specs.AttributeOctets.{attribute_octets, fragments, part, parts_of, parts_of_pair, vendor_part, vendor_value}
 use Rattle.avp_packet.specs.Sending.{message_authenticator_id}
 use Rattle.avp_packet.specs.Splitting.{part_octets}
 use Rattle.avp_packet.specs.internal.Filling.{kept_pairs}
+use Rattle.avp_packet.specs.ExtendedTypes.{piece_octets, more_flag}
+use Rattle.avp_packet.proofs.Tests.{by_test}
 
 -- ---- vendors
 
@@ -41,28 +43,28 @@ regrouped : (o a b c d e f : List ℕ) → o ++ a ++ b ++ c ++ d ++ e ++ f ≡ o
 regrouped o a b c d e f = simp append_assoc
 
 pub vendor_written : (old os : List ℕ) (f : Format) (vendor number n : ℕ) → n ≡ f.t + f.l + length os
-    → (old ++ 26 ∷ [] ++ (6 + n) ∷ [] ++ bytes_high_first 4 vendor ++ bytes_high_first f.t number ++ bytes_high_first f.l n) ++ os ≡ old ++ flat_map part_octets (vendor_part vendor number os f)
+    → (old ++ vendor_specific ∷ [] ++ (6 + n) ∷ [] ++ bytes_high_first 4 vendor ++ bytes_high_first f.t number ++ bytes_high_first f.l n) ++ os ≡ old ++ flat_map part_octets (vendor_part vendor number os f)
 vendor_written old os f vendor number n e =
     let long : 6 + (f.t + f.l + length os) ≡ 2 + length (vendor_value vendor number os f) = omega (arith, length-vendor_value vendor number os f) in
     let v : List ℕ = vendor_value vendor number os f in
     rw (e, long)
-    (regrouped old (26 ∷ []) ((2 + length v) ∷ []) (bytes_high_first 4 vendor) (bytes_high_first f.t number) (bytes_high_first f.l (f.t + f.l + length os)) os
-    ∙ ap (λ (xs : List ℕ). old ++ xs) (sym (append-nil (26 ∷ (2 + length v) ∷ v))))
+    (regrouped old (vendor_specific ∷ []) ((2 + length v) ∷ []) (bytes_high_first 4 vendor) (bytes_high_first f.t number) (bytes_high_first f.l (f.t + f.l + length os)) os
+    ∙ ap (λ (xs : List ℕ). old ++ xs) (sym (append-nil (vendor_specific ∷ (2 + length v) ∷ v))))
 
 -- ---- pieces
 
-pub pieces_more : (t number : ℕ) (os : List ℕ) → 251 < length os
-    → flat_map part_octets (fragments ((length os - 1) / 251) t number os) ≡ part_octets (part t (number ∷ 128 ∷ take 251 os)) ++ flat_map part_octets (fragments ((length (drop 251 os) - 1) / 251) t number (drop 251 os))
+pub pieces_more : (t number : ℕ) (os : List ℕ) → piece_octets < length os
+    → flat_map part_octets (fragments ((length os - 1) / piece_octets) t number os) ≡ part_octets (part t (number ∷ more_flag ∷ take piece_octets os)) ++ flat_map part_octets (fragments ((length (drop piece_octets os) - 1) / piece_octets) t number (drop piece_octets os))
 unfolding fragments
 pieces_more t number os h =
-    let e = length-drop 251 os in
-    let more : (length os - 1) / 251 ≡ suc ((length (drop 251 os) - 1) / 251) = omega arith in
+    let e = length-drop piece_octets os in
+    let more : (length os - 1) / piece_octets ≡ suc ((length (drop piece_octets os) - 1) / piece_octets) = omega arith in
     ap (λ n. flat_map part_octets (fragments n t number os)) more
 
-pub pieces_last : (t number : ℕ) (os : List ℕ) → length os ≤ 251 → flat_map part_octets (fragments ((length os - 1) / 251) t number os) ≡ part_octets (part t (number ∷ 0 ∷ os))
+pub pieces_last : (t number : ℕ) (os : List ℕ) → length os ≤ piece_octets → flat_map part_octets (fragments ((length os - 1) / piece_octets) t number os) ≡ part_octets (part t (number ∷ 0 ∷ os))
 unfolding fragments
 pieces_last t number os h =
-    let none : (length os - 1) / 251 ≡ 0 = omega arith in
+    let none : (length os - 1) / piece_octets ≡ 0 = omega arith in
     ap (λ n. flat_map part_octets (fragments n t number os)) none ∙ append-nil (part_octets (part t (number ∷ 0 ∷ os)))
 
 -- ---- lists

@@ -7,9 +7,11 @@ use Rattle.avp_lists.specs.declared.pairs.AttrId.{AttrId}
 use Rattle.avp_lists.specs.declared.pairs.AttrId.TheVariants.{Plain, Vendor, Extended}
 use Rattle.avp_lists.specs.declared.pairs.Pair.{Pair}
 use Rattle.avp_dict.specs.declared.entries.Format.{Format}
+use Rattle.avp_dict.specs.AttributeNumbers.{vendor_specific}
 use Rattle.avp_dict.specs.Dictionary.{Dictionary}
 use Rattle.avp_dict.specs.Octets.{is_hidden, octets}
 use Rattle.avp_dict.specs.Sent.{is_raw, sent}
+use Rattle.avp_packet.specs.ExtendedTypes.{long_extended_type_1, more_flag, piece_octets}
 use Rattle.avp_packet.specs.Hiding.{hidden}
 use Rattle.avp_packet.specs.Splitting.{Part, part_octets}
 use Rattle.avp_packet.specs.VendorFormats.{known_format}
@@ -29,16 +31,17 @@ abbrev pub vendor_value : ℕ → ℕ → List ℕ → Format → List ℕ
 vendor_value vendor number os f = bytes_high_first 4 vendor ++ bytes_high_first f.t number ++ bytes_high_first f.l (f.t + f.l + length os) ++ os
 
 abbrev pub vendor_part : ℕ → ℕ → List ℕ → Format → List Part
-vendor_part vendor number os f = part 26 (vendor_value vendor number os f) ∷ []
+vendor_part vendor number os f = part vendor_specific (vendor_value vendor number os f) ∷ []
 
--- a long value in so many pieces of 251 octets and a last one; the flag says that another piece follows
+-- a long value in so many full pieces and a last one; the flag says that another piece follows
 unfoldable pub fragments : ℕ → ℕ → ℕ → List ℕ → List Part
 fragments zero t number os = part t (number ∷ 0 ∷ os) ∷ []
-fragments (suc n) t number os = part t (number ∷ 128 ∷ take 251 os) ∷ fragments n t number (drop 251 os)
+fragments (suc n) t number os =
+    part t (number ∷ more_flag ∷ take piece_octets os) ∷ fragments n t number (drop piece_octets os)
 
--- types 245 and 246 hold long values
+-- of the types of extended attributes those from this one on hold long values
 abbrev pub is_long : ℕ → Bool
-is_long t = nat_le 245 t
+is_long t = nat_le long_extended_type_1 t
 
 -- the attributes of an id that hold these octets
 unfoldable pub parts_holding : Dictionary → AttrId → List ℕ → List Part
@@ -47,7 +50,7 @@ parts_holding dictionary (Vendor vendor number) os =
     option_map_or (vendor_part vendor number os) (known_format vendor dictionary) []
 parts_holding dictionary (Extended t number) os =
     if is_long t
-    then fragments ((length os - 1) / 251) t number os
+    then fragments ((length os - 1) / piece_octets) t number os
     else (part t (number ∷ os) ∷ [])
 
 -- the attributes that a pair is sent in

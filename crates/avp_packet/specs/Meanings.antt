@@ -1,5 +1,5 @@
 -- What pairs a list of attributes means (RFC 2865, section 5.26; RFC 6929, sections 2.1 and 2.2).
-use Rattle.std.specs.Prelude.{ℕ, zero, suc, ◌+◌, ◌-◌, Bool, true, not, ◌&&◌, ◌||◌, ◌==◌, nat_le, if◌then◌else◌, List, [], ◌∷◌, ◌++◌, length, take, drop, map, slice_index, Option, Some, None}
+use Rattle.std.specs.Prelude.{ℕ, zero, suc, ◌+◌, ◌-◌, Bool, true, not, ◌&&◌, ◌==◌, nat_le, if◌then◌else◌, List, [], ◌∷◌, ◌++◌, length, take, drop, map, slice_index, Option, Some, None}
 use Rattle.std.specs.Int.Digits.{number_from_digits}
 use Rattle.std.specs.Option.{option_and_then, option_map}
 use Rattle.avp_lists.specs.declared.pairs.AttrId.{AttrId}
@@ -8,8 +8,10 @@ use Rattle.avp_lists.specs.declared.pairs.Pair.{Pair}
 use Rattle.avp_lists.specs.declared.pairs.Value.{Value}
 use Rattle.avp_lists.specs.declared.pairs.Value.TheVariants.{Raw}
 use Rattle.avp_dict.specs.declared.entries.Format.{Format}
+use Rattle.avp_dict.specs.AttributeNumbers.{vendor_specific}
 use Rattle.avp_dict.specs.Dictionary.{Dictionary}
 use Rattle.avp_dict.specs.Octets.{is_hidden, value_of_octets}
+use Rattle.avp_packet.specs.ExtendedTypes.{holds_long, holds_one, more_flag, piece_octets}
 use Rattle.avp_packet.specs.Hiding.{shown}
 use Rattle.avp_packet.specs.Splitting.{Part}
 use Rattle.avp_packet.specs.VendorFormats.{known_format}
@@ -111,7 +113,7 @@ pub record Piece : Type 0 where
   pub os : List ℕ
 
 abbrev pub piece_in : ℕ → List ℕ → Option Piece
-piece_in number (n ∷ flags ∷ o ∷ os) = if n == number then Some (record { more = nat_le 128 flags; os = o ∷ os }) else None
+piece_in number (n ∷ flags ∷ o ∷ os) = if n == number then Some (record { more = nat_le more_flag flags; os = o ∷ os }) else None
 piece_in number _ = None
 
 -- the piece in an attribute of this type and Extended-Type
@@ -129,7 +131,7 @@ joined os run = record { os = os ++ run.os; rest = run.rest }
 -- the last piece ends a run; any other one is full, and what follows it goes on
 abbrev pub run_with : Piece → List Part → Option Run → Option Run
 run_with piece parts following =
-    if piece.more then (if length piece.os == 251 then option_map (joined piece.os) following else None)
+    if piece.more then (if length piece.os == piece_octets then option_map (joined piece.os) following else None)
     else Some (record { os = piece.os; rest = parts })
 
 -- the run of a type and an Extended-Type that attributes begin with
@@ -154,11 +156,11 @@ long_pair dictionary secret authenticator part None = raw_pair part
 -- the pairs of the first attribute, with those that its value goes on in
 abbrev pub first_pairs : Dictionary → List ℕ → List ℕ → Part → List Part → List Pair
 first_pairs dictionary secret authenticator part parts =
-    if part.number == 26
+    if part.number == vendor_specific
     then vendor_pairs dictionary secret authenticator part (vendor_subs dictionary part.value)
-    else (if nat_le 241 part.number && nat_le part.number 244
+    else (if holds_one part.number
     then extended_pair dictionary secret authenticator part ∷ []
-    else (if (part.number == 245) || (part.number == 246)
+    else (if holds_long part.number
     then long_pair dictionary secret authenticator part (first_run part parts) ∷ []
     else (pair_meant dictionary secret authenticator (Plain part.number) part.value ∷ [])))
 
@@ -168,7 +170,7 @@ others_in parts (Some run) = length parts - length run.rest
 others_in parts None = 0
 
 abbrev pub others : Part → List Part → ℕ
-others part parts = if (part.number == 245) || (part.number == 246) then others_in parts (first_run part parts) else 0
+others part parts = if holds_long part.number then others_in parts (first_run part parts) else 0
 
 -- the pairs of the attributes behind the first so many
 unfoldable pub meaning_behind : Dictionary → List ℕ → List ℕ → ℕ → List Part → List Pair

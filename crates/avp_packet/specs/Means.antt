@@ -2,29 +2,31 @@
 use Rattle.std.specs.Prelude.{◌≡◌, ◌⊎◌, ℕ, ◌<◌, ◌≤◌, false, List, [], ◌∷◌, ◌++◌, length, map, Some, None}
 use Rattle.avp_lists.specs.declared.pairs.AttrId.TheVariants.{Plain, Extended}
 use Rattle.avp_lists.specs.declared.pairs.Pair.{Pair}
+use Rattle.avp_dict.specs.AttributeNumbers.{vendor_specific}
 use Rattle.avp_dict.specs.Dictionary.{Dictionary}
 use Rattle.avp_dict.specs.Sent.{is_container}
+use Rattle.avp_packet.specs.ExtendedTypes.{extended_type_1, extended_type_4, long_extended_type_1, long_extended_type_2}
 use Rattle.avp_packet.specs.Meanings.{Run, Sub, extended_type, first_run, pair_meant, raw_pair, sub_pair, vendor_of, vendor_subs}
 use Rattle.avp_packet.specs.Splitting.{Part}
 
 -- the types that hold one attribute, and those that hold long values
 abbrev pub IsExtended : ℕ → Type 0
-IsExtended t = (241 ≤ t) × (t ≤ 244)
+IsExtended t = (extended_type_1 ≤ t) × (t ≤ extended_type_4)
 
 abbrev pub IsLong : ℕ → Type 0
-IsLong t = (t ≡ 245) ⊎ (t ≡ 246)
+IsLong t = (t ≡ long_extended_type_1) ⊎ (t ≡ long_extended_type_2)
 
 -- the first attribute holds others, and none of them is there to be read
 abbrev pub IsUnread : Dictionary → Part → List Part → Type 0
 IsUnread dictionary part parts =
-    ((part.number ≡ 26) × (vendor_subs dictionary part.value ≡ None))
+    ((part.number ≡ vendor_specific) × (vendor_subs dictionary part.value ≡ None))
     ⊎ ((IsExtended part.number × (length part.value < 2)) ⊎ (IsLong part.number × (first_run part parts ≡ None)))
 
 pub data Means (dictionary : Dictionary) (secret authenticator : List ℕ)
     : List Part → List Pair → Type 0 where
   nothing : Means dictionary secret authenticator [] []
   of_vendor : (part : Part) (parts : List Part) (subs : List Sub) (pairs : List Pair)
-      → part.number ≡ 26 → vendor_subs dictionary part.value ≡ Some subs
+      → part.number ≡ vendor_specific → vendor_subs dictionary part.value ≡ Some subs
       → Means dictionary secret authenticator parts pairs
       → Means dictionary secret authenticator (part ∷ parts)
       (map (sub_pair dictionary secret authenticator (vendor_of part.value)) subs ++ pairs)

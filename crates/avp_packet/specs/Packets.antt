@@ -5,13 +5,13 @@ use Rattle.std.specs.Int.Digits.{number_from_digits}
 use Rattle.std.specs.List.{flat_map}
 use Rattle.std.specs.Str.{bytes_eq}
 use Rattle.md5.specs.Md5.{md5}
-use Rattle.avp_lists.specs.declared.pairs.AttrId.TheVariants.{Plain}
 use Rattle.avp_lists.specs.declared.pairs.Pair.{Pair}
+use Rattle.avp_dict.specs.AttributeNumbers.{message_authenticator}
 use Rattle.avp_dict.specs.Dictionary.{Dictionary}
 use Rattle.avp_packet.specs.AttributeOctets.{part, parts_of_pair}
 use Rattle.avp_packet.specs.Hmac.{hmac}
 use Rattle.avp_packet.specs.Meanings.{pair_meant, raw_pair}
-use Rattle.avp_packet.specs.Sending.{Content, Kind, Access, Accounting, Reply, pairs_sent}
+use Rattle.avp_packet.specs.Sending.{Content, Kind, Access, Accounting, Reply, message_authenticator_id, pairs_sent}
 use Rattle.avp_packet.specs.Splitting.{part_octets}
 
 -- ---- codes (RFC 2865, section 3; RFC 2866, section 3)
@@ -71,7 +71,7 @@ octets_sent dictionary secret hide_by pairs =
 abbrev pub attributes_with : Dictionary → List ℕ → ℕ → List ℕ → Content → List ℕ → List ℕ
 attributes_with dictionary secret code authenticator content signature =
     octets_sent dictionary secret (hiding_authenticator code authenticator)
-    (pairs_sent dictionary content (raw_pair (part 80 signature)))
+    (pairs_sent dictionary content (raw_pair (part message_authenticator signature)))
 
 -- the octets that sign a packet: the digest of the packet with zeros in their place (RFC 3579, section 3.2)
 unfoldable pub signature_of : Dictionary → List ℕ → ℕ → ℕ → List ℕ → Content → List ℕ
@@ -87,7 +87,7 @@ attributes_signed dictionary secret code id authenticator content =
 -- the pairs that these attributes mean, where the lists are clean
 abbrev pub pairs_meant : Dictionary → List ℕ → ℕ → ℕ → List ℕ → Content → List Pair
 pairs_meant dictionary secret code id authenticator content = pairs_sent dictionary content
-    (pair_meant dictionary secret (hiding_authenticator code authenticator) (Plain 80)
+    (pair_meant dictionary secret (hiding_authenticator code authenticator) message_authenticator_id
     (signature_of dictionary secret code id authenticator content))
 
 abbrev pub request_kind : ℕ → Kind
@@ -132,8 +132,12 @@ authenticator_of os = take 16 (drop 4 os)
 abbrev pub attributes_of : List ℕ → List ℕ
 attributes_of os = drop 20 (take (length_of os) os)
 
+-- the most octets of a packet, of every code
+abbrev pub max_packet_octets : ℕ
+max_packet_octets = 4096
+
 abbrev pub is_packet_length : ℕ → Bool
-is_packet_length n = nat_le 20 n && nat_le n 4096
+is_packet_length n = nat_le 20 n && nat_le n max_packet_octets
 
 -- a reply by its Response Authenticator, to a request with this authenticator; octets past Length are not looked at
 unfoldable pub is_reply : List ℕ → List ℕ → List ℕ → Bool

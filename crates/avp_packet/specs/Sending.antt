@@ -5,11 +5,12 @@ use Rattle.avp_lists.specs.Instances.{has_id, has_instance, is_other}
 use Rattle.avp_lists.specs.declared.pairs.AttrId.{AttrId}
 use Rattle.avp_lists.specs.declared.pairs.AttrId.TheVariants.{Plain}
 use Rattle.avp_lists.specs.declared.pairs.Pair.{Pair}
+use Rattle.avp_dict.specs.AttributeNumbers.{message_authenticator}
 use Rattle.avp_dict.specs.Dictionary.{Dictionary}
 use Rattle.avp_dict.specs.Sent.{sent}
 
 abbrev pub message_authenticator_id : AttrId
-message_authenticator_id = Plain 80
+message_authenticator_id = Plain message_authenticator
 
 -- a list's pairs but for its Message-Authenticators
 abbrev pub without_signatures : List Pair → List Pair

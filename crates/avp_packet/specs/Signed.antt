@@ -2,12 +2,13 @@
 use Rattle.std.specs.Prelude.{ℕ, Bool, false, ◌&&◌, ◌==◌, nat_le, if◌then◌else◌, List, [], ◌∷◌, ◌++◌, length, take, map, filter}
 use Rattle.std.specs.List.{flat_map}
 use Rattle.std.specs.Str.{bytes_eq}
+use Rattle.avp_dict.specs.AttributeNumbers.{message_authenticator}
 use Rattle.avp_packet.specs.Hmac.{hmac}
 use Rattle.avp_packet.specs.Packets.{attributes_of, is_packet_length, length_of, zeros}
 use Rattle.avp_packet.specs.Splitting.{Part, left, part_octets, parts}
 
 abbrev pub is_signature : Part → Bool
-is_signature part = part.number == 80
+is_signature part = part.number == message_authenticator
 
 -- the Message-Authenticators among attributes
 abbrev pub signatures : List Part → List Part

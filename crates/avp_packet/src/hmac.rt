@@ -8,6 +8,7 @@ ghost use Rattle.avp_packet.specs.Hmac.{hmac, key_block};
 ghost use Rattle.avp_packet.specs.Packets.{zeros};
 ghost use Rattle.avp_packet.specs.Splitting.{part_octets};
 
+use crate::attribute::numbers::MESSAGE_AUTHENTICATOR;
 use crate::hiding::masked;
 use md5::{Digest, Md5};
 
@@ -58,7 +59,7 @@ pub(crate) fn signature_between(
     before: &[u8],
     after: &[u8],
 ) -> [u8; 16]
-    ensures { result ≡ hmac secret.now (head.now ++ authenticator.now ++ before.now ++ part_octets (part 80 zeros) ++ after.now) }
+    ensures { result ≡ hmac secret.now (head.now ++ authenticator.now ++ before.now ++ part_octets (part MESSAGE_AUTHENTICATOR zeros) ++ after.now) }
 {
     let key = key_block(secret);
     let mut inner = keyed_hasher(&INNER_PAD, &key);

@@ -7,15 +7,13 @@ ghost use Rattle.avp_packet.specs.Hmac.{hmac};
 ghost use Rattle.avp_packet.specs.Signed.{blanked, is_only, is_signature, is_signed, signatures};
 ghost use Rattle.avp_packet.specs.Splitting.{left, part_octets, parts};
 
+use crate::attribute::numbers::MESSAGE_AUTHENTICATOR;
 use crate::attribute::splitting::first_attribute;
 use crate::attribute::walking::count_attributes;
 use crate::authenticators::{
     AUTHENTICATOR_PLACE, PACKET_HEAD_OCTETS, are_equal, attributes_in, is_packet_length, length_of,
 };
 use crate::hmac::signature_between;
-
-/// The type of a Message-Authenticator.
-pub(crate) const MESSAGE_AUTHENTICATOR: u8 = 80;
 
 // A Message-Authenticator's value, and the octets before and behind the attribute.
 #[derive(Clone, Copy)]
@@ -27,7 +25,7 @@ struct Found<'a> {
 
 // The first Message-Authenticator among attributes.
 fn find_signature(octets: &[u8]) -> Option<Found<'_>>
-    ensures octets { IfSome result (λ f. octets.now ≡ f.before.now ++ part_octets (part 80 f.value.now) ++ f.behind.now) }
+    ensures octets { IfSome result (λ f. octets.now ≡ f.before.now ++ part_octets (part MESSAGE_AUTHENTICATOR f.value.now) ++ f.behind.now) }
     ensures whole { IfSome result (λ f. left f.before.now ≡ []) }
     ensures first { IfSome result (λ f. signatures (parts f.before.now) ≡ []) }
     ensures none { IfNone result (signatures (parts octets.now) ≡ []) }

@@ -2,6 +2,7 @@
 use Rattle.std.specs.Prelude.{◌≡◌, ◌≤◌, ℕ, ◌+◌, Bool, true, false, if◌then◌else◌, List, [], ◌++◌, take, drop, Option, Some, None}
 use Rattle.std.specs.List.{All}
 use Rattle.avp_lists.specs.declared.pairs.Pair.{Pair}
+use Rattle.avp_dict.specs.AttributeNumbers.{message_authenticator}
 use Rattle.avp_dict.specs.Dictionary.{Dictionary}
 use Rattle.avp_packet.specs.declared.encoding.dividing.Division.{Division}
 use Rattle.avp_packet.specs.AttributeOctets.{attribute_octets, part}
@@ -28,7 +29,7 @@ pub record KeepsAll (q : Pair → Bool) (division : Division) : Type 0 where
 
 -- a Message-Authenticator of these octets, where there is one
 abbrev pub signature_if : Bool → List ℕ → List ℕ
-signature_if signed signature = if signed then part_octets (part 80 signature) else []
+signature_if signed signature = if signed then part_octets (part message_authenticator signature) else []
 
 abbrev pub place_if : Bool → ℕ → Option ℕ
 place_if signed place = if signed then Some place else None
@@ -44,7 +45,7 @@ divided_octets dictionary secret hide_by division proxy_states signature =
 -- attributes, with these octets as the Message-Authenticator at its place
 abbrev pub filled : List ℕ → Option ℕ → List ℕ → List ℕ
 filled os None signature = os
-filled os (Some place) signature = take place os ++ part_octets (part 80 signature) ++ drop (place + 18) os
+filled os (Some place) signature = take place os ++ part_octets (part message_authenticator signature) ++ drop (place + 18) os
 
 -- the place is one of a Message-Authenticator in so many octets
 abbrev pub IsPlace : ℕ → Option ℕ → Type 0

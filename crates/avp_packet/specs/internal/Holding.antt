@@ -4,6 +4,7 @@ use Rattle.avp_lists.specs.declared.pairs.AttrId.{AttrId}
 use Rattle.avp_lists.specs.declared.pairs.AttrId.TheVariants.{Plain, Vendor, Extended}
 use Rattle.avp_dict.specs.declared.entries.Format.{Format}
 use Rattle.avp_dict.specs.Dictionary.{Dictionary}
+use Rattle.avp_packet.specs.ExtendedTypes.{extended_type_4}
 use Rattle.avp_packet.specs.VendorFormats.{known_format}
 
 abbrev pub FitsFormat : ℕ → List ℕ → Format → Type 0
@@ -13,4 +14,4 @@ abbrev pub CanHold : Dictionary → AttrId → List ℕ → Type 0
 CanHold dictionary (Plain number) os = (number ≤ 255) × (length os ≤ 253)
 CanHold dictionary (Vendor vendor number) os =
     IfSome (known_format vendor dictionary) (FitsFormat number os)
-CanHold dictionary (Extended t number) os = (t ≤ 244 → length os ≤ 252)
+CanHold dictionary (Extended t number) os = (t ≤ extended_type_4 → length os ≤ 252)

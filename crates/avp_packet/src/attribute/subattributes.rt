@@ -8,8 +8,8 @@ ghost use Rattle.avp_packet.specs.Meanings.{are_subs, are_subs_behind, begins_su
 ghost use Rattle.avp_packet.specs.internal.Views.{sub_view};
 
 use crate::attribute::formats::known_format;
+use crate::attribute::numbers::VENDOR_SPECIFIC;
 use crate::decoding::values::{push_raw, push_read};
-use crate::encoding::attributes::VENDOR_SPECIFIC;
 use avp_dict::{Dictionary, Format};
 use avp_lists::{AttrId, Pair};
 use std::alloc::AllocError;

@@ -7,8 +7,8 @@ ghost use Rattle.avp_packet.specs.Meanings.{joined, piece_in, piece_of, run, run
 ghost use Rattle.avp_packet.specs.Splitting.{parts};
 ghost use Rattle.avp_packet.specs.internal.Views.{piece_view, run_view};
 
+use crate::attribute::numbers::{MORE, PIECE_OCTETS};
 use crate::attribute::splitting::{Front, first_attribute};
-use crate::encoding::attributes::{MORE, PIECE_OCTETS};
 use std::alloc::{AllocError, Global};
 
 // A piece of a long value, and the octets behind its attribute.

@@ -7,11 +7,13 @@ ghost use Rattle.avp_packet.specs.Meanings.{first_pairs, first_run, long_pair, a
 ghost use Rattle.avp_packet.specs.CanonicalOrContainer.{IsCanonicalOrContainer};
 ghost use Rattle.avp_packet.specs.Splitting.{part_octets, parts};
 
+use crate::attribute::numbers::{
+    EXTENDED_TYPE_1, EXTENDED_TYPE_4, LONG_EXTENDED_TYPE_1, LONG_EXTENDED_TYPE_2, VENDOR_SPECIFIC,
+};
 use crate::attribute::splitting::{Front, first_attribute};
 use crate::attribute::subattributes::push_vendor_pairs;
 use crate::decoding::fragments::join_run;
 use crate::decoding::values::{push_extended, push_joined, push_raw, push_read};
-use crate::encoding::attributes::VENDOR_SPECIFIC;
 use crate::encoding::pairs::MAX_ATTRIBUTE_OCTETS;
 use avp_dict::Dictionary;
 use avp_lists::{AttrId, Pair};
@@ -27,7 +29,7 @@ fn extended_type_of(value: &[u8]) -> u8
     }
 }
 
-// Adds the pair of an attribute of type 245 or 246, with those that its value goes on in, and gives what is behind
+// Adds the pair of an attribute that holds a long value, with those that its value goes on in, and gives what is behind
 // them.
 fn push_long<'a>(
     pairs: &mut Vec<Pair>,
@@ -80,7 +82,7 @@ fn push_first<'a>(
             authenticator,
             front.value,
         )?,
-        241..=244 => push_extended(
+        EXTENDED_TYPE_1..=EXTENDED_TYPE_4 => push_extended(
             pairs,
             dictionary,
             secret,
@@ -88,7 +90,9 @@ fn push_first<'a>(
             front.number,
             front.value,
         )?,
-        245 | 246 => return push_long(pairs, dictionary, secret, authenticator, octets, front),
+        LONG_EXTENDED_TYPE_1 | LONG_EXTENDED_TYPE_2 => {
+            return push_long(pairs, dictionary, secret, authenticator, octets, front);
+        }
         number => {
             let id = AttrId::Plain(u32::from(number));
             push_read(pairs, dictionary, secret, authenticator, id, front.value)?;

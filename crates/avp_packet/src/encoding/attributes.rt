@@ -9,18 +9,10 @@ ghost use Rattle.avp_packet.specs.Splitting.{part_octets};
 ghost use Rattle.avp_packet.specs.internal.Holding.{CanHold, FitsFormat};
 
 use crate::attribute::formats::known_format;
+use crate::attribute::numbers::{LONG_EXTENDED_TYPE_1, MORE, PIECE_OCTETS, VENDOR_SPECIFIC};
 use avp_dict::{Dictionary, Format};
 use avp_lists::AttrId;
 use std::alloc::AllocError;
-
-/// The attribute that holds a vendor's own (RFC 2865, section 5.26).
-pub(crate) const VENDOR_SPECIFIC: u8 = 26;
-
-/// The octets of a piece of a long value (RFC 6929, section 2.2).
-pub(crate) const PIECE_OCTETS: usize = 251;
-
-/// The flag of a piece that another one follows.
-pub(crate) const MORE: u8 = 0x80;
 
 // Adds an attribute whose value begins with the front.
 fn push_attribute(
@@ -40,7 +32,7 @@ fn push_attribute(
 
 // Adds a long value in pieces.
 fn push_fragments(octets: &mut Vec<u8>, t: u8, number: u8, value: &[u8]) -> Result<(), AllocError>
-    ensures { OnOk result (octets.new.items ≡ octets.old.items ++ flat_map part_octets (fragments ((length value.now - 1) / 251) t number value.now)) }
+    ensures { OnOk result (octets.new.items ≡ octets.old.items ++ flat_map part_octets (fragments ((length value.now - 1) / PIECE_OCTETS) t number value.now)) }
 {
     let mut rest = value;
     while rest.len() > PIECE_OCTETS {
@@ -120,7 +112,7 @@ pub(crate) fn push_holding(
             None => Ok(()),
         },
         AttrId::Extended(t, number) => {
-            if t >= 245 {
+            if t >= LONG_EXTENDED_TYPE_1 {
                 push_fragments(octets, t, number, value)
             } else {
                 push_attribute(octets, t, &[number], value)

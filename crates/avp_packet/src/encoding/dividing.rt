@@ -8,11 +8,12 @@ ghost use Rattle.avp_packet.specs.Packets.{request_kind};
 ghost use Rattle.avp_packet.specs.Sending.{Access, Reply, message_authenticator_id, without_signatures};
 ghost use Rattle.avp_packet.specs.internal.Filling.{IsDivided, KeepsAll};
 
+use crate::attribute::numbers::MESSAGE_AUTHENTICATOR;
 use crate::packets::ACCOUNTING_REQUEST;
 use avp_lists::{AttrId, Pair};
 
 /// The attribute that signs a packet.
-pub(crate) const MESSAGE_AUTHENTICATOR: AttrId = AttrId::Plain(80);
+pub(crate) const MESSAGE_AUTHENTICATOR_ID: AttrId = AttrId::Plain(MESSAGE_AUTHENTICATOR as u32);
 
 /// What is sent before and behind the Message-Authenticator, and whether there is one. Of those behind it no other one
 /// is sent.
@@ -29,7 +30,7 @@ fn signature_place(list: &[Pair]) -> usize
     ensures within { result ≤ length list.now }
 {
     for place in 0..list.len() {
-        if list[place].id.equals(MESSAGE_AUTHENTICATOR) {
+        if list[place].id.equals(MESSAGE_AUTHENTICATOR_ID) {
             return place;
         }
     }

@@ -2,6 +2,7 @@
 
 ghost use Rattle.std.specs.Prelude.{◌≡◌, ◌≤◌, ◌<◌, [], true, false, length, All, OnOk, IfOk, Err, Some};
 ghost use Rattle.avp_lists.specs.declared.pairs.AttrId.TheVariants.{Plain};
+ghost use Rattle.avp_dict.specs.AttributeNumbers.{proxy_state};
 ghost use Rattle.avp_dict.specs.Limits.{fits};
 ghost use Rattle.avp_dict.specs.Sent.{is_clean};
 ghost use Rattle.avp_packet.specs.Hmac.{hmac};
@@ -228,8 +229,7 @@ pub fn encode_reply(
     requires code { IsReplyCode code }
     requires fits { All (λ pair. fits pair dictionary.now ≡ true) list.now }
     requires proxies_fit { All (λ pair. fits pair dictionary.now ≡ true) proxy_states.now }
-    // Proxy-State is attribute 33 (RFC 2865, section 5.33).
-    requires proxies { All (λ pair. pair.id ≡ Plain 33) proxy_states.now }
+    requires proxies { All (λ pair. pair.id ≡ Plain proxy_state) proxy_states.now }
     // An Accounting-Response has no Message-Authenticator.
     requires signed { code ≡ ACCOUNTING_RESPONSE → signed ≡ false }
     ensures octets { IfOk result (λ octets. octets.items ≡ reply dictionary.now secret.now code id request_authenticator.now signed list.now proxy_states.now) }

@@ -13,7 +13,7 @@ ghost use Rattle.avp_packet.specs.internal.Ranges.{IsVendorInRange};
 
 use crate::authenticators::{MAX_PACKET_OCTETS, PACKET_HEAD_OCTETS};
 use crate::encoding::attributes::push_holding;
-use crate::encoding::dividing::{Division, MESSAGE_AUTHENTICATOR};
+use crate::encoding::dividing::{Division, MESSAGE_AUTHENTICATOR_ID};
 use crate::faults::EncodeFault;
 use crate::hiding::hidden;
 use crate::hmac::BLANK;
@@ -122,7 +122,7 @@ fn is_kept(pair: &Pair, all: bool) -> bool
     ensures left { result ≡ false → kept_pairs all (pair.now ∷ []) ≡ [] }
     ensures ranged { result ≡ false → IsVendorInRange pair.now.id }
 {
-    all || !pair.id.equals(MESSAGE_AUTHENTICATOR)
+    all || !pair.id.equals(MESSAGE_AUTHENTICATOR_ID)
 }
 
 // Adds the attributes that a pair is sent in, unless it is left out, or the octets become too many.

@@ -1,4 +1,5 @@
 use Rattle.std.proofs.Common.{sym}
+use Rattle.avp_dict.specs.AttributeNumbers.{message_authenticator}
 use Rattle.avp_packet.specs.AttributeOctets.{part}
 use Rattle.avp_packet.specs.Signed.{signatures}
 use Rattle.avp_packet.specs.Splitting.{parts}
@@ -9,7 +10,7 @@ pub returns-in-Some : goal.returns-in-Some
 returns-in-Some c =
     let f = c.in-Some.field-0 in
     let first = found_first c.args.attributes.now f.before.now f.value.now f.behind.now c.in-Some.ensures.octets c.in-Some.ensures.whole c.in-Some.ensures.first in
-    sym (any_found (parts c.args.attributes.now) (signatures (parts f.behind.now)) (part 80 f.value.now) first)
+    sym (any_found (parts c.args.attributes.now) (signatures (parts f.behind.now)) (part message_authenticator f.value.now) first)
 
 pub returns-in-None : goal.returns-in-None
 returns-in-None c = sym (any_none (parts c.args.attributes.now) c.in-None.ensures.none)

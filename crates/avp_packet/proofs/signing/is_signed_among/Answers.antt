@@ -1,6 +1,7 @@
 use Rattle.std.proofs.Common.{◌≡◌, ◌++◌, [], ℕ, List, true, refl, sym, ap, ◌∙◌}
 use Rattle.std.specs.List.{list_any}
 use Rattle.std.specs.Str.{bytes_eq}
+use Rattle.avp_dict.specs.AttributeNumbers.{message_authenticator}
 use Rattle.avp_packet.specs.AttributeOctets.{part}
 use Rattle.avp_packet.specs.Hmac.{hmac}
 use Rattle.avp_packet.specs.Packets.{zeros}
@@ -14,7 +15,7 @@ returns-then-has_signature c =
     let f = c.in-Some.found in
     let more : list_any is_signature (parts f.behind.now) ≡ true = sym c.has_signature.ensures ∙ c.if-has_signature.true in
     let first = found_first c.args.attributes.now f.before.now f.value.now f.behind.now c.in-Some.ensures.octets c.in-Some.ensures.whole c.in-Some.ensures.first in
-    rw first (sym (not_only _ (part 80 f.value.now) (parts f.behind.now) more))
+    rw first (sym (not_only _ (part message_authenticator f.value.now) (parts f.behind.now) more))
 
 pub returns : goal.returns
 returns c =
@@ -23,5 +24,5 @@ returns c =
     let first = found_first c.args.attributes.now f.before.now f.value.now f.behind.now c.in-Some.ensures.octets c.in-Some.ensures.whole c.in-Some.ensures.first in
     let text = blanked_text c.args.attributes.now f.before.now f.value.now f.behind.now c.in-Some.ensures.octets c.in-Some.ensures.whole c.in-Some.ensures.first c.requires none in
     let head : List ℕ = c.args.head.now ++ c.args.authenticator.now in
-    c.are_equal.ensures ∙ ap (bytes_eq f.value.now) (c.signature_between-digest.ensures ∙ ap (hmac c.args.secret.now) (regrouped head f.before.now (part_octets (part 80 zeros)) f.behind.now))
+    c.are_equal.ensures ∙ ap (bytes_eq f.value.now) (c.signature_between-digest.ensures ∙ ap (hmac c.args.secret.now) (regrouped head f.before.now (part_octets (part message_authenticator zeros)) f.behind.now))
     ∙ rw (first, none, text) refl

@@ -1,49 +1,34 @@
-use Rattle.std.proofs.Common.{◌≡◌, ◌∙◌, ◌++◌, ◌∷◌, [], List, Option, Some, None, drop, sym, ap}
+use Rattle.std.proofs.Common.{◌∙◌, ◌++◌, ◌∷◌, [], List, Option, drop, sym, ap}
 use Rattle.std.specs.Option.{option_map}
 use Rattle.avp_packet.specs.AttributeOctets.{part}
-use Rattle.avp_packet.specs.Meanings.{Run, extended_type, first_run, long_pair, others_in, run}
+use Rattle.avp_packet.specs.Meanings.{Run, extended_type, long_pair, others_in}
 use Rattle.avp_packet.specs.Splitting.{Part, parts}
 use Rattle.avp_packet.specs.internal.Views.{run_view}
-use Rattle.avp_packet.proofs.PieceRuns.{run_rest}
-use Rattle.avp_packet.proofs.Splits.{parts-octets}
+use Rattle.avp_packet.proofs.PieceRuns.{first_run_in, run_rest}
 use Rattle.avp_packet.proofs.decoding.pairs.push_long.Goals as goal
 
 pub returns-in_ok-push_joined-in-Some-clause-pair : goal.returns-in_ok-push_joined-in-Some-clause-pair
 returns-in_ok-push_joined-in-Some-clause-pair c =
     let f = c.args.front in
     let p : Part = part f.number f.value.now in
-    let ps : List Part = parts f.rest.now in
-    let split = ap parts c.requires.front ∙ parts-octets p f.rest.now in
-    let number = c.extended_type_of-number.result in
-    let same : number ≡ extended_type p = c.extended_type_of-number.ensures in
-    let found : first_run p ps ≡ Some (run_view c.in-Some.joined) =
-    ap (λ n. run f.number n (p ∷ ps)) (sym same) ∙ ap (run f.number number) (sym split) ∙ sym c.in_ok-joined.ensures.run ∙ ap (option_map run_view) c.in-Some.is in
+    let found = first_run_in c.args.octets.now f.rest.now p c.extended_type_of-number.result c.requires.front c.extended_type_of-number.ensures ∙ sym c.in_ok-joined.ensures.run ∙ ap (option_map run_view) c.in-Some.is in
     let long = λ (o : Option Run). long_pair c.args.dictionary.now c.args.secret.now c.args.authenticator.now p o in
     c.in_ok-push_joined-in-Some.ensures
-    ∙ rw same (ap (λ (o : Option Run). c.args.pairs.now.items ++ long o ∷ []) (sym found))
+    ∙ rw c.extended_type_of-number.ensures (ap (λ (o : Option Run). c.args.pairs.now.items ++ long o ∷ []) (sym found))
 
 pub returns-in_ok-push_joined-in-Some-clause-rest : goal.returns-in_ok-push_joined-in-Some-clause-rest
 returns-in_ok-push_joined-in-Some-clause-rest c =
     let f = c.args.front in
     let p : Part = part f.number f.value.now in
     let ps : List Part = parts f.rest.now in
-    let split = ap parts c.requires.front ∙ parts-octets p f.rest.now in
-    let number = c.extended_type_of-number.result in
-    let same : number ≡ extended_type p = c.extended_type_of-number.ensures in
-    let found : first_run p ps ≡ Some (run_view c.in-Some.joined) =
-    ap (λ n. run f.number n (p ∷ ps)) (sym same) ∙ ap (run f.number number) (sym split) ∙ sym c.in_ok-joined.ensures.run ∙ ap (option_map run_view) c.in-Some.is in
+    let found = first_run_in c.args.octets.now f.rest.now p c.extended_type_of-number.result c.requires.front c.extended_type_of-number.ensures ∙ sym c.in_ok-joined.ensures.run ∙ ap (option_map run_view) c.in-Some.is in
     run_rest f.number (extended_type p) p ps (run_view c.in-Some.joined) found ∙ ap (λ (o : Option Run). drop (others_in ps o) ps) (sym found)
 
 pub returns-in_ok-push_raw-in-None-clause-pair : goal.returns-in_ok-push_raw-in-None-clause-pair
 returns-in_ok-push_raw-in-None-clause-pair c =
     let f = c.args.front in
     let p : Part = part f.number f.value.now in
-    let ps : List Part = parts f.rest.now in
-    let split = ap parts c.requires.front ∙ parts-octets p f.rest.now in
-    let number = c.extended_type_of-number.result in
-    let same : number ≡ extended_type p = c.extended_type_of-number.ensures in
-    let found : first_run p ps ≡ None =
-    ap (λ n. run f.number n (p ∷ ps)) (sym same) ∙ ap (run f.number number) (sym split) ∙ sym c.in_ok-joined.ensures.run ∙ ap (option_map run_view) c.in-None.is in
+    let found = first_run_in c.args.octets.now f.rest.now p c.extended_type_of-number.result c.requires.front c.extended_type_of-number.ensures ∙ sym c.in_ok-joined.ensures.run ∙ ap (option_map run_view) c.in-None.is in
     c.in_ok-push_raw-in-None.ensures
     ∙ ap (λ (o : Option Run). c.args.pairs.now.items ++ long_pair c.args.dictionary.now c.args.secret.now c.args.authenticator.now p o ∷ []) (sym found)
 
@@ -52,9 +37,5 @@ returns-in_ok-push_raw-in-None-clause-rest c =
     let f = c.args.front in
     let p : Part = part f.number f.value.now in
     let ps : List Part = parts f.rest.now in
-    let split = ap parts c.requires.front ∙ parts-octets p f.rest.now in
-    let number = c.extended_type_of-number.result in
-    let same : number ≡ extended_type p = c.extended_type_of-number.ensures in
-    let found : first_run p ps ≡ None =
-    ap (λ n. run f.number n (p ∷ ps)) (sym same) ∙ ap (run f.number number) (sym split) ∙ sym c.in_ok-joined.ensures.run ∙ ap (option_map run_view) c.in-None.is in
+    let found = first_run_in c.args.octets.now f.rest.now p c.extended_type_of-number.result c.requires.front c.extended_type_of-number.ensures ∙ sym c.in_ok-joined.ensures.run ∙ ap (option_map run_view) c.in-None.is in
     ap (λ (o : Option Run). drop (others_in ps o) ps) (sym found)

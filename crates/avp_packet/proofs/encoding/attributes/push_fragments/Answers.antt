@@ -2,6 +2,7 @@ use Rattle.std.proofs.Common.{append_assoc, ◌-◌, ◌/◌, length, arith, tak
 use Rattle.std.specs.List.{flat_map}
 use Rattle.avp_packet.specs.AttributeOctets.{fragments, part}
 use Rattle.avp_packet.specs.Splitting.{part_octets}
+use Rattle.avp_packet.specs.ExtendedTypes.{piece_octets, more_flag}
 use Rattle.avp_packet.proofs.Written.{pieces_last, pieces_more}
 use Rattle.avp_packet.proofs.encoding.attributes.push_fragments.Goals as goal
 
@@ -15,7 +16,7 @@ loop-rest-preserved c =
       c.split_at.ensures.front,
       c.split_at.ensures.back,
       pieces_more c.args.t c.args.number rest (omega arith),
-      append_assoc c.loop-rest.octets.items (part_octets (part c.args.t (c.args.number ∷ 128 ∷ take 251 rest))) (flat_map part_octets (fragments ((length after - 1) / 251) c.args.t c.args.number after)),
+      append_assoc c.loop-rest.octets.items (part_octets (part c.args.t (c.args.number ∷ more_flag ∷ take piece_octets rest))) (flat_map part_octets (fragments ((length after - 1) / piece_octets) c.args.t c.args.number after)),
     )
 
 pub returns : goal.returns

@@ -29,8 +29,4 @@ returns-then-is_empty-clause-end c =
     items-empty s.offset (drop s.offset s.octets.now) (sym same ∙ empty)
 
 pub returns-then-is_empty-clause-ended : goal.returns-then-is_empty-clause-ended
-returns-then-is_empty-clause-ended c =
-    let s = c.args.self.now in
-    let same = ap length c.rest-rest.ensures in
-    let empty : length c.rest-rest.result.now ≡ 0 = grind (arith, common_steps) in
-    items-empty s.offset (drop s.offset s.octets.now) (sym same ∙ empty)
+returns-then-is_empty-clause-ended c = returns-then-is_empty-clause-end c
