@@ -36,9 +36,9 @@ is_wrongly_signed os secret = (code_of os == access_request)
 abbrev pub request_read : Dictionary → List ℕ → List ℕ → Result Packet PacketFault
 request_read dictionary secret os =
     if not ((code_of os == access_request) || (code_of os == accounting_request)) then Err CodeNotTaken
-    else (if (code_of os == accounting_request) && not (is_accounting_request os secret) then Err WrongAuthenticator
-    else (if is_wrongly_signed os secret then Err WrongMessageAuthenticator
-    else Ok (packet_read dictionary secret os)))
+    else if (code_of os == accounting_request) && not (is_accounting_request os secret) then Err WrongAuthenticator
+    else if is_wrongly_signed os secret then Err WrongMessageAuthenticator
+    else Ok (packet_read dictionary secret os)
 
 -- what is left of attributes that end here begins with the first that is not whole
 abbrev pub unless_left : ℕ → List ℕ → Result Packet PacketFault → Result Packet PacketFault
@@ -53,6 +53,6 @@ unless_bad attributes read = unless_left (20 + length attributes) (left attribut
 unfoldable pub decoded : Dictionary → List ℕ → List ℕ → Result Packet PacketFault
 decoded dictionary secret os =
     if nat_lt (length os) 20 then Err TooShort
-    else (if not (is_packet_length (length_of os)) then Err LengthOutOfRange
-    else (if nat_lt (length os) (length_of os) then Err CutShort
-    else unless_bad (attributes_of os) (request_read dictionary secret os)))
+    else if not (is_packet_length (length_of os)) then Err LengthOutOfRange
+    else if nat_lt (length os) (length_of os) then Err CutShort
+    else unless_bad (attributes_of os) (request_read dictionary secret os)

@@ -7,6 +7,7 @@ pub mod Hmac
 pub mod Meanings
 pub mod Means
 pub mod Outcomes
+pub mod PacketMeaning
 pub mod Packets
 pub mod Sending
 pub mod Signed

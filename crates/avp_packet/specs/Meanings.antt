@@ -158,11 +158,11 @@ abbrev pub first_pairs : Dictionary → List ℕ → List ℕ → Part → List 
 first_pairs dictionary secret authenticator part parts =
     if part.number == vendor_specific
     then vendor_pairs dictionary secret authenticator part (vendor_subs dictionary part.value)
-    else (if holds_one part.number
+    else if holds_one part.number
     then extended_pair dictionary secret authenticator part ∷ []
-    else (if holds_long part.number
+    else if holds_long part.number
     then long_pair dictionary secret authenticator part (first_run part parts) ∷ []
-    else (pair_meant dictionary secret authenticator (Plain part.number) part.value ∷ [])))
+    else (pair_meant dictionary secret authenticator (Plain part.number) part.value ∷ [])
 
 -- how many of the attributes behind the first its value goes on in
 abbrev pub others_in : List Part → Option Run → ℕ

@@ -1,5 +1,5 @@
 -- Packets and the digests in them (RFC 2865, section 3; RFC 2866, section 3; RFC 3579, section 3.2).
-use Rattle.std.specs.Prelude.{◌≡◌, ◌⊎◌, ℕ, ◌+◌, Bool, ◌&&◌, ◌||◌, ◌==◌, nat_le, if◌then◌else◌, List, [], ◌∷◌, ◌++◌, length, take, drop, slice_index, replicate}
+use Rattle.std.specs.Prelude.{◌≡◌, ◌⊎◌, ℕ, ◌+◌, ◌<◌, ◌≤◌, Bool, ◌&&◌, ◌||◌, ◌==◌, nat_le, if◌then◌else◌, List, [], ◌∷◌, ◌++◌, length, take, drop, slice_index, replicate}
 use Rattle.std.specs.Int.{to_be_bytes, w16}
 use Rattle.std.specs.Int.Digits.{number_from_digits}
 use Rattle.std.specs.List.{flat_map}
@@ -139,8 +139,20 @@ max_packet_octets = 4096
 abbrev pub is_packet_length : ℕ → Bool
 is_packet_length n = nat_le 20 n && nat_le n max_packet_octets
 
+-- no longer than a packet may be
+abbrev pub IsShort : List ℕ → Type 0
+IsShort os = length os ≤ max_packet_octets
+
+abbrev pub IsTooLong : List ℕ → Type 0
+IsTooLong os = max_packet_octets < length os
+
+-- octets begin with a packet: its head, and a Length in range that they reach
+abbrev pub begins_packet : List ℕ → Bool
+begins_packet os =
+    nat_le 20 (length os) && is_packet_length (length_of os) && nat_le (length_of os) (length os)
+
 -- a reply by its Response Authenticator, to a request with this authenticator; octets past Length are not looked at
 unfoldable pub is_reply : List ℕ → List ℕ → List ℕ → Bool
 is_reply os authenticator secret =
-    nat_le 20 (length os) && is_packet_length (length_of os) && nat_le (length_of os) (length os)
+    begins_packet os
     && bytes_eq (authenticator_of os) (md5 (take 4 os ++ authenticator ++ attributes_of os ++ secret))

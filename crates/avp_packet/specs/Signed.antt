@@ -1,10 +1,10 @@
 -- A packet that is signed by its Message-Authenticator (RFC 3579, section 3.2).
-use Rattle.std.specs.Prelude.{ℕ, Bool, false, ◌&&◌, ◌==◌, nat_le, if◌then◌else◌, List, [], ◌∷◌, ◌++◌, length, take, map, filter}
+use Rattle.std.specs.Prelude.{ℕ, Bool, false, ◌&&◌, ◌==◌, if◌then◌else◌, List, [], ◌∷◌, ◌++◌, length, take, map, filter}
 use Rattle.std.specs.List.{flat_map}
 use Rattle.std.specs.Str.{bytes_eq}
 use Rattle.avp_dict.specs.AttributeNumbers.{message_authenticator}
 use Rattle.avp_packet.specs.Hmac.{hmac}
-use Rattle.avp_packet.specs.Packets.{attributes_of, is_packet_length, length_of, zeros}
+use Rattle.avp_packet.specs.Packets.{attributes_of, begins_packet, zeros}
 use Rattle.avp_packet.specs.Splitting.{Part, left, part_octets, parts}
 
 abbrev pub is_signature : Part → Bool
@@ -28,9 +28,9 @@ abbrev pub is_only : List ℕ → List Part → Bool
 is_only digest (part ∷ []) = bytes_eq part.value digest
 is_only digest _ = false
 
--- a Length of 20 to 4096 that the octets reach, whole attributes, and among them one Message-Authenticator, the digest under the secret; octets past Length are not looked at
+-- a packet of whole attributes, and among them one Message-Authenticator, the digest under the secret; octets past Length are not looked at
 unfoldable pub is_signed : List ℕ → List ℕ → List ℕ → Bool
 is_signed os authenticator secret =
-    nat_le 20 (length os) && is_packet_length (length_of os) && nat_le (length_of os) (length os)
+    begins_packet os
     && (length (left (attributes_of os)) == 0)
     && is_only (hmac secret (signed_text os authenticator)) (signatures (parts (attributes_of os)))

@@ -21,6 +21,13 @@ abbrev pub begins_whole : List ℕ → Bool
 begins_whole (t ∷ n ∷ os) = is_whole_attribute n os
 begins_whole _ = false
 
+-- octets are these attributes, whole and one after the other, and then what does not begin with a whole attribute
+pub record IsSplit (os : List ℕ) (attributes : List Part) (rest : List ℕ) : Type 0 where
+  pub whole : os ≡ flat_map part_octets attributes ++ rest
+  pub ends : begins_whole rest ≡ false
+
+-- ---- the attributes and the rest
+
 -- the whole attributes of the octets behind the first so many
 unfoldable pub parts_behind : ℕ → List ℕ → List Part
 parts_behind (suc k) (o ∷ os) = parts_behind k os
@@ -41,11 +48,6 @@ parts os = parts_behind 0 os
 -- what is behind them
 abbrev pub left : List ℕ → List ℕ
 left os = left_behind 0 os
-
--- octets are these attributes, whole and one after the other, and then what does not begin with a whole attribute
-pub record IsSplit (os : List ℕ) (attributes : List Part) (rest : List ℕ) : Type 0 where
-  pub whole : os ≡ flat_map part_octets attributes ++ rest
-  pub ends : begins_whole rest ≡ false
 
 -- ---- attributes where they are
 

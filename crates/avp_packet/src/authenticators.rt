@@ -1,11 +1,11 @@
 //! The digests in authenticators (RFC 2865, section 3; RFC 2866, section 3).
 
-ghost use Rattle.std.specs.Prelude.{◌≡◌, ◌≤◌, ◌<◌, ◌+◌, ◌∷◌, ◌++◌, length, take, drop};
+ghost use Rattle.std.specs.Prelude.{◌≡◌, ◌≤◌, ◌<◌, ◌+◌, ◌∷◌, ◌++◌, true, false, length, take, drop, IfSome, IfNone};
 ghost use Rattle.std.specs.Int.{to_be_bytes, w16};
 ghost use Rattle.std.specs.Str.{bytes_eq};
 ghost use Rattle.md5.specs.Md5.{md5};
 ghost use Rattle.avp_packet.specs.Decoded.{is_accounting_request};
-ghost use Rattle.avp_packet.specs.Packets.{authenticator_of, digest_over, is_packet_length, is_reply, length_of, zeros};
+ghost use Rattle.avp_packet.specs.Packets.{authenticator_of, begins_packet, digest_over, is_packet_length, is_reply, length_of, zeros};
 
 use crate::hiding::BLOCK_OCTETS;
 use md5::{Digest, Md5};
@@ -34,6 +34,25 @@ pub(crate) fn length_of(octets: &[u8]) -> usize
     ensures { result ≡ length_of octets.now }
 {
     usize::from(u16::from_be_bytes([octets[2], octets[3]]))
+}
+
+/// The Length of a packet that octets begin with.
+pub(crate) fn packet_length(octets: &[u8]) -> Option<usize>
+    ensures length { IfSome result (λ end. end ≡ length_of octets.now) }
+    ensures head { IfSome result (λ end. PACKET_HEAD_OCTETS ≤ end) }
+    ensures whole { IfSome result (λ end. end ≤ length octets.now) }
+    ensures begins { IfSome result (λ end. begins_packet octets.now ≡ true) }
+    ensures none { IfNone result (begins_packet octets.now ≡ false) }
+{
+    if octets.len() < PACKET_HEAD_OCTETS {
+        return None;
+    }
+    let length = length_of(octets);
+    if is_packet_length(length) && length <= octets.len() {
+        Some(length)
+    } else {
+        None
+    }
 }
 
 fn digest_of_four(first: &[u8], second: &[u8], third: &[u8], fourth: &[u8]) -> [u8; 16]
@@ -76,7 +95,8 @@ pub(crate) fn are_equal(octets: &[u8], others: &[u8]) -> bool
 fn has_digest(octets: &[u8], end: usize, authenticator: &[u8; 16], secret: &[u8]) -> bool
     requires head { PACKET_HEAD_OCTETS ≤ end }
     requires whole { end ≤ length octets.now }
-    ensures { result ≡ bytes_eq (authenticator_of octets.now) (md5 (take 4 octets.now ++ authenticator.now ++ drop 20 (take end octets.now) ++ secret.now)) }
+    ensures { result ≡ bytes_eq (authenticator_of octets.now)
+        (md5 (take 4 octets.now ++ authenticator.now ++ drop 20 (take end octets.now) ++ secret.now)) }
 {
     let digest = digest_of_four(
         &octets[..AUTHENTICATOR_PLACE],
@@ -103,13 +123,9 @@ pub fn check_reply(reply: &[u8], request_authenticator: &[u8; 16], secret: &[u8]
     requires { 0 < length secret.now }
     ensures { result ≡ is_reply reply.now request_authenticator.now secret.now }
 {
-    if reply.len() < PACKET_HEAD_OCTETS {
+    let Some(length) = packet_length(reply) else {
         return false;
-    }
-    let length = length_of(reply);
-    if !is_packet_length(length) || length > reply.len() {
-        return false;
-    }
+    };
     has_digest(reply, length, request_authenticator, secret)
 }
 

@@ -10,9 +10,7 @@ ghost use Rattle.avp_packet.specs.Splitting.{left, part_octets, parts};
 use crate::attribute::numbers::MESSAGE_AUTHENTICATOR;
 use crate::attribute::splitting::first_attribute;
 use crate::attribute::walking::count_attributes;
-use crate::authenticators::{
-    AUTHENTICATOR_PLACE, PACKET_HEAD_OCTETS, are_equal, attributes_in, is_packet_length, length_of,
-};
+use crate::authenticators::{AUTHENTICATOR_PLACE, are_equal, attributes_in, packet_length};
 use crate::hmac::signature_between;
 
 // A Message-Authenticator's value, and the octets before and behind the attribute.
@@ -77,13 +75,9 @@ pub fn check_message(octets: &[u8], authenticator: &[u8; 16], secret: &[u8]) -> 
     requires { 0 < length secret.now }
     ensures { result ≡ is_signed octets.now authenticator.now secret.now }
 {
-    if octets.len() < PACKET_HEAD_OCTETS {
+    let Some(length) = packet_length(octets) else {
         return false;
-    }
-    let length = length_of(octets);
-    if !is_packet_length(length) || length > octets.len() {
-        return false;
-    }
+    };
     let attributes = attributes_in(octets, length);
     if count_attributes(attributes).is_err() {
         return false;

@@ -5,8 +5,8 @@ ghost use Rattle.avp_lists.specs.declared.pairs.Pair.{Pair};
 ghost use Rattle.avp_lists.specs.States.{max_pairs};
 ghost use Rattle.avp_dict.specs.Limits.{fits};
 ghost use Rattle.avp_packet.specs.Meanings.{attribute_pairs};
-ghost use Rattle.avp_packet.specs.Means.{Means};
 ghost use Rattle.avp_packet.specs.Outcomes.{Gives};
+ghost use Rattle.avp_packet.specs.PacketMeaning.{OctetsMean};
 ghost use Rattle.avp_packet.specs.CanonicalOrContainer.{IsCanonicalOrContainer};
 ghost use Rattle.avp_packet.specs.Decoded.{decoded, is_wrongly_signed, packet_read, request_read};
 ghost use Rattle.avp_packet.specs.Packets.{IsRequestCode, attributes_of, authenticator_of, hiding_authenticator, length_of};
@@ -129,8 +129,11 @@ pub fn decode(
     ensures own { IfOk result (λ packet. All (IsCanonicalOrContainer dictionary.now) packet.list) }
 
     // The list is the one that the attributes mean.
-    ensures means { IfOk result (λ packet. Means dictionary.now secret.now (hiding_authenticator packet.code packet.authenticator) (parts (attributes_of octets.now)) packet.list) }
-    ensures only { IfOk result (λ packet. (pairs : List Pair) → Means dictionary.now secret.now (hiding_authenticator packet.code packet.authenticator) (parts (attributes_of octets.now)) pairs → pairs ≡ packet.list) }
+    ensures means { IfOk result (λ packet. OctetsMean dictionary.now secret.now
+        packet.code packet.authenticator octets.now packet.list) }
+    ensures only { IfOk result (λ packet. (pairs : List Pair)
+        → OctetsMean dictionary.now secret.now packet.code packet.authenticator octets.now pairs
+        → pairs ≡ packet.list) }
     ensures read { Gives result (decoded dictionary.now secret.now octets.now) }
     ensures code { IfOk result (λ packet. IsRequestCode packet.code) }
     ensures few { IfOk result (λ packet. length packet.list ≤ max_pairs) }

@@ -6,8 +6,8 @@ ghost use Rattle.avp_dict.specs.AttributeNumbers.{proxy_state};
 ghost use Rattle.avp_dict.specs.Limits.{fits};
 ghost use Rattle.avp_dict.specs.Sent.{is_clean};
 ghost use Rattle.avp_packet.specs.Hmac.{hmac};
-ghost use Rattle.avp_packet.specs.Means.{Means};
-ghost use Rattle.avp_packet.specs.Packets.{IsReplyCode, IsRequestCode, attributes_of, authenticator_of, hiding_authenticator, is_reply, packet, pairs_meant, reply, reply_content, request, request_authenticator, request_content, request_kind, zeros};
+ghost use Rattle.avp_packet.specs.PacketMeaning.{OctetsMeanContent};
+ghost use Rattle.avp_packet.specs.Packets.{IsReplyCode, IsRequestCode, IsShort, IsTooLong, attributes_of, authenticator_of, hiding_authenticator, is_reply, packet, pairs_meant, reply, reply_content, request, request_authenticator, request_content, request_kind, zeros};
 ghost use Rattle.avp_packet.specs.Sending.{is_to_sign};
 ghost use Rattle.avp_packet.specs.Signed.{is_signed};
 ghost use Rattle.avp_packet.specs.Splitting.{left, parts};
@@ -150,15 +150,20 @@ pub fn encode_request(
     requires secret { 0 < length secret.now }
     requires code { IsRequestCode code }
     requires fits { All (λ pair. fits pair dictionary.now ≡ true) list.now }
-    ensures octets { IfOk result (λ octets. octets.items ≡ request dictionary.now secret.now code id authenticator.now list.now) }
-    ensures short { OnOk result (length (request dictionary.now secret.now code id authenticator.now list.now) ≤ MAX_PACKET_OCTETS) }
+    ensures octets { IfOk result (λ octets. octets.items
+        ≡ request dictionary.now secret.now code id authenticator.now list.now) }
+    ensures short { OnOk result (IsShort
+        (request dictionary.now secret.now code id authenticator.now list.now)) }
     // The attributes are whole, and what is written of a clean list means the pairs that are sent.
     ensures whole { IfOk result (λ octets. left (attributes_of octets.items) ≡ []) }
     ensures means { IfOk result (λ octets. is_clean list.now dictionary.now ≡ true
-        → Means dictionary.now secret.now (hiding_authenticator code authenticator.now) (parts (attributes_of octets.items)) (pairs_meant dictionary.now secret.now code id authenticator.now (request_content code list.now))) }
+        → OctetsMeanContent dictionary.now secret.now code id authenticator.now
+        (request_content code list.now) octets.items) }
     // An Access-Request is signed where its list has a Message-Authenticator.
-    ensures signed { IfOk result (λ octets. is_to_sign (request_kind code) list.now ≡ true → is_signed octets.items authenticator.now secret.now ≡ true) }
-    ensures too_long { result ≡ Err EncodeFault.TooLong → MAX_PACKET_OCTETS < length (request dictionary.now secret.now code id authenticator.now list.now) }
+    ensures signed { IfOk result (λ octets. is_to_sign (request_kind code) list.now ≡ true
+        → is_signed octets.items authenticator.now secret.now ≡ true) }
+    ensures too_long { result ≡ Err EncodeFault.TooLong → IsTooLong
+        (request dictionary.now secret.now code id authenticator.now list.now) }
 {
     dictionary.is_sound();
     let division = divide_request(code, list);
@@ -192,9 +197,12 @@ pub fn encoded_authenticator(
     requires secret { 0 < length secret.now }
     requires code { IsRequestCode code }
     requires fits { All (λ pair. fits pair dictionary.now ≡ true) list.now }
-    ensures authenticator { IfOk result (λ own. own ≡ authenticator_of (request dictionary.now secret.now code id authenticator.now list.now)) }
-    ensures short { OnOk result (length (request dictionary.now secret.now code id authenticator.now list.now) ≤ MAX_PACKET_OCTETS) }
-    ensures too_long { result ≡ Err EncodeFault.TooLong → MAX_PACKET_OCTETS < length (request dictionary.now secret.now code id authenticator.now list.now) }
+    ensures authenticator { IfOk result (λ own. own ≡ authenticator_of
+        (request dictionary.now secret.now code id authenticator.now list.now)) }
+    ensures short { OnOk result (IsShort
+        (request dictionary.now secret.now code id authenticator.now list.now)) }
+    ensures too_long { result ≡ Err EncodeFault.TooLong → IsTooLong
+        (request dictionary.now secret.now code id authenticator.now list.now) }
 {
     let division = divide_request(code, list);
     let attributes = signed_attributes(
@@ -232,18 +240,25 @@ pub fn encode_reply(
     requires proxies { All (λ pair. pair.id ≡ Plain proxy_state) proxy_states.now }
     // An Accounting-Response has no Message-Authenticator.
     requires signed { code ≡ ACCOUNTING_RESPONSE → signed ≡ false }
-    ensures octets { IfOk result (λ octets. octets.items ≡ reply dictionary.now secret.now code id request_authenticator.now signed list.now proxy_states.now) }
-    ensures short { OnOk result (length (reply dictionary.now secret.now code id request_authenticator.now signed list.now proxy_states.now) ≤ MAX_PACKET_OCTETS) }
+    ensures octets { IfOk result (λ octets. octets.items ≡ reply dictionary.now secret.now code id
+        request_authenticator.now signed list.now proxy_states.now) }
+    ensures short { OnOk result (IsShort (reply dictionary.now secret.now code id
+        request_authenticator.now signed list.now proxy_states.now)) }
 
     // The attributes are whole, and what is written of clean lists means the pairs that are sent.
     ensures whole { IfOk result (λ octets. left (attributes_of octets.items) ≡ []) }
-    ensures means { IfOk result (λ octets. is_clean list.now dictionary.now ≡ true → is_clean proxy_states.now dictionary.now ≡ true
-        → Means dictionary.now secret.now (hiding_authenticator code request_authenticator.now) (parts (attributes_of octets.items)) (pairs_meant dictionary.now secret.now code id request_authenticator.now (reply_content signed list.now proxy_states.now))) }
+    ensures means { IfOk result (λ octets.
+        is_clean list.now dictionary.now ≡ true → is_clean proxy_states.now dictionary.now ≡ true
+        → OctetsMeanContent dictionary.now secret.now code id request_authenticator.now
+        (reply_content signed list.now proxy_states.now) octets.items) }
 
     // `check_reply` accepts the packet, and `check_message` where `signed` is true.
-    ensures accepted { IfOk result (λ octets. is_reply octets.items request_authenticator.now secret.now ≡ true) }
-    ensures signed { IfOk result (λ octets. signed ≡ true → is_signed octets.items request_authenticator.now secret.now ≡ true) }
-    ensures too_long { result ≡ Err EncodeFault.TooLong → MAX_PACKET_OCTETS < length (reply dictionary.now secret.now code id request_authenticator.now signed list.now proxy_states.now) }
+    ensures accepted { IfOk result (λ octets.
+        is_reply octets.items request_authenticator.now secret.now ≡ true) }
+    ensures signed { IfOk result (λ octets. signed ≡ true
+        → is_signed octets.items request_authenticator.now secret.now ≡ true) }
+    ensures too_long { result ≡ Err EncodeFault.TooLong → IsTooLong (reply dictionary.now secret.now code id
+        request_authenticator.now signed list.now proxy_states.now) }
 {
     dictionary.is_sound();
     let division = divide_reply(signed, list);

@@ -1,0 +1,19 @@
+-- What the attributes of a packet's octets mean.
+use Rattle.std.specs.Prelude.{ℕ, List}
+use Rattle.avp_lists.specs.declared.pairs.Pair.{Pair}
+use Rattle.avp_dict.specs.Dictionary.{Dictionary}
+use Rattle.avp_packet.specs.Means.{Means}
+use Rattle.avp_packet.specs.Packets.{attributes_of, hiding_authenticator, pairs_meant}
+use Rattle.avp_packet.specs.Sending.{Content}
+use Rattle.avp_packet.specs.Splitting.{parts}
+
+-- the attributes of these octets mean the pairs, where the packet's code and authenticator tell what hides passwords
+abbrev pub OctetsMean : Dictionary → List ℕ → ℕ → List ℕ → List ℕ → List Pair → Type 0
+OctetsMean dictionary secret code authenticator os pairs =
+    Means dictionary secret (hiding_authenticator code authenticator) (parts (attributes_of os)) pairs
+
+-- they mean the pairs that a packet of this content sends
+abbrev pub OctetsMeanContent : Dictionary → List ℕ → ℕ → ℕ → List ℕ → Content → List ℕ → Type 0
+OctetsMeanContent dictionary secret code id authenticator content os =
+    OctetsMean dictionary secret code authenticator os
+    (pairs_meant dictionary secret code id authenticator content)
