@@ -1,6 +1,5 @@
 -- Attributes mean one list of pairs, which is the one that is read.
-use Rattle.std.proofs.Common.{◌≡◌, ◌∙◌, ℕ, zero, suc, ◌-◌, ◌<◌, Bool, true, false, ◌==◌, List, [], ◌∷◌, ◌++◌, length, drop, map, Option, Some, None, Result, Ok, Err, refl, sym, ap, subst, arith, inl, inr}
-use Rattle.std.specs.Prelude.{IfOk}
+use Rattle.std.proofs.Common.{◌≡◌, ◌∙◌, ℕ, zero, suc, ◌-◌, ◌<◌, Bool, true, false, ◌==◌, List, [], ◌∷◌, ◌++◌, length, drop, map, Option, Some, None, refl, sym, ap, subst, arith, inl, inr}
 use Rattle.std.proofs.lemmas.Grind.{common_steps}
 use Rattle.avp_lists.specs.declared.pairs.AttrId.TheVariants.{Plain, Extended}
 use Rattle.avp_lists.specs.declared.pairs.Pair.{Pair}
@@ -15,11 +14,6 @@ use Rattle.avp_packet.specs.ExtendedTypes.{long_extended_type_1, long_extended_t
 use Rattle.avp_packet.proofs.Means.{attribute_pairs-cons, attribute_pairs-nil}
 use Rattle.avp_packet.proofs.PieceRuns.{run_rest}
 use Rattle.avp_packet.proofs.Tests.{by_test}
-
--- what holds of a value that was returned, by what else holds of it
-pub ok_by : {X E : Type 0} (P Q : X → Type 0) (r : Result X E) → ((x : X) → P x → Q x) → IfOk r P → IfOk r Q
-ok_by P Q (Ok x) f h = f x h
-ok_by P Q (Err e) f h = tt
 
 -- what the tests of a type say
 record IsTested (t : ℕ) (vendor extended long : Bool) : Type 0 where

@@ -28,7 +28,9 @@ part number value = record { number = number; value = value }
 
 -- Vendor-Id, then the vendor's type, length, which counts both of them, and value
 abbrev pub vendor_value : ℕ → ℕ → List ℕ → Format → List ℕ
-vendor_value vendor number os f = bytes_high_first 4 vendor ++ bytes_high_first f.t number ++ bytes_high_first f.l (f.t + f.l + length os) ++ os
+vendor_value vendor number os f =
+    bytes_high_first 4 vendor ++ bytes_high_first f.t number
+    ++ bytes_high_first f.l (f.t + f.l + length os) ++ os
 
 abbrev pub vendor_part : ℕ → ℕ → List ℕ → Format → List Part
 vendor_part vendor number os f = part vendor_specific (vendor_value vendor number os f) ∷ []
@@ -37,7 +39,8 @@ vendor_part vendor number os f = part vendor_specific (vendor_value vendor numbe
 unfoldable pub fragments : ℕ → ℕ → ℕ → List ℕ → List Part
 fragments zero t number os = part t (number ∷ 0 ∷ os) ∷ []
 fragments (suc n) t number os =
-    part t (number ∷ more_flag ∷ take piece_octets os) ∷ fragments n t number (drop piece_octets os)
+    part t (number ∷ more_flag ∷ take piece_octets os)
+    ∷ fragments n t number (drop piece_octets os)
 
 -- of the types of extended attributes those from this one on hold long values
 abbrev pub is_long : ℕ → Bool

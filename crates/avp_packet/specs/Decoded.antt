@@ -14,7 +14,8 @@ use Rattle.avp_packet.specs.Splitting.{left, parts}
 
 -- the digest that the authenticator of an Accounting-Request has to be
 abbrev pub is_accounting_request : List ℕ → List ℕ → Bool
-is_accounting_request os secret = bytes_eq (authenticator_of os) (md5 (take 4 os ++ zeros ++ attributes_of os ++ secret))
+is_accounting_request os secret =
+    bytes_eq (authenticator_of os) (md5 (take 4 os ++ zeros ++ attributes_of os ++ secret))
 
 abbrev pub packet_read : Dictionary → List ℕ → List ℕ → Packet
 packet_read dictionary secret os = record {

@@ -27,12 +27,15 @@ hidden_blocks (suc n) secret before os =
 
 -- a password hidden; before the first block comes the authenticator
 unfoldable pub hidden : List ℕ → List ℕ → List ℕ → List ℕ
-hidden secret authenticator password = hidden_blocks (block_count (length password)) secret authenticator (padded password)
+hidden secret authenticator password =
+    hidden_blocks (block_count (length password)) secret authenticator (padded password)
 
 -- so many hidden blocks, shown
 unfoldable pub shown_blocks : ℕ → List ℕ → List ℕ → List ℕ → List ℕ
 shown_blocks zero secret before os = []
-shown_blocks (suc n) secret before os = masked (md5 (secret ++ before)) (take 16 os) ++ shown_blocks n secret (take 16 os) (drop 16 os)
+shown_blocks (suc n) secret before os =
+    masked (md5 (secret ++ before)) (take 16 os)
+    ++ shown_blocks n secret (take 16 os) (drop 16 os)
 
 -- octets without the NULs at their end
 unfoldable pub without_last_nuls : List ℕ → List ℕ
@@ -42,4 +45,6 @@ without_last_nuls (o ∷ os) = if list_all is_nul (o ∷ os) then [] else (o ∷
 -- hidden octets shown; none where their number is not 16, 32, .. 128
 unfoldable pub shown : List ℕ → List ℕ → List ℕ → Option (List ℕ)
 shown secret authenticator os =
-    if is_block_length (length os) then Some (without_last_nuls (shown_blocks (length os / 16) secret authenticator os)) else None
+    if is_block_length (length os)
+    then Some (without_last_nuls (shown_blocks (length os / 16) secret authenticator os))
+    else None

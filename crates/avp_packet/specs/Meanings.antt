@@ -50,22 +50,31 @@ sub_length f os = if f.l == 0 then length os else number_from_digits 256 (take f
 
 -- a vendor's attribute comes first: its length counts type and length, and does not run past the end
 abbrev pub begins_sub : Format → List ℕ → Bool
-begins_sub f os = nat_le (f.t + f.l) (length os) && nat_le (f.t + f.l) (sub_length f os) && nat_le (sub_length f os) (length os)
+begins_sub f os =
+    nat_le (f.t + f.l) (length os) && nat_le (f.t + f.l) (sub_length f os)
+    && nat_le (sub_length f os) (length os)
 
 abbrev pub first_sub : Format → List ℕ → Sub
-first_sub f os = record { number = number_from_digits 256 (take f.t os); value = take (sub_length f os - (f.t + f.l)) (drop (f.t + f.l) os) }
+first_sub f os = record {
+  number = number_from_digits 256 (take f.t os);
+  value = take (sub_length f os - (f.t + f.l)) (drop (f.t + f.l) os);
+}
 
 -- the vendor's attributes in the octets behind the first so many
 unfoldable pub subs_behind : Format → ℕ → List ℕ → List Sub
 subs_behind f k [] = []
 subs_behind f (suc k) (o ∷ os) = subs_behind f k os
-subs_behind f zero (o ∷ os) = if begins_sub f (o ∷ os) then (first_sub f (o ∷ os) ∷ subs_behind f (sub_length f (o ∷ os) - 1) os) else []
+subs_behind f zero (o ∷ os) =
+    if begins_sub f (o ∷ os)
+    then (first_sub f (o ∷ os) ∷ subs_behind f (sub_length f (o ∷ os) - 1) os)
+    else []
 
 -- the octets behind the first so many are whole attributes of the vendor
 unfoldable pub are_subs_behind : Format → ℕ → List ℕ → Bool
 are_subs_behind f k [] = true
 are_subs_behind f (suc k) (o ∷ os) = are_subs_behind f k os
-are_subs_behind f zero (o ∷ os) = begins_sub f (o ∷ os) && are_subs_behind f (sub_length f (o ∷ os) - 1) os
+are_subs_behind f zero (o ∷ os) =
+    begins_sub f (o ∷ os) && are_subs_behind f (sub_length f (o ∷ os) - 1) os
 
 abbrev pub subs : Format → List ℕ → List Sub
 subs f os = subs_behind f 0 os
@@ -113,7 +122,8 @@ pub record Piece : Type 0 where
   pub os : List ℕ
 
 abbrev pub piece_in : ℕ → List ℕ → Option Piece
-piece_in number (n ∷ flags ∷ o ∷ os) = if n == number then Some (record { more = nat_le more_flag flags; os = o ∷ os }) else None
+piece_in number (n ∷ flags ∷ o ∷ os) =
+    if n == number then Some (record { more = nat_le more_flag flags; os = o ∷ os }) else None
 piece_in number _ = None
 
 -- the piece in an attribute of this type and Extended-Type
@@ -131,13 +141,15 @@ joined os run = record { os = os ++ run.os; rest = run.rest }
 -- the last piece ends a run; any other one is full, and what follows it goes on
 abbrev pub run_with : Piece → List Part → Option Run → Option Run
 run_with piece parts following =
-    if piece.more then (if length piece.os == piece_octets then option_map (joined piece.os) following else None)
+    if piece.more
+    then (if length piece.os == piece_octets then option_map (joined piece.os) following else None)
     else Some (record { os = piece.os; rest = parts })
 
 -- the run of a type and an Extended-Type that attributes begin with
 unfoldable pub run : ℕ → ℕ → List Part → Option Run
 run t number [] = None
-run t number (part ∷ parts) = option_and_then (λ piece. run_with piece parts (run t number parts)) (piece_of t number part)
+run t number (part ∷ parts) =
+    option_and_then (λ piece. run_with piece parts (run t number parts)) (piece_of t number part)
 
 abbrev pub extended_type : Part → ℕ
 extended_type part = slice_index part.value 0

@@ -41,7 +41,8 @@ IsReplyCode code = (code ≡ access_accept) ⊎ ((code ≡ access_reject) ⊎ (c
 
 -- Code, Identifier, Length, which counts all, Authenticator and attributes
 unfoldable pub packet : ℕ → ℕ → List ℕ → List ℕ → List ℕ
-packet code id authenticator attributes = code ∷ id ∷ to_be_bytes w16 (20 + length attributes) ++ authenticator ++ attributes
+packet code id authenticator attributes =
+    code ∷ id ∷ to_be_bytes w16 (20 + length attributes) ++ authenticator ++ attributes
 
 abbrev pub zeros : List ℕ
 zeros = replicate 16 0
@@ -50,15 +51,20 @@ zeros = replicate 16 0
 
 -- the digest of a packet with these 16 octets as its authenticator, and of the secret
 unfoldable pub digest_over : ℕ → ℕ → List ℕ → List ℕ → List ℕ → List ℕ
-digest_over code id authenticator attributes secret = md5 (packet code id authenticator attributes ++ secret)
+digest_over code id authenticator attributes secret =
+    md5 (packet code id authenticator attributes ++ secret)
 
 -- an Access-Request has 16 octets of its own, an Accounting-Request the digest over zeros
 abbrev pub request_authenticator : ℕ → ℕ → List ℕ → List ℕ → List ℕ → List ℕ
-request_authenticator code id authenticator attributes secret = if code == accounting_request then digest_over code id zeros attributes secret else authenticator
+request_authenticator code id authenticator attributes secret =
+    if code == accounting_request
+    then digest_over code id zeros attributes secret
+    else authenticator
 
 -- what hides the first block: the Request Authenticator, and zeros in an Accounting-Request and its response
 abbrev pub hiding_authenticator : ℕ → List ℕ → List ℕ
-hiding_authenticator code authenticator = if (code == accounting_request) || (code == accounting_response) then zeros else authenticator
+hiding_authenticator code authenticator =
+    if (code == accounting_request) || (code == accounting_response) then zeros else authenticator
 
 -- ---- requests and replies
 

@@ -31,13 +31,17 @@ pub record IsSplit (os : List ℕ) (attributes : List Part) (rest : List ℕ) : 
 -- the whole attributes of the octets behind the first so many
 unfoldable pub parts_behind : ℕ → List ℕ → List Part
 parts_behind (suc k) (o ∷ os) = parts_behind k os
-parts_behind zero (t ∷ n ∷ os) = if is_whole_attribute n os then (record { number = t; value = take (n - 2) os } ∷ parts_behind (n - 2) os) else []
+parts_behind zero (t ∷ n ∷ os) =
+    if is_whole_attribute n os
+    then (record { number = t; value = take (n - 2) os } ∷ parts_behind (n - 2) os)
+    else []
 parts_behind _ _ = []
 
 -- what no whole attribute begins with, of the octets behind the first so many
 unfoldable pub left_behind : ℕ → List ℕ → List ℕ
 left_behind (suc k) (o ∷ os) = left_behind k os
-left_behind zero (t ∷ n ∷ os) = if is_whole_attribute n os then left_behind (n - 2) os else (t ∷ n ∷ os)
+left_behind zero (t ∷ n ∷ os) =
+    if is_whole_attribute n os then left_behind (n - 2) os else (t ∷ n ∷ os)
 left_behind zero (t ∷ []) = t ∷ []
 left_behind _ [] = []
 
@@ -63,7 +67,8 @@ placed part offset = record { number = part.number; value = part.value; offset =
 -- attributes one after the other, the first of them at this offset, and then what follows
 unfoldable pub placed_from : ℕ → List Part → List (Result Placed BadLength) → List (Result Placed BadLength)
 placed_from offset [] behind = behind
-placed_from offset (part ∷ parts) behind = Ok (placed part offset) ∷ placed_from (offset + (2 + length part.value)) parts behind
+placed_from offset (part ∷ parts) behind =
+    Ok (placed part offset) ∷ placed_from (offset + (2 + length part.value)) parts behind
 
 -- octets that are no whole attribute are a fault where they begin
 abbrev pub fault_in : ℕ → List ℕ → List (Result Placed BadLength)

@@ -60,7 +60,8 @@ fn hidden_blocks(
     authenticator: &[u8; 16],
     padded: &[u8],
 ) -> Result<Vec<u8>, AllocError>
-    ensures { IfOk result (λ octets. octets.items ≡ hidden_blocks (length padded.now / 16) secret.now authenticator.now padded.now) }
+    ensures { IfOk result (λ octets. octets.items
+        ≡ hidden_blocks (length padded.now / 16) secret.now authenticator.now padded.now) }
 {
     let mut octets = Vec::with_capacity(alloc, padded.len())?;
     let mut before = *authenticator;
@@ -79,7 +80,8 @@ fn shown_blocks(
     authenticator: &[u8; 16],
     hidden: &[u8],
 ) -> Result<Vec<u8>, AllocError>
-    ensures { IfOk result (λ octets. octets.items ≡ shown_blocks (length hidden.now / 16) secret.now authenticator.now hidden.now) }
+    ensures { IfOk result (λ octets. octets.items
+        ≡ shown_blocks (length hidden.now / 16) secret.now authenticator.now hidden.now) }
 {
     let mut octets = Vec::with_capacity(alloc, hidden.len())?;
     let mut before = *authenticator;
@@ -131,7 +133,8 @@ pub(crate) fn hidden(
     password: &[u8],
 ) -> Result<Vec<u8>, AllocError>
     requires { length password.now ≤ MAX_PASSWORD_OCTETS }
-    ensures { IfOk result (λ octets. octets.items ≡ hidden secret.now authenticator.now password.now) }
+    ensures { IfOk result (λ octets. octets.items
+        ≡ hidden secret.now authenticator.now password.now) }
 {
     let padded = padded(alloc, password)?;
     let octets = hidden_blocks(alloc, secret, authenticator, &padded)?;
@@ -146,12 +149,14 @@ pub fn hide(
     password: &[u8],
 ) -> Result<Vec<u8>, HideFault>
     requires { 0 < length secret.now }
-    ensures hidden { IfOk result (λ octets. octets.items ≡ hidden secret.now authenticator.now password.now) }
+    ensures hidden { IfOk result (λ octets. octets.items
+        ≡ hidden secret.now authenticator.now password.now) }
     ensures hideable { OnOk result (is_hideable password.now ≡ true) }
     ensures too_long { (result ≡ Err HideFault.TooLong) ↔ (is_hideable password.now ≡ false) }
 
     // What is hidden is shown again.
-    ensures shown { IfOk result (λ octets. shown secret.now authenticator.now octets.items ≡ Some password.now) }
+    ensures shown { IfOk result (λ octets. shown secret.now authenticator.now octets.items
+        ≡ Some password.now) }
 {
     if !is_hideable(password) {
         return Err(HideFault::TooLong);
@@ -168,7 +173,8 @@ pub fn unhide(
     hidden: &[u8],
 ) -> Result<Option<Vec<u8>>, AllocError>
     requires { 0 < length secret.now }
-    ensures { IfOk result (λ password. option_map (λ octets. octets.items) password ≡ shown secret.now authenticator.now hidden.now) }
+    ensures { IfOk result (λ password. option_map (λ octets. octets.items) password
+        ≡ shown secret.now authenticator.now hidden.now) }
 {
     if !is_block_length(hidden.len()) {
         return Ok(None);

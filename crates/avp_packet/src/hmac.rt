@@ -59,7 +59,8 @@ pub(crate) fn signature_between(
     before: &[u8],
     after: &[u8],
 ) -> [u8; 16]
-    ensures { result ≡ hmac secret.now (head.now ++ authenticator.now ++ before.now ++ part_octets (part MESSAGE_AUTHENTICATOR zeros) ++ after.now) }
+    ensures { result ≡ hmac secret.now (head.now ++ authenticator.now ++ before.now
+        ++ part_octets (part MESSAGE_AUTHENTICATOR zeros) ++ after.now) }
 {
     let key = key_block(secret);
     let mut inner = keyed_hasher(&INNER_PAD, &key);

@@ -1,6 +1,6 @@
 //! Packets that are signed by a Message-Authenticator (RFC 3579, section 3.2).
 
-ghost use Rattle.std.specs.Prelude.{◌≡◌, ◌≤◌, ◌<◌, ◌++◌, [], length, map, IfSome, IfNone};
+ghost use Rattle.std.specs.Prelude.{◌≡◌, ◌<◌, ◌++◌, [], length, map, IfSome, IfNone};
 ghost use Rattle.std.specs.List.{flat_map, list_any};
 ghost use Rattle.avp_packet.specs.AttributeOctets.{part};
 ghost use Rattle.avp_packet.specs.Hmac.{hmac};
@@ -23,7 +23,8 @@ struct Found<'a> {
 
 // The first Message-Authenticator among attributes.
 fn find_signature(octets: &[u8]) -> Option<Found<'_>>
-    ensures octets { IfSome result (λ f. octets.now ≡ f.before.now ++ part_octets (part MESSAGE_AUTHENTICATOR f.value.now) ++ f.behind.now) }
+    ensures octets { IfSome result (λ f. octets.now
+        ≡ f.before.now ++ part_octets (part MESSAGE_AUTHENTICATOR f.value.now) ++ f.behind.now) }
     ensures whole { IfSome result (λ f. left f.before.now ≡ []) }
     ensures first { IfSome result (λ f. signatures (parts f.before.now) ≡ []) }
     ensures none { IfNone result (signatures (parts octets.now) ≡ []) }
@@ -55,7 +56,9 @@ pub(crate) fn has_signature(attributes: &[u8]) -> bool
 // Whether there is one Message-Authenticator among whole attributes, and it is the digest of the packet.
 fn is_signed_among(head: &[u8], authenticator: &[u8; 16], attributes: &[u8], secret: &[u8]) -> bool
     requires { left attributes.now ≡ [] }
-    ensures { result ≡ is_only (hmac secret.now (head.now ++ authenticator.now ++ flat_map part_octets (map blanked (parts attributes.now)))) (signatures (parts attributes.now)) }
+    ensures { result ≡ is_only (hmac secret.now (head.now ++ authenticator.now
+        ++ flat_map part_octets (map blanked (parts attributes.now))))
+        (signatures (parts attributes.now)) }
 {
     let Some(found) = find_signature(attributes) else {
         return false;

@@ -29,7 +29,8 @@ pub record KeepsAll (q : Pair → Bool) (division : Division) : Type 0 where
 
 -- a Message-Authenticator of these octets, where there is one
 abbrev pub signature_if : Bool → List ℕ → List ℕ
-signature_if signed signature = if signed then part_octets (part message_authenticator signature) else []
+signature_if signed signature =
+    if signed then part_octets (part message_authenticator signature) else []
 
 abbrev pub place_if : Bool → ℕ → Option ℕ
 place_if signed place = if signed then Some place else None
@@ -45,7 +46,8 @@ divided_octets dictionary secret hide_by division proxy_states signature =
 -- attributes, with these octets as the Message-Authenticator at its place
 abbrev pub filled : List ℕ → Option ℕ → List ℕ → List ℕ
 filled os None signature = os
-filled os (Some place) signature = take place os ++ part_octets (part message_authenticator signature) ++ drop (place + 18) os
+filled os (Some place) signature =
+    take place os ++ part_octets (part message_authenticator signature) ++ drop (place + 18) os
 
 -- the place is one of a Message-Authenticator in so many octets
 abbrev pub IsPlace : ℕ → Option ℕ → Type 0

@@ -3,11 +3,16 @@ use Rattle.std.specs.Prelude.{List, drop, Result, Ok, Err}
 use Rattle.avp_packet.specs.declared.attribute.splitting.Attribute.{Attribute}
 use Rattle.avp_packet.specs.declared.attribute.splitting.Attributes.{Attributes}
 use Rattle.avp_packet.specs.declared.attribute.splitting.BadLength.{BadLength}
+use Rattle.avp_packet.specs.declared.attribute.splitting.Front.{Front}
 use Rattle.avp_packet.specs.declared.decoding.fragments.Joined.{Joined}
 use Rattle.avp_packet.specs.declared.decoding.fragments.Piece.{Piece}
 use Rattle.avp_packet.specs.declared.attribute.subattributes.Sub.{Sub}
+use Rattle.avp_packet.specs.AttributeOctets.{part}
 use Rattle.avp_packet.specs.Meanings as meanings
-use Rattle.avp_packet.specs.Splitting.{Placed, items_from, parts}
+use Rattle.avp_packet.specs.Splitting.{Part, Placed, items_from, parts}
+
+abbrev pub part_view : Front → Part
+part_view front = part front.number front.value.now
 
 abbrev pub item_view : Result Attribute BadLength → Result Placed BadLength
 item_view (Ok a) = Ok (record { number = a.number; value = a.value.now; offset = a.offset })

@@ -43,8 +43,10 @@ pub(crate) struct Front<'a> {
 }
 
 pub(crate) fn first_attribute(octets: &[u8]) -> Option<Front<'_>>
-    ensures octets { IfSome result (λ f. octets.now ≡ part_octets (part f.number f.value.now) ++ f.rest.now) }
-    ensures length { IfSome result (λ f. length octets.now ≡ 2 + length f.value.now + length f.rest.now) }
+    ensures octets { IfSome result (λ f. octets.now
+        ≡ part_octets (part f.number f.value.now) ++ f.rest.now) }
+    ensures length { IfSome result (λ f. length octets.now
+        ≡ 2 + length f.value.now + length f.rest.now) }
     ensures none { IfNone result (begins_whole octets.now ≡ false) }
 {
     match octets {
@@ -83,7 +85,8 @@ impl<'a> Attributes<'a> {
     }
 
     fn advance(&mut self) -> Option<Result<Attribute<'a>, BadLength>>
-        ensures some { IfSome result (λ item. items_left self.old ≡ item_view item ∷ items_left self.new) }
+        ensures some { IfSome result (λ item.
+            items_left self.old ≡ item_view item ∷ items_left self.new) }
         ensures end { IfNone result (items_left self.old ≡ []) }
         ensures ended { IfNone result (items_left self.new ≡ []) }
     {

@@ -1,10 +1,10 @@
 //! A vendor's own attributes (RFC 2865, section 5.26).
 
-ghost use Rattle.std.specs.Prelude.{◌≡◌, ◌≤◌, ◌<◌, ◌+◌, ◌++◌, true, false, Some, None, length, drop, map, OnOk, IfOk, IfSome, IfNone};
+ghost use Rattle.std.specs.Prelude.{◌≡◌, ◌≤◌, ◌<◌, ◌+◌, ◌++◌, true, false, Some, None, length, drop, map, OnOk, IfSome, IfNone};
 ghost use Rattle.std.specs.Int.Digits.{number_from_digits};
 ghost use Rattle.avp_dict.specs.Vendors.{is_format};
 ghost use Rattle.avp_packet.specs.AttributeOctets.{part};
-ghost use Rattle.avp_packet.specs.Meanings.{are_subs, are_subs_behind, begins_sub, first_sub, sub_length, sub_pair, subs, vendor_of, vendor_pairs, vendor_subs};
+ghost use Rattle.avp_packet.specs.Meanings.{are_subs_behind, begins_sub, first_sub, sub_length, sub_pair, subs, vendor_pairs, vendor_subs};
 ghost use Rattle.avp_packet.specs.internal.Views.{sub_view};
 
 use crate::attribute::formats::known_format;
@@ -57,7 +57,8 @@ fn first_sub(format: Format, octets: &[u8]) -> Option<Sub<'_>>
     requires { is_format format.t format.l ≡ true }
     ensures begins { IfSome result (λ sub. begins_sub format octets.now ≡ true) }
     ensures sub { IfSome result (λ sub. sub_view sub ≡ first_sub format octets.now) }
-    ensures rest { IfSome result (λ sub. sub.rest.now ≡ drop (sub_length format octets.now) octets.now) }
+    ensures rest { IfSome result (λ sub. sub.rest.now
+        ≡ drop (sub_length format octets.now) octets.now) }
     ensures none { IfNone result (begins_sub format octets.now ≡ false) }
 {
     let head = usize::from(format.t) + usize::from(format.l);
@@ -100,7 +101,8 @@ fn push_subs(
 ) -> Result<(), AllocError>
     requires secret { 0 < length secret.now }
     requires format { is_format format.t format.l ≡ true }
-    ensures { OnOk result (pairs.new.items ≡ pairs.old.items ++ map (sub_pair dictionary.now secret.now authenticator.now vendor) (subs format octets.now)) }
+    ensures { OnOk result (pairs.new.items ≡ pairs.old.items
+        ++ map (sub_pair dictionary.now secret.now authenticator.now vendor) (subs format octets.now)) }
 {
     let mut rest = octets;
     while let Some(sub) = first_sub(format, rest) {
@@ -120,7 +122,8 @@ fn push_subs(
 // The format of a vendor whose attributes are behind the Vendor-Id.
 #[tactic(auto, unfolding(crate::specs::Meanings::vendor_subs))]
 fn format_behind(dictionary: &Dictionary, value: &[u8]) -> Option<Format>
-    ensures known { IfSome result (λ f. vendor_subs dictionary.now value.now ≡ Some (subs f (drop 4 value.now))) }
+    ensures known { IfSome result (λ f. vendor_subs dictionary.now value.now
+        ≡ Some (subs f (drop 4 value.now))) }
     ensures format { IfSome result (λ f. is_format f.t f.l ≡ true) }
     ensures long { IfSome result (λ f. 4 ≤ length value.now) }
     ensures none { IfNone result (vendor_subs dictionary.now value.now ≡ None) }
@@ -147,7 +150,9 @@ pub(crate) fn push_vendor_pairs(
     value: &[u8],
 ) -> Result<(), AllocError>
     requires { 0 < length secret.now }
-    ensures { OnOk result (pairs.new.items ≡ pairs.old.items ++ vendor_pairs dictionary.now secret.now authenticator.now (part VENDOR_SPECIFIC value.now) (vendor_subs dictionary.now value.now)) }
+    ensures { OnOk result (pairs.new.items ≡ pairs.old.items
+        ++ vendor_pairs dictionary.now secret.now authenticator.now (part VENDOR_SPECIFIC value.now)
+        (vendor_subs dictionary.now value.now)) }
 {
     match format_behind(dictionary, value) {
         Some(format) => push_subs(

@@ -11,7 +11,8 @@ use crate::attribute::splitting::{Attributes, BadLength, first_attribute};
 pub fn attributes(octets: &[u8]) -> Attributes<'_>
     ensures items { items_left result ≡ items octets.now }
     ensures split { IsSplit octets.now (parts octets.now) (left octets.now) }
-    ensures only { (found : List Part) (rest : List ℕ) → IsSplit octets.now found rest → (found ≡ parts octets.now) × (rest ≡ left octets.now) }
+    ensures only { (found : List Part) (rest : List ℕ) → IsSplit octets.now found rest
+        → (found ≡ parts octets.now) × (rest ≡ left octets.now) }
 {
     Attributes::new(octets)
 }

@@ -3,7 +3,7 @@
 ghost use Rattle.std.specs.Prelude.{◌≡◌, ◌<◌, None, length, IfOk, IfSome, IfNone};
 ghost use Rattle.std.specs.Option.{option_map};
 ghost use Rattle.avp_packet.specs.AttributeOctets.{part};
-ghost use Rattle.avp_packet.specs.Meanings.{joined, piece_in, piece_of, run, run_with};
+ghost use Rattle.avp_packet.specs.Meanings.{joined, piece_of, run, run_with};
 ghost use Rattle.avp_packet.specs.Splitting.{parts};
 ghost use Rattle.avp_packet.specs.internal.Views.{piece_view, run_view};
 
@@ -27,7 +27,8 @@ pub(crate) struct Joined<'a> {
 }
 
 fn piece_in_attribute<'a>(t: u8, number: u8, front: &Front<'a>) -> Option<Piece<'a>>
-    ensures piece { option_map piece_view result ≡ piece_of t number (part front.now.number front.now.value.now) }
+    ensures piece { option_map piece_view result
+        ≡ piece_of t number (part front.now.number front.now.value.now) }
     ensures rest { IfSome result (λ piece. piece.rest.now ≡ front.now.rest.now) }
 {
     if front.number != t {
@@ -44,7 +45,8 @@ fn piece_in_attribute<'a>(t: u8, number: u8, front: &Front<'a>) -> Option<Piece<
 }
 
 fn next_piece(t: u8, number: u8, octets: &[u8]) -> Option<Piece<'_>>
-    ensures run { IfSome result (λ piece. run t number (parts octets.now) ≡ run_with (piece_view piece) (parts piece.rest.now) (run t number (parts piece.rest.now))) }
+    ensures run { IfSome result (λ piece. run t number (parts octets.now)
+        ≡ run_with (piece_view piece) (parts piece.rest.now) (run t number (parts piece.rest.now))) }
     ensures shorter { IfSome result (λ piece. length piece.rest.now < length octets.now) }
     ensures none { IfNone result (run t number (parts octets.now) ≡ None) }
 {
@@ -64,8 +66,10 @@ pub(crate) fn join_run(
     number: u8,
     octets: &[u8],
 ) -> Result<Option<Joined<'_>>, AllocError>
-    ensures run { IfOk result (λ joined. option_map run_view joined ≡ run t number (parts octets.now)) }
-    ensures shorter { IfOk result (λ joined. IfSome joined (λ j. length j.rest.now < length octets.now)) }
+    ensures run { IfOk result (λ joined. option_map run_view joined
+        ≡ run t number (parts octets.now)) }
+    ensures shorter { IfOk result (λ joined.
+        IfSome joined (λ j. length j.rest.now < length octets.now)) }
 {
     let mut joined = Vec::new(alloc);
     let mut rest = octets;

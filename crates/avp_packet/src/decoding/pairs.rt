@@ -2,10 +2,10 @@
 
 ghost use Rattle.std.specs.Prelude.{◌≡◌, ◌<◌, ◌≤◌, ◌∷◌, ◌++◌, [], true, length, drop, slice_index, All, IfOk, OnOk};
 ghost use Rattle.avp_dict.specs.Limits.{fits};
-ghost use Rattle.avp_packet.specs.AttributeOctets.{part};
 ghost use Rattle.avp_packet.specs.Meanings.{first_pairs, first_run, long_pair, attribute_pairs, others, others_in};
 ghost use Rattle.avp_packet.specs.CanonicalOrContainer.{IsCanonicalOrContainer};
 ghost use Rattle.avp_packet.specs.Splitting.{part_octets, parts};
+ghost use Rattle.avp_packet.specs.internal.Views.{part_view};
 
 use crate::attribute::numbers::{
     EXTENDED_TYPE_1, EXTENDED_TYPE_4, LONG_EXTENDED_TYPE_1, LONG_EXTENDED_TYPE_2, VENDOR_SPECIFIC,
@@ -40,9 +40,14 @@ fn push_long<'a>(
     front: Front<'a>,
 ) -> Result<&'a [u8], AllocError>
     requires secret { 0 < length secret.now }
-    requires front { octets.now ≡ part_octets (part front.number front.value.now) ++ front.rest.now }
-    ensures pair { OnOk result (pairs.new.items ≡ pairs.old.items ++ long_pair dictionary.now secret.now authenticator.now (part front.entry.number front.entry.value.now) (first_run (part front.entry.number front.entry.value.now) (parts front.entry.rest.now)) ∷ []) }
-    ensures rest { IfOk result (λ rest. parts rest.now ≡ drop (others_in (parts front.entry.rest.now) (first_run (part front.entry.number front.entry.value.now) (parts front.entry.rest.now))) (parts front.entry.rest.now)) }
+    requires front { octets.now ≡ part_octets (part_view front) ++ front.rest.now }
+    ensures pair { OnOk result (pairs.new.items ≡ pairs.old.items
+        ++ long_pair dictionary.now secret.now authenticator.now (part_view front.entry)
+        (first_run (part_view front.entry) (parts front.entry.rest.now)) ∷ []) }
+    ensures rest { IfOk result (λ rest. parts rest.now
+        ≡ drop (others_in (parts front.entry.rest.now)
+        (first_run (part_view front.entry) (parts front.entry.rest.now)))
+        (parts front.entry.rest.now)) }
     ensures shorter { IfOk result (λ rest. length rest.now < length octets.now) }
 {
     let number = extended_type_of(front.value);
@@ -69,9 +74,13 @@ fn push_first<'a>(
     front: Front<'a>,
 ) -> Result<&'a [u8], AllocError>
     requires secret { 0 < length secret.now }
-    requires front { octets.now ≡ part_octets (part front.number front.value.now) ++ front.rest.now }
-    ensures pairs { OnOk result (pairs.new.items ≡ pairs.old.items ++ first_pairs dictionary.now secret.now authenticator.now (part front.entry.number front.entry.value.now) (parts front.entry.rest.now)) }
-    ensures rest { IfOk result (λ rest. parts rest.now ≡ drop (others (part front.entry.number front.entry.value.now) (parts front.entry.rest.now)) (parts front.entry.rest.now)) }
+    requires front { octets.now ≡ part_octets (part_view front) ++ front.rest.now }
+    ensures pairs { OnOk result (pairs.new.items ≡ pairs.old.items
+        ++ first_pairs dictionary.now secret.now authenticator.now (part_view front.entry)
+        (parts front.entry.rest.now)) }
+    ensures rest { IfOk result (λ rest. parts rest.now
+        ≡ drop (others (part_view front.entry) (parts front.entry.rest.now))
+        (parts front.entry.rest.now)) }
     ensures shorter { IfOk result (λ rest. length rest.now < length octets.now) }
 {
     match front.number {
@@ -112,8 +121,10 @@ pub(crate) fn attribute_pairs(
 ) -> Result<Vec<Pair>, AllocError>
     requires secret { 0 < length secret.now }
     requires short { length octets.now ≤ MAX_ATTRIBUTE_OCTETS }
-    ensures pairs { IfOk result (λ pairs. pairs.items ≡ attribute_pairs dictionary.now secret.now authenticator.now (parts octets.now)) }
-    ensures fits { IfOk result (λ pairs. All (λ pair. fits pair dictionary.now ≡ true) pairs.items) }
+    ensures pairs { IfOk result (λ pairs. pairs.items
+        ≡ attribute_pairs dictionary.now secret.now authenticator.now (parts octets.now)) }
+    ensures fits { IfOk result (λ pairs.
+        All (λ pair. fits pair dictionary.now ≡ true) pairs.items) }
     ensures own { IfOk result (λ pairs. All (IsCanonicalOrContainer dictionary.now) pairs.items) }
 {
     dictionary.is_sound();

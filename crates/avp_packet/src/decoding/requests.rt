@@ -1,15 +1,16 @@
 //! Requests read (RFC 2865, section 3; RFC 2866, section 3).
 
-ghost use Rattle.std.specs.Prelude.{◌≡◌, ◌≤◌, ◌<◌, true, List, length, All, IfOk};
+ghost use Rattle.std.specs.Prelude.{◌≡◌, ◌≤◌, ◌<◌, true, List, length, All, IfOk, IfSome, IfNone, Ok, Err};
 ghost use Rattle.avp_lists.specs.declared.pairs.Pair.{Pair};
 ghost use Rattle.avp_lists.specs.States.{max_pairs};
+ghost use Rattle.avp_dict.specs.Dictionary.{Dictionary};
 ghost use Rattle.avp_dict.specs.Limits.{fits};
 ghost use Rattle.avp_packet.specs.Meanings.{attribute_pairs};
 ghost use Rattle.avp_packet.specs.Outcomes.{Gives};
 ghost use Rattle.avp_packet.specs.PacketMeaning.{OctetsMean};
 ghost use Rattle.avp_packet.specs.CanonicalOrContainer.{IsCanonicalOrContainer};
 ghost use Rattle.avp_packet.specs.Decoded.{decoded, is_wrongly_signed, packet_read, request_read};
-ghost use Rattle.avp_packet.specs.Packets.{IsRequestCode, attributes_of, authenticator_of, hiding_authenticator, length_of};
+ghost use Rattle.avp_packet.specs.Packets.{IsRequestCode, attributes_of, authenticator_of, code_of, hiding_authenticator, length_of};
 ghost use Rattle.avp_packet.specs.Splitting.{parts};
 
 use crate::attribute::walking::count_attributes;
@@ -47,10 +48,14 @@ fn read_packet(
     requires head { PACKET_HEAD_OCTETS ≤ length_of octets.now }
     requires whole { length_of octets.now ≤ length octets.now }
     requires short { length_of octets.now ≤ MAX_PACKET_OCTETS }
-    ensures fits { IfOk result (λ packet. All (λ pair. fits pair dictionary.now ≡ true) packet.list) }
+    ensures fits { IfOk result (λ packet.
+        All (λ pair. fits pair dictionary.now ≡ true) packet.list) }
     ensures own { IfOk result (λ packet. All (IsCanonicalOrContainer dictionary.now) packet.list) }
-    ensures means { IfOk result (λ packet. packet.list ≡ attribute_pairs dictionary.now secret.now (hiding_authenticator packet.code packet.authenticator) (parts (attributes_of octets.now))) }
-    ensures packet { IfOk result (λ packet. packet ≡ packet_read dictionary.now secret.now octets.now) }
+    ensures means { IfOk result (λ packet. packet.list
+        ≡ attribute_pairs dictionary.now secret.now
+        (hiding_authenticator packet.code packet.authenticator) (parts (attributes_of octets.now))) }
+    ensures packet { IfOk result (λ packet. packet
+        ≡ packet_read dictionary.now secret.now octets.now) }
     ensures few { IfOk result (λ packet. length packet.list ≤ length_of octets.now) }
 {
     let code = octets[0];
@@ -78,37 +83,27 @@ fn is_wrongly_signed(octets: &[u8], secret: &[u8]) -> bool
         && !check_message(octets, &copy_authenticator(octets), secret)
 }
 
-fn read_request(
-    alloc: Global,
-    dictionary: &Dictionary,
-    secret: &[u8],
-    octets: &[u8],
-    count: usize,
-) -> Result<Packet, PacketFault>
+// Why whole attributes are not taken as a request's, if they are not.
+fn refusal(octets: &[u8], secret: &[u8]) -> Option<PacketFault>
     requires secret { 0 < length secret.now }
     requires head { PACKET_HEAD_OCTETS ≤ length_of octets.now }
     requires whole { length_of octets.now ≤ length octets.now }
-    requires short { length_of octets.now ≤ MAX_PACKET_OCTETS }
-    ensures fits { IfOk result (λ packet. All (λ pair. fits pair dictionary.now ≡ true) packet.list) }
-    ensures own { IfOk result (λ packet. All (IsCanonicalOrContainer dictionary.now) packet.list) }
-    ensures means { IfOk result (λ packet. packet.list ≡ attribute_pairs dictionary.now secret.now (hiding_authenticator packet.code packet.authenticator) (parts (attributes_of octets.now))) }
-    ensures read { Gives result (request_read dictionary.now secret.now octets.now) }
-    ensures code { IfOk result (λ packet. IsRequestCode packet.code) }
-    ensures few { IfOk result (λ packet. length packet.list ≤ length_of octets.now) }
+    ensures some { IfSome result (λ fault. (dictionary : Dictionary)
+        → request_read dictionary secret.now octets.now ≡ Err fault) }
+    ensures none { IfNone result ((dictionary : Dictionary)
+        → request_read dictionary secret.now octets.now
+        ≡ Ok (packet_read dictionary secret.now octets.now)) }
+    ensures code { IfNone result (IsRequestCode (code_of octets.now)) }
 {
     let code = octets[0];
     if code != ACCESS_REQUEST && code != ACCOUNTING_REQUEST {
-        return Err(PacketFault::CodeNotTaken);
-    }
-    if code == ACCOUNTING_REQUEST && !is_accounting_request(octets, secret) {
-        return Err(PacketFault::WrongAuthenticator);
-    }
-    if is_wrongly_signed(octets, secret) {
-        return Err(PacketFault::WrongMessageAuthenticator);
-    }
-    match read_packet(alloc, dictionary, secret, octets, count) {
-        Ok(packet) => Ok(packet),
-        Err(_) => Err(PacketFault::Memory),
+        Some(PacketFault::CodeNotTaken)
+    } else if code == ACCOUNTING_REQUEST && !is_accounting_request(octets, secret) {
+        Some(PacketFault::WrongAuthenticator)
+    } else if is_wrongly_signed(octets, secret) {
+        Some(PacketFault::WrongMessageAuthenticator)
+    } else {
+        None
     }
 }
 
@@ -123,7 +118,8 @@ pub fn decode(
     octets: &[u8],
 ) -> Result<Packet, PacketFault>
     requires { 0 < length secret.now }
-    ensures fits { IfOk result (λ packet. All (λ pair. fits pair dictionary.now ≡ true) packet.list) }
+    ensures fits { IfOk result (λ packet.
+        All (λ pair. fits pair dictionary.now ≡ true) packet.list) }
 
     // Each pair's own octets stand for its value, but for an attribute that holds others and is not looked into.
     ensures own { IfOk result (λ packet. All (IsCanonicalOrContainer dictionary.now) packet.list) }
@@ -148,8 +144,12 @@ pub fn decode(
     if octets.len() < length {
         return Err(PacketFault::CutShort);
     }
-    match count_attributes(attributes_in(octets, length)) {
-        Ok(count) => read_request(alloc, dictionary, secret, octets, count),
-        Err(bad) => Err(PacketFault::BadAttribute(PACKET_HEAD_OCTETS + bad.offset)),
+    let count = match count_attributes(attributes_in(octets, length)) {
+        Ok(count) => count,
+        Err(bad) => return Err(PacketFault::BadAttribute(PACKET_HEAD_OCTETS + bad.offset)),
+    };
+    if let Some(fault) = refusal(octets, secret) {
+        return Err(fault);
     }
+    Ok(read_packet(alloc, dictionary, secret, octets, count)?)
 }

@@ -28,7 +28,8 @@ fn value_meant(
     octets: &[u8],
 ) -> Result<Value, AllocError>
     requires { 0 < length secret.now }
-    ensures { IfOk result (λ value. value ≡ value_meant dictionary.now secret.now authenticator.now id octets.now) }
+    ensures { IfOk result (λ value. value
+        ≡ value_meant dictionary.now secret.now authenticator.now id octets.now) }
 {
     if !is_hidden(dictionary, id) {
         return dictionary.value_of_bytes(alloc, id, octets);
@@ -49,7 +50,8 @@ fn keep_value(
     octets: Vec<u8>,
 ) -> Result<Value, AllocError>
     requires { 0 < length secret.now }
-    ensures { IfOk result (λ value. value ≡ value_meant dictionary.now secret.now authenticator.now id octets.items) }
+    ensures { IfOk result (λ value. value
+        ≡ value_meant dictionary.now secret.now authenticator.now id octets.items) }
 {
     if !is_hidden(dictionary, id) {
         return Ok(dictionary.value_of_vec(id, octets));
@@ -70,7 +72,8 @@ pub(crate) fn push_read(
     octets: &[u8],
 ) -> Result<(), AllocError>
     requires { 0 < length secret.now }
-    ensures { OnOk result (pairs.new.items ≡ pairs.old.items ++ pair_meant dictionary.now secret.now authenticator.now id octets.now ∷ []) }
+    ensures { OnOk result (pairs.new.items ≡ pairs.old.items
+        ++ pair_meant dictionary.now secret.now authenticator.now id octets.now ∷ []) }
 {
     let value = value_meant(
         *pairs.allocator(),
@@ -94,7 +97,8 @@ pub(crate) fn push_joined(
     octets: Vec<u8>,
 ) -> Result<(), AllocError>
     requires { 0 < length secret.now }
-    ensures { OnOk result (pairs.new.items ≡ pairs.old.items ++ pair_meant dictionary.now secret.now authenticator.now id octets.items ∷ []) }
+    ensures { OnOk result (pairs.new.items ≡ pairs.old.items
+        ++ pair_meant dictionary.now secret.now authenticator.now id octets.items ∷ []) }
 {
     let value = keep_value(dictionary, secret, authenticator, id, octets)?;
     pairs.push(Pair { id, value })?;
@@ -103,7 +107,8 @@ pub(crate) fn push_joined(
 
 /// Adds the pair of an attribute whose octets are not looked into.
 pub(crate) fn push_raw(pairs: &mut Vec<Pair>, number: u8, octets: &[u8]) -> Result<(), AllocError>
-    ensures { OnOk result (pairs.new.items ≡ pairs.old.items ++ raw_pair (part number octets.now) ∷ []) }
+    ensures { OnOk result (pairs.new.items ≡ pairs.old.items
+        ++ raw_pair (part number octets.now) ∷ []) }
 {
     let value = Value::Raw(copy_of(*pairs.allocator(), octets)?);
     pairs.push(Pair {
@@ -123,7 +128,8 @@ pub(crate) fn push_extended(
     value: &[u8],
 ) -> Result<(), AllocError>
     requires { 0 < length secret.now }
-    ensures { OnOk result (pairs.new.items ≡ pairs.old.items ++ extended_pair dictionary.now secret.now authenticator.now (part t value.now) ∷ []) }
+    ensures { OnOk result (pairs.new.items ≡ pairs.old.items
+        ++ extended_pair dictionary.now secret.now authenticator.now (part t value.now) ∷ []) }
 {
     match value {
         [number, octets @ ..] if !octets.is_empty() => {

@@ -1,10 +1,10 @@
 //! The attributes that pairs are sent in (RFC 2865, sections 5 and 5.26; RFC 6929, sections 2.1 and 2.2).
 
-ghost use Rattle.std.specs.Prelude.{◌≡◌, ◌≤◌, ◌<◌, ◌+◌, ◌-◌, ◌/◌, ◌^◌, ◌∷◌, ◌++◌, [], true, length, OnOk, IfOk};
+ghost use Rattle.std.specs.Prelude.{◌≡◌, ◌≤◌, ◌+◌, ◌-◌, ◌/◌, ◌++◌, true, length, OnOk};
 ghost use Rattle.std.specs.Int.{bytes_high_first};
 ghost use Rattle.std.specs.List.{flat_map};
 ghost use Rattle.avp_dict.specs.Vendors.{is_format};
-ghost use Rattle.avp_packet.specs.AttributeOctets.{fragments, part, parts_holding, vendor_part, vendor_value};
+ghost use Rattle.avp_packet.specs.AttributeOctets.{fragments, part, parts_holding, vendor_part};
 ghost use Rattle.avp_packet.specs.Splitting.{part_octets};
 ghost use Rattle.avp_packet.specs.internal.Holding.{CanHold, FitsFormat};
 
@@ -22,7 +22,8 @@ fn push_attribute(
     rest: &[u8],
 ) -> Result<(), AllocError>
     requires { length front.now + length rest.now ≤ 253 }
-    ensures { OnOk result (octets.new.items ≡ octets.old.items ++ part_octets (part number (front.now ++ rest.now))) }
+    ensures { OnOk result (octets.new.items ≡ octets.old.items
+        ++ part_octets (part number (front.now ++ rest.now))) }
 {
     octets.push(number)?;
     octets.push((2 + front.len() + rest.len()) as u8)?;
@@ -32,7 +33,8 @@ fn push_attribute(
 
 // Adds a long value in pieces.
 fn push_fragments(octets: &mut Vec<u8>, t: u8, number: u8, value: &[u8]) -> Result<(), AllocError>
-    ensures { OnOk result (octets.new.items ≡ octets.old.items ++ flat_map part_octets (fragments ((length value.now - 1) / PIECE_OCTETS) t number value.now)) }
+    ensures { OnOk result (octets.new.items ≡ octets.old.items ++ flat_map part_octets
+        (fragments ((length value.now - 1) / PIECE_OCTETS) t number value.now)) }
 {
     let mut rest = value;
     while rest.len() > PIECE_OCTETS {
@@ -67,7 +69,8 @@ fn push_vendor_head(
     length: u8,
 ) -> Result<(), AllocError>
     requires { is_format format.t format.l ≡ true }
-    ensures { OnOk result (octets.new.items ≡ octets.old.items ++ bytes_high_first 4 vendor ++ bytes_high_first format.t number ++ bytes_high_first format.l length) }
+    ensures { OnOk result (octets.new.items ≡ octets.old.items ++ bytes_high_first 4 vendor
+        ++ bytes_high_first format.t number ++ bytes_high_first format.l length) }
 {
     octets.extend_from_slice(&vendor.to_be_bytes())?;
     push_number(octets, format.t, number)?;
@@ -84,7 +87,8 @@ fn push_vendor(
 ) -> Result<(), AllocError>
     requires format { is_format format.t format.l ≡ true }
     requires room { FitsFormat number value.now format }
-    ensures { OnOk result (octets.new.items ≡ octets.old.items ++ flat_map part_octets (vendor_part vendor number value.now format)) }
+    ensures { OnOk result (octets.new.items ≡ octets.old.items
+        ++ flat_map part_octets (vendor_part vendor number value.now format)) }
 {
     let length = usize::from(format.t) + usize::from(format.l) + value.len();
     octets.push(VENDOR_SPECIFIC)?;
@@ -103,7 +107,8 @@ pub(crate) fn push_holding(
     value: &[u8],
 ) -> Result<(), AllocError>
     requires { CanHold dictionary.now id value.now }
-    ensures { OnOk result (octets.new.items ≡ octets.old.items ++ flat_map part_octets (parts_holding dictionary.now id value.now)) }
+    ensures { OnOk result (octets.new.items ≡ octets.old.items
+        ++ flat_map part_octets (parts_holding dictionary.now id value.now)) }
 {
     match id {
         AttrId::Plain(number) => push_attribute(octets, number as u8, &[], value),

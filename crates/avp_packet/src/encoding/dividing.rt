@@ -62,7 +62,8 @@ fn divide_access(list: &[Pair]) -> Division<'_>
 pub(crate) fn divide_request(code: u8, list: &[Pair]) -> Division<'_>
     ensures divided { IsDivided (request_kind code) list.now result }
     ensures kept { (q : Pair → Bool) → All (λ p. q p ≡ true) list.now → KeepsAll q result }
-    ensures unsigned { result.signed ≡ true → without_signatures result.before.now ≡ result.before.now }
+    ensures unsigned { result.signed ≡ true → without_signatures result.before.now
+        ≡ result.before.now }
 {
     if code == ACCOUNTING_REQUEST {
         Division {

@@ -7,10 +7,10 @@ ghost use Rattle.avp_dict.specs.Limits.{fits};
 ghost use Rattle.avp_dict.specs.Sent.{is_clean};
 ghost use Rattle.avp_packet.specs.Hmac.{hmac};
 ghost use Rattle.avp_packet.specs.PacketMeaning.{OctetsMeanContent};
-ghost use Rattle.avp_packet.specs.Packets.{IsReplyCode, IsRequestCode, IsShort, IsTooLong, attributes_of, authenticator_of, hiding_authenticator, is_reply, packet, pairs_meant, reply, reply_content, request, request_authenticator, request_content, request_kind, zeros};
+ghost use Rattle.avp_packet.specs.Packets.{IsReplyCode, IsRequestCode, IsShort, IsTooLong, attributes_of, authenticator_of, hiding_authenticator, is_reply, packet, reply, reply_content, request, request_authenticator, request_content, request_kind, zeros};
 ghost use Rattle.avp_packet.specs.Sending.{is_to_sign};
 ghost use Rattle.avp_packet.specs.Signed.{is_signed};
-ghost use Rattle.avp_packet.specs.Splitting.{left, parts};
+ghost use Rattle.avp_packet.specs.Splitting.{left};
 ghost use Rattle.avp_packet.specs.internal.Filling.{IsPlace, divided_octets, divided_signed, filled};
 ghost use Rattle.avp_packet.specs.internal.Ranges.{IsVendorInRange};
 
@@ -75,7 +75,8 @@ fn sign(
     requires short { length octets.old.items ≤ MAX_ATTRIBUTE_OCTETS }
     requires place { IsPlace (length octets.old.items) place }
     requires blank { filled octets.old.items place zeros ≡ octets.old.items }
-    ensures { octets.new.items ≡ filled octets.old.items place (hmac secret.now (packet code id authenticator.now octets.old.items)) }
+    ensures { octets.new.items ≡ filled octets.old.items place
+        (hmac secret.now (packet code id authenticator.now octets.old.items)) }
 {
     let Some(place) = place else {
         return;
@@ -101,12 +102,18 @@ fn signed_attributes(
     requires before_fit { All (λ pair. fits pair dictionary.now ≡ true) division.now.before.now }
     requires behind_fit { All (λ pair. fits pair dictionary.now ≡ true) division.now.behind.now }
     requires proxies_fit { All (λ pair. fits pair dictionary.now ≡ true) proxy_states.now }
-    ensures octets { IfOk result (λ octets. octets.items ≡ divided_signed dictionary.now secret.now code id authenticator.now division.now proxy_states.now) }
+    ensures octets { IfOk result (λ octets. octets.items
+        ≡ divided_signed dictionary.now secret.now code id authenticator.now division.now
+        proxy_states.now) }
     ensures short { IfOk result (λ octets. length octets.items ≤ MAX_ATTRIBUTE_OCTETS) }
-    ensures before_ranged { OnOk result (All (λ pair. IsVendorInRange pair.id) division.now.before.now) }
-    ensures behind_ranged { OnOk result (All (λ pair. IsVendorInRange pair.id) division.now.behind.now) }
+    ensures before_ranged { OnOk result
+        (All (λ pair. IsVendorInRange pair.id) division.now.before.now) }
+    ensures behind_ranged { OnOk result
+        (All (λ pair. IsVendorInRange pair.id) division.now.behind.now) }
     ensures proxies_ranged { OnOk result (All (λ pair. IsVendorInRange pair.id) proxy_states.now) }
-    ensures too_long { result ≡ Err EncodeFault.TooLong → MAX_ATTRIBUTE_OCTETS < length (divided_octets dictionary.now secret.now (hiding_authenticator code authenticator.now) division.now proxy_states.now zeros) }
+    ensures too_long { result ≡ Err EncodeFault.TooLong
+        → MAX_ATTRIBUTE_OCTETS < length (divided_octets dictionary.now secret.now
+        (hiding_authenticator code authenticator.now) division.now proxy_states.now zeros) }
 {
     let hide_by = hiding_authenticator(code, authenticator);
     let written = write_attributes(alloc, dictionary, secret, &hide_by, division, proxy_states)?;
@@ -124,7 +131,8 @@ fn packet(
     attributes: &[u8],
 ) -> Result<Vec<u8>, AllocError>
     requires { length attributes.now ≤ MAX_ATTRIBUTE_OCTETS }
-    ensures { IfOk result (λ octets. octets.items ≡ packet code id authenticator.now attributes.now) }
+    ensures { IfOk result (λ octets. octets.items
+        ≡ packet code id authenticator.now attributes.now) }
 {
     let mut octets = Vec::with_capacity(alloc, PACKET_HEAD_OCTETS + attributes.len())?;
     octets.extend_from_slice(&head_of(code, id, attributes.len()))?;
@@ -257,7 +265,8 @@ pub fn encode_reply(
         is_reply octets.items request_authenticator.now secret.now ≡ true) }
     ensures signed { IfOk result (λ octets. signed ≡ true
         → is_signed octets.items request_authenticator.now secret.now ≡ true) }
-    ensures too_long { result ≡ Err EncodeFault.TooLong → IsTooLong (reply dictionary.now secret.now code id
+    ensures too_long { result ≡ Err EncodeFault.TooLong → IsTooLong
+        (reply dictionary.now secret.now code id
         request_authenticator.now signed list.now proxy_states.now) }
 {
     dictionary.is_sound();

@@ -58,7 +58,8 @@ fn is_internal(id: AttrId) -> bool
 
 // The octets that a value keeps: all but numbers and addresses do.
 fn kept_octets(value: &Value) -> Option<&[u8]>
-    ensures { IfSome result (λ octets. (kind : Option Kind) → octets_of kind value.now ≡ octets.now) }
+    ensures { IfSome result (λ octets. (kind : Option Kind)
+        → octets_of kind value.now ≡ octets.now) }
 {
     match value {
         Value::Text(octets) => Some(octets.as_slice()),
@@ -78,7 +79,8 @@ fn sent_octets<'a>(
     pair: &'a Pair,
 ) -> Result<CowSlice<'a, u8>, AllocError>
     requires { fits pair.now dictionary.now ≡ true }
-    ensures { IfOk result (λ octets. cow_slice_items octets ≡ sent_octets dictionary.now secret.now authenticator.now pair.now) }
+    ensures { IfOk result (λ octets. cow_slice_items octets
+        ≡ sent_octets dictionary.now secret.now authenticator.now pair.now) }
 {
     if is_hidden(dictionary, pair.id) && !is_raw(&pair.value) {
         let plain = dictionary.bytes_of_value(alloc, pair.id, &pair.value)?;
@@ -101,7 +103,8 @@ fn push_pair(
     pair: &Pair,
 ) -> Result<(), AllocError>
     requires { fits pair.now dictionary.now ≡ true }
-    ensures octets { OnOk result (octets.new.items ≡ octets.old.items ++ attribute_octets dictionary.now secret.now authenticator.now (pair.now ∷ [])) }
+    ensures octets { OnOk result (octets.new.items ≡ octets.old.items
+        ++ attribute_octets dictionary.now secret.now authenticator.now (pair.now ∷ [])) }
     ensures ranged { OnOk result (IsVendorInRange pair.now.id) }
 {
     if is_internal(pair.id) {
@@ -136,10 +139,15 @@ fn push_kept(
 ) -> Result<(), EncodeFault>
     requires fits { fits pair.now dictionary.now ≡ true }
     requires short { length octets.old.items ≤ MAX_ATTRIBUTE_OCTETS }
-    ensures ok { OnOk result (octets.new.items ≡ octets.old.items ++ attribute_octets dictionary.now secret.now authenticator.now (kept_pairs all (pair.now ∷ []))) }
+    ensures ok { OnOk result (octets.new.items ≡ octets.old.items
+        ++ attribute_octets dictionary.now secret.now authenticator.now
+        (kept_pairs all (pair.now ∷ []))) }
     ensures ranged { OnOk result (IsVendorInRange pair.now.id) }
     ensures short { OnOk result (length octets.new.items ≤ MAX_ATTRIBUTE_OCTETS) }
-    ensures too_long { result ≡ Err EncodeFault.TooLong → MAX_ATTRIBUTE_OCTETS < length octets.old.items + length (attribute_octets dictionary.now secret.now authenticator.now (kept_pairs all (pair.now ∷ []))) }
+    ensures too_long { result ≡ Err EncodeFault.TooLong
+        → MAX_ATTRIBUTE_OCTETS < length octets.old.items + length
+        (attribute_octets dictionary.now secret.now authenticator.now
+        (kept_pairs all (pair.now ∷ []))) }
 {
     if !is_kept(pair, all) {
         return Ok(());
@@ -163,10 +171,13 @@ fn push_list(
 ) -> Result<(), EncodeFault>
     requires fits { All (λ pair. fits pair dictionary.now ≡ true) list.now }
     requires short { length octets.old.items ≤ MAX_ATTRIBUTE_OCTETS }
-    ensures ok { OnOk result (octets.new.items ≡ octets.old.items ++ attribute_octets dictionary.now secret.now authenticator.now (kept_pairs all list.now)) }
+    ensures ok { OnOk result (octets.new.items ≡ octets.old.items
+        ++ attribute_octets dictionary.now secret.now authenticator.now (kept_pairs all list.now)) }
     ensures ranged { OnOk result (All (λ pair. IsVendorInRange pair.id) list.now) }
     ensures short { OnOk result (length octets.new.items ≤ MAX_ATTRIBUTE_OCTETS) }
-    ensures too_long { result ≡ Err EncodeFault.TooLong → MAX_ATTRIBUTE_OCTETS < length octets.old.items + length (attribute_octets dictionary.now secret.now authenticator.now (kept_pairs all list.now)) }
+    ensures too_long { result ≡ Err EncodeFault.TooLong
+        → MAX_ATTRIBUTE_OCTETS < length octets.old.items + length
+        (attribute_octets dictionary.now secret.now authenticator.now (kept_pairs all list.now)) }
 {
     for pair in list {
         push_kept(octets, dictionary, secret, authenticator, pair, all)?;
@@ -180,7 +191,8 @@ fn push_blank(octets: &mut Vec<u8>, signed: bool) -> Result<Option<usize>, Encod
     ensures ok { OnOk result (octets.new.items ≡ octets.old.items ++ signature_if signed zeros) }
     ensures place { IfOk result (λ place. place ≡ place_if signed (length octets.old.items)) }
     ensures short { OnOk result (length octets.new.items ≤ MAX_ATTRIBUTE_OCTETS) }
-    ensures too_long { result ≡ Err EncodeFault.TooLong → MAX_ATTRIBUTE_OCTETS < length octets.old.items + length (signature_if signed zeros) }
+    ensures too_long { result ≡ Err EncodeFault.TooLong
+        → MAX_ATTRIBUTE_OCTETS < length octets.old.items + length (signature_if signed zeros) }
 {
     if !signed {
         return Ok(None);
@@ -213,14 +225,22 @@ pub(crate) fn write_attributes(
     requires before_fit { All (λ pair. fits pair dictionary.now ≡ true) division.now.before.now }
     requires behind_fit { All (λ pair. fits pair dictionary.now ≡ true) division.now.behind.now }
     requires proxies_fit { All (λ pair. fits pair dictionary.now ≡ true) proxy_states.now }
-    ensures blank { IfOk result (λ w. w.octets.items ≡ divided_octets dictionary.now secret.now hide_by.now division.now proxy_states.now zeros) }
-    ensures filled { IfOk result (λ w. (signature : List ℕ) → filled w.octets.items w.place signature ≡ divided_octets dictionary.now secret.now hide_by.now division.now proxy_states.now signature) }
+    ensures blank { IfOk result (λ w. w.octets.items
+        ≡ divided_octets dictionary.now secret.now hide_by.now division.now proxy_states.now zeros) }
+    ensures filled { IfOk result (λ w. (signature : List ℕ)
+        → filled w.octets.items w.place signature
+        ≡ divided_octets dictionary.now secret.now hide_by.now division.now proxy_states.now
+        signature) }
     ensures place { IfOk result (λ w. IsPlace (length w.octets.items) w.place) }
     ensures short { IfOk result (λ w. length w.octets.items ≤ MAX_ATTRIBUTE_OCTETS) }
-    ensures before_ranged { OnOk result (All (λ pair. IsVendorInRange pair.id) division.now.before.now) }
-    ensures behind_ranged { OnOk result (All (λ pair. IsVendorInRange pair.id) division.now.behind.now) }
+    ensures before_ranged { OnOk result
+        (All (λ pair. IsVendorInRange pair.id) division.now.before.now) }
+    ensures behind_ranged { OnOk result
+        (All (λ pair. IsVendorInRange pair.id) division.now.behind.now) }
     ensures proxies_ranged { OnOk result (All (λ pair. IsVendorInRange pair.id) proxy_states.now) }
-    ensures too_long { result ≡ Err EncodeFault.TooLong → MAX_ATTRIBUTE_OCTETS < length (divided_octets dictionary.now secret.now hide_by.now division.now proxy_states.now zeros) }
+    ensures too_long { result ≡ Err EncodeFault.TooLong
+        → MAX_ATTRIBUTE_OCTETS < length (divided_octets dictionary.now secret.now hide_by.now
+        division.now proxy_states.now zeros) }
 {
     let mut octets = Vec::with_capacity(alloc, MAX_ATTRIBUTE_OCTETS)?;
     push_list(

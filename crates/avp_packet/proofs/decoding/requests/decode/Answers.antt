@@ -1,12 +1,8 @@
-use Rattle.std.proofs.Common.{◌≡◌, ◌∙◌, ◌<◌, ◌-◌, ◌+◌, true, false, nat_lt, List, length, take, drop, sym, ap, arith}
+use Rattle.std.proofs.Common.{◌≡◌, ◌∙◌, ◌<◌, ◌-◌, ◌+◌, true, false, nat_lt, length, take, drop, sym, ap, arith}
 use Rattle.std.proofs.lemmas.Grind.{common_steps}
-use Rattle.avp_lists.specs.declared.pairs.Pair.{Pair}
-use Rattle.avp_packet.specs.declared.packets.Packet.{Packet}
-use Rattle.avp_packet.specs.Meanings.{attribute_pairs}
-use Rattle.avp_packet.specs.Means.{Means}
-use Rattle.avp_packet.specs.Packets.{attributes_of, hiding_authenticator, is_packet_length, length_of}
+use Rattle.avp_packet.specs.Packets.{attributes_of, is_packet_length, length_of}
 use Rattle.avp_packet.specs.Splitting.{left, parts}
-use Rattle.avp_packet.proofs.OneMeaning.{meant_by, ok_by, only_by}
+use Rattle.avp_packet.proofs.OneMeaning.{meant_by, only_by}
 use Rattle.avp_packet.proofs.RefusedPackets.{decoded_bad}
 use Rattle.avp_packet.proofs.decoding.requests.decode.Goals as goal
 
@@ -23,18 +19,8 @@ returns-in-Err-clause-read c =
     let bad : c.in-Err.bad.offset ≡ length (attributes_of os) - length (left (attributes_of os)) = rw attributes at c.in-Err.ensures.bad in
     decoded_bad c.args.dictionary.now c.args.secret.now os c.in-Err.bad.offset long ranged whole some bad
 
-pub returns-in-Ok-clause-means : goal.returns-in-Ok-clause-means
-returns-in-Ok-clause-means c =
-    let d = c.args.dictionary.now in
-    let s = c.args.secret.now in
-    let ps = parts (attributes_of c.args.octets.now) in
-    ok_by (λ (p : Packet). p.list ≡ attribute_pairs d s (hiding_authenticator p.code p.authenticator) ps) (λ (p : Packet). Means d s (hiding_authenticator p.code p.authenticator) ps p.list) c.read_request.result
-    (λ p e. meant_by d s (hiding_authenticator p.code p.authenticator) ps p.list (sym e)) c.read_request.ensures.means
+pub returns-clause-means : goal.returns-clause-means
+returns-clause-means c = meant_by c.args.dictionary.now c.args.secret.now _ (parts (attributes_of c.args.octets.now)) _ (sym c.in_ok-read_packet.ensures.means)
 
-pub returns-in-Ok-clause-only : goal.returns-in-Ok-clause-only
-returns-in-Ok-clause-only c =
-    let d = c.args.dictionary.now in
-    let s = c.args.secret.now in
-    let ps = parts (attributes_of c.args.octets.now) in
-    ok_by (λ (p : Packet). p.list ≡ attribute_pairs d s (hiding_authenticator p.code p.authenticator) ps) (λ (p : Packet). (pairs : List Pair) → Means d s (hiding_authenticator p.code p.authenticator) ps pairs → pairs ≡ p.list) c.read_request.result
-    (λ p e. only_by d s (hiding_authenticator p.code p.authenticator) ps p.list e) c.read_request.ensures.means
+pub returns-clause-only : goal.returns-clause-only
+returns-clause-only c = only_by c.args.dictionary.now c.args.secret.now _ (parts (attributes_of c.args.octets.now)) _ c.in_ok-read_packet.ensures.means
