@@ -1,9 +1,11 @@
 //! Digests, hiding, and packets from outside.
 
-use crate::written::{Given, Row, pairs_of, write_accept, write_request};
+use crate::written::{Given, Row, authenticator_of, pairs_of, write_accept, write_request};
 use avp_dict::Dictionary;
-use avp_lists::AttrId;
-use avp_packet::{ACCESS_REQUEST, HideFault, PacketFault, check_reply, decode, hide, unhide};
+use avp_lists::{AttrId, Pair};
+use avp_packet::{
+    ACCESS_REQUEST, ACCOUNTING_REQUEST, HideFault, PacketFault, check_reply, decode, hide, unhide,
+};
 use md5::{Digest, Md5};
 use samples::{read_dictionary, test_dictionary};
 use std::alloc::Global;
@@ -122,6 +124,46 @@ fn writes_a_request(rt: HostRuntime) -> Result<(), Fail> {
     let octets = written_request(rt.alloc(), &dictionary)?;
     assert_eq!(rt; octets.as_slice(), REQUEST.as_slice());
     Ok(())
+}
+
+// The authenticator that is found for a request is the one in the packet that is written of the same.
+fn expect_authenticator(
+    rt: &impl Abort,
+    alloc: Global,
+    dictionary: &Dictionary,
+    code: u8,
+    list: &[Pair],
+) -> Result<(), Fail> {
+    let found = authenticator_of(alloc, dictionary, SECRET, code, 7, &AUTHENTICATOR, list)?;
+    let written = write_request(alloc, dictionary, SECRET, code, 7, &AUTHENTICATOR, list)?;
+    let own = written.get(4..20).ok_or("no head")?;
+    assert_eq!(rt; own, found.as_slice(), "{code}");
+    Ok(())
+}
+
+// An Access-Request keeps the authenticator that it is given, so another one makes another packet.
+fn expect_own_authenticator(
+    rt: &impl Abort,
+    alloc: Global,
+    dictionary: &Dictionary,
+    list: &[Pair],
+) -> Result<(), Fail> {
+    let code = ACCESS_REQUEST;
+    let found = authenticator_of(alloc, dictionary, SECRET, code, 7, &[1; 16], list)?;
+    let written = write_request(alloc, dictionary, SECRET, code, 7, &AUTHENTICATOR, list)?;
+    let own = written.get(4..20).ok_or("no head")?;
+    assert!(rt; own != found.as_slice());
+    Ok(())
+}
+
+#[test]
+fn finds_the_authenticator_of_a_request(rt: HostRuntime) -> Result<(), Fail> {
+    let dictionary = test_dictionary(rt.alloc())?;
+    let list = pairs_of(rt.alloc(), &REQUEST_PAIRS)?;
+    for code in [ACCESS_REQUEST, ACCOUNTING_REQUEST] {
+        expect_authenticator(&rt, rt.alloc(), &dictionary, code, &list)?;
+    }
+    expect_own_authenticator(&rt, rt.alloc(), &dictionary, &list)
 }
 
 fn written_reply(alloc: Global, dictionary: &Dictionary) -> Result<Vec<u8>, Fail> {

@@ -3,7 +3,10 @@
 
 use avp_dict::Dictionary;
 use avp_lists::{AttrId, Pair, Value};
-use avp_packet::{ACCESS_ACCEPT, ACCESS_REQUEST, ACCOUNTING_REQUEST, encode_reply, encode_request};
+use avp_packet::{
+    ACCESS_ACCEPT, ACCESS_REQUEST, ACCOUNTING_REQUEST, encode_reply, encode_request,
+    encoded_authenticator,
+};
 use samples::{all_fit, octets};
 use std::alloc::{AllocError, Global};
 use std::test::Fail;
@@ -57,6 +60,24 @@ pub(crate) fn write_request(
     }
     let octets = encode_request(alloc, dictionary, secret, code, id, authenticator, list)?;
     Ok(octets)
+}
+
+/// The authenticator of such a request.
+pub(crate) fn authenticator_of(
+    alloc: Global,
+    dictionary: &Dictionary,
+    secret: &[u8],
+    code: u8,
+    id: u8,
+    authenticator: &[u8; 16],
+    list: &[Pair],
+) -> Result<[u8; 16], Fail> {
+    let is_request = code == ACCESS_REQUEST || code == ACCOUNTING_REQUEST;
+    if secret.is_empty() || !is_request || !all_fit(dictionary, list) {
+        return Err(Fail::new("no fit"));
+    }
+    let own = encoded_authenticator(alloc, dictionary, secret, code, id, authenticator, list)?;
+    Ok(own)
 }
 
 /// An Access-Accept with the identifier 0 and without Proxy-States.
