@@ -17,7 +17,8 @@ use Rattle.avp_unlang.specs.declared.tree.Cond.{Cond}
 use Rattle.avp_unlang.specs.declared.tree.Cond.TheVariants.{Any, All, Not, Last, Present, Compare}
 use Rattle.avp_unlang.specs.declared.tree.Relation.{Relation}
 use Rattle.avp_unlang.specs.declared.tree.Relation.TheVariants as relation
-use Rattle.avp_unlang.specs.Forms.{Form, After, Becomes, Chain, Gives, Then}
+use Rattle.avp_unlang.specs.Forms.{Form, Becomes, Chain, Gives, ◌>>◌, ◌>>=◌}
+use Rattle.avp_unlang.specs.Octets.{backslash, left_brace, percent}
 use Rattle.avp_unlang.specs.Places.{Place}
 use Rattle.avp_unlang.specs.References.{AlikeIs, ReadableIs, readable, type_of}
 use Rattle.avp_unlang.specs.Sources.{literal}
@@ -39,12 +40,14 @@ relation_of _ = None
 
 abbrev pub begins_brace : List ℕ → Bool
 begins_brace [] = false
-begins_brace (c ∷ cs) = c == 123
+begins_brace (c ∷ cs) = c == left_brace
 
 -- `%{` with neither octet escaped by a `\`
 abbrev pub has_expansion : Bool → List ℕ → Bool
 has_expansion escaped [] = false
-has_expansion escaped (c ∷ cs) = (not escaped && c == 37 && begins_brace cs) || has_expansion (not escaped && c == 92) cs
+has_expansion escaped (c ∷ cs) =
+    (not escaped && c == percent && begins_brace cs)
+    || has_expansion (not escaped && c == backslash) cs
 
 -- what a text between double quotes stands for in a condition, where no value is put in
 abbrev pub plain_octets : List ℕ → Option (List ℕ)
@@ -77,12 +80,17 @@ comparison_of dictionary found relation x = record {
   comparand = x;
 }
 
+-- after an operator that compares: what the reference is compared with
+abbrev pub ComparedBy : Dictionary → Name × Named → Relation → Form Place Cond
+ComparedBy dictionary found relation = do
+  x ← ComparandIs dictionary found.1
+  Gives (Compare (comparison_of dictionary found relation x))
+
 -- after a reference: nothing more, or an operator that compares and what it compares with
 abbrev pub ComparedFrom : Dictionary → Name × Named → Option Relation → Place → Form Place Cond
 ComparedFrom dictionary found None p after c rest = Gives (Present found.0 found.1.id) p c rest
 ComparedFrom dictionary found (Some relation) p after c rest =
-    Then (ComparandIs dictionary found.1)
-    (λ x. Gives (Compare (comparison_of dictionary found relation x))) after c rest
+    ComparedBy dictionary found relation after c rest
 
 abbrev pub ComparedIs : Dictionary → Name × Named → Form Place Cond
 ComparedIs dictionary found p c rest =
@@ -108,23 +116,34 @@ all_of cs = All cs
 
 -- operands with `&&` between them, and these with `||` between them
 abbrev pub Both : Form Place Cond → Form Place Cond
-Both operand = Then (Chain (Follows (Operator sign.And)) operand) (λ cs. Gives (all_of cs))
+Both operand = do
+  conds ← Chain (Follows (Operator sign.And)) operand
+  Gives (all_of conds)
 
 abbrev pub Either : Form Place Cond → Form Place Cond
-Either operand = Then (Chain (Follows (Operator sign.Or)) (Both operand)) (λ cs. Gives (any_of cs))
+Either operand = do
+  conds ← Chain (Follows (Operator sign.Or)) (Both operand)
+  Gives (any_of conds)
 
+-- the operand after a `!`
 abbrev pub Negated : Form Place Cond → Form Place Cond
-Negated inner = Then inner (λ c. Gives (Not c))
+Negated inner = do
+  cond ← inner
+  Gives (Not cond)
 
+-- the operands after a `(`, and its `)`
 abbrev pub Closed : Form Place Cond → Form Place Cond
-Closed inner = Then (Either inner) (λ c. After (Follows (Operator sign.Close)) (Gives c))
+Closed inner = do
+  cond ← Either inner
+  Follows (Operator sign.Close)
+  Gives cond
 
 -- an operand by its first token; inner spells the operands inside a `!` or brackets
 abbrev pub OperandFrom : Dictionary → Form Place Cond → Token → Form Place Cond
 OperandFrom dictionary inner (Operator sign.Not) after c rest = Negated inner after c rest
 OperandFrom dictionary inner (Operator sign.Open) after c rest = Closed inner after c rest
 OperandFrom dictionary inner (Operator sign.Reference) after c rest =
-    Then (ReadableIs dictionary) (ComparedIs dictionary) after c rest
+    (ReadableIs dictionary >>= ComparedIs dictionary) after c rest
 OperandFrom dictionary inner (Word word) after c rest =
     WordFrom dictionary (code_named word) word after c rest
 OperandFrom dictionary inner _ after c rest = ⊥

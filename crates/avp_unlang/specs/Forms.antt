@@ -27,6 +27,15 @@ After step next p y rest = (mid : _) × step p mid × next mid y rest
 abbrev pub Then : {S A B : Type 0} → Form S A → (A → Form S B) → Form S B
 Then first next p y rest = (x : _) × (mid : _) × first p x mid × next x mid y rest
 
+-- the same two as `do` blocks: a line `x ← form` is a value and then the rest, and a line that is a step goes before it
+infixl 10 ◌>>=◌
+abbrev pub ◌>>=◌ : {S A B : Type 0} → Form S A → (A → Form S B) → Form S B
+first >>= next = Then first next
+
+infixl 10 ◌>>◌
+abbrev pub ◌>>◌ : {S A : Type 0} → Step S → Form S A → Form S A
+step >> next = After step next
+
 -- values while the next token begins one
 abbrev pub While : {S A : Type 0} → (S → Bool) → Form S A → Form S (List A)
 While begins form p [] rest = (begins p ≡ false) × (rest ≡ p)

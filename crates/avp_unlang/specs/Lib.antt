@@ -5,6 +5,7 @@ pub mod Depth
 pub mod Forms
 pub mod Lines
 pub mod Meaning
+pub mod Octets
 pub mod Parts
 pub mod Places
 pub mod Policies

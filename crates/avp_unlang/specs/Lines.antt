@@ -10,7 +10,7 @@ use Rattle.avp_unlang.specs.declared.text.tokens.Token.{Token}
 use Rattle.avp_unlang.specs.declared.text.tokens.Token.TheVariants.{Operator, Word}
 use Rattle.avp_unlang.specs.declared.tree.Line.{Line}
 use Rattle.avp_unlang.specs.declared.tree.Source.{Source}
-use Rattle.avp_unlang.specs.Forms.{Form, After, Then, Gives}
+use Rattle.avp_unlang.specs.Forms.{Form, Gives, ◌>>◌, ◌>>=◌}
 use Rattle.avp_unlang.specs.Places.{Place}
 use Rattle.avp_unlang.specs.References.{reference}
 use Rattle.avp_unlang.specs.Sources.{SourceIs}
@@ -48,14 +48,17 @@ OpIs p operation rest = (token : Token) × Follows token p rest × (op_of token 
 abbrev pub line_of : ℕ → Name × Named → Op → Source → Line
 line_of line target operation source = record { line = line; list = target.0; id = target.1.id; op = operation; source = source }
 
--- an update line, on the line of its first token; it adds one to the size
+-- an update line whose first token is on line n of the text; it adds one to the size
+abbrev pub LineOn : Dictionary → Name → ℕ → Form Place Line
+LineOn dictionary own n = do
+  Counts 1
+  target ← TargetIs dictionary own
+  operation ← OpIs
+  source ← SourceIs dictionary operation target.1
+  Gives (line_of n target operation source)
+
 abbrev pub LineIs : Dictionary → Name → Form Place Line
-LineIs dictionary own p line rest =
-    After (Counts 1)
-    (Then (TargetIs dictionary own) (λ target.
-    Then OpIs (λ operation.
-    Then (SourceIs dictionary operation target.1) (λ source.
-    Gives (line_of (next_token p).1.line target operation source))))) p line rest
+LineIs dictionary own p line rest = LineOn dictionary own (next_token p).1.line p line rest
 
 -- an update line begins with `&` or a word
 abbrev pub is_line_start : Token → Bool

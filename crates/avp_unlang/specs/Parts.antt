@@ -1,5 +1,5 @@
 -- Texts between double quotes into which values are put: `%{name}` and `%{list:name}`, with `%%` for a plain `%`.
-use Rattle.std.specs.Prelude.{◌≡◌, ℕ, zero, Bool, true, false, ◌==◌, if◌then◌else◌, List, [], ◌∷◌, drop, take, Option, Some, None, is_some}
+use Rattle.std.specs.Prelude.{◌≡◌, ℕ, zero, Bool, true, false, ◌&&◌, ◌==◌, if◌then◌else◌, List, [], ◌∷◌, drop, take, Option, Some, None, is_some}
 use Rattle.avp_lists.specs.declared.lists.List.{List as Name}
 use Rattle.avp_dict.specs.declared.entries.Named.{Named}
 use Rattle.avp_dict.specs.Dictionary.{Dictionary}
@@ -7,20 +7,21 @@ use Rattle.avp_dict.specs.Quotes.{double_escape}
 use Rattle.avp_unlang.specs.declared.tree.Part.{Part}
 use Rattle.avp_unlang.specs.declared.tree.Part.TheVariants.{Text, Instance}
 use Rattle.avp_unlang.specs.Forms.{Form, While}
+use Rattle.avp_unlang.specs.Octets.{backslash, left_brace, percent, right_brace}
 use Rattle.avp_unlang.specs.References.{readable}
 use Rattle.avp_unlang.specs.Tokens.{word_length}
 
 -- after a `%`: a second one
 abbrev pub percent_at : List ℕ → Option (ℕ × List ℕ)
 percent_at [] = None
-percent_at (c ∷ cs) = if c == 37 then Some (37, cs) else None
+percent_at (c ∷ cs) = if c == percent then Some (percent, cs) else None
 
 -- The octet that a text begins with, and the text after it: `\` and what it escapes, `%%`, or any octet but `%`.
 unfoldable pub octet_at : List ℕ → Option (ℕ × List ℕ)
 octet_at [] = None
 octet_at (c ∷ cs) =
-    if c == 92 then Some ((double_escape cs).octet, drop (double_escape cs).taken cs)
-    else if c == 37 then percent_at cs
+    if c == backslash then Some ((double_escape cs).octet, drop (double_escape cs).taken cs)
+    else if c == percent then percent_at cs
     else Some (c, cs)
 
 abbrev pub begins_octet : List ℕ → Bool
@@ -31,14 +32,14 @@ OctetIs text octet rest = octet_at text ≡ Some (octet, rest)
 
 -- `%{`
 abbrev pub after_opening : List ℕ → Option (List ℕ)
-after_opening (a ∷ b ∷ cs) = if a == 37 then (if b == 123 then Some cs else None) else None
+after_opening (a ∷ b ∷ cs) = if a == percent && b == left_brace then Some cs else None
 after_opening _ = None
 
 -- a word of one octet or more, and the text after it and a `}`
 abbrev pub closed_after : ℕ → List ℕ → List ℕ → Option (List ℕ × List ℕ)
 closed_after zero text rest = None
 closed_after n text [] = None
-closed_after n text (c ∷ cs) = if c == 125 then Some (take n text, cs) else None
+closed_after n text (c ∷ cs) = if c == right_brace then Some (take n text, cs) else None
 
 abbrev pub braced : List ℕ → Option (List ℕ × List ℕ)
 braced text = closed_after (word_length text) text (drop (word_length text) text)

@@ -7,9 +7,13 @@ pub record Place : Type 0 where
   pub line : ℕ
   pub room : ℕ
 
--- the beginning of a text; a policy has a size of at most 65535
+-- the greatest size of a policy
+abbrev pub max_size : ℕ
+max_size = 65535
+
+-- the beginning of a text
 abbrev pub start_of : List ℕ → Place
-start_of text = record { text = text; line = 1; room = 65535 }
+start_of text = record { text = text; line = 1; room = max_size }
 
 -- the same place after so much is added to the size
 unfoldable pub counted : ℕ → Place → Option Place

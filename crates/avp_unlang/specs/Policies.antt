@@ -1,5 +1,5 @@
 -- The policy that a text spells.
-use Rattle.std.specs.Prelude.{ℕ, List}
+use Rattle.std.specs.Prelude.{ℕ, suc, List}
 use Rattle.avp_dict.specs.Dictionary.{Dictionary}
 use Rattle.avp_unlang.specs.declared.text.tokens.Token.TheVariants.{End}
 use Rattle.avp_unlang.specs.declared.tree.Statement.{Statement}
@@ -8,8 +8,12 @@ use Rattle.avp_unlang.specs.Places.{Place, start_of}
 use Rattle.avp_unlang.specs.Statements.{Nested, begins_word}
 use Rattle.avp_unlang.specs.Between.{Follows}
 
--- Statement after statement up to the end of the text, with a size of at most 65535 and at most 64 open signs.
+-- how many signs `{`, `(` and `!` may be open at once
+abbrev pub max_nested : ℕ
+max_nested = 64
+
+-- statement after statement up to the end of the text
 abbrev pub SpellsPolicy : Dictionary → List ℕ → List Statement → Type 0
 SpellsPolicy dictionary text statements =
     (end : Place) × (rest : Place)
-    × While begins_word (Nested dictionary 65) (start_of text) statements end × Follows End end rest
+    × While begins_word (Nested dictionary (suc max_nested)) (start_of text) statements end × Follows End end rest

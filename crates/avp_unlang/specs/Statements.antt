@@ -3,6 +3,7 @@ use Rattle.std.specs.Prelude.{◌≡◌, ℕ, zero, suc, ◌<◌, Bool, true, fa
 use Rattle.avp_lists.specs.declared.lists.List.{List as Name}
 use Rattle.avp_lists.specs.declared.lists.List.TheVariants.{Request}
 use Rattle.avp_dict.specs.Dictionary.{Dictionary}
+use Rattle.avp_unlang.specs.declared.codes.Code.{Code}
 use Rattle.avp_unlang.specs.declared.text.statements.Keyword.{Keyword}
 use Rattle.avp_unlang.specs.declared.text.statements.Keyword.TheVariants as keyword
 use Rattle.avp_unlang.specs.declared.text.tokens.Sign.TheVariants as sign
@@ -14,7 +15,7 @@ use Rattle.avp_unlang.specs.declared.tree.Statement.{Statement}
 use Rattle.avp_unlang.specs.declared.tree.Statement.TheVariants.{Update, If, Transaction, Word}
 use Rattle.avp_unlang.specs.declared.tree.Statement.TheViews.{roll-Branch}
 use Rattle.avp_unlang.specs.Conditions.{Closed, Within}
-use Rattle.avp_unlang.specs.Forms.{Form, After, Chain, Gives, Then, While}
+use Rattle.avp_unlang.specs.Forms.{Form, Chain, Gives, While, ◌>>◌, ◌>>=◌}
 use Rattle.avp_unlang.specs.Lines.{LineIs, begins_line}
 use Rattle.avp_unlang.specs.Places.{Place}
 use Rattle.avp_unlang.specs.References.{list_named}
@@ -50,41 +51,71 @@ list_from p _ = (Request, p)
 unfoldable pub list_at : Place → Name × Place
 list_at p = list_from p (next_token p)
 
--- `{`, what inner spells one after the other, and `}`, where n more signs may be nested
+-- `{`, what inner spells one after the other, and `}`
+abbrev pub Braced : {A : Type 0} → (Place → Bool) → Form Place A → Form Place (List A)
+Braced begins inner = do
+  Follows (token.Operator sign.BlockStart)
+  xs ← While begins inner
+  Follows (token.Operator sign.BlockEnd)
+  Gives xs
+
+-- the same, where n more signs may be nested
 abbrev pub BlockIs : {A : Type 0} → ℕ → (Place → Bool) → Form Place A → Form Place (List A)
-BlockIs n begins inner p xs rest =
-    (0 < n) × After (Follows (token.Operator sign.BlockStart)) (Then (While begins inner) (λ ys. After (Follows (token.Operator sign.BlockEnd)) (Gives ys))) p xs rest
+BlockIs n begins inner p xs rest = (0 < n) × Braced begins inner p xs rest
 
 abbrev pub branch_of : ℕ → Cond → List Statement → Branch
 branch_of line cond block = roll-Branch (record { line = line; cond = cond; block = block })
 
--- after `if` or `elsif`: a condition in brackets, and a block; it adds one to the size
+-- after an `if` or `elsif` on this line: a condition in brackets, and a block; it adds one to the size
+abbrev pub BranchOn : Dictionary → ℕ → Form Place Statement → ℕ → Form Place Branch
+BranchOn dictionary n inner line = do
+  Counts 1
+  Follows (token.Operator sign.Open)
+  cond ← Closed (Within dictionary n)
+  block ← BlockIs n begins_word inner
+  Gives (branch_of line cond block)
+
 abbrev pub BranchIs : Dictionary → ℕ → Form Place Statement → Form Place Branch
-BranchIs dictionary n inner p branch rest =
-    After (Counts 1)
-    (After (Follows (token.Operator sign.Open))
-    (Then (Closed (Within dictionary n)) (λ cond.
-    Then (BlockIs n begins_word inner) (λ block.
-    Gives (branch_of p.line cond block))))) p branch rest
+BranchIs dictionary n inner p branch rest = BranchOn dictionary n inner p.line p branch rest
 
 -- `else` and a block, or nothing
 abbrev pub Otherwise : ℕ → Form Place Statement → Form Place (Option (List Statement))
 Otherwise n inner p None rest = ((next : Place) → Follows (token.Word (codes "else")) p next → ⊥) × (rest ≡ p)
-Otherwise n inner p (Some block) rest = After (Follows (token.Word (codes "else"))) (BlockIs n begins_word inner) p block rest
+Otherwise n inner p (Some block) rest = (Follows (token.Word (codes "else")) >> BlockIs n begins_word inner) p block rest
 
--- a statement after its first word, on whose line p is; a transaction adds two to the size, and a code one
+-- after `update` and a list: lines of the list
+abbrev pub UpdateOn : Dictionary → ℕ → Name → ℕ → Form Place Statement
+UpdateOn dictionary n own line = do
+  lines ← BlockIs n begins_line (LineIs dictionary own)
+  Gives (Update line lines)
+
+-- after `if`: its branch and those of each `elsif`, and an `else`
+abbrev pub IfIs : Dictionary → ℕ → Form Place Statement → Form Place Statement
+IfIs dictionary n inner = do
+  branches ← Chain (Follows (token.Word (codes "elsif"))) (BranchIs dictionary n inner)
+  otherwise ← Otherwise n inner
+  Gives (If branches otherwise)
+
+-- after `transaction`: a block; it adds two to the size
+abbrev pub TransactionOn : ℕ → Form Place Statement → ℕ → Form Place Statement
+TransactionOn n inner line = do
+  Counts 2
+  block ← BlockIs n begins_word inner
+  Gives (Transaction line block)
+
+-- a code is a statement by itself; it adds one to the size
+abbrev pub WordOn : Code → ℕ → Form Place Statement
+WordOn code line = do
+  Counts 1
+  Gives (Word line code)
+
+-- a statement after its first word, on whose line p is
 abbrev pub StatementFrom : Dictionary → ℕ → Form Place Statement → Keyword → Form Place Statement
 StatementFrom dictionary n inner keyword.Update p s rest =
-    Then (BlockIs n begins_line (LineIs dictionary (list_at p).0)) (λ ls.
-    Gives (Update p.line ls)) (list_at p).1 s rest
-StatementFrom dictionary n inner keyword.If p s rest =
-    Then (Chain (Follows (token.Word (codes "elsif"))) (BranchIs dictionary n inner)) (λ bs.
-    Then (Otherwise n inner) (λ o.
-    Gives (If bs o))) p s rest
-StatementFrom dictionary n inner keyword.Transaction p s rest =
-    After (Counts 2) (Then (BlockIs n begins_word inner) (λ block. Gives (Transaction p.line block))) p s rest
-StatementFrom dictionary n inner (keyword.Code code) p s rest =
-    After (Counts 1) (Gives (Word p.line code)) p s rest
+    UpdateOn dictionary n (list_at p).0 p.line (list_at p).1 s rest
+StatementFrom dictionary n inner keyword.If p s rest = IfIs dictionary n inner p s rest
+StatementFrom dictionary n inner keyword.Transaction p s rest = TransactionOn n inner p.line p s rest
+StatementFrom dictionary n inner (keyword.Code code) p s rest = WordOn code p.line p s rest
 StatementFrom dictionary n inner keyword.Other p s rest = ⊥
 
 abbrev pub StatementIs : Dictionary → ℕ → Form Place Statement → Form Place Statement

@@ -1,6 +1,9 @@
--- The tokens of a policy text: blanks and comments are skipped, and the longest token is taken, an operator before a word.
-use Rattle.std.specs.Prelude.{ℕ, zero, suc, ◌+◌, Bool, true, false, not, ◌&&◌, ◌||◌, ◌==◌, List, [], ◌∷◌, take, drop, Option, Some, None, if◌then◌else◌, option_map}
+-- The tokens of a policy text: blanks and comments are skipped, and the longest token is taken, an operator
+-- before a word.
+use Rattle.std.specs.Prelude.{ℕ, zero, suc, ◌+◌, Bool, true, false, not, ◌&&◌, ◌||◌, ◌==◌, List, [], ◌∷◌, take, drop, Option, Some, None, bytes_eq, nat_eq, codes, if◌then◌else◌, option_map}
 use Rattle.std.specs.Char.{is_ascii_alphanumeric}
+use Rattle.std.specs.List.{list_any}
+use Rattle.avp_unlang.specs.Octets.{backslash, carriage_return, colon, double_quote, equals, hyphen, line_feed, number_sign, single_quote, space, tab}
 use Rattle.avp_unlang.specs.Places.{Place}
 use Rattle.avp_unlang.specs.declared.text.tokens.Token.{Token}
 use Rattle.avp_unlang.specs.declared.text.tokens.Token.TheVariants.{Operator, Word, Quoted, Unreadable, End}
@@ -13,27 +16,30 @@ use Rattle.avp_dict.specs.declared.value.quotes.QuoteMark.TheVariants as quote
 -- the line, and whether a comment goes on.
 unfoldable pub passed : ℕ → Bool → ℕ → Option (ℕ × Bool)
 passed line comment c =
-    if c == 10 then Some (line + 1, false)
-    else if comment || c == 35 then Some (line, true)
-    else if c == 32 || c == 9 || c == 13 then Some (line, false)
+    if c == line_feed then Some (line + 1, false)
+    else if comment || c == number_sign then Some (line, true)
+    else if c == space || c == tab || c == carriage_return then Some (line, false)
     else None
 
 -- the line and the text where the next token begins
 abbrev pub skipped : ℕ → Bool → List ℕ → ℕ × List ℕ
 skipped line comment [] = (line, [])
-skipped line comment (c ∷ cs) = elim (passed line comment c) [ None ↦ (line, c ∷ cs) | Some p ↦ skipped p.0 p.1 cs ]
+skipped line comment (c ∷ cs) = elim (passed line comment c) [
+  | None ↦ (line, c ∷ cs)
+  | Some p ↦ skipped p.0 p.1 cs
+]
 
 -- letters, digits, `-`, `_`, `.`, `/`, `:` and `@`
 unfoldable pub is_word_octet : ℕ → Bool
-is_word_octet c = is_ascii_alphanumeric c || c == 45 || c == 95 || c == 46 || c == 47 || c == 58 || c == 64
+is_word_octet c = is_ascii_alphanumeric c || list_any (nat_eq c) (codes "-_./:@")
 
 abbrev pub begins_equal : List ℕ → Bool
 begins_equal [] = false
-begins_equal (c ∷ cs) = c == 61
+begins_equal (c ∷ cs) = c == equals
 
 -- a `:` or `-` before `=` is not part of a word
 unfoldable pub is_in_word : ℕ → List ℕ → Bool
-is_in_word c after = is_word_octet c && not ((c == 58 || c == 45) && begins_equal after)
+is_in_word c after = is_word_octet c && not ((c == colon || c == hyphen) && begins_equal after)
 
 abbrev pub word_length : List ℕ → ℕ
 word_length [] = 0
@@ -43,48 +49,47 @@ word_length (c ∷ cs) = if is_in_word c cs then word_length cs + 1 else 0
 abbrev pub quoted_length : ℕ → Bool → List ℕ → Option ℕ
 quoted_length closing escaped [] = None
 quoted_length closing escaped (c ∷ cs) =
-    if c == 10 then None
+    if c == line_feed then None
     else if not escaped && c == closing then Some 0
-    else option_map (λ n. n + 1) (quoted_length closing (not escaped && c == 92) cs)
+    else option_map (λ n. n + 1) (quoted_length closing (not escaped && c == backslash) cs)
 
--- the operators of two octets: `||`, `&&`, `!*`, and those that end with `=`
-unfoldable pub double : ℕ → ℕ → Option Sign
-double a b =
-    if a == 124 && b == 124 then Some sign.Or
-    else if a == 38 && b == 38 then Some sign.And
-    else if a == 33 && b == 42 then Some sign.RemoveAll
-    else if not (b == 61) then None
-    else if a == 33 then Some sign.Differs
-    else if a == 61 then Some sign.Equal
-    else if a == 58 then Some sign.Replace
-    else if a == 43 then Some sign.Append
-    else if a == 94 then Some sign.Prepend
-    else if a == 45 then Some sign.RemoveEqual
-    else if a == 60 then Some sign.AtMost
-    else if a == 62 then Some sign.AtLeast
+-- the operators and brackets: the sign that a text is
+unfoldable pub sign_named : List ℕ → Option Sign
+sign_named text =
+    if bytes_eq text (codes "||") then Some sign.Or
+    else if bytes_eq text (codes "&&") then Some sign.And
+    else if bytes_eq text (codes "!*") then Some sign.RemoveAll
+    else if bytes_eq text (codes ":=") then Some sign.Replace
+    else if bytes_eq text (codes "+=") then Some sign.Append
+    else if bytes_eq text (codes "^=") then Some sign.Prepend
+    else if bytes_eq text (codes "-=") then Some sign.RemoveEqual
+    else if bytes_eq text (codes "==") then Some sign.Equal
+    else if bytes_eq text (codes "!=") then Some sign.Differs
+    else if bytes_eq text (codes "<=") then Some sign.AtMost
+    else if bytes_eq text (codes ">=") then Some sign.AtLeast
+    else if bytes_eq text (codes "{") then Some sign.BlockStart
+    else if bytes_eq text (codes "}") then Some sign.BlockEnd
+    else if bytes_eq text (codes "(") then Some sign.Open
+    else if bytes_eq text (codes ")") then Some sign.Close
+    else if bytes_eq text (codes "!") then Some sign.Not
+    else if bytes_eq text (codes "&") then Some sign.Reference
+    else if bytes_eq text (codes "=") then Some sign.AddNew
+    else if bytes_eq text (codes "<") then Some sign.Less
+    else if bytes_eq text (codes ">") then Some sign.Greater
     else None
 
--- and of one: `{`, `}`, `(`, `)`, `!`, `&`, `=`, `<`, `>`
-unfoldable pub single : ℕ → Option Sign
-single a =
-    if a == 123 then Some sign.BlockStart
-    else if a == 125 then Some sign.BlockEnd
-    else if a == 40 then Some sign.Open
-    else if a == 41 then Some sign.Close
-    else if a == 33 then Some sign.Not
-    else if a == 38 then Some sign.Reference
-    else if a == 61 then Some sign.AddNew
-    else if a == 60 then Some sign.Less
-    else if a == 62 then Some sign.Greater
-    else None
-
+-- a sign of two octets, the first of them this one
 abbrev pub double_at : ℕ → List ℕ → Option (Sign × List ℕ)
 double_at a [] = None
-double_at a (b ∷ cs) = option_map (λ s. (s, cs)) (double a b)
+double_at a (b ∷ cs) = option_map (λ s. (s, cs)) (sign_named (a ∷ b ∷ []))
 
+-- the longest sign that a text begins with, and the text after it
 unfoldable pub operator_at : List ℕ → Option (Sign × List ℕ)
 operator_at [] = None
-operator_at (c ∷ cs) = elim (double_at c cs) [ None ↦ option_map (λ s. (s, cs)) (single c) | Some found ↦ Some found ]
+operator_at (c ∷ cs) = elim (double_at c cs) [
+  | None ↦ option_map (λ s. (s, cs)) (sign_named (c ∷ []))
+  | Some found ↦ Some found
+]
 
 -- Where no token begins, that is the token, and nothing is left after it.
 abbrev pub word_at : List ℕ → ℕ → Token × List ℕ
@@ -96,11 +101,17 @@ quoted_at q text None = (Unreadable, [])
 quoted_at q text (Some n) = (Quoted q (take n text), drop (n + 1) text)
 
 unfoldable pub quote_of : ℕ → Option QuoteMark
-quote_of c = if c == 34 then Some quote.Double else if c == 39 then Some quote.Single else None
+quote_of c =
+    if c == double_quote then Some quote.Double
+    else if c == single_quote then Some quote.Single
+    else None
 
 unfoldable pub text_at : List ℕ → Token × List ℕ
 text_at [] = (End, [])
-text_at (c ∷ cs) = elim (quote_of c) [ None ↦ word_at (c ∷ cs) (word_length (c ∷ cs)) | Some q ↦ quoted_at q cs (quoted_length c false cs) ]
+text_at (c ∷ cs) = elim (quote_of c) [
+  | None ↦ word_at (c ∷ cs) (word_length (c ∷ cs))
+  | Some q ↦ quoted_at q cs (quoted_length c false cs)
+]
 
 -- the token that a text begins with, and the text after it
 unfoldable pub token_at : List ℕ → Token × List ℕ

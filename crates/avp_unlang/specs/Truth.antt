@@ -57,7 +57,9 @@ number_order _ _ = None
 
 -- the order of two values of a type: of numbers, or else of octets, one after the other, a proper prefix first
 abbrev pub order : Kind → Value → Value → Option Ordering
-order kind v w = if is_numeric kind then number_order v w else Some (slice_cmp nat_cmp (octets_of (Some kind) v) (octets_of (Some kind) w))
+order kind v w =
+    if is_numeric kind then number_order v w
+    else Some (slice_cmp nat_cmp (octets_of (Some kind) v) (octets_of (Some kind) w))
 
 abbrev pub meets : Relation → Ordering → Bool
 meets Equal o = is_eq o
@@ -126,7 +128,9 @@ abbrev pub is_alike : Kind → Value → Bool
 is_alike kind v = is_raw v || is_of_kind v kind
 
 abbrev pub is_comparable : Comparison → State → Bool
-is_comparable c s = option_map_or (is_alike c.kind) (first_value c.list c.id s) true && option_map_or (is_alike c.kind) (compared_with c.comparand s) true
+is_comparable c s =
+    option_map_or (is_alike c.kind) (first_value c.list c.id s) true
+    && option_map_or (is_alike c.kind) (compared_with c.comparand s) true
 
 abbrev pub cond_comparable : Cond-F (State → Bool) → State → Bool
 cond_comparable (Any tests) s = list_all (λ (test : State → Bool). test s) tests

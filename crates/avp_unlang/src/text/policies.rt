@@ -5,6 +5,7 @@ ghost use Rattle.avp_dict.specs.Dictionary.{Dictionary};
 ghost use Rattle.avp_unlang.specs.declared.tree.Statement.{Statement as Tree};
 ghost use Rattle.avp_unlang.specs.Cleanness.{KeepsReplyClean};
 ghost use Rattle.avp_unlang.specs.Forms.{ReadsAll};
+ghost use Rattle.avp_unlang.specs.Places.{max_size};
 ghost use Rattle.avp_unlang.specs.Policies.{SpellsPolicy};
 ghost use Rattle.avp_unlang.specs.Sizes.{size_of};
 ghost use Rattle.avp_unlang.specs.Suiting.{IsSpelled, policy_suits};
@@ -31,6 +32,7 @@ pub struct Policy {
 impl Model for Policy {
     ghost use Rattle.std.specs.Prelude.{◌≡◌, ◌≤◌, List};
     ghost use Rattle.avp_unlang.specs.declared.tree.Statement.{Statement};
+    ghost use Rattle.avp_unlang.specs.Places.{max_size};
     ghost use Rattle.avp_unlang.specs.Sizes.{size_of};
     ghost use Rattle.avp_unlang.specs.contracts.tree.Statement as e;
     ghost use Rattle.std.specs.Coded.{codes};
@@ -41,7 +43,7 @@ impl Model for Policy {
 
     ghost view = { λ p. p.statements };
 
-    ghost invariant = { λ p. (p.size ≡ size_of p.statements) × (p.size ≤ 65535) };
+    ghost invariant = { λ p. (p.size ≡ size_of p.statements) × (p.size ≤ max_size) };
 }
 
 impl Policy {
@@ -56,7 +58,7 @@ impl Policy {
 /// One for each update line, each condition of an `if` or `elsif` and each word, and two for each transaction.
 pub fn size(policy: &Policy) -> usize
     ensures count { result ≡ size_of policy.now }
-    ensures within { result ≤ 65535 }
+    ensures within { result ≤ max_size }
 {
     policy.size
 }

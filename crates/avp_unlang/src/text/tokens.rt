@@ -2,7 +2,7 @@
 
 ghost use Rattle.std.specs.Prelude.{◌≡◌, ◌≢◌, ◌≤◌, ◌<◌, [], ◌∷◌, length, MatchOption, IfSome, false, option_map};
 ghost use Rattle.avp_unlang.specs.declared.text.tokens.Token.TheVariants.{End};
-ghost use Rattle.avp_unlang.specs.Tokens.{is_in_word, word_length, quoted_length, quoted_at, word_at, double, single, operator_at, quote_of, text_at, token_at};
+ghost use Rattle.avp_unlang.specs.Tokens.{is_in_word, word_length, quoted_length, quoted_at, word_at, sign_named, operator_at, quote_of, text_at, token_at};
 
 use avp_dict::QuoteMark;
 use std::marker::Model;
@@ -151,9 +151,9 @@ fn quoted_length(closing: u8, text: &[u8]) -> Option<usize>
     None
 }
 
-#[tactic(auto, unfolding(crate::specs::Tokens::double))]
+#[tactic(auto, unfolding(crate::specs::Tokens::sign_named))]
 fn double(first: u8, second: u8) -> Option<Sign>
-    ensures { result ≡ double first second }
+    ensures { result ≡ sign_named (first ∷ second ∷ []) }
 {
     match (first, second) {
         (b'|', b'|') => Some(Sign::Or),
@@ -171,9 +171,9 @@ fn double(first: u8, second: u8) -> Option<Sign>
     }
 }
 
-#[tactic(auto, unfolding(crate::specs::Tokens::single))]
+#[tactic(auto, unfolding(crate::specs::Tokens::sign_named))]
 fn single(octet: u8) -> Option<Sign>
-    ensures { result ≡ single octet }
+    ensures { result ≡ sign_named (octet ∷ []) }
 {
     match octet {
         b'{' => Some(Sign::BlockStart),
@@ -190,7 +190,7 @@ fn single(octet: u8) -> Option<Sign>
 }
 
 #[tactic(auto, unfolding(crate::specs::Tokens::operator_at))]
-fn operator(text: &[u8]) -> Option<(Sign, &[u8])>
+fn operator_at(text: &[u8]) -> Option<(Sign, &[u8])>
     ensures same { option_map (λ x. (x.0, x.1.now)) result ≡ operator_at text.now }
     ensures shorter { IfSome result (λ x. length x.1.now < length text.now) }
 {
@@ -249,7 +249,7 @@ pub(crate) fn token_at<'a>(text: &'a [u8]) -> (Token<'a>, &'a [u8])
     ensures within { length result.1.now ≤ length text.now }
     ensures shorter { result.0 ≢ End → length result.1.now < length text.now }
 {
-    if let Some((sign, rest)) = operator(text) {
+    if let Some((sign, rest)) = operator_at(text) {
         return (Token::Operator(sign), rest);
     }
     match front(text) {
