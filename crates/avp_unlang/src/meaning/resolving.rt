@@ -218,10 +218,8 @@ fn text_value<S: Store>(
     ensures fits { IfOk result (λ v. IsTrue (fits (pair_of name.id v) dictionary.now)) }
 {
     let text = parts_text(alloc, dictionary, parts, store)?;
-    match dictionary.value_of_text(alloc, name, &text) {
-        Ok(value) => Ok(value),
-        Err(fault) => Err(fault.into()),
-    }
+    let value = dictionary.value_of_text(alloc, name, &text)?;
+    Ok(value)
 }
 
 fn source_value<S: Store>(
@@ -265,11 +263,10 @@ pub fn resolve<S: Store>(
 ) -> Result<Pair, Unresolved>
     requires line { IsTrue (line_suits dictionary.now line.now) }
     requires store { StateFits dictionary.now (present (S.history store.now)) }
-    ensures resolves { Resolves result (resolution dictionary.now line.now (present (S.history store.now))) }
+    ensures resolves { Resolves result
+        (resolution dictionary.now line.now (present (S.history store.now))) }
     ensures fits { IfOk result (λ pair. IsTrue (fits pair dictionary.now)) }
 {
-    match source_value(alloc, dictionary, line.id, &line.source, store) {
-        Ok(value) => Ok(Pair { id: line.id, value }),
-        Err(why) => Err(why),
-    }
+    let value = source_value(alloc, dictionary, line.id, &line.source, store)?;
+    Ok(Pair { id: line.id, value })
 }

@@ -114,10 +114,10 @@ fn comparand<'a>(
             let value = plain_literal(alloc, dictionary, named, &text, lines)?;
             Ok((Comparand::Literal(value), after))
         }
-        Token::Operator(Sign::Reference) => match alike(dictionary, named.id, &after) {
-            Ok(((list, other), rest)) => Ok((Comparand::Instance(list, other.id), rest)),
-            Err(fault) => Err(fault),
-        },
+        Token::Operator(Sign::Reference) => {
+            let ((list, other), rest) = alike(dictionary, named.id, &after)?;
+            Ok((Comparand::Instance(list, other.id), rest))
+        }
         _ => Err(at.misplaced()),
     }
 }
@@ -137,19 +137,17 @@ fn compared<'a>(
     let (token, after) = at.next();
     match relation_of(&token) {
         None => Ok((Cond::Present(list, named.id), at)),
-        Some(relation) => match comparand(alloc, dictionary, named, name_line, &after) {
-            Ok((comparand, rest)) => {
-                let comparison = Comparison {
-                    list,
-                    id: named.id,
-                    kind: type_of(dictionary, named.id),
-                    relation,
-                    comparand,
-                };
-                Ok((Cond::Compare(comparison), rest))
-            }
-            Err(fault) => Err(fault),
-        },
+        Some(relation) => {
+            let (comparand, rest) = comparand(alloc, dictionary, named, name_line, &after)?;
+            let comparison = Comparison {
+                list,
+                id: named.id,
+                kind: type_of(dictionary, named.id),
+                relation,
+                comparand,
+            };
+            Ok((Cond::Compare(comparison), rest))
+        }
     }
 }
 

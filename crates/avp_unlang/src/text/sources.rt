@@ -111,10 +111,10 @@ fn filled_source(
 {
     match whole_text(&parts) {
         None => Ok(Source::Text(named.raw, parts)),
-        Some(text) => match literal(alloc, dictionary, named, text, lines) {
-            Ok(value) => Ok(Source::Literal(value)),
-            Err(fault) => Err(fault),
-        },
+        Some(text) => {
+            let value = literal(alloc, dictionary, named, text, lines)?;
+            Ok(Source::Literal(value))
+        }
     }
 }
 
@@ -161,15 +161,13 @@ fn value_source<'a>(
             Ok((Source::Literal(value), after))
         }
         Token::Quoted(QuoteMark::Double, text) => {
-            match filled_text(alloc, dictionary, named, text, lines) {
-                Ok(source) => Ok((source, after)),
-                Err(fault) => Err(fault),
-            }
+            let source = filled_text(alloc, dictionary, named, text, lines)?;
+            Ok((source, after))
         }
-        Token::Operator(Sign::Reference) => match alike(dictionary, named.id, &after) {
-            Ok(((list, other), rest)) => Ok((Source::Instance(list, other.id), rest)),
-            Err(fault) => Err(fault),
-        },
+        Token::Operator(Sign::Reference) => {
+            let ((list, other), rest) = alike(dictionary, named.id, &after)?;
+            Ok((Source::Instance(list, other.id), rest))
+        }
         _ => Err(at.misplaced()),
     }
 }

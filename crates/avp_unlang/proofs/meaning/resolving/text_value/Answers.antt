@@ -4,6 +4,6 @@ use Rattle.avp_unlang.specs.Resolutions.{parts_text}
 use Rattle.avp_unlang.proofs.TypedValues.{spelled_fits}
 use Rattle.avp_unlang.proofs.meaning.resolving.text_value.Goals as goal
 
-pub returns-in-Ok-clause-fits : goal.returns-in-Ok-clause-fits
-returns-in-Ok-clause-fits g c =
-    spelled_fits c.args.dictionary.now c.args.name (parts_text c.args.dictionary.now (present (g.S.Store.history c.args.store.now)) c.args.parts.now) c.in-Ok.value c.requires.known (search rules)
+pub returns-clause-fits : goal.returns-clause-fits
+returns-clause-fits g c =
+    spelled_fits c.args.dictionary.now c.args.name (parts_text c.args.dictionary.now (present (g.S.Store.history c.args.store.now)) c.args.parts.now) c.in_ok-value.value c.requires.known (search rules)

@@ -1,10 +1,13 @@
 use Rattle.std.proofs.Common.{◌≡◌, rules}
+use Rattle.avp_unlang.specs.Conditions.{ComparandIs}
 use Rattle.avp_unlang.specs.declared.text.tokens.Token.TheVariants.{Operator}
 use Rattle.avp_unlang.specs.declared.text.tokens.Sign.TheVariants.{Reference}
 use Rattle.avp_unlang.proofs.ConditionsOne.{alike_refused}
+use Rattle.avp_unlang.proofs.Determined.{exits}
 use Rattle.avp_unlang.proofs.text.conditions.comparand.Goals as goal
 
-pub returns-in-Err-clause-read : goal.returns-in-Err-clause-read
-returns-in-Err-clause-read c =
+pub returns-in_err-list-in-Operator-Reference-clause-read : goal.returns-in_err-list-in-Operator-Reference-clause-read
+returns-in_err-list-in-Operator-Reference-clause-read c =
     let first : c.next-token.result.0 ≡ Operator Reference = search rules in
-    alike_refused c.args.dictionary.now c.args.named c.args.at.now c.next-token.result c.in-Err.fault c.next-token.ensures.same first c.in-Err.ensures.read
+    exits (ComparandIs c.args.dictionary.now c.args.named c.args.at.now) _ _ c.from_residual-in_err-list-in-Operator-Reference.ensures.1
+    (alike_refused c.args.dictionary.now c.args.named c.args.at.now c.next-token.result c.in_err-list-in-Operator-Reference.field-0.0 c.next-token.ensures.same first c.in_err-list-in-Operator-Reference.ensures.read)
