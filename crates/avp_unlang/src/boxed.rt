@@ -4,6 +4,8 @@ use std::alloc::{AllocError, Global};
 use std::marker::Model;
 
 /// A `Box` that contracts see as its value.
+// It and its file of `specs/formers`, by which a type may reach itself through it, have the form of the kit's
+// `sqlite_items`.
 #[derive(Debug, Drop)]
 pub struct Boxed<T> {
     inner: Box<T>,

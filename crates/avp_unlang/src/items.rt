@@ -3,6 +3,8 @@ ghost use Rattle.std.specs.Prelude.{◌≡◌, ◌==◌, length};
 use std::marker::Model;
 
 /// A list of a policy's parts, seen by contracts as their list.
+// It and its file of `specs/formers`, by which a type may reach itself through it, have the form of the kit's
+// `sqlite_items`.
 #[derive(Debug, Drop)]
 pub struct Items<T> {
     items: Vec<T>,

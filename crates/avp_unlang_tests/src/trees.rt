@@ -4,25 +4,10 @@ use crate::texts::policy_of;
 use avp_dict::Kind;
 use avp_lists::{AttrId, List, Op, Value};
 use avp_unlang::{Code, Comparand, Cond, Line, Part, Relation, Source, Statement, size};
-use samples::octets;
+use samples::{NESTED_TRANSACTIONS, octets};
 use std::alloc::Global;
 use std::process::Abort;
 use std::test::Fail;
-
-const TRANSACTIONS: &[u8] = b"update reply { Class += 0x01 }
-transaction {
-  update reply { Class += 0x02 }
-  transaction {
-    update reply { Class := 0x03 }
-    transaction {
-      update reply { Class !* ANY }
-      fail
-    }
-    update reply { Reply-Message += \"m\" }
-  }
-  reject
-}
-update control { Session-Timeout := 60 }";
 
 fn expect_timeout(rt: &impl Abort, lines: &[Line]) -> Result<(), Fail> {
     let [line] = lines else {
@@ -56,7 +41,7 @@ fn expect_transactions(rt: &impl Abort, statements: &[Statement]) -> Result<(), 
 
 #[test]
 fn transactions(rt: HostRuntime) -> Result<(), Fail> {
-    let policy = policy_of(rt.alloc(), TRANSACTIONS)?;
+    let policy = policy_of(rt.alloc(), NESTED_TRANSACTIONS)?;
     assert_eq!(rt; size(&policy), 14);
     expect_transactions(&rt, policy.statements().as_slice())
 }
