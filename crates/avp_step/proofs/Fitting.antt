@@ -15,8 +15,9 @@ use Rattle.avp_lists.specs.declared.lists.List.TheVariants.{Control, Reply, Requ
 use Rattle.avp_lists.specs.declared.lists.State.{State}
 use Rattle.avp_dict.specs.Dictionary.{Dictionary}
 use Rattle.avp_dict.specs.Limits.{fits}
-use Rattle.avp_unlang.specs.Meaning.{Edited, Refused, edit_of, line_result, reason, result_from}
+use Rattle.avp_unlang.specs.Meaning.{Edited, Failed, edit_of, line_result, reason, result_from}
 use Rattle.avp_unlang.specs.Resolutions.{StateFits, line_suits, resolution}
+use Rattle.avp_unlang.specs.declared.meaning.reasons.Reason.TheVariants.{Full}
 use Rattle.avp_unlang.specs.declared.meaning.resolving.Unresolved.{Unresolved}
 use Rattle.avp_unlang.specs.declared.tree.Line.{Line}
 use Rattle.std.proofs.lemmas.Bool.{le-leb, lt-leb}
@@ -30,7 +31,9 @@ use Rattle.avp_unlang.specs.Truth.{comparable}
 use Rattle.avp_unlang.specs.declared.tree.Branch.{Branch, out-Branch}
 use Rattle.avp_unlang.specs.declared.tree.Statement.{Statement}
 use Rattle.avp_unlang.proofs.SpelledSuits.{suits_Branch}
-use Rattle.avp_step.proofs.OpenedFrames.{and_left, and_right, put_stays}
+use Rattle.avp_step.proofs.OpenedFrames.{put_stays}
+use Rattle.avp_unlang.proofs.Comparing.{and_left, and_right}
+use Rattle.std.proofs.lemmas.Bool.{and_from}
 use Rattle.avp_step.proofs.StepLaws.{and_assoc, and_true, frames_suit_push}
 use Rattle.avp_step.specs.internal.Frames.{StaysSuited, frame_suits, frames_suit}
 use Rattle.avp_step.specs.declared.frames.Frame.{Frame}
@@ -104,26 +107,23 @@ module _ (d : Dictionary) (line : Line) (old : History) where
   line_edited new pair has resolved within is =
       let p = added_present old new (edited (edit_of line pair) (present old)) has is in (
         ap (result_from line (present old)) resolved
-            ∙ ap (λ b. cond b (Edited (edited (edit_of line pair) (present old))) (Refused 4)) (le-leb _ _ within)
+            ∙ ap (λ b. cond b (Edited (edited (edit_of line pair) (present old))) (Failed Full)) (le-leb _ _ within)
             ∙ ap Edited (sym p),
         is ∙ ap (λ s. continued s old) (sym p),
       )
 
   -- a line whose list is full
-  pub line_full : (new : History) (pair : Pair) → resolution d line (present old) ≡ Ok pair → IsFull (edit_of line pair) (present old) → new ≡ old → IsLineDone d line old new (Some 4)
+  pub line_full : (new : History) (pair : Pair) → resolution d line (present old) ≡ Ok pair → IsFull (edit_of line pair) (present old) → new ≡ old → IsLineDone d line old new (Some Full)
   unfolding line_result
   line_full new pair resolved full is =
-      (ap (result_from line (present old)) resolved ∙ ap (λ b. cond b (Edited (edited (edit_of line pair) (present old))) (Refused 4)) (lt-leb _ _ full), is)
+      (ap (result_from line (present old)) resolved ∙ ap (λ b. cond b (Edited (edited (edit_of line pair) (present old))) (Failed Full)) (lt-leb _ _ full), is)
 
   -- a line with no pair
-  pub line_unresolved : (why : Unresolved) (k : ℕ) → resolution d line (present old) ≡ Err why → reason why ≡ k → IsLineDone d line old old (Some k)
+  pub line_unresolved : (why : Unresolved) → resolution d line (present old) ≡ Err why → IsLineDone d line old old (Some (reason why))
   unfolding line_result
-  line_unresolved why k resolved is = (ap (result_from line (present old)) resolved ∙ ap Refused is, refl)
+  line_unresolved why resolved = (ap (result_from line (present old)) resolved, refl)
 
 -- ---- frames
-
-and_both : (a b : Bool) → a ≡ true → b ≡ true → (a && b) ≡ true
-and_both a b h k = rw (h, k)
 
 -- two frames are put
 pub entered_stays : (fs fs1 fs2 : List Frame) (n place : ℕ) (ss : Bor (List Statement)) → fs1 ≡ fs ++ End n place ∷ [] → fs2 ≡ fs1 ++ Statements ss ∷ [] → StaysSuited (λ d. frames_suit d fs && policy_suits d ss.now) None fs2

@@ -10,7 +10,7 @@ use Rattle.avp_unlang.specs.declared.tree.Statement.TheOpen.{Statement-F, Branch
 use Rattle.avp_unlang.specs.declared.tree.Statement.TheViews.{roll-Statement, roll-Branch}
 use Rattle.avp_unlang.specs.declared.tree.Statement.TheFolds.{fold-roll-Statement, fold-roll-Branch, fold-Branch, map-Statement, map-Branch, ind-Statement}
 use Rattle.avp_unlang.specs.declared.tree.Branch.{Branch}
-use Rattle.avp_unlang.specs.Meaning.{Outcome, running, Edited, Refused, line_result}
+use Rattle.avp_unlang.specs.Meaning.{Outcome, running, Edited, Failed, line_result}
 use Rattle.avp_unlang.specs.Meaning.{Meaning, Choice, meaning, meaning_of, statement_meaning, branch_meaning, all_lines, first_true, after_body, in_order, unless_stop}
 use Rattle.avp_step.specs.Trace.{Entry, Steps, Guarded, end_of, steps, guarded, statement_steps, guarded_steps, line_steps, line_step, branch_steps, all_steps, then_steps, unless_stopped, closed, tested, trace_of}
 use Rattle.avp_dict.specs.Dictionary.{Dictionary}
@@ -41,7 +41,7 @@ module _ (d : Dictionary) where
   lines_agree entry [] s c = refl
   lines_agree entry (l ∷ ls) s c =
       elim (line_result d l s) as (λ r. end_of (running s c) (line_step entry l r c (line_steps d entry ls)) ≡ after_line entry r c (all_lines d entry ls))
-      [ Edited s' ↦ lines_agree entry ls s' c | Refused k ↦ refl ]
+      [ Edited s' ↦ lines_agree entry ls s' c | Failed why ↦ refl ]
 
   -- the same of a statement and of a branch
   abbrev pub StatementAgrees : Statement → Type 0

@@ -18,6 +18,7 @@ use Rattle.avp_step.specs.declared.frames.Next.{Next}
 use Rattle.avp_step.proofs.StepLaws.{then_cong, then_cong_right, then_assoc, goes_on, rest_push, Sit_push, all_skips_push, Sit_pop, frames_suit_push}
 use Rattle.avp_dict.specs.Dictionary.{Dictionary}
 use Rattle.avp_unlang.specs.Suiting.{policy_suits, statement_suits}
+use Rattle.avp_unlang.proofs.Comparing.{and_left, and_right}
 
 -- a frame is put that has a statement's steps
 pub opened : (s : Statement) (fs new : List Frame) (g : Frame) (place : ℕ) → new ≡ fs ++ g ∷ [] → ((d : Dictionary) (at : States) (o : Outcome) → o.stopped ≡ false → at place ≡ o.state → frame_steps d at g o ≡ steps d s o) → IsSame (λ d at. then_steps (steps d s) (rest d at fs)) None new false place
@@ -97,14 +98,6 @@ block_passes all first others fs fs1 n split e h =
     omega (arith, h, ap all_skips e, all_skips_push fs (Statements others), ap skips_of split)
 
 -- ---- fitting
-
-pub and_left : (a b : Bool) → (a && b) ≡ true → a ≡ true
-and_left true b h = refl
-and_left false b h = h
-
-pub and_right : (a b : Bool) → (a && b) ≡ true → b ≡ true
-and_right true b h = h
-and_right false b h = cc
 
 -- a frame is put that fits where what it stands for does
 pub put_stays : (before : Dictionary → Bool) (fs new : List Frame) (g : Frame) → new ≡ fs ++ g ∷ [] → ((d : Dictionary) → before d ≡ (frames_suit d fs && frame_suits d g)) → StaysSuited before None new

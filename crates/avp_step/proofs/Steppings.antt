@@ -7,6 +7,7 @@ use Rattle.avp_lists.specs.States.{empty_state}
 use Rattle.avp_lists.specs.declared.lists.State.{State}
 use Rattle.avp_unlang.specs.declared.codes.Code.{Code}
 use Rattle.avp_unlang.specs.declared.codes.Code.TheVariants.{Fail}
+use Rattle.avp_unlang.specs.declared.meaning.reasons.Reason.{Reason}
 use Rattle.avp_unlang.specs.declared.tree.Line.{Line}
 use Rattle.avp_step.specs.declared.labels.Label.TheVariants as label
 use Rattle.avp_unlang.specs.declared.tree.Statement.{Statement}
@@ -17,8 +18,8 @@ use Rattle.avp_step.specs.declared.frames.Frame.TheVariants.{Statements, Lines, 
 use Rattle.avp_step.specs.declared.frames.Next.{Next}
 use Rattle.avp_step.specs.declared.frames.Next.TheVariants as next
 use Rattle.avp_step.specs.declared.marks.Mark.{Mark}
-use Rattle.avp_unlang.specs.Meaning.{Outcome, running, after_failure, LineResult, line_result, Edited, Refused}
-use Rattle.avp_step.specs.Trace.{Entry, Steps, Guarded, steps, guarded, statement_steps, guarded_steps, line_steps, line_step, branch_steps, all_steps, block_steps, end_of, then_steps, closed, tested}
+use Rattle.avp_unlang.specs.Meaning.{Outcome, running, after_failure, LineResult, line_result, Edited, Failed}
+use Rattle.avp_step.specs.Trace.{Entry, Steps, Guarded, steps, guarded, statement_steps, guarded_steps, line_steps, line_step, branch_steps, all_steps, block_steps, end_of, then_steps, closed, reason_number, tested}
 use Rattle.avp_step.specs.internal.Frames.{frame_depth, frame_entry, States, else_steps, frame_steps, next_steps, rest, Sit, IsSame, IsNext}
 use Rattle.avp_unlang.specs.Depth.{depth_of_branches}
 use Rattle.avp_unlang.specs.Depth.{depth_of, depth_of_branch, statement_depth, branch_depth}
@@ -111,8 +112,8 @@ module _ (d : Dictionary) where
       ∙ ap (λ es. (record { label = label.Line l.line; outcome = o' }) ∷ es) (sym (ap (λ l. rest d at l o') e ∙ rest_push d at fs (Lines others entry) o'))
 
   -- a line that fails
-  pub failed_rest : (all : List Line) (l : Line) (others : List Line) (entry k : ℕ) (fs : List Frame) (at : States) (o : Outcome) → all ≡ l ∷ others → line_result d l o.state ≡ Refused k → then_steps (line_steps d (at entry) all) (rest d at fs) o ≡ (record { label = label.Failed l.line k; outcome = after_failure (at entry) }) ∷ rest d at fs (after_failure (at entry))
-  failed_rest all l others entry k fs at o split is =
+  pub failed_rest : (all : List Line) (l : Line) (others : List Line) (entry : ℕ) (why : Reason) (fs : List Frame) (at : States) (o : Outcome) → all ≡ l ∷ others → line_result d l o.state ≡ Failed why → then_steps (line_steps d (at entry) all) (rest d at fs) o ≡ (record { label = label.Failed l.line (reason_number why); outcome = after_failure (at entry) }) ∷ rest d at fs (after_failure (at entry))
+  failed_rest all l others entry why fs at o split is =
       ap (λ ls. then_steps (line_steps d (at entry) ls) (rest d at fs) o) split
       ∙ ap (λ r. then_steps (λ o. line_step (at entry) l r o.code (line_steps d (at entry) others)) (rest d at fs) o) is
 
@@ -132,16 +133,17 @@ module _ (d : Dictionary) where
       stepped (λ at. then_steps (next_steps d at (next.Lines lines entry)) (rest d at fs)) last old new (record { label = label.Line l.line; code = last.code; stopped = false }) fs1 (present new) has done.1
       (λ at names. edited_rest lines.now l others entry fs fs1 at (standing last old) (present new) split done.0 e)
 
-  pub failed_step : (lines others : Bor (List Line)) (l : Line) (entry k : ℕ) (fs : List Frame) (last : Mark) (old mid new : History) → old.place < length old.states → entry ≤ old.place → IsLineDone d l old mid (Some k) → new ≡ continued (state_at mid entry) mid → lines.now ≡ l ∷ others.now → IsStep d (λ at. then_steps (next_steps d at (next.Lines lines entry)) (rest d at fs)) last old new (record { label = label.Failed l.line k; code = Fail; stopped = true }) fs
-  failed_step lines others l entry k fs last old mid new has earlier done added split =
-      stepped (λ at. then_steps (next_steps d at (next.Lines lines entry)) (rest d at fs)) last old new (record { label = label.Failed l.line k; code = Fail; stopped = true }) fs (state_at old entry) has
+  pub failed_step : (lines others : Bor (List Line)) (l : Line) (entry : ℕ) (why : Reason) (k : ℕ) (fs : List Frame) (last : Mark) (old mid new : History) → k ≡ reason_number why → old.place < length old.states → entry ≤ old.place → IsLineDone d l old mid (Some why) → new ≡ continued (state_at mid entry) mid → lines.now ≡ l ∷ others.now → IsStep d (λ at. then_steps (next_steps d at (next.Lines lines entry)) (rest d at fs)) last old new (record { label = label.Failed l.line k; code = Fail; stopped = true }) fs
+  failed_step lines others l entry why k fs last old mid new is has earlier done added split =
+      subst (λ (n : ℕ). IsStep d (λ at. then_steps (next_steps d at (next.Lines lines entry)) (rest d at fs)) last old new (record { label = label.Failed l.line n; code = Fail; stopped = true }) fs) (sym is)
+      (stepped (λ at. then_steps (next_steps d at (next.Lines lines entry)) (rest d at fs)) last old new (record { label = label.Failed l.line (reason_number why); code = Fail; stopped = true }) fs (state_at old entry) has
       (added ∙ ap (λ h. continued (state_at h entry) h) done.1)
-      (λ at names. failed_rest lines.now l others.now entry k fs at (standing last old) split done.0 ∙ ap (λ x. (record { label = label.Failed l.line k; outcome = after_failure x }) ∷ rest d at fs (after_failure x)) (names entry earlier))
+      (λ at names. failed_rest lines.now l others.now entry why fs at (standing last old) split done.0 ∙ ap (λ x. (record { label = label.Failed l.line (reason_number why); outcome = after_failure x }) ∷ rest d at fs (after_failure x)) (names entry earlier)))
 
   -- the first step of lines is of an update line
   first_line : (entry : State) (l : Line) (r : LineResult) (c : Code) (t : Steps) (u : Steps) (o : Outcome) → (e : Entry) × (es : List Entry) × (then_steps (λ o. line_step entry l r c t) u o ≡ e ∷ es) × IsLineLabel e.label
   first_line entry l (Edited s) c t u o = (_, _, refl, tt)
-  first_line entry l (Refused k) c t u o = (_, _, refl, tt)
+  first_line entry l (Failed why) c t u o = (_, _, refl, tt)
 
   pub refused_step : (lines others : Bor (List Line)) (l : Line) (entry : ℕ) (fs fs1 : List Frame) (last : Mark) (old : History) → last.stopped ≡ false → lines.now ≡ l ∷ others.now → fs1 ≡ fs ++ Lines lines entry ∷ [] → IsRefused d (λ at. then_steps (next_steps d at (next.Lines lines entry)) (rest d at fs)) last old fs1
   refused_step lines others l entry fs fs1 last old run split e = record {
@@ -179,7 +181,7 @@ module _ (d : Dictionary) where
 
   line_some : (entry : State) (l : Line) (r : LineResult) (c : Code) (t : Steps) → Some' (line_step entry l r c t)
   line_some entry l (Edited s) c t = record { first = _; others = _; is = refl }
-  line_some entry l (Refused k) c t = record { first = _; others = _; is = refl }
+  line_some entry l (Failed why) c t = record { first = _; others = _; is = refl }
 
   lines_some : (entry : State) (ls : List Line) (o : Outcome) → 1 ≤ length ls → Some' (line_steps d entry ls o)
   lines_some entry [] o h = absurd (omega arith)

@@ -8,7 +8,7 @@ use Rattle.avp_unlang.specs.declared.tree.Statement.TheOpen.{Statement-F, Branch
 use Rattle.avp_unlang.specs.declared.tree.Statement.TheViews.{roll-Statement, roll-Branch}
 use Rattle.avp_unlang.specs.declared.tree.Statement.TheFolds.{fold-roll-Statement, fold-roll-Branch, map-Statement, map-Branch, ind-Statement}
 use Rattle.avp_unlang.specs.declared.tree.Branch.{Branch}
-use Rattle.avp_unlang.specs.Meaning.{Outcome, running, Edited, Refused, line_result}
+use Rattle.avp_unlang.specs.Meaning.{Outcome, running, Edited, Failed, line_result}
 use Rattle.avp_step.specs.Trace.{Steps, Guarded, end_of, steps, guarded, statement_steps, guarded_steps, line_steps, line_step, branch_steps, all_steps, then_steps, unless_stopped, closed, tested, entered, trace_of}
 use Rattle.avp_unlang.specs.Sizes.{size, size_of, size_of_branch, statement_size, branch_size, total}
 use Rattle.avp_dict.specs.Dictionary.{Dictionary}
@@ -26,7 +26,7 @@ module _ (d : Dictionary) where
   lines_at_most entry [] o = omega arith
   lines_at_most entry (l ∷ ls) o =
       elim (line_result d l o.state) as (λ r. length (line_step entry l r o.code (line_steps d entry ls)) ≤ length (l ∷ ls))
-      [ Edited s ↦ omega (arith, lines_at_most entry ls (running s o.code)) | Refused k ↦ omega arith ]
+      [ Edited s ↦ omega (arith, lines_at_most entry ls (running s o.code)) | Failed why ↦ omega arith ]
 
   abbrev IsSized : Statement → Type 0
   IsSized s = IsAtMost (steps d s) (size s)

@@ -2,10 +2,12 @@
 use Rattle.std.specs.Prelude.{ℕ, Bool, true, false, if◌then◌else◌, List, [], ◌∷◌, ◌++◌, map, Option, Some, None}
 use Rattle.avp_lists.specs.declared.lists.State.{State}
 use Rattle.avp_dict.specs.Dictionary.{Dictionary}
-use Rattle.avp_unlang.specs.Meaning.{Outcome, running, after_word, after_failure, LineResult, Edited, Refused, line_result}
+use Rattle.avp_unlang.specs.Meaning.{Outcome, running, after_word, after_failure, LineResult, Edited, Failed, line_result}
 use Rattle.avp_unlang.specs.Truth.{truth}
 use Rattle.avp_unlang.specs.declared.codes.Code.{Code}
 use Rattle.avp_unlang.specs.declared.codes.Code.TheVariants as code
+use Rattle.avp_unlang.specs.declared.meaning.reasons.Reason.{Reason}
+use Rattle.avp_unlang.specs.declared.meaning.reasons.Reason.TheVariants.{Absent, NotValue, TooLong, Full}
 use Rattle.avp_unlang.specs.declared.tree.Branch.{Branch}
 use Rattle.avp_unlang.specs.declared.tree.Cond.{Cond}
 use Rattle.avp_unlang.specs.declared.tree.Line.{Line}
@@ -44,12 +46,19 @@ all_steps (t ∷ ts) o = then_steps t (unless_stopped (all_steps ts)) o
 
 -- ---- update lines
 
+-- the number that a label gives a reason
+abbrev pub reason_number : Reason → ℕ
+reason_number Absent = 1
+reason_number NotValue = 2
+reason_number TooLong = 3
+reason_number Full = 4
+
 -- a line with its result, and then the others; after one that fails the lists are those at the update's entry, and the run stops
 abbrev pub line_step : State → Line → LineResult → Code → Steps → List Entry
 line_step entry line (Edited s) c others =
     record { label = label.Line line.line; outcome = running s c } ∷ others (running s c)
-line_step entry line (Refused k) c others =
-    record { label = label.Failed line.line k; outcome = after_failure entry } ∷ []
+line_step entry line (Failed why) c others =
+    record { label = label.Failed line.line (reason_number why); outcome = after_failure entry } ∷ []
 
 abbrev pub line_steps : Dictionary → State → List Line → Steps
 line_steps dictionary entry [] o = []

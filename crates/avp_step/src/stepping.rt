@@ -8,7 +8,7 @@ ghost use Rattle.avp_unlang.specs.Meaning.{stops};
 ghost use Rattle.avp_unlang.specs.Suiting.{branches_suit, else_suits, policy_suits};
 ghost use Rattle.avp_unlang.specs.Resolutions.{StateFits, line_suits};
 ghost use Rattle.avp_unlang.specs.Depth.{depth_of};
-ghost use Rattle.avp_step.specs.Trace.{then_steps};
+ghost use Rattle.avp_step.specs.Trace.{reason_number, then_steps};
 ghost use Rattle.avp_step.specs.internal.Frames.{IsNext, NextSit, Sit, StaysSuited, frames_suit, next_suits, next_steps, rest};
 ghost use Rattle.avp_unlang.specs.Depth.{depth_of_branches, else_depth};
 ghost use Rattle.avp_step.specs.internal.Stepping.{HasRoom, IsLineDone, IsOver, IsRefused, IsStep, KeepsFit, StatesFit};
@@ -20,7 +20,7 @@ use crate::labels::Label;
 use crate::marks::Mark;
 use avp_dict::Dictionary;
 use avp_lists::{Edit, EditFault, Store};
-use avp_unlang::{Block, Branch, Code, Line, Statement, Unresolved, holds, resolve};
+use avp_unlang::{Block, Branch, Code, Line, Reason, Statement, Unresolved, holds, resolve};
 use std::alloc::{AllocError, Global};
 
 fn stops(code: Code) -> bool
@@ -36,9 +36,11 @@ fn stops(code: Code) -> bool
 fn go_back<S: Store>(store: &mut S, to: usize)
     requires earlier { to ≤ (S.history store.old).place }
     requires room { 0 < S.room store.old }
-    ensures added { S.history store.new ≡ continued (state_at (S.history store.old) to) (S.history store.old) }
+    ensures added { S.history store.new ≡ continued (state_at (S.history store.old) to)
+        (S.history store.old) }
     ensures fit { KeepsFit (S.history store.old) (S.history store.new) }
-    ensures kept { (S.history store.old).place + S.room store.old ≤ (S.history store.new).place + S.room store.new }
+    ensures kept { (S.history store.old).place + S.room store.old
+        ≤ (S.history store.new).place + S.room store.new }
 {
     match store.rollback(to) {
         Ok(()) => (),
@@ -49,9 +51,11 @@ fn go_back<S: Store>(store: &mut S, to: usize)
 // One more state, which equals the present one.
 fn stay<S: Store>(store: &mut S)
     requires { 0 < S.room store.old }
-    ensures added { S.history store.new ≡ continued (present (S.history store.old)) (S.history store.old) }
+    ensures added { S.history store.new ≡ continued (present (S.history store.old))
+        (S.history store.old) }
     ensures fit { KeepsFit (S.history store.old) (S.history store.new) }
-    ensures kept { (S.history store.old).place + S.room store.old ≤ (S.history store.new).place + S.room store.new }
+    ensures kept { (S.history store.old).place + S.room store.old
+        ≤ (S.history store.new).place + S.room store.new }
 {
     let place = store.place();
     go_back(store, place);
@@ -66,7 +70,8 @@ fn step_word<S: Store>(store: &mut S, line: usize, word: Code) -> Mark
         (rest dictionary at frames))
         last (S.history store.old) (S.history store.new) result frames }
     ensures fit { KeepsFit (S.history store.old) (S.history store.new) }
-    ensures kept { (S.history store.old).place + S.room store.old ≤ (S.history store.new).place + S.room store.new }
+    ensures kept { (S.history store.old).place + S.room store.old
+        ≤ (S.history store.new).place + S.room store.new }
 {
     stay(store);
     Mark {
@@ -86,7 +91,8 @@ fn step_close<S: Store>(store: &mut S, last: Mark, line: usize, to: usize) -> Ma
         (rest dictionary at frames))
         last (S.history store.old) (S.history store.new) result frames }
     ensures fit { KeepsFit (S.history store.old) (S.history store.new) }
-    ensures kept { (S.history store.old).place + S.room store.old ≤ (S.history store.new).place + S.room store.new }
+    ensures kept { (S.history store.old).place + S.room store.old
+        ≤ (S.history store.new).place + S.room store.new }
 {
     if last.stopped {
         go_back(store, to);
@@ -104,19 +110,32 @@ fn step_close<S: Store>(store: &mut S, last: Mark, line: usize, to: usize) -> Ma
     }
 }
 
-// Edits by a line, or gives the number of the reason why it fails.
+fn reason_number(reason: Reason) -> u8
+    ensures { result ≡ reason_number reason }
+{
+    match reason {
+        Reason::Absent => 1,
+        Reason::NotValue => 2,
+        Reason::TooLong => 3,
+        Reason::Full => 4,
+    }
+}
+
+// Edits by a line, or gives the reason why it fails.
 fn edit_by<S: Store>(
     alloc: Global,
     dictionary: &Dictionary,
     store: &mut S,
     line: &Line,
-) -> Result<Option<u8>, AllocError>
+) -> Result<Option<Reason>, AllocError>
     requires line { IsTrue (line_suits dictionary.now line.now) }
     requires states { StatesFit dictionary.now (S.history store.old) }
-    ensures done { IfOk result (λ failed. IsLineDone dictionary.now line.now (S.history store.old) (S.history store.new) failed) }
+    ensures done { IfOk result (λ failed. IsLineDone dictionary.now line.now (S.history store.old)
+        (S.history store.new) failed) }
     ensures fit { StatesFit dictionary.now (S.history store.new) }
     ensures refused { OnErr result (S.history store.new ≡ S.history store.old) }
-    ensures kept { (S.history store.old).place + S.room store.old ≤ (S.history store.new).place + S.room store.new }
+    ensures kept { (S.history store.old).place + S.room store.old
+        ≤ (S.history store.new).place + S.room store.new }
 {
     match resolve(alloc, dictionary, line, store) {
         Ok(pair) => {
@@ -127,13 +146,13 @@ fn edit_by<S: Store>(
             };
             match store.edit(edit) {
                 Ok(()) => Ok(None),
-                Err(EditFault::Full) => Ok(Some(4)),
+                Err(EditFault::Full) => Ok(Some(Reason::Full)),
                 Err(EditFault::Memory) => Err(AllocError),
             }
         }
-        Err(Unresolved::Absent) => Ok(Some(1)),
-        Err(Unresolved::NotValue) => Ok(Some(2)),
-        Err(Unresolved::TooLong) => Ok(Some(3)),
+        Err(Unresolved::Absent) => Ok(Some(Reason::Absent)),
+        Err(Unresolved::NotValue) => Ok(Some(Reason::NotValue)),
+        Err(Unresolved::TooLong) => Ok(Some(Reason::TooLong)),
         Err(Unresolved::Memory) => Err(AllocError),
     }
 }
@@ -156,9 +175,11 @@ fn step_enter<'a, S: Store>(
         (rest dictionary at frames.old.items))
         last (S.history store.old) (S.history store.new) result frames.new.items }
     ensures sit { Sit (S.history store.new).place 0 frames.new.items }
-    ensures fit { StaysSuited (λ d. frames_suit d frames.old.items && policy_suits d block.now) None frames.new.items }
+    ensures fit { StaysSuited (λ d. frames_suit d frames.old.items && policy_suits d block.now)
+        None frames.new.items }
     ensures states { KeepsFit (S.history store.old) (S.history store.new) }
-    ensures kept { (S.history store.old).place + S.room store.old ≤ (S.history store.new).place + S.room store.new }
+    ensures kept { (S.history store.old).place + S.room store.old
+        ≤ (S.history store.new).place + S.room store.new }
     ensures capacity { MAX_FRAMES ≤ vec_capacity frames.new }
 {
     put(frames, Frame::End(line, store.place()));
@@ -184,14 +205,20 @@ fn step_test<'a, S: Store>(
     requires fits { IsTrue (branches_suit dictionary.now branches.now) }
     requires states { StatesFit dictionary.now (S.history store.old) }
     requires room { 0 < S.room store.old }
-    requires frames_room { vec_len frames.old + (1 + max (depth_of_branches branches.now) (else_depth otherwise.now)) ≤ MAX_FRAMES }
+    requires frames_room { vec_len frames.old
+        + (1 + max (depth_of_branches branches.now) (else_depth otherwise.now)) ≤ MAX_FRAMES }
     requires capacity { MAX_FRAMES ≤ vec_capacity frames.old }
     requires sit { Sit (S.history store.old).place 0 frames.old.items }
-    ensures made { IsStep dictionary.now (λ at. then_steps (next_steps dictionary.now at (Next.Test branches.entry otherwise.entry)) (rest dictionary.now at frames.old.items)) last (S.history store.old) (S.history store.new) result frames.new.items }
+    ensures made { IsStep dictionary.now (λ at. then_steps
+        (next_steps dictionary.now at (Next.Test branches.entry otherwise.entry))
+        (rest dictionary.now at frames.old.items)) last (S.history store.old) (S.history store.new)
+        result frames.new.items }
     ensures sit { Sit (S.history store.new).place 0 frames.new.items }
-    ensures fit { StaysSuited (λ d. frames_suit d frames.old.items && (branches_suit d branches.now && else_suits d otherwise.now)) None frames.new.items }
+    ensures fit { StaysSuited (λ d. frames_suit d frames.old.items
+        && (branches_suit d branches.now && else_suits d otherwise.now)) None frames.new.items }
     ensures states { KeepsFit (S.history store.old) (S.history store.new) }
-    ensures kept { (S.history store.old).place + S.room store.old ≤ (S.history store.new).place + S.room store.new }
+    ensures kept { (S.history store.old).place + S.room store.old
+        ≤ (S.history store.new).place + S.room store.new }
     ensures capacity { MAX_FRAMES ≤ vec_capacity frames.new }
 {
     let Some((branch, others)) = branches.split_first() else {
@@ -234,13 +261,20 @@ fn step_line<'a, S: Store>(
     requires frames_room { vec_len frames.old + 1 ≤ MAX_FRAMES }
     requires capacity { MAX_FRAMES ≤ vec_capacity frames.old }
     requires sit { Sit (S.history store.old).place 0 frames.old.items }
-    ensures made { IfOk result (λ made. IsStep dictionary.now (λ at. then_steps (next_steps dictionary.now at (Next.Lines lines.entry entry)) (rest dictionary.now at frames.old.items)) last (S.history store.old) (S.history store.new) made frames.new.items) }
-    ensures refused { OnErr result (IsRefused dictionary.now (λ at. then_steps (next_steps dictionary.now at (Next.Lines lines.entry entry)) (rest dictionary.now at frames.old.items)) last (S.history store.old) frames.new.items) }
+    ensures made { IfOk result (λ made. IsStep dictionary.now
+        (λ at. then_steps (next_steps dictionary.now at (Next.Lines lines.entry entry))
+        (rest dictionary.now at frames.old.items)) last (S.history store.old) (S.history store.new)
+        made frames.new.items) }
+    ensures refused { OnErr result (IsRefused dictionary.now
+        (λ at. then_steps (next_steps dictionary.now at (Next.Lines lines.entry entry))
+        (rest dictionary.now at frames.old.items)) last (S.history store.old) frames.new.items) }
     ensures unchanged { OnErr result (S.history store.new ≡ S.history store.old) }
     ensures sit { Sit (S.history store.new).place 0 frames.new.items }
-    ensures fit { StaysSuited (λ d. frames_suit d frames.old.items && list_all (line_suits d) lines.now) None frames.new.items }
+    ensures fit { StaysSuited (λ d. frames_suit d frames.old.items
+        && list_all (line_suits d) lines.now) None frames.new.items }
     ensures states { StatesFit dictionary.now (S.history store.new) }
-    ensures kept { (S.history store.old).place + S.room store.old ≤ (S.history store.new).place + S.room store.new }
+    ensures kept { (S.history store.old).place + S.room store.old
+        ≤ (S.history store.new).place + S.room store.new }
     ensures capacity { MAX_FRAMES ≤ vec_capacity frames.new }
 {
     let Some((line, others)) = lines.split_first() else {
@@ -258,7 +292,7 @@ fn step_line<'a, S: Store>(
         Ok(Some(reason)) => {
             go_back(store, entry);
             Ok(Mark {
-                label: Label::Failed(line.line, reason),
+                label: Label::Failed(line.line, reason_number(reason)),
                 code: Code::Fail,
                 stopped: true,
             })
@@ -281,18 +315,25 @@ fn step_next<'a, S: Store>(
 ) -> Result<Mark, AllocError>
     requires next { IsNext last.stopped (Some next) }
     requires next_sits { NextSit (S.history store.old).place (Some next) frames.old.items }
-    requires fits { IsTrue (frames_suit dictionary.now frames.old.items && next_suits dictionary.now next) }
+    requires fits { IsTrue (frames_suit dictionary.now frames.old.items
+        && next_suits dictionary.now next) }
     requires states { StatesFit dictionary.now (S.history store.old) }
     requires room { 0 < S.room store.old }
     requires capacity { MAX_FRAMES ≤ vec_capacity frames.old }
     requires sit { Sit (S.history store.old).place 0 frames.old.items }
-    ensures made { IfOk result (λ made. IsStep dictionary.now (λ at. then_steps (next_steps dictionary.now at next.entry) (rest dictionary.now at frames.old.items)) last (S.history store.old) (S.history store.new) made frames.new.items) }
-    ensures refused { OnErr result (IsRefused dictionary.now (λ at. then_steps (next_steps dictionary.now at next.entry) (rest dictionary.now at frames.old.items)) last (S.history store.old) frames.new.items) }
+    ensures made { IfOk result (λ made. IsStep dictionary.now
+        (λ at. then_steps (next_steps dictionary.now at next.entry)
+        (rest dictionary.now at frames.old.items)) last (S.history store.old) (S.history store.new)
+        made frames.new.items) }
+    ensures refused { OnErr result (IsRefused dictionary.now
+        (λ at. then_steps (next_steps dictionary.now at next.entry)
+        (rest dictionary.now at frames.old.items)) last (S.history store.old) frames.new.items) }
     ensures unchanged { OnErr result (S.history store.new ≡ S.history store.old) }
     ensures sit { Sit (S.history store.new).place 0 frames.new.items }
     ensures fit { IsTrue (frames_suit dictionary.now frames.new.items) }
     ensures states { StatesFit dictionary.now (S.history store.new) }
-    ensures kept { (S.history store.old).place + S.room store.old ≤ (S.history store.new).place + S.room store.new }
+    ensures kept { (S.history store.old).place + S.room store.old
+        ≤ (S.history store.new).place + S.room store.new }
     ensures capacity { MAX_FRAMES ≤ vec_capacity frames.new }
 {
     match next {
@@ -317,20 +358,27 @@ pub fn step<S: Store>(
     store: &mut S,
     last: Mark,
 ) -> Result<Option<Mark>, AllocError>
-    requires room { HasRoom dictionary.now frames.old.items last (S.history store.old) (S.room store.old) }
+    requires room { HasRoom dictionary.now frames.old.items last (S.history store.old)
+        (S.room store.old) }
     requires capacity { MAX_FRAMES ≤ vec_capacity frames.old }
     requires sit { Sit (S.history store.old).place 0 frames.old.items }
     requires fit { IsTrue (frames_suit dictionary.now frames.old.items) }
     requires states { StatesFit dictionary.now (S.history store.old) }
-    ensures made { IfOk result (λ next. IfSome next (λ made. IsStep dictionary.now (λ at. rest dictionary.now at frames.old.items) last (S.history store.old) (S.history store.new) made frames.new.items)) }
-    ensures over { result ≡ Ok None → IsOver (λ at. rest dictionary.now at frames.old.items) last (S.history store.old) × (frames.new.items ≡ []) }
+    ensures made { IfOk result (λ next. IfSome next
+        (λ made. IsStep dictionary.now (λ at. rest dictionary.now at frames.old.items) last
+        (S.history store.old) (S.history store.new) made frames.new.items)) }
+    ensures over { result ≡ Ok None → IsOver (λ at. rest dictionary.now at frames.old.items) last
+        (S.history store.old) × (frames.new.items ≡ []) }
     ensures still { result ≡ Ok None → S.history store.new ≡ S.history store.old }
-    ensures refused { OnErr result (IsRefused dictionary.now (λ at. rest dictionary.now at frames.old.items) last (S.history store.old) frames.new.items) }
+    ensures refused { OnErr result (IsRefused dictionary.now
+        (λ at. rest dictionary.now at frames.old.items) last (S.history store.old)
+        frames.new.items) }
     ensures unchanged { OnErr result (S.history store.new ≡ S.history store.old) }
     ensures sit { Sit (S.history store.new).place 0 frames.new.items }
     ensures fit { IsTrue (frames_suit dictionary.now frames.new.items) }
     ensures states { StatesFit dictionary.now (S.history store.new) }
-    ensures kept { (S.history store.old).place + S.room store.old ≤ (S.history store.new).place + S.room store.new }
+    ensures kept { (S.history store.old).place + S.room store.old
+        ≤ (S.history store.new).place + S.room store.new }
     ensures capacity { MAX_FRAMES ≤ vec_capacity frames.new }
 {
     let place = store.place();

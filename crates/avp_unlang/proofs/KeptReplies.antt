@@ -15,7 +15,7 @@ use Rattle.avp_lists.specs.declared.lists.State.{State}
 use Rattle.avp_dict.specs.Dictionary.{Dictionary}
 use Rattle.avp_unlang.specs.Forms.{Form, Chain}
 use Rattle.avp_unlang.specs.Lines.{LineIs, begins_line}
-use Rattle.avp_unlang.specs.Meaning.{Choice, Edited, Meaning, Outcome, Refused, after_body, after_line, all_lines, branch_meaning, edit_of, first_true, if_given, line_result, meaning, meaning_of, result_from, running, statement_meaning, unless_stop}
+use Rattle.avp_unlang.specs.Meaning.{Choice, Edited, Failed, Meaning, Outcome, after_body, after_line, all_lines, branch_meaning, edit_of, first_true, if_given, line_result, meaning, meaning_of, result_from, running, statement_meaning, unless_stop}
 use Rattle.avp_unlang.specs.Places.{Place, start_of}
 use Rattle.avp_unlang.specs.Policies.{SpellsPolicy}
 use Rattle.avp_unlang.specs.Resolutions.{resolution}
@@ -25,6 +25,7 @@ use Rattle.avp_unlang.specs.Between.{Follows}
 use Rattle.avp_unlang.specs.Tokens.{next_token}
 use Rattle.avp_unlang.specs.Truth.{truth}
 use Rattle.avp_unlang.specs.declared.codes.Code.{Code}
+use Rattle.avp_unlang.specs.declared.meaning.reasons.Reason.TheVariants.{Full}
 use Rattle.avp_unlang.specs.declared.meaning.resolving.Unresolved.{Unresolved}
 use Rattle.avp_unlang.specs.declared.text.statements.Keyword.{Keyword}
 use Rattle.avp_unlang.specs.declared.text.statements.Keyword.TheVariants as keyword
@@ -116,7 +117,7 @@ module _ (dictionary : Dictionary) (P : Pair → Type 0) where
 
   module _ (line : Line) (entry : State) (ls : List Line) (kept : All P entry.reply) (others : LinesKeep ls) where
     -- after an edit, unless its list would have too many pairs
-    edit_followed : (fit : Bool) (t : State) (code : Code) → All P t.reply → All P (after_line entry (cond fit (Edited t) (Refused 4)) code (all_lines dictionary entry ls)).state.reply
+    edit_followed : (fit : Bool) (t : State) (code : Code) → All P t.reply → All P (after_line entry (cond fit (Edited t) (Failed Full)) code (all_lines dictionary entry ls)).state.reply
     edit_followed true t code all = others entry kept t code all
     edit_followed false t code all = kept
 

@@ -1,5 +1,5 @@
 -- What a policy makes of a state and a code, by recursion over its tree.
-use Rattle.std.specs.Prelude.{ℕ, Bool, true, false, nat_le, if◌then◌else◌, List, [], ◌∷◌, length, map, Option, Some, None, Result, Ok, Err}
+use Rattle.std.specs.Prelude.{Bool, true, false, nat_le, if◌then◌else◌, List, [], ◌∷◌, length, map, Option, Some, None, Result, Ok, Err}
 use Rattle.avp_lists.specs.States.{edited, edited_list, max_pairs}
 use Rattle.avp_lists.specs.declared.pairs.Pair.{Pair}
 use Rattle.avp_lists.specs.declared.edits.Edit.{Edit}
@@ -9,8 +9,10 @@ use Rattle.avp_unlang.specs.Resolutions.{resolution}
 use Rattle.avp_unlang.specs.Truth.{truth}
 use Rattle.avp_unlang.specs.declared.codes.Code.{Code}
 use Rattle.avp_unlang.specs.declared.codes.Code.TheVariants as code
+use Rattle.avp_unlang.specs.declared.meaning.reasons.Reason.{Reason}
+use Rattle.avp_unlang.specs.declared.meaning.reasons.Reason.TheVariants.{Absent, NotValue, TooLong, Full}
 use Rattle.avp_unlang.specs.declared.meaning.resolving.Unresolved.{Unresolved}
-use Rattle.avp_unlang.specs.declared.meaning.resolving.Unresolved.TheVariants.{Absent, NotValue, TooLong, Memory}
+use Rattle.avp_unlang.specs.declared.meaning.resolving.Unresolved.TheVariants as unresolved
 use Rattle.avp_unlang.specs.declared.tree.Cond.{Cond}
 use Rattle.avp_unlang.specs.declared.tree.Line.{Line}
 use Rattle.avp_unlang.specs.declared.tree.Statement.{Statement}
@@ -46,28 +48,29 @@ after_failure entry = record { state = entry; code = code.Fail; stopped = true }
 
 -- ---- update lines
 
--- what an update line does: a new state, or the number of the reason why it fails
+-- what an update line does: a new state, or the reason why it fails
 pub data LineResult : Type 0 where
   Edited : State → LineResult
-  Refused : ℕ → LineResult
+  Failed : Reason → LineResult
 
 -- the edit of a line, unless its list would have too many pairs
 abbrev pub edit_result : Edit → State → LineResult
-edit_result edit s = if nat_le (length (edited_list edit s)) max_pairs then Edited (edited edit s) else Refused 4
+edit_result edit s =
+    if nat_le (length (edited_list edit s)) max_pairs then Edited (edited edit s) else Failed Full
 
 abbrev pub edit_of : Line → Pair → Edit
 edit_of line pair = record { list = line.list; op = line.op; pair = pair }
 
--- the number of a reason; want of memory is no reason of a line's
-abbrev pub reason : Unresolved → ℕ
-reason Absent = 1
-reason NotValue = 2
-reason TooLong = 3
-reason Memory = 0
+-- why a line without a pair fails; no definition is short of memory, so the last case never comes
+abbrev pub reason : Unresolved → Reason
+reason unresolved.Absent = Absent
+reason unresolved.NotValue = NotValue
+reason unresolved.TooLong = TooLong
+reason unresolved.Memory = NotValue
 
 abbrev pub result_from : Line → State → Result Pair Unresolved → LineResult
 result_from line s (Ok pair) = edit_result (edit_of line pair) s
-result_from line s (Err why) = Refused (reason why)
+result_from line s (Err why) = Failed (reason why)
 
 unfoldable pub line_result : Dictionary → Line → State → LineResult
 line_result dictionary line s = result_from line s (resolution dictionary line s)
@@ -95,11 +98,12 @@ in_order (m ∷ ms) s c = unless_stop (m s c) (in_order ms)
 -- the lines of an update, each with the lines before it done; one that fails gives the lists at the entry back
 abbrev pub after_line : State → LineResult → Code → Meaning → Outcome
 after_line entry (Edited s) c others = others s c
-after_line entry (Refused k) c others = after_failure entry
+after_line entry (Failed why) c others = after_failure entry
 
 abbrev pub all_lines : Dictionary → State → List Line → Meaning
 all_lines dictionary entry [] s c = running s c
-all_lines dictionary entry (line ∷ others) s c = after_line entry (line_result dictionary line s) c (all_lines dictionary entry others)
+all_lines dictionary entry (line ∷ others) s c =
+    after_line entry (line_result dictionary line s) c (all_lines dictionary entry others)
 
 -- the first branch whose condition is true, else the last block
 abbrev pub first_true : List Choice → Meaning → Meaning

@@ -16,6 +16,7 @@ pub use boxed::Boxed;
 pub use codes::Code;
 pub use faults::{PolicyFault, PolicyKind};
 pub use items::Items;
+pub use meaning::reasons::Reason;
 pub use meaning::resolving::{Unresolved, resolve};
 pub use meaning::truth::holds;
 pub use text::policies::{Policy, keeps_reply_clean, one_policy, read_policy, size};

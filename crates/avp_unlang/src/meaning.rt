@@ -1,4 +1,5 @@
 //! What lines and conditions mean in a state.
 
+pub mod reasons;
 pub mod resolving;
 pub mod truth;

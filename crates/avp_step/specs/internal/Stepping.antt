@@ -4,8 +4,9 @@ use Rattle.std.specs.List.{All}
 use Rattle.avp_lists.specs.History.{History, continued, present, state_at}
 use Rattle.avp_lists.specs.declared.lists.State.{State}
 use Rattle.avp_dict.specs.Dictionary.{Dictionary}
-use Rattle.avp_unlang.specs.Meaning.{Outcome, Edited, Refused, line_result}
+use Rattle.avp_unlang.specs.Meaning.{Outcome, Edited, Failed, line_result}
 use Rattle.avp_unlang.specs.Resolutions.{StateFits}
+use Rattle.avp_unlang.specs.declared.meaning.reasons.Reason.{Reason}
 use Rattle.avp_unlang.specs.declared.tree.Line.{Line}
 use Rattle.avp_step.specs.Trace.{Entry, Steps}
 use Rattle.avp_step.specs.Walk.{IsLineLabel}
@@ -61,9 +62,9 @@ pub record KeepsFit (old new : History) : Type 0 where
   pub kept : (dictionary : Dictionary) → StatesFit dictionary old → StatesFit dictionary new
 
 -- a line was edited by, or failed by this reason
-abbrev pub IsLineDone : Dictionary → Line → History → History → Option ℕ → Type 0
+abbrev pub IsLineDone : Dictionary → Line → History → History → Option Reason → Type 0
 IsLineDone dictionary line old new None =
     (line_result dictionary line (present old) ≡ Edited (present new))
     × (new ≡ continued (present new) old)
-IsLineDone dictionary line old new (Some k) =
-    (line_result dictionary line (present old) ≡ Refused k) × (new ≡ old)
+IsLineDone dictionary line old new (Some why) =
+    (line_result dictionary line (present old) ≡ Failed why) × (new ≡ old)

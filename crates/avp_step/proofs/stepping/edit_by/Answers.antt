@@ -1,4 +1,4 @@
-use Rattle.std.proofs.Common.{rules, refl}
+use Rattle.std.proofs.Common.{rules}
 use Rattle.avp_unlang.specs.Meaning.{edit_of}
 use Rattle.avp_unlang.specs.declared.meaning.resolving.Unresolved.TheVariants.{Absent, NotValue, TooLong}
 use Rattle.avp_step.proofs.Fitting.{edit_fits, line_edited, line_full, line_unresolved}
@@ -18,12 +18,12 @@ returns-in-Err-Full-clause-done g c =
 
 pub returns-in-Err-Absent-clause-done : goal.returns-in-Err-Absent-clause-done
 returns-in-Err-Absent-clause-done g c =
-    line_unresolved c.args.dictionary.now c.args.line.now (g.S.Store.history c.args.store.now) Absent 1 (rw c.in-Err-Absent.field-0-is at c.in-Err-Absent.ensures.resolves) refl
+    line_unresolved c.args.dictionary.now c.args.line.now (g.S.Store.history c.args.store.now) Absent (rw c.in-Err-Absent.field-0-is at c.in-Err-Absent.ensures.resolves)
 
 pub returns-in-Err-NotValue-clause-done : goal.returns-in-Err-NotValue-clause-done
 returns-in-Err-NotValue-clause-done g c =
-    line_unresolved c.args.dictionary.now c.args.line.now (g.S.Store.history c.args.store.now) NotValue 2 (rw c.in-Err-NotValue.field-0-is at c.in-Err-NotValue.ensures.resolves) refl
+    line_unresolved c.args.dictionary.now c.args.line.now (g.S.Store.history c.args.store.now) NotValue (rw c.in-Err-NotValue.field-0-is at c.in-Err-NotValue.ensures.resolves)
 
 pub returns-in-Err-TooLong-clause-done : goal.returns-in-Err-TooLong-clause-done
 returns-in-Err-TooLong-clause-done g c =
-    line_unresolved c.args.dictionary.now c.args.line.now (g.S.Store.history c.args.store.now) TooLong 3 (rw c.in-Err-TooLong.field-0-is at c.in-Err-TooLong.ensures.resolves) refl
+    line_unresolved c.args.dictionary.now c.args.line.now (g.S.Store.history c.args.store.now) TooLong (rw c.in-Err-TooLong.field-0-is at c.in-Err-TooLong.ensures.resolves)

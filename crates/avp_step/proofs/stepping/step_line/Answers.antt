@@ -19,7 +19,7 @@ returns-in-Ok-None-clause-sit g c =
 
 pub returns-in-Ok-Some-clause-made : goal.returns-in-Ok-Some-clause-made
 returns-in-Ok-Some-clause-made g c =
-    failed_step c.args.dictionary.now c.args.lines c.in-Some.others c.in-Some.line.now c.args.entry c.in-Ok-Some.reason _ c.args.last (g.S.Store.history c.args.store.now) (g.S.Store.history c.edit_by.new.store) (g.S.Store.history c.go_back.new.store) (g.met.S.Store.placed c.args.store.now) c.requires.earlier (rw c.in-Ok-Some.field-0-is at c.in-Ok-Some.ensures.done) c.go_back.ensures.added c.in-Some.ensures.cases.0
+    failed_step c.args.dictionary.now c.args.lines c.in-Some.others c.in-Some.line.now c.args.entry c.in-Ok-Some.reason c.reason_number.result _ c.args.last (g.S.Store.history c.args.store.now) (g.S.Store.history c.edit_by.new.store) (g.S.Store.history c.go_back.new.store) c.reason_number.ensures (g.met.S.Store.placed c.args.store.now) c.requires.earlier (rw c.in-Ok-Some.field-0-is at c.in-Ok-Some.ensures.done) c.go_back.ensures.added c.in-Some.ensures.cases.0
 
 pub returns-in-Ok-Some-clause-sit : goal.returns-in-Ok-Some-clause-sit
 returns-in-Ok-Some-clause-sit g c =
