@@ -84,6 +84,13 @@ module _ (d : Dictionary) (ss : List Statement) (h : History) (left : ℕ) (ms :
       let lt : h.place < length h.states = omega (arith, held.place, held.each, held.within) in
       earlier_fits d h h.place lt held.states
 
+  -- the walk that it is shown as has these lists, and they fit its dictionary
+  pub shown_state : (w : Walk) → walk_of d ss h p ≡ w → present h ≡ (entry w).outcome.state
+  shown_state w is = held_state ∙ ap (λ w. (entry w).outcome.state) is
+
+  pub shown_fits : (w : Walk) → walk_of d ss h p ≡ w → StateFits w.dictionary (present h)
+  shown_fits w is = subst (λ (w : Walk). StateFits w.dictionary (present h)) is held_fits
+
   pub held_within : p < length (trace_from d ss h)
   held_within =
       omega (arith, held.within, length_made ms h.states held.each, ap length held.trace, length-append (made ms h.states) (rest d (walk_states (walk_of d ss h p)) fs (end_of nowhere (made ms h.states))))

@@ -2,7 +2,10 @@
 use Rattle.std.specs.Prelude.{◌≡◌, ◌≤◌, ◌<◌, ◌⊎◌, ℕ, ◌+◌, ◌-◌, Bool, if◌then◌else◌, nat_lt, List, [], ◌∷◌, length, slice_index_or}
 use Rattle.avp_lists.specs.States.{empty_state}
 use Rattle.avp_dict.specs.Dictionary.{Dictionary}
-use Rattle.avp_step.specs.Trace.{Entry, start}
+use Rattle.avp_lists.specs.declared.lists.State.{State}
+use Rattle.avp_unlang.specs.Meaning.{Outcome}
+use Rattle.avp_unlang.specs.declared.tree.Statement.{Statement}
+use Rattle.avp_step.specs.Trace.{Entry, start, trace_of}
 use Rattle.avp_step.specs.declared.labels.Label.{Label}
 use Rattle.avp_step.specs.declared.labels.Label.TheVariants as label
 use Rattle.avp_step.specs.declared.labels.Move.{Move}
@@ -16,6 +19,11 @@ pub record Walk : Type 0 where
   pub trace : List Entry
   pub position : ℕ
 
+-- a policy's walk from a state, at its start
+abbrev pub walk_from : Dictionary → List Statement → State → Walk
+walk_from dictionary statements s =
+    record { dictionary = dictionary; trace = trace_of dictionary statements s; position = 0 }
+
 -- the trace's entry at a position; past the end one of no step
 abbrev pub entry_at : Walk → ℕ → Entry
 entry_at w k = slice_index_or w.trace k (start empty_state)
@@ -26,6 +34,9 @@ entry w = entry_at w w.position
 
 abbrev pub last_position : Walk → ℕ
 last_position w = length w.trace - 1
+
+abbrev pub last_outcome : Walk → Outcome
+last_outcome w = (entry_at w (last_position w)).outcome
 
 abbrev pub is_before_end : Walk → Bool
 is_before_end w = nat_lt (w.position + 1) (length w.trace)

@@ -57,12 +57,15 @@ fn open_statement<'a>(
     requires room { vec_len frames.old + depth statement.now ≤ MAX_FRAMES }
     requires capacity { MAX_FRAMES ≤ vec_capacity frames.old }
     requires sit { Sit place 0 frames.old.items }
-    ensures same { IsSame (λ d at. then_steps (steps d statement.now) (rest d at frames.old.items)) result frames.new.items false place }
+    ensures same { IsSame (λ d at. then_steps (steps d statement.now) (rest d at frames.old.items))
+        result frames.new.items false place }
     ensures sit { Sit place 0 frames.new.items }
     ensures next_sits { NextSit place result frames.new.items }
     ensures next { IsNext false result }
-    ensures fit { StaysSuited (λ d. frames_suit d frames.old.items && statement_suits d statement.now) result frames.new.items }
-    ensures passed { IfNone result (all_skips frames.new.items < all_skips frames.old.items + skips statement.now) }
+    ensures fit { StaysSuited (λ d. frames_suit d frames.old.items
+        && statement_suits d statement.now) result frames.new.items }
+    ensures passed { IfNone result (all_skips frames.new.items < all_skips frames.old.items
+        + skips statement.now) }
     ensures capacity { MAX_FRAMES ≤ vec_capacity frames.new }
 {
     match statement {
@@ -88,12 +91,15 @@ fn open_block<'a>(
     requires room { vec_len frames.old + 1 + depth_of statements.now ≤ MAX_FRAMES }
     requires capacity { MAX_FRAMES ≤ vec_capacity frames.old }
     requires sit { Sit place 0 frames.old.items }
-    ensures same { IsSame (λ d at. then_steps (block_steps d statements.now) (rest d at frames.old.items)) result frames.new.items false place }
+    ensures same { IsSame (λ d at. then_steps (block_steps d statements.now)
+        (rest d at frames.old.items)) result frames.new.items false place }
     ensures sit { Sit place 0 frames.new.items }
     ensures next_sits { NextSit place result frames.new.items }
     ensures next { IsNext false result }
-    ensures fit { StaysSuited (λ d. frames_suit d frames.old.items && policy_suits d statements.now) result frames.new.items }
-    ensures passed { IfNone result (all_skips frames.new.items < all_skips frames.old.items + 1 + skips_of statements.now) }
+    ensures fit { StaysSuited (λ d. frames_suit d frames.old.items && policy_suits d statements.now)
+        result frames.new.items }
+    ensures passed { IfNone result (all_skips frames.new.items < all_skips frames.old.items + 1
+        + skips_of statements.now) }
     ensures capacity { MAX_FRAMES ≤ vec_capacity frames.new }
 {
     let Some((first, others)) = statements.split_first() else {
@@ -110,15 +116,20 @@ fn open_branches<'a>(
     otherwise: &'a Option<Block>,
     place: usize,
 ) -> Option<Next<'a>>
-    requires room { vec_len frames.old + 1 + max (depth_of_branches branches.now) (else_depth otherwise.now) ≤ MAX_FRAMES }
+    requires room { vec_len frames.old + 1 + max (depth_of_branches branches.now)
+        (else_depth otherwise.now) ≤ MAX_FRAMES }
     requires capacity { MAX_FRAMES ≤ vec_capacity frames.old }
     requires sit { Sit place 0 frames.old.items }
-    ensures same { IsSame (λ d at. then_steps (branch_steps (map (guarded d) branches.now) (else_steps d otherwise.now)) (rest d at frames.old.items)) result frames.new.items false place }
+    ensures same { IsSame (λ d at. then_steps (branch_steps (map (guarded d) branches.now)
+        (else_steps d otherwise.now)) (rest d at frames.old.items))
+        result frames.new.items false place }
     ensures sit { Sit place 0 frames.new.items }
     ensures next_sits { NextSit place result frames.new.items }
     ensures next { IsNext false result }
-    ensures fit { StaysSuited (λ d. frames_suit d frames.old.items && (branches_suit d branches.now && else_suits d otherwise.now)) result frames.new.items }
-    ensures passed { IfNone result (all_skips frames.new.items < all_skips frames.old.items + 1 + else_skips otherwise.now) }
+    ensures fit { StaysSuited (λ d. frames_suit d frames.old.items
+        && (branches_suit d branches.now && else_suits d otherwise.now)) result frames.new.items }
+    ensures passed { IfNone result (all_skips frames.new.items < all_skips frames.old.items + 1
+        + else_skips otherwise.now) }
     ensures capacity { MAX_FRAMES ≤ vec_capacity frames.new }
 {
     if !branches.is_empty() {
@@ -144,12 +155,15 @@ fn open_frame<'a>(
     requires entry { frame_entry frame ≤ place }
     requires capacity { MAX_FRAMES ≤ vec_capacity frames.old }
     requires sit { Sit place 0 frames.old.items }
-    ensures same { IsSame (λ d at. then_steps (frame_steps d at frame.entry) (rest d at frames.old.items)) result frames.new.items stopped place }
+    ensures same { IsSame (λ d at. then_steps (frame_steps d at frame.entry)
+        (rest d at frames.old.items)) result frames.new.items stopped place }
     ensures sit { Sit place 0 frames.new.items }
     ensures next_sits { NextSit place result frames.new.items }
     ensures next { IsNext stopped result }
-    ensures fit { StaysSuited (λ d. frames_suit d frames.old.items && frame_suits d frame.entry) result frames.new.items }
-    ensures passed { IfNone result (all_skips frames.new.items < all_skips frames.old.items + frame_skips frame.entry) }
+    ensures fit { StaysSuited (λ d. frames_suit d frames.old.items && frame_suits d frame.entry)
+        result frames.new.items }
+    ensures passed { IfNone result (all_skips frames.new.items < all_skips frames.old.items
+        + frame_skips frame.entry) }
     ensures capacity { MAX_FRAMES ≤ vec_capacity frames.new }
 {
     if let Frame::End(line, entry) = frame {
@@ -176,7 +190,8 @@ fn open_frame<'a>(
 pub fn next_of<'a>(frames: &mut Vec<Frame<'a>>, stopped: bool, place: usize) -> Option<Next<'a>>
     requires capacity { MAX_FRAMES ≤ vec_capacity frames.old }
     requires sit { Sit place 0 frames.old.items }
-    ensures same { IsSame (λ d at. rest d at frames.old.items) result frames.new.items stopped place }
+    ensures same { IsSame (λ d at. rest d at frames.old.items)
+        result frames.new.items stopped place }
     ensures sit { Sit place 0 frames.new.items }
     ensures next_sits { NextSit place result frames.new.items }
     ensures next { IsNext stopped result }

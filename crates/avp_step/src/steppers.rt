@@ -6,8 +6,7 @@ ghost use Rattle.avp_unlang.specs.Meaning.{meaning_of};
 ghost use Rattle.avp_unlang.specs.Suiting.{IsSpelled};
 ghost use Rattle.avp_unlang.specs.Resolutions.{StateFits};
 ghost use Rattle.avp_unlang.specs.Sizes.{size_of};
-ghost use Rattle.avp_step.specs.Trace.{trace_of};
-ghost use Rattle.avp_step.specs.Walk.{IsHeldUp, IsLineLabel, IsWithin, MoveMay, MovesMay, Walk, answer_of_forward, entry, entry_at, last_position, moved_back, moved_forward, moved_to_end, moved_to_start};
+ghost use Rattle.avp_step.specs.Walk.{IsHeldUp, IsLineLabel, IsWithin, MoveMay, MovesMay, Walk, answer_of_forward, entry, entry_at, last_outcome, last_position, moved_back, moved_forward, moved_to_end, moved_to_start, walk_from};
 
 use crate::frames::{Frame, MAX_FRAMES, put};
 use crate::labels::{Label, Move, Moved};
@@ -45,7 +44,9 @@ impl<'a, S: Store> Model for Stepper<'a, S> {
 
     ghost view = { λ x. walk_of x.dictionary.now x.statements.now (S.history x.store) x.position };
 
-    ghost invariant = { λ x. IsHeld x.dictionary.now x.statements.now (S.history x.store) (S.room x.store) x.marks.items x.position x.frames.items (vec_capacity x.marks) (vec_capacity x.frames) };
+    ghost invariant = { λ x. IsHeld x.dictionary.now x.statements.now (S.history x.store)
+        (S.room x.store) x.marks.items x.position x.frames.items
+        (vec_capacity x.marks) (vec_capacity x.frames) };
 }
 
 // One more mark.
@@ -71,8 +72,10 @@ impl<'a, S: Store> Stepper<'a, S> {
     ) -> Result<Stepper<'a, S>, (S, AllocError)>
         requires policy { IsSpelled dictionary.now policy.now }
         requires store { StateFits dictionary.now (present (S.history store)) }
-        ensures start { IfOk result (λ stepper. stepper ≡ record { dictionary = dictionary.entry.now; trace = trace_of dictionary.entry.now policy.entry.now (present (S.history store)); position = 0 }) }
-        ensures last { IfOk result (λ stepper. (entry_at stepper (last_position stepper)).outcome ≡ meaning_of dictionary.entry.now policy.entry.now (present (S.history store)) Code.Ok) }
+        ensures start { IfOk result (λ stepper. stepper
+            ≡ walk_from dictionary.entry.now policy.entry.now (present (S.history store))) }
+        ensures last { IfOk result (λ stepper. last_outcome stepper
+            ≡ meaning_of dictionary.entry.now policy.entry.now (present (S.history store)) Code.Ok) }
         ensures length { IfOk result (λ stepper. last_position stepper ≤ size_of policy.entry.now) }
         ensures refused { IfErr result (λ e. S.history e.0 ≡ S.history store) }
     {
@@ -157,9 +160,11 @@ impl<'a, S: Store> Stepper<'a, S> {
 
     /// One step forward, if this is not the end. Only the step of an update line may be refused.
     pub fn forward(&mut self) -> Result<Moved, AllocError>
-        ensures after { IfOk result (λ moved. (self.new ≡ moved_forward self.old) × (moved ≡ answer_of_forward self.old)) }
+        ensures after { IfOk result (λ moved. (self.new ≡ moved_forward self.old)
+            × (moved ≡ answer_of_forward self.old)) }
         ensures refused { OnErr result (self.new ≡ self.old) }
-        ensures line { OnErr result (IsLineLabel (entry_at self.old (self.old.position + 1)).label) }
+        ensures line { OnErr result (IsLineLabel
+            (entry_at self.old (self.old.position + 1)).label) }
     {
         if self.position + 1 < self.marks.len() {
             let _ = self.store.redo();
@@ -260,7 +265,9 @@ pub fn run<S: Store>(
 ) -> Result<(S, Code, bool), (S, AllocError)>
     requires policy { IsSpelled dictionary.now policy.now }
     requires store { StateFits dictionary.now (present (S.history store)) }
-    ensures ends { IfOk result (λ r. record { state = present (S.history r.0); code = r.1; stopped = r.2 } ≡ meaning_of dictionary.now policy.now (present (S.history store)) Code.Ok) }
+    ensures ends { IfOk result (λ r.
+        record { state = present (S.history r.0); code = r.1; stopped = r.2 }
+        ≡ meaning_of dictionary.now policy.now (present (S.history store)) Code.Ok) }
     ensures fits { IfOk result (λ r. StateFits dictionary.now (present (S.history r.0))) }
 {
     let mut stepper = Stepper::new(alloc, dictionary, policy, store)?;
