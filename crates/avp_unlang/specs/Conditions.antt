@@ -2,6 +2,7 @@
 use Rattle.std.specs.Prelude.{◌≡◌, ℕ, zero, suc, Bool, false, not, ◌&&◌, ◌||◌, ◌==◌, List, [], ◌∷◌, Option, Some, None, if◌then◌else◌}
 use Rattle.std.specs.Option.{option_and_then, option_map}
 use Rattle.avp_lists.specs.declared.lists.List.{List as Name}
+use Rattle.avp_lists.specs.declared.pairs.Value.{Value}
 use Rattle.avp_dict.specs.declared.entries.Named.{Named}
 use Rattle.avp_dict.specs.declared.value.quotes.QuoteMark.TheVariants.{Double, Single}
 use Rattle.avp_dict.specs.Dictionary.{Dictionary}
@@ -53,6 +54,10 @@ has_expansion escaped (c ∷ cs) =
 abbrev pub plain_octets : List ℕ → Option (List ℕ)
 plain_octets text = if has_expansion false text then None else Some (double_quoted_octets text)
 
+-- the value that such a text stands for under a name
+abbrev pub plain_literal : Dictionary → Named → List ℕ → Option Value
+plain_literal dictionary name text = option_and_then (literal dictionary name) (plain_octets text)
+
 -- what an attribute is compared with: a literal by its type, or after `&` a reference to values of its type
 abbrev pub ComparandFrom : Dictionary → Named → Token → Form Place Comparand
 ComparandFrom dictionary name (Word text) after x rest =
@@ -60,8 +65,7 @@ ComparandFrom dictionary name (Word text) after x rest =
 ComparandFrom dictionary name (Quoted Single text) after x rest =
     Becomes (option_map Literal (literal dictionary name (single_quoted_octets text))) after x rest
 ComparandFrom dictionary name (Quoted Double text) after x rest =
-    Becomes (option_map Literal (option_and_then (literal dictionary name) (plain_octets text)))
-    after x rest
+    Becomes (option_map Literal (plain_literal dictionary name text)) after x rest
 ComparandFrom dictionary name (Operator sign.Reference) after x rest =
     (found : Name × Named) × AlikeIs dictionary name.id after found rest
     × (x ≡ Instance found.0 found.1.id)
@@ -95,6 +99,12 @@ ComparedFrom dictionary found (Some relation) p after c rest =
 abbrev pub ComparedIs : Dictionary → Name × Named → Form Place Cond
 ComparedIs dictionary found p c rest =
     ComparedFrom dictionary found (relation_of (next_token p).0) p (next_token p).1 c rest
+
+-- after an `&`: a reference, and what it is compared with
+abbrev pub ReferredIs : Dictionary → Form Place Cond
+ReferredIs dictionary = do
+  found ← ReadableIs dictionary
+  ComparedIs dictionary found
 
 -- a word that is a code stands for it, and any other for a reference
 abbrev pub WordFrom : Dictionary → Option Code → List ℕ → Form Place Cond
@@ -143,7 +153,7 @@ abbrev pub OperandFrom : Dictionary → Form Place Cond → Token → Form Place
 OperandFrom dictionary inner (Operator sign.Not) after c rest = Negated inner after c rest
 OperandFrom dictionary inner (Operator sign.Open) after c rest = Closed inner after c rest
 OperandFrom dictionary inner (Operator sign.Reference) after c rest =
-    (ReadableIs dictionary >>= ComparedIs dictionary) after c rest
+    ReferredIs dictionary after c rest
 OperandFrom dictionary inner (Word word) after c rest =
     WordFrom dictionary (code_named word) word after c rest
 OperandFrom dictionary inner _ after c rest = ⊥

@@ -89,10 +89,14 @@ UpdateOn dictionary n own line = do
   lines ← BlockIs n begins_line (LineIs dictionary own)
   Gives (Update line lines)
 
--- after `if`: its branch and those of each `elsif`, and an `else`
+-- after `if`: its branch, and those of each `elsif`
+abbrev pub BranchesAre : Dictionary → ℕ → Form Place Statement → Form Place (List Branch)
+BranchesAre dictionary n inner = Chain (Follows (token.Word (codes "elsif"))) (BranchIs dictionary n inner)
+
+-- the same, and an `else`
 abbrev pub IfIs : Dictionary → ℕ → Form Place Statement → Form Place Statement
 IfIs dictionary n inner = do
-  branches ← Chain (Follows (token.Word (codes "elsif"))) (BranchIs dictionary n inner)
+  branches ← BranchesAre dictionary n inner
   otherwise ← Otherwise n inner
   Gives (If branches otherwise)
 

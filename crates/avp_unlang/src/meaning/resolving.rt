@@ -93,7 +93,8 @@ fn push_part<S: Store>(
     store: &S,
 ) -> Result<(), AllocError>
     requires { StateFits dictionary.now (present (S.history store.now)) }
-    ensures { OnOk result (text.new.items ≡ text.old.items ++ part_text dictionary.now (present (S.history store.now)) part.now) }
+    ensures { OnOk result (text.new.items ≡ text.old.items
+        ++ part_text dictionary.now (present (S.history store.now)) part.now) }
 {
     match part {
         Part::Text(octets) => text.extend_from_slice(octets.as_slice()),
@@ -111,7 +112,8 @@ fn parts_text<S: Store>(
     store: &S,
 ) -> Result<Vec<u8>, AllocError>
     requires { StateFits dictionary.now (present (S.history store.now)) }
-    ensures { IfOk result (λ text. text.items ≡ parts_text dictionary.now (present (S.history store.now)) parts.now) }
+    ensures { IfOk result (λ text. text.items ≡ parts_text dictionary.now
+        (present (S.history store.now)) parts.now) }
 {
     let mut text = Vec::new(alloc);
     for part in parts {
@@ -128,7 +130,8 @@ fn read_value(
     octets: &[u8],
 ) -> Result<Option<Value>, AllocError>
     ensures read { IfOk result (λ value. value ≡ read_value id octets.now dictionary.now) }
-    ensures typed { IfOk result (λ value. IfSome value (λ v. IsTrue (is_typed id v dictionary.now))) }
+    ensures typed { IfOk result (λ value. IfSome value
+        (λ v. IsTrue (is_typed id v dictionary.now))) }
 {
     match dictionary.value_of_bytes(alloc, id, octets)? {
         Value::Raw(_) => Ok(None),
@@ -143,7 +146,8 @@ fn read_by_type(
     octets: &[u8],
 ) -> Result<Option<Value>, AllocError>
     ensures read { IfOk result (λ value. value ≡ read_by_type id octets.now dictionary.now) }
-    ensures typed { IfOk result (λ value. IfSome value (λ v. IsTrue (is_typed id v dictionary.now))) }
+    ensures typed { IfOk result (λ value. IfSome value
+        (λ v. IsTrue (is_typed id v dictionary.now))) }
 {
     match dictionary.by_id(id) {
         None => Ok(Some(Value::Raw(octets_of(alloc, octets)?))),
@@ -214,7 +218,8 @@ fn text_value<S: Store>(
 ) -> Result<Value, Unresolved>
     requires known { IsTrue (is_known name.id dictionary.now) }
     requires fits { StateFits dictionary.now (present (S.history store.now)) }
-    ensures resolves { Resolves result (given (value_spelled name (parts_text dictionary.now (present (S.history store.now)) parts.now) dictionary.now)) }
+    ensures resolves { Resolves result (given (value_spelled name
+        (parts_text dictionary.now (present (S.history store.now)) parts.now) dictionary.now)) }
     ensures fits { IfOk result (λ v. IsTrue (fits (pair_of name.id v) dictionary.now)) }
 {
     let text = parts_text(alloc, dictionary, parts, store)?;
@@ -232,7 +237,8 @@ fn source_value<S: Store>(
     requires known { IsTrue (is_known id dictionary.now) }
     requires literal { IsTrue (literal_fits dictionary.now id source.now) }
     requires fits { StateFits dictionary.now (present (S.history store.now)) }
-    ensures resolves { Resolves result (source_value dictionary.now (present (S.history store.now)) id source.now) }
+    ensures resolves { Resolves result (source_value dictionary.now (present (S.history store.now))
+        id source.now) }
     ensures fits { IfOk result (λ v. IsTrue (fits (pair_of id v) dictionary.now)) }
 {
     match source {

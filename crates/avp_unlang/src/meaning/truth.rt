@@ -122,8 +122,10 @@ fn is_met<S: Store>(comparison: &Comparison, store: &S) -> bool
 
 #[cycle(conditions)]
 fn any_holds<S: Store>(conds: &[Cond], store: &S, code: Code) -> bool
-    requires comparable { IsTrue (list_all (λ cond. comparable cond (present (S.history store.now))) conds.now) }
-    ensures { result ≡ list_any (λ cond. truth cond (present (S.history store.now)) code) conds.now }
+    requires comparable { IsTrue (list_all (λ cond. comparable cond (present (S.history store.now)))
+        conds.now) }
+    ensures { result ≡ list_any (λ cond. truth cond (present (S.history store.now)) code)
+        conds.now }
 {
     for cond in conds {
         if holds(cond, store, code) {
@@ -135,8 +137,10 @@ fn any_holds<S: Store>(conds: &[Cond], store: &S, code: Code) -> bool
 
 #[cycle(conditions)]
 fn all_hold<S: Store>(conds: &[Cond], store: &S, code: Code) -> bool
-    requires comparable { IsTrue (list_all (λ cond. comparable cond (present (S.history store.now))) conds.now) }
-    ensures { result ≡ list_all (λ cond. truth cond (present (S.history store.now)) code) conds.now }
+    requires comparable { IsTrue (list_all (λ cond. comparable cond (present (S.history store.now)))
+        conds.now) }
+    ensures { result ≡ list_all (λ cond. truth cond (present (S.history store.now)) code)
+        conds.now }
 {
     for cond in conds {
         if !holds(cond, store, code) {

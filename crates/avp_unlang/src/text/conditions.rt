@@ -1,12 +1,9 @@
 //! Conditions, read from a text.
 
 ghost use Rattle.std.specs.Prelude.{◌≡◌, ◌≢◌, ◌≤◌, ◌<◌, suc, length, Some, None, false, IfOk, IfErr};
-ghost use Rattle.std.specs.Option.{option_and_then};
 ghost use Rattle.avp_lists.specs.declared.lists.List.{List as Name};
-ghost use Rattle.avp_unlang.specs.Conditions.{Both, Closed, ComparandIs, ComparedIs, Either, Negated, Within, WordFrom, all_of, any_of, has_expansion, plain_octets, relation_of};
-ghost use Rattle.avp_unlang.specs.Forms.{Reads, Then};
-ghost use Rattle.avp_unlang.specs.References.{ReadableIs};
-ghost use Rattle.avp_unlang.specs.Sources.{literal};
+ghost use Rattle.avp_unlang.specs.Conditions.{Both, Closed, ComparandIs, ComparedIs, Either, Negated, ReferredIs, Within, WordFrom, all_of, any_of, has_expansion, plain_literal, relation_of};
+ghost use Rattle.avp_unlang.specs.Forms.{Reads};
 ghost use Rattle.avp_unlang.specs.Words.{code_named};
 ghost use Rattle.avp_unlang.specs.declared.faults.PolicyKind.TheVariants.{Memory};
 
@@ -14,7 +11,7 @@ use crate::boxed::Boxed;
 use crate::codes::code_named;
 use crate::faults::{PolicyFault, PolicyKind};
 use crate::items::Items;
-use crate::text::cursors::Cursor;
+use crate::text::cursors::{Cursor, Read};
 use crate::text::references::{alike, readable, referred, type_of};
 use crate::text::sources::{SourceLines, literal, quoted_literal};
 use crate::text::tokens::{Excerpt, Sign, Token, front};
@@ -76,8 +73,9 @@ fn plain_literal(
     text: &Excerpt,
     lines: SourceLines,
 ) -> Result<Value, PolicyFault>
-    ensures ok { IfOk result (λ value. option_and_then (literal dictionary.now named) (plain_octets text.now) ≡ Some value) }
-    ensures err { IfErr result (λ fault. fault.kind ≢ Memory → option_and_then (literal dictionary.now named) (plain_octets text.now) ≡ None) }
+    ensures ok { IfOk result (λ value. plain_literal dictionary.now named text.now ≡ Some value) }
+    ensures err { IfErr result (λ fault. fault.kind ≢ Memory
+        → plain_literal dictionary.now named text.now ≡ None) }
 {
     if has_expansion(text.as_slice()) {
         return Err(expansion_fault(dictionary, named, lines));
@@ -92,7 +90,7 @@ fn comparand<'a>(
     named: Named,
     name_line: usize,
     at: &Cursor<'a>,
-) -> Result<(Comparand, Cursor<'a>), PolicyFault>
+) -> Read<'a, Comparand>
     ensures read { Reads (ComparandIs dictionary.now named at.now) result }
     ensures shorter { IfOk result (λ x. length x.1.text ≤ length at.now.text) }
 {
@@ -129,7 +127,7 @@ fn compared<'a>(
     found: (List, Named),
     name_line: usize,
     at: Cursor<'a>,
-) -> Result<(Cond, Cursor<'a>), PolicyFault>
+) -> Read<'a, Cond>
     ensures read { Reads (ComparedIs dictionary.now found at.entry) result }
     ensures shorter { IfOk result (λ x. length x.1.text ≤ length at.entry.text) }
 {
@@ -152,12 +150,8 @@ fn compared<'a>(
 }
 
 // The operand after an `&`.
-fn referred_operand<'a>(
-    alloc: Global,
-    dictionary: &Dictionary,
-    at: &Cursor<'a>,
-) -> Result<(Cond, Cursor<'a>), PolicyFault>
-    ensures read { Reads (Then (ReadableIs dictionary.now) (ComparedIs dictionary.now) at.now) result }
+fn referred_operand<'a>(alloc: Global, dictionary: &Dictionary, at: &Cursor<'a>) -> Read<'a, Cond>
+    ensures read { Reads (ReferredIs dictionary.now at.now) result }
     ensures shorter { IfOk result (λ x. length x.1.text ≤ length at.now.text) }
 {
     let (found, mid) = referred(dictionary, at)?;
@@ -171,7 +165,7 @@ fn worded_operand<'a>(
     dictionary: &Dictionary,
     word: &[u8],
     at: Cursor<'a>,
-) -> Result<(Cond, Cursor<'a>), PolicyFault>
+) -> Read<'a, Cond>
     ensures read { Reads (WordFrom dictionary.now (code_named word.now) word.now at.entry) result }
     ensures shorter { IfOk result (λ x. length x.1.text ≤ length at.entry.text) }
 {
@@ -220,7 +214,7 @@ fn operand<'a>(
     dictionary: &Dictionary,
     depth: usize,
     at: &Cursor<'a>,
-) -> Result<(Cond, Cursor<'a>), PolicyFault>
+) -> Read<'a, Cond>
     ensures read { Reads (Within dictionary.now (suc depth) at.now) result }
     ensures shorter { IfOk result (λ x. length x.1.text ≤ length at.now.text) }
 {
@@ -241,7 +235,7 @@ fn negated<'a>(
     dictionary: &Dictionary,
     depth: usize,
     at: &Cursor<'a>,
-) -> Result<(Cond, Cursor<'a>), PolicyFault>
+) -> Read<'a, Cond>
     ensures read { Reads (Negated (Within dictionary.now depth) at.now) result }
     ensures shorter { IfOk result (λ x. length x.1.text ≤ length at.now.text) }
 {
@@ -260,7 +254,7 @@ pub(crate) fn closed<'a>(
     dictionary: &Dictionary,
     depth: usize,
     at: &Cursor<'a>,
-) -> Result<(Cond, Cursor<'a>), PolicyFault>
+) -> Read<'a, Cond>
     ensures read { Reads (Closed (Within dictionary.now depth) at.now) result }
     ensures shorter { IfOk result (λ x. length x.1.text ≤ length at.now.text) }
 {
@@ -274,12 +268,7 @@ pub(crate) fn closed<'a>(
 
 // Operands with `&&` between them.
 #[cycle(conditions)]
-fn both<'a>(
-    alloc: Global,
-    dictionary: &Dictionary,
-    depth: usize,
-    at: &Cursor<'a>,
-) -> Result<(Cond, Cursor<'a>), PolicyFault>
+fn both<'a>(alloc: Global, dictionary: &Dictionary, depth: usize, at: &Cursor<'a>) -> Read<'a, Cond>
     ensures read { Reads (Both (Within dictionary.now (suc depth)) at.now) result }
     ensures shorter { IfOk result (λ x. length x.1.text ≤ length at.now.text) }
 {
@@ -301,7 +290,7 @@ fn either<'a>(
     dictionary: &Dictionary,
     depth: usize,
     at: &Cursor<'a>,
-) -> Result<(Cond, Cursor<'a>), PolicyFault>
+) -> Read<'a, Cond>
     ensures read { Reads (Either (Within dictionary.now (suc depth)) at.now) result }
     ensures shorter { IfOk result (λ x. length x.1.text ≤ length at.now.text) }
 {

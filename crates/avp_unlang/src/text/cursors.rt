@@ -31,6 +31,9 @@ impl<'a> Model for Cursor<'a> {
     ghost invariant = { λ c. c.line + length c.text.now < 2 ^ 64 };
 }
 
+/// What a reader answers: what it read, and the place after it.
+pub(crate) type Read<'a, T> = Result<(T, Cursor<'a>), PolicyFault>;
+
 #[tactic(auto, unfolding(crate::specs::Tokens::passed))]
 fn pass(line: usize, comment: bool, octet: u8) -> Option<(usize, bool)>
     requires { line + 1 < 2 ^ 64 }

@@ -4,9 +4,9 @@ ghost use Rattle.std.specs.Prelude.{◌≡◌, ◌≤◌, ◌<◌, length, IfOk}
 ghost use Rattle.avp_unlang.specs.Forms.{Reads, While};
 ghost use Rattle.avp_unlang.specs.Lines.{LineIs, OpIs, TargetIs, after_reference, begins_line, op_of};
 
-use crate::faults::{PolicyFault, PolicyKind};
+use crate::faults::PolicyKind;
 use crate::items::Items;
-use crate::text::cursors::Cursor;
+use crate::text::cursors::{Cursor, Read};
 use crate::text::references::reference;
 use crate::text::sources::source;
 use crate::text::tokens::{Sign, Token};
@@ -28,11 +28,7 @@ fn after_reference<'a>(at: Cursor<'a>) -> Cursor<'a>
 }
 
 // A target: its list and what its name stands for.
-fn target<'a>(
-    dictionary: &Dictionary,
-    own: List,
-    at: Cursor<'a>,
-) -> Result<((List, Named), Cursor<'a>), PolicyFault>
+fn target<'a>(dictionary: &Dictionary, own: List, at: Cursor<'a>) -> Read<'a, (List, Named)>
     ensures read { Reads (TargetIs dictionary.now own at.entry) result }
     ensures shorter { IfOk result (λ x. length x.1.text < length at.entry.text) }
 {
@@ -63,7 +59,7 @@ fn op_of(token: &Token) -> Option<Op>
     }
 }
 
-fn operator<'a>(at: &Cursor<'a>) -> Result<(Op, Cursor<'a>), PolicyFault>
+fn operator<'a>(at: &Cursor<'a>) -> Read<'a, Op>
     ensures read { Reads (OpIs at.now) result }
     ensures shorter { IfOk result (λ x. length x.1.text ≤ length at.now.text) }
 {
@@ -75,12 +71,7 @@ fn operator<'a>(at: &Cursor<'a>) -> Result<(Op, Cursor<'a>), PolicyFault>
 }
 
 // A line of an `update` of this list.
-fn line<'a>(
-    alloc: Global,
-    dictionary: &Dictionary,
-    own: List,
-    at: Cursor<'a>,
-) -> Result<(Line, Cursor<'a>), PolicyFault>
+fn line<'a>(alloc: Global, dictionary: &Dictionary, own: List, at: Cursor<'a>) -> Read<'a, Line>
     ensures read { Reads (LineIs dictionary.now own at.entry) result }
     ensures shorter { IfOk result (λ x. length x.1.text < length at.entry.text) }
 {
@@ -114,7 +105,7 @@ pub(crate) fn lines<'a>(
     dictionary: &Dictionary,
     own: List,
     at: Cursor<'a>,
-) -> Result<(Lines, Cursor<'a>), PolicyFault>
+) -> Read<'a, Lines>
     ensures read { Reads (While begins_line (LineIs dictionary.now own) at.entry) result }
     ensures shorter { IfOk result (λ x. length x.1.text ≤ length at.entry.text) }
 {

@@ -70,7 +70,8 @@ fn begins_octet(text: &Excerpt) -> bool
 // The octets that a text begins with, up to an expansion, and the text after them.
 fn octets<'a>(alloc: Global, text: Excerpt<'a>) -> Result<(Octets, Excerpt<'a>), AllocError>
     ensures read { IfOk result (λ x. While begins_octet OctetIs text.entry x.0 x.1) }
-    ensures shorter { IfOk result (λ x. IsTrue (begins_octet text.entry) → length x.1 < length text.entry) }
+    ensures shorter { IfOk result (λ x. IsTrue (begins_octet text.entry)
+        → length x.1 < length text.entry) }
 {
     let mut octets = Vec::new(alloc);
     let mut rest = text;
@@ -110,7 +111,8 @@ fn instance<'a>(
     text: &Excerpt<'a>,
 ) -> Result<((List, Named), Excerpt<'a>), PolicyKind>
     ensures ok { IfOk result (λ x. InstanceIs dictionary.now text.now x.0 x.1) }
-    ensures err { OnErr result ((found : Name × TheNamed) (rest : TheList ℕ) → InstanceIs dictionary.now text.now found rest → ⊥) }
+    ensures err { OnErr result ((found : Name × TheNamed) (rest : TheList ℕ)
+        → InstanceIs dictionary.now text.now found rest → ⊥) }
     ensures shorter { IfOk result (λ x. length x.1 < length text.now) }
 {
     let Some(inner) = after_opening(text) else {

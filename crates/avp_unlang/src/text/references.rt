@@ -4,8 +4,8 @@ ghost use Rattle.std.specs.Prelude.{◌≡◌, ◌<◌, length, Some, None, IfOk
 ghost use Rattle.avp_unlang.specs.Forms.{Reads};
 ghost use Rattle.avp_unlang.specs.References.{AlikeIs, ReadableIs, list_named, readable, reference, target_in, type_of};
 
-use crate::faults::{PolicyFault, PolicyKind};
-use crate::text::cursors::Cursor;
+use crate::faults::PolicyKind;
+use crate::text::cursors::{Cursor, Read};
 use crate::text::tokens::Token;
 use avp_dict::{Dictionary, Kind, Named, is_container};
 use avp_lists::{AttrId, List};
@@ -72,10 +72,7 @@ pub(crate) fn readable(dictionary: &Dictionary, word: &[u8]) -> Result<(List, Na
 }
 
 /// The reference after an `&`. Its faults have the line of its word.
-pub(crate) fn referred<'a>(
-    dictionary: &Dictionary,
-    at: &Cursor<'a>,
-) -> Result<((List, Named), Cursor<'a>), PolicyFault>
+pub(crate) fn referred<'a>(dictionary: &Dictionary, at: &Cursor<'a>) -> Read<'a, (List, Named)>
     ensures read { Reads (ReadableIs dictionary.now at.now) result }
     ensures shorter { IfOk result (λ x. length x.1.text < length at.now.text) }
 {
@@ -104,7 +101,7 @@ pub(crate) fn alike<'a>(
     dictionary: &Dictionary,
     id: AttrId,
     at: &Cursor<'a>,
-) -> Result<((List, Named), Cursor<'a>), PolicyFault>
+) -> Read<'a, (List, Named)>
     ensures read { Reads (AlikeIs dictionary.now id at.now) result }
     ensures shorter { IfOk result (λ x. length x.1.text < length at.now.text) }
 {

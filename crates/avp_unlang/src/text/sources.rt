@@ -8,7 +8,7 @@ ghost use Rattle.avp_unlang.specs.Sources.{FilledIs, IgnoredIs, SourceIs, ValueI
 ghost use Rattle.avp_unlang.specs.declared.faults.PolicyKind.TheVariants.{Memory};
 
 use crate::faults::{PolicyFault, PolicyKind};
-use crate::text::cursors::Cursor;
+use crate::text::cursors::{Cursor, Read};
 use crate::text::parts::parts;
 use crate::text::references::alike;
 use crate::text::tokens::{Excerpt, Sign, Token};
@@ -52,7 +52,8 @@ pub(crate) fn literal(
     lines: SourceLines,
 ) -> Result<Value, PolicyFault>
     ensures ok { IfOk result (λ value. literal dictionary.now named text.now ≡ Some value) }
-    ensures err { IfErr result (λ fault. fault.kind ≢ Memory → literal dictionary.now named text.now ≡ None) }
+    ensures err { IfErr result (λ fault. fault.kind ≢ Memory
+        → literal dictionary.now named text.now ≡ None) }
 {
     match dictionary.value_of_text(alloc, named, text) {
         Ok(value) => {
@@ -79,8 +80,10 @@ pub(crate) fn quoted_literal(
     text: &Excerpt,
     lines: SourceLines,
 ) -> Result<Value, PolicyFault>
-    ensures ok { IfOk result (λ value. literal dictionary.now named (octets_between mark text.now) ≡ Some value) }
-    ensures err { IfErr result (λ fault. fault.kind ≢ Memory → literal dictionary.now named (octets_between mark text.now) ≡ None) }
+    ensures ok { IfOk result (λ value. literal dictionary.now named (octets_between mark text.now)
+        ≡ Some value) }
+    ensures err { IfErr result (λ fault. fault.kind ≢ Memory
+        → literal dictionary.now named (octets_between mark text.now) ≡ None) }
 {
     let octets = octets_between(alloc, mark, text.as_slice())?;
     literal(alloc, dictionary, named, &octets, lines)
@@ -107,7 +110,8 @@ fn filled_source(
     lines: SourceLines,
 ) -> Result<Source, PolicyFault>
     ensures ok { IfOk result (λ source. filled_source dictionary.now named parts ≡ Some source) }
-    ensures err { IfErr result (λ fault. fault.kind ≢ Memory → filled_source dictionary.now named parts ≡ None) }
+    ensures err { IfErr result (λ fault. fault.kind ≢ Memory
+        → filled_source dictionary.now named parts ≡ None) }
 {
     match whole_text(&parts) {
         None => Ok(Source::Text(named.raw, parts)),
@@ -142,7 +146,7 @@ fn value_source<'a>(
     named: Named,
     name_line: usize,
     at: &Cursor<'a>,
-) -> Result<(Source, Cursor<'a>), PolicyFault>
+) -> Read<'a, Source>
     ensures read { Reads (ValueIs dictionary.now named at.now) result }
     ensures shorter { IfOk result (λ x. length x.1.text ≤ length at.now.text) }
 {
@@ -202,7 +206,7 @@ pub(crate) fn source<'a>(
     named: Named,
     name_line: usize,
     at: &Cursor<'a>,
-) -> Result<(Source, Cursor<'a>), PolicyFault>
+) -> Read<'a, Source>
     ensures read { Reads (SourceIs dictionary.now operation named at.now) result }
     ensures shorter { IfOk result (λ x. length x.1.text ≤ length at.now.text) }
 {

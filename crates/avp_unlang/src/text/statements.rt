@@ -1,19 +1,16 @@
 //! Statements, read from a text.
 
-ghost use Rattle.std.specs.Prelude.{◌≡◌, ◌≤◌, ◌<◌, suc, codes, length, IfOk};
-ghost use Rattle.avp_unlang.specs.Forms.{After, Chain, Gives, Reads, While};
+ghost use Rattle.std.specs.Prelude.{◌≡◌, ◌≤◌, ◌<◌, suc, length, IfOk};
+ghost use Rattle.avp_unlang.specs.Forms.{Reads, While};
 ghost use Rattle.avp_unlang.specs.Lines.{LineIs, begins_line};
-ghost use Rattle.avp_unlang.specs.Statements.{BlockIs, BranchIs, Nested, Otherwise, StatementFrom, begins_word, keyword_in, keyword_named, list_at};
-ghost use Rattle.avp_unlang.specs.Between.{Counts, Follows};
+ghost use Rattle.avp_unlang.specs.Statements.{BlockIs, BranchIs, BranchesAre, IfIs, Nested, Otherwise, StatementFrom, TransactionOn, WordOn, begins_word, keyword_in, keyword_named, list_at};
 ghost use Rattle.avp_unlang.specs.declared.text.statements.Keyword.TheVariants as keyword;
-ghost use Rattle.avp_unlang.specs.declared.text.tokens.Token.TheVariants as token;
-ghost use Rattle.avp_unlang.specs.declared.tree.Statement.TheVariants as tree;
 
 use crate::codes::{Code, code_named};
-use crate::faults::{PolicyFault, PolicyKind};
+use crate::faults::PolicyKind;
 use crate::items::Items;
 use crate::text::conditions::closed;
-use crate::text::cursors::Cursor;
+use crate::text::cursors::{Cursor, Read};
 use crate::text::lines::lines;
 use crate::text::references::list_named;
 use crate::text::tokens::{Sign, Token};
@@ -91,7 +88,7 @@ fn line_block<'a>(
     depth: usize,
     own: List,
     at: Cursor<'a>,
-) -> Result<(Lines, Cursor<'a>), PolicyFault>
+) -> Read<'a, Lines>
     ensures read { Reads (BlockIs depth begins_line (LineIs dictionary.now own) at.entry) result }
     ensures shorter { IfOk result (λ x. length x.1.text < length at.entry.text) }
 {
@@ -110,8 +107,9 @@ fn update<'a>(
     dictionary: &Dictionary,
     depth: usize,
     at: Cursor<'a>,
-) -> Result<(Statement, Cursor<'a>), PolicyFault>
-    ensures read { Reads (StatementFrom dictionary.now depth (Nested dictionary.now depth) keyword.Update at.entry) result }
+) -> Read<'a, Statement>
+    ensures read { Reads (StatementFrom dictionary.now depth (Nested dictionary.now depth)
+        keyword.Update at.entry) result }
     ensures shorter { IfOk result (λ x. length x.1.text < length at.entry.text) }
 {
     let line = at.line();
@@ -121,8 +119,8 @@ fn update<'a>(
 }
 
 // A code, which is on the line of this place.
-fn word<'a>(code: Code, at: &Cursor<'a>) -> Result<(Statement, Cursor<'a>), PolicyFault>
-    ensures read { Reads (After (Counts 1) (Gives (tree.Word at.now.line code)) at.now) result }
+fn word<'a>(code: Code, at: &Cursor<'a>) -> Read<'a, Statement>
+    ensures read { Reads (WordOn code at.now.line at.now) result }
     ensures shorter { IfOk result (λ x. length x.1.text ≤ length at.now.text) }
 {
     let rest = at.count(1, at.line())?;
@@ -136,7 +134,7 @@ fn statement<'a>(
     dictionary: &Dictionary,
     depth: usize,
     at: Cursor<'a>,
-) -> Result<(Statement, Cursor<'a>), PolicyFault>
+) -> Read<'a, Statement>
     ensures read { Reads (Nested dictionary.now (suc depth) at.entry) result }
     ensures shorter { IfOk result (λ x. length x.1.text < length at.entry.text) }
 {
@@ -157,8 +155,9 @@ fn transaction<'a>(
     dictionary: &Dictionary,
     depth: usize,
     at: Cursor<'a>,
-) -> Result<(Statement, Cursor<'a>), PolicyFault>
-    ensures read { Reads (StatementFrom dictionary.now depth (Nested dictionary.now depth) keyword.Transaction at.entry) result }
+) -> Read<'a, Statement>
+    ensures read { Reads (TransactionOn depth (Nested dictionary.now depth) at.entry.line at.entry)
+        result }
     ensures shorter { IfOk result (λ x. length x.1.text < length at.entry.text) }
 {
     let line = at.line();
@@ -174,8 +173,8 @@ fn conditional<'a>(
     dictionary: &Dictionary,
     depth: usize,
     at: Cursor<'a>,
-) -> Result<(Statement, Cursor<'a>), PolicyFault>
-    ensures read { Reads (StatementFrom dictionary.now depth (Nested dictionary.now depth) keyword.If at.entry) result }
+) -> Read<'a, Statement>
+    ensures read { Reads (IfIs dictionary.now depth (Nested dictionary.now depth) at.entry) result }
     ensures shorter { IfOk result (λ x. length x.1.text < length at.entry.text) }
 {
     let (branches, mid) = branches(alloc, dictionary, depth, at)?;
@@ -190,8 +189,9 @@ fn branches<'a>(
     dictionary: &Dictionary,
     depth: usize,
     at: Cursor<'a>,
-) -> Result<(Branches, Cursor<'a>), PolicyFault>
-    ensures read { Reads (Chain (Follows (token.Word (codes "elsif"))) (BranchIs dictionary.now depth (Nested dictionary.now depth)) at.entry) result }
+) -> Read<'a, Branches>
+    ensures read { Reads (BranchesAre dictionary.now depth (Nested dictionary.now depth) at.entry)
+        result }
     ensures shorter { IfOk result (λ x. length x.1.text < length at.entry.text) }
 {
     let (first, mut rest) = branch(alloc, dictionary, depth, at)?;
@@ -212,8 +212,9 @@ fn branch<'a>(
     dictionary: &Dictionary,
     depth: usize,
     at: Cursor<'a>,
-) -> Result<(Branch, Cursor<'a>), PolicyFault>
-    ensures read { Reads (BranchIs dictionary.now depth (Nested dictionary.now depth) at.entry) result }
+) -> Read<'a, Branch>
+    ensures read { Reads (BranchIs dictionary.now depth (Nested dictionary.now depth) at.entry)
+        result }
     ensures shorter { IfOk result (λ x. length x.1.text < length at.entry.text) }
 {
     let line = at.line();
@@ -231,7 +232,7 @@ fn otherwise<'a>(
     dictionary: &Dictionary,
     depth: usize,
     at: Cursor<'a>,
-) -> Result<(Option<Block>, Cursor<'a>), PolicyFault>
+) -> Read<'a, Option<Block>>
     ensures read { Reads (Otherwise depth (Nested dictionary.now depth) at.entry) result }
     ensures shorter { IfOk result (λ x. length x.1.text ≤ length at.entry.text) }
 {
@@ -251,7 +252,7 @@ fn block<'a>(
     dictionary: &Dictionary,
     depth: usize,
     at: Cursor<'a>,
-) -> Result<(Block, Cursor<'a>), PolicyFault>
+) -> Read<'a, Block>
     ensures read { Reads (BlockIs depth begins_word (Nested dictionary.now depth) at.entry) result }
     ensures shorter { IfOk result (λ x. length x.1.text < length at.entry.text) }
 {
@@ -271,7 +272,7 @@ pub(crate) fn statements<'a>(
     dictionary: &Dictionary,
     depth: usize,
     at: Cursor<'a>,
-) -> Result<(Block, Cursor<'a>), PolicyFault>
+) -> Read<'a, Block>
     ensures read { Reads (While begins_word (Nested dictionary.now (suc depth)) at.entry) result }
     ensures shorter { IfOk result (λ x. length x.1.text ≤ length at.entry.text) }
 {

@@ -205,7 +205,8 @@ fn operator_at(text: &[u8]) -> Option<(Sign, &[u8])>
 }
 
 fn quoted<'a>(mark: QuoteMark, closing: u8, text: &'a [u8]) -> (Token<'a>, &'a [u8])
-    ensures same { (result.0, result.1.now) ≡ quoted_at mark text.now (quoted_length closing false text.now) }
+    ensures same { (result.0, result.1.now) ≡ quoted_at mark text.now
+        (quoted_length closing false text.now) }
     ensures shorter { length result.1.now ≤ length text.now }
 {
     match quoted_length(closing, text) {
