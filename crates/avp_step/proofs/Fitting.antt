@@ -33,7 +33,6 @@ use Rattle.avp_unlang.specs.declared.tree.Statement.{Statement}
 use Rattle.avp_unlang.proofs.SpelledSuits.{suits_Branch}
 use Rattle.avp_step.proofs.OpenedFrames.{put_stays}
 use Rattle.avp_unlang.proofs.Comparing.{and_left, and_right}
-use Rattle.std.proofs.lemmas.Bool.{and_from}
 use Rattle.avp_step.proofs.StepLaws.{and_assoc, and_true, frames_suit_push}
 use Rattle.avp_step.specs.internal.Frames.{StaysSuited, frame_suits, frames_suit}
 use Rattle.avp_step.specs.declared.frames.Frame.{Frame}

@@ -75,7 +75,8 @@ impl<'a, S: Store> Stepper<'a, S> {
         ensures start { IfOk result (λ stepper. stepper
             ≡ walk_from dictionary.entry.now policy.entry.now (present (S.history store))) }
         ensures last { IfOk result (λ stepper. last_outcome stepper
-            ≡ meaning_of dictionary.entry.now policy.entry.now (present (S.history store)) Code.Ok) }
+            ≡ meaning_of dictionary.entry.now policy.entry.now
+            (present (S.history store)) Code.Ok) }
         ensures length { IfOk result (λ stepper. last_position stepper ≤ size_of policy.entry.now) }
         ensures refused { IfErr result (λ e. S.history e.0 ≡ S.history store) }
     {
