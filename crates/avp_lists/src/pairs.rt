@@ -51,6 +51,23 @@ impl AttrId {
     }
 }
 
+impl Value {
+    /// The same value, in memory of this allocator.
+    pub fn copy(&self, alloc: Global) -> Result<Value, AllocError>
+        ensures { IfOk result (λ copy. copy ≡ self.now) }
+    {
+        Ok(match self {
+            Value::Text(text) => Value::Text(text.copy(alloc)?),
+            Value::Bytes(octets) => Value::Bytes(octets.copy(alloc)?),
+            Value::Int(number) => Value::Int(*number),
+            Value::Signed(number) => Value::Signed(*number),
+            Value::Addr(address) => Value::Addr(*address),
+            Value::Ether(address) => Value::Ether(*address),
+            Value::Raw(octets) => Value::Raw(octets.copy(alloc)?),
+        })
+    }
+}
+
 impl Pair {
     /// Whether both ids and both values are the same.
     pub fn equals(&self, other: &Pair) -> bool
@@ -65,14 +82,6 @@ impl Pair {
 pub fn copy_pair(alloc: Global, pair: &Pair) -> Result<Pair, AllocError>
     ensures { IfOk result (λ copy. copy ≡ pair.now) }
 {
-    let value = match &pair.value {
-        Value::Text(text) => Value::Text(text.copy(alloc)?),
-        Value::Bytes(octets) => Value::Bytes(octets.copy(alloc)?),
-        Value::Int(number) => Value::Int(*number),
-        Value::Signed(number) => Value::Signed(*number),
-        Value::Addr(address) => Value::Addr(*address),
-        Value::Ether(address) => Value::Ether(*address),
-        Value::Raw(octets) => Value::Raw(octets.copy(alloc)?),
-    };
+    let value = pair.value.copy(alloc)?;
     Ok(Pair { id: pair.id, value })
 }

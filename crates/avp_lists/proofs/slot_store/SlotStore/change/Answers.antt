@@ -1,4 +1,4 @@
-use Rattle.std.proofs.Common.{◌≡◌, ◌+◌, List, [], ◌∷◌, ◌++◌, length, take, arith, ◌∙◌, ap, ap₂, sym, subst, refl}
+use Rattle.std.proofs.Common.{◌≡◌, ◌+◌, List, [], ◌∷◌, ◌++◌, length, take, arith, ◌∙◌, ap, ap₂, sym, subst, refl, rules}
 use Rattle.std.proofs.lemmas.List.{get_or_read}
 use Rattle.avp_lists.specs.declared.pairs.Pair.{Pair}
 use Rattle.avp_lists.specs.declared.lists.State.{State}
@@ -80,8 +80,8 @@ invariant_of-self-2 c =
       limited = limited-changed e pool slots steps k s.placed s.counted s.counts s.grow s.housed s.standing p plan step new_pool new_slots new_steps P N S refl es ep s.limited c.requires.fits;
     }
 
-pub returns-clause-ok : goal.returns-clause-ok
-returns-clause-ok c =
+pub returns : goal.returns
+returns c =
     let s = c.args.self.now in
     let e = c.args.edit in
     let pool = s.pool.items in
@@ -107,34 +107,10 @@ returns-clause-ok c =
     let S : new_steps ≡ take (k + 1) steps ++ step ∷ [] = c.cut_and_push.ensures.steps ∙ ap (λ (xs : List Step). take (k + 1) xs ++ step ∷ []) room.steps in
     let es : c.len.result ≡ length new_slots = omega (arith, c.len.ensures, c.slots_for.new.slots.ok.0) in
     let ep : c.len-2.result ≡ length new_pool = omega (arith, c.len-2.ensures, c.pool_for.new.pool.ok.0) in
-    ap (λ (xs : List State). let h : History = record { states = xs; place = k + 1 } in h)
-    (states-changed e pool slots steps k s.placed s.counted s.counts s.grow s.housed s.standing p plan step new_pool new_slots new_steps P N S refl es ep)
-
-pub returns-clause-slim : goal.returns-clause-slim
-returns-clause-slim c =
-    let s = c.args.self.now in
-    let e = c.args.edit in
-    let pool = s.pool.items in
-    let slots = s.slots.items in
-    let steps = s.steps.items in
-    let k = s.place in
-    let p = c.in_ok-plan.plan in
-    let last = c.index-last.result.now in
-    let room = c.in_ok-make_room_after.ensures in
-    let count : last ≡ step_at steps k = get_or_read steps k last s.placed c.index-last.ensures no_step in
-    let new_pool = c.pool_for.new.pool.items in
-    let new_slots = c.slots_for.new.slots.items in
-    let new_steps = c.cut_and_push.new.steps.items in
-    let step : Step = record { change = Turned p.turned p.swap; slots = c.len.result; pairs = c.len-2.result } in
-    let made : IsPlan e (take last.pairs c.deref-2.result.now) (take last.slots c.deref.result.now) p = c.in_ok-plan.ensures in
-    let H : Step → List Pair → List Slot → Type 0 = λ x a b. IsPlan e (take x.pairs a) (take x.slots b) p in
-    let H1 : List Pair → Type 0 = λ a. H last a c.deref.result.now in
-    let H2 : List Slot → Type 0 = λ b. H last pool b in
-    let H3 : Step → Type 0 = λ x. H x pool slots in
-    let plan : IsPlan e (take (step_at steps k).pairs pool) (take (step_at steps k).slots slots) p = subst H3 count (subst H2 c.deref.ensures.value (subst H1 c.deref-2.ensures.value made)) in
-    let P : new_pool ≡ pooled p e.pair (take (step_at steps k).pairs pool) = c.pool_for.ensures ∙ ap₂ (λ (x : Step) (a : List Pair). pooled p e.pair (take x.pairs a)) count room.pool in
-    let N : new_slots ≡ planned p (take (step_at steps k).slots slots) = c.slots_for.ensures ∙ ap₂ (λ (x : Step) (a : List Slot). planned p (take x.slots a)) count room.slots in
-    let S : new_steps ≡ take (k + 1) steps ++ step ∷ [] = c.cut_and_push.ensures.steps ∙ ap (λ (xs : List Step). take (k + 1) xs ++ step ∷ []) room.steps in
-    let es : c.len.result ≡ length new_slots = omega (arith, c.len.ensures, c.slots_for.new.slots.ok.0) in
-    let ep : c.len-2.result ≡ length new_pool = omega (arith, c.len-2.ensures, c.pool_for.new.pool.ok.0) in
-    slim-changed e pool slots steps k s.placed s.counted s.counts s.grow s.housed s.standing p plan step new_pool new_slots new_steps P N S refl es ep
+    record {
+      ok = ap (λ (xs : List State). let h : History = record { states = xs; place = k + 1 } in h)
+      (states-changed e pool slots steps k s.placed s.counted s.counts s.grow s.housed s.standing p plan step new_pool new_slots new_steps P N S refl es ep);
+      err = search rules;
+      slim = slim-changed e pool slots steps k s.placed s.counted s.counts s.grow s.housed s.standing p plan step new_pool new_slots new_steps P N S refl es ep;
+      kept = search rules;
+    }
