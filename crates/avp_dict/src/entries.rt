@@ -28,7 +28,7 @@ pub enum Kind {
 }
 
 /// What a VENDOR line says of its vendor's attributes (RFC 2865, section 5.26).
-#[derive(Clone, Copy, Debug, PartialEq, Eq)]
+#[derive(Clone, Copy)]
 pub struct VendorFormat {
     /// Octets of the attribute's number: 1, 2 or 4.
     pub t: u8,
@@ -39,7 +39,7 @@ pub struct VendorFormat {
 }
 
 /// How the values of an attribute are read.
-#[derive(Clone, Copy, Debug, PartialEq, Eq)]
+#[derive(Clone, Copy)]
 pub struct Typing {
     pub kind: Kind,
     /// Whether the octets are hidden (RFC 2865, section 5.2).
@@ -50,7 +50,7 @@ pub struct Typing {
 }
 
 /// What a used ATTRIBUTE line says.
-#[derive(Debug, Drop)]
+#[derive(Drop)]
 pub struct AttributeLine {
     pub name: Octets,
     pub id: AttrId,
@@ -58,7 +58,7 @@ pub struct AttributeLine {
 }
 
 /// What a used VALUE line says: a name of a number of this attribute's values.
-#[derive(Debug, Drop)]
+#[derive(Drop)]
 pub struct ValueLine {
     pub id: AttrId,
     pub name: Octets,
@@ -66,7 +66,7 @@ pub struct ValueLine {
 }
 
 /// What a VENDOR line says.
-#[derive(Debug, Drop)]
+#[derive(Drop)]
 pub struct VendorLine {
     pub name: Octets,
     pub number: u32,

@@ -53,7 +53,7 @@ pub struct DictFault {
 }
 
 /// Why one line is not read: for want of memory, or by the line's own fault.
-#[derive(Clone, Copy, Debug)]
+#[derive(Clone, Copy)]
 pub(crate) enum LineError {
     Memory,
     Refused(DictKind),

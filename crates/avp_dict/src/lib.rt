@@ -14,7 +14,6 @@ mod faults;
 mod file;
 mod laws;
 mod names;
-mod octets;
 mod request;
 mod tables;
 mod value;

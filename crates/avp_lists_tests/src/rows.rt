@@ -217,7 +217,7 @@ pub(crate) const OF_FULL_LISTS: [Table; 3] = [
 fn pair_of(alloc: Global, letter: u8) -> Result<Pair, Fail> {
     let is_digit = letter.is_ascii_digit();
     let octet = if is_digit { letter - b'0' } else { letter };
-    let octets = Octets::from_vec(Vec::from_slice(alloc, &[octet])?);
+    let octets = Octets::from_slice(alloc, &[octet])?;
     let (id, value) = if is_digit {
         (CLASS, Value::Bytes(octets))
     } else {

@@ -17,10 +17,10 @@ pub enum Call {
 
 /// An attribute by its number, with an octet.
 pub fn pair_of(alloc: Global, number: u32, octet: u8) -> Result<Pair, AllocError> {
-    let octets = Vec::from_slice(alloc, &[octet])?;
+    let octets = Octets::from_slice(alloc, &[octet])?;
     Ok(Pair {
         id: AttrId::Plain(number),
-        value: Value::Bytes(Octets::from_vec(octets)),
+        value: Value::Bytes(octets),
     })
 }
 

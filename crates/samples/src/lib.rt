@@ -58,7 +58,7 @@ update control { Session-Timeout := 60 }
 pub fn octets(alloc: Global, bytes: &[u8]) -> Result<Octets, AllocError>
     ensures { IfOk result (λ copy. copy ≡ bytes.now) }
 {
-    Ok(Octets::from_vec(Vec::from_slice(alloc, bytes)?))
+    Octets::from_slice(alloc, bytes)
 }
 
 /// A file of this name with these octets.

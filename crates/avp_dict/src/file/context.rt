@@ -8,8 +8,8 @@ ghost use Rattle.avp_dict.specs.internal.Meanings.{IsShort, context_view, readin
 
 use crate::entries::{AttributeLine, VendorLine};
 use crate::file::meanings::{Meaning, Reading};
-use crate::octets::copy_of;
 use crate::tables::{Attributes, Vendors};
+use avp_lists::Octets;
 use std::alloc::{AllocError, Global};
 
 /// The attributes and vendors that lines define, and the lines that opened the blocks that are open after them.
@@ -38,20 +38,16 @@ impl<'a> Context<'a> {
     {
         match reading.meaning {
             Meaning::Attribute(name, id, typing) => {
-                let name = copy_of(alloc, name)?;
-                self.attributes
-                    .push(alloc, AttributeLine { name, id, typing })?;
+                let name = Octets::from_slice(alloc, name)?;
+                self.attributes.push(AttributeLine { name, id, typing })?;
             }
             Meaning::Vendor(name, number, format) => {
-                let name = copy_of(alloc, name)?;
-                self.vendors.push(
-                    alloc,
-                    VendorLine {
-                        name,
-                        number,
-                        format,
-                    },
-                )?;
+                let name = Octets::from_slice(alloc, name)?;
+                self.vendors.push(VendorLine {
+                    name,
+                    number,
+                    format,
+                })?;
             }
             Meaning::BeginVendor(_, _) | Meaning::BeginTlv(_) => self.opened.push(reading)?,
             Meaning::End(_) => self.opened.truncate(self.opened.len().saturating_sub(1)),

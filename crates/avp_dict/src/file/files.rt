@@ -20,11 +20,8 @@ impl NamedFile {
         ensures name { IfOk result (λ file. file.name ≡ last_component path.now) }
         ensures octets { IfOk result (λ file. file.octets ≡ octets) }
     {
-        let name = Vec::from_slice(alloc, last_component(path.as_bytes()))?;
-        Ok(NamedFile {
-            name: Octets::from_vec(name),
-            octets,
-        })
+        let name = Octets::from_slice(alloc, last_component(path.as_bytes()))?;
+        Ok(NamedFile { name, octets })
     }
 }
 
@@ -70,10 +67,18 @@ impl FileSet {
     }
 }
 
+// The last octets go first, since the names of a set mostly begin alike.
+fn has_name(name: &[u8], file: &NamedFile) -> bool
+    ensures { result ≡ has_name name.now file.now }
+{
+    let own = file.name.as_slice();
+    own.last() == name.last() && own == name
+}
+
 fn is_named(files: &[NamedFile], name: &[u8]) -> bool
     ensures { result ≡ list_any (has_name name.now) files.now }
 {
-    files.iter().any(|file| file.name.as_slice() == name)
+    files.iter().any(|file| has_name(name, file))
 }
 
 fn names_differ(files: &[NamedFile]) -> bool

@@ -18,7 +18,7 @@ pub const MAX_DEPTH: usize = 8;
 pub const MAX_LEVELS: usize = MAX_DEPTH + 1;
 
 /// A line, where it is, and how many includes led to it.
-#[derive(Clone, Copy, Debug)]
+#[derive(Clone, Copy)]
 pub struct Line<'a> {
     pub file: usize,
     pub number: usize,

@@ -4,7 +4,7 @@ use crate::entries::{Typing, VendorFormat};
 use avp_lists::AttrId;
 
 /// What a line says, by the lines before it.
-#[derive(Clone, Copy, Debug)]
+#[derive(Clone, Copy)]
 pub enum Meaning<'a> {
     /// A blank line, or an include.
     Nothing,
@@ -26,7 +26,7 @@ pub enum Meaning<'a> {
 }
 
 /// A line, and what it was read as.
-#[derive(Clone, Copy, Debug)]
+#[derive(Clone, Copy)]
 pub struct Reading<'a> {
     /// The file's place in the set.
     pub file: usize,

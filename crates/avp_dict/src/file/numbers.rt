@@ -15,7 +15,7 @@ pub const MAX_NUMBER: u64 = u32::MAX as u64;
 pub const MAX_VALUE: u64 = u64::MAX;
 
 /// What a word is, read as a number.
-#[derive(Clone, Copy, Debug, PartialEq, Eq)]
+#[derive(Clone, Copy)]
 pub enum Number {
     Unreadable,
     /// 2 ^ 64 or more.

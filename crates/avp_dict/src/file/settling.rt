@@ -63,7 +63,7 @@ fn only_kept(
             let name = line.name.copy(alloc)?;
             let id = line.id;
             let typing = line.typing;
-            kept.push(alloc, AttributeLine { name, id, typing })?;
+            kept.push(AttributeLine { name, id, typing })?;
         }
     }
     Ok(())

@@ -24,9 +24,8 @@ use crate::file::meanings::{Meaning, Reading};
 use crate::file::numbers::{Number, digits};
 use crate::file::settling::{is_kept, used};
 use crate::file::words::MAX_NAME;
-use crate::octets::copy_of;
 use crate::tables::{Attributes, NameSet, Values, Vendors};
-use avp_lists::AttrId;
+use avp_lists::{AttrId, Octets};
 use std::alloc::{AllocError, Global};
 
 fn is_value_name_octet(octet: u8) -> bool
@@ -123,7 +122,7 @@ fn value_up_to(
             if is_of_other_number(number, values.number_named(id, name)) {
                 return Err(LineError::Refused(DictKind::OtherValue));
             }
-            let name = copy_of(alloc, name)?;
+            let name = Octets::from_slice(alloc, name)?;
             Ok(Some(ValueLine { id, name, number }))
         }
     }
@@ -186,7 +185,6 @@ impl Contents {
     // What a VALUE line adds.
     fn add_value(
         &mut self,
-        alloc: Global,
         reading: Reading<'_>,
         value: Option<ValueLine>,
     ) -> Result<(), AllocError>
@@ -194,7 +192,7 @@ impl Contents {
         ensures { OnOk result (contents_view self.new ≡ with_value (contents_view self.old) (reading_view reading.entry) value) }
     {
         match value {
-            Some(value) => self.values.push(alloc, value),
+            Some(value) => self.values.push(value),
             None => self.add_note(reading),
         }
     }
@@ -213,7 +211,7 @@ impl Contents {
         if let Meaning::Value(attribute, name, number) = reading.meaning {
             let id = self.attributes.id_named(attribute);
             match value_of(alloc, skipped, self, attribute, name, number, id) {
-                Ok(value) => self.add_value(alloc, reading, value)?,
+                Ok(value) => self.add_value(reading, value)?,
                 Err(error) => return Err(error.at(reading.file, reading.line)),
             }
         } else if is_noted(&self.vendors, reading.meaning) {

@@ -9,14 +9,14 @@ ghost use Rattle.avp_dict.specs.internal.RequestTokens.{begins_blank, ends_run, 
 use crate::value::quotes::QuoteMark;
 
 /// A side of the `=` of a pair.
-#[derive(Clone, Copy, Debug, PartialEq, Eq)]
+#[derive(Clone, Copy, PartialEq, Eq)]
 pub enum Side {
     Name,
     Value,
 }
 
 /// What is in a request line.
-#[derive(Clone, Copy, Debug)]
+#[derive(Clone, Copy)]
 pub enum Token<'a> {
     Comma,
     /// The `=` between a name and a value.

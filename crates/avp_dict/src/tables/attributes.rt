@@ -14,11 +14,21 @@ use std::alloc::{AllocError, Global};
 use std::marker::Model;
 
 /// ATTRIBUTE lines in their order.
-#[derive(Drop)]
 pub struct Attributes {
     lines: Vec<AttributeLine>,
     names: Places<FoldedName>,
     ids: Places<IdKey>,
+}
+
+// As a function, so that where the lines are dropped a proof sees one step and not those of each table.
+impl Drop for Attributes {
+    fn drop(self) {
+        let Attributes {
+            lines: _,
+            names: _,
+            ids: _,
+        } = self;
+    }
 }
 
 impl Model for Attributes {
@@ -72,14 +82,16 @@ impl Attributes {
     }
 
     /// One more line. For want of memory no line is left.
-    pub fn push(&mut self, alloc: Global, line: AttributeLine) -> Result<(), AllocError>
+    pub fn push(&mut self, line: AttributeLine) -> Result<(), AllocError>
         requires { length line.name ≤ max_name }
         ensures { OnOk result (self.new ≡ self.old ++ line ∷ []) }
     {
         match add_line(&mut self.lines, &mut self.names, &mut self.ids, line) {
             Ok(()) => Ok(()),
             Err(error) => {
-                *self = Attributes::new(alloc);
+                self.lines.clear();
+                self.names.clear();
+                self.ids.clear();
                 Err(error)
             }
         }

@@ -6,7 +6,7 @@ ghost use Rattle.avp_dict.specs.Words.{lower};
 ghost use Rattle.avp_dict.specs.internal.Tables.{id_key};
 
 use crate::file::words::{MAX_NAME, lower};
-use avp_lists::AttrId;
+use avp_lists::{AttrId, Octets};
 use std::alloc::{AllocError, Global};
 use std::hash::{Hash, Hasher};
 use std::marker::Model;
@@ -109,71 +109,14 @@ impl Hash for FoldedName {
 }
 
 /// A name of any length in lower case.
-#[derive(Drop)]
-pub struct FoldedText {
-    octets: Vec<u8>,
-}
-
-impl Model for FoldedText {
-    ghost use Rattle.std.specs.Prelude.{ℕ, List};
-
-    ghost Value = { List ℕ };
-
-    ghost view = { λ f. f.octets.items };
-}
-
-impl FoldedText {
-    /// The name in lower case.
-    pub fn of(alloc: Global, name: &[u8]) -> Result<FoldedText, AllocError>
-        ensures { IfOk result (λ f. f ≡ map lower name.now) }
-    {
-        let mut octets = Vec::with_capacity(alloc, name.len())?;
-        for octet in name {
-            octets.push(lower(*octet))?;
-        }
-        Ok(FoldedText { octets })
+pub fn folded_text(alloc: Global, name: &[u8]) -> Result<Octets, AllocError>
+    ensures { IfOk result (λ f. f ≡ map lower name.now) }
+{
+    let mut octets = Vec::with_capacity(alloc, name.len())?;
+    for octet in name {
+        octets.push(lower(*octet))?;
     }
-
-    fn as_slice(&self) -> &[u8]
-        ensures { result.now ≡ self.now }
-    {
-        self.octets.as_slice()
-    }
-}
-
-impl PartialEq for FoldedText {
-    ghost use Rattle.std.specs.Str.{bytes_eq};
-    ghost use Rattle.std.proofs.Common.{rules};
-    ghost use Rattle.std.specs.Cmp.Rules.{comparing};
-
-    ghost eq = { bytes_eq };
-
-    ghost laws = { Prim.search (comparing, rules) };
-
-    fn eq(&self, other: &FoldedText) -> bool {
-        self.as_slice() == other.as_slice()
-    }
-}
-
-impl Eq for FoldedText {
-    ghost use Rattle.std.proofs.Common.{rules};
-    ghost use Rattle.std.specs.Cmp.Rules.{comparing};
-
-    ghost laws = { Prim.search (comparing, rules) };
-}
-
-impl Hash for FoldedText {
-    ghost use Rattle.std.specs.Prelude.{List, ℕ, ◌≡◌, [], ◌∷◌};
-    ghost use Rattle.std.proofs.Common.{ap};
-    ghost use Rattle.std.specs.Cmp.Lexicographic.{bytes_decides};
-
-    ghost hash_input = { λ f. f ∷ [] };
-
-    ghost respects_eq = { λ x y h. ap (λ (f : List ℕ). f ∷ []) ((bytes_decides x y).0 h) };
-
-    fn hash<H: Hasher>(&self, state: &mut H) {
-        state.write(self.as_slice());
-    }
+    Ok(Octets::from_vec(octets))
 }
 
 /// An id as a key: its kind, and its numbers.

@@ -6,8 +6,9 @@ ghost use Rattle.avp_dict.specs.Words.{lower};
 ghost use Rattle.avp_dict.specs.internal.Tables.{IsTable};
 ghost use Rattle.avp_dict.specs.internal.Views.{views};
 
-use crate::tables::keys::FoldedText;
+use crate::tables::keys::folded_text;
 use crate::tables::places::Places;
+use avp_lists::Octets;
 use std::alloc::{AllocError, Global};
 use std::marker::Model;
 
@@ -15,7 +16,7 @@ use std::marker::Model;
 #[derive(Drop)]
 pub struct NameSet<'a> {
     names: Vec<&'a [u8]>,
-    table: Places<FoldedText>,
+    table: Places<Octets>,
 }
 
 impl<'a> Model for NameSet<'a> {
@@ -36,14 +37,14 @@ impl<'a> Model for NameSet<'a> {
 fn add_name<'a>(
     alloc: Global,
     names: &mut Vec<&'a [u8]>,
-    table: &mut Places<FoldedText>,
+    table: &mut Places<Octets>,
     name: &'a [u8],
 ) -> Result<(), AllocError>
     requires { IsTable bytes_eq table.old (map (map lower) (views names.old.items)) }
     ensures names { OnOk result (views names.new.items ≡ views names.old.items ++ name.now ∷ []) }
     ensures table { OnOk result (IsTable bytes_eq table.new (map (map lower) (views names.new.items))) }
 {
-    table.put(FoldedText::of(alloc, name)?, names.len())?;
+    table.put(folded_text(alloc, name)?, names.len())?;
     names.push(name)?;
     Ok(())
 }
@@ -65,7 +66,8 @@ impl<'a> NameSet<'a> {
         match add_name(alloc, &mut self.names, &mut self.table, name) {
             Ok(()) => Ok(()),
             Err(error) => {
-                *self = NameSet::new(alloc);
+                self.names.clear();
+                self.table.clear();
                 Err(error)
             }
         }
@@ -75,7 +77,7 @@ impl<'a> NameSet<'a> {
     pub fn contains(&self, alloc: Global, name: &[u8]) -> Result<bool, AllocError>
         ensures { IfOk result (λ found. found ≡ list_any (is_same_name name.now) self.now) }
     {
-        let folded = FoldedText::of(alloc, name)?;
+        let folded = folded_text(alloc, name)?;
         Ok(self.table.contains(&folded))
     }
 }

@@ -12,9 +12,15 @@ use std::hash::Hash;
 use std::marker::Model;
 
 /// The place of the last line with each key, the keys in the order of their first lines.
-#[derive(Drop)]
 pub struct Places<K: Eq + Hash> {
     table: IndexMap<K, usize>,
+}
+
+// As a function, so that where a table is dropped a proof sees one step.
+impl<K: Eq + Hash + Drop> Drop for Places<K> {
+    fn drop(self) {
+        let Places { table: _ } = self;
+    }
 }
 
 impl<K: Eq + Hash> Model for Places<K> {
@@ -41,6 +47,15 @@ impl<K: Eq + Hash> Places<K> {
         Places {
             table: IndexMap::new(alloc),
         }
+    }
+
+    /// No key is left.
+    pub fn clear(&mut self)
+    where
+        K: Drop,
+        ensures { IsTable K.eq self.new [] }
+    {
+        self.table.clear();
     }
 
     /// The last of the lines with this key.

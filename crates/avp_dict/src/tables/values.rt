@@ -14,11 +14,21 @@ use std::alloc::{AllocError, Global};
 use std::marker::Model;
 
 /// VALUE lines in their order.
-#[derive(Drop)]
 pub struct Values {
     lines: Vec<ValueLine>,
     names: Places<(IdKey, FoldedName)>,
     numbers: Places<(IdKey, u64)>,
+}
+
+// As a function, so that where the lines are dropped a proof sees one step and not those of each table.
+impl Drop for Values {
+    fn drop(self) {
+        let Values {
+            lines: _,
+            names: _,
+            numbers: _,
+        } = self;
+    }
 }
 
 impl Model for Values {
@@ -74,14 +84,16 @@ impl Values {
     }
 
     /// One more line. For want of memory no line is left.
-    pub fn push(&mut self, alloc: Global, line: ValueLine) -> Result<(), AllocError>
+    pub fn push(&mut self, line: ValueLine) -> Result<(), AllocError>
         requires { length line.name ≤ max_name }
         ensures { OnOk result (self.new ≡ self.old ++ line ∷ []) }
     {
         match add_line(&mut self.lines, &mut self.names, &mut self.numbers, line) {
             Ok(()) => Ok(()),
             Err(error) => {
-                *self = Values::new(alloc);
+                self.lines.clear();
+                self.names.clear();
+                self.numbers.clear();
                 Err(error)
             }
         }

@@ -13,11 +13,21 @@ use std::alloc::{AllocError, Global};
 use std::marker::Model;
 
 /// VENDOR lines in their order.
-#[derive(Drop)]
 pub struct Vendors {
     lines: Vec<VendorLine>,
     names: Places<FoldedName>,
     numbers: Places<u32>,
+}
+
+// As a function, so that where the lines are dropped a proof sees one step and not those of each table.
+impl Drop for Vendors {
+    fn drop(self) {
+        let Vendors {
+            lines: _,
+            names: _,
+            numbers: _,
+        } = self;
+    }
 }
 
 impl Model for Vendors {
@@ -70,14 +80,16 @@ impl Vendors {
     }
 
     /// One more line. For want of memory no line is left.
-    pub fn push(&mut self, alloc: Global, line: VendorLine) -> Result<(), AllocError>
+    pub fn push(&mut self, line: VendorLine) -> Result<(), AllocError>
         requires { length line.name ≤ max_name }
         ensures { OnOk result (self.new ≡ self.old ++ line ∷ []) }
     {
         match add_line(&mut self.lines, &mut self.names, &mut self.numbers, line) {
             Ok(()) => Ok(()),
             Err(error) => {
-                *self = Vendors::new(alloc);
+                self.lines.clear();
+                self.names.clear();
+                self.numbers.clear();
                 Err(error)
             }
         }

@@ -9,7 +9,6 @@ ghost use Rattle.avp_dict.specs.Types.{is_text_kind};
 
 use crate::dictionaries::Dictionary;
 use crate::entries::Kind;
-use crate::octets::copy_of;
 use avp_lists::{AttrId, Octets, Value};
 use std::alloc::{AllocError, Global};
 
@@ -133,8 +132,8 @@ fn value_read(alloc: Global, kind: Kind, octets: &[u8]) -> Result<Option<Value>,
     ensures { IfOk result (λ value. value ≡ value_read kind octets.now) }
 {
     match kind {
-        Kind::Text => Ok(Some(Value::Text(copy_of(alloc, octets)?))),
-        Kind::Bytes => Ok(Some(Value::Bytes(copy_of(alloc, octets)?))),
+        Kind::Text => Ok(Some(Value::Text(Octets::from_slice(alloc, octets)?))),
+        Kind::Bytes => Ok(Some(Value::Bytes(Octets::from_slice(alloc, octets)?))),
         _ => Ok(read_sized(kind, octets)),
     }
 }
@@ -237,7 +236,7 @@ impl Dictionary {
     {
         match self.read_value(alloc, id, octets)? {
             Some(value) => Ok(value),
-            None => Ok(Value::Raw(copy_of(alloc, octets)?)),
+            None => Ok(Value::Raw(Octets::from_slice(alloc, octets)?)),
         }
     }
 

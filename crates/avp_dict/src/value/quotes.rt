@@ -13,7 +13,7 @@ pub enum QuoteMark {
 }
 
 /// What follows a `\` between quotes: an octet, and how many octets of the text stand for it.
-#[derive(Clone, Copy, Debug)]
+#[derive(Clone, Copy)]
 pub(crate) struct Escape {
     pub octet: u8,
     pub taken: usize,

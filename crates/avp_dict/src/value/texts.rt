@@ -16,7 +16,6 @@ use crate::dictionaries::Dictionary;
 use crate::entries::{Kind, Named, Typing};
 use crate::file::numbers::{Number, digits, number_of};
 use crate::file::parts::first_between;
-use crate::octets::copy_of;
 use crate::value::faults::ValueFault;
 use avp_lists::{AttrId, Octets, Value};
 use hex::FromHexError;
@@ -46,7 +45,7 @@ fn bytes_spelled(alloc: Global, by_text: bool, text: &[u8]) -> Result<Option<Oct
         [b'0', b'x', ..] => octets_spelled(alloc, text),
         _ => {
             if by_text {
-                Ok(Some(copy_of(alloc, text)?))
+                Ok(Some(Octets::from_slice(alloc, text)?))
             } else {
                 octets_spelled(alloc, text)
             }
@@ -206,7 +205,7 @@ impl Dictionary {
         ensures { IfOk result (λ value. value ≡ spelled_by id text.now self.now typing) }
     {
         match typing.kind {
-            Kind::Text => Ok(Some(Value::Text(copy_of(alloc, text)?))),
+            Kind::Text => Ok(Some(Value::Text(Octets::from_slice(alloc, text)?))),
             Kind::Bytes => Ok(bytes_spelled(alloc, typing.by_text, text)?.map(Value::Bytes)),
             Kind::Addr => Ok(address_spelled(text).map(Value::Addr)),
             Kind::Ether => Ok(ether_spelled(text).map(Value::Ether)),

@@ -13,7 +13,7 @@ use std::test::Fail;
 const APPENDS: usize = 1000;
 
 fn class(alloc: Global, octet: u8) -> Result<Pair, Fail> {
-    let octets = Octets::from_vec(Vec::from_slice(alloc, &[octet])?);
+    let octets = Octets::from_slice(alloc, &[octet])?;
     Ok(Pair {
         id: AttrId::Plain(25),
         value: Value::Bytes(octets),
