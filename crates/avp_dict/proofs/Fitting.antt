@@ -24,7 +24,7 @@ use Rattle.avp_dict.specs.declared.entries.Typing.{Typing}
 use Rattle.avp_dict.specs.declared.value.faults.ValueFault.{ValueFault}
 use Rattle.avp_dict.proofs.PrintedNames.{last_holds}
 use Rattle.avp_dict.specs.AttributeNumbers.{greatest_number, greatest_value}
-use Rattle.avp_dict.specs.Attributes.{is_extended}
+use Rattle.avp_dict.specs.Attributes.{is_extended_id}
 use Rattle.avp_dict.specs.declared.entries.Format.{Format}
 use Rattle.avp_dict.specs.declared.entries.AttributeLine.{AttributeLine}
 use Rattle.avp_dict.specs.declared.entries.VendorFormat.{VendorFormat}
@@ -125,7 +125,7 @@ module _ (d : Dictionary) where
   known_extended : (t n : Option ℕ) → IfSome (extended_numbered t n) (λ id. is_known id d ≡ true)
   unfolding is_known
   known_extended (Some t) (Some n) =
-      kept_by (λ id. is_known id d ≡ true) (ids.Extended t n) (is_extended 0 t n) (λ h.
+      kept_by (λ id. is_known id d ≡ true) (ids.Extended t n) (is_extended_id 0 t n) (λ h.
       (and_parts (nat_le 241 t && nat_le t 246) (nat_le 0 n) (and_parts (nat_le 241 t && nat_le t 246 && nat_le 0 n) (nat_le n 255) h).0).0)
   known_extended _ _ = tt
 

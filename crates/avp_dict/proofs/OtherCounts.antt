@@ -2,14 +2,14 @@
 use Rattle.std.proofs.Common.{◌≡◌, ◌≢◌, ℕ, List, [], ◌∷◌, Option, None, Err, length, get_or, refl, true, arith, Bor}
 use Rattle.avp_dict.specs.declared.entries.VendorLine.{VendorLine}
 use Rattle.avp_dict.specs.declared.faults.DictKind.TheVariants.{Unreadable}
-use Rattle.avp_dict.specs.Attributes.{id_word, many_words}
+use Rattle.avp_dict.specs.Attributes.{id_of_parts, id_of_more}
 use Rattle.avp_dict.specs.Readings.{value}
 use Rattle.avp_dict.specs.Vendors.{format_parts, two_parts}
 use Rattle.avp_dict.specs.Words.{number_of}
 use Rattle.avp_dict.specs.internal.Views.{views}
 
-pub many_ids : (vendors : List VendorLine) (block : Option ℕ) (parts : List (Bor (List ℕ))) → length parts ≢ 1 → length parts ≢ 2 → id_word vendors block (views parts) ≡ many_words (views parts)
-unfolding id_word
+pub many_ids : (vendors : List VendorLine) (block : Option ℕ) (parts : List (Bor (List ℕ))) → length parts ≢ 1 → length parts ≢ 2 → id_of_parts vendors block (views parts) ≡ id_of_more (views parts)
+unfolding id_of_parts
 many_ids vendors block (n ∷ []) one two = absurd (one refl)
 many_ids vendors block (t ∷ x ∷ []) one two = absurd (two refl)
 many_ids vendors block _ one two = refl

@@ -24,7 +24,7 @@ use Rattle.avp_dict.proofs.Agreement.{other_id_sym, same_name_refl}
 use Rattle.avp_dict.proofs.AgreeingLines.{AreAloneNames, alone_by_id}
 use Rattle.avp_dict.proofs.LinesRead.{context_of_push, context_of_none, then_both}
 use Rattle.avp_dict.specs.AttributeNumbers.{greatest_number, greatest_value}
-use Rattle.avp_dict.specs.Attributes.{attribute, attribute_line, attribute_of, dotted_word, id_word, is_attribute_name, is_extended, is_held, is_number, is_of_other_id, number_id, number_word, vendor_id}
+use Rattle.avp_dict.specs.Attributes.{attribute, attribute_line, attribute_of, id_of_dotted, id_of_parts, is_attribute_name, is_extended_id, is_held, is_number, is_of_other_id, number_id, id_of_number, vendor_id}
 use Rattle.avp_dict.specs.Blocks.{begin_known, begin_tlv, begin_vendor, block_vendor, end_tlv, end_vendor, ended, is_skipping, unless_third}
 use Rattle.avp_dict.specs.Dictionary.{format_of, id_named, vendor_named}
 use Rattle.avp_dict.specs.Letters.{begins_as_attr, is_comma, is_dot, is_name_octet, is_visible, word_before_bracket, max_name}
@@ -113,7 +113,7 @@ abbrev GivesRanged : Result (Option AttrId) DictKind → Type 0
 GivesRanged (Ok id) = IsIdRanged id
 GivesRanged (Err kind) = Unit {0}
 
-extended_ranged : (b : Bool) (t x : ℕ) → (b && is_extended 1 t x) ≡ true → is_ranged (ids.Extended t x) ≡ true
+extended_ranged : (b : Bool) (t x : ℕ) → (b && is_extended_id 1 t x) ≡ true → is_ranged (ids.Extended t x) ≡ true
 extended_ranged b t x h = grind (arith, common_steps)
 
 -- a name has no form of a name by number, and is short
@@ -237,21 +237,21 @@ module _ (before : Context) where
   number_id_ranged None n = refl
   number_id_ranged (Some v) n = vendor_id_ranged v n (format_of v before.vendors)
 
-  number_word_ranged : (block : Option ℕ) (n : Option ℕ) → GivesRanged (number_word before.vendors block n)
-  unfolding number_word
-  number_word_ranged block None = tt
-  number_word_ranged block (Some n) = cond_both (nat_le n greatest_number) _ _ GivesRanged (λ low. number_id_ranged block n) (λ high. tt)
+  id_of_number_ranged : (block : Option ℕ) (n : Option ℕ) → GivesRanged (id_of_number before.vendors block n)
+  unfolding id_of_number
+  id_of_number_ranged block None = tt
+  id_of_number_ranged block (Some n) = cond_both (nat_le n greatest_number) _ _ GivesRanged (λ low. number_id_ranged block n) (λ high. tt)
 
-  dotted_word_ranged : (block t x : Option ℕ) → GivesRanged (dotted_word block t x)
-  dotted_word_ranged block (Some t) (Some x) = cond_both (is_none block && is_extended 1 t x) _ _ IsIdRanged (extended_ranged (is_none block) t x) (λ other. tt)
-  dotted_word_ranged block _ _ = tt
+  id_of_dotted_ranged : (block t x : Option ℕ) → GivesRanged (id_of_dotted block t x)
+  id_of_dotted_ranged block (Some t) (Some x) = cond_both (is_none block && is_extended_id 1 t x) _ _ IsIdRanged (extended_ranged (is_none block) t x) (λ other. tt)
+  id_of_dotted_ranged block _ _ = tt
 
-  id_word_ranged : (block : Option ℕ) (parts : List (List ℕ)) → GivesRanged (id_word before.vendors block parts)
-  unfolding id_word
-  id_word_ranged block [] = tt
-  id_word_ranged block (n ∷ []) = number_word_ranged block (number_of n)
-  id_word_ranged block (t ∷ x ∷ []) = dotted_word_ranged block (number_of t) (number_of x)
-  id_word_ranged block (t ∷ x ∷ y ∷ rest) = cond_both (list_all is_number (t ∷ x ∷ y ∷ rest)) _ _ GivesRanged (λ h. tt) (λ other. tt)
+  id_of_parts_ranged : (block : Option ℕ) (parts : List (List ℕ)) → GivesRanged (id_of_parts before.vendors block parts)
+  unfolding id_of_parts
+  id_of_parts_ranged block [] = tt
+  id_of_parts_ranged block (n ∷ []) = id_of_number_ranged block (number_of n)
+  id_of_parts_ranged block (t ∷ x ∷ []) = id_of_dotted_ranged block (number_of t) (number_of x)
+  id_of_parts_ranged block (t ∷ x ∷ y ∷ rest) = cond_both (list_all is_number (t ∷ x ∷ y ∷ rest)) _ _ GivesRanged (λ h. tt) (λ other. tt)
 
   attribute_of_reads : (name kind : List ℕ) (flags : List (List ℕ)) (id : Option AttrId) → IsIdRanged id → Reads before (attribute_of before.attributes name kind flags id)
   unfolding attribute_of
@@ -269,8 +269,8 @@ module _ (before : Context) where
   attribute_line_reads : (block : Option ℕ) (name number kind : List ℕ) (flags : List (List ℕ)) → Reads before (attribute_line before block name number kind flags)
   unfolding attribute_line
   attribute_line_reads block name number kind flags =
-      then_both GivesRanged (Reads before) (id_word before.vendors block (slice_split is_dot number)) _
-      (id_word_ranged block (slice_split is_dot number)) (attribute_of_reads name kind flags) (λ e h. tt)
+      then_both GivesRanged (Reads before) (id_of_parts before.vendors block (slice_split is_dot number)) _
+      (id_of_parts_ranged block (slice_split is_dot number)) (attribute_of_reads name kind flags) (λ e h. tt)
 
   attribute_reads : (block : Option ℕ) (rest : List (List ℕ)) → Reads before (attribute before block rest)
   unfolding attribute

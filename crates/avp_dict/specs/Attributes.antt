@@ -19,13 +19,13 @@ use Rattle.avp_dict.specs.Types.{are_flags, typing_of}
 
 -- ---- the id of a number
 
--- an extended attribute: its type, and a number of its own from the least on
-abbrev pub is_extended : ℕ → ℕ → ℕ → Bool
-is_extended least t x = is_extended_type t && nat_le least x && nat_le x 255
+-- an extended attribute: its type, and a number of its own, from 1 on an ATTRIBUTE line and from 0 in a name by number
+abbrev pub is_extended_id : ℕ → ℕ → ℕ → Bool
+is_extended_id least t x = is_extended_type t && nat_le least x && nat_le x 255
 
 -- the greatest number that 1, 2 or 4 octets hold
 abbrev pub max_in : ℕ → ℕ
-max_in t = if t == 1 then 255 else (if t == 2 then 65535 else greatest_number)
+max_in t = if t == 1 then 255 else if t == 2 then 65535 else greatest_number
 
 abbrev pub is_held : ℕ → VendorFormat → Bool
 is_held n f = nat_le n (max_in f.t)
@@ -40,27 +40,27 @@ number_id vendors None n = Some (ids.Plain n)
 number_id vendors (Some vendor) n = vendor_id vendor n (format_of vendor vendors)
 
 -- the id of a number; none where the line is skipped
-unfoldable pub number_word : List VendorLine → Option ℕ → Option ℕ → Result (Option AttrId) DictKind
-number_word vendors block None = Err Unreadable
-number_word vendors block (Some n) = if nat_le n greatest_number then Ok (number_id vendors block n) else Err OutOfRange
+unfoldable pub id_of_number : List VendorLine → Option ℕ → Option ℕ → Result (Option AttrId) DictKind
+id_of_number vendors block None = Err Unreadable
+id_of_number vendors block (Some n) = if nat_le n greatest_number then Ok (number_id vendors block n) else Err OutOfRange
 
 -- the id of two numbers with a dot between, outside a vendor block
-abbrev pub dotted_word : Option ℕ → Option ℕ → Option ℕ → Result (Option AttrId) DictKind
-dotted_word block (Some t) (Some x) = Ok (if is_none block && is_extended 1 t x then Some (ids.Extended t x) else None)
-dotted_word block _ _ = Err Unreadable
+abbrev pub id_of_dotted : Option ℕ → Option ℕ → Option ℕ → Result (Option AttrId) DictKind
+id_of_dotted block (Some t) (Some x) = Ok (if is_none block && is_extended_id 1 t x then Some (ids.Extended t x) else None)
+id_of_dotted block _ _ = Err Unreadable
 
 abbrev pub is_number : List ℕ → Bool
 is_number word = is_some (number_of word)
 
 -- other dotted numbers skip the line
-abbrev pub many_words : List (List ℕ) → Result (Option AttrId) DictKind
-many_words parts = if list_all is_number parts then Ok None else Err Unreadable
+abbrev pub id_of_more : List (List ℕ) → Result (Option AttrId) DictKind
+id_of_more parts = if list_all is_number parts then Ok None else Err Unreadable
 
 -- the id of the parts between the dots
-unfoldable pub id_word : List VendorLine → Option ℕ → List (List ℕ) → Result (Option AttrId) DictKind
-id_word vendors block (n ∷ []) = number_word vendors block (number_of n)
-id_word vendors block (t ∷ x ∷ []) = dotted_word block (number_of t) (number_of x)
-id_word vendors block parts = many_words parts
+unfoldable pub id_of_parts : List VendorLine → Option ℕ → List (List ℕ) → Result (Option AttrId) DictKind
+id_of_parts vendors block (n ∷ []) = id_of_number vendors block (number_of n)
+id_of_parts vendors block (t ∷ x ∷ []) = id_of_dotted block (number_of t) (number_of x)
+id_of_parts vendors block parts = id_of_more parts
 
 -- ---- the line
 
@@ -80,7 +80,7 @@ attribute_of attributes name kind flags (Some id) = if is_attribute_name name &&
     else Ok (SkippedAttribute name)
 
 unfoldable pub attribute_line : Context → Option ℕ → List ℕ → List ℕ → List ℕ → List (List ℕ) → Result Meaning DictKind
-attribute_line before block name number kind flags = id_word before.vendors block (slice_split is_dot number) >>= attribute_of before.attributes name kind flags
+attribute_line before block name number kind flags = id_of_parts before.vendors block (slice_split is_dot number) >>= attribute_of before.attributes name kind flags
 
 unfoldable pub attribute : Context → Option ℕ → List (List ℕ) → Result Meaning DictKind
 attribute before block (name ∷ number ∷ kind ∷ []) = attribute_line before block name number kind []

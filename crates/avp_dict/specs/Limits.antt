@@ -25,7 +25,7 @@ vendor_room f = 249 - f.t - f.l
 
 -- types 241 to 244 hold one attribute, and 245 and 246 what a packet holds in fragments (RFC 6929, sections 2.1 and 2.2)
 abbrev pub extended_room : ℕ → ℕ
-extended_room t = if nat_le 241 t && nat_le t 244 then 252 else (if nat_le 245 t && nat_le t 246 then 4012 else 0)
+extended_room t = if nat_le 241 t && nat_le t 244 then 252 else if nat_le 245 t && nat_le t 246 then 4012 else 0
 
 -- the most octets of an id's attribute; 0 where the vendor has no format of two parts
 unfoldable pub max_octets : AttrId → Dictionary → ℕ

@@ -14,7 +14,7 @@ use Rattle.avp_dict.specs.Words.{digits}
 use Rattle.avp_dict.specs.Letters.{is_dot, begins_as_attr}
 use Rattle.avp_dict.specs.Dictionary.{Dictionary, last_where, is_attribute_of, id_named, format_of}
 use Rattle.avp_dict.specs.AttributeNumbers.{greatest_number, max_plain, vendor_specific}
-use Rattle.avp_dict.specs.Attributes.{is_extended}
+use Rattle.avp_dict.specs.Attributes.{is_extended_id}
 use Rattle.avp_dict.specs.Settled.{is_in_format}
 
 -- ---- by name
@@ -26,7 +26,7 @@ plain_numbered None = None
 
 -- Attr-T.N
 abbrev pub extended_numbered : Option ℕ → Option ℕ → Option AttrId
-extended_numbered (Some t) (Some n) = if is_extended 0 t n then Some (ids.Extended t n) else None
+extended_numbered (Some t) (Some n) = if is_extended_id 0 t n then Some (ids.Extended t n) else None
 extended_numbered _ _ = None
 
 -- Attr-26.V.N, where the vendor's format has two parts and holds N

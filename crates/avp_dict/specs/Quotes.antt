@@ -15,11 +15,11 @@ octal_escape o = 92 ∷ (48 + o / 64) ∷ (48 + o / 8 % 8) ∷ (48 + o % 8) ∷ 
 abbrev pub quoted_octet : ℕ → List ℕ
 quoted_octet o =
     if o == 34 then (92 ∷ 34 ∷ [])
-    else (if o == 92 then (92 ∷ 92 ∷ [])
-    else (if o == 10 then (92 ∷ 110 ∷ [])
-    else (if o == 13 then (92 ∷ 114 ∷ [])
-    else (if o == 9 then (92 ∷ 116 ∷ [])
-    else (if nat_le 32 o && nat_le o 126 then o ∷ [] else octal_escape o)))))
+    else if o == 92 then (92 ∷ 92 ∷ [])
+    else if o == 10 then (92 ∷ 110 ∷ [])
+    else if o == 13 then (92 ∷ 114 ∷ [])
+    else if o == 9 then (92 ∷ 116 ∷ [])
+    else if nat_le 32 o && nat_le o 126 then o ∷ [] else octal_escape o
 
 -- octets between double quotes, with these
 unfoldable pub quoted : List ℕ → List ℕ
@@ -43,7 +43,7 @@ octal_value a b c = (a - 48) * 64 + (b - 48) * 8 + (c - 48)
 
 -- the octet of `\` and a letter: `\n`, `\r`, `\t`, and `\c` is c for any other c
 abbrev pub escaped_letter : ℕ → ℕ
-escaped_letter c = if c == 110 then 10 else (if c == 114 then 13 else (if c == 116 then 9 else c))
+escaped_letter c = if c == 110 then 10 else if c == 114 then 13 else if c == 116 then 9 else c
 
 -- an octet, and how many octets after a `\` stand for it
 abbrev pub escape_by : ℕ → ℕ → Escape

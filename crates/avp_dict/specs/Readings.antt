@@ -43,20 +43,20 @@ skipped_line head (name ∷ words) = if same_name head (codes "attribute") then 
 unfoldable pub plain_line : Context → Option ℕ → List ℕ → List (List ℕ) → Result Meaning DictKind
 plain_line before block head rest =
     if same_name head (codes "attribute") then attribute before block rest
-    else (if same_name head (codes "value") then value rest
-    else (if same_name head (codes "vendor") then vendor before.vendors rest
-    else Err Unreadable))
+    else if same_name head (codes "value") then value rest
+    else if same_name head (codes "vendor") then vendor before.vendors rest
+    else Err Unreadable
 
 -- the words of a line after its first, by what the lines before it leave; found is the place of the file that it includes
 unfoldable pub read_head : Context → Option ℕ → ℕ → List ℕ → List (List ℕ) → Result Meaning DictKind
 read_head before found depth head rest =
     if is_include head then include found depth head rest
-    else (if same_name head (codes "begin-vendor") then begin_vendor before.vendors before.opened rest
-    else (if same_name head (codes "end-vendor") then end_vendor before.opened rest
-    else (if same_name head (codes "begin-tlv") then begin_tlv rest
-    else (if same_name head (codes "end-tlv") then end_tlv before.opened rest
-    else (if is_skipping before.opened then Ok (skipped_line head rest)
-    else plain_line before (block_vendor before.opened) head rest)))))
+    else if same_name head (codes "begin-vendor") then begin_vendor before.vendors before.opened rest
+    else if same_name head (codes "end-vendor") then end_vendor before.opened rest
+    else if same_name head (codes "begin-tlv") then begin_tlv rest
+    else if same_name head (codes "end-tlv") then end_tlv before.opened rest
+    else if is_skipping before.opened then Ok (skipped_line head rest)
+    else plain_line before (block_vendor before.opened) head rest
 
 unfoldable pub read_words : Context → Option ℕ → ℕ → List (List ℕ) → Result Meaning DictKind
 read_words before found depth [] = Ok Nothing

@@ -62,12 +62,12 @@ tokens_from (Between mark) [] = Unended ∷ []
 tokens_from (Escaped mark) [] = Unended ∷ []
 tokens_from (Outside side) (o ∷ os) =
     if is_hash o then []
-    else (if is_blank o then Blank ∷ tokens_from (Outside side) os
-    else (if is_comma o then Comma ∷ tokens_from (Outside Name) os
-    else (if o == quote_octet Double then tokens_from (Between Double) os
-    else (if o == quote_octet Single then tokens_from (Between Single) os
-    else (if is_sign side o then Sign ∷ tokens_from (Outside Value) os
-    else onto_run o (tokens_from (Outside side) os))))))
+    else if is_blank o then Blank ∷ tokens_from (Outside side) os
+    else if is_comma o then Comma ∷ tokens_from (Outside Name) os
+    else if o == quote_octet Double then tokens_from (Between Double) os
+    else if o == quote_octet Single then tokens_from (Between Single) os
+    else if is_sign side o then Sign ∷ tokens_from (Outside Value) os
+    else onto_run o (tokens_from (Outside side) os)
 tokens_from (Between mark) (o ∷ os) =
     if o == quote_octet mark then Quoted mark [] ∷ tokens_from (Outside Value) os
     else onto_quoted o (tokens_from (place_between mark o) os)

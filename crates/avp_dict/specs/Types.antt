@@ -28,16 +28,16 @@ is_hiding w = same_name w (codes "encrypt=1")
 abbrev pub kind_word : List ℕ → Option Kind
 kind_word w =
     if same_name w (codes "string") then Some kinds.Text
-    else (if same_name w (codes "octets") then Some kinds.Bytes
-    else (if same_name w (codes "ipaddr") then Some kinds.Addr
-    else (if same_name w (codes "integer") then Some kinds.Integer
-    else (if same_name w (codes "date") then Some kinds.Date
-    else (if same_name w (codes "byte") then Some kinds.Byte
-    else (if same_name w (codes "short") then Some kinds.Short
-    else (if same_name w (codes "signed") then Some kinds.Signed
-    else (if same_name w (codes "integer64") then Some kinds.Integer64
-    else (if same_name w (codes "ether") then Some kinds.Ether
-    else None)))))))))
+    else if same_name w (codes "octets") then Some kinds.Bytes
+    else if same_name w (codes "ipaddr") then Some kinds.Addr
+    else if same_name w (codes "integer") then Some kinds.Integer
+    else if same_name w (codes "date") then Some kinds.Date
+    else if same_name w (codes "byte") then Some kinds.Byte
+    else if same_name w (codes "short") then Some kinds.Short
+    else if same_name w (codes "signed") then Some kinds.Signed
+    else if same_name w (codes "integer64") then Some kinds.Integer64
+    else if same_name w (codes "ether") then Some kinds.Ether
+    else None
 
 abbrev pub is_text_kind : Option Kind → Bool
 is_text_kind (Some kinds.Text) = true

@@ -55,9 +55,9 @@ unfoldable pub value_up_to : List ValueLine → AttrId → List ℕ → ℕ → 
 value_up_to values id name number None = Ok None
 value_up_to values id name number (Some most) =
     if not (is_value_name name) then Ok None
-    else (if not (nat_le number most) then Err OutOfRange
-    else (if is_of_other_number number (number_named id name values) then Err OtherValue
-    else Ok (Some (record { id = id; name = name; number = number }))))
+    else if not (nat_le number most) then Err OutOfRange
+    else if is_of_other_number number (number_named id name values) then Err OtherValue
+    else Ok (Some (record { id = id; name = name; number = number }))
 
 abbrev pub is_same_name : List ℕ → List ℕ → Bool
 is_same_name name other = same_name other name

@@ -37,7 +37,7 @@ format_parts _ = None
 
 -- format=t,l or format=t,l,c
 unfoldable pub format_word : List ℕ → Option VendorFormat
-format_word word = if nat_lt (length word) 7 then None else (if same_name (take 7 word) (codes "format=") then format_parts (slice_split is_comma (drop 7 word)) else None)
+format_word word = if nat_lt (length word) 7 then None else if same_name (take 7 word) (codes "format=") then format_parts (slice_split is_comma (drop 7 word)) else None
 
 abbrev pub standard_format : VendorFormat
 standard_format = record { t = 1; l = 1; third = false }

@@ -3,7 +3,7 @@
 ghost use Rattle.std.specs.Prelude.{◌≡◌, ◌≤◌, ℕ, Option, Some, None, if◌then◌else◌, IsTrue};
 ghost use Rattle.std.specs.List.{list_all};
 ghost use Rattle.avp_lists.specs.declared.pairs.AttrId.TheVariants.{Extended};
-ghost use Rattle.avp_dict.specs.Attributes.{attribute, attribute_line, attribute_of, dotted_word, id_word, is_attribute_name, is_extended, is_held, is_number, is_of_other_id, many_words, max_in, number_id, number_word, vendor_id};
+ghost use Rattle.avp_dict.specs.Attributes.{attribute, attribute_line, attribute_of, id_of_dotted, id_of_parts, is_attribute_name, is_extended_id, is_held, is_number, is_of_other_id, id_of_more, max_in, number_id, id_of_number, vendor_id};
 ghost use Rattle.avp_dict.specs.Letters.{begins_as_attr, is_decimal, is_letter, is_name_octet};
 ghost use Rattle.avp_dict.specs.internal.Numbers.{Reads};
 ghost use Rattle.avp_dict.specs.internal.Meanings.{context_view};
@@ -67,13 +67,13 @@ fn number_id(vendors: &Vendors, block: Option<u32>, number: u32) -> Option<AttrI
     }
 }
 
-#[tactic(auto, unfolding(crate::specs::Attributes::number_word))]
-fn number_word(
+#[tactic(auto, unfolding(crate::specs::Attributes::id_of_number))]
+fn id_of_number(
     vendors: &Vendors,
     block: Option<u32>,
     number: Number,
 ) -> Result<Option<AttrId>, LineError>
-    ensures { (n : Option ℕ) → Reads number n → Gives result (number_word vendors.now block n) }
+    ensures { (n : Option ℕ) → Reads number n → Gives result (id_of_number vendors.now block n) }
 {
     match number {
         Number::Unreadable => Err(LineError::Refused(DictKind::Unreadable)),
@@ -90,7 +90,7 @@ fn number_word(
 
 /// The id of an extended attribute, whose own number is at least this.
 pub fn extended_id(least: u64, t: u64, x: u64) -> Option<AttrId>
-    ensures { result ≡ if is_extended least t x then Some (Extended t x) else None }
+    ensures { result ≡ if is_extended_id least t x then Some (Extended t x) else None }
 {
     if is_extended_type(t) && x >= least && x <= 255 {
         Some(AttrId::Extended(t as u8, x as u8))
@@ -99,8 +99,8 @@ pub fn extended_id(least: u64, t: u64, x: u64) -> Option<AttrId>
     }
 }
 
-fn dotted_word(block: Option<u32>, t: Number, x: Number) -> Result<Option<AttrId>, LineError>
-    ensures { (m n : Option ℕ) → Reads t m → Reads x n → Gives result (dotted_word block m n) }
+fn id_of_dotted(block: Option<u32>, t: Number, x: Number) -> Result<Option<AttrId>, LineError>
+    ensures { (m n : Option ℕ) → Reads t m → Reads x n → Gives result (id_of_dotted block m n) }
 {
     match t {
         Number::Unreadable => Err(LineError::Refused(DictKind::Unreadable)),
@@ -146,8 +146,8 @@ fn are_readable(parts: &[&[u8]]) -> bool
     true
 }
 
-fn many_words(parts: &[&[u8]]) -> Result<Option<AttrId>, LineError>
-    ensures { Gives result (many_words (views parts.now)) }
+fn id_of_more(parts: &[&[u8]]) -> Result<Option<AttrId>, LineError>
+    ensures { Gives result (id_of_more (views parts.now)) }
 {
     if are_readable(parts) {
         Ok(None)
@@ -156,18 +156,18 @@ fn many_words(parts: &[&[u8]]) -> Result<Option<AttrId>, LineError>
     }
 }
 
-#[tactic(auto, unfolding(crate::specs::Attributes::id_word))]
-fn id_word(
+#[tactic(auto, unfolding(crate::specs::Attributes::id_of_parts))]
+fn id_of_parts(
     vendors: &Vendors,
     block: Option<u32>,
     parts: &[&[u8]],
 ) -> Result<Option<AttrId>, LineError>
-    ensures { Gives result (id_word vendors.now block (views parts.now)) }
+    ensures { Gives result (id_of_parts vendors.now block (views parts.now)) }
 {
     match parts {
-        [number] => number_word(vendors, block, number_of(number)),
-        [t, x] => dotted_word(block, number_of(t), number_of(x)),
-        _ => many_words(parts),
+        [number] => id_of_number(vendors, block, number_of(number)),
+        [t, x] => id_of_dotted(block, number_of(t), number_of(x)),
+        _ => id_of_more(parts),
     }
 }
 
@@ -260,7 +260,7 @@ fn attribute_line<'a>(
     ensures { Means result (attribute_line (context_view before.now) block name.now number.now kind.now (views flags.now)) }
 {
     let parts = parts_between(alloc, b'.', number)?;
-    let id = id_word(&before.vendors, block, &parts)?;
+    let id = id_of_parts(&before.vendors, block, &parts)?;
     attribute_of(&before.attributes, name, kind, flags, id)
 }
 

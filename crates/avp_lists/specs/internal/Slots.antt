@@ -42,7 +42,7 @@ turn_all (i ∷ is) c = turn_all is (turn c i)
 
 -- each of two places in the pool becomes the other
 abbrev pub other_pair : ℕ → ℕ → ℕ → ℕ
-other_pair old new at = if at == old then new else (if at == new then old else at)
+other_pair old new at = if at == old then new else if at == new then old else at
 
 abbrev pub with_other : Swap → Slot → Slot
 with_other w s = record { list = s.list; end = s.end; mark = record { live = s.mark.live; pair = other_pair w.old w.new s.mark.pair }; first = s.first }
