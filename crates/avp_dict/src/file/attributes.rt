@@ -35,7 +35,7 @@ fn max_in(octets: u8) -> u64
 }
 
 /// Whether the octets of a vendor's numbers hold this one.
-pub fn is_held(number: u64, format: VendorFormat) -> bool
+pub(crate) fn is_held(number: u64, format: VendorFormat) -> bool
     ensures test { result ≡ is_held number format }
     ensures within { IsTrue result → number ≤ MAX_NUMBER }
 {
@@ -89,7 +89,7 @@ fn id_of_number(
 }
 
 /// The id of an extended attribute, whose own number is at least this.
-pub fn extended_id(least: u64, t: u64, x: u64) -> Option<AttrId>
+pub(crate) fn extended_id(least: u64, t: u64, x: u64) -> Option<AttrId>
     ensures { result ≡ if is_extended_id least t x then Some (Extended t x) else None }
 {
     if is_extended_type(t) && x >= least && x <= 255 {
@@ -183,7 +183,7 @@ fn is_decimal(octet: u8) -> bool
     octet >= b'0' && octet <= b'9'
 }
 
-pub fn is_name_octet(octet: u8) -> bool
+pub(crate) fn is_name_octet(octet: u8) -> bool
     ensures { result ≡ is_name_octet octet }
 {
     is_letter(octet)
@@ -201,7 +201,7 @@ fn are_octets_of_name(name: &[u8]) -> bool
 }
 
 /// Whether a name begins with `Attr-` and a digit.
-pub fn begins_as_attr(name: &[u8]) -> bool
+pub(crate) fn begins_as_attr(name: &[u8]) -> bool
     ensures { result ≡ begins_as_attr name.now }
 {
     name.len() >= 6 && same_name(&name[..5], b"attr-") && is_decimal(name[5])
@@ -266,7 +266,7 @@ fn attribute_line<'a>(
 
 /// An ATTRIBUTE line after its keyword.
 #[tactic(auto, unfolding(crate::specs::Attributes::attribute))]
-pub fn read_attribute<'a>(
+pub(crate) fn read_attribute<'a>(
     alloc: Global,
     before: &Context<'_>,
     block: Option<u32>,

@@ -64,7 +64,10 @@ fn ended<'a>(fits: bool, opened: &[Reading<'_>]) -> Result<Meaning<'a>, LineErro
 }
 
 #[tactic(auto, unfolding(crate::specs::Blocks::end_vendor))]
-pub fn end_vendor<'a>(opened: &[Reading<'_>], words: &[&'a [u8]]) -> Result<Meaning<'a>, LineError>
+pub(crate) fn end_vendor<'a>(
+    opened: &[Reading<'_>],
+    words: &[&'a [u8]],
+) -> Result<Meaning<'a>, LineError>
     ensures { Means result (end_vendor (reading_views opened.now) (views words.now)) }
 {
     match words {
@@ -74,7 +77,10 @@ pub fn end_vendor<'a>(opened: &[Reading<'_>], words: &[&'a [u8]]) -> Result<Mean
 }
 
 #[tactic(auto, unfolding(crate::specs::Blocks::end_tlv))]
-pub fn end_tlv<'a>(opened: &[Reading<'_>], words: &[&'a [u8]]) -> Result<Meaning<'a>, LineError>
+pub(crate) fn end_tlv<'a>(
+    opened: &[Reading<'_>],
+    words: &[&'a [u8]],
+) -> Result<Meaning<'a>, LineError>
     ensures { Means result (end_tlv (reading_views opened.now) (views words.now)) }
 {
     match words {
@@ -84,7 +90,7 @@ pub fn end_tlv<'a>(opened: &[Reading<'_>], words: &[&'a [u8]]) -> Result<Meaning
 }
 
 #[tactic(auto, unfolding(crate::specs::Blocks::begin_tlv))]
-pub fn begin_tlv<'a>(words: &[&'a [u8]]) -> Result<Meaning<'a>, LineError>
+pub(crate) fn begin_tlv<'a>(words: &[&'a [u8]]) -> Result<Meaning<'a>, LineError>
     ensures { Means result (begin_tlv (views words.now)) }
 {
     match words {
@@ -116,7 +122,7 @@ fn begin_known<'a>(vendors: &Vendors, name: &'a [u8]) -> Result<Meaning<'a>, Lin
 }
 
 #[tactic(auto, unfolding(crate::specs::Blocks::begin_vendor))]
-pub fn begin_vendor<'a>(
+pub(crate) fn begin_vendor<'a>(
     vendors: &Vendors,
     opened: &[Reading<'_>],
     words: &[&'a [u8]],
@@ -162,7 +168,7 @@ fn include_line<'a>(
 }
 
 #[tactic(auto, unfolding(crate::specs::Readings::include))]
-pub fn include<'a>(
+pub(crate) fn include<'a>(
     found: Option<usize>,
     depth: usize,
     head: &[u8],

@@ -21,7 +21,7 @@ pub struct Context<'a> {
 }
 
 impl<'a> Context<'a> {
-    pub fn new(alloc: Global) -> Context<'a>
+    pub(crate) fn new(alloc: Global) -> Context<'a>
         ensures { context_view result ≡ no_context }
     {
         Context {
@@ -32,7 +32,7 @@ impl<'a> Context<'a> {
     }
 
     /// One line more.
-    pub fn add(&mut self, alloc: Global, reading: Reading<'a>) -> Result<(), AllocError>
+    pub(crate) fn add(&mut self, alloc: Global, reading: Reading<'a>) -> Result<(), AllocError>
         requires { IsShort reading.meaning }
         ensures { OnOk result (context_view self.new ≡ after_reading (context_view self.old) (reading_view reading.entry)) }
     {
@@ -58,7 +58,7 @@ impl<'a> Context<'a> {
 }
 
 /// The line that opened the innermost open block.
-pub fn innermost<'a>(opened: &[Reading<'a>]) -> Option<Reading<'a>>
+pub(crate) fn innermost<'a>(opened: &[Reading<'a>]) -> Option<Reading<'a>>
     ensures { option_map reading_view result ≡ innermost (reading_views opened.now) }
 {
     opened.last().copied()
@@ -76,7 +76,7 @@ fn opens_skipped(reading: Reading<'_>) -> bool
 
 /// Whether one of the open blocks is skipped.
 #[tactic(auto, unfolding(crate::specs::Blocks::is_skipping))]
-pub fn is_skipping(opened: &[Reading<'_>]) -> bool
+pub(crate) fn is_skipping(opened: &[Reading<'_>]) -> bool
     ensures { result ≡ is_skipping (reading_views opened.now) }
 {
     let mut rest = opened;
@@ -100,7 +100,7 @@ fn opened_vendor(reading: Reading<'_>) -> Option<u32>
 
 /// The vendor of the innermost open block.
 #[tactic(auto, unfolding(crate::specs::Blocks::block_vendor))]
-pub fn block_vendor(opened: &[Reading<'_>]) -> Option<u32>
+pub(crate) fn block_vendor(opened: &[Reading<'_>]) -> Option<u32>
     ensures { result ≡ block_vendor (reading_views opened.now) }
 {
     match innermost(opened) {

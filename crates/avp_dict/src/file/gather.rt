@@ -33,7 +33,7 @@ fn line_end(text: &[u8]) -> Option<usize>
 }
 
 /// The first line of a text, and what follows it.
-pub fn split_line(text: &[u8]) -> (&[u8], &[u8])
+pub(crate) fn split_line(text: &[u8]) -> (&[u8], &[u8])
     ensures line { result.0.now ≡ before_first is_line_end text.now }
     ensures rest { result.1.now ≡ after_first is_line_end text.now }
 {
@@ -50,7 +50,7 @@ fn file_named(files: &[NamedFile], name: &[u8]) -> Option<usize>
     files.iter().position(|file| file.name.as_slice() == name)
 }
 
-pub fn is_include(word: &[u8]) -> bool
+pub(crate) fn is_include(word: &[u8]) -> bool
     ensures { result ≡ is_include word.now }
 {
     same_name(word, DOLLAR_INCLUDE) || same_name(word, DOLLAR_INCLUDE_IF_THERE)
@@ -66,7 +66,7 @@ fn included<'a>(words: &[&'a [u8]]) -> Option<&'a [u8]>
 }
 
 /// The place of the file that a line of these words includes.
-pub fn place_included(files: &[NamedFile], words: &[&[u8]]) -> Option<usize>
+pub(crate) fn place_included(files: &[NamedFile], words: &[&[u8]]) -> Option<usize>
     ensures { result ≡ option_and_then (λ name. file_named name files.now) (included_by (views words.now)) }
 {
     match included(words) {
@@ -76,7 +76,7 @@ pub fn place_included(files: &[NamedFile], words: &[&[u8]]) -> Option<usize>
 }
 
 /// What a file of the set holds.
-pub fn octets_at(files: &[NamedFile], place: usize) -> &[u8]
+pub(crate) fn octets_at(files: &[NamedFile], place: usize) -> &[u8]
     ensures { result.now ≡ octets_at files.now place }
 {
     match files.get(place) {

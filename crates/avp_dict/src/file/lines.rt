@@ -109,7 +109,7 @@ fn read_head<'a>(
 
 /// What the words of a line are read as, by what the lines before it leave.
 #[tactic(auto, unfolding(crate::specs::Readings::read_words))]
-pub fn read_words<'a>(
+pub(crate) fn read_words<'a>(
     alloc: Global,
     before: &Context<'_>,
     found: Option<usize>,

@@ -35,7 +35,7 @@ fn digit(octet: u8) -> u64
 }
 
 /// The number that the digits of a word are.
-pub fn digits(base: u64, word: &[u8]) -> Number
+pub(crate) fn digits(base: u64, word: &[u8]) -> Number
     requires { 2 ≤ base }
     ensures { Reads result (digits base word.now) }
 {
@@ -71,7 +71,7 @@ fn extended(base: u64, number: Number, next: u64) -> Number
 }
 
 /// The number that a word is: decimal digits, or `0x` and hexadecimal ones.
-pub fn number_of(word: &[u8]) -> Number
+pub(crate) fn number_of(word: &[u8]) -> Number
     ensures { Reads result (number_of word.now) }
 {
     match word {
@@ -81,7 +81,7 @@ pub fn number_of(word: &[u8]) -> Number
 }
 
 /// A number of a line, within its bound.
-pub fn bounded(most: u64, word: &[u8]) -> Result<u64, LineError>
+pub(crate) fn bounded(most: u64, word: &[u8]) -> Result<u64, LineError>
     ensures { Gives result (bounded most word.now) }
 {
     match number_of(word) {

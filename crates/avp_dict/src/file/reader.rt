@@ -30,7 +30,7 @@ pub struct ReadLines<'a> {
 }
 
 impl<'a> ReadLines<'a> {
-    pub fn new(alloc: Global) -> ReadLines<'a>
+    pub(crate) fn new(alloc: Global) -> ReadLines<'a>
         ensures read { reading_views result.readings.items ≡ [] }
         ensures tracked { context_view result.context ≡ context_of [] }
     {
@@ -158,7 +158,7 @@ fn refuse_open(opened: &[Reading<'_>]) -> Result<(), DictFault>
 }
 
 /// Reads the lines of the set, so many at most, up to the first that is refused, and refuses a block left open.
-pub fn read_set<'a>(
+pub(crate) fn read_set<'a>(
     alloc: Global,
     files: &'a [NamedFile],
     limit: usize,

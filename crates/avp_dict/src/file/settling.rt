@@ -23,14 +23,14 @@ fn holds(number: u64, format: Option<VendorFormat>) -> bool
 
 /// Whether the vendor's last format has two parts and holds the number.
 #[tactic(auto, unfolding(crate::specs::Settled::is_in_format))]
-pub fn is_in_format(vendors: &Vendors, vendor: u32, number: u64) -> bool
+pub(crate) fn is_in_format(vendors: &Vendors, vendor: u32, number: u64) -> bool
     ensures test { result ≡ is_in_format vendor number vendors.now }
     ensures within { IsTrue result → number ≤ MAX_NUMBER }
 {
     holds(number, vendors.format_of(vendor))
 }
 
-pub fn is_kept(vendors: &Vendors, id: AttrId) -> bool
+pub(crate) fn is_kept(vendors: &Vendors, id: AttrId) -> bool
     ensures { result ≡ is_kept vendors.now id }
 {
     match id {
@@ -70,7 +70,7 @@ fn only_kept(
 }
 
 /// The used ATTRIBUTE lines: those that their vendors' last formats hold.
-pub fn used(
+pub(crate) fn used(
     alloc: Global,
     vendors: &Vendors,
     attributes: Attributes,

@@ -31,7 +31,7 @@ fn is_flag(flag: &[u8]) -> bool
 }
 
 /// Whether each flag is one of the list.
-pub fn are_flags(flags: &[&[u8]]) -> bool
+pub(crate) fn are_flags(flags: &[&[u8]]) -> bool
     ensures { result ≡ are_flags (views flags.now) }
 {
     let mut rest = flags;
@@ -176,7 +176,7 @@ fn typing_by(own: Option<Kind>, opaque: bool, hiding: bool) -> Typing
 }
 
 /// How the values of an ATTRIBUTE line are read, by its id, type word and flags.
-pub fn typing_of(id: AttrId, kind: &[u8], flags: &[&[u8]]) -> Typing
+pub(crate) fn typing_of(id: AttrId, kind: &[u8], flags: &[&[u8]]) -> Typing
     ensures { result ≡ typing_of id kind.now (views flags.now) }
 {
     if is_fixed(id) {

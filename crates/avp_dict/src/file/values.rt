@@ -68,7 +68,7 @@ fn is_value_name(name: &[u8]) -> bool
     are_octets_of_word(name) && name.len() <= MAX_NAME && !reads_as_number(name)
 }
 
-pub fn max_of(kind: Kind) -> Option<u64>
+pub(crate) fn max_of(kind: Kind) -> Option<u64>
     ensures { result ≡ max_of kind }
 {
     match kind {
@@ -288,7 +288,7 @@ fn add_all(
 
 /// The dictionary of lines that were read.
 #[tactic(auto, unfolding(crate::specs::DictionaryReading::settled_dictionary))]
-pub fn settle(
+pub(crate) fn settle(
     alloc: Global,
     readings: &[Reading<'_>],
     context: Context<'_>,

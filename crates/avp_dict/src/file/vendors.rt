@@ -143,7 +143,7 @@ fn format_word(alloc: Global, word: &[u8]) -> Result<Option<VendorFormat>, Alloc
 
 /// A VENDOR line after its keyword.
 #[tactic(auto, unfolding(crate::specs::Vendors::vendor))]
-pub fn read_vendor<'a>(
+pub(crate) fn read_vendor<'a>(
     alloc: Global,
     vendors: &Vendors,
     words: &[&'a [u8]],

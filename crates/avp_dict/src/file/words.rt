@@ -16,7 +16,7 @@ fn comment_start(text: &[u8]) -> Option<usize>
     text.iter().position(|octet| *octet == b'#')
 }
 
-pub fn without_comment(text: &[u8]) -> &[u8]
+pub(crate) fn without_comment(text: &[u8]) -> &[u8]
     ensures { result.now ≡ before_first is_hash text.now }
 {
     match comment_start(text) {
@@ -69,13 +69,13 @@ pub fn words_between_blanks(alloc: Global, plain: &[u8]) -> Result<Vec<&[u8]>, A
 }
 
 /// The words of a line.
-pub fn words(alloc: Global, text: &[u8]) -> Result<Vec<&[u8]>, AllocError>
+pub(crate) fn words(alloc: Global, text: &[u8]) -> Result<Vec<&[u8]>, AllocError>
     ensures { IfOk result (λ words. views words.items ≡ words_of text.now) }
 {
     words_between_blanks(alloc, without_comment(text))
 }
 
-pub fn lower(octet: u8) -> u8
+pub(crate) fn lower(octet: u8) -> u8
     ensures { result ≡ lower octet }
 {
     if octet >= b'A' && octet <= b'Z' {
@@ -87,7 +87,7 @@ pub fn lower(octet: u8) -> u8
 
 /// Whether two words are the same, without regard to ASCII case.
 #[tactic(auto, using(crate::proofs::Folding::other_length))]
-pub fn same_name(a: &[u8], b: &[u8]) -> bool
+pub(crate) fn same_name(a: &[u8], b: &[u8]) -> bool
     ensures { result ≡ same_name a.now b.now }
 {
     // Most names differ in length, and many begin alike.

@@ -1,12 +1,12 @@
 //! Texts of values.
 
-ghost use Rattle.std.specs.Prelude.{◌≡◌, ◌+◌, ◌∷◌, IfOk, ℕ, Option, Result, Ok, Err, pos};
+ghost use Rattle.std.specs.Prelude.{◌≡◌, ◌+◌, ◌∷◌, [], IfOk, ℕ, Option, Result, Ok, Err, pos};
 ghost use Rattle.std.specs.List.{slice_split};
 ghost use Rattle.std.specs.Option.{option_map};
 ghost use Rattle.avp_dict.specs.AttributeNumbers.{greatest_signed};
 ghost use Rattle.avp_dict.specs.Letters.{is_dot};
 ghost use Rattle.avp_dict.specs.Sent.{is_container};
-ghost use Rattle.avp_dict.specs.Spellings.{address_spelled, bytes_spelled, decimal_octet, digit_pair, ether_spelled, is_barred, AnswersValue, is_colon, negated, number_spelled, octets_spelled, signed_spelled, spelled, spelled_by, up_to, value_spelled};
+ghost use Rattle.avp_dict.specs.Spellings.{address_spelled, bytes_spelled, decimal_octet, digit_pair, each_number, ether_spelled, is_barred, AnswersValue, is_colon, negated, number_spelled, octets_spelled, signed_spelled, spelled, spelled_by, up_to, value_spelled};
 ghost use Rattle.avp_dict.specs.Vendors.{vendor};
 ghost use Rattle.avp_dict.specs.Words.{digits};
 ghost use Rattle.avp_dict.specs.internal.Numbers.{Reads};
@@ -131,6 +131,17 @@ fn digit_pair(part: &[u8]) -> Option<u8>
 }
 
 #[tactic(auto, unfolding(crate::specs::Spellings::each_number))]
+fn decimal_octets(a: &[u8], b: &[u8], c: &[u8], d: &[u8]) -> Option<[u8; 4]>
+    ensures { result ≡ each_number decimal_octet (a.now ∷ b.now ∷ c.now ∷ d.now ∷ []) }
+{
+    Some([
+        decimal_octet(a)?,
+        decimal_octet(b)?,
+        decimal_octet(c)?,
+        decimal_octet(d)?,
+    ])
+}
+
 fn address_spelled(text: &[u8]) -> Option<[u8; 4]>
     ensures { result ≡ address_spelled text.now }
 {
@@ -139,16 +150,24 @@ fn address_spelled(text: &[u8]) -> Option<[u8; 4]>
     let (c, d) = first_between(b'.', rest)?;
     match first_between(b'.', d) {
         Some(_) => None,
-        None => Some([
-            decimal_octet(a)?,
-            decimal_octet(b)?,
-            decimal_octet(c)?,
-            decimal_octet(d)?,
-        ]),
+        None => decimal_octets(a, b, c, d),
     }
 }
 
 #[tactic(auto, unfolding(crate::specs::Spellings::each_number))]
+fn digit_pairs(a: &[u8], b: &[u8], c: &[u8], d: &[u8], e: &[u8], f: &[u8]) -> Option<[u8; 6]>
+    ensures { result ≡ each_number digit_pair (a.now ∷ b.now ∷ c.now ∷ d.now ∷ e.now ∷ f.now ∷ []) }
+{
+    Some([
+        digit_pair(a)?,
+        digit_pair(b)?,
+        digit_pair(c)?,
+        digit_pair(d)?,
+        digit_pair(e)?,
+        digit_pair(f)?,
+    ])
+}
+
 fn ether_spelled(text: &[u8]) -> Option<[u8; 6]>
     ensures { result ≡ ether_spelled text.now }
 {
@@ -159,14 +178,7 @@ fn ether_spelled(text: &[u8]) -> Option<[u8; 6]>
     let (e, f) = first_between(b':', rest)?;
     match first_between(b':', f) {
         Some(_) => None,
-        None => Some([
-            digit_pair(a)?,
-            digit_pair(b)?,
-            digit_pair(c)?,
-            digit_pair(d)?,
-            digit_pair(e)?,
-            digit_pair(f)?,
-        ]),
+        None => digit_pairs(a, b, c, d, e, f),
     }
 }
 
