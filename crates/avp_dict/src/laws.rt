@@ -52,6 +52,7 @@ fn value_in_range(value: &Value)
 impl Dictionary {
     /// What holds of the lines of every dictionary that was read: a name stands for a known attribute, and a vendor has
     /// one of the formats that there are.
+    #[tactic(auto, using(crate::proofs::Fitting::names_known, crate::proofs::Fitting::formats_known))]
     pub fn is_sound(&self)
         ensures sound { IsSound self.now }
         ensures names { (name : List ℕ) (found : Named) → named name self.now ≡ Some found → is_known found.id self.now ≡ true }
@@ -72,6 +73,7 @@ impl Dictionary {
     }
 
     /// A value that a text stands for is read back from its own octets.
+    #[tactic(auto, using(crate::proofs::SpelledClean::spelled_clean))]
     pub fn spelled_values_clean(&self)
         ensures { SpelledValuesClean self.now }
     {
@@ -79,6 +81,7 @@ impl Dictionary {
     }
 
     /// The pair of a name and a text that stands for a value under it fits.
+    #[tactic(auto, using(crate::proofs::Fitting::spelled_fits))]
     pub fn spelled_pairs_fit(&self)
         ensures { SpelledPairsFit self.now }
     {
