@@ -85,6 +85,17 @@ fn ether_text(alloc: Global, address: &[u8]) -> Result<Vec<u8>, AllocError>
     Ok(text)
 }
 
+// Two numbers with a dot between, behind the front of a name.
+fn dotted_name(alloc: Global, front: &[u8], first: u64, second: u64) -> Result<Vec<u8>, AllocError>
+    ensures { IfOk result (λ name. name.items ≡ front.now ++ decimal first ++ codes "." ++ decimal second) }
+{
+    let mut name = Vec::from_slice(alloc, front)?;
+    push_decimal(&mut name, first)?;
+    name.push(b'.')?;
+    push_decimal(&mut name, second)?;
+    Ok(name)
+}
+
 // The name by number of an id.
 #[tactic(auto, unfolding(crate::specs::Printing::attr_name))]
 fn attr_name(alloc: Global, id: AttrId) -> Result<Vec<u8>, AllocError>
@@ -97,18 +108,10 @@ fn attr_name(alloc: Global, id: AttrId) -> Result<Vec<u8>, AllocError>
             Ok(name)
         }
         AttrId::Vendor(vendor, number) => {
-            let mut name = Vec::from_slice(alloc, b"Attr-26.")?;
-            push_decimal(&mut name, u64::from(vendor))?;
-            name.push(b'.')?;
-            push_decimal(&mut name, u64::from(number))?;
-            Ok(name)
+            dotted_name(alloc, b"Attr-26.", u64::from(vendor), u64::from(number))
         }
         AttrId::Extended(t, number) => {
-            let mut name = Vec::from_slice(alloc, b"Attr-")?;
-            push_decimal(&mut name, u64::from(t))?;
-            name.push(b'.')?;
-            push_decimal(&mut name, u64::from(number))?;
-            Ok(name)
+            dotted_name(alloc, b"Attr-", u64::from(t), u64::from(number))
         }
     }
 }
