@@ -30,7 +30,8 @@ is_internal _ = false
 abbrev pub is_block_length : ℕ → Bool
 is_block_length n = (n % 16 == 0) && nat_le 16 n && nat_le n max_hidden_octets
 
--- whether a value is itself again once it was written under a hidden attribute and read: raw octets of a block length would be taken for hidden ones
+-- whether a value is itself again once it was written under a hidden attribute and read:
+-- raw octets of a block length would be taken for hidden ones
 abbrev pub is_shown : Value → Bool
 is_shown (Raw os) = not (is_block_length (length os))
 is_shown _ = true

@@ -20,7 +20,7 @@ pub struct Attributes {
     ids: Places<IdKey>,
 }
 
-// As a function, so that where the lines are dropped a proof sees one step and not those of each table.
+// As a function, so that a proof which drops the lines sees one step and not those of each table.
 impl Drop for Attributes {
     fn drop(self) {
         let Attributes {

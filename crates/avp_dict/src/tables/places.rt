@@ -16,7 +16,7 @@ pub struct Places<K: Eq + Hash> {
     table: IndexMap<K, usize>,
 }
 
-// As a function, so that where a table is dropped a proof sees one step.
+// As a function, so that a proof which drops a table sees one step.
 impl<K: Eq + Hash + Drop> Drop for Places<K> {
     fn drop(self) {
         let Places { table: _ } = self;

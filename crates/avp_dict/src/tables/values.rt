@@ -20,7 +20,7 @@ pub struct Values {
     numbers: Places<(IdKey, u64)>,
 }
 
-// As a function, so that where the lines are dropped a proof sees one step and not those of each table.
+// As a function, so that a proof which drops the lines sees one step and not those of each table.
 impl Drop for Values {
     fn drop(self) {
         let Values {

@@ -19,7 +19,7 @@ pub struct Vendors {
     numbers: Places<u32>,
 }
 
-// As a function, so that where the lines are dropped a proof sees one step and not those of each table.
+// As a function, so that a proof which drops the lines sees one step and not those of each table.
 impl Drop for Vendors {
     fn drop(self) {
         let Vendors {

@@ -86,13 +86,13 @@ fn ether_text(alloc: Global, address: &[u8]) -> Result<Vec<u8>, AllocError>
 }
 
 // Two numbers with a dot between, behind the front of a name.
-fn dotted_name(alloc: Global, front: &[u8], first: u64, second: u64) -> Result<Vec<u8>, AllocError>
-    ensures { IfOk result (λ name. name.items ≡ front.now ++ decimal first ++ codes "." ++ decimal second) }
+fn dotted_name(alloc: Global, front: &[u8], t: u64, n: u64) -> Result<Vec<u8>, AllocError>
+    ensures { IfOk result (λ name. name.items ≡ front.now ++ decimal t ++ codes "." ++ decimal n) }
 {
     let mut name = Vec::from_slice(alloc, front)?;
-    push_decimal(&mut name, first)?;
+    push_decimal(&mut name, t)?;
     name.push(b'.')?;
-    push_decimal(&mut name, second)?;
+    push_decimal(&mut name, n)?;
     Ok(name)
 }
 
