@@ -1,0 +1,97 @@
+//! Dictionaries, what is found in them, and texts.
+
+use avp_dict::{
+    Dictionary, FileSet, Kind, LineFault, LineKind, NamedFile, QuoteMark, octets_between, quote,
+};
+use avp_lists::{AttrId, Octets};
+use samples::test_dictionary;
+use std::alloc::Global;
+use std::process::Abort;
+use std::test::Fail;
+
+// Example: Dictionary::read
+fn reads_files(rt: &impl Abort, alloc: Global) -> Result<(), Fail> {
+    let lines = Vec::from_slice(alloc, b"ATTRIBUTE NAS-Port 5 integer\n")?;
+    let file = NamedFile::at(alloc, "raddb/dictionary", Octets::from_vec(lines))?;
+    let files = FileSet::from_vec(vec![in alloc; file]?);
+    if files.is_empty() || !files.has_distinct_names() {
+        return Err(Fail::new("no set of files"));
+    }
+    let dictionary = Dictionary::read(alloc, &files)?;
+    assert_eq!(rt; dictionary.counts().attributes, 1);
+    Ok(())
+}
+
+// Example: Dictionary::by_name
+fn finds_by_name(rt: &impl Abort, dictionary: &Dictionary) -> Result<(), Fail> {
+    let port = dictionary.by_name(b"nas-port").ok_or("no attribute")?;
+    assert_eq!(rt; (port.id, port.raw), (AttrId::Plain(5), false));
+    let raw = dictionary.by_name(b"Attr-26.9.1").ok_or("no attribute")?;
+    assert_eq!(rt; (raw.id, raw.raw), (AttrId::Vendor(9, 1), true));
+    Ok(())
+}
+
+// Example: Dictionary::by_id
+fn finds_by_id(rt: &impl Abort, dictionary: &Dictionary) -> Result<(), Fail> {
+    let port = dictionary.by_id(AttrId::Plain(5)).ok_or("no attribute")?;
+    assert_eq!(rt; port.name, b"NAS-Port".as_slice());
+    assert_eq!(rt; port.kind, Kind::Integer);
+    Ok(())
+}
+
+// Example: Dictionary::value_name
+fn names_values(rt: &impl Abort, dictionary: &Dictionary) -> Result<(), Fail> {
+    let service = AttrId::Plain(6);
+    assert_eq!(rt; dictionary.value_number(service, b"login-user"), Some(1));
+    let name = dictionary.value_name(service, 1).ok_or("no name")?;
+    assert_eq!(rt; name, b"Login-User".as_slice());
+    Ok(())
+}
+
+// Example: Dictionary::read_request
+fn reads_a_request(rt: &impl Abort, alloc: Global, dictionary: &Dictionary) -> Result<(), Fail> {
+    let request = dictionary.read_request(alloc, b"User-Name = \"bob\", NAS-Port = 3")?;
+    assert_eq!(rt; request.len(), 2);
+    let refused = dictionary.read_request(alloc, b"NAS-Port = three").err();
+    let (line, kind) = (1, LineKind::NotValue);
+    assert_eq!(rt; refused, Some(LineFault { line, kind }));
+    Ok(())
+}
+
+// Example: quote
+fn quotes(rt: &impl Abort, alloc: Global) -> Result<(), Fail> {
+    assert_eq!(rt;
+        quote(alloc, b"Hello, bob\n")?.as_slice(),
+        b"\"Hello, bob\\n\"".as_slice()
+    );
+    Ok(())
+}
+
+// Example: octets_between
+fn reads_between_quotes(rt: &impl Abort, alloc: Global) -> Result<(), Fail> {
+    let double = octets_between(alloc, QuoteMark::Double, b"a\\tb")?;
+    assert_eq!(rt; double.as_slice(), b"a\tb".as_slice());
+    let single = octets_between(alloc, QuoteMark::Single, b"a\\tb")?;
+    assert_eq!(rt; single.as_slice(), b"a\\tb".as_slice());
+    Ok(())
+}
+
+#[test]
+fn texts(rt: HostRuntime) -> Result<(), Fail> {
+    quotes(&rt, rt.alloc())?;
+    reads_between_quotes(&rt, rt.alloc())
+}
+
+fn look_up(rt: &impl Abort, alloc: Global, dictionary: &Dictionary) -> Result<(), Fail> {
+    finds_by_name(rt, dictionary)?;
+    finds_by_id(rt, dictionary)?;
+    names_values(rt, dictionary)?;
+    reads_a_request(rt, alloc, dictionary)
+}
+
+#[test]
+fn dictionaries(rt: HostRuntime) -> Result<(), Fail> {
+    reads_files(&rt, rt.alloc())?;
+    let dictionary = test_dictionary(rt.alloc())?;
+    look_up(&rt, rt.alloc(), &dictionary)
+}

@@ -1,0 +1,20 @@
+//! The examples in the doc comments of public calls, as tests.
+//!
+//! A function under a line `// Example: CALL` has the lines of that call's example, and `Ok(())` after them. What an
+//! example does not make itself, it takes as an argument. `scripts/check-doc-examples` compares the two.
+#![tactic(auto)]
+
+#[cfg(test)]
+mod dictionaries;
+#[cfg(test)]
+mod lists;
+#[cfg(test)]
+mod packets;
+#[cfg(test)]
+mod policies;
+#[cfg(test)]
+mod steps;
+#[cfg(test)]
+mod stores;
+#[cfg(test)]
+mod values;

@@ -1,0 +1,133 @@
+//! Packets that are read, written and checked.
+
+use avp_dict::Dictionary;
+use avp_packet::{
+    ACCESS_ACCEPT, ACCESS_REQUEST, PacketFault, check_message, check_reply, decode, encode_reply,
+    encode_request, hide, unhide,
+};
+use samples::test_dictionary;
+use std::alloc::Global;
+use std::process::Abort;
+use std::test::Fail;
+
+const AUTHENTICATOR: [u8; 16] = [0, 1, 2, 3, 4, 5, 6, 7, 8, 9, 10, 11, 12, 13, 14, 15];
+
+// Example: hide
+fn hides(rt: &impl Abort, alloc: Global, authenticator: &[u8; 16]) -> Result<(), Fail> {
+    let hidden = hide(alloc, b"testing123", authenticator, b"hello")?;
+    assert_eq!(rt; hidden.len(), 16);
+    let shown = unhide(alloc, b"testing123", authenticator, &hidden)?.ok_or("not shown")?;
+    assert_eq!(rt; shown.as_slice(), b"hello".as_slice());
+    Ok(())
+}
+
+// Example: decode
+fn reads_a_request(
+    rt: &impl Abort,
+    alloc: Global,
+    dictionary: &Dictionary,
+    octets: &[u8],
+) -> Result<(), Fail> {
+    // The octets of `User-Name = "bob", NAS-Port = 3`, with the identifier 7.
+    let request = decode(alloc, dictionary, b"testing123", octets)?;
+    assert_eq!(rt; (request.code, request.id), (ACCESS_REQUEST, 7));
+    assert_eq!(rt; request.list.as_slice().len(), 2);
+    let refused = decode(alloc, dictionary, b"testing123", b"\x01\x07\x00\x14").err();
+    assert_eq!(rt; refused, Some(PacketFault::TooShort));
+    Ok(())
+}
+
+// Example: encode_request
+fn writes_a_request(
+    rt: &impl Abort,
+    alloc: Global,
+    dictionary: &Dictionary,
+    authenticator: &[u8; 16],
+) -> Result<(), Fail> {
+    let (secret, code) = (b"testing123", ACCESS_REQUEST);
+    let list = dictionary.read_request(alloc, b"User-Name = \"bob\", NAS-Port = 3")?;
+    let octets = encode_request(alloc, dictionary, secret, code, 7, authenticator, &list)?;
+    assert_eq!(rt; octets.len(), 31);
+    let packet = decode(alloc, dictionary, secret, &octets)?;
+    assert!(rt; packet.list.as_slice() == list.as_slice());
+    Ok(())
+}
+
+// Example: encode_reply
+fn writes_a_reply(
+    rt: &impl Abort,
+    alloc: Global,
+    dictionary: &Dictionary,
+    authenticator: &[u8; 16],
+) -> Result<(), Fail> {
+    let (secret, code) = (b"testing123", ACCESS_ACCEPT);
+    let list = dictionary.read_request(alloc, b"Session-Timeout = 600")?;
+    let reply = encode_reply(
+        alloc,
+        dictionary,
+        secret,
+        code,
+        7,
+        authenticator,
+        &list,
+        &[],
+        true,
+    )?;
+    assert!(rt; check_reply(&reply, authenticator, secret));
+    assert!(rt; check_message(&reply, authenticator, secret));
+    Ok(())
+}
+
+// Example: check_reply
+fn checks_a_reply(rt: &impl Abort, reply: &[u8], authenticator: &[u8; 16]) {
+    // The reply of a server that has the secret `testing123`.
+    assert!(rt; check_reply(reply, authenticator, b"testing123"));
+    assert!(rt; !check_reply(reply, &[0; 16], b"testing123"));
+}
+
+// Example: check_message
+fn checks_a_message(rt: &impl Abort, reply: &[u8], authenticator: &[u8; 16]) {
+    // The signed reply of a server that has the secret `testing123`.
+    assert!(rt; check_message(reply, authenticator, b"testing123"));
+    assert!(rt; !check_message(reply, authenticator, b"testing"));
+}
+
+fn request_octets(alloc: Global) -> Result<Vec<u8>, Fail> {
+    let mut octets = Vec::from_slice(alloc, &[ACCESS_REQUEST, 7, 0, 31])?;
+    octets.extend_from_slice(&AUTHENTICATOR)?;
+    octets.extend_from_slice(&[1, 5, b'b', b'o', b'b', 5, 6, 0, 0, 0, 3])?;
+    Ok(octets)
+}
+
+fn signed_reply(alloc: Global, dictionary: &Dictionary) -> Result<Vec<u8>, Fail> {
+    let (secret, code) = (b"testing123", ACCESS_ACCEPT);
+    let octets = encode_reply(
+        alloc,
+        dictionary,
+        secret,
+        code,
+        7,
+        &AUTHENTICATOR,
+        &[],
+        &[],
+        true,
+    )?;
+    Ok(octets)
+}
+
+fn read_and_write(rt: &impl Abort, alloc: Global, dictionary: &Dictionary) -> Result<(), Fail> {
+    reads_a_request(rt, alloc, dictionary, &request_octets(alloc)?)?;
+    writes_a_request(rt, alloc, dictionary, &AUTHENTICATOR)?;
+    writes_a_reply(rt, alloc, dictionary, &AUTHENTICATOR)?;
+    let reply = signed_reply(alloc, dictionary)?;
+    checks_a_reply(rt, &reply, &AUTHENTICATOR);
+    checks_a_message(rt, &reply, &AUTHENTICATOR);
+    Ok(())
+}
+
+#[test]
+fn packets(rt: HostRuntime) -> Result<(), Fail> {
+    hides(&rt, rt.alloc(), &AUTHENTICATOR)?;
+    let dictionary = test_dictionary(rt.alloc())?;
+    read_and_write(&rt, rt.alloc(), &dictionary)
+}

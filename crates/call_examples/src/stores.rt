@@ -1,0 +1,115 @@
+//! Edits of a store, and the ways back.
+
+use avp_lists::{AttrId, Edit, List, Op, Pair, SlotStore, Store, Value, edit_and_undo, undo_by};
+use std::alloc::Global;
+use std::process::Abort;
+use std::test::Fail;
+
+// Example: Store::edit
+fn edits<S: Store>(rt: &impl Abort, store: &mut S) -> Result<(), Fail> {
+    let id = AttrId::Plain(27);
+    let value = Value::Int(600);
+    store.edit(Edit {
+        list: List::Reply,
+        op: Op::Replace,
+        pair: Pair { id, value },
+    })?;
+    assert_eq!(rt; store.count(List::Reply), 1);
+    Ok(())
+}
+
+// Example: Store::first
+fn finds_an_instance<S: Store>(rt: &impl Abort, store: &S) -> Result<(), Fail> {
+    // The reply is `Session-Timeout = 600`.
+    let timeout = store
+        .first(List::Reply, AttrId::Plain(27))
+        .ok_or("no timeout")?;
+    assert!(rt; timeout.value == Value::Int(600));
+    Ok(())
+}
+
+// Example: Store::undo
+fn goes_back<S: Store>(rt: &impl Abort, store: &mut S, edit: Edit) -> Result<(), Fail> {
+    // The reply has no pair, and the edit adds one.
+    store.edit(edit)?;
+    assert_eq!(rt; store.count(List::Reply), 1);
+    assert!(rt; store.undo());
+    assert_eq!(rt; store.count(List::Reply), 0);
+    assert!(rt; store.redo());
+    assert_eq!(rt; store.count(List::Reply), 1);
+    Ok(())
+}
+
+// Example: Store::rollback
+fn rolls_back<S: Store>(rt: &impl Abort, store: &mut S, edit: Edit) -> Result<(), Fail> {
+    // The reply has no pair, and the edit adds one.
+    let entry = store.place();
+    store.edit(edit)?;
+    store.rollback(entry)?;
+    assert_eq!(rt; store.count(List::Reply), 0);
+    assert!(rt; store.undo());
+    assert_eq!(rt; store.count(List::Reply), 1);
+    Ok(())
+}
+
+// Example: Store::settle
+fn forgets<S: Store>(rt: &impl Abort, store: &mut S, edit: Edit) -> Result<(), Fail> {
+    // The reply has no pair, and the edit adds one.
+    store.edit(edit)?;
+    store.settle();
+    assert_eq!(rt; store.count(List::Reply), 1);
+    assert!(rt; !store.undo());
+    Ok(())
+}
+
+// Example: undo_by
+fn undoes<S: Store>(rt: &impl Abort, store: &mut S, first: Edit, second: Edit) -> Result<(), Fail> {
+    // The reply has no pair, and each edit adds one.
+    store.edit(first)?;
+    store.edit(second)?;
+    undo_by(store, 2);
+    assert_eq!(rt; store.count(List::Reply), 0);
+    Ok(())
+}
+
+// Example: edit_and_undo
+fn tries<S: Store>(rt: &impl Abort, store: &mut S, edit: Edit) -> Result<(), Fail> {
+    // The reply has no pair, and the edit adds one.
+    edit_and_undo(store, edit)?;
+    assert_eq!(rt; store.count(List::Reply), 0);
+    assert!(rt; store.redo());
+    assert_eq!(rt; store.count(List::Reply), 1);
+    Ok(())
+}
+
+fn empty_store(alloc: Global) -> Result<SlotStore, Fail> {
+    let store = SlotStore::new(alloc, Vec::new(alloc), Vec::new(alloc), Vec::new(alloc))?;
+    Ok(store)
+}
+
+// Adds an instance of Session-Timeout.
+fn timeout() -> Edit {
+    let id = AttrId::Plain(27);
+    let value = Value::Int(600);
+    Edit {
+        list: List::Reply,
+        op: Op::Append,
+        pair: Pair { id, value },
+    }
+}
+
+#[test]
+fn edits_and_looks(rt: HostRuntime) -> Result<(), Fail> {
+    let mut store = empty_store(rt.alloc())?;
+    edits(&rt, &mut store)?;
+    finds_an_instance(&rt, &store)
+}
+
+#[test]
+fn goes_back_and_on(rt: HostRuntime) -> Result<(), Fail> {
+    goes_back(&rt, &mut empty_store(rt.alloc())?, timeout())?;
+    rolls_back(&rt, &mut empty_store(rt.alloc())?, timeout())?;
+    forgets(&rt, &mut empty_store(rt.alloc())?, timeout())?;
+    undoes(&rt, &mut empty_store(rt.alloc())?, timeout(), timeout())?;
+    tries(&rt, &mut empty_store(rt.alloc())?, timeout())
+}

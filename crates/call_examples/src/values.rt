@@ -1,0 +1,75 @@
+//! Values by a dictionary.
+
+use avp_dict::{Dictionary, ValueFault};
+use avp_lists::{AttrId, Pair, Value};
+use samples::test_dictionary;
+use std::alloc::Global;
+use std::process::Abort;
+use std::test::Fail;
+
+// Example: Dictionary::value_of_text
+fn reads_texts(rt: &impl Abort, alloc: Global, dictionary: &Dictionary) -> Result<(), Fail> {
+    let port = dictionary.by_name(b"NAS-Port").ok_or("no attribute")?;
+    let value = dictionary.value_of_text(alloc, port, b"3")?;
+    assert!(rt; value == Value::Int(3));
+    let refused = dictionary.value_of_text(alloc, port, b"three").err();
+    assert_eq!(rt; refused, Some(ValueFault::NotValue));
+    Ok(())
+}
+
+// Example: Dictionary::text_of_value
+fn prints_texts(rt: &impl Abort, alloc: Global, dictionary: &Dictionary) -> Result<(), Fail> {
+    let (id, value) = (AttrId::Plain(6), Value::Int(1));
+    let pair = Pair { id, value };
+    if !dictionary.fits(&pair) {
+        return Err(Fail::new("no value of the attribute"));
+    }
+    let text = dictionary.text_of_value(alloc, id, &pair.value)?;
+    assert_eq!(rt; text.as_slice(), b"Login-User".as_slice());
+    Ok(())
+}
+
+// Example: Dictionary::bytes_of_value
+fn writes_octets(rt: &impl Abort, alloc: Global, dictionary: &Dictionary) -> Result<(), Fail> {
+    let (id, value) = (AttrId::Plain(5), Value::Int(3));
+    let pair = Pair { id, value };
+    if !dictionary.fits(&pair) {
+        return Err(Fail::new("no value of the attribute"));
+    }
+    let octets = dictionary.bytes_of_value(alloc, id, &pair.value)?;
+    assert_eq!(rt; octets.as_slice(), [0, 0, 0, 3].as_slice());
+    Ok(())
+}
+
+// Example: Dictionary::value_of_bytes
+fn reads_octets(rt: &impl Abort, alloc: Global, dictionary: &Dictionary) -> Result<(), Fail> {
+    let value = dictionary.value_of_bytes(alloc, AttrId::Plain(5), &[0, 0, 0, 3])?;
+    assert!(rt; value == Value::Int(3));
+    // A number of type `integer` has four octets.
+    let short = dictionary.value_of_bytes(alloc, AttrId::Plain(5), &[3])?;
+    assert!(rt; matches!(short, Value::Raw(_)));
+    Ok(())
+}
+
+// Example: Dictionary::fits
+fn tests_pairs(rt: &impl Abort, dictionary: &Dictionary) {
+    let (id, value) = (AttrId::Plain(5), Value::Int(3));
+    assert!(rt; dictionary.fits(&Pair { id, value }));
+    let value = Value::Addr([192, 0, 2, 1]);
+    assert!(rt; !dictionary.fits(&Pair { id, value }));
+}
+
+fn read_and_print(rt: &impl Abort, alloc: Global, dictionary: &Dictionary) -> Result<(), Fail> {
+    reads_texts(rt, alloc, dictionary)?;
+    prints_texts(rt, alloc, dictionary)?;
+    writes_octets(rt, alloc, dictionary)?;
+    reads_octets(rt, alloc, dictionary)?;
+    tests_pairs(rt, dictionary);
+    Ok(())
+}
+
+#[test]
+fn values(rt: HostRuntime) -> Result<(), Fail> {
+    let dictionary = test_dictionary(rt.alloc())?;
+    read_and_print(&rt, rt.alloc(), &dictionary)
+}
