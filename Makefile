@@ -3,7 +3,8 @@
 # make trials     the tests of tests/ alone
 # make bench      measures the program and packets, beside FreeRADIUS where it is installed (docs/SPEED.md)
 # make fuzz       changed cases through the built program, for so many SECONDS
-# make documents  the documents' links and commands, the completions and the manual pages, with the built program
+# make documents  the documents' links and commands, the examples in doc comments, the completions and the manual
+#                 pages, with the built program
 # make install    puts the program, the manual pages and the completions below PREFIX
 # make uninstall  removes them
 

@@ -82,6 +82,17 @@ impl Dictionary {
     /// Reads the lines of the main file, which is the first, each include followed by its file's lines. The first
     /// line that fails is refused, the one past the limit included; then a block left open, and then the first VALUE
     /// line that fails.
+    ///
+    /// ```rust
+    /// let lines = Vec::from_slice(alloc, b"ATTRIBUTE NAS-Port 5 integer\n")?;
+    /// let file = NamedFile::at(alloc, "raddb/dictionary", Octets::from_vec(lines))?;
+    /// let files = FileSet::from_vec(vec![in alloc; file]?);
+    /// if files.is_empty() || !files.has_distinct_names() {
+    ///     return Err(Fail::new("no set of files"));
+    /// }
+    /// let dictionary = Dictionary::read(alloc, &files)?;
+    /// assert_eq!(rt; dictionary.counts().attributes, 1);
+    /// ```
     pub fn read(alloc: Global, files: &FileSet) -> Result<Dictionary, DictFault>
         requires first { 0 < length files.now }
         requires names { HasDistinctNames files.now }
@@ -101,6 +112,13 @@ impl Dictionary {
     }
 
     /// What a name stands for, its letters in either case.
+    ///
+    /// ```rust
+    /// let port = dictionary.by_name(b"nas-port").ok_or("no attribute")?;
+    /// assert_eq!(rt; (port.id, port.raw), (AttrId::Plain(5), false));
+    /// let raw = dictionary.by_name(b"Attr-26.9.1").ok_or("no attribute")?;
+    /// assert_eq!(rt; (raw.id, raw.raw), (AttrId::Vendor(9, 1), true));
+    /// ```
     #[tactic(auto, unfolding(crate::specs::Names::named))]
     pub fn by_name(&self, name: &[u8]) -> Option<Named>
         ensures { result ≡ named name.now self.now }
@@ -119,6 +137,12 @@ impl Dictionary {
     }
 
     /// What an id stands for, by its last used ATTRIBUTE line.
+    ///
+    /// ```rust
+    /// let port = dictionary.by_id(AttrId::Plain(5)).ok_or("no attribute")?;
+    /// assert_eq!(rt; port.name, b"NAS-Port".as_slice());
+    /// assert_eq!(rt; port.kind, Kind::Integer);
+    /// ```
     #[tactic(auto, unfolding(crate::specs::Names::described))]
     pub fn by_id(&self, id: AttrId) -> Option<Entry<'_>>
         ensures { option_map entry_view result ≡ described id self.now }

@@ -79,6 +79,14 @@ impl Pair {
 }
 
 /// A pair that is equal to this one.
+///
+/// ```rust
+/// let id = AttrId::Plain(27);
+/// let value = Value::Int(600);
+/// let timeout = Pair { id, value };
+/// let copy = copy_pair(alloc, &timeout)?;
+/// assert!(rt; copy.equals(&timeout));
+/// ```
 pub fn copy_pair(alloc: Global, pair: &Pair) -> Result<Pair, AllocError>
     ensures { IfOk result (λ copy. copy ≡ pair.now) }
 {

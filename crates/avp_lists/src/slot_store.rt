@@ -176,6 +176,15 @@ fn add_list(pool: &mut Vec<Pair>, slots: &mut Vec<Slot>, list: List, mut pairs: 
 
 impl SlotStore {
     /// A store with one state.
+    ///
+    /// ```rust
+    /// // The request is `NAS-Port = 3`.
+    /// if request.len() > MAX_PAIRS {
+    ///     return Err(Fail::new("too many pairs"));
+    /// }
+    /// let store = SlotStore::new(alloc, request, Vec::new(alloc), Vec::new(alloc))?;
+    /// assert_eq!(rt; store.count(List::Request), 1);
+    /// ```
     pub fn new(
         alloc: Global,
         request: Vec<Pair>,

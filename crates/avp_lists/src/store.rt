@@ -27,6 +27,14 @@ pub trait Store: Drop {
         ensures { result ≡ length (list_of list (present (history self.now))) };
 
     /// The first instance of an id in a present list, borrowed.
+    ///
+    /// ```rust
+    /// // The reply is `Session-Timeout = 600`.
+    /// let timeout = store
+    ///     .first(List::Reply, AttrId::Plain(27))
+    ///     .ok_or("no timeout")?;
+    /// assert!(rt; timeout.value == Value::Int(600));
+    /// ```
     fn first(&self, list: List, id: AttrId) -> Option<&Pair>
         ensures { option_copied result ≡ first_instance id (list_of list (present (history self.now))) };
 
@@ -62,6 +70,17 @@ pub trait Store: Drop {
     /// Edits the present state. The states after the place are cut off, and the edited state is added,
     /// also where the edit changes nothing. After a refusal the history is as it was, and the edit is
     /// given up.
+    ///
+    /// ```rust
+    /// let id = AttrId::Plain(27);
+    /// let value = Value::Int(600);
+    /// store.edit(Edit {
+    ///     list: List::Reply,
+    ///     op: Op::Replace,
+    ///     pair: Pair { id, value },
+    /// })?;
+    /// assert_eq!(rt; store.count(List::Reply), 1);
+    /// ```
     fn edit(&mut self, edit: Edit) -> Result<(), EditFault>
         ensures ok { OnOk result (history self.new ≡ after_edit edit (history self.old)) }
         ensures fits { OnOk result (length (edited_list edit (present (history self.old))) ≤ MAX_PAIRS) }
@@ -70,6 +89,16 @@ pub trait Store: Drop {
         ensures kept { (history self.old).place + room self.old ≤ (history self.new).place + room self.new };
 
     /// Goes to the state before, if there is one.
+    ///
+    /// ```rust
+    /// // The reply has no pair, and the edit adds one.
+    /// store.edit(edit)?;
+    /// assert_eq!(rt; store.count(List::Reply), 1);
+    /// assert!(rt; store.undo());
+    /// assert_eq!(rt; store.count(List::Reply), 0);
+    /// assert!(rt; store.redo());
+    /// assert_eq!(rt; store.count(List::Reply), 1);
+    /// ```
     fn undo(&mut self) -> bool
         ensures variant { IsTrue result ↔ (0 < (history self.old).place) }
         ensures moved { history self.new ≡ at_place ((history self.old).place - 1) (history self.old) }
@@ -84,6 +113,16 @@ pub trait Store: Drop {
 
     /// Cuts off the states after the place, and adds the state at `to` once more. It is refused only
     /// where there is no room; the history and the place are then as they were.
+    ///
+    /// ```rust
+    /// // The reply has no pair, and the edit adds one.
+    /// let entry = store.place();
+    /// store.edit(edit)?;
+    /// store.rollback(entry)?;
+    /// assert_eq!(rt; store.count(List::Reply), 0);
+    /// assert!(rt; store.undo());
+    /// assert_eq!(rt; store.count(List::Reply), 1);
+    /// ```
     fn rollback(&mut self, to: usize) -> Result<(), AllocError>
         requires { to ≤ (history self.old).place }
         ensures ok { OnOk result (history self.new ≡ after_rollback to (history self.old)) }

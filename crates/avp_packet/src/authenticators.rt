@@ -118,6 +118,12 @@ pub(crate) fn is_accounting_request(octets: &[u8], secret: &[u8]) -> bool
 
 /// Whether octets are a reply to the request with this authenticator, by the Response Authenticator (RFC 2865, section
 /// 3). Octets past Length are not looked at.
+///
+/// ```rust
+/// // The reply of a server that has the secret `testing123`.
+/// assert!(rt; check_reply(reply, authenticator, b"testing123"));
+/// assert!(rt; !check_reply(reply, &[0; 16], b"testing123"));
+/// ```
 #[tactic(auto, unfolding(crate::specs::Packets::is_reply))]
 pub fn check_reply(reply: &[u8], request_authenticator: &[u8; 16], secret: &[u8]) -> bool
     requires { 0 < length secret.now }

@@ -142,6 +142,13 @@ pub(crate) fn hidden(
 }
 
 /// A password's octets hidden, in whole blocks of 16 octets (RFC 2865, section 5.2).
+///
+/// ```rust
+/// let hidden = hide(alloc, b"testing123", authenticator, b"hello")?;
+/// assert_eq!(rt; hidden.len(), 16);
+/// let shown = unhide(alloc, b"testing123", authenticator, &hidden)?.ok_or("not shown")?;
+/// assert_eq!(rt; shown.as_slice(), b"hello".as_slice());
+/// ```
 pub fn hide(
     alloc: Global,
     secret: &[u8],

@@ -64,6 +64,18 @@ fn put_mark(marks: &mut Vec<Mark>, mark: Mark)
 impl<'a, S: Store> Stepper<'a, S> {
     /// A run at its start, with room for all of its steps. `dictionary` is the one by which the policy was read. A
     /// refusal gives the store back.
+    ///
+    /// ```rust
+    /// let policy = read_policy(
+    ///     alloc,
+    ///     dictionary,
+    ///     b"update reply { Session-Timeout := 600 }",
+    /// )?;
+    /// let request = dictionary.read_request(alloc, b"User-Name = \"bob\"")?;
+    /// let store = SlotStore::new(alloc, request, Vec::new(alloc), Vec::new(alloc))?;
+    /// let stepper = Stepper::new(alloc, dictionary, &policy, store).map_err(|refused| refused.1)?;
+    /// assert_eq!(rt; (stepper.position(), stepper.label()), (0, Label::Start));
+    /// ```
     pub fn new(
         alloc: Global,
         dictionary: &'a Dictionary,
@@ -147,6 +159,14 @@ impl<'a, S: Store> Stepper<'a, S> {
     }
 
     /// One step back, if this is not the start.
+    ///
+    /// ```rust
+    /// // The policy is `update reply { Session-Timeout := 600 }`, and `reject` on the line after it; this is its end.
+    /// assert!(rt; stepper.back());
+    /// assert_eq!(rt; stepper.label(), Label::Line(1));
+    /// stepper.to_start();
+    /// assert!(rt; !stepper.back());
+    /// ```
     pub fn back(&mut self) -> bool
         ensures moved { IsTrue result ↔ (0 < self.old.position) }
         ensures after { self.new ≡ moved_back self.old }
@@ -160,6 +180,13 @@ impl<'a, S: Store> Stepper<'a, S> {
     }
 
     /// One step forward, if this is not the end. Only the step of an update line may be refused.
+    ///
+    /// ```rust
+    /// // The policy is `update reply { Session-Timeout := 600 }`, and `reject` on the line after it.
+    /// assert_eq!(rt; stepper.forward()?, Moved::To(Label::Line(1)));
+    /// assert_eq!(rt; stepper.forward()?, Moved::To(Label::Word(2)));
+    /// assert_eq!(rt; stepper.forward()?, Moved::AtEnd);
+    /// ```
     pub fn forward(&mut self) -> Result<Moved, AllocError>
         ensures after { IfOk result (λ moved. (self.new ≡ moved_forward self.old)
             × (moved ≡ answer_of_forward self.old)) }
@@ -198,6 +225,13 @@ impl<'a, S: Store> Stepper<'a, S> {
     }
 
     /// Forward to the end. After a refusal it is where the refused step began.
+    ///
+    /// ```rust
+    /// // The policy is `update reply { Session-Timeout := 600 }`, and `reject` on the line after it.
+    /// stepper.run_to_end()?;
+    /// assert_eq!(rt; (stepper.code(), stepper.stopped()), (Code::Reject, true));
+    /// assert_eq!(rt; stepper.store().count(List::Reply), 1);
+    /// ```
     pub fn run_to_end(&mut self) -> Result<(), AllocError>
         ensures end { OnOk result (self.new ≡ moved_to_end self.old) }
         ensures refused { OnErr result (IsHeldUp self.old self.new) }
@@ -231,6 +265,12 @@ impl<'a, S: Store> Stepper<'a, S> {
     }
 
     /// Moves one after another, whether or not their steps are refused.
+    ///
+    /// ```rust
+    /// // The policy is `update reply { Session-Timeout := 600 }`, and `reject` on the line after it.
+    /// stepper.follow(&[Move::Start, Move::End, Move::Back]);
+    /// assert_eq!(rt; stepper.position(), 1);
+    /// ```
     pub fn follow(&mut self, moves: &[Move])
         ensures { MovesMay self.old moves.now self.new }
     {
@@ -258,6 +298,18 @@ impl<'a, S: Store> Stepper<'a, S> {
 }
 
 /// Runs a policy to its end: the store's present lists, the code and the stop are those that the policy means.
+///
+/// ```rust
+/// let policy = read_policy(
+///     alloc,
+///     dictionary,
+///     b"update reply { Session-Timeout := 600 }",
+/// )?;
+/// let store = SlotStore::new(alloc, Vec::new(alloc), Vec::new(alloc), Vec::new(alloc))?;
+/// let (store, code, stopped) = run(alloc, dictionary, &policy, store).map_err(|e| e.1)?;
+/// assert_eq!(rt; (code, stopped), (Code::Ok, false));
+/// assert_eq!(rt; store.count(List::Reply), 1);
+/// ```
 pub fn run<S: Store>(
     alloc: Global,
     dictionary: &Dictionary,

@@ -1,8 +1,6 @@
 //! Dictionaries, what is found in them, and texts.
 
-use avp_dict::{
-    Dictionary, FileSet, Kind, LineFault, LineKind, NamedFile, QuoteMark, octets_between, quote,
-};
+use avp_dict::{Dictionary, FileSet, Kind, LineFault, LineKind, NamedFile, quote};
 use avp_lists::{AttrId, Octets};
 use samples::test_dictionary;
 use std::alloc::Global;
@@ -39,15 +37,6 @@ fn finds_by_id(rt: &impl Abort, dictionary: &Dictionary) -> Result<(), Fail> {
     Ok(())
 }
 
-// Example: Dictionary::value_name
-fn names_values(rt: &impl Abort, dictionary: &Dictionary) -> Result<(), Fail> {
-    let service = AttrId::Plain(6);
-    assert_eq!(rt; dictionary.value_number(service, b"login-user"), Some(1));
-    let name = dictionary.value_name(service, 1).ok_or("no name")?;
-    assert_eq!(rt; name, b"Login-User".as_slice());
-    Ok(())
-}
-
 // Example: Dictionary::read_request
 fn reads_a_request(rt: &impl Abort, alloc: Global, dictionary: &Dictionary) -> Result<(), Fail> {
     let request = dictionary.read_request(alloc, b"User-Name = \"bob\", NAS-Port = 3")?;
@@ -67,25 +56,14 @@ fn quotes(rt: &impl Abort, alloc: Global) -> Result<(), Fail> {
     Ok(())
 }
 
-// Example: octets_between
-fn reads_between_quotes(rt: &impl Abort, alloc: Global) -> Result<(), Fail> {
-    let double = octets_between(alloc, QuoteMark::Double, b"a\\tb")?;
-    assert_eq!(rt; double.as_slice(), b"a\tb".as_slice());
-    let single = octets_between(alloc, QuoteMark::Single, b"a\\tb")?;
-    assert_eq!(rt; single.as_slice(), b"a\\tb".as_slice());
-    Ok(())
-}
-
 #[test]
 fn texts(rt: HostRuntime) -> Result<(), Fail> {
-    quotes(&rt, rt.alloc())?;
-    reads_between_quotes(&rt, rt.alloc())
+    quotes(&rt, rt.alloc())
 }
 
 fn look_up(rt: &impl Abort, alloc: Global, dictionary: &Dictionary) -> Result<(), Fail> {
     finds_by_name(rt, dictionary)?;
     finds_by_id(rt, dictionary)?;
-    names_values(rt, dictionary)?;
     reads_a_request(rt, alloc, dictionary)
 }
 

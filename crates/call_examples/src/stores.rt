@@ -52,16 +52,6 @@ fn rolls_back<S: Store>(rt: &impl Abort, store: &mut S, edit: Edit) -> Result<()
     Ok(())
 }
 
-// Example: Store::settle
-fn forgets<S: Store>(rt: &impl Abort, store: &mut S, edit: Edit) -> Result<(), Fail> {
-    // The reply has no pair, and the edit adds one.
-    store.edit(edit)?;
-    store.settle();
-    assert_eq!(rt; store.count(List::Reply), 1);
-    assert!(rt; !store.undo());
-    Ok(())
-}
-
 // Example: undo_by
 fn undoes<S: Store>(rt: &impl Abort, store: &mut S, first: Edit, second: Edit) -> Result<(), Fail> {
     // The reply has no pair, and each edit adds one.
@@ -109,7 +99,6 @@ fn edits_and_looks(rt: HostRuntime) -> Result<(), Fail> {
 fn goes_back_and_on(rt: HostRuntime) -> Result<(), Fail> {
     goes_back(&rt, &mut empty_store(rt.alloc())?, timeout())?;
     rolls_back(&rt, &mut empty_store(rt.alloc())?, timeout())?;
-    forgets(&rt, &mut empty_store(rt.alloc())?, timeout())?;
     undoes(&rt, &mut empty_store(rt.alloc())?, timeout(), timeout())?;
     tries(&rt, &mut empty_store(rt.alloc())?, timeout())
 }

@@ -29,18 +29,6 @@ fn prints_texts(rt: &impl Abort, alloc: Global, dictionary: &Dictionary) -> Resu
     Ok(())
 }
 
-// Example: Dictionary::bytes_of_value
-fn writes_octets(rt: &impl Abort, alloc: Global, dictionary: &Dictionary) -> Result<(), Fail> {
-    let (id, value) = (AttrId::Plain(5), Value::Int(3));
-    let pair = Pair { id, value };
-    if !dictionary.fits(&pair) {
-        return Err(Fail::new("no value of the attribute"));
-    }
-    let octets = dictionary.bytes_of_value(alloc, id, &pair.value)?;
-    assert_eq!(rt; octets.as_slice(), [0, 0, 0, 3].as_slice());
-    Ok(())
-}
-
 // Example: Dictionary::value_of_bytes
 fn reads_octets(rt: &impl Abort, alloc: Global, dictionary: &Dictionary) -> Result<(), Fail> {
     let value = dictionary.value_of_bytes(alloc, AttrId::Plain(5), &[0, 0, 0, 3])?;
@@ -62,7 +50,6 @@ fn tests_pairs(rt: &impl Abort, dictionary: &Dictionary) {
 fn read_and_print(rt: &impl Abort, alloc: Global, dictionary: &Dictionary) -> Result<(), Fail> {
     reads_texts(rt, alloc, dictionary)?;
     prints_texts(rt, alloc, dictionary)?;
-    writes_octets(rt, alloc, dictionary)?;
     reads_octets(rt, alloc, dictionary)?;
     tests_pairs(rt, dictionary);
     Ok(())

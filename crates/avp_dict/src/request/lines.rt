@@ -185,6 +185,14 @@ impl Dictionary {
 
     /// The request that the lines of a text spell: pairs `Name = value` with commas or line ends between them. The first
     /// line of blanks alone after a pair ends it. The first refused place of the text is reported.
+    ///
+    /// ```rust
+    /// let request = dictionary.read_request(alloc, b"User-Name = \"bob\", NAS-Port = 3")?;
+    /// assert_eq!(rt; request.len(), 2);
+    /// let refused = dictionary.read_request(alloc, b"NAS-Port = three").err();
+    /// let (line, kind) = (1, LineKind::NotValue);
+    /// assert_eq!(rt; refused, Some(LineFault { line, kind }));
+    /// ```
     pub fn read_request(&self, alloc: Global, text: &[u8]) -> Result<Vec<Pair>, LineFault>
         ensures read { IfOk result (λ pairs. request_spelled text.now self.now ≡ Some pairs.items) }
         ensures fits { IfOk result (λ pairs. All (λ pair. IsTrue (fits pair self.now)) pairs.items) }

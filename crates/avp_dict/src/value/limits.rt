@@ -191,6 +191,13 @@ impl Dictionary {
 
     /// Whether the id is known (a vendor's by a format of two parts that holds its number, an extended one by a type of
     /// 241 to 246), the value is one of the id's type or raw, and its length is allowed. A hidden value ends in no NUL.
+    ///
+    /// ```rust
+    /// let (id, value) = (AttrId::Plain(5), Value::Int(3));
+    /// assert!(rt; dictionary.fits(&Pair { id, value }));
+    /// let value = Value::Addr([192, 0, 2, 1]);
+    /// assert!(rt; !dictionary.fits(&Pair { id, value }));
+    /// ```
     #[tactic(auto, unfolding(crate::specs::Limits::fits))]
     pub fn fits(&self, pair: &Pair) -> bool
         ensures { result ≡ fits pair.now self.now }

@@ -225,6 +225,14 @@ impl Dictionary {
 
     /// The value of the id's type with these octets, numbers in network order; [`Value::Raw`] where the type doesn't
     /// read them, and where the id has no ATTRIBUTE line.
+    ///
+    /// ```rust
+    /// let value = dictionary.value_of_bytes(alloc, AttrId::Plain(5), &[0, 0, 0, 3])?;
+    /// assert!(rt; value == Value::Int(3));
+    /// // A number of type `integer` has four octets.
+    /// let short = dictionary.value_of_bytes(alloc, AttrId::Plain(5), &[3])?;
+    /// assert!(rt; matches!(short, Value::Raw(_)));
+    /// ```
     #[tactic(auto, unfolding(crate::specs::Octets::value_of_octets))]
     pub fn value_of_bytes(
         &self,

@@ -183,6 +183,16 @@ impl Dictionary {
 
     /// The text that is printed for a value: its name where there is a VALUE line, a number, an address, a string in
     /// double quotes; and `0x` and the octets under a name by number.
+    ///
+    /// ```rust
+    /// let (id, value) = (AttrId::Plain(6), Value::Int(1));
+    /// let pair = Pair { id, value };
+    /// if !dictionary.fits(&pair) {
+    ///     return Err(Fail::new("no value of the attribute"));
+    /// }
+    /// let text = dictionary.text_of_value(alloc, id, &pair.value)?;
+    /// assert_eq!(rt; text.as_slice(), b"Login-User".as_slice());
+    /// ```
     #[tactic(auto, unfolding(crate::specs::Printing::printed_text))]
     pub fn text_of_value(
         &self,

@@ -54,6 +54,13 @@ fn push_quoted(text: &mut Vec<u8>, octet: u8) -> Result<(), AllocError>
 }
 
 /// The octets between double quotes, as they are printed.
+///
+/// ```rust
+/// assert_eq!(rt;
+///     quote(alloc, b"Hello, bob\n")?.as_slice(),
+///     b"\"Hello, bob\\n\"".as_slice()
+/// );
+/// ```
 #[tactic(auto, unfolding(crate::specs::Quotes::quoted))]
 pub fn quote(alloc: Global, octets: &[u8]) -> Result<Vec<u8>, AllocError>
     ensures text { IfOk result (λ text. text.items ≡ quoted octets.now) }

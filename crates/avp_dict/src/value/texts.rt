@@ -258,6 +258,14 @@ impl Dictionary {
     /// The value that a text stands for under a name. Whether the name may be written is asked first, then whether the
     /// text is a value, then its length. The pair fits where the name is what [`by_name`](Dictionary::by_name) gave
     /// (see [`spelled_pairs_fit`](Dictionary::spelled_pairs_fit)).
+    ///
+    /// ```rust
+    /// let port = dictionary.by_name(b"NAS-Port").ok_or("no attribute")?;
+    /// let value = dictionary.value_of_text(alloc, port, b"3")?;
+    /// assert!(rt; value == Value::Int(3));
+    /// let refused = dictionary.value_of_text(alloc, port, b"three").err();
+    /// assert_eq!(rt; refused, Some(ValueFault::NotValue));
+    /// ```
     #[tactic(auto, unfolding(crate::specs::Spellings::value_spelled))]
     pub fn value_of_text(
         &self,

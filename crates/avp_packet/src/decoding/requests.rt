@@ -110,6 +110,15 @@ fn refusal(octets: &[u8], secret: &[u8]) -> Option<PacketFault>
 /// Reads an Access-Request, or an Accounting-Request whose authenticator is right; octets past Length are not looked at.
 /// An Access-Request that has a Message-Authenticator must be signed by it. The faults are tried in the order in which
 /// [`PacketFault`] has them; memory may be wanted before any of them.
+///
+/// ```rust
+/// // The octets of `User-Name = "bob", NAS-Port = 3`, with the identifier 7.
+/// let request = decode(alloc, dictionary, b"testing123", octets)?;
+/// assert_eq!(rt; (request.code, request.id), (ACCESS_REQUEST, 7));
+/// assert_eq!(rt; request.list.as_slice().len(), 2);
+/// let refused = decode(alloc, dictionary, b"testing123", b"\x01\x07\x00\x14").err();
+/// assert_eq!(rt; refused, Some(PacketFault::TooShort));
+/// ```
 #[tactic(auto, unfolding(crate::specs::Decoded::decoded))]
 pub fn decode(
     alloc: Global,

@@ -145,6 +145,15 @@ fn packet(
 /// its digest, and the one given is not used. In an Access-Request the list's first Message-Authenticator, whatever its
 /// value, is sent in its place as one that signs the packet, and later ones are not sent; an Accounting-Request sends
 /// them as they are. [`EncodeFault::TooLong`] is found before the packet is put together.
+///
+/// ```rust
+/// let (secret, code) = (b"testing123", ACCESS_REQUEST);
+/// let list = dictionary.read_request(alloc, b"User-Name = \"bob\", NAS-Port = 3")?;
+/// let octets = encode_request(alloc, dictionary, secret, code, 7, authenticator, &list)?;
+/// assert_eq!(rt; octets.len(), 31);
+/// let packet = decode(alloc, dictionary, secret, &octets)?;
+/// assert!(rt; packet.list.as_slice() == list.as_slice());
+/// ```
 #[tactic(auto, unfolding(crate::specs::Packets::request), using(crate::proofs::Assembled::length_request))]
 pub fn encode_request(
     alloc: Global,
@@ -229,6 +238,24 @@ pub fn encoded_authenticator(
 /// A reply with the pairs of a list, but for the list's Message-Authenticators, and then the Proxy-States of the
 /// request. Where it is signed, a Message-Authenticator comes first, made over the Request Authenticator; the Response
 /// Authenticator is made over it.
+///
+/// ```rust
+/// let (secret, code) = (b"testing123", ACCESS_ACCEPT);
+/// let list = dictionary.read_request(alloc, b"Session-Timeout = 600")?;
+/// let reply = encode_reply(
+///     alloc,
+///     dictionary,
+///     secret,
+///     code,
+///     7,
+///     authenticator,
+///     &list,
+///     &[],
+///     true,
+/// )?;
+/// assert!(rt; check_reply(&reply, authenticator, secret));
+/// assert!(rt; check_message(&reply, authenticator, secret));
+/// ```
 #[tactic(auto, unfolding(crate::specs::Packets::reply), using(crate::proofs::Assembled::length_reply))]
 pub fn encode_reply(
     alloc: Global,

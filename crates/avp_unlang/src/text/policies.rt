@@ -66,6 +66,15 @@ pub fn size(policy: &Policy) -> usize
 /// The policy that a text spells, by a dictionary. The first refused place of the text is reported. A fault has the line
 /// of the token that was refused; that of a name has the name's line. Where no value may be written under the name of an
 /// update line or a comparison, this is found at the operator or the source, but has the line of the name.
+///
+/// ```rust
+/// let text = b"update reply { Session-Timeout := 600 }\nreject";
+/// let policy = read_policy(alloc, dictionary, text)?;
+/// assert_eq!(rt; policy.statements().len(), 2);
+/// let refused = read_policy(alloc, dictionary, b"rejected").err();
+/// let (line, kind) = (1, PolicyKind::Misplaced);
+/// assert_eq!(rt; refused, Some(PolicyFault { line, kind }));
+/// ```
 pub fn read_policy(
     alloc: Global,
     dictionary: &Dictionary,
