@@ -1,8 +1,8 @@
 pub mod Controls
 pub mod DistinctFiles
+pub mod DistinctNames
 pub mod OneReport
 pub mod PacketRoom
-pub mod PathNames
 pub mod PresentLists
 pub mod Refusals
 pub mod ReplyReads

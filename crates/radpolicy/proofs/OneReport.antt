@@ -7,7 +7,7 @@ use Rattle.radpolicy.specs.declared.faults.Fault.TheVariants as fault
 use Rattle.radpolicy.specs.declared.jobs.Command.{Command}
 use Rattle.radpolicy.specs.declared.jobs.Command.TheVariants.{Check, Decode, Encode, Run, Step}
 use Rattle.radpolicy.specs.declared.jobs.Job.{Job}
-use Rattle.radpolicy.specs.JobReports.{IsCheckRefusal, IsCheckReport, IsDictionaryRefusal, IsOpenRefusal, IsOpened, IsPacketRefusal, IsPacketReport, IsPolicy, IsReceived, IsRefused, IsReport, IsRequestRefusal, IsRunRefusal, IsRunReport, IsScript, IsSizeOf, IsStepRefusal, IsStepReport, Opened, RefusalOf, ReportOf, decode_report, dictionary_for, encode_report, policy_of, report_of_run, script_of, step_report, request_walk}
+use Rattle.radpolicy.specs.JobReports.{IsCheckRefusal, IsCheckReport, IsDictionaryRefusal, IsOpenRefusal, IsOpened, IsPacketRefusal, IsPacketReport, IsPolicy, IsReceived, IsRefused, IsReport, IsRequestRefusal, IsRunRefusal, IsRunReport, IsScript, IsSizeOf, IsStepRefusal, IsStepReport, Opened, RefusalOf, ReportOf, decode_report, dictionary_for, encode_report, policy_of, report_of_run, script_of, step_report, request_walk, opened}
 use Rattle.radpolicy.specs.Received.{IsUnreadRequest, request_for}
 use Rattle.radpolicy.specs.Reports.{Report, check_report}
 use Rattle.radpolicy.specs.Scripts.{IsUnknownWord, script_spelled}
@@ -30,9 +30,6 @@ not_both_some : {A : Type 0} (a : A) (o : Option A) → o ≡ Some a → o ≡ N
 not_both_some a o h g = cc
 
 -- ---- what a job is made from
-
-abbrev opened : Dictionary → Option (List ℕ) → Opened
-opened dictionary secret = record { dictionary = dictionary; secret = secret }
 
 module _ (job : Job) where
   one_opened : (a b : Opened) → IsOpened job a → IsOpened job b → a ≡ b

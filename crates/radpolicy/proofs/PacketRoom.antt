@@ -1,4 +1,4 @@
--- Packets of 4096 octets at most.
+-- Packets that are not too long.
 use Rattle.std.proofs.Common.{◌≡◌, ◌≤◌, ◌<◌, ℕ, List, Some, None, length, arith}
 use Rattle.std.proofs.lemmas.Grind.{common_steps}
 use Rattle.avp_packet.specs.declared.authenticators.TheConstants.{MAX_PACKET_OCTETS}

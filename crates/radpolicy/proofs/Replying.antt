@@ -7,6 +7,7 @@ use Rattle.avp_lists.specs.declared.pairs.AttrId.{AttrId}
 use Rattle.avp_lists.specs.declared.pairs.Pair.{Pair}
 use Rattle.avp_lists.specs.Instances.{has_id, instances}
 use Rattle.avp_lists.proofs.Equality.{same_id}
+use Rattle.avp_dict.specs.AttributeNumbers.{proxy_state}
 use Rattle.avp_dict.specs.Limits.{fits}
 use Rattle.avp_dict.specs.Sent.{is_clean, is_clean_pair, is_container}
 use Rattle.avp_dict.specs.Dictionary.{Dictionary}
@@ -77,22 +78,22 @@ module _ (dictionary : Dictionary) where
       by_test true own rest = both (is_clean_pair dictionary q) (list_all (is_clean_pair dictionary) (filter (has_id id) pairs)) own rest
       by_test false own rest = rest
 
-  own_clean : (q : Pair) → q.id ≡ Plain 33 → IsCanonicalOrContainer dictionary q → is_clean_pair dictionary q ≡ true
+  own_clean : (q : Pair) → q.id ≡ Plain proxy_state → IsCanonicalOrContainer dictionary q → is_clean_pair dictionary q ≡ true
   own_clean q e own =
       let free : is_container q.id ≡ false = ap is_container e in
       let canonical = own free in
       rw (canonical, free)
 
   -- the Proxy-States of pairs that are read from a packet
-  pub proxies_clean : (pairs : List Pair) → All (IsCanonicalOrContainer dictionary) pairs → is_clean (instances (Plain 33) pairs) dictionary ≡ true
+  pub proxies_clean : (pairs : List Pair) → All (IsCanonicalOrContainer dictionary) pairs → is_clean (instances (Plain proxy_state) pairs) dictionary ≡ true
   unfolding is_clean
   proxies_clean [] all = refl
-  proxies_clean (q ∷ pairs) all = by_test (has_id (Plain 33) q) refl (proxies_clean pairs (All-tail (IsCanonicalOrContainer dictionary) q pairs all))
+  proxies_clean (q ∷ pairs) all = by_test (has_id (Plain proxy_state) q) refl (proxies_clean pairs (All-tail (IsCanonicalOrContainer dictionary) q pairs all))
     where
-      by_test : (b : Bool) → has_id (Plain 33) q ≡ b → list_all (is_clean_pair dictionary) (filter (has_id (Plain 33)) pairs) ≡ true
-          → list_all (is_clean_pair dictionary) (cond b (q ∷ filter (has_id (Plain 33)) pairs) (filter (has_id (Plain 33)) pairs)) ≡ true
+      by_test : (b : Bool) → has_id (Plain proxy_state) q ≡ b → list_all (is_clean_pair dictionary) (filter (has_id (Plain proxy_state)) pairs) ≡ true
+          → list_all (is_clean_pair dictionary) (cond b (q ∷ filter (has_id (Plain proxy_state)) pairs) (filter (has_id (Plain proxy_state)) pairs)) ≡ true
       by_test true e rest =
-          both (is_clean_pair dictionary q) (list_all (is_clean_pair dictionary) (filter (has_id (Plain 33)) pairs)) (own_clean q (same_id q.id (Plain 33) e) (All-head (IsCanonicalOrContainer dictionary) q pairs all)) rest
+          both (is_clean_pair dictionary q) (list_all (is_clean_pair dictionary) (filter (has_id (Plain proxy_state)) pairs)) (own_clean q (same_id q.id (Plain proxy_state) e) (All-head (IsCanonicalOrContainer dictionary) q pairs all)) rest
       by_test false e rest = rest
 
   pub reply_clean : (last : Code) (pairs : List Pair) → is_clean pairs dictionary ≡ true → is_clean (reply_pairs last pairs) dictionary ≡ true

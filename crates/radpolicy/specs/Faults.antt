@@ -1,5 +1,5 @@
 -- Faults: the number, the text and the place of each, the line that shows them, and the exit status.
-use Rattle.std.specs.Prelude.{ℕ, ◌+◌, ◌/◌, ◌%◌, ◌<◌, ◌==◌, ◌++◌, if◌then◌else◌, Bool, List, [], ◌∷◌, Option, None, Some, length, codes, decimal, slice_get}
+use Rattle.std.specs.Prelude.{◌≡◌, ◌⊎◌, ℕ, ◌+◌, ◌/◌, ◌%◌, ◌<◌, ◌==◌, ◌++◌, if◌then◌else◌, Bool, List, [], ◌∷◌, Option, None, Some, length, codes, decimal, slice_get}
 use Rattle.avp_dict.specs.declared.file.files.NamedFile.{NamedFile}
 use Rattle.avp_dict.specs.declared.faults.DictKind.{DictKind}
 use Rattle.avp_dict.specs.declared.faults.DictKind.TheVariants as dict
@@ -17,135 +17,94 @@ use Rattle.avp_unlang.specs.declared.faults.PolicyFault.{PolicyFault}
 use Rattle.radpolicy.specs.declared.faults.Fault.{Fault}
 use Rattle.radpolicy.specs.declared.faults.Fault.TheVariants as fault
 
--- the number of want of memory, in whatever part of a job
-abbrev pub memory_number : ℕ
-memory_number = 9
+-- what the line of a fault shows of its kind: a row of the table of faults
+pub record FaultRow : Type 0 where
+  pub number : ℕ
+  pub text : List ℕ
 
-abbrev pub dict_fault_number : DictKind → ℕ
-dict_fault_number dict.Unreadable = 10
-dict_fault_number dict.OutOfRange = 11
-dict_fault_number dict.OtherNumber = 12
-dict_fault_number dict.UnknownVendor = 13
-dict_fault_number dict.Unmatched = 14
-dict_fault_number dict.NoFile = 15
-dict_fault_number dict.TooDeep = 16
-dict_fault_number dict.TooLong = 17
-dict_fault_number dict.NoAttribute = 18
-dict_fault_number dict.OtherValue = 19
-dict_fault_number dict.Memory = memory_number
+abbrev pub row : ℕ → List ℕ → FaultRow
+row number text = record { number = number; text = text }
 
-abbrev pub dict_fault_text : DictKind → List ℕ
-dict_fault_text dict.Unreadable = codes "unreadable line"
-dict_fault_text dict.OutOfRange = codes "number out of range"
-dict_fault_text dict.OtherNumber = codes "name has another number"
-dict_fault_text dict.UnknownVendor = codes "unknown vendor"
-dict_fault_text dict.Unmatched = codes "BEGIN and END differ"
-dict_fault_text dict.NoFile = codes "file not handed in"
-dict_fault_text dict.TooDeep = codes "includes too deep"
-dict_fault_text dict.TooLong = codes "too many lines"
-dict_fault_text dict.NoAttribute = codes "VALUE of no ATTRIBUTE"
-dict_fault_text dict.OtherValue = codes "VALUE has another number"
-dict_fault_text dict.Memory = codes "out of memory"
+-- want of memory, in whatever part of a job
+abbrev pub out_of_memory : FaultRow
+out_of_memory = row 9 (codes "out of memory")
 
-abbrev pub line_fault_number : LineKind → ℕ
-line_fault_number line.NotValue = 30
-line_fault_number line.TooLong = 31
-line_fault_number line.Unknown = 32
-line_fault_number line.NotWritable = 33
-line_fault_number line.SecondPacket = 34
-line_fault_number line.TooMany = 35
-line_fault_number line.Unreadable = 36
-line_fault_number line.Memory = memory_number
+-- the faults of dictionaries
+abbrev pub dict_fault_row : DictKind → FaultRow
+dict_fault_row dict.Unreadable = row 10 (codes "unreadable line")
+dict_fault_row dict.OutOfRange = row 11 (codes "number out of range")
+dict_fault_row dict.OtherNumber = row 12 (codes "name has another number")
+dict_fault_row dict.UnknownVendor = row 13 (codes "unknown vendor")
+dict_fault_row dict.Unmatched = row 14 (codes "BEGIN and END differ")
+dict_fault_row dict.NoFile = row 15 (codes "file not handed in")
+dict_fault_row dict.TooDeep = row 16 (codes "includes too deep")
+dict_fault_row dict.TooLong = row 17 (codes "too many lines")
+dict_fault_row dict.NoAttribute = row 18 (codes "VALUE of no ATTRIBUTE")
+dict_fault_row dict.OtherValue = row 19 (codes "VALUE has another number")
+dict_fault_row dict.Memory = out_of_memory
 
-abbrev pub line_fault_text : LineKind → List ℕ
-line_fault_text line.NotValue = codes "not a value"
-line_fault_text line.TooLong = codes "too long"
-line_fault_text line.Unknown = codes "unknown attribute"
-line_fault_text line.NotWritable = codes "not writable"
-line_fault_text line.SecondPacket = codes "second packet"
-line_fault_text line.TooMany = codes "too many pairs"
-line_fault_text line.Unreadable = codes "unreadable line"
-line_fault_text line.Memory = codes "out of memory"
+-- the faults of request lines
+abbrev pub line_fault_row : LineKind → FaultRow
+line_fault_row line.NotValue = row 30 (codes "not a value")
+line_fault_row line.TooLong = row 31 (codes "too long")
+line_fault_row line.Unknown = row 32 (codes "unknown attribute")
+line_fault_row line.NotWritable = row 33 (codes "not writable")
+line_fault_row line.SecondPacket = row 34 (codes "second packet")
+line_fault_row line.TooMany = row 35 (codes "too many pairs")
+line_fault_row line.Unreadable = row 36 (codes "unreadable line")
+line_fault_row line.Memory = out_of_memory
 
-abbrev pub packet_fault_number : PacketFault → ℕ
-packet_fault_number packet.TooShort = 40
-packet_fault_number packet.LengthOutOfRange = 41
-packet_fault_number packet.CutShort = 42
-packet_fault_number (packet.BadAttribute offset) = 43
-packet_fault_number packet.CodeNotTaken = 44
-packet_fault_number packet.WrongAuthenticator = 45
-packet_fault_number packet.WrongMessageAuthenticator = 47
-packet_fault_number packet.Memory = memory_number
+-- the faults of packets
+abbrev pub packet_fault_row : PacketFault → FaultRow
+packet_fault_row packet.TooShort = row 40 (codes "fewer than 20 octets")
+packet_fault_row packet.LengthOutOfRange = row 41 (codes "bad packet length")
+packet_fault_row packet.CutShort = row 42 (codes "packet cut short")
+packet_fault_row (packet.BadAttribute offset) = row 43 (codes "bad attribute length")
+packet_fault_row packet.CodeNotTaken = row 44 (codes "code not taken")
+packet_fault_row packet.WrongAuthenticator = row 45 (codes "wrong authenticator")
+packet_fault_row packet.WrongMessageAuthenticator = row 47 (codes "wrong Message-Authenticator")
+packet_fault_row packet.Memory = out_of_memory
 
-abbrev pub packet_fault_text : PacketFault → List ℕ
-packet_fault_text packet.TooShort = codes "fewer than 20 octets"
-packet_fault_text packet.LengthOutOfRange = codes "bad packet length"
-packet_fault_text packet.CutShort = codes "packet cut short"
-packet_fault_text (packet.BadAttribute offset) = codes "bad attribute length"
-packet_fault_text packet.CodeNotTaken = codes "code not taken"
-packet_fault_text packet.WrongAuthenticator = codes "wrong authenticator"
-packet_fault_text packet.WrongMessageAuthenticator = codes "wrong Message-Authenticator"
-packet_fault_text packet.Memory = codes "out of memory"
+-- the faults of policies
+abbrev pub policy_fault_row : PolicyKind → FaultRow
+policy_fault_row policy.NotValue = row 30 (codes "not a value")
+policy_fault_row policy.TooLong = row 31 (codes "too long")
+policy_fault_row policy.Unknown = row 32 (codes "unknown attribute")
+policy_fault_row policy.NotWritable = row 33 (codes "not writable")
+policy_fault_row policy.Unreadable = row 50 (codes "unreadable token")
+policy_fault_row policy.Misplaced = row 51 (codes "token does not fit")
+policy_fault_row policy.TooDeep = row 53 (codes "nested too deep")
+policy_fault_row policy.TooLarge = row 54 (codes "policy too large")
+policy_fault_row policy.OtherType = row 55 (codes "types differ")
+policy_fault_row policy.Memory = out_of_memory
 
-abbrev pub policy_fault_number : PolicyKind → ℕ
-policy_fault_number policy.NotValue = 30
-policy_fault_number policy.TooLong = 31
-policy_fault_number policy.Unknown = 32
-policy_fault_number policy.NotWritable = 33
-policy_fault_number policy.Unreadable = 50
-policy_fault_number policy.Misplaced = 51
-policy_fault_number policy.TooDeep = 53
-policy_fault_number policy.TooLarge = 54
-policy_fault_number policy.OtherType = 55
-policy_fault_number policy.Memory = memory_number
+-- all faults
+abbrev pub fault_row : Fault → FaultRow
+fault_row fault.Help = row 0 (codes "help")
+fault_row fault.Usage = row 1 (codes "usage")
+fault_row fault.OptionValue = row 2 (codes "option value")
+fault_row fault.EmptySecret = row 3 (codes "empty secret")
+fault_row fault.FileNotReadable = row 4 (codes "file not readable")
+fault_row fault.NotHex = row 5 (codes "not hex")
+fault_row (fault.ScriptWord line) = row 6 (codes "unknown script word")
+fault_row fault.Write = row 7 (codes "write fault")
+fault_row fault.Memory = out_of_memory
+fault_row (fault.Dictionary f) = dict_fault_row f.kind
+fault_row (fault.Request f) = line_fault_row f.kind
+fault_row (fault.Packet f) = packet_fault_row f
+fault_row fault.PacketTooLong = row 46 (codes "packet too long")
+fault_row (fault.Policy f) = policy_fault_row f.kind
 
-abbrev pub policy_fault_text : PolicyKind → List ℕ
-policy_fault_text policy.NotValue = codes "not a value"
-policy_fault_text policy.TooLong = codes "too long"
-policy_fault_text policy.Unknown = codes "unknown attribute"
-policy_fault_text policy.NotWritable = codes "not writable"
-policy_fault_text policy.Unreadable = codes "unreadable token"
-policy_fault_text policy.Misplaced = codes "token does not fit"
-policy_fault_text policy.TooDeep = codes "nested too deep"
-policy_fault_text policy.TooLarge = codes "policy too large"
-policy_fault_text policy.OtherType = codes "types differ"
-policy_fault_text policy.Memory = codes "out of memory"
-
+-- the number of a fault; that of the help is not shown
 abbrev pub fault_number : Fault → ℕ
-fault_number fault.Help = 0
-fault_number fault.Usage = 1
-fault_number fault.OptionValue = 2
-fault_number fault.EmptySecret = 3
-fault_number fault.FileNotReadable = 4
-fault_number fault.NotHex = 5
-fault_number (fault.ScriptWord line) = 6
-fault_number fault.Write = 7
-fault_number fault.Memory = memory_number
-fault_number (fault.Dictionary f) = dict_fault_number f.kind
-fault_number (fault.Request f) = line_fault_number f.kind
-fault_number (fault.Packet f) = packet_fault_number f
-fault_number fault.PacketTooLong = 46
-fault_number (fault.Policy f) = policy_fault_number f.kind
+fault_number f = (fault_row f).number
 
 abbrev pub fault_text : Fault → List ℕ
-fault_text fault.Help = codes "help"
-fault_text fault.Usage = codes "usage"
-fault_text fault.OptionValue = codes "option value"
-fault_text fault.EmptySecret = codes "empty secret"
-fault_text fault.FileNotReadable = codes "file not readable"
-fault_text fault.NotHex = codes "not hex"
-fault_text (fault.ScriptWord line) = codes "unknown script word"
-fault_text fault.Write = codes "write fault"
-fault_text fault.Memory = codes "out of memory"
-fault_text (fault.Dictionary f) = dict_fault_text f.kind
-fault_text (fault.Request f) = line_fault_text f.kind
-fault_text (fault.Packet f) = packet_fault_text f
-fault_text fault.PacketTooLong = codes "packet too long"
-fault_text (fault.Policy f) = policy_fault_text f.kind
+fault_text f = (fault_row f).text
 
 -- whether a fault is want of memory
 abbrev pub is_memory : Fault → Bool
-is_memory f = fault_number f == memory_number
+is_memory f = fault_number f == out_of_memory.number
 
 -- a file's name
 abbrev pub name_at : List NamedFile → ℕ → List ℕ
@@ -216,6 +175,10 @@ fault_of_policy f = of_kind f.kind
     of_kind : PolicyKind → Fault
     of_kind policy.Memory = fault.Memory
     of_kind _ = fault.Policy f
+
+-- the fault is want of memory, or of this kind
+abbrev pub MemoryOr : (Fault → Type 0) → Fault → Type 0
+MemoryOr IsFault f = (f ≡ fault.Memory) ⊎ IsFault f
 
 -- the line of this fault is printed by `print_fault`: the program shows the help itself, and the name of a file that it cannot read
 abbrev pub IsPrinted : Fault → Type 0

@@ -39,6 +39,9 @@ pub record Opened : Type 0 where
   pub dictionary : Dictionary
   pub secret : Option (List ℕ)
 
+abbrev pub opened : Dictionary → Option (List ℕ) → Opened
+opened dictionary secret = record { dictionary = dictionary; secret = secret }
+
 pub record IsOpened (job : Job) (opened : Opened) : Type 0 where
   pub dictionary : dictionary_for job ≡ Ok opened.dictionary
   pub secret : secret_for job ≡ Some opened.secret

@@ -10,7 +10,7 @@ use Rattle.avp_dict.specs.Requests.{request_spelled}
 use Rattle.avp_packet.specs.declared.faults.PacketFault.{PacketFault}
 use Rattle.avp_packet.specs.declared.packets.Packet.{Packet}
 use Rattle.avp_packet.specs.Decoded.{decoded}
-use Rattle.avp_packet.specs.Packets.{zeros}
+use Rattle.avp_packet.specs.Packets.{access_request, accounting_request, zeros}
 use Rattle.radpolicy.specs.declared.faults.Fault.{Fault}
 use Rattle.radpolicy.specs.declared.faults.Fault.TheVariants as fault
 use Rattle.radpolicy.specs.declared.jobs.Form.{Form}
@@ -51,8 +51,8 @@ lines_for code job (Some pairs) = Ok (record { code = code; id = job.identifier;
 -- the request of a job, by its form
 abbrev pub request_of : Form → Dictionary → Option (List ℕ) → Job → Result Packet Unread
 request_of Hex dictionary secret job = packet_for dictionary (unwrap_or secret []) (hex_octets job.request)
-request_of Access dictionary secret job = lines_for 1 job (request_spelled job.request dictionary)
-request_of Accounting dictionary secret job = lines_for 4 job (request_spelled job.request dictionary)
+request_of Access dictionary secret job = lines_for access_request job (request_spelled job.request dictionary)
+request_of Accounting dictionary secret job = lines_for accounting_request job (request_spelled job.request dictionary)
 
 abbrev pub request_for : Dictionary → Option (List ℕ) → Job → Result Packet Unread
 request_for dictionary secret job = request_of job.form dictionary secret job

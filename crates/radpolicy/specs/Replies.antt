@@ -4,9 +4,11 @@ use Rattle.std.specs.Option.{option_and_then, option_map}
 use Rattle.avp_lists.specs.declared.pairs.AttrId.TheVariants.{Plain}
 use Rattle.avp_lists.specs.declared.pairs.Pair.{Pair}
 use Rattle.avp_lists.specs.Instances.{has_instance, instances}
+use Rattle.avp_dict.specs.AttributeNumbers.{proxy_state}
 use Rattle.avp_dict.specs.Dictionary.{Dictionary}
 use Rattle.avp_packet.specs.declared.packets.Packet.{Packet}
-use Rattle.avp_packet.specs.Packets.{authenticator_of, reply, request}
+use Rattle.avp_packet.specs.declared.authenticators.TheConstants.{MAX_PACKET_OCTETS}
+use Rattle.avp_packet.specs.Packets.{access_accept, access_reject, access_request, accounting_request, accounting_response, authenticator_of, reply, request}
 use Rattle.avp_packet.specs.Sending.{message_authenticator_id}
 use Rattle.avp_unlang.specs.declared.codes.Code.{Code}
 use Rattle.avp_unlang.specs.declared.codes.Code.TheVariants as code
@@ -14,28 +16,29 @@ use Rattle.radpolicy.specs.declared.jobs.Form.{Form}
 use Rattle.radpolicy.specs.declared.jobs.Form.TheVariants.{Accounting}
 use Rattle.avp_unlang.specs.Meaning.{Outcome as End}
 
--- a packet of 4096 octets at most
+-- a packet that is not too long
 abbrev pub within_packet : List ℕ → Option (List ℕ)
-within_packet octets = if nat_le (length octets) 4096 then Some octets else None
+within_packet octets = if nat_le (length octets) MAX_PACKET_OCTETS then Some octets else None
 
 -- the packet of a request
 abbrev pub request_packet : Dictionary → List ℕ → Packet → Option (List ℕ)
 request_packet dictionary secret r = within_packet (request dictionary secret r.code r.id r.authenticator r.list)
 
--- the code of an Access-Request's reply: an Access-Accept, or an Access-Reject
+-- the code of an Access-Request's reply
 abbrev pub access_reply : Code → Option ℕ
-access_reply code.Fail = Some 3
-access_reply code.Reject = Some 3
-access_reply _ = Some 2
+access_reply code.Fail = Some access_reject
+access_reply code.Reject = Some access_reject
+access_reply _ = Some access_accept
 
--- the code of an Accounting-Request's reply: an Accounting-Response, or none
+-- the code of an Accounting-Request's reply, which a refused one does not have
 abbrev pub accounting_reply : Code → Option ℕ
 accounting_reply code.Fail = None
 accounting_reply code.Reject = None
-accounting_reply _ = Some 5
+accounting_reply _ = Some accounting_response
 
+-- the code of the reply to a request of this code, after a run that ended with this result
 abbrev pub reply_code : ℕ → Code → Option ℕ
-reply_code request_code last = if request_code == 4 then accounting_reply last else access_reply last
+reply_code request_code last = if request_code == accounting_request then accounting_reply last else access_reply last
 
 -- the pairs of a reply: those of the reply list, and none after `fail`
 abbrev pub reply_pairs : Code → List Pair → List Pair
@@ -44,11 +47,11 @@ reply_pairs _ pairs = pairs
 
 -- the request's Proxy-States, unchanged and in order
 abbrev pub proxy_states : Packet → List Pair
-proxy_states r = instances (Plain 33) r.list
+proxy_states r = instances (Plain proxy_state) r.list
 
 -- the reply to an Access-Request with a Message-Authenticator is signed
 abbrev pub signs_reply : Packet → Bool
-signs_reply r = (r.code == 1) && has_instance message_authenticator_id r.list
+signs_reply r = (r.code == access_request) && has_instance message_authenticator_id r.list
 
 -- the authenticator that a reply answers: that of the request, which for the lines of an Accounting-Request is that of its packet
 abbrev pub answered_authenticator : Form → Dictionary → List ℕ → Packet → Option (List ℕ)

@@ -1,10 +1,8 @@
 -- The secret that a job's file holds.
-use Rattle.std.specs.Prelude.{ℕ, Bool, ◌==◌, nat_lt, if◌then◌else◌, List, [], ◌∷◌, Option, Some, None}
+use Rattle.std.specs.Prelude.{ℕ, Bool, nat_lt, if◌then◌else◌, List, [], ◌∷◌, Option, Some, None}
 use Rattle.std.specs.List.{before_first, list_all}
+use Rattle.avp_dict.specs.Lines.{is_line_end}
 use Rattle.radpolicy.specs.declared.jobs.Job.{Job}
-
-abbrev pub is_line_end : ℕ → Bool
-is_line_end o = o == 10
 
 -- an octet below a blank
 abbrev pub is_control : ℕ → Bool

@@ -3,8 +3,8 @@
 ghost use Rattle.std.specs.Prelude.{All, ◌≡◌, ◌≢◌, ◌≤◌, ◌⊎◌, ◌<◌, List, None, Ok, Some, true, false, length, IfOk, IfErr, IfSome, IsErrOf, OnOk};
 ghost use Rattle.std.specs.Io.KnownBytes.{Appends};
 ghost use Rattle.std.specs.Option.{option_copied};
-ghost use Rattle.radpolicy.specs.Faults.{IsPrintedWith};
-ghost use Rattle.radpolicy.specs.JobReports.{IsCheckRefusal, IsCheckReport, IsCheckedPolicyRefusal, IsDictionaryRefusal, IsOpened, IsMakingRefusal, IsOpenRefusal, IsPacketReport, IsPolicy, IsPolicyRefusal, IsRefused, IsReport, IsRequestOrReplyRefusal, IsRunReport, IsScript, IsScriptOrRequestRefusal, IsSizeOf, IsStepReport, decode_report, dictionary_for, encode_report, policy_of, script_of};
+ghost use Rattle.radpolicy.specs.Faults.{IsPrintedWith, MemoryOr};
+ghost use Rattle.radpolicy.specs.JobReports.{IsCheckRefusal, IsCheckReport, IsCheckedPolicyRefusal, IsDictionaryRefusal, IsOpened, IsMakingRefusal, IsOpenRefusal, IsPacketReport, IsPolicy, IsPolicyRefusal, IsRefused, IsReport, IsRequestOrReplyRefusal, IsRunReport, IsScript, IsScriptOrRequestRefusal, IsSizeOf, IsStepReport, decode_report, dictionary_for, encode_report, opened, policy_of, script_of};
 ghost use Rattle.radpolicy.specs.Scripts.{IsUnknownWord, script_spelled};
 ghost use Rattle.radpolicy.specs.Plans.{IsSound, asked_by_job};
 ghost use Rattle.radpolicy.specs.ReplyMeaning.{IsRunRead};
@@ -23,6 +23,7 @@ use crate::reports::checks::text_of_check;
 use crate::reports::runs::report_of_run;
 use crate::reports::texts::{packet_text, push_packet};
 use crate::reports::walks::report_of_walk;
+use crate::reports::{Report, plain_report};
 use crate::requests::request_for;
 use crate::scripts::{ScriptWord, read_script};
 use crate::secrets::secret_in;
@@ -30,12 +31,6 @@ use avp_dict::Dictionary;
 use avp_packet::encode_request;
 use avp_unlang::{Policy, read_policy, size};
 use std::alloc::Global;
-
-// What a job that runs no policy came to.
-const NO_RUN: Outcome = Outcome {
-    code: None,
-    stopped: false,
-};
 
 // The policy's text.
 fn policy_of(job: &Job) -> &[u8]
@@ -53,13 +48,10 @@ fn dictionary_for(alloc: Global, job: &Job) -> Result<Dictionary, Fault>
     ensures ok { IfOk result (λ dictionary. dictionary_for job.now ≡ Ok dictionary) }
     ensures noted { IfOk result (λ dictionary.
         All (λ note. note.file < length job.now.files) dictionary.notes) }
-    ensures refused { IfErr result (λ f. (f ≡ fault.Memory) ⊎ IsDictionaryRefusal job.now f) }
-    ensures printed { IfErr result (λ f. IsPrintedWith job.now.files f) }
+    ensures refused { IfErr result (MemoryOr (IsDictionaryRefusal job.now)) }
+    ensures printed { IfErr result (IsPrintedWith job.now.files) }
 {
-    match Dictionary::read(alloc, &job.files) {
-        Ok(dictionary) => Ok(dictionary),
-        Err(fault) => Err(Fault::from(fault)),
-    }
+    Ok(Dictionary::read(alloc, &job.files)?)
 }
 
 // The secret, where the job has one.
@@ -78,20 +70,26 @@ fn secret_for(job: &Job) -> Result<Option<&[u8]>, Fault>
     }
 }
 
+// The dictionary and the secret of a job.
+#[derive(Drop)]
+struct Opened<'a> {
+    dictionary: Dictionary,
+    secret: Option<&'a [u8]>,
+}
+
 // Reads the dictionary and the secret.
-fn open<'a>(alloc: Global, job: &'a Job) -> Result<(Dictionary, Option<&'a [u8]>), Fault>
+fn open<'a>(alloc: Global, job: &'a Job) -> Result<Opened<'a>, Fault>
     requires sound { IsSound (asked_by_job job.now) }
-    ensures ok { IfOk result (λ opened. IsOpened job.now (record { dictionary = opened.0; secret = option_copied opened.1 })) }
-    ensures some { IfOk result (λ opened. IfSome opened.1 (λ octets. 0 < length octets.now)) }
-    ensures there { job.now.secret ≢ None → IfOk result (λ opened. opened.1 ≢ None) }
-    ensures refused { IfErr result (λ f. (f ≡ fault.Memory) ⊎ IsOpenRefusal job.now f) }
-    ensures printed { IfErr result (λ f. IsPrintedWith job.now.files f) }
+    ensures ok { IfOk result (λ o.
+        IsOpened job.now (opened o.dictionary (option_copied o.secret))) }
+    ensures some { IfOk result (λ o. IfSome o.secret (λ octets. 0 < length octets.now)) }
+    ensures there { job.now.secret ≢ None → IfOk result (λ o. o.secret ≢ None) }
+    ensures refused { IfErr result (MemoryOr (IsOpenRefusal job.now)) }
+    ensures printed { IfErr result (IsPrintedWith job.now.files) }
 {
     let dictionary = dictionary_for(alloc, job)?;
-    match secret_for(job) {
-        Ok(secret) => Ok((dictionary, secret)),
-        Err(fault) => Err(fault),
-    }
+    let secret = secret_for(job)?;
+    Ok(Opened { dictionary, secret })
 }
 
 // Reads the policy.
@@ -101,10 +99,10 @@ fn policy_for(
     secret: Option<&[u8]>,
     job: &Job,
 ) -> Result<Policy, Fault>
-    requires opened { IsOpened job.now (record { dictionary = dictionary.now; secret = option_copied secret }) }
+    requires opened { IsOpened job.now (opened dictionary.now (option_copied secret)) }
     ensures ok { IfOk result (λ policy. IsPolicy job.now dictionary.now policy) }
-    ensures refused { IfErr result (λ f. (f ≡ fault.Memory) ⊎ IsPolicyRefusal job.now f) }
-    ensures printed { IfErr result (λ f. IsPrintedWith job.now.files f) }
+    ensures refused { IfErr result (MemoryOr (IsPolicyRefusal job.now)) }
+    ensures printed { IfErr result (IsPrintedWith job.now.files) }
 {
     match read_policy(alloc, dictionary, policy_of(job)) {
         Ok(policy) => Ok(policy),
@@ -118,19 +116,19 @@ fn run_report_of(
     dictionary: &Dictionary,
     secret: Option<&[u8]>,
     job: &Job,
-) -> Result<(Vec<u8>, Outcome), Fault>
-    requires opened { IsOpened job.now (record { dictionary = dictionary.now; secret = option_copied secret }) }
+) -> Result<Report, Fault>
+    requires opened { IsOpened job.now (opened dictionary.now (option_copied secret)) }
     requires secret { IfSome secret (λ octets. 0 < length octets.now) }
     requires hex { job.now.form ≡ InHex → secret ≢ None }
-    ensures ok { IfOk result (λ report. IsRunReport job.now (record { text = report.0.items; outcome = report.1 })) }
+    ensures ok { IfOk result (IsRunReport job.now) }
     ensures read { OnOk result (IsRunRead job.now) }
-    ensures refused { IfErr result (λ f. (f ≡ fault.Memory) ⊎ (IsPolicyRefusal job.now f ⊎ IsRequestOrReplyRefusal job.now f)) }
-    ensures printed { IfErr result (λ f. IsPrintedWith job.now.files f) }
+    ensures refused { IfErr result (MemoryOr (λ f.
+        IsPolicyRefusal job.now f ⊎ IsRequestOrReplyRefusal job.now f)) }
+    ensures printed { IfErr result (IsPrintedWith job.now.files) }
 {
     let policy = policy_for(alloc, dictionary, secret, job)?;
     let request = request_for(alloc, dictionary, secret, job)?;
-    let report = report_of_run(alloc, dictionary, job.form, secret, &policy, request)?;
-    Ok(report)
+    report_of_run(alloc, dictionary, job.form, secret, &policy, request)
 }
 
 // The script's text.
@@ -146,8 +144,9 @@ fn script_of(job: &Job) -> &[u8]
 // Reads the script.
 fn script_for(alloc: Global, job: &Job) -> Result<Vec<ScriptWord>, Fault>
     ensures ok { IfOk result (λ script. IsScript job.now script.items) }
-    ensures refused { IfErr result (λ f. (f ≡ fault.Memory) ⊎ IsUnknownWord f (script_spelled (script_of job.now))) }
-    ensures printed { IfErr result (λ f. IsPrintedWith job.now.files f) }
+    ensures refused { IfErr result (λ f. (f ≡ fault.Memory)
+        ⊎ IsUnknownWord f (script_spelled (script_of job.now))) }
+    ensures printed { IfErr result (IsPrintedWith job.now.files) }
 {
     read_script(alloc, script_of(job))
 }
@@ -158,13 +157,14 @@ fn step_report_of(
     dictionary: &Dictionary,
     secret: Option<&[u8]>,
     job: &Job,
-) -> Result<(Vec<u8>, Outcome), Fault>
-    requires opened { IsOpened job.now (record { dictionary = dictionary.now; secret = option_copied secret }) }
+) -> Result<Report, Fault>
+    requires opened { IsOpened job.now (opened dictionary.now (option_copied secret)) }
     requires secret { IfSome secret (λ octets. 0 < length octets.now) }
     requires hex { job.now.form ≡ InHex → secret ≢ None }
-    ensures ok { IfOk result (λ report. IsStepReport job.now (record { text = report.0.items; outcome = report.1 })) }
-    ensures refused { IfErr result (λ f. (f ≡ fault.Memory) ⊎ (IsPolicyRefusal job.now f ⊎ IsScriptOrRequestRefusal job.now f)) }
-    ensures printed { IfErr result (λ f. IsPrintedWith job.now.files f) }
+    ensures ok { IfOk result (IsStepReport job.now) }
+    ensures refused { IfErr result (MemoryOr (λ f.
+        IsPolicyRefusal job.now f ⊎ IsScriptOrRequestRefusal job.now f)) }
+    ensures printed { IfErr result (IsPrintedWith job.now.files) }
 {
     let policy = policy_for(alloc, dictionary, secret, job)?;
     let script = script_for(alloc, job)?;
@@ -178,12 +178,12 @@ fn encode_report_of(
     dictionary: &Dictionary,
     secret: &[u8],
     job: &Job,
-) -> Result<(Vec<u8>, Outcome), Fault>
-    requires opened { IsOpened job.now (record { dictionary = dictionary.now; secret = Some secret.now }) }
+) -> Result<Report, Fault>
+    requires opened { IsOpened job.now (opened dictionary.now (Some secret.now)) }
     requires secret { 0 < length secret.now }
-    ensures ok { IfOk result (λ report. IsPacketReport encode_report job.now (record { text = report.0.items; outcome = report.1 })) }
-    ensures refused { IfErr result (λ f. (f ≡ fault.Memory) ⊎ IsMakingRefusal encode_report job.now f) }
-    ensures printed { IfErr result (λ f. IsPrintedWith job.now.files f) }
+    ensures ok { IfOk result (IsPacketReport encode_report job.now) }
+    ensures refused { IfErr result (MemoryOr (IsMakingRefusal encode_report job.now)) }
+    ensures printed { IfErr result (IsPrintedWith job.now.files) }
 {
     let request = request_for(alloc, dictionary, Some(secret), job)?;
     let octets = encode_request(
@@ -197,7 +197,7 @@ fn encode_report_of(
     )?;
     let mut text = Vec::new(alloc);
     push_packet(&mut text, &octets)?;
-    Ok((text, NO_RUN))
+    Ok(plain_report(text))
 }
 
 // The report of `decode`, in the order in which it is refused.
@@ -206,27 +206,27 @@ fn decode_report_of(
     dictionary: &Dictionary,
     secret: &[u8],
     job: &Job,
-) -> Result<(Vec<u8>, Outcome), Fault>
-    requires opened { IsOpened job.now (record { dictionary = dictionary.now; secret = Some secret.now }) }
+) -> Result<Report, Fault>
+    requires opened { IsOpened job.now (opened dictionary.now (Some secret.now)) }
     requires secret { 0 < length secret.now }
-    ensures ok { IfOk result (λ report. IsPacketReport decode_report job.now (record { text = report.0.items; outcome = report.1 })) }
-    ensures refused { IfErr result (λ f. (f ≡ fault.Memory) ⊎ IsMakingRefusal decode_report job.now f) }
-    ensures printed { IfErr result (λ f. IsPrintedWith job.now.files f) }
+    ensures ok { IfOk result (IsPacketReport decode_report job.now) }
+    ensures refused { IfErr result (MemoryOr (IsMakingRefusal decode_report job.now)) }
+    ensures printed { IfErr result (IsPrintedWith job.now.files) }
 {
     let request = request_for(alloc, dictionary, Some(secret), job)?;
-    Ok((packet_text(alloc, dictionary, &request)?, NO_RUN))
+    Ok(plain_report(packet_text(alloc, dictionary, &request)?))
 }
 
 // The report of a job that reads a request, by its command.
-fn request_report_of(alloc: Global, job: &Job) -> Result<(Vec<u8>, Outcome), Fault>
+fn request_report_of(alloc: Global, job: &Job) -> Result<Report, Fault>
     requires sound { IsSound (asked_by_job job.now) }
     requires command { job.now.command ≢ TheCheck }
-    ensures ok { IfOk result (λ report. IsReport job.now (record { text = report.0.items; outcome = report.1 })) }
+    ensures ok { IfOk result (IsReport job.now) }
     ensures read { OnOk result (job.now.command ≡ TheRun → IsRunRead job.now) }
-    ensures refused { IfErr result (λ f. (f ≡ fault.Memory) ⊎ IsRefused job.now f) }
-    ensures printed { IfErr result (λ f. IsPrintedWith job.now.files f) }
+    ensures refused { IfErr result (MemoryOr (IsRefused job.now)) }
+    ensures printed { IfErr result (IsPrintedWith job.now.files) }
 {
-    let (dictionary, secret) = open(alloc, job)?;
+    let Opened { dictionary, secret } = open(alloc, job)?;
     match (job.command, secret) {
         (Command::Run, secret) => run_report_of(alloc, &dictionary, secret, job),
         (Command::Step, secret) => step_report_of(alloc, &dictionary, secret, job),
@@ -240,8 +240,8 @@ fn request_report_of(alloc: Global, job: &Job) -> Result<(Vec<u8>, Outcome), Fau
 fn size_of_policy(alloc: Global, dictionary: &Dictionary, job: &Job) -> Result<Option<usize>, Fault>
     requires { dictionary_for job.now ≡ Ok dictionary.now }
     ensures ok { IfOk result (λ size. IsSizeOf job.now.policy job.now dictionary.now size) }
-    ensures refused { IfErr result (λ f. (f ≡ fault.Memory) ⊎ IsCheckedPolicyRefusal job.now f) }
-    ensures printed { IfErr result (λ f. IsPrintedWith job.now.files f) }
+    ensures refused { IfErr result (MemoryOr (IsCheckedPolicyRefusal job.now)) }
+    ensures printed { IfErr result (IsPrintedWith job.now.files) }
 {
     let Some(text) = &job.policy else {
         return Ok(None);
@@ -253,24 +253,24 @@ fn size_of_policy(alloc: Global, dictionary: &Dictionary, job: &Job) -> Result<O
 }
 
 // The report of a check, in the order in which it is refused.
-fn check_report_of(alloc: Global, job: &Job) -> Result<(Vec<u8>, Outcome), Fault>
+fn check_report_of(alloc: Global, job: &Job) -> Result<Report, Fault>
     requires sound { IsSound (asked_by_job job.now) }
-    ensures ok { IfOk result (λ report. IsCheckReport job.now (record { text = report.0.items; outcome = report.1 })) }
-    ensures refused { IfErr result (λ f. (f ≡ fault.Memory) ⊎ IsCheckRefusal job.now f) }
-    ensures printed { IfErr result (λ f. IsPrintedWith job.now.files f) }
+    ensures ok { IfOk result (IsCheckReport job.now) }
+    ensures refused { IfErr result (MemoryOr (IsCheckRefusal job.now)) }
+    ensures printed { IfErr result (IsPrintedWith job.now.files) }
 {
     let dictionary = dictionary_for(alloc, job)?;
     let size = size_of_policy(alloc, &dictionary, job)?;
-    Ok((text_of_check(alloc, &job.files, &dictionary, size)?, NO_RUN))
+    Ok(plain_report(text_of_check(alloc, &job.files, &dictionary, size)?))
 }
 
 // The report of a job, by its command.
-fn report_of(alloc: Global, job: &Job) -> Result<(Vec<u8>, Outcome), Fault>
+fn report_of(alloc: Global, job: &Job) -> Result<Report, Fault>
     requires sound { IsSound (asked_by_job job.now) }
-    ensures ok { IfOk result (λ report. IsReport job.now (record { text = report.0.items; outcome = report.1 })) }
+    ensures ok { IfOk result (IsReport job.now) }
     ensures read { OnOk result (job.now.command ≡ TheRun → IsRunRead job.now) }
-    ensures refused { IfErr result (λ f. (f ≡ fault.Memory) ⊎ IsRefused job.now f) }
-    ensures printed { IfErr result (λ f. IsPrintedWith job.now.files f) }
+    ensures refused { IfErr result (MemoryOr (IsRefused job.now)) }
+    ensures printed { IfErr result (IsPrintedWith job.now.files) }
 {
     match job.command {
         Command::Check => check_report_of(alloc, job),
@@ -280,8 +280,8 @@ fn report_of(alloc: Global, job: &Job) -> Result<(Vec<u8>, Outcome), Fault>
 
 /// Does a job: makes its report whole, and then puts it out.
 ///
-/// The faults come in this order: the dictionary, the secret, the policy, the script, the request, a packet that would be too long, the
-/// writing of the report.
+/// The faults come in this order: the dictionary, the secret, the policy, the script, the request, a packet that would
+/// be too long, the writing of the report.
 pub fn answer<O: Output>(alloc: Global, job: &Job, out: &mut O) -> Result<Outcome, Fault>
     requires works { O.has_failed out.old ≡ false }
     requires sound { IsSound (asked_by_job job.now) }
@@ -298,16 +298,18 @@ pub fn answer<O: Output>(alloc: Global, job: &Job, out: &mut O) -> Result<Outcom
     // With any other fault the output is as it was.
     ensures nothing { IfErr result (λ fault. fault ≢ Fault.Write → out.new ≡ out.old) }
     // Memory and the output aside, the job is refused for this fault.
-    ensures refused { IfErr result (λ fault. (fault ≡ Fault.Write) ⊎ (fault ≡ Fault.Memory) ⊎ IsRefused job.now fault) }
+    ensures refused { IfErr result (λ fault. (fault ≡ Fault.Write)
+        ⊎ MemoryOr (IsRefused job.now) fault) }
     // A job has at most one report, and none if it is refused.
     ensures one { (a b : Report) → IsReport job.now a → IsReport job.now b → a ≡ b }
-    ensures either { (report : Report) (fault : Fault) → IsReport job.now report → IsRefused job.now fault → ⊥ }
+    ensures either { (report : Report) (fault : Fault) → IsReport job.now report
+        → IsRefused job.now fault → ⊥ }
     // The line of the fault can be printed.
-    ensures printed { IfErr result (λ fault. IsPrintedWith job.now.files fault) }
+    ensures printed { IfErr result (IsPrintedWith job.now.files) }
 {
-    let (text, outcome) = report_of(alloc, job)?;
-    match put_all(out, text.as_slice()) {
-        Ok(()) => Ok(outcome),
+    let report = report_of(alloc, job)?;
+    match put_all(out, report.text()) {
+        Ok(()) => Ok(report.outcome()),
         Err(_) => Err(Fault::Write),
     }
 }

@@ -1,10 +1,10 @@
 //! The words of the command line, with all calls of `clap`.
 
-ghost use Rattle.std.specs.Prelude.{◌≡◌, ◌<◌, length, is_some, true, false, IfOk, IfErr};
+ghost use Rattle.std.specs.Prelude.{◌≡◌, ◌<◌, length, true, IfOk, IfErr};
+ghost use Rattle.radpolicy.specs.declared.jobs.Command.TheVariants.{Decode};
 ghost use Rattle.radpolicy.specs.declared.jobs.Form.TheVariants.{Hex};
 ghost use Rattle.radpolicy.specs.Faults.{IsWordFault};
-ghost use Rattle.radpolicy.specs.Plans.{AreDistinct, EncodeRules, IsSound, RunRules, StepRules, asked_by_plan, names_of_paths};
-ghost use Rattle.radpolicy.specs.internal.Options.{asked_by_options};
+ghost use Rattle.radpolicy.specs.Plans.{AreDistinct, EncodeRules, IsSound, Rules, RunRules, StepRules, asked_by_plan, names_of_paths};
 
 use crate::faults::Fault;
 use crate::jobs::{Command, Form};
@@ -201,215 +201,138 @@ fn files_of<'a>(alloc: Global, found: &ArgMatches<'a>) -> Result<Vec<&'a str>, F
     if files.is_empty() {
         return Err(Fault::Usage);
     }
-    if !has_distinct_names(files) {
+    if !has_distinct_names(alloc, files)? {
         return Err(Fault::OptionValue);
     }
     Ok(Vec::from_slice(alloc, files)?)
 }
 
+// How the request is given. The packet of `decode` is in hexadecimal digits.
+fn form_of(command: Command, found: &ArgMatches<'_>) -> Result<Form, Fault>
+    ensures decode { IfOk result (λ form. command ≡ Decode → form ≡ Hex) }
+    ensures fault { IfErr result IsWordFault }
+{
+    match (command, found.get_flag(HEX), found.get_flag(ACCOUNTING)) {
+        (Command::Decode, _, _) | (_, true, false) => Ok(Form::Hex),
+        (_, false, true) => Ok(Form::Accounting),
+        (_, false, false) => Ok(Form::Access),
+        (_, true, true) => Err(Fault::OptionValue),
+    }
+}
+
 // A number of decimal digits, 0 to 255.
-fn identifier_of(word: &str) -> Result<u8, Fault>
+fn identifier_in(word: &str) -> Result<u8, Fault>
     ensures fault { IfErr result IsWordFault }
 {
     if word.is_empty() || !word.as_bytes().iter().all(|octet| octet.is_ascii_digit()) {
         return Err(Fault::OptionValue);
     }
-    match word.parse::<u8>() {
-        Ok(identifier) => Ok(identifier),
-        Err(_) => Err(Fault::OptionValue),
+    word.parse::<u8>().map_err(|_| Fault::OptionValue)
+}
+
+// The packet's Identifier. A packet in hexadecimal digits has its own, and takes none.
+fn identifier_of(form: Form, found: &ArgMatches<'_>) -> Result<u8, Fault>
+    ensures hex { IfOk result (λ identifier. form ≡ Hex → identifier ≡ 0) }
+    ensures fault { IfErr result IsWordFault }
+{
+    match (form, found.get_str(IDENTIFIER)) {
+        (_, None) => Ok(0),
+        (Form::Hex, Some(_)) => Err(Fault::OptionValue),
+        (Form::Access | Form::Accounting, Some(word)) => identifier_in(word),
     }
 }
 
 // The octets of 32 hexadecimal digits.
-fn authenticator_of(word: &str) -> Result<[u8; 16], Fault>
+fn authenticator_in(word: &str) -> Result<[u8; 16], Fault>
     ensures fault { IfErr result IsWordFault }
 {
     let mut authenticator = [0; 16];
-    match hex::decode_to_slice(word, &mut authenticator) {
-        Ok(()) => Ok(authenticator),
-        Err(_) => Err(Fault::OptionValue),
-    }
+    hex::decode_to_slice(word, &mut authenticator).map_err(|_| Fault::OptionValue)?;
+    Ok(authenticator)
 }
 
-// What the options say of the packet.
-#[derive(Clone, Copy, Drop)]
-struct PacketOptions<'a> {
-    form: Form,
-    identifier: Option<u8>,
-    authenticator: Option<[u8; 16]>,
-    secret: Option<&'a str>,
-}
-
-fn form_of(hex: bool, accounting: bool) -> Result<Form, Fault>
+fn authenticator_of(found: &ArgMatches<'_>) -> Result<Option<[u8; 16]>, Fault>
     ensures fault { IfErr result IsWordFault }
 {
-    match (hex, accounting) {
-        (true, true) => Err(Fault::OptionValue),
-        (true, false) => Ok(Form::Hex),
-        (false, true) => Ok(Form::Accounting),
-        (false, false) => Ok(Form::Access),
+    match found.get_str(AUTHENTICATOR) {
+        Some(word) => Ok(Some(authenticator_in(word)?)),
+        None => Ok(None),
     }
 }
 
-fn packet_options<'a>(found: &ArgMatches<'a>) -> Result<PacketOptions<'a>, Fault>
-    ensures fault { IfErr result IsWordFault }
+// Whether what is asked of `run` goes together.
+fn keeps_run_rules(plan: &Plan<'_>) -> bool
+    requires { plan.now.form ≡ Hex → plan.now.identifier ≡ 0 }
+    ensures { result ≡ true → RunRules (asked_by_plan plan.now).packet }
 {
-    let identifier = match found.get_str(IDENTIFIER) {
-        Some(word) => Some(identifier_of(word)?),
-        None => None,
-    };
-    let authenticator = match found.get_str(AUTHENTICATOR) {
-        Some(word) => Some(authenticator_of(word)?),
-        None => None,
-    };
-    Ok(PacketOptions {
-        form: form_of(found.get_flag(HEX), found.get_flag(ACCOUNTING))?,
-        identifier,
-        authenticator,
-        secret: found.get_str(SECRET),
-    })
-}
-
-// Whether the options of `run` go together.
-fn is_run(options: &PacketOptions<'_>) -> bool
-    ensures { result ≡ true → RunRules (asked_by_options options.now) }
-{
-    match options.form {
-        Form::Hex => {
-            options.secret.is_some()
-                && options.identifier.is_none()
-                && options.authenticator.is_none()
-        }
-        Form::Access => options.authenticator.is_some() == options.secret.is_some(),
-        Form::Accounting => options.authenticator.is_none(),
+    match plan.form {
+        Form::Hex => plan.secret.is_some() && plan.authenticator.is_none(),
+        Form::Access => plan.authenticator.is_some() == plan.secret.is_some(),
+        Form::Accounting => plan.authenticator.is_none(),
     }
 }
 
-// Whether the options of `step` go together.
-fn is_step(options: &PacketOptions<'_>) -> bool
-    ensures { result ≡ true → StepRules (asked_by_options options.now) }
+// Whether what is asked of `step` goes together.
+fn keeps_step_rules(plan: &Plan<'_>) -> bool
+    ensures { result ≡ true → StepRules (asked_by_plan plan.now).packet }
 {
-    match options.form {
-        Form::Hex => options.secret.is_some(),
-        Form::Access | Form::Accounting => options.secret.is_none(),
+    match plan.form {
+        Form::Hex => plan.secret.is_some(),
+        Form::Access | Form::Accounting => plan.secret.is_none(),
     }
 }
 
-// Whether the options of `encode` go together.
-fn is_encode(options: &PacketOptions<'_>) -> bool
-    ensures { result ≡ true → EncodeRules (asked_by_options options.now) }
+// Whether what is asked of `encode` goes together.
+fn keeps_encode_rules(plan: &Plan<'_>) -> bool
+    ensures { result ≡ true → EncodeRules (asked_by_plan plan.now).packet }
 {
-    match options.form {
+    match plan.form {
         Form::Hex => false,
-        Form::Access => options.secret.is_some() && options.authenticator.is_some(),
-        Form::Accounting => options.secret.is_some() && options.authenticator.is_none(),
+        Form::Access => plan.secret.is_some() && plan.authenticator.is_some(),
+        Form::Accounting => plan.secret.is_some() && plan.authenticator.is_none(),
     }
 }
 
-// The plan of the words of `run`. The parse has seen to it that there is a policy.
-fn run_plan<'a>(alloc: Global, found: &ArgMatches<'a>) -> Result<Plan<'a>, Fault>
-    ensures plan { IfOk result (λ plan. IsSound (asked_by_plan plan)) }
-    ensures fault { IfErr result IsWordFault }
+// Whether what is asked for goes together, by the command. The parse has seen to it that there is
+// what a command requires.
+fn keeps_rules(plan: &Plan<'_>) -> bool
+    requires identifier { plan.now.form ≡ Hex → plan.now.identifier ≡ 0 }
+    requires decode { plan.now.command ≡ Decode → plan.now.form ≡ Hex }
+    ensures { result ≡ true → Rules plan.now.command (asked_by_plan plan.now) }
 {
-    let policy = found.get_str(POLICY).ok_or(Fault::Usage)?;
-    let options = packet_options(found)?;
-    if !is_run(&options) {
-        return Err(Fault::OptionValue);
+    match plan.command {
+        Command::Run => plan.policy.is_some() && keeps_run_rules(plan),
+        Command::Step => {
+            plan.policy.is_some() && plan.script.is_some() && keeps_step_rules(plan)
+        }
+        Command::Encode => keeps_encode_rules(plan),
+        Command::Decode => plan.secret.is_some(),
+        Command::Check => true,
     }
-    Ok(Plan {
-        command: Command::Run,
-        form: options.form,
-        identifier: options.identifier.unwrap_or(0),
-        authenticator: options.authenticator,
-        dictionaries: files_of(alloc, found)?,
-        request: found.get_str(REQUEST),
-        policy: Some(policy),
-        secret: options.secret,
-        script: None,
-    })
 }
 
-// The plan of the words of `step`. The parse has seen to it that there are a policy and a script.
-fn step_plan<'a>(alloc: Global, found: &ArgMatches<'a>) -> Result<Plan<'a>, Fault>
+// The plan of a command's words. An option that the command does not have was not given.
+fn plan_of<'a>(alloc: Global, command: Command, found: &ArgMatches<'a>) -> Result<Plan<'a>, Fault>
     ensures plan { IfOk result (λ plan. IsSound (asked_by_plan plan)) }
     ensures fault { IfErr result IsWordFault }
 {
-    let policy = found.get_str(POLICY).ok_or(Fault::Usage)?;
-    let script = found.get_str(SCRIPT).ok_or(Fault::Usage)?;
-    let options = packet_options(found)?;
-    if !is_step(&options) {
-        return Err(Fault::OptionValue);
-    }
-    Ok(Plan {
-        command: Command::Step,
-        form: options.form,
-        identifier: options.identifier.unwrap_or(0),
-        authenticator: options.authenticator,
+    let form = form_of(command, found)?;
+    let plan = Plan {
+        command,
+        form,
+        identifier: identifier_of(form, found)?,
+        authenticator: authenticator_of(found)?,
         dictionaries: files_of(alloc, found)?,
         request: found.get_str(REQUEST),
-        policy: Some(policy),
-        secret: options.secret,
-        script: Some(script),
-    })
-}
-
-// The plan of the words of `encode`. The parse has seen to it that there is a secret.
-fn encode_plan<'a>(alloc: Global, found: &ArgMatches<'a>) -> Result<Plan<'a>, Fault>
-    ensures plan { IfOk result (λ plan. IsSound (asked_by_plan plan)) }
-    ensures fault { IfErr result IsWordFault }
-{
-    let options = packet_options(found)?;
-    if !is_encode(&options) {
-        return Err(Fault::OptionValue);
-    }
-    Ok(Plan {
-        command: Command::Encode,
-        form: options.form,
-        identifier: options.identifier.unwrap_or(0),
-        authenticator: options.authenticator,
-        dictionaries: files_of(alloc, found)?,
-        request: found.get_str(REQUEST),
-        policy: None,
-        secret: options.secret,
-        script: None,
-    })
-}
-
-// The plan of the words of `decode`. The parse has seen to it that there is a secret.
-fn decode_plan<'a>(alloc: Global, found: &ArgMatches<'a>) -> Result<Plan<'a>, Fault>
-    ensures plan { IfOk result (λ plan. IsSound (asked_by_plan plan)) }
-    ensures fault { IfErr result IsWordFault }
-{
-    let secret = found.get_str(SECRET).ok_or(Fault::Usage)?;
-    Ok(Plan {
-        command: Command::Decode,
-        form: Form::Hex,
-        identifier: 0,
-        authenticator: None,
-        dictionaries: files_of(alloc, found)?,
-        request: found.get_str(REQUEST),
-        policy: None,
-        secret: Some(secret),
-        script: None,
-    })
-}
-
-// The plan of the words of `check`.
-fn check_plan<'a>(alloc: Global, found: &ArgMatches<'a>) -> Result<Plan<'a>, Fault>
-    ensures plan { IfOk result (λ plan. IsSound (asked_by_plan plan)) }
-    ensures fault { IfErr result IsWordFault }
-{
-    Ok(Plan {
-        command: Command::Check,
-        form: Form::Access,
-        identifier: 0,
-        authenticator: None,
-        dictionaries: files_of(alloc, found)?,
-        request: None,
         policy: found.get_str(POLICY),
-        secret: None,
-        script: None,
-    })
+        secret: found.get_str(SECRET),
+        script: found.get_str(SCRIPT),
+    };
+    if keeps_rules(&plan) {
+        Ok(plan)
+    } else {
+        Err(Fault::OptionValue)
+    }
 }
 
 /// What the words of a command line ask for; the program's name is the first word. `Usage` is found
@@ -422,11 +345,11 @@ pub fn read_words<'a, S: AsStr>(alloc: Global, words: &'a [S]) -> Result<Plan<'a
         .try_get_matches_from(words)
         .map_err(|error| fault_of(&error))?;
     match matches.subcommand() {
-        Some((RUN, found)) => run_plan(alloc, found),
-        Some((STEP, found)) => step_plan(alloc, found),
-        Some((ENCODE, found)) => encode_plan(alloc, found),
-        Some((DECODE, found)) => decode_plan(alloc, found),
-        Some((CHECK, found)) => check_plan(alloc, found),
+        Some((RUN, found)) => plan_of(alloc, Command::Run, found),
+        Some((STEP, found)) => plan_of(alloc, Command::Step, found),
+        Some((ENCODE, found)) => plan_of(alloc, Command::Encode, found),
+        Some((DECODE, found)) => plan_of(alloc, Command::Decode, found),
+        Some((CHECK, found)) => plan_of(alloc, Command::Check, found),
         _ => Err(Fault::Usage),
     }
 }

@@ -13,7 +13,8 @@ use itoa::Buffer;
 
 // The octets of all parts, in order.
 fn put_parts<O: Output>(out: &mut O, parts: &[&[u8]]) -> Result<(), OutputError>
-    ensures takes { OnOk result (Appends (O.taken out.old) (O.taken out.new) (flat_map (λ part. part.now) parts.now)) }
+    ensures takes { OnOk result (Appends (O.taken out.old) (O.taken out.new) (flat_map (λ part.
+        part.now) parts.now)) }
     ensures stays { OnOk result (O.has_failed out.new ≡ O.has_failed out.old) }
     ensures fails { OnErr result (O.has_failed out.new ≡ true) }
 {
@@ -30,7 +31,8 @@ fn put_place_of<O: Output>(
     out: &mut O,
 ) -> Result<(), OutputError>
     requires { NamesFileOf files.now fault }
-    ensures takes { OnOk result (Appends (O.taken out.old) (O.taken out.new) (place_of files.now fault)) }
+    ensures takes { OnOk result
+        (Appends (O.taken out.old) (O.taken out.new) (place_of files.now fault)) }
     ensures stays { OnOk result (O.has_failed out.new ≡ O.has_failed out.old) }
     ensures fails { OnErr result (O.has_failed out.new ≡ true) }
 {
@@ -60,7 +62,8 @@ fn put_place_of<O: Output>(
 // Where a fault is, after a blank; want of memory is nowhere.
 fn put_place<O: Output>(fault: Fault, files: &[NamedFile], out: &mut O) -> Result<(), OutputError>
     requires { NamesFileOf files.now fault }
-    ensures takes { OnOk result (Appends (O.taken out.old) (O.taken out.new) (place_text files.now fault)) }
+    ensures takes { OnOk result
+        (Appends (O.taken out.old) (O.taken out.new) (place_text files.now fault)) }
     ensures stays { OnOk result (O.has_failed out.new ≡ O.has_failed out.old) }
     ensures fails { OnErr result (O.has_failed out.new ≡ true) }
 {
@@ -73,7 +76,8 @@ fn put_place<O: Output>(fault: Fault, files: &[NamedFile], out: &mut O) -> Resul
 // The line of a fault.
 fn put_line<O: Output>(fault: Fault, files: &[NamedFile], out: &mut O) -> Result<(), OutputError>
     requires { NamesFileOf files.now fault }
-    ensures takes { OnOk result (Appends (O.taken out.old) (O.taken out.new) (fault_line files.now fault)) }
+    ensures takes { OnOk result
+        (Appends (O.taken out.old) (O.taken out.new) (fault_line files.now fault)) }
     ensures stays { OnOk result (O.has_failed out.new ≡ O.has_failed out.old) }
     ensures fails { OnErr result (O.has_failed out.new ≡ true) }
 {
@@ -90,12 +94,10 @@ fn put_line<O: Output>(fault: Fault, files: &[NamedFile], out: &mut O) -> Result
 pub fn print_fault<O: Output>(fault: &Fault, files: &FileSet, out: &mut O) -> bool
     requires printed { IsPrintedWith files.now fault.now }
     requires works { O.has_failed out.old ≡ false }
-    ensures line { result ≡ true → Appends (O.taken out.old) (O.taken out.new) (fault_line files.now fault.now) }
+    ensures line { result ≡ true
+        → Appends (O.taken out.old) (O.taken out.new) (fault_line files.now fault.now) }
     ensures stays { result ≡ true → O.has_failed out.new ≡ false }
     ensures fails { result ≡ false → O.has_failed out.new ≡ true }
 {
-    match put_line(*fault, files.as_slice(), out) {
-        Ok(()) => true,
-        Err(_) => false,
-    }
+    put_line(*fault, files.as_slice(), out).is_ok()
 }

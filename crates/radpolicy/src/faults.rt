@@ -2,12 +2,13 @@
 
 ghost use Rattle.std.specs.Prelude.{◌≡◌};
 ghost use Rattle.radpolicy.specs.declared.faults.Fault.TheVariants.{Memory};
-ghost use Rattle.radpolicy.specs.Faults.{dict_fault_number, dict_fault_text, fault_number, fault_of_dict, fault_of_encode, fault_of_line, fault_of_packet, fault_of_policy, fault_text, is_memory, line_fault_number, line_fault_text, packet_fault_number, packet_fault_text, policy_fault_number, policy_fault_text, status_of};
+ghost use Rattle.radpolicy.specs.Faults.{dict_fault_row, fault_number, fault_of_dict, fault_of_encode, fault_of_line, fault_of_packet, fault_of_policy, fault_row, fault_text, is_memory, line_fault_row, out_of_memory, packet_fault_row, policy_fault_row, row, status_of};
 
 use avp_dict::{DictFault, DictKind, LineFault, LineKind};
 use avp_packet::{EncodeFault, PacketFault};
 use avp_unlang::{PolicyFault, PolicyKind};
 use std::alloc::{AllocError, AllocFailed};
+use std::marker::Model;
 use thiserror::Error;
 
 /// Why a job was refused. `Help` asks for the help and is no refusal.
@@ -101,197 +102,145 @@ impl<T: Drop> From<AllocFailed<T>> for Fault {
     }
 }
 
-// The number of want of memory, in whatever part of a job.
-const MEMORY: u8 = 9;
+// What the line of a fault shows of its kind: a number, after the letter E, and a text.
+#[derive(Drop)]
+struct FaultRow {
+    number: u8,
+    text: &'static str,
+}
 
-// The number of a dictionary's fault.
-fn dict_fault_number(kind: DictKind) -> u8
-    ensures { result ≡ dict_fault_number kind }
+impl Model for FaultRow {
+    ghost use Rattle.radpolicy.specs.Faults.{FaultRow as Row};
+
+    ghost Value = { Row };
+
+    ghost view = { λ s. record { number = s.number; text = s.text.now } };
+}
+
+fn row(number: u8, text: &'static str) -> FaultRow
+    ensures { result ≡ row number text.now }
+{
+    FaultRow { number, text }
+}
+
+// Want of memory, in whatever part of a job.
+fn out_of_memory() -> FaultRow
+    ensures { result ≡ out_of_memory }
+{
+    row(9, "out of memory")
+}
+
+// The faults of dictionaries.
+fn dict_fault_row(kind: DictKind) -> FaultRow
+    ensures { result ≡ dict_fault_row kind }
 {
     match kind {
-        DictKind::Unreadable => 10,
-        DictKind::OutOfRange => 11,
-        DictKind::OtherNumber => 12,
-        DictKind::UnknownVendor => 13,
-        DictKind::Unmatched => 14,
-        DictKind::NoFile => 15,
-        DictKind::TooDeep => 16,
-        DictKind::TooLong => 17,
-        DictKind::NoAttribute => 18,
-        DictKind::OtherValue => 19,
-        DictKind::Memory => MEMORY,
+        DictKind::Unreadable => row(10, "unreadable line"),
+        DictKind::OutOfRange => row(11, "number out of range"),
+        DictKind::OtherNumber => row(12, "name has another number"),
+        DictKind::UnknownVendor => row(13, "unknown vendor"),
+        DictKind::Unmatched => row(14, "BEGIN and END differ"),
+        DictKind::NoFile => row(15, "file not handed in"),
+        DictKind::TooDeep => row(16, "includes too deep"),
+        DictKind::TooLong => row(17, "too many lines"),
+        DictKind::NoAttribute => row(18, "VALUE of no ATTRIBUTE"),
+        DictKind::OtherValue => row(19, "VALUE has another number"),
+        DictKind::Memory => out_of_memory(),
     }
 }
 
-// What the line of a dictionary's fault says.
-fn dict_fault_text(kind: DictKind) -> &'static str
-    ensures { result.now ≡ dict_fault_text kind }
+// The faults of request lines.
+fn line_fault_row(kind: LineKind) -> FaultRow
+    ensures { result ≡ line_fault_row kind }
 {
     match kind {
-        DictKind::Unreadable => "unreadable line",
-        DictKind::OutOfRange => "number out of range",
-        DictKind::OtherNumber => "name has another number",
-        DictKind::UnknownVendor => "unknown vendor",
-        DictKind::Unmatched => "BEGIN and END differ",
-        DictKind::NoFile => "file not handed in",
-        DictKind::TooDeep => "includes too deep",
-        DictKind::TooLong => "too many lines",
-        DictKind::NoAttribute => "VALUE of no ATTRIBUTE",
-        DictKind::OtherValue => "VALUE has another number",
-        DictKind::Memory => "out of memory",
+        LineKind::NotValue => row(30, "not a value"),
+        LineKind::TooLong => row(31, "too long"),
+        LineKind::Unknown => row(32, "unknown attribute"),
+        LineKind::NotWritable => row(33, "not writable"),
+        LineKind::SecondPacket => row(34, "second packet"),
+        LineKind::TooMany => row(35, "too many pairs"),
+        LineKind::Unreadable => row(36, "unreadable line"),
+        LineKind::Memory => out_of_memory(),
     }
 }
 
-// The number of a request line's fault.
-fn line_fault_number(kind: LineKind) -> u8
-    ensures { result ≡ line_fault_number kind }
-{
-    match kind {
-        LineKind::NotValue => 30,
-        LineKind::TooLong => 31,
-        LineKind::Unknown => 32,
-        LineKind::NotWritable => 33,
-        LineKind::SecondPacket => 34,
-        LineKind::TooMany => 35,
-        LineKind::Unreadable => 36,
-        LineKind::Memory => MEMORY,
-    }
-}
-
-// What the line of a request line's fault says.
-fn line_fault_text(kind: LineKind) -> &'static str
-    ensures { result.now ≡ line_fault_text kind }
-{
-    match kind {
-        LineKind::NotValue => "not a value",
-        LineKind::TooLong => "too long",
-        LineKind::Unknown => "unknown attribute",
-        LineKind::NotWritable => "not writable",
-        LineKind::SecondPacket => "second packet",
-        LineKind::TooMany => "too many pairs",
-        LineKind::Unreadable => "unreadable line",
-        LineKind::Memory => "out of memory",
-    }
-}
-
-// The number of a packet's fault.
-fn packet_fault_number(fault: PacketFault) -> u8
-    ensures { result ≡ packet_fault_number fault }
+// The faults of packets.
+fn packet_fault_row(fault: PacketFault) -> FaultRow
+    ensures { result ≡ packet_fault_row fault }
 {
     match fault {
-        PacketFault::TooShort => 40,
-        PacketFault::LengthOutOfRange => 41,
-        PacketFault::CutShort => 42,
-        PacketFault::BadAttribute(_) => 43,
-        PacketFault::CodeNotTaken => 44,
-        PacketFault::WrongAuthenticator => 45,
-        PacketFault::WrongMessageAuthenticator => 47,
-        PacketFault::Memory => MEMORY,
+        PacketFault::TooShort => row(40, "fewer than 20 octets"),
+        PacketFault::LengthOutOfRange => row(41, "bad packet length"),
+        PacketFault::CutShort => row(42, "packet cut short"),
+        PacketFault::BadAttribute(_) => row(43, "bad attribute length"),
+        PacketFault::CodeNotTaken => row(44, "code not taken"),
+        PacketFault::WrongAuthenticator => row(45, "wrong authenticator"),
+        PacketFault::WrongMessageAuthenticator => row(47, "wrong Message-Authenticator"),
+        PacketFault::Memory => out_of_memory(),
     }
 }
 
-// What the line of a packet's fault says.
-fn packet_fault_text(fault: PacketFault) -> &'static str
-    ensures { result.now ≡ packet_fault_text fault }
-{
-    match fault {
-        PacketFault::TooShort => "fewer than 20 octets",
-        PacketFault::LengthOutOfRange => "bad packet length",
-        PacketFault::CutShort => "packet cut short",
-        PacketFault::BadAttribute(_) => "bad attribute length",
-        PacketFault::CodeNotTaken => "code not taken",
-        PacketFault::WrongAuthenticator => "wrong authenticator",
-        PacketFault::WrongMessageAuthenticator => "wrong Message-Authenticator",
-        PacketFault::Memory => "out of memory",
-    }
-}
-
-// The number of a policy's fault.
-fn policy_fault_number(kind: PolicyKind) -> u8
-    ensures { result ≡ policy_fault_number kind }
+// The faults of policies.
+fn policy_fault_row(kind: PolicyKind) -> FaultRow
+    ensures { result ≡ policy_fault_row kind }
 {
     match kind {
-        PolicyKind::NotValue => 30,
-        PolicyKind::TooLong => 31,
-        PolicyKind::Unknown => 32,
-        PolicyKind::NotWritable => 33,
-        PolicyKind::Unreadable => 50,
-        PolicyKind::Misplaced => 51,
-        PolicyKind::TooDeep => 53,
-        PolicyKind::TooLarge => 54,
-        PolicyKind::OtherType => 55,
-        PolicyKind::Memory => MEMORY,
-    }
-}
-
-// What the line of a policy's fault says.
-fn policy_fault_text(kind: PolicyKind) -> &'static str
-    ensures { result.now ≡ policy_fault_text kind }
-{
-    match kind {
-        PolicyKind::NotValue => "not a value",
-        PolicyKind::TooLong => "too long",
-        PolicyKind::Unknown => "unknown attribute",
-        PolicyKind::NotWritable => "not writable",
-        PolicyKind::Unreadable => "unreadable token",
-        PolicyKind::Misplaced => "token does not fit",
-        PolicyKind::TooDeep => "nested too deep",
-        PolicyKind::TooLarge => "policy too large",
-        PolicyKind::OtherType => "types differ",
-        PolicyKind::Memory => "out of memory",
+        PolicyKind::NotValue => row(30, "not a value"),
+        PolicyKind::TooLong => row(31, "too long"),
+        PolicyKind::Unknown => row(32, "unknown attribute"),
+        PolicyKind::NotWritable => row(33, "not writable"),
+        PolicyKind::Unreadable => row(50, "unreadable token"),
+        PolicyKind::Misplaced => row(51, "token does not fit"),
+        PolicyKind::TooDeep => row(53, "nested too deep"),
+        PolicyKind::TooLarge => row(54, "policy too large"),
+        PolicyKind::OtherType => row(55, "types differ"),
+        PolicyKind::Memory => out_of_memory(),
     }
 }
 
 impl Fault {
+    // All faults. The number of the help is not shown.
+    fn row(self) -> FaultRow
+        ensures { result ≡ fault_row self }
+    {
+        match self {
+            Fault::Help => row(0, "help"),
+            Fault::Usage => row(1, "usage"),
+            Fault::OptionValue => row(2, "option value"),
+            Fault::EmptySecret => row(3, "empty secret"),
+            Fault::FileNotReadable => row(4, "file not readable"),
+            Fault::NotHex => row(5, "not hex"),
+            Fault::ScriptWord { .. } => row(6, "unknown script word"),
+            Fault::Write => row(7, "write fault"),
+            Fault::Memory => out_of_memory(),
+            Fault::Dictionary(fault) => dict_fault_row(fault.kind),
+            Fault::Request(fault) => line_fault_row(fault.kind),
+            Fault::Packet(fault) => packet_fault_row(fault),
+            Fault::PacketTooLong => row(46, "packet too long"),
+            Fault::Policy(fault) => policy_fault_row(fault.kind),
+        }
+    }
+
     // The number that its line shows after the letter E; 0 for the help.
     pub(crate) fn number(self) -> u8
         ensures { result ≡ fault_number self }
     {
-        match self {
-            Fault::Help => 0,
-            Fault::Usage => 1,
-            Fault::OptionValue => 2,
-            Fault::EmptySecret => 3,
-            Fault::FileNotReadable => 4,
-            Fault::NotHex => 5,
-            Fault::ScriptWord { .. } => 6,
-            Fault::Write => 7,
-            Fault::Memory => MEMORY,
-            Fault::Dictionary(fault) => dict_fault_number(fault.kind),
-            Fault::Request(fault) => line_fault_number(fault.kind),
-            Fault::Packet(fault) => packet_fault_number(fault),
-            Fault::PacketTooLong => 46,
-            Fault::Policy(fault) => policy_fault_number(fault.kind),
-        }
+        self.row().number
     }
 
     // What its line says.
     pub(crate) fn text(self) -> &'static str
         ensures { result.now ≡ fault_text self }
     {
-        match self {
-            Fault::Help => "help",
-            Fault::Usage => "usage",
-            Fault::OptionValue => "option value",
-            Fault::EmptySecret => "empty secret",
-            Fault::FileNotReadable => "file not readable",
-            Fault::NotHex => "not hex",
-            Fault::ScriptWord { .. } => "unknown script word",
-            Fault::Write => "write fault",
-            Fault::Memory => "out of memory",
-            Fault::Dictionary(fault) => dict_fault_text(fault.kind),
-            Fault::Request(fault) => line_fault_text(fault.kind),
-            Fault::Packet(fault) => packet_fault_text(fault),
-            Fault::PacketTooLong => "packet too long",
-            Fault::Policy(fault) => policy_fault_text(fault.kind),
-        }
+        self.row().text
     }
 
     // Whether it is want of memory, in whatever part of the job.
     pub(crate) fn is_memory(self) -> bool
         ensures { result ≡ is_memory self }
     {
-        self.number() == MEMORY
+        self.number() == out_of_memory().number
     }
 }
 

@@ -12,7 +12,8 @@ pub const MAX_INPUT_OCTETS: usize = 16_777_216;
 
 /// All that a reader has left, or `None` where that is more than an input file may have.
 pub fn read_input<R: Read + Drop>(alloc: Global, reader: R) -> io::Result<Option<Octets>>
-    ensures within { IfOk result (λ input. IfSome input (λ octets. length octets ≤ MAX_INPUT_OCTETS)) }
+    ensures within { IfOk result (λ input.
+        IfSome input (λ octets. length octets ≤ MAX_INPUT_OCTETS)) }
     // Where the reader's octets can be known, these are all of them, or they are too many.
     ensures all { IfOk result (λ input. IfSome (R.remaining reader) (λ octets.
         MatchOption input (MAX_INPUT_OCTETS < length octets) (λ read. read ≡ octets))) }

@@ -25,7 +25,8 @@ pub trait Output {
     fn put(&mut self, octets: &[u8]) -> Result<usize, OutputError>
         requires { 0 < length octets.now }
         ensures some { IfOk result (λ n. (0 < n) × (n ≤ length octets.now)) }
-        ensures takes { IfOk result (λ n. Appends (taken self.old) (taken self.new) (take n octets.now)) }
+        ensures takes { IfOk result (λ n.
+            Appends (taken self.old) (taken self.new) (take n octets.now)) }
         ensures stays { OnOk result (has_failed self.new ≡ has_failed self.old) }
         ensures none { OnErr result (Keeps (taken self.old) (taken self.new)) }
         ensures fails { OnErr result (has_failed self.new ≡ true) };

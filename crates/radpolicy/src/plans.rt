@@ -1,10 +1,11 @@
 //! What a command line asks for.
 
-ghost use Rattle.std.specs.Prelude.{◌≡◌, ◌≢◌, true, false, All};
+ghost use Rattle.std.specs.Prelude.{◌≡◌, ◌≢◌, true, false, All, IfOk, map};
 ghost use Rattle.radpolicy.specs.Plans.{AreDistinct, names_of_paths};
 
 use crate::jobs::{Command, Form};
 use avp_dict::last_component;
+use std::alloc::{AllocError, Global};
 
 /// What the words of a command line ask for. Files are named by their paths, as they were given.
 #[derive(Debug, Drop)]
@@ -23,26 +24,45 @@ pub struct Plan<'a> {
     pub script: Option<&'a str>,
 }
 
-// Whether one of the paths ends in this name.
-fn has_name(paths: &[&str], name: &[u8]) -> bool
-    ensures { result ≡ false → All (λ taken. taken ≢ name.now) (names_of_paths paths.now) }
+// The names of the files at these paths.
+fn names_of_paths<'a>(alloc: Global, paths: &[&'a str]) -> Result<Vec<&'a [u8]>, AllocError>
+    ensures { IfOk result (λ names. map (λ name. name.now) names.items ≡ names_of_paths paths.now) }
 {
+    let mut names = Vec::new(alloc);
     for path in paths {
-        if last_component(path.as_bytes()) == name {
+        names.push(last_component(path.as_bytes()))?;
+    }
+    Ok(names)
+}
+
+// Whether one of the names is this one.
+fn has_name(names: &[&[u8]], name: &[u8]) -> bool
+    ensures { result ≡ false
+        → All (λ taken. taken ≢ name.now) (map (λ taken. taken.now) names.now) }
+{
+    for taken in names {
+        if *taken == name {
             return true;
         }
     }
     false
 }
 
-/// Whether no two paths end in one name.
-pub(crate) fn has_distinct_names(paths: &[&str]) -> bool
-    ensures { result ≡ true → AreDistinct (names_of_paths paths.now) }
+// Whether no two names are the same.
+fn are_distinct(names: &[&[u8]]) -> bool
+    ensures { result ≡ true → AreDistinct (map (λ name. name.now) names.now) }
 {
-    for (i, path) in paths.iter().enumerate() {
-        if has_name(&paths[..i], last_component(path.as_bytes())) {
+    for (i, name) in names.iter().enumerate() {
+        if has_name(&names[..i], name) {
             return false;
         }
     }
     true
+}
+
+/// Whether no two paths end in one name.
+pub(crate) fn has_distinct_names(alloc: Global, paths: &[&str]) -> Result<bool, AllocError>
+    ensures { IfOk result (λ distinct. distinct ≡ true → AreDistinct (names_of_paths paths.now)) }
+{
+    Ok(are_distinct(&names_of_paths(alloc, paths)?))
 }

@@ -5,7 +5,8 @@ ghost use Rattle.std.specs.Option.{option_map};
 ghost use Rattle.avp_lists.specs.Instances.{has_instance, instances};
 ghost use Rattle.avp_lists.specs.declared.pairs.AttrId.TheVariants.{Plain};
 ghost use Rattle.radpolicy.specs.Fitting.{AllFit};
-ghost use Rattle.avp_packet.specs.Packets.{IsReplyCode, IsRequestCode, authenticator_of};
+ghost use Rattle.avp_dict.specs.AttributeNumbers.{proxy_state};
+ghost use Rattle.avp_packet.specs.Packets.{IsReplyCode, IsRequestCode, accounting_request, accounting_response, authenticator_of};
 ghost use Rattle.avp_packet.specs.Sending.{message_authenticator_id};
 ghost use Rattle.radpolicy.specs.Replies.{answer_of, answered_authenticator, proxy_states, reply_code, reply_pairs, request_packet, signs_reply};
 ghost use Rattle.radpolicy.specs.internal.ReplyHeads.{AnswerIsRead, IsAnswer, IsHeadOf, IsUsable, answered_by};
@@ -43,7 +44,7 @@ pub(crate) struct ReplyHead<'a> {
 
 // The Proxy-States among pairs, in order.
 fn proxy_states_of(alloc: Global, pairs: &[Pair]) -> Result<Vec<Pair>, AllocError>
-    ensures { IfOk result (λ found. found.items ≡ instances (Plain 33) pairs.now) }
+    ensures { IfOk result (λ found. found.items ≡ instances (Plain proxy_state) pairs.now) }
 {
     let mut found = Vec::new(alloc);
     for pair in pairs {
@@ -66,7 +67,7 @@ fn has_message_authenticator(pairs: &[Pair]) -> bool
 // Whether the reply to a request is signed.
 fn signs_reply(request: &Packet) -> bool
     ensures test { result ≡ signs_reply request.now }
-    ensures accounting { request.now.code ≡ 4 → result ≡ false }
+    ensures accounting { request.now.code ≡ accounting_request → result ≡ false }
 {
     request.code == ACCESS_REQUEST && has_message_authenticator(request.list.as_slice())
 }
@@ -82,7 +83,8 @@ fn made_authenticator(
     requires secret { 0 < length secret.now }
     requires code { IsRequestCode request.now.code }
     requires fit { AllFit dictionary.now request.now.list }
-    ensures { IfOk result (λ authenticator. authenticator ≡ option_map authenticator_of (request_packet dictionary.now secret.now request.now)) }
+    ensures { IfOk result (λ authenticator. authenticator
+        ≡ option_map authenticator_of (request_packet dictionary.now secret.now request.now)) }
 {
     let made = encoded_authenticator(
         alloc,
@@ -111,7 +113,8 @@ fn answered_authenticator(
     requires secret { 0 < length secret.now }
     requires code { IsRequestCode request.now.code }
     requires fit { AllFit dictionary.now request.now.list }
-    ensures { IfOk result (λ authenticator. authenticator ≡ answered_authenticator form dictionary.now secret.now request.now) }
+    ensures { IfOk result (λ authenticator. authenticator
+        ≡ answered_authenticator form dictionary.now secret.now request.now) }
 {
     match form {
         Form::Accounting => made_authenticator(alloc, dictionary, secret, request),
@@ -132,7 +135,9 @@ pub(crate) fn reply_head<'a>(
     requires fit { AllFit dictionary.now request.now.list }
     requires proxies { is_clean (proxy_states request.now) dictionary.now ≡ true }
     ensures made { IfOk result (λ head. IsHeadOf form dictionary.now secret.now request.now head) }
-    ensures head { IfOk result (λ head. (end : End) → answered_by dictionary.now head end.code end.state.reply ≡ answer_of form dictionary.now secret.now request.now end) }
+    ensures head { IfOk result (λ head. (end : End)
+        → answered_by dictionary.now head end.code end.state.reply
+        ≡ answer_of form dictionary.now secret.now request.now end) }
     ensures usable { IfOk result (λ head. IsUsable dictionary.now head) }
 {
     Ok(ReplyHead {
@@ -149,7 +154,8 @@ pub(crate) fn reply_head<'a>(
 fn reply_code(request_code: u8, last: Code) -> Option<u8>
     ensures code { result ≡ reply_code request_code last }
     ensures reply { IfSome result IsReplyCode }
-    ensures accounting { IfSome result (λ code. code ≡ 5 → request_code ≡ 4) }
+    ensures accounting { IfSome result (λ code. code ≡ accounting_response → request_code
+        ≡ accounting_request) }
 {
     match (request_code, last) {
         (ACCOUNTING_REQUEST, Code::Fail | Code::Reject) => None,

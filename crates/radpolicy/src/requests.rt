@@ -44,7 +44,8 @@ fn without_spaces(alloc: Global, text: &[u8]) -> Result<Vec<u8>, AllocError>
 #[tactic(auto, unfolding(crate::specs::Received::hex_octets))]
 fn hex_octets(alloc: Global, text: &[u8]) -> Result<Option<Vec<u8>>, AllocError>
     ensures none { result ≡ Ok None → hex_octets text.now ≡ None }
-    ensures some { IfOk result (λ octets. IfSome octets (λ os. hex_octets text.now ≡ Some os.items)) }
+    ensures some { IfOk result (λ octets.
+        IfSome octets (λ os. hex_octets text.now ≡ Some os.items)) }
 {
     let digits = without_spaces(alloc, text)?;
     match hex::decode(alloc, digits) {
@@ -62,21 +63,21 @@ fn packet_of_hex(
     job: &Job,
 ) -> Result<Packet, Fault>
     requires secret { 0 < length secret.now }
-    ensures ok { IfOk result (λ packet. packet_for dictionary.now secret.now (hex_octets job.now.request) ≡ Ok packet) }
+    ensures ok { IfOk result (λ packet.
+        packet_for dictionary.now secret.now (hex_octets job.now.request) ≡ Ok packet) }
     ensures code { IfOk result (λ packet. IsRequestCode packet.code) }
     ensures few { IfOk result (λ packet. length packet.list ≤ max_pairs) }
     ensures fit { IfOk result (λ packet. AllFit dictionary.now packet.list) }
     ensures proxies { IfOk result (λ packet. is_clean (proxy_states packet) dictionary.now ≡ true) }
-    ensures refused { IfErr result (λ f. (f ≡ fault.Memory) ⊎ IsUnreadRequest f (packet_for dictionary.now secret.now (hex_octets job.now.request))) }
-    ensures printed { IfErr result (λ f. IsPrintedWith job.now.files f) }
+    ensures refused { IfErr result (λ f. (f ≡ fault.Memory)
+        ⊎ IsUnreadRequest f (packet_for dictionary.now secret.now (hex_octets job.now.request))) }
+    ensures printed { IfErr result (IsPrintedWith job.now.files) }
 {
     let Some(octets) = hex_octets(alloc, job.request.as_slice())? else {
         return Err(Fault::NotHex);
     };
-    match decode(alloc, dictionary, secret, &octets) {
-        Ok(packet) => Ok(packet),
-        Err(fault) => Err(Fault::from(fault)),
-    }
+    let packet = decode(alloc, dictionary, secret, &octets)?;
+    Ok(packet)
 }
 
 // The lines of a request, as the list of a packet of this code.
@@ -86,23 +87,23 @@ fn packet_of_lines(
     code: u8,
     job: &Job,
 ) -> Result<Packet, Fault>
-    ensures ok { IfOk result (λ packet. lines_for code job.now (request_spelled job.now.request dictionary.now) ≡ Ok packet) }
+    ensures ok { IfOk result (λ packet.
+        lines_for code job.now (request_spelled job.now.request dictionary.now) ≡ Ok packet) }
     ensures code { IfOk result (λ packet. packet.code ≡ code) }
     ensures few { IfOk result (λ packet. length packet.list ≤ max_pairs) }
     ensures fit { IfOk result (λ packet. AllFit dictionary.now packet.list) }
     ensures proxies { IfOk result (λ packet. is_clean (proxy_states packet) dictionary.now ≡ true) }
-    ensures refused { IfErr result (λ f. (f ≡ fault.Memory) ⊎ IsUnreadRequest f (lines_for code job.now (request_spelled job.now.request dictionary.now))) }
-    ensures printed { IfErr result (λ f. IsPrintedWith job.now.files f) }
+    ensures refused { IfErr result (λ f. (f ≡ fault.Memory)
+        ⊎ IsUnreadRequest f (lines_for code job.now (request_spelled job.now.request dictionary.now))) }
+    ensures printed { IfErr result (IsPrintedWith job.now.files) }
 {
-    match dictionary.read_request(alloc, job.request.as_slice()) {
-        Ok(pairs) => Ok(Packet {
-            code,
-            id: job.identifier,
-            authenticator: job.authenticator.unwrap_or([0; 16]),
-            list: Pairs::from_vec(pairs),
-        }),
-        Err(fault) => Err(Fault::from(fault)),
-    }
+    let pairs = dictionary.read_request(alloc, job.request.as_slice())?;
+    Ok(Packet {
+        code,
+        id: job.identifier,
+        authenticator: job.authenticator.unwrap_or([0; 16]),
+        list: Pairs::from_vec(pairs),
+    })
 }
 
 /// The request of a job, by its form. A request in hexadecimal digits wants a secret.
@@ -114,13 +115,15 @@ pub(crate) fn request_for(
 ) -> Result<Packet, Fault>
     requires secret { IfSome secret (λ octets. 0 < length octets.now) }
     requires hex { job.now.form ≡ InHex → secret ≢ None }
-    ensures ok { IfOk result (λ packet. request_for dictionary.now (option_copied secret.entry) job.now ≡ Ok packet) }
+    ensures ok { IfOk result (λ packet.
+        request_for dictionary.now (option_copied secret.entry) job.now ≡ Ok packet) }
     ensures code { IfOk result (λ packet. IsRequestCode packet.code) }
     ensures few { IfOk result (λ packet. length packet.list ≤ max_pairs) }
     ensures fit { IfOk result (λ packet. AllFit dictionary.now packet.list) }
     ensures proxies { IfOk result (λ packet. is_clean (proxy_states packet) dictionary.now ≡ true) }
-    ensures refused { IfErr result (λ f. (f ≡ fault.Memory) ⊎ IsUnreadRequest f (request_for dictionary.now (option_copied secret.entry) job.now)) }
-    ensures printed { IfErr result (λ f. IsPrintedWith job.now.files f) }
+    ensures refused { IfErr result (λ f. (f ≡ fault.Memory)
+        ⊎ IsUnreadRequest f (request_for dictionary.now (option_copied secret.entry) job.now)) }
+    ensures printed { IfErr result (IsPrintedWith job.now.files) }
 {
     match (job.form, secret) {
         (Form::Hex, Some(secret)) => packet_of_hex(alloc, dictionary, secret, job),

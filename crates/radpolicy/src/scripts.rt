@@ -42,7 +42,8 @@ fn word_named(word: &[u8]) -> Option<ScriptWord>
 #[tactic(auto, using(crate::proofs::ScriptWords::none_read, crate::proofs::ScriptWords::next_word, crate::proofs::ScriptWords::next_unknown, crate::proofs::ScriptWords::no_more_words))]
 fn words_named(alloc: Global, texts: &[&[u8]]) -> Result<Option<Vec<ScriptWord>>, AllocError>
     ensures none { result ≡ Ok None → words_named (map (λ text. text.now) texts.now) ≡ None }
-    ensures some { IfOk result (λ found. IfSome found (λ words. words_named (map (λ text. text.now) texts.now) ≡ Some words.items)) }
+    ensures some { IfOk result (λ found.
+        IfSome found (λ words. words_named (map (λ text. text.now) texts.now) ≡ Some words.items)) }
 {
     let mut words = Vec::new(alloc);
     for text in texts {
@@ -57,7 +58,8 @@ fn words_named(alloc: Global, texts: &[&[u8]]) -> Result<Option<Vec<ScriptWord>>
 // What the words of a line stand for; none where one is unknown.
 fn words_of_line(alloc: Global, line: &[u8]) -> Result<Option<Vec<ScriptWord>>, AllocError>
     ensures none { result ≡ Ok None → words_named (line_words line.now) ≡ None }
-    ensures some { IfOk result (λ found. IfSome found (λ words. words_named (line_words line.now) ≡ Some words.items)) }
+    ensures some { IfOk result (λ found.
+        IfSome found (λ words. words_named (line_words line.now) ≡ Some words.items)) }
 {
     let texts = words_between_blanks(alloc, line)?;
     words_named(alloc, &texts)
@@ -67,7 +69,8 @@ fn words_of_line(alloc: Global, line: &[u8]) -> Result<Option<Vec<ScriptWord>>, 
 #[tactic(auto, using(crate::proofs::ScriptWords::none_before, crate::proofs::ScriptWords::one_line, crate::proofs::ScriptWords::unknown_line, crate::proofs::ScriptWords::no_line))]
 pub(crate) fn read_script(alloc: Global, text: &[u8]) -> Result<Vec<ScriptWord>, Fault>
     ensures read { IfOk result (λ script. script_spelled text.now ≡ Ok script.items) }
-    ensures refused { IfErr result (λ f. (f ≡ fault.Memory) ⊎ IsUnknownWord f (script_spelled text.now)) }
+    ensures refused { IfErr result (λ f. (f ≡ fault.Memory)
+        ⊎ IsUnknownWord f (script_spelled text.now)) }
 {
     let mut script = Vec::new(alloc);
     let mut number = 0;

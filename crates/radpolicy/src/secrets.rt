@@ -2,7 +2,8 @@
 
 ghost use Rattle.std.specs.Prelude.{◌≡◌, ◌<◌, [], length, MatchOption};
 ghost use Rattle.std.specs.List.{before_first, position};
-ghost use Rattle.radpolicy.specs.Secrets.{is_line_end, secret_in, without_last_controls};
+ghost use Rattle.avp_dict.specs.Lines.{is_line_end};
+ghost use Rattle.radpolicy.specs.Secrets.{secret_in, without_last_controls};
 
 // Octets without the controls at their end.
 #[tactic(auto, using(crate::proofs::Controls::kept_at_end, crate::proofs::Controls::dropped_at_end, crate::proofs::Controls::none_at_end))]
@@ -40,7 +41,8 @@ fn first_line(text: &[u8]) -> &[u8]
 /// The secret in a file's octets: its first line without the octets below 0x20 at its end. `None` where that has no
 /// octets.
 pub(crate) fn secret_in(file: &[u8]) -> Option<&[u8]>
-    ensures { MatchOption result (secret_in file.now ≡ []) (λ secret. (secret.now ≡ secret_in file.now) × (0 < length secret.now)) }
+    ensures { MatchOption result (secret_in file.now ≡ []) (λ secret.
+        (secret.now ≡ secret_in file.now) × (0 < length secret.now)) }
 {
     let secret = without_last_controls(first_line(file));
     if secret.is_empty() {

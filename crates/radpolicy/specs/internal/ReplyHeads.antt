@@ -6,13 +6,14 @@ use Rattle.avp_lists.specs.declared.pairs.AttrId.TheVariants.{Plain}
 use Rattle.avp_lists.specs.declared.pairs.Pair.{Pair}
 use Rattle.radpolicy.specs.Fitting.{AllFit}
 use Rattle.radpolicy.specs.Reports.{answer_line}
+use Rattle.avp_dict.specs.AttributeNumbers.{proxy_state}
 use Rattle.avp_dict.specs.Dictionary.{Dictionary}
 use Rattle.avp_packet.specs.declared.faults.EncodeFault.{EncodeFault}
 use Rattle.avp_packet.specs.declared.faults.EncodeFault.TheVariants as encode
 use Rattle.avp_unlang.specs.declared.codes.Code.{Code}
 use Rattle.radpolicy.specs.declared.replies.ReplyHead.{ReplyHead}
 use Rattle.radpolicy.specs.Replies.{Answer, Nothing, Sent, TooLong, answered_authenticator, proxy_states, reply_code, reply_pairs, reply_with, signs_reply}
-use Rattle.avp_packet.specs.Packets.{reply_content}
+use Rattle.avp_packet.specs.Packets.{accounting_request, reply_content}
 use Rattle.radpolicy.specs.ReplyMeaning.{IsRead}
 use Rattle.radpolicy.specs.declared.jobs.Form.{Form}
 use Rattle.avp_packet.specs.declared.packets.Packet.{Packet}
@@ -68,10 +69,10 @@ line_by dictionary (Some head) last pairs = answer_line (answered_by dictionary 
 -- a head is usable: with a secret, and Proxy-States that fit and are read back, and no Accounting-Request's reply is signed
 pub record IsUsable (dictionary : Dictionary) (head : ReplyHead) : Type 0 where
   pub secret : 0 < length head.secret.now
-  pub proxies : All (λ (pair : Pair). pair.id ≡ Plain 33) head.proxy_states.items
+  pub proxies : All (λ (pair : Pair). pair.id ≡ Plain proxy_state) head.proxy_states.items
   pub fit : AllFit dictionary head.proxy_states.items
   pub clean : is_clean head.proxy_states.items dictionary ≡ true
-  pub signed : head.code ≡ 4 → head.signed ≡ false
+  pub signed : head.code ≡ accounting_request → head.signed ≡ false
 
 -- a line was added to a text, or there is none
 abbrev pub AddsLine : Result (Unit {0}) EncodeFault → Option (List ℕ) → List ℕ → List ℕ → Type 0

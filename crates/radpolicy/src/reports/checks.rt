@@ -43,7 +43,8 @@ fn push_note(text: &mut Vec<u8>, files: &[NamedFile], note: &Note) -> Result<(),
 
 fn push_notes(text: &mut Vec<u8>, files: &[NamedFile], notes: &[Note]) -> Result<(), AllocError>
     requires { All (λ note. note.file < length files.now) notes.now }
-    ensures { OnOk result (text.new.items ≡ text.old.items ++ flat_map (note_line files.now) notes.now) }
+    ensures { OnOk result (text.new.items ≡ text.old.items
+        ++ flat_map (note_line files.now) notes.now) }
 {
     for note in notes {
         push_note(text, files, note)?;
@@ -69,7 +70,8 @@ pub(crate) fn text_of_check(
     size: Option<usize>,
 ) -> Result<Vec<u8>, AllocError>
     requires { All (λ note. note.file < length files.now) dictionary.now.notes }
-    ensures { IfOk result (λ text. text.items ≡ dictionary_text files.now dictionary.now ++ size_text size) }
+    ensures { IfOk result (λ text. text.items ≡ dictionary_text files.now dictionary.now
+        ++ size_text size) }
 {
     let counts = dictionary.counts();
     let notes = dictionary.notes();

@@ -4,9 +4,10 @@ ghost use Rattle.std.specs.Prelude.{◌≡◌, ◌⊎◌, ◌≤◌, ◌<◌, �
 ghost use Rattle.std.specs.Option.{option_copied, option_map};
 ghost use Rattle.avp_lists.specs.States.{max_pairs};
 ghost use Rattle.avp_packet.specs.Packets.{IsRequestCode};
+ghost use Rattle.radpolicy.specs.Faults.{MemoryOr};
 ghost use Rattle.radpolicy.specs.Fitting.{AllFit};
 ghost use Rattle.avp_lists.specs.History.{present};
-ghost use Rattle.radpolicy.specs.JobReports.{report_of_run, sent_line};
+ghost use Rattle.radpolicy.specs.JobReports.{opened, report_of_run, sent_line};
 ghost use Rattle.avp_unlang.specs.Meaning.{Outcome as End};
 ghost use Rattle.avp_step.specs.Walk.{entry};
 ghost use Rattle.avp_unlang.specs.Suiting.{IsSpelled};
@@ -21,6 +22,7 @@ ghost use Rattle.radpolicy.specs.declared.faults.Fault.TheVariants as fault;
 use crate::faults::Fault;
 use crate::jobs::{Form, Outcome};
 use crate::replies::{ReplyHead, answered_by, reply_head};
+use crate::reports::Report;
 use crate::reports::texts::{push_no_packet, push_packet, text_of_run};
 use avp_dict::Dictionary;
 use avp_lists::{List, Pair, SlotStore, Store};
@@ -42,8 +44,11 @@ fn head_of<'a>(
     requires code { IsRequestCode request.now.code }
     requires fit { AllFit dictionary.now request.now.list }
     requires proxies { is_clean (proxy_states request.now) dictionary.now ≡ true }
-    ensures made { IfOk result (λ head. IsLineHead form dictionary.now (option_copied secret.entry) request.now head) }
-    ensures line { IfOk result (λ head. (end : End) → line_by dictionary.now head end.code end.state.reply ≡ sent_line form (record { dictionary = dictionary.now; secret = option_copied secret.entry }) request.now end) }
+    ensures made { IfOk result (λ head.
+        IsLineHead form dictionary.now (option_copied secret.entry) request.now head) }
+    ensures line { IfOk result (λ head. (end : End)
+        → line_by dictionary.now head end.code end.state.reply
+        ≡ sent_line form (opened dictionary.now (option_copied secret.entry)) request.now end) }
     ensures usable { IfOk result (λ head. IfSome head (λ h. IsUsable dictionary.now h)) }
 {
     match secret {
@@ -63,14 +68,14 @@ fn push_reply(
     requires usable { IsUsable dictionary.now head.now }
     requires reply { AllFit dictionary.now reply.now }
     requires clean { is_clean reply.now dictionary.now ≡ true }
-    ensures line { AddsLine result (answer_line (answered_by dictionary.now head.now last reply.now)) text.old.items text.new.items }
+    ensures line { AddsLine result (answer_line (answered_by dictionary.now head.now last reply.now))
+        text.old.items text.new.items }
     ensures read { OnOk result (AnswerIsRead dictionary.now head.now last reply.now) }
 {
     let alloc = *text.allocator();
-    match answered_by(alloc, dictionary, head, last, reply) {
-        Ok(Some(octets)) => Ok(push_packet(text, &octets)?),
-        Ok(None) => Ok(push_no_packet(text)?),
-        Err(fault) => Err(fault),
+    match answered_by(alloc, dictionary, head, last, reply)? {
+        Some(octets) => Ok(push_packet(text, &octets)?),
+        None => Ok(push_no_packet(text)?),
     }
 }
 
@@ -86,7 +91,8 @@ fn push_sent(
     requires usable { IfSome head.now (λ h. IsUsable dictionary.now h) }
     requires reply { AllFit dictionary.now reply.now }
     requires clean { is_clean reply.now dictionary.now ≡ true }
-    ensures line { AddsLine result (line_by dictionary.now head.now last reply.now) text.old.items text.new.items }
+    ensures line { AddsLine result (line_by dictionary.now head.now last reply.now)
+        text.old.items text.new.items }
     ensures read { OnOk result (LineIsRead dictionary.now head.now last reply.now) }
 {
     match head {
@@ -107,17 +113,11 @@ struct Ended {
 /// A store of the request's pairs and two empty lists.
 pub(crate) fn entry_store(alloc: Global, request: Packet) -> Result<SlotStore, AllocError>
     requires { length request.list ≤ max_pairs }
-    ensures { IfOk result (λ store. present (⟦<SlotStore as Store>⟧.history store) ≡ entry_state request.list) }
+    ensures { IfOk result (λ store. present (⟦<SlotStore as Store>⟧.history store)
+        ≡ entry_state request.list) }
 {
-    match SlotStore::new(
-        alloc,
-        request.list.into_vec(),
-        Vec::new(alloc),
-        Vec::new(alloc),
-    ) {
-        Ok(store) => Ok(store),
-        Err(_) => Err(AllocError),
-    }
+    let pairs = request.list.into_vec();
+    SlotStore::new(alloc, pairs, Vec::new(alloc), Vec::new(alloc)).map_err(|_| AllocError)
 }
 
 // A copy of the reply list at a stepper's position.
@@ -144,9 +144,13 @@ fn run_over(
     requires policy { IsSpelled dictionary.now policy.now }
     requires few { length request.list ≤ max_pairs }
     requires fit { AllFit dictionary.now request.list }
-    ensures ended { IfOk result (λ ended. run_of dictionary.now policy.now request ≡ record { state = (run_of dictionary.now policy.now request).state; code = ended.code; stopped = ended.stopped }) }
-    ensures text { IfOk result (λ ended. ended.text.items ≡ state_text dictionary.now (run_of dictionary.now policy.now request).state ++ result_line ended.code ended.stopped) }
-    ensures reply { IfOk result (λ ended. ended.reply.items ≡ (run_of dictionary.now policy.now request).state.reply) }
+    ensures ended { IfOk result (λ ended. run_of dictionary.now policy.now request
+        ≡ record { state = (run_of dictionary.now policy.now request).state; code = ended.code; stopped = ended.stopped }) }
+    ensures text { IfOk result (λ ended. ended.text.items
+        ≡ state_text dictionary.now (run_of dictionary.now policy.now request).state
+        ++ result_line ended.code ended.stopped) }
+    ensures reply { IfOk result (λ ended. ended.reply.items
+        ≡ (run_of dictionary.now policy.now request).state.reply) }
     ensures fit { IfOk result (λ ended. AllFit dictionary.now ended.reply.items) }
     ensures clean { IfOk result (λ ended. is_clean ended.reply.items dictionary.now ≡ true) }
 {
@@ -176,16 +180,19 @@ pub(crate) fn report_of_run(
     secret: Option<&[u8]>,
     policy: &Policy,
     request: Packet,
-) -> Result<(Vec<u8>, Outcome), Fault>
+) -> Result<Report, Fault>
     requires policy { IsSpelled dictionary.now policy.now }
     requires secret { IfSome secret (λ octets. 0 < length octets.now) }
     requires code { IsRequestCode request.code }
     requires few { length request.list ≤ max_pairs }
     requires fit { AllFit dictionary.now request.list }
     requires proxies { is_clean (proxy_states request) dictionary.now ≡ true }
-    ensures ok { IfOk result (λ report. report_of_run form (record { dictionary = dictionary.now; secret = option_copied secret.entry }) policy.now request ≡ Some (record { text = report.0.items; outcome = report.1 })) }
-    ensures refused { IfErr result (λ f. (f ≡ fault.Memory) ⊎ ((f ≡ fault.PacketTooLong) × (report_of_run form (record { dictionary = dictionary.now; secret = option_copied secret.entry }) policy.now request ≡ None))) }
-    ensures read { OnOk result (RunIsRead form (record { dictionary = dictionary.now; secret = option_copied secret.entry }) policy.now request) }
+    ensures ok { IfOk result (λ report.
+        report_of_run form (opened dictionary.now (option_copied secret.entry)) policy.now request ≡ Some report) }
+    ensures refused { IfErr result (MemoryOr (λ f. (f ≡ fault.PacketTooLong)
+        × (report_of_run form (opened dictionary.now (option_copied secret.entry)) policy.now request ≡ None))) }
+    ensures read { OnOk result
+        (RunIsRead form (opened dictionary.now (option_copied secret.entry)) policy.now request) }
 {
     let head = head_of(alloc, dictionary, form, secret, &request)?;
     let ended = run_over(alloc, dictionary, policy, request)?;
@@ -195,5 +202,5 @@ pub(crate) fn report_of_run(
         code: Some(ended.code),
         stopped: ended.stopped,
     };
-    Ok((text, outcome))
+    Ok(Report::new(text, outcome))
 }

@@ -38,7 +38,8 @@ fn push_list(
     pairs: &[Pair],
 ) -> Result<(), AllocError>
     requires { AllFit dictionary.now pairs.now }
-    ensures { OnOk result (text.new.items ≡ text.old.items ++ list_text dictionary.now name.now pairs.now) }
+    ensures { OnOk result (text.new.items ≡ text.old.items
+        ++ list_text dictionary.now name.now pairs.now) }
 {
     text.extend_from_slice(name.as_bytes())?;
     text.extend_from_slice(b"\n")?;
@@ -57,7 +58,8 @@ fn push_present<S: Store>(
     list: List,
 ) -> Result<(), AllocError>
     requires { AllFit dictionary.now (list_of list (present (S.history store.now))) }
-    ensures { OnOk result (text.new.items ≡ text.old.items ++ list_text dictionary.now name.now (list_of list (present (S.history store.now)))) }
+    ensures { OnOk result (text.new.items ≡ text.old.items
+        ++ list_text dictionary.now name.now (list_of list (present (S.history store.now)))) }
 {
     text.extend_from_slice(name.as_bytes())?;
     text.extend_from_slice(b"\n")?;
@@ -76,7 +78,8 @@ pub(crate) fn push_lists<S: Store>(
     store: &S,
 ) -> Result<(), AllocError>
     requires { StateFits dictionary.now (present (S.history store.now)) }
-    ensures { OnOk result (text.new.items ≡ text.old.items ++ state_text dictionary.now (present (S.history store.now))) }
+    ensures { OnOk result (text.new.items ≡ text.old.items
+        ++ state_text dictionary.now (present (S.history store.now))) }
 {
     push_present(text, dictionary, "request", store, List::Request)?;
     push_present(text, dictionary, "reply", store, List::Reply)?;
@@ -117,7 +120,8 @@ pub(crate) fn text_of_run<S: Store>(
     stopped: bool,
 ) -> Result<Vec<u8>, AllocError>
     requires { StateFits dictionary.now (present (S.history store.now)) }
-    ensures { IfOk result (λ text. text.items ≡ state_text dictionary.now (present (S.history store.now)) ++ result_line code stopped) }
+    ensures { IfOk result (λ text. text.items
+        ≡ state_text dictionary.now (present (S.history store.now)) ++ result_line code stopped) }
 {
     let mut text = Vec::new(alloc);
     push_lists(&mut text, dictionary, store)?;

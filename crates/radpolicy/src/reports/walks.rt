@@ -9,6 +9,7 @@ ghost use Rattle.radpolicy.specs.JobReports.{step_report, request_walk};
 ghost use Rattle.radpolicy.specs.Scripts.{after_script, after_script_word, label_text, move_line, moved, script_text, stays_text, truth_text, word_text};
 
 use crate::jobs::Outcome;
+use crate::reports::Report;
 use crate::reports::runs::entry_store;
 use crate::reports::texts::{code_text, push_lists};
 use crate::scripts::ScriptWord;
@@ -30,7 +31,8 @@ fn push_number(text: &mut Vec<u8>, number: usize) -> Result<(), AllocError>
 
 // A word, and the line of the policy's text.
 fn push_numbered(text: &mut Vec<u8>, word: &str, line: usize) -> Result<(), AllocError>
-    ensures { OnOk result (text.new.items ≡ text.old.items ++ word.now ++ codes " " ++ decimal line) }
+    ensures { OnOk result (text.new.items ≡ text.old.items ++ word.now ++ codes " "
+        ++ decimal line) }
 {
     text.extend_from_slice(word.as_bytes())?;
     text.extend_from_slice(b" ")?;
@@ -145,7 +147,8 @@ fn push_script<S: Store>(
     script: &[ScriptWord],
 ) -> Result<(), AllocError>
     requires { stepper.old.dictionary ≡ dictionary.now }
-    ensures text { OnOk result (text.new.items ≡ text.old.items ++ script_text script.now stepper.old) }
+    ensures text { OnOk result (text.new.items ≡ text.old.items
+        ++ script_text script.now stepper.old) }
     ensures after { OnOk result (stepper.new ≡ after_script script.now stepper.old) }
 {
     let mut rest = script;
@@ -163,11 +166,12 @@ pub(crate) fn report_of_walk(
     policy: &Policy,
     script: &[ScriptWord],
     request: Packet,
-) -> Result<(Vec<u8>, Outcome), AllocError>
+) -> Result<Report, AllocError>
     requires policy { IsSpelled dictionary.now policy.now }
     requires few { length request.list ≤ max_pairs }
     requires fit { AllFit dictionary.now request.list }
-    ensures { IfOk result (λ report. step_report script.now (request_walk dictionary.now policy.now request) ≡ record { text = report.0.items; outcome = report.1 }) }
+    ensures { IfOk result (λ report.
+        step_report script.now (request_walk dictionary.now policy.now request) ≡ report) }
 {
     let store = entry_store(alloc, request)?;
     let Ok(mut stepper) = Stepper::new(alloc, dictionary, policy, store) else {
@@ -179,5 +183,5 @@ pub(crate) fn report_of_walk(
         code: Some(stepper.code()),
         stopped: stepper.stopped(),
     };
-    Ok((text, outcome))
+    Ok(Report::new(text, outcome))
 }

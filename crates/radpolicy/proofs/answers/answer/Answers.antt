@@ -1,11 +1,11 @@
 use Rattle.radpolicy.proofs.OneReport.{not_both, one_report}
 use Rattle.radpolicy.proofs.answers.answer.Goals as goal
 
-pub returns-in_err-text-clause-one : goal.returns-in_err-text-clause-one
-returns-in_err-text-clause-one g c = one_report c.args.job.now
+pub returns-in_err-report-clause-one : goal.returns-in_err-report-clause-one
+returns-in_err-report-clause-one g c = one_report c.args.job.now
 
-pub returns-in_err-text-clause-either : goal.returns-in_err-text-clause-either
-returns-in_err-text-clause-either g c = not_both c.args.job.now
+pub returns-in_err-report-clause-either : goal.returns-in_err-report-clause-either
+returns-in_err-report-clause-either g c = not_both c.args.job.now
 
 pub returns-in-Ok-clause-one : goal.returns-in-Ok-clause-one
 returns-in-Ok-clause-one g c = one_report c.args.job.now

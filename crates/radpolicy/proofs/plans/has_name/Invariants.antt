@@ -1,7 +1,6 @@
-use Rattle.std.proofs.Common.{◌≢◌, take}
+use Rattle.std.proofs.Common.{◌≢◌, map, take}
 use Rattle.std.specs.Prelude.{All}
-use Rattle.radpolicy.specs.Plans.{names_of_paths}
 use Rattle.radpolicy.proofs.plans.has_name.Given as goal
 
-abbrev pub invariant-loop-path : goal.invariant-loop-path
-invariant-loop-path l = All (λ taken. taken ≢ l.name) (names_of_paths (take l.path-index l.paths))
+abbrev pub invariant-loop-taken : goal.invariant-loop-taken
+invariant-loop-taken l = All (λ taken. taken ≢ l.name) (map (λ taken. taken.now) (take l.taken-index l.names))

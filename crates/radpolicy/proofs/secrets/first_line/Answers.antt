@@ -1,7 +1,7 @@
 use Rattle.std.proofs.Common.{arith}
 use Rattle.std.proofs.lemmas.Grind.{common_steps}
 use Rattle.avp_dict.proofs.FoundPositions.{found_at, found_nothing}
-use Rattle.radpolicy.specs.Secrets.{is_line_end}
+use Rattle.avp_dict.specs.Lines.{is_line_end}
 use Rattle.radpolicy.proofs.secrets.first_line.Goals as goal
 
 pub returns-in-Some : goal.returns-in-Some
