@@ -1,4 +1,7 @@
-//! What several worked examples share: more attributes, and an authenticator.
+//! What several worked examples share: more attributes, an authenticator, and the files of a run.
+
+use crate::program::Source;
+use samples::TEST_DICTIONARY;
 
 /// An attribute of each type that is no text, and two whose flag makes them octets.
 pub const TYPES: &[u8] = b"ATTRIBUTE Ty-B 201 byte
@@ -19,3 +22,13 @@ pub const AUTHENTICATOR: &str = "0f403f9473978057bd83d5cb98f4227a";
 pub const AUTHENTICATOR_OCTETS: [u8; 16] = [
     0x0f, 0x40, 0x3f, 0x94, 0x73, 0x97, 0x80, 0x57, 0xbd, 0x83, 0xd5, 0xcb, 0x98, 0xf4, 0x22, 0x7a,
 ];
+
+/// The test dictionary, a request, a policy, and the secret of one letter.
+pub fn run_sources<'a>(request: &'a [u8], policy: &'a [u8]) -> [Source<'a>; 4] {
+    [
+        ("d", TEST_DICTIONARY),
+        ("-", request),
+        ("p", policy),
+        ("s", b"s"),
+    ]
+}

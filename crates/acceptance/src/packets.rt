@@ -1,7 +1,9 @@
 //! Requests and replies as packets.
 
-use crate::data::{AUTHENTICATOR, AUTHENTICATOR_OCTETS};
-use crate::program::{Source, expect_fault, expect_output, program, sent_octets};
+use crate::commands::{DECODE, RUN_ACCOUNTING, RUN_PACKET, encode_access, run_access};
+use crate::data::{AUTHENTICATOR, AUTHENTICATOR_OCTETS, run_sources};
+use crate::program::{Source, expect_fault, expect_output, expect_packet, sent};
+use crate::runs::expect_reply;
 use avp_packet::check_reply;
 use samples::TEST_DICTIONARY;
 use std::alloc::Global;
@@ -14,11 +16,8 @@ pub const REQUEST: &[u8] =
 
 pub const SECRET: &[u8] = b"xyzzy5461\n";
 
-const DECODE: [&str; 5] = ["radpolicy", "decode", "-S", "s", "d"];
-
 #[test]
 fn accepts_the_request_of_the_standard(rt: HostRuntime) -> Result<(), Fail> {
-    let words = ["radpolicy", "run", "--hex", "-S", "s", "--policy", "p", "d"];
     let policy = b"update reply {
 \tService-Type := Login-User
 \tLogin-Service := Telnet
@@ -44,32 +43,18 @@ packet 0200002686fe220e7624ba2a1005f6bf9b55e0b20606000000010f06000000000e06c0a80
         ("s", SECRET),
         ("p", policy),
     ];
-    expect_output(&rt, rt.alloc(), &words, &sources, wanted)
+    expect_output(&rt, rt.alloc(), &RUN_PACKET, &sources, wanted)
 }
 
 #[test]
 fn encodes_lines(rt: HostRuntime) -> Result<(), Fail> {
-    let alloc = rt.alloc();
-    let words = [
-        "radpolicy",
-        "encode",
-        "-i",
-        "0",
-        "-S",
-        "s",
-        "--authenticator",
-        AUTHENTICATOR,
-        "d",
-    ];
+    let words = encode_access(AUTHENTICATOR);
     let lines = b"User-Name = \"nemo\", User-Password = arctangent
 NAS-IP-Address = 192.168.1.16,
 NAS-Port = 3
 ";
     let sources: [Source; 3] = [("d", TEST_DICTIONARY), ("-", lines), ("s", SECRET)];
-    let mut wanted = Vec::from_slice(alloc, b"packet ")?;
-    wanted.extend_from_slice(REQUEST)?;
-    wanted.extend_from_slice(b"\n")?;
-    expect_output(&rt, alloc, &words, &sources, &wanted)
+    expect_packet(&rt, rt.alloc(), &words, &sources, REQUEST)
 }
 
 #[test]
@@ -114,65 +99,29 @@ fn refuses_packets_with_their_place(rt: HostRuntime) -> Result<(), Fail> {
 
 #[test]
 fn sends_proxy_states_back(rt: HostRuntime) -> Result<(), Fail> {
-    let alloc = rt.alloc();
-    let words = [
-        "radpolicy",
-        "run",
-        "-S",
-        "s",
-        "-i",
+    let octets = expect_reply(
+        &rt,
+        rt.alloc(),
         "0",
-        "--authenticator",
-        AUTHENTICATOR,
-        "--policy",
-        "p",
-        "d",
-    ];
-    let sources: [Source; 4] = [
-        ("d", TEST_DICTIONARY),
-        ("-", b"Proxy-State = 0x0a0b"),
-        ("s", b"s"),
-        ("p", b"update reply { Reply-Message := \"\" }"),
-    ];
-    let finished = program(alloc, &words, &sources)?;
-    assert_eq!(rt; finished.status, 0);
-    assert!(rt;
-        finished.output.starts_with(
-            b"request\n  Proxy-State = 0x0a0b\nreply\n  Reply-Message = \"\"\ncontrol\nresult ok\n"
-        )
-    );
-    let octets = sent_octets(alloc, &finished.output)?;
+        b"Proxy-State = 0x0a0b",
+        b"update reply { Reply-Message := \"\" }",
+        b"request\n  Proxy-State = 0x0a0b\nreply\n  Reply-Message = \"\"\ncontrol\nresult ok\n",
+    )?;
     assert_eq!(rt; octets.len(), 24);
     assert!(rt; octets.starts_with(&[2, 0, 0, 24]));
     assert!(rt; octets.ends_with(&[0x21, 4, 0x0a, 0x0b]));
-    assert!(rt; check_reply(&octets, &AUTHENTICATOR_OCTETS, b"s"));
     Ok(())
 }
 
 #[test]
 fn answers_an_accounting_request(rt: HostRuntime) -> Result<(), Fail> {
     let alloc = rt.alloc();
-    let words = [
-        "radpolicy",
-        "run",
-        "--acct",
-        "-S",
-        "s",
-        "--policy",
-        "p",
-        "d",
-    ];
-    let sources: [Source; 3] = [
-        ("d", TEST_DICTIONARY),
-        ("-", b"Acct-Status-Type = Start"),
-        ("s", b"s"),
-    ];
-    let finished = program(alloc, &words, &sources)?;
-    let octets = sent_octets(alloc, &finished.output)?;
+    let sources = run_sources(b"Acct-Status-Type = Start", b"");
+    let octets = sent(alloc, &RUN_ACCOUNTING, &sources)?;
     assert_eq!(rt; octets.len(), 20);
     assert_eq!(rt; octets[0], 5);
     let words = ["radpolicy", "encode", "--acct", "-S", "s", "d"];
-    let request = sent_octets(alloc, &program(alloc, &words, &sources)?.output)?;
+    let request = sent(alloc, &words, &sources)?;
     let mut authenticator = [0; 16];
     assert!(rt; request.len() >= 20);
     authenticator.copy_from_slice(&request[4..20]);
@@ -198,24 +147,12 @@ pub fn long_policy(alloc: Global, count: usize, last: usize) -> Result<Vec<u8>, 
 #[test]
 fn refuses_a_reply_that_is_too_long(rt: HostRuntime) -> Result<(), Fail> {
     let alloc = rt.alloc();
-    let words = [
-        "radpolicy",
-        "run",
-        "-S",
-        "s",
-        "--authenticator",
-        AUTHENTICATOR,
-        "--policy",
-        "p",
-        "d",
-    ];
     let policy = long_policy(alloc, 15, 253)?;
-    let sources: [Source; 3] = [("d", TEST_DICTIONARY), ("s", b"s"), ("p", &policy)];
     let wanted = b"radpolicy: E46: packet too long\n";
-    expect_fault(&rt, alloc, &words, &sources, wanted, 2)?;
+    let sources = run_sources(b"", &policy);
+    expect_fault(&rt, alloc, &run_access("0"), &sources, wanted, 2)?;
     let policy = long_policy(alloc, 15, 249)?;
-    let sources: [Source; 3] = [("d", TEST_DICTIONARY), ("s", b"s"), ("p", &policy)];
-    let octets = sent_octets(alloc, &program(alloc, &words, &sources)?.output)?;
+    let octets = sent(alloc, &run_access("0"), &run_sources(b"", &policy))?;
     assert_eq!(rt; octets.len(), 4096);
     Ok(())
 }

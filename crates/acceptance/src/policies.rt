@@ -21,6 +21,17 @@ pub fn expect_size(rt: &impl Abort, alloc: Global, policy: &[u8], size: &[u8]) -
     expect_output(rt, alloc, &CHECK, &sources, &wanted)
 }
 
+// The policy is refused with this line.
+fn expect_refusal(
+    rt: &impl Abort,
+    alloc: Global,
+    policy: &[u8],
+    wanted: &[u8],
+) -> Result<(), Fail> {
+    let sources: [Source; 2] = [("d", TEST_DICTIONARY), ("p", policy)];
+    expect_fault(rt, alloc, &CHECK, &sources, wanted, 2)
+}
+
 #[test]
 fn tells_the_size_of_policies(rt: HostRuntime) -> Result<(), Fail> {
     let cases: [(&[u8], &[u8]); 6] = [
@@ -74,8 +85,7 @@ fn refuses_policies_with_their_line(rt: HostRuntime) -> Result<(), Fail> {
         ),
     ];
     for (policy, wanted) in cases.iter() {
-        let sources: [Source; 2] = [("d", TEST_DICTIONARY), ("p", policy)];
-        expect_fault(&rt, rt.alloc(), &CHECK, &sources, wanted, 2)?;
+        expect_refusal(&rt, rt.alloc(), policy, wanted)?;
     }
     Ok(())
 }
@@ -99,9 +109,8 @@ fn loads_the_largest_policy(rt: HostRuntime) -> Result<(), Fail> {
 #[test]
 fn refuses_a_larger_policy_at_its_line(rt: HostRuntime) -> Result<(), Fail> {
     let policy = many_lines(rt.alloc(), 65_536)?;
-    let sources: [Source; 2] = [("d", TEST_DICTIONARY), ("p", &policy)];
     let wanted = b"radpolicy: E54 policy:65537: policy too large\n";
-    expect_fault(&rt, rt.alloc(), &CHECK, &sources, wanted, 2)
+    expect_refusal(&rt, rt.alloc(), &policy, wanted)
 }
 
 // So many transactions, one in another.
@@ -125,7 +134,6 @@ fn loads_64_nested_transactions(rt: HostRuntime) -> Result<(), Fail> {
 #[test]
 fn refuses_65_nested_transactions(rt: HostRuntime) -> Result<(), Fail> {
     let policy = nested(rt.alloc(), 65)?;
-    let sources: [Source; 2] = [("d", TEST_DICTIONARY), ("p", &policy)];
     let wanted = b"radpolicy: E53 policy:65: nested too deep\n";
-    expect_fault(&rt, rt.alloc(), &CHECK, &sources, wanted, 2)
+    expect_refusal(&rt, rt.alloc(), &policy, wanted)
 }

@@ -162,6 +162,41 @@ pub fn expect_output(
     Ok(())
 }
 
+/// The program on these words is done, and printed the packet of these digits.
+pub fn expect_packet(
+    rt: &impl Abort,
+    alloc: Global,
+    words: &[&str],
+    sources: &[Source],
+    digits: &[u8],
+) -> Result<(), Fail> {
+    let mut wanted = Vec::from_slice(alloc, b"packet ")?;
+    wanted.extend_from_slice(digits)?;
+    wanted.push(b'\n')?;
+    expect_output(rt, alloc, words, sources, &wanted)
+}
+
+/// The program on these words has a write fault at a writer of this room, and put out the front of the report.
+pub fn expect_write_fault(
+    rt: &impl Abort,
+    alloc: Global,
+    words: &[&str],
+    sources: &[Source],
+    front: &[u8],
+) -> Result<(), Fail> {
+    let plan = read_words(alloc, words).map_err(|_| "a plan")?;
+    let job = job_of(alloc, sources, &plan)?;
+    let mut writer = Narrow {
+        held: Vec::new(alloc),
+        room: front.len(),
+    };
+    let refused = answer(alloc, &job, &mut WriteOutput::new(&mut writer));
+    assert!(rt; matches!(&refused, Err(Fault::Write)));
+    assert_eq!(rt; status(&Fault::Write), 3);
+    assert_eq!(rt; writer.held.as_slice(), front);
+    Ok(())
+}
+
 /// The program on these words is refused with this line and this status, and printed nothing else.
 pub fn expect_fault(
     rt: &impl Abort,
@@ -195,4 +230,9 @@ pub fn sent_octets(alloc: Global, output: &[u8]) -> Result<Vec<u8>, Fail> {
         .strip_prefix(b"packet ")
         .ok_or("a packet")?;
     Ok(hex::decode(alloc, digits).map_err(|_| "hexadecimal digits")?)
+}
+
+/// The octets of the packet that the program sends on these words.
+pub fn sent(alloc: Global, words: &[&str], sources: &[Source]) -> Result<Vec<u8>, Fail> {
+    sent_octets(alloc, &program(alloc, words, sources)?.output)
 }

@@ -1,10 +1,11 @@
 //! Runs of whole policies, each as its report, the labels of its steps and its reply.
 
-use crate::data::{AUTHENTICATOR, AUTHENTICATOR_OCTETS};
-use crate::program::{Source, expect_output, program, sent_octets};
+use crate::commands::{RUN, RUN_ACCOUNTING, run_access};
+use crate::data::{AUTHENTICATOR_OCTETS, run_sources};
+use crate::program::{expect_output, program, sent_octets};
 use crate::walks::expect_walk;
 use avp_packet::check_reply;
-use samples::{NESTED_TRANSACTIONS, TEST_DICTIONARY};
+use samples::NESTED_TRANSACTIONS;
 use std::alloc::Global;
 use std::process::Abort;
 use std::test::Fail;
@@ -34,13 +35,11 @@ fn expect_run<'a>(
     policy: &'a [u8],
     wanted: &[u8],
 ) -> Result<(), Fail> {
-    let words = ["radpolicy", "run", "--policy", "p", "d"];
-    let sources: [Source; 3] = [("d", TEST_DICTIONARY), ("-", request), ("p", policy)];
-    expect_output(rt, alloc, &words, &sources, wanted)
+    expect_output(rt, alloc, &RUN, &run_sources(request, policy), wanted)
 }
 
-// The packet of the run with a secret, after a report that begins so.
-fn expect_reply<'a>(
+/// The packet of the run with a secret, after a report that begins so.
+pub fn expect_reply<'a>(
     rt: &impl Abort,
     alloc: Global,
     identifier: &str,
@@ -48,26 +47,8 @@ fn expect_reply<'a>(
     policy: &'a [u8],
     report: &[u8],
 ) -> Result<Vec<u8>, Fail> {
-    let words = [
-        "radpolicy",
-        "run",
-        "-S",
-        "s",
-        "--authenticator",
-        AUTHENTICATOR,
-        "-i",
-        identifier,
-        "--policy",
-        "p",
-        "d",
-    ];
-    let sources: [Source; 4] = [
-        ("d", TEST_DICTIONARY),
-        ("-", request),
-        ("s", b"s"),
-        ("p", policy),
-    ];
-    let finished = program(alloc, &words, &sources)?;
+    let sources = run_sources(request, policy);
+    let finished = program(alloc, &run_access(identifier), &sources)?;
     assert_eq!(rt; finished.status, 0);
     assert!(rt; finished.output.starts_with(report));
     let octets = sent_octets(alloc, &finished.output)?;
@@ -234,22 +215,7 @@ result fail stopped
 
 #[test]
 fn answers_no_rejected_accounting_request(rt: HostRuntime) -> Result<(), Fail> {
-    let words = [
-        "radpolicy",
-        "run",
-        "--acct",
-        "-S",
-        "s",
-        "--policy",
-        "p",
-        "d",
-    ];
-    let sources: [Source; 4] = [
-        ("d", TEST_DICTIONARY),
-        ("-", b"Acct-Status-Type = Start"),
-        ("s", b"s"),
-        ("p", b"reject"),
-    ];
+    let sources = run_sources(b"Acct-Status-Type = Start", b"reject");
     let wanted = b"request
   Acct-Status-Type = Start
 reply
@@ -257,7 +223,7 @@ control
 result reject stopped
 packet none
 ";
-    expect_output(&rt, rt.alloc(), &words, &sources, wanted)
+    expect_output(&rt, rt.alloc(), &RUN_ACCOUNTING, &sources, wanted)
 }
 
 // A name of 253 octets is as long as a value may be, and longer than what can be hidden.

@@ -1,10 +1,10 @@
 //! Message-Authenticators in requests and replies.
 
-use crate::data::AUTHENTICATOR;
+use crate::commands::{DECODE, RUN_ACCOUNTING, RUN_PACKET, encode_access, run_access};
+use crate::data::run_sources;
 use crate::packets::long_policy;
-use crate::program::{Source, expect_fault, expect_output, program, sent_octets};
+use crate::program::{expect_fault, expect_output, expect_packet, sent};
 use avp_packet::{check_message, check_reply};
-use samples::TEST_DICTIONARY;
 use std::alloc::Global;
 use std::process::Abort;
 use std::test::Fail;
@@ -18,27 +18,10 @@ const WRONG_REQUEST: &[u8] =
 
 const LINES: &[u8] = b"User-Name = \"u\"\nAttr-80 = 0x00\n";
 
-const DECODE: [&str; 5] = ["radpolicy", "decode", "-S", "s", "d"];
-
 #[test]
 fn encodes_a_signed_request(rt: HostRuntime) -> Result<(), Fail> {
-    let words = [
-        "radpolicy",
-        "encode",
-        "-i",
-        "0",
-        "-S",
-        "s",
-        "--authenticator",
-        "00000000000000000000000000000000",
-        "d",
-    ];
-    let sources: [Source; 3] = [("d", TEST_DICTIONARY), ("-", LINES), ("s", b"s")];
-    let alloc = rt.alloc();
-    let mut wanted = Vec::from_slice(alloc, b"packet ")?;
-    wanted.extend_from_slice(REQUEST)?;
-    wanted.extend_from_slice(b"\n")?;
-    expect_output(&rt, alloc, &words, &sources, &wanted)
+    let words = encode_access("00000000000000000000000000000000");
+    expect_packet(&rt, rt.alloc(), &words, &run_sources(LINES, b""), REQUEST)
 }
 
 #[test]
@@ -50,23 +33,16 @@ request
   User-Name = \"u\"
   Attr-80 = 0x12c10da18ce04bb1fcf42c68a7eb68ae
 ";
-    let sources: [Source; 3] = [("d", TEST_DICTIONARY), ("-", REQUEST), ("s", b"s")];
+    let sources = run_sources(REQUEST, b"");
     expect_output(&rt, rt.alloc(), &DECODE, &sources, wanted)?;
-    let sources: [Source; 3] = [("d", TEST_DICTIONARY), ("-", WRONG_REQUEST), ("s", b"s")];
+    let sources = run_sources(WRONG_REQUEST, b"");
     let wanted = b"radpolicy: E47: wrong Message-Authenticator\n";
     expect_fault(&rt, rt.alloc(), &DECODE, &sources, wanted, 2)
 }
 
 // The packet that a policy sends to the signed request.
 fn reply_to(alloc: Global, policy: &[u8]) -> Result<Vec<u8>, Fail> {
-    let words = ["radpolicy", "run", "--hex", "-S", "s", "--policy", "p", "d"];
-    let sources: [Source; 4] = [
-        ("d", TEST_DICTIONARY),
-        ("-", REQUEST),
-        ("s", b"s"),
-        ("p", policy),
-    ];
-    sent_octets(alloc, &program(alloc, &words, &sources)?.output)
+    sent(alloc, &RUN_PACKET, &run_sources(REQUEST, policy))
 }
 
 fn expect_signed(rt: &impl Abort, octets: &[u8], code: u8) {
@@ -91,23 +67,8 @@ fn signs_the_reply_to_a_signed_request(rt: HostRuntime) -> Result<(), Fail> {
 
 #[test]
 fn signs_no_accounting_response(rt: HostRuntime) -> Result<(), Fail> {
-    let alloc = rt.alloc();
-    let words = [
-        "radpolicy",
-        "run",
-        "--acct",
-        "-S",
-        "s",
-        "--policy",
-        "p",
-        "d",
-    ];
-    let sources: [Source; 3] = [
-        ("d", TEST_DICTIONARY),
-        ("-", b"Attr-80 = 0x00"),
-        ("s", b"s"),
-    ];
-    let octets = sent_octets(alloc, &program(alloc, &words, &sources)?.output)?;
+    let sources = run_sources(b"Attr-80 = 0x00", b"");
+    let octets = sent(rt.alloc(), &RUN_ACCOUNTING, &sources)?;
     assert_eq!(rt; octets.len(), 20);
     assert_eq!(rt; octets[0], 5);
     Ok(())
@@ -117,24 +78,8 @@ fn signs_no_accounting_response(rt: HostRuntime) -> Result<(), Fail> {
 #[test]
 fn refuses_a_signed_reply_that_is_too_long(rt: HostRuntime) -> Result<(), Fail> {
     let alloc = rt.alloc();
-    let words = [
-        "radpolicy",
-        "run",
-        "-S",
-        "s",
-        "--authenticator",
-        AUTHENTICATOR,
-        "--policy",
-        "p",
-        "d",
-    ];
     let policy = long_policy(alloc, 15, 249)?;
-    let sources: [Source; 4] = [
-        ("d", TEST_DICTIONARY),
-        ("-", b"Attr-80 = 0x00"),
-        ("s", b"s"),
-        ("p", &policy),
-    ];
+    let sources = run_sources(b"Attr-80 = 0x00", &policy);
     let wanted = b"radpolicy: E46: packet too long\n";
-    expect_fault(&rt, alloc, &words, &sources, wanted, 2)
+    expect_fault(&rt, alloc, &run_access("0"), &sources, wanted, 2)
 }

@@ -1,34 +1,12 @@
 //! Runs of update sections on requests of unnamed attributes.
 
-use crate::program::{Narrow, expect_fault, expect_output, job_of};
-use radpolicy::{Fault, WriteOutput, answer, read_words, status};
-use std::alloc::Global;
-use std::process::Abort;
+use crate::commands::RUN;
+use crate::program::{Source, expect_fault, expect_output, expect_write_fault};
 use std::test::Fail;
 
-const RUN: [&str; 5] = ["radpolicy", "run", "--policy", "p", "d"];
-
-// A run of the policy `p` on standard input, with an empty dictionary.
-fn expect_run(
-    rt: &impl Abort,
-    alloc: Global,
-    request: &[u8],
-    policy: &[u8],
-    wanted: &[u8],
-) -> Result<(), Fail> {
-    let sources = [("-", request), ("p", policy)];
-    expect_output(rt, alloc, &RUN, &sources, wanted)
-}
-
-fn expect_refusal(
-    rt: &impl Abort,
-    alloc: Global,
-    request: &[u8],
-    policy: &[u8],
-    wanted: &[u8],
-) -> Result<(), Fail> {
-    let sources = [("-", request), ("p", policy)];
-    expect_fault(rt, alloc, &RUN, &sources, wanted, 2)
+// A request and a policy, with an empty dictionary.
+fn sources<'a>(request: &'a [u8], policy: &'a [u8]) -> [Source<'a>; 2] {
+    [("-", request), ("p", policy)]
 }
 
 #[test]
@@ -42,7 +20,7 @@ fn reports_runs(rt: HostRuntime) -> Result<(), Fail> {
         ),
     ];
     for (request, policy, wanted) in cases {
-        expect_run(&rt, rt.alloc(), request, policy, wanted)?;
+        expect_output(&rt, rt.alloc(), &RUN, &sources(request, policy), wanted)?;
     }
     Ok(())
 }
@@ -58,13 +36,9 @@ fn stops_at_a_full_list(rt: HostRuntime) -> Result<(), Fail> {
         wanted.extend_from_slice(b"  Attr-25 = 0x01\n")?;
     }
     wanted.extend_from_slice(b"reply\n  Attr-25 = 0x05\ncontrol\nresult fail stopped\n")?;
-    expect_run(
-        &rt,
-        alloc,
-        request.as_slice(),
-        b"update reply { Attr-25 += 0x05 } update { reply:Attr-25 += 0x06 Attr-18 += 0x61 }",
-        wanted.as_slice(),
-    )
+    let policy =
+        b"update reply { Attr-25 += 0x05 } update { reply:Attr-25 += 0x06 Attr-18 += 0x61 }";
+    expect_output(&rt, alloc, &RUN, &sources(&request, policy), &wanted)
 }
 
 #[test]
@@ -99,7 +73,7 @@ fn edits_by_each_operator(rt: HostRuntime) -> Result<(), Fail> {
         let mut wanted = Vec::from_slice(alloc, b"request\n")?;
         wanted.extend_from_slice(pairs)?;
         wanted.extend_from_slice(b"reply\ncontrol\nresult ok\n")?;
-        expect_run(&rt, alloc, request, policy.as_slice(), wanted.as_slice())?;
+        expect_output(&rt, alloc, &RUN, &sources(request, &policy), &wanted)?;
     }
     Ok(())
 }
@@ -140,7 +114,7 @@ fn refuses_in_order_with_its_place(rt: HostRuntime) -> Result<(), Fail> {
         ),
     ];
     for (request, policy, wanted) in cases.iter() {
-        expect_refusal(&rt, alloc, request, policy, wanted)?;
+        expect_fault(&rt, alloc, &RUN, &sources(request, policy), wanted, 2)?;
     }
     let sources = [
         ("x/d", b"# only this\n\nATTRIBUTE A x string".as_slice()),
@@ -153,16 +127,5 @@ fn refuses_in_order_with_its_place(rt: HostRuntime) -> Result<(), Fail> {
 
 #[test]
 fn stops_at_a_write_fault(rt: HostRuntime) -> Result<(), Fail> {
-    let alloc = rt.alloc();
-    let plan = read_words(alloc, &RUN).map_err(|_| "a plan")?;
-    let job = job_of(alloc, &[], &plan)?;
-    let mut writer = Narrow {
-        held: Vec::new(alloc),
-        room: 3,
-    };
-    let refused = answer(alloc, &job, &mut WriteOutput::new(&mut writer));
-    assert!(rt; matches!(&refused, Err(Fault::Write)));
-    assert_eq!(rt; status(&Fault::Write), 3);
-    assert_eq!(rt; writer.held.as_slice(), b"req".as_slice());
-    Ok(())
+    expect_write_fault(&rt, rt.alloc(), &RUN, &[], b"req")
 }

@@ -1,13 +1,12 @@
 //! Runs on requests whose names and values are written as people write them.
 
-use crate::data::TYPES;
+use crate::commands::RUN;
+use crate::data::{TYPES, run_sources};
 use crate::program::{expect_fault, expect_output};
 use samples::TEST_DICTIONARY;
 use std::alloc::Global;
 use std::process::Abort;
 use std::test::Fail;
-
-const RUN: [&str; 5] = ["radpolicy", "run", "--policy", "p", "d"];
 
 // A request of one line is read, and printed so.
 fn expect_line(
@@ -183,10 +182,6 @@ control
   Cisco-AVPair = \"a=b\"
 result ok
 ";
-    let sources = [
-        ("d", TEST_DICTIONARY),
-        ("-", b"User-Name = bob".as_slice()),
-        ("p", policy.as_slice()),
-    ];
+    let sources = run_sources(b"User-Name = bob", policy);
     expect_output(&rt, rt.alloc(), &RUN, &sources, wanted)
 }

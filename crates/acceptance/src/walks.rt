@@ -1,14 +1,12 @@
 //! Walks by a script, forward and back over the run of a policy.
 
-use crate::program::{Narrow, Source, expect_fault, expect_output, job_of};
+use crate::commands::STEP;
+use crate::program::{Source, expect_fault, expect_output, expect_write_fault};
 use crate::runs::ABSENT_SOURCE;
-use radpolicy::{Fault, WriteOutput, answer, read_words, status};
 use samples::{NESTED_TRANSACTIONS, TEST_DICTIONARY};
 use std::alloc::Global;
 use std::process::Abort;
 use std::test::Fail;
-
-pub const STEP: [&str; 7] = ["radpolicy", "step", "--policy", "p", "--script", "s", "d"];
 
 /// Goes to the end, back into the transactions, and to the start.
 pub const THERE_AND_BACK: &[u8] = b"end back back show start back";
@@ -199,21 +197,10 @@ fn refuses_a_packet_without_a_secret(rt: HostRuntime) -> Result<(), Fail> {
 
 #[test]
 fn stops_a_walk_at_a_write_fault(rt: HostRuntime) -> Result<(), Fail> {
-    let alloc = rt.alloc();
-    let plan = read_words(alloc, &STEP).map_err(|_| "a plan")?;
     let sources: [Source; 3] = [
         ("d", TEST_DICTIONARY),
         ("p", NESTED_TRANSACTIONS),
         ("s", THERE_AND_BACK),
     ];
-    let job = job_of(alloc, &sources, &plan)?;
-    let mut writer = Narrow {
-        held: Vec::new(alloc),
-        room: 10,
-    };
-    let refused = answer(alloc, &job, &mut WriteOutput::new(&mut writer));
-    assert!(rt; matches!(&refused, Err(Fault::Write)));
-    assert_eq!(rt; status(&Fault::Write), 3);
-    assert_eq!(rt; writer.held.as_slice(), b"14 line 14".as_slice());
-    Ok(())
+    expect_write_fault(&rt, rt.alloc(), &STEP, &sources, b"14 line 14")
 }

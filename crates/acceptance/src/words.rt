@@ -149,49 +149,23 @@ fn expect_table(rt: &impl Abort, alloc: Global, front: &str, table: &str) -> Res
     Ok(())
 }
 
-#[test]
-fn reads_the_words_of_no_command(rt: HostRuntime) -> Result<(), Fail> {
-    expect_table(&rt, rt.alloc(), "radpolicy", NO_COMMAND)
-}
+// The words in front of those of each table.
+const TABLES: [(&str, &str); 7] = [
+    ("radpolicy", NO_COMMAND),
+    ("radpolicy check", CHECK),
+    ("radpolicy run", RUN),
+    ("radpolicy run --policy p d", PACKETS_OF_RUN),
+    ("radpolicy step --policy p --script s d", STEP),
+    ("radpolicy encode d", ENCODE),
+    ("radpolicy decode d", DECODE),
+];
 
 #[test]
-fn reads_the_words_of_check(rt: HostRuntime) -> Result<(), Fail> {
-    expect_table(&rt, rt.alloc(), "radpolicy check", CHECK)
-}
-
-#[test]
-fn reads_the_words_of_run(rt: HostRuntime) -> Result<(), Fail> {
-    expect_table(&rt, rt.alloc(), "radpolicy run", RUN)
-}
-
-#[test]
-fn reads_the_words_of_a_packet_of_run(rt: HostRuntime) -> Result<(), Fail> {
-    expect_table(
-        &rt,
-        rt.alloc(),
-        "radpolicy run --policy p d",
-        PACKETS_OF_RUN,
-    )
-}
-
-#[test]
-fn reads_the_words_of_step(rt: HostRuntime) -> Result<(), Fail> {
-    expect_table(
-        &rt,
-        rt.alloc(),
-        "radpolicy step --policy p --script s d",
-        STEP,
-    )
-}
-
-#[test]
-fn reads_the_words_of_encode(rt: HostRuntime) -> Result<(), Fail> {
-    expect_table(&rt, rt.alloc(), "radpolicy encode d", ENCODE)
-}
-
-#[test]
-fn reads_the_words_of_decode(rt: HostRuntime) -> Result<(), Fail> {
-    expect_table(&rt, rt.alloc(), "radpolicy decode d", DECODE)
+fn reads_the_words_of_commands(rt: HostRuntime) -> Result<(), Fail> {
+    for (front, table) in TABLES {
+        expect_table(&rt, rt.alloc(), front, table)?;
+    }
+    Ok(())
 }
 
 #[test]

@@ -2,9 +2,10 @@
 
 ghost use Rattle.std.specs.Prelude.{Some};
 
+use crate::commands::{RUN_PACKET, STEP};
 use crate::packets::{REQUEST, SECRET};
 use crate::program::{Source, job_of};
-use crate::walks::{STEP, THERE_AND_BACK};
+use crate::walks::THERE_AND_BACK;
 use radpolicy::{Fault, WriteOutput, answer, read_words};
 use samples::{NESTED_TRANSACTIONS, TEST_DICTIONARY};
 use std::alloc::Global;
@@ -65,7 +66,6 @@ fn expect_fronts(
 
 #[test]
 fn puts_out_the_front_of_a_run(rt: HostRuntime) -> Result<(), Fail> {
-    let words = ["radpolicy", "run", "--hex", "-S", "s", "--policy", "p", "d"];
     let policy = b"update reply { Service-Type := Login-User }";
     let sources: [Source; 4] = [
         ("d", TEST_DICTIONARY),
@@ -73,7 +73,7 @@ fn puts_out_the_front_of_a_run(rt: HostRuntime) -> Result<(), Fail> {
         ("s", SECRET),
         ("p", policy),
     ];
-    expect_fronts(&rt, rt.alloc(), &words, &sources)
+    expect_fronts(&rt, rt.alloc(), &RUN_PACKET, &sources)
 }
 
 #[test]
