@@ -17,7 +17,7 @@ use std::{env, io};
 
 // The dictionary of one file.
 fn dictionary_of(alloc: Global, text: &str) -> io::Result<Dictionary> {
-    let octets = Octets::from_vec(Vec::from_slice(alloc, text.as_bytes())?);
+    let octets = Octets::from_slice(alloc, text.as_bytes())?;
     let files = vec![in alloc; NamedFile::at(alloc, "dictionary", octets)?]?;
     let set = FileSet::from_vec(files);
     if set.is_empty() || !set.has_distinct_names() {

@@ -10,13 +10,6 @@ use avp_dict::Dictionary;
 use avp_lists::{AttrId, Octets, Pair, Value};
 use std::alloc::{AllocError, Global};
 
-fn copy_of(alloc: Global, octets: &[u8]) -> Result<Octets, AllocError>
-    ensures { IfOk result (λ copy. copy ≡ octets.now) }
-{
-    let copy = Vec::from_slice(alloc, octets)?;
-    Ok(Octets::from_vec(copy))
-}
-
 /// The value of an attribute's octets, shown first where they are hidden.
 #[tactic(auto, unfolding(crate::specs::Meanings::value_meant))]
 fn value_meant(
@@ -36,7 +29,7 @@ fn value_meant(
     }
     match unhide(alloc, secret, authenticator, octets)? {
         Some(password) => Ok(dictionary.value_of_vec(id, password)),
-        None => Ok(Value::Raw(copy_of(alloc, octets)?)),
+        None => Ok(Value::Raw(Octets::from_slice(alloc, octets)?)),
     }
 }
 
@@ -110,7 +103,7 @@ pub(crate) fn push_raw(pairs: &mut Vec<Pair>, number: u8, octets: &[u8]) -> Resu
     ensures { OnOk result (pairs.new.items ≡ pairs.old.items
         ++ raw_pair (part number octets.now) ∷ []) }
 {
-    let value = Value::Raw(copy_of(*pairs.allocator(), octets)?);
+    let value = Value::Raw(Octets::from_slice(*pairs.allocator(), octets)?);
     pairs.push(Pair {
         id: AttrId::Plain(u32::from(number)),
         value,

@@ -51,26 +51,6 @@ impl From<ValueFault> for Unresolved {
     }
 }
 
-fn octets_of(alloc: Global, octets: &[u8]) -> Result<Octets, AllocError>
-    ensures { IfOk result (λ copy. copy ≡ octets.now) }
-{
-    Ok(Octets::from_vec(Vec::from_slice(alloc, octets)?))
-}
-
-fn copy_value(alloc: Global, value: &Value) -> Result<Value, AllocError>
-    ensures { IfOk result (λ copy. copy ≡ value.now) }
-{
-    match value {
-        Value::Text(octets) => Ok(Value::Text(octets.copy(alloc)?)),
-        Value::Bytes(octets) => Ok(Value::Bytes(octets.copy(alloc)?)),
-        Value::Int(number) => Ok(Value::Int(*number)),
-        Value::Signed(number) => Ok(Value::Signed(*number)),
-        Value::Addr(address) => Ok(Value::Addr(*address)),
-        Value::Ether(address) => Ok(Value::Ether(*address)),
-        Value::Raw(octets) => Ok(Value::Raw(octets.copy(alloc)?)),
-    }
-}
-
 // Adds what is put in for an instance.
 fn push_instance(text: &mut Vec<u8>, dictionary: &Dictionary, pair: &Pair) -> Result<(), AllocError>
     requires { IsTrue (fits pair.now dictionary.now) }
@@ -150,10 +130,10 @@ fn read_by_type(
         (λ v. IsTrue (is_typed id v dictionary.now))) }
 {
     match dictionary.by_id(id) {
-        None => Ok(Some(Value::Raw(octets_of(alloc, octets)?))),
+        None => Ok(Some(Value::Raw(Octets::from_slice(alloc, octets)?))),
         Some(entry) => match entry.kind {
-            Kind::Text => Ok(Some(Value::Text(octets_of(alloc, octets)?))),
-            Kind::Bytes => Ok(Some(Value::Bytes(octets_of(alloc, octets)?))),
+            Kind::Text => Ok(Some(Value::Text(Octets::from_slice(alloc, octets)?))),
+            Kind::Bytes => Ok(Some(Value::Bytes(Octets::from_slice(alloc, octets)?))),
             Kind::Addr
             | Kind::Ether
             | Kind::Byte
@@ -242,7 +222,7 @@ fn source_value<S: Store>(
     ensures fits { IfOk result (λ v. IsTrue (fits (pair_of id v) dictionary.now)) }
 {
     match source {
-        Source::Literal(value) => Ok(copy_value(alloc, value)?),
+        Source::Literal(value) => Ok(value.copy(alloc)?),
         Source::Text(raw, parts) => text_value(
             alloc,
             dictionary,

@@ -109,7 +109,7 @@ returns c =
     let ep : c.len-2.result ≡ length new_pool = omega (arith, c.len-2.ensures, c.pool_for.new.pool.ok.0) in
     record {
       ok = ap (λ (xs : List State). let h : History = record { states = xs; place = k + 1 } in h)
-      (states-changed e pool slots steps k s.placed s.counted s.counts s.grow s.housed s.standing p plan step new_pool new_slots new_steps P N S refl es ep);
+          (states-changed e pool slots steps k s.placed s.counted s.counts s.grow s.housed s.standing p plan step new_pool new_slots new_steps P N S refl es ep);
       err = search rules;
       slim = slim-changed e pool slots steps k s.placed s.counted s.counts s.grow s.housed s.standing p plan step new_pool new_slots new_steps P N S refl es ep;
       kept = search rules;
