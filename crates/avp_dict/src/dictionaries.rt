@@ -96,9 +96,11 @@ impl Dictionary {
     pub fn read(alloc: Global, files: &FileSet) -> Result<Dictionary, DictFault>
         requires first { 0 < length files.now }
         requires names { HasDistinctNames files.now }
-        ensures read { Answers (λ dictionary. dictionary) result (dictionary_of max_lines files.now) }
+        ensures read { Answers (λ dictionary. dictionary) result
+            (dictionary_of max_lines files.now) }
         ensures placed { IfErr result (λ fault. fault.file < length files.now) }
-        ensures noted { IfOk result (λ dictionary. All (λ note. note.file < length files.now) dictionary.notes) }
+        ensures noted { IfOk result (λ dictionary.
+            All (λ note. note.file < length files.now) dictionary.notes) }
     {
         let contents = read_up_to(alloc, files.as_slice(), MAX_LINES)?;
         Ok(Dictionary { contents })

@@ -55,8 +55,10 @@ impl Dictionary {
     #[tactic(auto, using(crate::proofs::Fitting::names_known, crate::proofs::Fitting::formats_known))]
     pub fn is_sound(&self)
         ensures sound { IsSound self.now }
-        ensures names { (name : List ℕ) (found : Named) → named name self.now ≡ Some found → is_known found.id self.now ≡ true }
-        ensures formats { (vendor : ℕ) → IfSome (vendor_format vendor self.now) (λ f. is_format f.t f.l ≡ true) }
+        ensures names { (name : List ℕ) (found : Named) → named name self.now ≡ Some found
+            → is_known found.id self.now ≡ true }
+        ensures formats { (vendor : ℕ) →
+            IfSome (vendor_format vendor self.now) (λ f. is_format f.t f.l ≡ true) }
     {
         self.sound();
     }

@@ -31,7 +31,8 @@ fn plain_numbered(n: Number) -> Option<AttrId>
 }
 
 fn extended_numbered(t: Number, n: Number) -> Option<AttrId>
-    ensures { (first second : Option ℕ) → Reads t first → Reads n second → result ≡ extended_numbered first second }
+    ensures { (first second : Option ℕ) → Reads t first → Reads n second → result
+        ≡ extended_numbered first second }
 {
     match (t, n) {
         (Number::Is(t), Number::Is(n)) => extended_id(0, t, n),
@@ -41,7 +42,8 @@ fn extended_numbered(t: Number, n: Number) -> Option<AttrId>
 
 #[tactic(auto, using(crate::proofs::Numbered::number_past))]
 fn id_of_vendor(vendors: &Vendors, v: u64, n: Number) -> Option<AttrId>
-    ensures { (number : Option ℕ) → Reads n number → result ≡ vendor_id_numbered vendors.now (Some v) number }
+    ensures { (number : Option ℕ) → Reads n number → result
+        ≡ vendor_id_numbered vendors.now (Some v) number }
 {
     match n {
         Number::Unreadable => None,
@@ -58,7 +60,8 @@ fn id_of_vendor(vendors: &Vendors, v: u64, n: Number) -> Option<AttrId>
 
 #[tactic(auto, using(crate::proofs::Numbered::vendor_past))]
 fn vendor_id_numbered(vendors: &Vendors, v: Number, n: Number) -> Option<AttrId>
-    ensures { (vendor number : Option ℕ) → Reads v vendor → Reads n number → result ≡ vendor_id_numbered vendors.now vendor number }
+    ensures { (vendor number : Option ℕ) → Reads v vendor → Reads n number → result
+        ≡ vendor_id_numbered vendors.now vendor number }
 {
     match v {
         Number::Unreadable => None,

@@ -56,7 +56,8 @@ fn push_going(
 ) -> Result<(), AllocError>
     requires pooled { PairsWithin (length pool.now) slots.now }
     requires from { from ≤ length slots.now }
-    ensures { OnOk result (names.new.items ≡ names.old.items ++ names_in (taken edit.now pool.now) from (drop from slots.now)) }
+    ensures { OnOk result (names.new.items
+        ≡ names.old.items ++ names_in (taken edit.now pool.now) from (drop from slots.now)) }
 {
     for name in from..slots.len() {
         let slot = &slots[name];
@@ -85,7 +86,8 @@ fn plan_addition(
     edit: &Edit,
 ) -> Result<Plan, AllocError>
     requires pooled { PairsWithin (length pool.now) slots.now }
-    requires adds { adds_one edit.now.op edit.now.pair.id (shown_pairs edit.now.list pool.now slots.now) ≡ true }
+    requires adds { adds_one edit.now.op edit.now.pair.id
+        (shown_pairs edit.now.list pool.now slots.now) ≡ true }
     ensures { IfOk result (λ plan. IsPlan edit.now pool.now slots.now plan) }
 {
     let mut turned = Vec::new(alloc);
@@ -117,8 +119,10 @@ fn plan_replacement(
 ) -> Result<Plan, AllocError>
     requires pooled { PairsWithin (length pool.now) slots.now }
     requires op { edit.now.op ≡ Replace }
-    requires first { (first < length slots.now) × (shows_id edit.now.list edit.now.pair.id pool.now (slot_at slots.now first) ≡ true) }
-    requires none_before { list_any (shows_id edit.now.list edit.now.pair.id pool.now) (ahead_at first slots.now) ≡ false }
+    requires first { (first < length slots.now)
+        × (shows_id edit.now.list edit.now.pair.id pool.now (slot_at slots.now first) ≡ true) }
+    requires none_before { list_any (shows_id edit.now.list edit.now.pair.id pool.now)
+        (ahead_at first slots.now) ≡ false }
     ensures { IfOk result (λ plan. IsPlan edit.now pool.now slots.now plan) }
 {
     let mut turned = Vec::new(alloc);

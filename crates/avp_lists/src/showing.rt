@@ -65,7 +65,8 @@ fn push_shown(
     end: End,
 ) -> Result<(), AllocError>
     requires { PairsWithin (length pool.now) slots.now }
-    ensures { OnOk result (made.new.items ≡ made.old.items ++ shown_pairs_at end list pool.now slots.now) }
+    ensures { OnOk result (made.new.items
+        ≡ made.old.items ++ shown_pairs_at end list pool.now slots.now) }
 {
     for slot in slots {
         if shows_at(slot, list, end) {
@@ -136,8 +137,10 @@ pub(crate) fn pair_shown<'a>(
 // The last slot that shows an instance of the id which entered at the head.
 fn last_head(slots: &[Slot], pool: &[Pair], list: List, id: AttrId) -> Option<usize>
     requires { PairsWithin (length pool.now) slots.now }
-    ensures shown { IfSome result (λ at. (at < length slots.now) × (shows_id_at Head list id pool.now (slot_at slots.now at) ≡ true)) }
-    ensures none_after { IfSome result (λ at. list_any (shows_id_at Head list id pool.now) (drop (at + 1) slots.now) ≡ false) }
+    ensures shown { IfSome result (λ at. (at < length slots.now)
+        × (shows_id_at Head list id pool.now (slot_at slots.now at) ≡ true)) }
+    ensures none_after { IfSome result (λ at.
+        list_any (shows_id_at Head list id pool.now) (drop (at + 1) slots.now) ≡ false) }
     ensures none { IfNone result (list_any (shows_id_at Head list id pool.now) slots.now ≡ false) }
 {
     let mut end = slots.len();
@@ -155,8 +158,10 @@ fn last_head(slots: &[Slot], pool: &[Pair], list: List, id: AttrId) -> Option<us
 // The first slot that shows an instance of the id which entered at the tail.
 fn first_tail(slots: &[Slot], pool: &[Pair], list: List, id: AttrId) -> Option<usize>
     requires { PairsWithin (length pool.now) slots.now }
-    ensures shown { IfSome result (λ at. (at < length slots.now) × (shows_id_at Tail list id pool.now (slot_at slots.now at) ≡ true)) }
-    ensures none_before { IfSome result (λ at. list_any (shows_id_at Tail list id pool.now) (take at slots.now) ≡ false) }
+    ensures shown { IfSome result (λ at. (at < length slots.now)
+        × (shows_id_at Tail list id pool.now (slot_at slots.now at) ≡ true)) }
+    ensures none_before { IfSome result (λ at.
+        list_any (shows_id_at Tail list id pool.now) (take at slots.now) ≡ false) }
     ensures none { IfNone result (list_any (shows_id_at Tail list id pool.now) slots.now ≡ false) }
 {
     for name in 0..slots.len() {
@@ -171,8 +176,10 @@ fn first_tail(slots: &[Slot], pool: &[Pair], list: List, id: AttrId) -> Option<u
 // The slot that shows the first instance of the id in a list.
 pub(crate) fn first_slot(slots: &[Slot], pool: &[Pair], list: List, id: AttrId) -> Option<usize>
     requires { PairsWithin (length pool.now) slots.now }
-    ensures shown { IfSome result (λ at. (at < length slots.now) × (shows_id list id pool.now (slot_at slots.now at) ≡ true)) }
-    ensures none_before { IfSome result (λ at. list_any (shows_id list id pool.now) (ahead_at at slots.now) ≡ false) }
+    ensures shown { IfSome result (λ at. (at < length slots.now)
+        × (shows_id list id pool.now (slot_at slots.now at) ≡ true)) }
+    ensures none_before { IfSome result (λ at.
+        list_any (shows_id list id pool.now) (ahead_at at slots.now) ≡ false) }
     ensures none { IfNone result (list_any (shows_id list id pool.now) slots.now ≡ false) }
 {
     match last_head(slots, pool, list, id) {

@@ -59,10 +59,14 @@ struct Parts {
 
 // Room for a store of so many pairs.
 fn empty_parts(alloc: Global, count: usize) -> Result<Parts, AllocError>
-    ensures pool { IfOk result (λ parts. (parts.pool.items ≡ []) × (count ≤ vec_capacity parts.pool)) }
-    ensures slots { IfOk result (λ parts. (parts.slots.items ≡ []) × (count ≤ vec_capacity parts.slots)) }
-    ensures steps { IfOk result (λ parts. (parts.steps.items ≡ []) × (1 ≤ vec_capacity parts.steps)) }
-    ensures nexts { IfOk result (λ parts. (parts.nexts.items ≡ []) × (1 ≤ vec_capacity parts.nexts)) }
+    ensures pool { IfOk result (λ parts. (parts.pool.items ≡ [])
+        × (count ≤ vec_capacity parts.pool)) }
+    ensures slots { IfOk result (λ parts. (parts.slots.items ≡ [])
+        × (count ≤ vec_capacity parts.slots)) }
+    ensures steps { IfOk result (λ parts. (parts.steps.items ≡ [])
+        × (1 ≤ vec_capacity parts.steps)) }
+    ensures nexts { IfOk result (λ parts. (parts.nexts.items ≡ [])
+        × (1 ≤ vec_capacity parts.nexts)) }
 {
     Ok(Parts {
         pool: Vec::with_capacity(alloc, count)?,
@@ -111,7 +115,8 @@ fn make_room_after(
     requires steps { ends.steps ≤ length steps.old.items }
     requires slots { ends.slots ≤ length slots.old.items }
     requires pool { ends.pairs ≤ length pool.old.items }
-    ensures room { OnOk result (ends.steps < min (vec_capacity steps.new) (vec_capacity nexts.new)) }
+    ensures room { OnOk result (ends.steps
+        < min (vec_capacity steps.new) (vec_capacity nexts.new)) }
     ensures slots_room { OnOk result (ends.slots < vec_capacity slots.new) }
     ensures pool_room { OnOk result (ends.pairs < vec_capacity pool.new) }
     ensures steps { steps.new.items ≡ steps.old.items }
@@ -152,8 +157,10 @@ fn pool_for(pool: &mut Vec<Pair>, end: usize, plan: &Plan, pair: Pair)
 fn slots_for(slots: &mut Vec<Slot>, end: usize, plan: &Plan)
     requires within { end ≤ length slots.old.items }
     requires room { end < vec_capacity slots.old }
-    requires names { NamesWithin (length (widened plan.now (take end slots.old.items))) plan.now.turned.items }
-    requires swap { SwapWithin (length (widened plan.now (take end slots.old.items))) plan.now.swap }
+    requires names { NamesWithin (length (widened plan.now (take end slots.old.items)))
+        plan.now.turned.items }
+    requires swap { SwapWithin (length (widened plan.now (take end slots.old.items)))
+        plan.now.swap }
     ensures { slots.new.items ≡ planned plan.now (take end slots.old.items) }
 {
     cut_and_add(slots, end, plan.added);
@@ -165,7 +172,8 @@ fn add_list(pool: &mut Vec<Pair>, slots: &mut Vec<Slot>, list: List, mut pairs: 
     requires pool_room { length pool.old.items + length pairs.items ≤ vec_capacity pool.old }
     requires slots_room { length slots.old.items + length pairs.items ≤ vec_capacity slots.old }
     ensures pool { pool.new.items ≡ pool.old.items ++ pairs.items }
-    ensures slots { slots.new.items ≡ slots.old.items ++ fresh list (length pool.old.items) (length pairs.items) }
+    ensures slots { slots.new.items ≡ slots.old.items
+        ++ fresh list (length pool.old.items) (length pairs.items) }
     ensures pool_kept { vec_capacity pool.old ≤ vec_capacity pool.new }
     ensures slots_kept { vec_capacity slots.old ≤ vec_capacity slots.new }
 {
@@ -194,8 +202,15 @@ impl SlotStore {
         requires request_fits { length request.items ≤ MAX_PAIRS }
         requires reply_fits { length reply.items ≤ MAX_PAIRS }
         requires control_fits { length control.items ≤ MAX_PAIRS }
-        ensures ok { IfOk result (λ s. ⟦<SlotStore as Store>⟧.history s ≡ starting (record { request = request.items; reply = reply.items; control = control.items })) }
-        ensures err { IfErr result (λ back. back ≡ record { request = request; reply = reply; control = control }) }
+        ensures ok { IfOk result (λ s. ⟦<SlotStore as Store>⟧.history s
+            ≡ starting (record {
+              request = request.items;
+              reply = reply.items;
+              control =
+                  control.items;
+            })) }
+        ensures err { IfErr result (λ back. back
+            ≡ record { request = request; reply = reply; control = control }) }
     {
         let count = request.len() + reply.len() + control.len();
         let Ok(parts) = empty_parts(alloc, count) else {
@@ -232,14 +247,16 @@ impl SlotStore {
 
     // Whether the list has no instance of the id.
     fn has_none(&self, list: List, id: AttrId) -> bool
-        ensures { result ≡ not (has_instance id (list_of list (present (⟦<SlotStore as Store>⟧.history self.now)))) }
+        ensures { result ≡ not (has_instance id
+            (list_of list (present (⟦<SlotStore as Store>⟧.history self.now)))) }
     {
         first_slot(&self.slots, &self.pool, list, id).is_none()
     }
 
     // Whether the operator makes the list longer.
     fn adds_one(&self, list: List, op: Op, id: AttrId) -> bool
-        ensures { result ≡ adds_one op id (list_of list (present (⟦<SlotStore as Store>⟧.history self.now))) }
+        ensures { result ≡ adds_one op id
+            (list_of list (present (⟦<SlotStore as Store>⟧.history self.now))) }
     {
         match op {
             Op::Append | Op::Prepend => true,
@@ -250,19 +267,25 @@ impl SlotStore {
 
     // Whether the edit would make its list too long.
     fn is_full(&self, edit: &Edit) -> bool
-        ensures { IsTrue result ↔ IsFull edit.now (present (⟦<SlotStore as Store>⟧.history self.now)) }
+        ensures { IsTrue result ↔ IsFull edit.now
+            (present (⟦<SlotStore as Store>⟧.history self.now)) }
     {
         self.count(edit.list) == MAX_PAIRS && self.adds_one(edit.list, edit.op, edit.pair.id)
     }
 
     // Cuts off what is after the place, and edits.
     fn change(&mut self, edit: Edit) -> Result<(), AllocError>
-        requires fits { IsLimited (edited edit (present (⟦<SlotStore as Store>⟧.history self.old))) }
-        ensures ok { OnOk result (⟦<SlotStore as Store>⟧.history self.new ≡ after_edit edit (⟦<SlotStore as Store>⟧.history self.old)) }
-        ensures err { OnErr result (⟦<SlotStore as Store>⟧.history self.new ≡ ⟦<SlotStore as Store>⟧.history self.old) }
+        requires fits { IsLimited (edited edit
+            (present (⟦<SlotStore as Store>⟧.history self.old))) }
+        ensures ok { OnOk result (⟦<SlotStore as Store>⟧.history self.new
+            ≡ after_edit edit (⟦<SlotStore as Store>⟧.history self.old)) }
+        ensures err { OnErr result (⟦<SlotStore as Store>⟧.history self.new
+            ≡ ⟦<SlotStore as Store>⟧.history self.old) }
         // What was cut off is given up: at most the edit's own pair is kept besides those that were there at the place.
-        ensures slim { OnOk result (length self.new.pool.items ≤ max_kept self.old.steps.items self.old.place) }
-        ensures kept { self.old.place + ⟦<SlotStore as Store>⟧.room self.old ≤ self.new.place + ⟦<SlotStore as Store>⟧.room self.new }
+        ensures slim { OnOk result (length self.new.pool.items
+            ≤ max_kept self.old.steps.items self.old.place) }
+        ensures kept { self.old.place + ⟦<SlotStore as Store>⟧.room self.old
+            ≤ self.new.place + ⟦<SlotStore as Store>⟧.room self.new }
     {
         let last = &self.steps[self.place];
         let ends = Ends {

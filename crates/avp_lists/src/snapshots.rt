@@ -68,8 +68,15 @@ impl SnapshotStore {
         requires request_fits { length request.items ≤ MAX_PAIRS }
         requires reply_fits { length reply.items ≤ MAX_PAIRS }
         requires control_fits { length control.items ≤ MAX_PAIRS }
-        ensures ok { IfOk result (λ s. ⟦<SnapshotStore as Store>⟧.history s ≡ starting (record { request = request.items; reply = reply.items; control = control.items })) }
-        ensures err { IfErr result (λ back. back ≡ record { request = request; reply = reply; control = control }) }
+        ensures ok { IfOk result (λ s. ⟦<SnapshotStore as Store>⟧.history s
+            ≡ starting (record {
+              request = request.items;
+              reply = reply.items;
+              control =
+                  control.items;
+            })) }
+        ensures err { IfErr result (λ back. back
+            ≡ record { request = request; reply = reply; control = control }) }
     {
         let Ok(mut snapshots) = Vec::with_capacity(alloc, 1) else {
             return Err(ListsRefused {
@@ -95,7 +102,8 @@ impl SnapshotStore {
     fn whole_place(&self, at: usize) -> usize
         requires { at < length self.now.snapshots.items }
         ensures within { result ≤ at }
-        ensures state { state_of self.now.snapshots.items (snapshot_at self.now.snapshots.items at) ≡ own_state (snapshot_at self.now.snapshots.items result) }
+        ensures state { state_of self.now.snapshots.items (snapshot_at self.now.snapshots.items at)
+            ≡ own_state (snapshot_at self.now.snapshots.items result) }
         ensures whole { is_whole (snapshot_at self.now.snapshots.items result) ≡ true }
     {
         match &self.snapshots[at] {
@@ -106,7 +114,8 @@ impl SnapshotStore {
 
     // The present state.
     fn present(&self) -> &State
-        ensures { result.now ≡ slice_index_or (states_of self.now.snapshots.items) self.now.place empty_state }
+        ensures { result.now ≡ slice_index_or
+            (states_of self.now.snapshots.items) self.now.place empty_state }
     {
         let at = self.whole_place(self.place);
         match &self.snapshots[at] {
@@ -119,10 +128,13 @@ impl SnapshotStore {
     fn add(&mut self, snapshot: Snapshot) -> Result<(), AllocError>
         requires names { NamesBelow (self.old.place + 1) self.old.snapshots.items snapshot }
         requires limited { IsLimited (own_state snapshot) }
-        ensures ok { OnOk result (states_of self.new.snapshots.items ≡ take (self.old.place + 1) (states_of self.old.snapshots.items) ++ state_of self.old.snapshots.items snapshot ∷ []) }
+        ensures ok { OnOk result (states_of self.new.snapshots.items
+            ≡ take (self.old.place + 1) (states_of self.old.snapshots.items)
+            ++ state_of self.old.snapshots.items snapshot ∷ []) }
         ensures place { OnOk result (self.new.place ≡ self.old.place + 1) }
         ensures enough { self.old.place + 1 < vec_capacity self.old.snapshots → IsOk result }
-        ensures err { OnErr result ((self.new.snapshots.items ≡ self.old.snapshots.items) × (self.new.place ≡ self.old.place)) }
+        ensures err { OnErr result ((self.new.snapshots.items ≡ self.old.snapshots.items)
+            × (self.new.place ≡ self.old.place)) }
         ensures kept { vec_capacity self.old.snapshots ≤ vec_capacity self.new.snapshots }
     {
         let end = self.place + 1;

@@ -83,7 +83,8 @@ pub trait Store: Drop {
     /// ```
     fn edit(&mut self, edit: Edit) -> Result<(), EditFault>
         ensures ok { OnOk result (history self.new ≡ after_edit edit (history self.old)) }
-        ensures fits { OnOk result (length (edited_list edit (present (history self.old))) ≤ MAX_PAIRS) }
+        ensures fits { OnOk result (length (edited_list edit (present (history self.old)))
+            ≤ MAX_PAIRS) }
         ensures full { IsErrOf result EditFault.Full ↔ IsFull edit (present (history self.old)) }
         ensures err { OnErr result (history self.new ≡ history self.old) }
         ensures kept { (history self.old).place + room self.old ≤ (history self.new).place + room self.new };
@@ -101,13 +102,16 @@ pub trait Store: Drop {
     /// ```
     fn undo(&mut self) -> bool
         ensures variant { IsTrue result ↔ (0 < (history self.old).place) }
-        ensures moved { history self.new ≡ at_place ((history self.old).place - 1) (history self.old) }
+        ensures moved { history self.new
+            ≡ at_place ((history self.old).place - 1) (history self.old) }
         ensures kept { (history self.new).place + room self.new ≡ (history self.old).place + room self.old };
 
     /// Goes to the state after, if there is one.
     fn redo(&mut self) -> bool
-        ensures variant { IsTrue result ↔ ((history self.old).place + 1 < length (history self.old).states) }
-        ensures moved { OnTrue result (history self.new ≡ at_place ((history self.old).place + 1) (history self.old)) }
+        ensures variant { IsTrue result ↔
+            ((history self.old).place + 1 < length (history self.old).states) }
+        ensures moved { OnTrue result (history self.new
+            ≡ at_place ((history self.old).place + 1) (history self.old)) }
         ensures end { OnFalse result (history self.new ≡ history self.old) }
         ensures kept { (history self.new).place + room self.new ≡ (history self.old).place + room self.old };
 

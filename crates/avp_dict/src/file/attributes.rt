@@ -257,7 +257,8 @@ fn attribute_line<'a>(
     kind: &[u8],
     flags: &[&[u8]],
 ) -> Result<Meaning<'a>, LineError>
-    ensures { Means result (attribute_line (context_view before.now) block name.now number.now kind.now (views flags.now)) }
+    ensures { Means result (attribute_line
+        (context_view before.now) block name.now number.now kind.now (views flags.now)) }
 {
     let parts = parts_between(alloc, b'.', number)?;
     let id = id_of_parts(&before.vendors, block, &parts)?;

@@ -36,7 +36,8 @@ fn opens_tlv_named(reading: Reading<'_>, name: &[u8]) -> bool
 }
 
 fn is_in_vendor(opened: &[Reading<'_>], name: &[u8]) -> bool
-    ensures { result ≡ option_map_or (opens_vendor_named name.now) (innermost (reading_views opened.now)) false }
+    ensures { result ≡ option_map_or (opens_vendor_named name.now)
+        (innermost (reading_views opened.now)) false }
 {
     match innermost(opened) {
         Some(reading) => opens_vendor_named(reading, name),
@@ -45,7 +46,8 @@ fn is_in_vendor(opened: &[Reading<'_>], name: &[u8]) -> bool
 }
 
 fn is_in_tlv(opened: &[Reading<'_>], name: &[u8]) -> bool
-    ensures { result ≡ option_map_or (opens_tlv_named name.now) (innermost (reading_views opened.now)) false }
+    ensures { result ≡ option_map_or (opens_tlv_named name.now)
+        (innermost (reading_views opened.now)) false }
 {
     match innermost(opened) {
         Some(reading) => opens_tlv_named(reading, name),

@@ -34,7 +34,8 @@ impl<'a> Context<'a> {
     /// One line more.
     pub(crate) fn add(&mut self, alloc: Global, reading: Reading<'a>) -> Result<(), AllocError>
         requires { IsShort reading.meaning }
-        ensures { OnOk result (context_view self.new ≡ after_reading (context_view self.old) (reading_view reading.entry)) }
+        ensures { OnOk result (context_view self.new
+            ≡ after_reading (context_view self.old) (reading_view reading.entry)) }
     {
         match reading.meaning {
             Meaning::Attribute(name, id, typing) => {

@@ -67,7 +67,8 @@ fn included<'a>(words: &[&'a [u8]]) -> Option<&'a [u8]>
 
 /// The place of the file that a line of these words includes.
 pub(crate) fn place_included(files: &[NamedFile], words: &[&[u8]]) -> Option<usize>
-    ensures { result ≡ option_and_then (λ name. file_named name files.now) (included_by (views words.now)) }
+    ensures { result ≡ option_and_then (λ name. file_named name files.now)
+        (included_by (views words.now)) }
 {
     match included(words) {
         Some(name) => file_named(files, name),

@@ -87,7 +87,8 @@ fn read_head<'a>(
     head: &[u8],
     words: &[&'a [u8]],
 ) -> Result<Meaning<'a>, LineError>
-    ensures { Means result (read_head (context_view before.now) found depth head.now (views words.now)) }
+    ensures { Means result (read_head (context_view before.now) found depth head.now
+        (views words.now)) }
 {
     let opened = before.opened.as_slice();
     if is_include(head) {

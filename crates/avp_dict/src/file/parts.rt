@@ -15,7 +15,8 @@ fn separator_at(separator: u8, text: &[u8]) -> Option<usize>
 
 /// What is before the first separator, and after it.
 pub(crate) fn first_between(separator: u8, text: &[u8]) -> Option<(&[u8], &[u8])>
-    ensures cut { IfSome result (λ x. slice_split (λ o. o == separator) text.now ≡ x.0.now ∷ slice_split (λ o. o == separator) x.1.now) }
+    ensures cut { IfSome result (λ x. slice_split (λ o. o == separator) text.now
+        ≡ x.0.now ∷ slice_split (λ o. o == separator) x.1.now) }
     ensures shorter { IfSome result (λ x. length x.1.now < length text.now) }
     ensures whole { IfNone result (slice_split (λ o. o == separator) text.now ≡ text.now ∷ []) }
 {
@@ -31,7 +32,8 @@ pub(crate) fn parts_between(
     separator: u8,
     word: &[u8],
 ) -> Result<Vec<&[u8]>, AllocError>
-    ensures { IfOk result (λ parts. views parts.items ≡ slice_split (λ o. o == separator) word.now) }
+    ensures { IfOk result (λ parts. views parts.items
+        ≡ slice_split (λ o. o == separator) word.now) }
 {
     let mut parts = Vec::new(alloc);
     let mut rest = word;

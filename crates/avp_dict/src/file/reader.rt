@@ -53,7 +53,8 @@ impl<'a> ReadLines<'a> {
     ) -> Result<Meaning<'a>, LineError>
         requires words { views words.now ≡ words_of line.text.now }
         requires included { included ≡ file_included files.now line.text.now }
-        ensures { Means result (within limit (reading_views self.now.readings.items) (read_line files.now (context_view self.now.context) (line_view line.entry))) }
+        ensures { Means result (within limit (reading_views self.now.readings.items)
+            (read_line files.now (context_view self.now.context) (line_view line.entry))) }
     {
         if self.readings.len() >= limit {
             return Err(LineError::Refused(DictKind::TooLong));
@@ -71,15 +72,24 @@ impl<'a> ReadLines<'a> {
         words: &[&'a [u8]],
         included: Option<usize>,
     ) -> Result<(), DictFault>
-        requires tracked { context_view self.old.context ≡ context_of (reading_views self.old.readings.items) }
+        requires tracked { context_view self.old.context
+            ≡ context_of (reading_views self.old.readings.items) }
         requires words { views words.now ≡ words_of line.text.now }
         requires included { included ≡ file_included files.now line.text.now }
         requires room { length self.old.readings.items ≤ limit }
-        ensures tracked { OnOk result (context_view self.new.context ≡ context_of (reading_views self.new.readings.items)) }
+        ensures tracked { OnOk result (context_view self.new.context
+            ≡ context_of (reading_views self.new.readings.items)) }
         ensures room { OnOk result (length self.new.readings.items ≤ limit) }
-        ensures longer { OnOk result (length self.new.readings.items ≡ length self.old.readings.items + 1) }
-        ensures step { (ls : List SetLine) → OnOk result (read_lines limit files.now (reading_views self.old.readings.items) (line_view line.entry ∷ ls) ≡ read_lines limit files.now (reading_views self.new.readings.items) ls) }
-        ensures refused { (ls : List SetLine) → IfErr result (λ e. Refuses e (read_lines limit files.now (reading_views self.old.readings.items) (line_view line.entry ∷ ls))) }
+        ensures longer { OnOk result (length self.new.readings.items
+            ≡ length self.old.readings.items + 1) }
+        ensures step { (ls : List SetLine)
+            → OnOk result (read_lines limit files.now (reading_views self.old.readings.items)
+            (line_view line.entry ∷ ls) ≡ read_lines limit files.now
+            (reading_views self.new.readings.items) ls) }
+        ensures refused { (ls : List SetLine)
+            → IfErr result (λ e. Refuses e
+            (read_lines limit files.now (reading_views self.old.readings.items)
+            (line_view line.entry ∷ ls))) }
     {
         match self.read_one(alloc, files, limit, line, words, included) {
             Ok(meaning) => {
@@ -107,13 +117,22 @@ impl<'a> ReadLines<'a> {
     ) -> Result<(), DictFault>
         requires levels { levels ≤ MAX_LEVELS }
         requires limit { limit < 2 ^ 32 }
-        requires tracked { context_view self.old.context ≡ context_of (reading_views self.old.readings.items) }
+        requires tracked { context_view self.old.context
+            ≡ context_of (reading_views self.old.readings.items) }
         requires room { length self.old.readings.items ≤ limit }
-        ensures tracked { OnOk result (context_view self.new.context ≡ context_of (reading_views self.new.readings.items)) }
+        ensures tracked { OnOk result (context_view self.new.context
+            ≡ context_of (reading_views self.new.readings.items)) }
         ensures room { OnOk result (length self.new.readings.items ≤ limit) }
-        ensures longer { OnOk result (length self.old.readings.items ≤ length self.new.readings.items) }
-        ensures step { (ls : List SetLine) → OnOk result (read_lines limit files.now (reading_views self.old.readings.items) (lines_in files.now levels place ++ ls) ≡ read_lines limit files.now (reading_views self.new.readings.items) ls) }
-        ensures refused { (ls : List SetLine) → IfErr result (λ e. Refuses e (read_lines limit files.now (reading_views self.old.readings.items) (lines_in files.now levels place ++ ls))) }
+        ensures longer { OnOk result (length self.old.readings.items
+            ≤ length self.new.readings.items) }
+        ensures step { (ls : List SetLine)
+            → OnOk result (read_lines limit files.now (reading_views self.old.readings.items)
+            (lines_in files.now levels place ++ ls)
+            ≡ read_lines limit files.now (reading_views self.new.readings.items) ls) }
+        ensures refused { (ls : List SetLine)
+            → IfErr result (λ e. Refuses e
+            (read_lines limit files.now (reading_views self.old.readings.items)
+            (lines_in files.now levels place ++ ls))) }
     {
         if levels == 0 {
             return Ok(());
@@ -145,7 +164,9 @@ impl<'a> ReadLines<'a> {
 // Refuses the last of the lines that opened blocks.
 fn refuse_open(opened: &[Reading<'_>]) -> Result<(), DictFault>
     ensures closed { OnOk result (innermost (reading_views opened.now) ≡ None) }
-    ensures left { (all : List SetReading) → IfErr result (λ fault. unless_open (innermost (reading_views opened.now)) all ≡ Err fault) }
+    ensures left { (all : List SetReading)
+        → IfErr result (λ fault. unless_open (innermost (reading_views opened.now)) all
+        ≡ Err fault) }
 {
     match innermost(opened) {
         Some(reading) => Err(DictFault {
@@ -167,8 +188,10 @@ pub(crate) fn read_set<'a>(
     requires limit { limit < 2 ^ 32 }
     requires read { reading_views read.old.readings.items ≡ [] }
     requires tracked { context_view read.old.context ≡ context_of [] }
-    ensures tracked { OnOk result (context_view read.new.context ≡ context_of (reading_views read.new.readings.items)) }
-    ensures read { OnOk result (dictionary_of limit files.now ≡ settled_dictionary (reading_views read.new.readings.items)) }
+    ensures tracked { OnOk result (context_view read.new.context
+        ≡ context_of (reading_views read.new.readings.items)) }
+    ensures read { OnOk result (dictionary_of limit files.now
+        ≡ settled_dictionary (reading_views read.new.readings.items)) }
     ensures refused { IfErr result (λ fault. Refuses fault (dictionary_of limit files.now)) }
 {
     read.read_file(alloc, files, limit, MAX_LEVELS, 0)?;

@@ -138,7 +138,8 @@ fn value_of(
     number: u64,
     id: Option<AttrId>,
 ) -> Result<Option<ValueLine>, LineError>
-    ensures value { Gives result (value_of skipped.now (contents_view contents.now) attribute.now name.now number id) }
+    ensures value { Gives result (value_of skipped.now
+        (contents_view contents.now) attribute.now name.now number id) }
     ensures short { IfOk result (λ value. IfSome value (λ v. length v.name ≤ max_name)) }
 {
     match id {
@@ -173,7 +174,8 @@ fn is_noted(vendors: &Vendors, meaning: Meaning<'_>) -> bool
 impl Contents {
     // A note of this line.
     fn add_note(&mut self, reading: Reading<'_>) -> Result<(), AllocError>
-        ensures { OnOk result (contents_view self.new ≡ with_note (contents_view self.old) (reading_view reading.entry)) }
+        ensures { OnOk result (contents_view self.new
+            ≡ with_note (contents_view self.old) (reading_view reading.entry)) }
     {
         self.notes.push(Note {
             file: reading.file,
@@ -189,7 +191,8 @@ impl Contents {
         value: Option<ValueLine>,
     ) -> Result<(), AllocError>
         requires { IfSome value (λ v. length v.name ≤ max_name) }
-        ensures { OnOk result (contents_view self.new ≡ with_value (contents_view self.old) (reading_view reading.entry) value) }
+        ensures { OnOk result (contents_view self.new
+            ≡ with_value (contents_view self.old) (reading_view reading.entry) value) }
     {
         match value {
             Some(value) => self.values.push(value),
@@ -205,8 +208,11 @@ impl Contents {
         skipped: &NameSet<'_>,
         reading: Reading<'_>,
     ) -> Result<(), DictFault>
-        ensures step { OnOk result (with_line skipped.now (contents_view self.old) (reading_view reading.entry) ≡ Ok (contents_view self.new)) }
-        ensures refused { IfErr result (λ fault. Refuses fault (with_line skipped.now (contents_view self.old) (reading_view reading.entry))) }
+        ensures step { OnOk result (with_line skipped.now (contents_view self.old)
+            (reading_view reading.entry) ≡ Ok (contents_view self.new)) }
+        ensures refused { IfErr result (λ fault.
+            Refuses fault (with_line skipped.now (contents_view self.old)
+            (reading_view reading.entry))) }
     {
         if let Meaning::Value(attribute, name, number) = reading.meaning {
             let id = self.attributes.id_named(attribute);
@@ -227,8 +233,11 @@ impl Contents {
         skipped: &NameSet<'_>,
         readings: &[Reading<'_>],
     ) -> Result<(), DictFault>
-        ensures ok { OnOk result (resolve skipped.now (contents_view self.old) (reading_views readings.now) ≡ Ok (contents_view self.new)) }
-        ensures refused { IfErr result (λ fault. Refuses fault (resolve skipped.now (contents_view self.old) (reading_views readings.now))) }
+        ensures ok { OnOk result (resolve skipped.now (contents_view self.old)
+            (reading_views readings.now) ≡ Ok (contents_view self.new)) }
+        ensures refused { IfErr result (λ fault.
+            Refuses fault (resolve skipped.now (contents_view self.old)
+            (reading_views readings.now))) }
     {
         for reading in readings {
             self.add_line(alloc, skipped, *reading)?;
@@ -239,7 +248,8 @@ impl Contents {
 
 // The name on a skipped ATTRIBUTE line.
 fn skipped_name<'a>(vendors: &Vendors, meaning: Meaning<'a>) -> Option<&'a [u8]>
-    ensures { name_if (option_copied result) ≡ skipped_name_of vendors.now (meaning_view meaning.entry) }
+    ensures { name_if (option_copied result)
+        ≡ skipped_name_of vendors.now (meaning_view meaning.entry) }
 {
     match meaning {
         Meaning::SkippedAttribute(name) => Some(name),
@@ -278,8 +288,12 @@ fn add_all(
     readings: &[Reading<'_>],
     contents: &mut Contents,
 ) -> Result<(), DictFault>
-    ensures ok { OnOk result (resolve (skipped_names contents.old.vendors (reading_views readings.now)) (contents_view contents.old) (reading_views readings.now) ≡ Ok (contents_view contents.new)) }
-    ensures refused { IfErr result (λ fault. Refuses fault (resolve (skipped_names contents.old.vendors (reading_views readings.now)) (contents_view contents.old) (reading_views readings.now))) }
+    ensures ok { OnOk result (resolve (skipped_names contents.old.vendors
+        (reading_views readings.now)) (contents_view contents.old) (reading_views readings.now)
+        ≡ Ok (contents_view contents.new)) }
+    ensures refused { IfErr result (λ fault.
+        Refuses fault (resolve (skipped_names contents.old.vendors (reading_views readings.now))
+        (contents_view contents.old) (reading_views readings.now))) }
 {
     let mut skipped = NameSet::new(alloc);
     add_skipped(alloc, &contents.vendors, readings, &mut skipped)?;

@@ -34,7 +34,8 @@ fn blank_at(text: &[u8]) -> Option<usize>
 
 // What is before the first blank, and after it.
 fn first_part(text: &[u8]) -> Option<(&[u8], &[u8])>
-    ensures cut { IfSome result (λ x. slice_split is_blank text.now ≡ x.0.now ∷ slice_split is_blank x.1.now) }
+    ensures cut { IfSome result (λ x. slice_split is_blank text.now
+        ≡ x.0.now ∷ slice_split is_blank x.1.now) }
     ensures shorter { IfSome result (λ x. length x.1.now < length text.now) }
     ensures whole { IfNone result (slice_split is_blank text.now ≡ text.now ∷ []) }
 {
@@ -46,7 +47,8 @@ fn first_part(text: &[u8]) -> Option<(&[u8], &[u8])>
 
 // Adds a part, if it is a word.
 fn push_part<'a>(words: &mut Vec<&'a [u8]>, part: &'a [u8]) -> Result<(), AllocError>
-    ensures { OnOk result (views words.new.items ≡ views words.old.items ++ filter is_word (part.now ∷ [])) }
+    ensures { OnOk result (views words.new.items
+        ≡ views words.old.items ++ filter is_word (part.now ∷ [])) }
 {
     if !part.is_empty() {
         words.push(part)?;
@@ -56,7 +58,8 @@ fn push_part<'a>(words: &mut Vec<&'a [u8]>, part: &'a [u8]) -> Result<(), AllocE
 
 /// What is between spaces, tabs and CRs.
 pub fn words_between_blanks(alloc: Global, plain: &[u8]) -> Result<Vec<&[u8]>, AllocError>
-    ensures { IfOk result (λ words. views words.items ≡ filter is_word (slice_split is_blank plain.now)) }
+    ensures { IfOk result (λ words. views words.items
+        ≡ filter is_word (slice_split is_blank plain.now)) }
 {
     let mut words = Vec::new(alloc);
     let mut rest = plain;

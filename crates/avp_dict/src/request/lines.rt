@@ -25,7 +25,8 @@ use std::alloc::Global;
 
 /// The first line of a text without its end, and what follows it; none where nothing is left.
 pub fn next_line(text: &[u8]) -> Option<(&[u8], &[u8])>
-    ensures cut { MatchOption result (texts_of text.now ≡ []) (λ x. texts_of text.now ≡ x.0.now ∷ texts_of x.1.now) }
+    ensures cut { MatchOption result (texts_of text.now ≡ [])
+        (λ x. texts_of text.now ≡ x.0.now ∷ texts_of x.1.now) }
     ensures line { IfSome result (λ x. x.0.now ≡ before_first is_line_end text.now) }
     ensures rest { IfSome result (λ x. x.1.now ≡ after_first is_line_end text.now) }
     ensures shorter { IfSome result (λ x. length x.1.now < length text.now) }
@@ -87,7 +88,8 @@ fn end_of_packet(number: usize, rest: &[u8]) -> Result<(), LineFault>
 // What follows a pair on its line: the text after a comma, or nothing.
 #[tactic(auto, using(crate::proofs::Lexing::at_end), unfolding(crate::specs::RequestLines::pairs_of))]
 fn after_pair(rest: &[u8]) -> Result<&[u8], LineKind>
-    ensures read { IfOk result (λ after. assigned_after (tokens_at Side.Value rest.now) ≡ pairs_of (tokens_at Side.Name after.now)) }
+    ensures read { IfOk result (λ after. assigned_after (tokens_at Side.Value rest.now)
+        ≡ pairs_of (tokens_at Side.Name after.now)) }
     ensures shorter { IfOk result (λ after. length after.now ≤ length rest.now) }
     ensures refused { OnErr result (assigned_after (tokens_at Side.Value rest.now) ≡ None) }
 {
@@ -103,7 +105,8 @@ fn push_pair(pairs: &mut Vec<Pair>, pair: Pair) -> Result<(), LineKind>
     requires { length pairs.old.items ≤ max_pairs }
     ensures pushed { OnOk result (pairs.new.items ≡ pairs.old.items ++ pair ∷ []) }
     ensures few { OnOk result (length pairs.new.items ≤ max_pairs) }
-    ensures refused { IfErr result (λ kind. kind ≢ LineKind.Memory → length pairs.old.items ≡ max_pairs) }
+    ensures refused { IfErr result (λ kind. kind ≢ LineKind.Memory → length pairs.old.items
+        ≡ max_pairs) }
 {
     if pairs.len() == MAX_PAIRS {
         return Err(LineKind::TooMany);
@@ -147,9 +150,14 @@ impl Dictionary {
         first: Token,
         rest: &'a [u8],
     ) -> Result<(Pair, &'a [u8]), LineKind>
-        ensures read { IfOk result (λ x. pairs_at self.now (token_view first.entry ∷ tokens_at (side_after Side.Name first.entry) rest.now) ≡ after_pairs (x.0 ∷ []) (pairs_after self.now (tokens_at Side.Value x.1.now))) }
+        ensures read { IfOk result (λ x.
+            pairs_at self.now (token_view first.entry
+            ∷ tokens_at (side_after Side.Name first.entry) rest.now)
+            ≡ after_pairs (x.0 ∷ []) (pairs_after self.now (tokens_at Side.Value x.1.now))) }
         ensures shorter { IfOk result (λ x. length x.1.now ≤ length rest.now) }
-        ensures refused { IfErr result (λ kind. RefusesLine kind (pairs_at self.now (token_view first.entry ∷ tokens_at (side_after Side.Name first.entry) rest.now))) }
+        ensures refused { IfErr result (λ kind.
+            RefusesLine kind (pairs_at self.now
+            (token_view first.entry ∷ tokens_at (side_after Side.Name first.entry) rest.now))) }
     {
         let Token::Run(name) = first else {
             return Err(LineKind::Unreadable);
@@ -170,9 +178,11 @@ impl Dictionary {
     // Adds the pairs of a line to those of the lines before it.
     fn read_line(&self, alloc: Global, line: &[u8], pairs: &mut Vec<Pair>) -> Result<(), LineKind>
         requires { length pairs.old.items ≤ max_pairs }
-        ensures read { OnOk result (after_pairs pairs.old.items (pairs_at self.now (tokens_at Side.Name line.now)) ≡ Some pairs.new.items) }
+        ensures read { OnOk result (after_pairs pairs.old.items
+            (pairs_at self.now (tokens_at Side.Name line.now)) ≡ Some pairs.new.items) }
         ensures few { OnOk result (length pairs.new.items ≤ max_pairs) }
-        ensures refused { IfErr result (λ kind. kind ≢ LineKind.Memory → IsNoRequest pairs.old.items (pairs_at self.now (tokens_at Side.Name line.now))) }
+        ensures refused { IfErr result (λ kind. kind ≢ LineKind.Memory
+            → IsNoRequest pairs.old.items (pairs_at self.now (tokens_at Side.Name line.now))) }
     {
         let mut rest = line;
         while let Some((first, after)) = next_token(Side::Name, rest) {
@@ -195,13 +205,16 @@ impl Dictionary {
     /// ```
     pub fn read_request(&self, alloc: Global, text: &[u8]) -> Result<Vec<Pair>, LineFault>
         ensures read { IfOk result (λ pairs. request_spelled text.now self.now ≡ Some pairs.items) }
-        ensures fits { IfOk result (λ pairs. All (λ pair. IsTrue (fits pair self.now)) pairs.items) }
+        ensures fits { IfOk result (λ pairs.
+            All (λ pair. IsTrue (fits pair self.now)) pairs.items) }
         ensures few { IfOk result (λ pairs. length pairs.items ≤ max_pairs) }
 
         // What is written of the pairs is read back as they are.
         ensures clean { IfOk result (λ pairs. is_clean pairs.items self.now ≡ true) }
-        ensures only { IfOk result (λ pairs. (other : List Pair) → request_spelled text.now self.now ≡ Some other → other ≡ pairs.items) }
-        ensures refused { IfErr result (λ fault. fault.kind ≢ LineKind.Memory → request_spelled text.now self.now ≡ None) }
+        ensures only { IfOk result (λ pairs. (other : List Pair) → request_spelled text.now self.now
+            ≡ Some other → other ≡ pairs.items) }
+        ensures refused { IfErr result (λ fault. fault.kind ≢ LineKind.Memory
+            → request_spelled text.now self.now ≡ None) }
     {
         // That each pair fits rests on what holds of the lines of every dictionary.
         self.sound();

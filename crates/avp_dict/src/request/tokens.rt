@@ -77,7 +77,8 @@ fn run_end(side: Side, octets: &[u8]) -> Option<usize>
 
 // The run before the first octet that ends one, and the rest.
 fn cut_run(side: Side, octets: &[u8]) -> (Token<'_>, &[u8])
-    ensures token { token_view result.0 ≡ Run (take (position_or_len (ends_run side) octets.now) octets.now) }
+    ensures token { token_view result.0 ≡ Run
+        (take (position_or_len (ends_run side) octets.now) octets.now) }
     ensures side { side_after side result.0 ≡ side }
     ensures rest { result.1.now ≡ drop (position_or_len (ends_run side) octets.now) octets.now }
 {
@@ -100,7 +101,10 @@ impl QuoteMark {
 
 // Where the text ends whose first quote is before the octets: at its next quote with no `\` of its own before it.
 fn text_end(mark: QuoteMark, octets: &[u8]) -> Option<usize>
-    ensures text { MatchOption result (tokens_from (Between mark) octets.now ≡ Unended ∷ []) (λ end. tokens_from (Between mark) octets.now ≡ Quoted mark (take end octets.now) ∷ tokens_from (Outside Side.Value) (drop (end + 1) octets.now)) }
+    ensures text { MatchOption result (tokens_from (Between mark) octets.now ≡ Unended ∷ [])
+        (λ end. tokens_from (Between mark) octets.now
+        ≡ Quoted mark (take end octets.now)
+        ∷ tokens_from (Outside Side.Value) (drop (end + 1) octets.now)) }
     ensures within { IfSome result (λ end. end < length octets.now) }
 {
     let mut is_escaped = false;
@@ -118,7 +122,8 @@ fn text_end(mark: QuoteMark, octets: &[u8]) -> Option<usize>
 
 // The quoted text whose first quote is before the octets, and what follows it.
 fn cut_quoted(mark: QuoteMark, octets: &[u8]) -> (Token<'_>, &[u8])
-    ensures token { (side : Side) → tokens_at side (quote_octet mark ∷ octets.now) ≡ token_view result.0 ∷ tokens_at (side_after side result.0) result.1.now }
+    ensures token { (side : Side) → tokens_at side (quote_octet mark ∷ octets.now)
+        ≡ token_view result.0 ∷ tokens_at (side_after side result.0) result.1.now }
     ensures shorter { length result.1.now ≤ length octets.now }
 {
     match text_end(mark, octets) {
@@ -130,7 +135,8 @@ fn cut_quoted(mark: QuoteMark, octets: &[u8]) -> (Token<'_>, &[u8])
 /// The first token of a line from one side of the `=` on, and what follows it.
 #[tactic(auto, using(crate::proofs::Lexing::lexing))]
 pub fn next_token(side: Side, line: &[u8]) -> Option<(Token<'_>, &[u8])>
-    ensures token { MatchOption result (tokens_at side line.now ≡ []) (λ x. tokens_at side line.now ≡ token_view x.0 ∷ tokens_at (side_after side x.0) x.1.now) }
+    ensures token { MatchOption result (tokens_at side line.now ≡ [])
+        (λ x. tokens_at side line.now ≡ token_view x.0 ∷ tokens_at (side_after side x.0) x.1.now) }
     ensures shorter { IfSome result (λ x. length x.1.now < length line.now) }
 {
     let filled = without_blanks(side, line);

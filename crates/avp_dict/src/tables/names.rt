@@ -42,7 +42,8 @@ fn add_name<'a>(
 ) -> Result<(), AllocError>
     requires { IsTable bytes_eq table.old (map (map lower) (views names.old.items)) }
     ensures names { OnOk result (views names.new.items ≡ views names.old.items ++ name.now ∷ []) }
-    ensures table { OnOk result (IsTable bytes_eq table.new (map (map lower) (views names.new.items))) }
+    ensures table { OnOk result (IsTable bytes_eq table.new
+        (map (map lower) (views names.new.items))) }
 {
     table.put(folded_text(alloc, name)?, names.len())?;
     names.push(name)?;

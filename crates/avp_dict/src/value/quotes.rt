@@ -64,7 +64,8 @@ fn push_quoted(text: &mut Vec<u8>, octet: u8) -> Result<(), AllocError>
 #[tactic(auto, unfolding(crate::specs::Quotes::quoted))]
 pub fn quote(alloc: Global, octets: &[u8]) -> Result<Vec<u8>, AllocError>
     ensures text { IfOk result (λ text. text.items ≡ quoted octets.now) }
-    ensures reads_back { IfOk result (λ text. double_quoted_octets (between_quotes text.items) ≡ octets.now) }
+    ensures reads_back { IfOk result (λ text. double_quoted_octets (between_quotes text.items)
+        ≡ octets.now) }
 {
     let mut text = Vec::new(alloc);
     text.push(b'"')?;
@@ -134,7 +135,8 @@ impl QuoteMark {
 
 // The first octet that a text stands for, and the text after it.
 fn first_octet(mark: QuoteMark, text: &[u8]) -> Option<(u8, &[u8])>
-    ensures read { MatchOption result (text.now ≡ []) (λ x. unescaped mark 0 text.now ≡ x.0 ∷ unescaped mark 0 x.1.now) }
+    ensures read { MatchOption result (text.now ≡ [])
+        (λ x. unescaped mark 0 text.now ≡ x.0 ∷ unescaped mark 0 x.1.now) }
     ensures shorter { IfSome result (λ x. length x.1.now < length text.now) }
 {
     match text {

@@ -274,7 +274,8 @@ impl Dictionary {
         text: &[u8],
     ) -> Result<Value, ValueFault>
         ensures answers { AnswersValue result (value_spelled named text.now self.now) }
-        ensures only { IfOk result (λ value. (other : Value) → value_spelled named text.now self.now ≡ Ok other → other ≡ value) }
+        ensures only { IfOk result (λ value. (other : Value) → value_spelled named text.now self.now
+            ≡ Ok other → other ≡ value) }
     {
         if self.is_barred(named) {
             return Err(ValueFault::NotWritable);
