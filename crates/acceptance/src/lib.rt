@@ -2,6 +2,8 @@
 #![tactic(auto)]
 
 #[cfg(test)]
+mod call_examples;
+#[cfg(test)]
 mod commands;
 #[cfg(test)]
 mod data;

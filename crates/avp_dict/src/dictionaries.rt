@@ -197,6 +197,12 @@ impl Dictionary {
     }
 
     /// The number that a VALUE line gives to a name of this attribute's values.
+    ///
+    /// ```rust
+    /// let service_type = AttrId::Plain(6);
+    /// assert_eq!(rt; dictionary.value_number(service_type, b"login-user"), Some(1));
+    /// assert_eq!(rt; dictionary.value_number(service_type, b"Telnet"), None);
+    /// ```
     pub fn value_number(&self, id: AttrId, name: &[u8]) -> Option<u64>
         ensures { result ≡ number_named id name.now self.now.values }
     {
@@ -204,6 +210,12 @@ impl Dictionary {
     }
 
     /// The printed name of a number of this attribute's values: the last one that a VALUE line gives.
+    ///
+    /// ```rust
+    /// let service_type = AttrId::Plain(6);
+    /// let name = dictionary.value_name(service_type, 1).ok_or("no name")?;
+    /// assert_eq!(rt; name, b"Login-User".as_slice());
+    /// ```
     pub fn value_name(&self, id: AttrId, number: u64) -> Option<&[u8]>
         ensures { option_copied result ≡ name_numbered id number self.now.values }
     {

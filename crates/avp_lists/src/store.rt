@@ -43,6 +43,13 @@ pub trait Store: Drop {
         ensures { IfOk result (λ copy. copy.items ≡ list_of list (present (history self.now))) };
 
     /// The pair at a place of a present list, borrowed; `None` past its end.
+    ///
+    /// ```rust
+    /// // The reply is `Session-Timeout = 600`.
+    /// let timeout = store.pair(List::Reply, 0).ok_or("no timeout")?;
+    /// assert!(rt; timeout.value == Value::Int(600));
+    /// assert!(rt; store.pair(List::Reply, 1).is_none());
+    /// ```
     fn pair(&self, list: List, at: usize) -> Option<&Pair>
         ensures { option_copied result ≡ slice_get (list_of list (present (history self.now))) at };
 
@@ -135,6 +142,14 @@ pub trait Store: Drop {
         ensures kept { (history self.old).place + room self.old ≤ (history self.new).place + room self.new };
 
     /// Forgets each state but the present one.
+    ///
+    /// ```rust
+    /// // The reply has no pair, and the edit adds one.
+    /// store.edit(edit)?;
+    /// store.settle();
+    /// assert!(rt; !store.undo());
+    /// assert_eq!(rt; (store.count(List::Reply), store.steps()), (1, 0));
+    /// ```
     fn settle(&mut self)
         ensures settled { history self.new ≡ settled (history self.old) }
         ensures kept { room self.old ≤ room self.new };

@@ -37,6 +37,24 @@ fn finds_by_id(rt: &impl Abort, dictionary: &Dictionary) -> Result<(), Fail> {
     Ok(())
 }
 
+// Example: Dictionary::value_number
+fn finds_numbers(rt: &impl Abort, dictionary: &Dictionary) {
+    let service_type = AttrId::Plain(6);
+    assert_eq!(rt;
+        dictionary.value_number(service_type, b"login-user"),
+        Some(1)
+    );
+    assert_eq!(rt; dictionary.value_number(service_type, b"Telnet"), None);
+}
+
+// Example: Dictionary::value_name
+fn finds_names(rt: &impl Abort, dictionary: &Dictionary) -> Result<(), Fail> {
+    let service_type = AttrId::Plain(6);
+    let name = dictionary.value_name(service_type, 1).ok_or("no name")?;
+    assert_eq!(rt; name, b"Login-User".as_slice());
+    Ok(())
+}
+
 // Example: Dictionary::read_request
 fn reads_a_request(rt: &impl Abort, alloc: Global, dictionary: &Dictionary) -> Result<(), Fail> {
     let request = dictionary.read_request(alloc, b"User-Name = \"bob\", NAS-Port = 3")?;
@@ -64,6 +82,8 @@ fn texts(rt: HostRuntime) -> Result<(), Fail> {
 fn look_up(rt: &impl Abort, alloc: Global, dictionary: &Dictionary) -> Result<(), Fail> {
     finds_by_name(rt, dictionary)?;
     finds_by_id(rt, dictionary)?;
+    finds_numbers(rt, dictionary);
+    finds_names(rt, dictionary)?;
     reads_a_request(rt, alloc, dictionary)
 }
 

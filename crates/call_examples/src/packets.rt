@@ -2,8 +2,8 @@
 
 use avp_dict::Dictionary;
 use avp_packet::{
-    ACCESS_ACCEPT, ACCESS_REQUEST, PacketFault, check_message, check_reply, decode, encode_reply,
-    encode_request, hide, unhide,
+    ACCESS_ACCEPT, ACCESS_REQUEST, BadLength, PacketFault, attributes, check_message, check_reply,
+    decode, encode_reply, encode_request, hide, unhide,
 };
 use samples::test_dictionary;
 use std::alloc::Global;
@@ -11,6 +11,16 @@ use std::process::Abort;
 use std::test::Fail;
 
 const AUTHENTICATOR: [u8; 16] = [0, 1, 2, 3, 4, 5, 6, 7, 8, 9, 10, 11, 12, 13, 14, 15];
+
+// Example: attributes
+fn walks(rt: &impl Abort) -> Result<(), Fail> {
+    let mut walk = attributes(&[5, 6, 0, 0, 0, 3, 8, 9]);
+    let port = walk.next().ok_or("no attribute")??;
+    assert_eq!(rt; (port.number, port.value), (5, [0, 0, 0, 3].as_slice()));
+    let refused = walk.next().ok_or("no attribute")?.err();
+    assert_eq!(rt; refused, Some(BadLength { offset: 6 }));
+    Ok(())
+}
 
 // Example: hide
 fn hides(rt: &impl Abort, alloc: Global, authenticator: &[u8; 16]) -> Result<(), Fail> {
@@ -127,6 +137,7 @@ fn read_and_write(rt: &impl Abort, alloc: Global, dictionary: &Dictionary) -> Re
 
 #[test]
 fn packets(rt: HostRuntime) -> Result<(), Fail> {
+    walks(&rt)?;
     hides(&rt, rt.alloc(), &AUTHENTICATOR)?;
     let dictionary = test_dictionary(rt.alloc())?;
     read_and_write(&rt, rt.alloc(), &dictionary)

@@ -1,7 +1,7 @@
 //! Policies that are read.
 
 use avp_dict::Dictionary;
-use avp_unlang::{PolicyFault, PolicyKind, read_policy};
+use avp_unlang::{PolicyFault, PolicyKind, read_policy, size};
 use samples::test_dictionary;
 use std::alloc::Global;
 use std::process::Abort;
@@ -18,8 +18,17 @@ fn reads_a_policy(rt: &impl Abort, alloc: Global, dictionary: &Dictionary) -> Re
     Ok(())
 }
 
+// Example: size
+fn counts(rt: &impl Abort, alloc: Global, dictionary: &Dictionary) -> Result<(), Fail> {
+    let text = b"if (&User-Name) { update reply { Session-Timeout := 600 } }\nreject";
+    let policy = read_policy(alloc, dictionary, text)?;
+    assert_eq!(rt; size(&policy), 3);
+    Ok(())
+}
+
 #[test]
 fn policies(rt: HostRuntime) -> Result<(), Fail> {
     let dictionary = test_dictionary(rt.alloc())?;
-    reads_a_policy(&rt, rt.alloc(), &dictionary)
+    reads_a_policy(&rt, rt.alloc(), &dictionary)?;
+    counts(&rt, rt.alloc(), &dictionary)
 }

@@ -28,6 +28,15 @@ fn finds_an_instance<S: Store>(rt: &impl Abort, store: &S) -> Result<(), Fail> {
     Ok(())
 }
 
+// Example: Store::pair
+fn finds_a_pair<S: Store>(rt: &impl Abort, store: &S) -> Result<(), Fail> {
+    // The reply is `Session-Timeout = 600`.
+    let timeout = store.pair(List::Reply, 0).ok_or("no timeout")?;
+    assert!(rt; timeout.value == Value::Int(600));
+    assert!(rt; store.pair(List::Reply, 1).is_none());
+    Ok(())
+}
+
 // Example: Store::undo
 fn goes_back<S: Store>(rt: &impl Abort, store: &mut S, edit: Edit) -> Result<(), Fail> {
     // The reply has no pair, and the edit adds one.
@@ -49,6 +58,16 @@ fn rolls_back<S: Store>(rt: &impl Abort, store: &mut S, edit: Edit) -> Result<()
     assert_eq!(rt; store.count(List::Reply), 0);
     assert!(rt; store.undo());
     assert_eq!(rt; store.count(List::Reply), 1);
+    Ok(())
+}
+
+// Example: Store::settle
+fn forgets<S: Store>(rt: &impl Abort, store: &mut S, edit: Edit) -> Result<(), Fail> {
+    // The reply has no pair, and the edit adds one.
+    store.edit(edit)?;
+    store.settle();
+    assert!(rt; !store.undo());
+    assert_eq!(rt; (store.count(List::Reply), store.steps()), (1, 0));
     Ok(())
 }
 
@@ -92,13 +111,15 @@ fn timeout() -> Edit {
 fn edits_and_looks(rt: HostRuntime) -> Result<(), Fail> {
     let mut store = empty_store(rt.alloc())?;
     edits(&rt, &mut store)?;
-    finds_an_instance(&rt, &store)
+    finds_an_instance(&rt, &store)?;
+    finds_a_pair(&rt, &store)
 }
 
 #[test]
 fn goes_back_and_on(rt: HostRuntime) -> Result<(), Fail> {
     goes_back(&rt, &mut empty_store(rt.alloc())?, timeout())?;
     rolls_back(&rt, &mut empty_store(rt.alloc())?, timeout())?;
+    forgets(&rt, &mut empty_store(rt.alloc())?, timeout())?;
     undoes(&rt, &mut empty_store(rt.alloc())?, timeout(), timeout())?;
     tries(&rt, &mut empty_store(rt.alloc())?, timeout())
 }

@@ -47,12 +47,30 @@ fn tests_pairs(rt: &impl Abort, dictionary: &Dictionary) {
     assert!(rt; !dictionary.fits(&Pair { id, value }));
 }
 
+// Example: Dictionary::greatest_length
+fn finds_limits(rt: &impl Abort, dictionary: &Dictionary) {
+    // User-Name, the hidden User-Password, and an attribute of the vendor 9.
+    assert_eq!(rt; dictionary.greatest_length(AttrId::Plain(1)), 253);
+    assert_eq!(rt; dictionary.greatest_length(AttrId::Plain(2)), 128);
+    assert_eq!(rt; dictionary.greatest_length(AttrId::Vendor(9, 1)), 247);
+}
+
+// Example: Dictionary::printed_name
+fn prints_names(rt: &impl Abort, alloc: Global, dictionary: &Dictionary) -> Result<(), Fail> {
+    let name = dictionary.printed_name(alloc, AttrId::Plain(5), &Value::Int(3))?;
+    assert_eq!(rt; name.as_slice(), b"NAS-Port".as_slice());
+    let unknown = dictionary.printed_name(alloc, AttrId::Vendor(9, 2), &Value::Int(3))?;
+    assert_eq!(rt; unknown.as_slice(), b"Attr-26.9.2".as_slice());
+    Ok(())
+}
+
 fn read_and_print(rt: &impl Abort, alloc: Global, dictionary: &Dictionary) -> Result<(), Fail> {
     reads_texts(rt, alloc, dictionary)?;
     prints_texts(rt, alloc, dictionary)?;
     reads_octets(rt, alloc, dictionary)?;
     tests_pairs(rt, dictionary);
-    Ok(())
+    finds_limits(rt, dictionary);
+    prints_names(rt, alloc, dictionary)
 }
 
 #[test]

@@ -282,6 +282,14 @@ fn report_of(alloc: Global, job: &Job) -> Result<Report, Fault>
 ///
 /// The faults come in this order: the dictionary, the secret, the policy, the script, the request, a packet that would
 /// be too long, the writing of the report.
+///
+/// ```rust
+/// // The job runs the policy `reject`.
+/// let mut report = Vec::new(alloc);
+/// let outcome = answer(alloc, job, &mut WriteOutput::new(&mut report))?;
+/// assert_eq!(rt; (outcome.code, outcome.stopped), (Some(Code::Reject), true));
+/// assert!(rt; report.ends_with(b"control\nresult reject stopped\n"));
+/// ```
 pub fn answer<O: Output>(alloc: Global, job: &Job, out: &mut O) -> Result<Outcome, Fault>
     requires works { O.has_failed out.old ≡ false }
     requires sound { IsSound (asked_by_job job.now) }

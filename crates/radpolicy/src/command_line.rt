@@ -337,6 +337,15 @@ fn plan_of<'a>(alloc: Global, command: Command, found: &ArgMatches<'a>) -> Resul
 
 /// What the words of a command line ask for; the program's name is the first word. `Usage` is found
 /// before `OptionValue`.
+///
+/// ```rust
+/// let words = ["radpolicy", "check", "--policy", "policy", "dictionary"];
+/// let plan = read_words(alloc, &words)?;
+/// assert_eq!(rt; plan.command, Command::Check);
+/// assert_eq!(rt; plan.policy, Some("policy"));
+/// let refused = read_words(alloc, &["radpolicy", "walk"]).err();
+/// assert_eq!(rt; refused, Some(Fault::Usage));
+/// ```
 pub fn read_words<'a, S: AsStr>(alloc: Global, words: &'a [S]) -> Result<Plan<'a>, Fault>
     ensures plan { IfOk result (λ plan. IsSound (asked_by_plan plan)) }
     ensures fault { IfErr result IsWordFault }
@@ -355,6 +364,11 @@ pub fn read_words<'a, S: AsStr>(alloc: Global, words: &'a [S]) -> Result<Plan<'a
 }
 
 /// The help that the words of a command line ask for, or what is wrong with them.
+///
+/// ```rust
+/// let help = help_text(alloc, &["radpolicy", "run", "--help"])?;
+/// assert!(rt; help.as_str().contains("--policy"));
+/// ```
 pub fn help_text<'a, S: AsStr>(alloc: Global, words: &'a [S]) -> Result<String, AllocError> {
     match program(alloc)?.try_get_matches_from(words) {
         Ok(_) => String::from_str(alloc, ""),

@@ -91,6 +91,14 @@ fn put_line<O: Output>(fault: Fault, files: &[NamedFile], out: &mut O) -> Result
 
 /// Puts the line of a fault, its line feed included, and says whether all of it was taken. It takes
 /// no memory.
+///
+/// ```rust
+/// let files = FileSet::from_vec(Vec::new(alloc));
+/// let mut line = Vec::new(alloc);
+/// let printed = print_fault(&Fault::Usage, &files, &mut WriteOutput::new(&mut line));
+/// assert!(rt; printed);
+/// assert_eq!(rt; line.as_slice(), b"radpolicy: E01: usage\n".as_slice());
+/// ```
 pub fn print_fault<O: Output>(fault: &Fault, files: &FileSet, out: &mut O) -> bool
     requires printed { IsPrintedWith files.now fault.now }
     requires works { O.has_failed out.old ≡ false }

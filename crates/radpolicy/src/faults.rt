@@ -245,6 +245,12 @@ impl Fault {
 }
 
 /// The exit status for a fault, 0 for the help.
+///
+/// ```rust
+/// assert_eq!(rt; status(&Fault::Usage), 2);
+/// assert_eq!(rt; status(&Fault::FileNotReadable), 3);
+/// assert_eq!(rt; status(&Fault::Memory), 4);
+/// ```
 pub fn status(fault: &Fault) -> u8
     ensures { result ≡ status_of fault.now }
 {

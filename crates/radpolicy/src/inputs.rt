@@ -11,6 +11,11 @@ use std::io::Read;
 pub const MAX_INPUT_OCTETS: usize = 16_777_216;
 
 /// All that a reader has left, or `None` where that is more than an input file may have.
+///
+/// ```rust
+/// let request = read_input(alloc, b"NAS-Port = 3\n".as_slice())?.ok_or("too long")?;
+/// assert_eq!(rt; request.as_slice(), b"NAS-Port = 3\n".as_slice());
+/// ```
 pub fn read_input<R: Read + Drop>(alloc: Global, reader: R) -> io::Result<Option<Octets>>
     ensures within { IfOk result (λ input.
         IfSome input (λ octets. length octets ≤ MAX_INPUT_OCTETS)) }

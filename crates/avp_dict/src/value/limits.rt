@@ -133,6 +133,13 @@ impl Dictionary {
     /// The most octets of a value of the id's type (RFC 2865, sections 5 and 5.26; RFC 6929, sections 2.1 and 2.2): 128
     /// where it is hidden, 4012 where it is never sent, and 0 where its vendor has no format of two parts or its type
     /// is none of 241 to 246.
+    ///
+    /// ```rust
+    /// // User-Name, the hidden User-Password, and an attribute of the vendor 9.
+    /// assert_eq!(rt; dictionary.greatest_length(AttrId::Plain(1)), 253);
+    /// assert_eq!(rt; dictionary.greatest_length(AttrId::Plain(2)), 128);
+    /// assert_eq!(rt; dictionary.greatest_length(AttrId::Vendor(9, 1)), 247);
+    /// ```
     #[tactic(auto, unfolding(crate::specs::Limits::greatest_length))]
     pub fn greatest_length(&self, id: AttrId) -> usize
         ensures { result ≡ greatest_length id self.now }

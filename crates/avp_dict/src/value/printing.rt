@@ -214,6 +214,13 @@ impl Dictionary {
 
     /// The name that is printed before a value: that of the id's last ATTRIBUTE line, or `Attr-` and numbers, where
     /// there is none, where the value is raw, and where the attribute only holds others.
+    ///
+    /// ```rust
+    /// let name = dictionary.printed_name(alloc, AttrId::Plain(5), &Value::Int(3))?;
+    /// assert_eq!(rt; name.as_slice(), b"NAS-Port".as_slice());
+    /// let unknown = dictionary.printed_name(alloc, AttrId::Vendor(9, 2), &Value::Int(3))?;
+    /// assert_eq!(rt; unknown.as_slice(), b"Attr-26.9.2".as_slice());
+    /// ```
     #[tactic(auto, unfolding(crate::specs::Printing::printed_name))]
     pub fn printed_name(
         &self,

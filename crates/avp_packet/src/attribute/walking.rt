@@ -8,6 +8,14 @@ use crate::attribute::splitting::{Attributes, BadLength, first_attribute};
 
 /// The attributes in a slice, one after the other; as the last item the first one that is not whole (RFC 2865,
 /// section 5).
+///
+/// ```rust
+/// let mut walk = attributes(&[5, 6, 0, 0, 0, 3, 8, 9]);
+/// let port = walk.next().ok_or("no attribute")??;
+/// assert_eq!(rt; (port.number, port.value), (5, [0, 0, 0, 3].as_slice()));
+/// let refused = walk.next().ok_or("no attribute")?.err();
+/// assert_eq!(rt; refused, Some(BadLength { offset: 6 }));
+/// ```
 pub fn attributes(octets: &[u8]) -> Attributes<'_>
     ensures items { items_left result ≡ items octets.now }
     ensures split { IsSplit octets.now (parts octets.now) (left octets.now) }

@@ -56,6 +56,12 @@ impl Policy {
 }
 
 /// One for each update line, each condition of an `if` or `elsif` and each word, and two for each transaction.
+///
+/// ```rust
+/// let text = b"if (&User-Name) { update reply { Session-Timeout := 600 } }\nreject";
+/// let policy = read_policy(alloc, dictionary, text)?;
+/// assert_eq!(rt; size(&policy), 3);
+/// ```
 pub fn size(policy: &Policy) -> usize
     ensures count { result ≡ size_of policy.now }
     ensures within { result ≤ max_size }

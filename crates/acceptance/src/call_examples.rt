@@ -1,0 +1,97 @@
+//! The examples in the doc comments of calls that need a job or a command line, as tests.
+
+ghost use Rattle.radpolicy.specs.Plans.{IsSound, asked_by_job};
+
+use avp_dict::{FileSet, NamedFile};
+use avp_lists::Octets;
+use avp_unlang::Code;
+use radpolicy::{
+    Command, Fault, Form, Job, WriteOutput, answer, help_text, print_fault, read_input, read_words,
+    status,
+};
+use samples::{TEST_DICTIONARY, one_file};
+use std::alloc::Global;
+use std::process::Abort;
+use std::test::Fail;
+
+// Example: read_words
+fn reads_words(rt: &impl Abort, alloc: Global) -> Result<(), Fail> {
+    let words = ["radpolicy", "check", "--policy", "policy", "dictionary"];
+    let plan = read_words(alloc, &words)?;
+    assert_eq!(rt; plan.command, Command::Check);
+    assert_eq!(rt; plan.policy, Some("policy"));
+    let refused = read_words(alloc, &["radpolicy", "walk"]).err();
+    assert_eq!(rt; refused, Some(Fault::Usage));
+    Ok(())
+}
+
+// Example: help_text
+fn helps(rt: &impl Abort, alloc: Global) -> Result<(), Fail> {
+    let help = help_text(alloc, &["radpolicy", "run", "--help"])?;
+    assert!(rt; help.as_str().contains("--policy"));
+    Ok(())
+}
+
+// Example: print_fault
+fn prints_a_fault(rt: &impl Abort, alloc: Global) {
+    let files = FileSet::from_vec(Vec::new(alloc));
+    let mut line = Vec::new(alloc);
+    let printed = print_fault(&Fault::Usage, &files, &mut WriteOutput::new(&mut line));
+    assert!(rt; printed);
+    assert_eq!(rt; line.as_slice(), b"radpolicy: E01: usage\n".as_slice());
+}
+
+// Example: status
+fn gives_statuses(rt: &impl Abort) {
+    assert_eq!(rt; status(&Fault::Usage), 2);
+    assert_eq!(rt; status(&Fault::FileNotReadable), 3);
+    assert_eq!(rt; status(&Fault::Memory), 4);
+}
+
+// Example: read_input
+fn reads_an_input(rt: &impl Abort, alloc: Global) -> Result<(), Fail> {
+    let request = read_input(alloc, b"NAS-Port = 3\n".as_slice())?.ok_or("too long")?;
+    assert_eq!(rt; request.as_slice(), b"NAS-Port = 3\n".as_slice());
+    Ok(())
+}
+
+// Example: answer
+fn does_a_job(rt: &impl Abort, alloc: Global, job: &Job) -> Result<(), Fail>
+    requires { IsSound (asked_by_job job.now) }
+{
+    // The job runs the policy `reject`.
+    let mut report = Vec::new(alloc);
+    let outcome = answer(alloc, job, &mut WriteOutput::new(&mut report))?;
+    assert_eq!(rt; (outcome.code, outcome.stopped), (Some(Code::Reject), true));
+    assert!(rt; report.ends_with(b"control\nresult reject stopped\n"));
+    Ok(())
+}
+
+#[test]
+fn texts(rt: HostRuntime) -> Result<(), Fail> {
+    reads_words(&rt, rt.alloc())?;
+    helps(&rt, rt.alloc())?;
+    prints_a_fault(&rt, rt.alloc());
+    gives_statuses(&rt);
+    reads_an_input(&rt, rt.alloc())
+}
+
+fn answer_run(rt: &impl Abort, alloc: Global) -> Result<(), Fail> {
+    let job = Job {
+        command: Command::Run,
+        files: one_file(alloc, TEST_DICTIONARY)?,
+        request: Octets::from_vec(Vec::from_slice(alloc, b"NAS-Port = 3")?),
+        form: Form::Access,
+        identifier: 0,
+        authenticator: None,
+        secret: None,
+        policy: Some(Octets::from_vec(Vec::from_slice(alloc, b"reject")?)),
+        script: None,
+    };
+    does_a_job(rt, alloc, &job)
+}
+
+#[test]
+fn runs_a_job(rt: HostRuntime) -> Result<(), Fail> {
+    answer_run(&rt, rt.alloc())
+}
