@@ -4,6 +4,4 @@
 #[cfg(test)]
 mod rows;
 #[cfg(test)]
-mod slots;
-#[cfg(test)]
-mod snapshots;
+mod stores;
