@@ -1,7 +1,7 @@
 //! Checks of dictionary files.
 
 use crate::program::{Source, expect_fault, expect_output};
-use samples::TEST_DICTIONARY;
+use samples::{INCLUDING_FILE, TEST_DICTIONARY};
 use std::alloc::Global;
 use std::process::Abort;
 use std::test::Fail;
@@ -15,19 +15,8 @@ fn expect_refusal(rt: &impl Abort, alloc: Global, lines: &[u8], wanted: &[u8]) -
 
 #[test]
 fn counts_and_notes_what_files_hold(rt: HostRuntime) -> Result<(), Fail> {
-    let main = b"$INCLUDE sub/x
-$INCLUDE- gone
-VENDOR V 100 format=2,1
-BEGIN-VENDOR V
-ATTRIBUTE V-A 65536 integer
-ATTRIBUTE V-B 0x0101 integer
-END-VENDOR V
-VALUE V-A One 1
-VALUE X-A One 1
-VALUE V-B One 1
-";
     let included = b"ATTRIBUTE X-A 200 integer # c\nATTRIBUTE X-B 200 string\n";
-    let sources: [Source; 2] = [("d", main), ("x", included)];
+    let sources: [Source; 2] = [("d", INCLUDING_FILE), ("x", included)];
     let wanted = b"files 2
 attributes 3
 values 1

@@ -2,7 +2,7 @@ use avp_dict::{
     Counts, DictFault, DictKind, Dictionary, FileSet, Format, Kind, Named, Note, last_component,
 };
 use avp_lists::AttrId;
-use samples::{TEST_DICTIONARY, file, one_file};
+use samples::{INCLUDING_FILE, TEST_DICTIONARY, file, one_file};
 use std::alloc::Global;
 use std::process::Abort;
 use std::test::Fail;
@@ -117,18 +117,7 @@ fn reads_a_small_set(rt: HostRuntime) -> Result<(), Fail> {
 fn reads_included_files(rt: HostRuntime) -> Result<(), Fail> {
     let alloc = rt.alloc();
     let mut files = Vec::new(alloc);
-    let main = b"$INCLUDE sub/x
-$INCLUDE- gone
-VENDOR V 100 format=2,1
-BEGIN-VENDOR V
-ATTRIBUTE V-A 65536 integer
-ATTRIBUTE V-B 0x0101 integer
-END-VENDOR V
-VALUE V-A One 1
-VALUE X-A One 1
-VALUE V-B One 1
-";
-    files.push(file(alloc, b"d", main)?)?;
+    files.push(file(alloc, b"d", INCLUDING_FILE)?)?;
     let other = b"ATTRIBUTE X-A 200 integer # c\nATTRIBUTE X-B 200 string";
     files.push(file(alloc, b"x", other)?)?;
     let dictionary = read(alloc, &FileSet::from_vec(files))??;

@@ -37,6 +37,19 @@ ATTRIBUTE Cisco-AVPair 1 string
 END-VENDOR Cisco
 ";
 
+/// A main file that includes `x`, with a vendor and names of values; four of its lines give notes.
+pub const INCLUDING_FILE: &[u8] = b"$INCLUDE sub/x
+$INCLUDE- gone
+VENDOR V 100 format=2,1
+BEGIN-VENDOR V
+ATTRIBUTE V-A 65536 integer
+ATTRIBUTE V-B 0x0101 integer
+END-VENDOR V
+VALUE V-A One 1
+VALUE X-A One 1
+VALUE V-B One 1
+";
+
 /// Three transactions, one in the other: the innermost fails, the middle one is kept and the outer one is refused.
 pub const NESTED_TRANSACTIONS: &[u8] = b"update reply { Class += 0x01 }
 transaction {
