@@ -1,6 +1,6 @@
 //! A job, answered by its report.
 
-ghost use Rattle.std.specs.Prelude.{All, ◌≡◌, ◌≢◌, ◌≤◌, ◌⊎◌, ◌<◌, List, None, Ok, Some, true, false, length, IfOk, IfErr, IfSome, IsErrOf, OnOk};
+ghost use Rattle.std.specs.Prelude.{All, ◌≡◌, ◌≢◌, ◌⊎◌, ◌<◌, None, Ok, Some, true, false, length, IfOk, IfErr, IsErrOf, OnOk};
 ghost use Rattle.std.specs.Io.KnownBytes.{Appends};
 ghost use Rattle.std.specs.Option.{option_copied};
 ghost use Rattle.radpolicy.specs.Faults.{IsPrintedWith, MemoryOr};
@@ -26,7 +26,7 @@ use crate::reports::walks::report_of_walk;
 use crate::reports::{Report, plain_report};
 use crate::requests::request_for;
 use crate::scripts::{ScriptWord, read_script};
-use crate::secrets::secret_in;
+use crate::secrets::{Secret, secret_in};
 use avp_dict::Dictionary;
 use avp_packet::encode_request;
 use avp_unlang::{Policy, read_policy, size};
@@ -55,9 +55,8 @@ fn dictionary_for(alloc: Global, job: &Job) -> Result<Dictionary, Fault>
 }
 
 // The secret, where the job has one.
-fn secret_for(job: &Job) -> Result<Option<&[u8]>, Fault>
-    ensures ok { IfOk result (λ secret. secret_for job.now ≡ Some (option_copied secret)) }
-    ensures some { IfOk result (λ secret. IfSome secret (λ octets. 0 < length octets.now)) }
+fn secret_for(job: &Job) -> Result<Option<Secret<'_>>, Fault>
+    ensures ok { IfOk result (λ secret. secret_for job.now ≡ Some secret) }
     ensures there { job.now.secret ≢ None → IfOk result (λ secret. secret ≢ None) }
     ensures refused { IfErr result (λ f. (secret_for job.now ≡ None) × (f ≡ fault.EmptySecret)) }
 {
@@ -74,15 +73,14 @@ fn secret_for(job: &Job) -> Result<Option<&[u8]>, Fault>
 #[derive(Drop)]
 struct Opened<'a> {
     dictionary: Dictionary,
-    secret: Option<&'a [u8]>,
+    secret: Option<Secret<'a>>,
 }
 
 // Reads the dictionary and the secret.
 fn open<'a>(alloc: Global, job: &'a Job) -> Result<Opened<'a>, Fault>
     requires sound { IsSound (asked_by_job job.now) }
     ensures ok { IfOk result (λ o.
-        IsOpened job.now (opened o.dictionary (option_copied o.secret))) }
-    ensures some { IfOk result (λ o. IfSome o.secret (λ octets. 0 < length octets.now)) }
+        IsOpened job.now (opened o.dictionary o.secret)) }
     ensures there { job.now.secret ≢ None → IfOk result (λ o. o.secret ≢ None) }
     ensures refused { IfErr result (MemoryOr (IsOpenRefusal job.now)) }
     ensures printed { IfErr result (IsPrintedWith job.now.files) }
@@ -96,7 +94,7 @@ fn open<'a>(alloc: Global, job: &'a Job) -> Result<Opened<'a>, Fault>
 fn policy_for(
     alloc: Global,
     dictionary: &Dictionary,
-    secret: Option<&[u8]>,
+    secret: Option<&Secret<'_>>,
     job: &Job,
 ) -> Result<Policy, Fault>
     requires opened { IsOpened job.now (opened dictionary.now (option_copied secret)) }
@@ -114,11 +112,10 @@ fn policy_for(
 fn run_report_of(
     alloc: Global,
     dictionary: &Dictionary,
-    secret: Option<&[u8]>,
+    secret: Option<&Secret<'_>>,
     job: &Job,
 ) -> Result<Report, Fault>
     requires opened { IsOpened job.now (opened dictionary.now (option_copied secret)) }
-    requires secret { IfSome secret (λ octets. 0 < length octets.now) }
     requires hex { job.now.form ≡ InHex → secret ≢ None }
     ensures ok { IfOk result (IsRunReport job.now) }
     ensures read { OnOk result (IsRunRead job.now) }
@@ -155,11 +152,10 @@ fn script_for(alloc: Global, job: &Job) -> Result<Vec<ScriptWord>, Fault>
 fn step_report_of(
     alloc: Global,
     dictionary: &Dictionary,
-    secret: Option<&[u8]>,
+    secret: Option<&Secret<'_>>,
     job: &Job,
 ) -> Result<Report, Fault>
     requires opened { IsOpened job.now (opened dictionary.now (option_copied secret)) }
-    requires secret { IfSome secret (λ octets. 0 < length octets.now) }
     requires hex { job.now.form ≡ InHex → secret ≢ None }
     ensures ok { IfOk result (IsStepReport job.now) }
     ensures refused { IfErr result (MemoryOr (λ f.
@@ -176,11 +172,10 @@ fn step_report_of(
 fn encode_report_of(
     alloc: Global,
     dictionary: &Dictionary,
-    secret: &[u8],
+    secret: &Secret<'_>,
     job: &Job,
 ) -> Result<Report, Fault>
     requires opened { IsOpened job.now (opened dictionary.now (Some secret.now)) }
-    requires secret { 0 < length secret.now }
     ensures ok { IfOk result (IsPacketReport encode_report job.now) }
     ensures refused { IfErr result (MemoryOr (IsMakingRefusal encode_report job.now)) }
     ensures printed { IfErr result (IsPrintedWith job.now.files) }
@@ -189,7 +184,7 @@ fn encode_report_of(
     let octets = encode_request(
         alloc,
         dictionary,
-        secret,
+        secret.as_slice(),
         request.code,
         request.id,
         &request.authenticator,
@@ -204,11 +199,10 @@ fn encode_report_of(
 fn decode_report_of(
     alloc: Global,
     dictionary: &Dictionary,
-    secret: &[u8],
+    secret: &Secret<'_>,
     job: &Job,
 ) -> Result<Report, Fault>
     requires opened { IsOpened job.now (opened dictionary.now (Some secret.now)) }
-    requires secret { 0 < length secret.now }
     ensures ok { IfOk result (IsPacketReport decode_report job.now) }
     ensures refused { IfErr result (MemoryOr (IsMakingRefusal decode_report job.now)) }
     ensures printed { IfErr result (IsPrintedWith job.now.files) }
@@ -227,7 +221,7 @@ fn request_report_of(alloc: Global, job: &Job) -> Result<Report, Fault>
     ensures printed { IfErr result (IsPrintedWith job.now.files) }
 {
     let Opened { dictionary, secret } = open(alloc, job)?;
-    match (job.command, secret) {
+    match (job.command, secret.as_ref()) {
         (Command::Run, secret) => run_report_of(alloc, &dictionary, secret, job),
         (Command::Step, secret) => step_report_of(alloc, &dictionary, secret, job),
         (Command::Encode, Some(secret)) => encode_report_of(alloc, &dictionary, secret, job),

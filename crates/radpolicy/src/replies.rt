@@ -1,6 +1,6 @@
 //! The reply packet of a run.
 
-ghost use Rattle.std.specs.Prelude.{◌≡◌, ◌⊎◌, ◌<◌, ◌≤◌, true, false, All, IfOk, OnOk, IfSome, length};
+ghost use Rattle.std.specs.Prelude.{◌≡◌, ◌<◌, true, false, IfOk, OnOk, IfSome};
 ghost use Rattle.std.specs.Option.{option_map};
 ghost use Rattle.avp_lists.specs.Instances.{has_instance, instances};
 ghost use Rattle.avp_lists.specs.declared.pairs.AttrId.TheVariants.{Plain};
@@ -14,6 +14,7 @@ ghost use Rattle.avp_dict.specs.Sent.{is_clean};
 ghost use Rattle.avp_unlang.specs.Meaning.{Outcome as End};
 
 use crate::jobs::Form;
+use crate::secrets::Secret;
 use avp_dict::Dictionary;
 use avp_lists::{AttrId, Pair, copy_pair};
 use avp_packet::{
@@ -32,7 +33,7 @@ const MESSAGE_AUTHENTICATOR: AttrId = AttrId::Plain(80);
 /// What a reply takes of its request, and the secret.
 #[derive(Debug, Drop)]
 pub(crate) struct ReplyHead<'a> {
-    secret: &'a [u8],
+    secret: &'a Secret<'a>,
     code: u8,
     id: u8,
     /// `None` where the packet of an Accounting-Request's lines would be too long.
@@ -77,10 +78,9 @@ fn signs_reply(request: &Packet) -> bool
 fn made_authenticator(
     alloc: Global,
     dictionary: &Dictionary,
-    secret: &[u8],
+    secret: &Secret<'_>,
     request: &Packet,
 ) -> Result<Option<[u8; 16]>, AllocError>
-    requires secret { 0 < length secret.now }
     requires code { IsRequestCode request.now.code }
     requires fit { AllFit dictionary.now request.now.list }
     ensures { IfOk result (λ authenticator. authenticator
@@ -89,7 +89,7 @@ fn made_authenticator(
     let made = encoded_authenticator(
         alloc,
         dictionary,
-        secret,
+        secret.as_slice(),
         request.code,
         request.id,
         &request.authenticator,
@@ -106,11 +106,10 @@ fn made_authenticator(
 fn answered_authenticator(
     alloc: Global,
     dictionary: &Dictionary,
-    secret: &[u8],
+    secret: &Secret<'_>,
     form: Form,
     request: &Packet,
 ) -> Result<Option<[u8; 16]>, AllocError>
-    requires secret { 0 < length secret.now }
     requires code { IsRequestCode request.now.code }
     requires fit { AllFit dictionary.now request.now.list }
     ensures { IfOk result (λ authenticator. authenticator
@@ -126,11 +125,10 @@ fn answered_authenticator(
 pub(crate) fn reply_head<'a>(
     alloc: Global,
     dictionary: &Dictionary,
-    secret: &'a [u8],
+    secret: &'a Secret<'a>,
     form: Form,
     request: &Packet,
 ) -> Result<ReplyHead<'a>, AllocError>
-    requires secret { 0 < length secret.now }
     requires code { IsRequestCode request.now.code }
     requires fit { AllFit dictionary.now request.now.list }
     requires proxies { is_clean (proxy_states request.now) dictionary.now ≡ true }
@@ -196,20 +194,16 @@ pub(crate) fn answered_by(
     let Some(authenticator) = head.authenticator else {
         return Err(EncodeFault::TooLong);
     };
-    let made = encode_reply(
+    let octets = encode_reply(
         alloc,
         dictionary,
-        head.secret,
+        head.secret.as_slice(),
         code,
         head.id,
         &authenticator,
         reply_pairs(last, reply),
         head.proxy_states.as_slice(),
         head.signed,
-    );
-    match made {
-        Ok(octets) => Ok(Some(octets)),
-        Err(EncodeFault::TooLong) => Err(EncodeFault::TooLong),
-        Err(EncodeFault::Memory) => Err(EncodeFault::Memory),
-    }
+    )?;
+    Ok(Some(octets))
 }

@@ -16,6 +16,7 @@ ghost use Rattle.radpolicy.specs.declared.jobs.Form.TheVariants.{Hex as InHex};
 
 use crate::faults::Fault;
 use crate::jobs::{Form, Job};
+use crate::secrets::Secret;
 use avp_dict::Dictionary;
 use avp_lists::Pairs;
 use avp_packet::{ACCESS_REQUEST, ACCOUNTING_REQUEST, Packet, decode};
@@ -59,10 +60,9 @@ fn hex_octets(alloc: Global, text: &[u8]) -> Result<Option<Vec<u8>>, AllocError>
 fn packet_of_hex(
     alloc: Global,
     dictionary: &Dictionary,
-    secret: &[u8],
+    secret: &Secret<'_>,
     job: &Job,
 ) -> Result<Packet, Fault>
-    requires secret { 0 < length secret.now }
     ensures ok { IfOk result (λ packet.
         packet_for dictionary.now secret.now (hex_octets job.now.request) ≡ Ok packet) }
     ensures code { IfOk result (λ packet. IsRequestCode packet.code) }
@@ -76,7 +76,7 @@ fn packet_of_hex(
     let Some(octets) = hex_octets(alloc, job.request.as_slice())? else {
         return Err(Fault::NotHex);
     };
-    let packet = decode(alloc, dictionary, secret, &octets)?;
+    let packet = decode(alloc, dictionary, secret.as_slice(), &octets)?;
     Ok(packet)
 }
 
@@ -110,10 +110,9 @@ fn packet_of_lines(
 pub(crate) fn request_for(
     alloc: Global,
     dictionary: &Dictionary,
-    secret: Option<&[u8]>,
+    secret: Option<&Secret<'_>>,
     job: &Job,
 ) -> Result<Packet, Fault>
-    requires secret { IfSome secret (λ octets. 0 < length octets.now) }
     requires hex { job.now.form ≡ InHex → secret ≢ None }
     ensures ok { IfOk result (λ packet.
         request_for dictionary.now (option_copied secret.entry) job.now ≡ Ok packet) }

@@ -1,5 +1,5 @@
 -- What a reply takes of its request, and the reply that is made of it.
-use Rattle.std.specs.Prelude.{◌≡◌, ◌<◌, ◌++◌, ℕ, true, false, All, List, [], length, Option, Some, None, Result, Ok, Err}
+use Rattle.std.specs.Prelude.{◌≡◌, ◌++◌, ℕ, true, false, All, List, [], Option, Some, None, Result, Ok, Err}
 use Rattle.std.specs.declared.alloc.Global.{Global}
 use Rattle.std.specs.declared.vec.Vec.{Vec}
 use Rattle.avp_lists.specs.declared.pairs.AttrId.TheVariants.{Plain}
@@ -66,9 +66,8 @@ unfoldable pub line_by : Dictionary → Option ReplyHead → Code → List Pair 
 line_by dictionary None last pairs = Some []
 line_by dictionary (Some head) last pairs = answer_line (answered_by dictionary head last pairs)
 
--- a head is usable: with a secret, and Proxy-States that fit and are read back, and no Accounting-Request's reply is signed
+-- a head is usable: its Proxy-States fit and are read back, and no reply to an Accounting-Request is signed
 pub record IsUsable (dictionary : Dictionary) (head : ReplyHead) : Type 0 where
-  pub secret : 0 < length head.secret.now
   pub proxies : All (λ (pair : Pair). pair.id ≡ Plain proxy_state) head.proxy_states.items
   pub fit : AllFit dictionary head.proxy_states.items
   pub clean : is_clean head.proxy_states.items dictionary ≡ true

@@ -1,7 +1,7 @@
 //! A run, from its parts to its report.
 
-ghost use Rattle.std.specs.Prelude.{◌≡◌, ◌⊎◌, ◌≤◌, ◌<◌, ◌++◌, true, IfOk, IfErr, IfSome, OnOk, None, Some, length};
-ghost use Rattle.std.specs.Option.{option_copied, option_map};
+ghost use Rattle.std.specs.Prelude.{◌≡◌, ◌≤◌, ◌<◌, ◌++◌, true, IfOk, IfErr, IfSome, OnOk, None, Some, length};
+ghost use Rattle.std.specs.Option.{option_copied};
 ghost use Rattle.avp_lists.specs.States.{max_pairs};
 ghost use Rattle.avp_packet.specs.Packets.{IsRequestCode};
 ghost use Rattle.radpolicy.specs.Faults.{MemoryOr};
@@ -24,6 +24,7 @@ use crate::jobs::{Form, Outcome};
 use crate::replies::{ReplyHead, answered_by, reply_head};
 use crate::reports::Report;
 use crate::reports::texts::{push_no_packet, push_packet, text_of_run};
+use crate::secrets::Secret;
 use avp_dict::Dictionary;
 use avp_lists::{List, Pair, SlotStore, Store};
 use avp_packet::{EncodeFault, Packet};
@@ -37,10 +38,9 @@ fn head_of<'a>(
     alloc: Global,
     dictionary: &Dictionary,
     form: Form,
-    secret: Option<&'a [u8]>,
+    secret: Option<&'a Secret<'a>>,
     request: &Packet,
 ) -> Result<Option<ReplyHead<'a>>, AllocError>
-    requires secret { IfSome secret (λ octets. 0 < length octets.now) }
     requires code { IsRequestCode request.now.code }
     requires fit { AllFit dictionary.now request.now.list }
     requires proxies { is_clean (proxy_states request.now) dictionary.now ≡ true }
@@ -177,12 +177,11 @@ pub(crate) fn report_of_run(
     alloc: Global,
     dictionary: &Dictionary,
     form: Form,
-    secret: Option<&[u8]>,
+    secret: Option<&Secret<'_>>,
     policy: &Policy,
     request: Packet,
 ) -> Result<Report, Fault>
     requires policy { IsSpelled dictionary.now policy.now }
-    requires secret { IfSome secret (λ octets. 0 < length octets.now) }
     requires code { IsRequestCode request.code }
     requires few { length request.list ≤ max_pairs }
     requires fit { AllFit dictionary.now request.list }

@@ -28,7 +28,6 @@ pub returns-clause-usable : goal.returns-clause-usable
 returns-clause-usable c =
     let proxies = c.in_ok-proxy_states_of.ensures ∙ ap (instances (Plain proxy_state)) c.as_slice.ensures in
     record {
-      secret = c.requires.secret;
       proxies = subst (λ (pairs : List Pair). All (λ (p : Pair). p.id ≡ Plain proxy_state) pairs) (sym proxies) (instances_are (Plain proxy_state) c.args.request.now.list);
       fit = subst (λ (pairs : List Pair). AllFit c.args.dictionary.now pairs) (sym proxies) (instances_fit c.args.dictionary.now (Plain proxy_state) c.args.request.now.list c.requires.fit);
       clean = ap (λ pairs. is_clean pairs c.args.dictionary.now) proxies ∙ c.requires.proxies;
