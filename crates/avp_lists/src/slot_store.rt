@@ -265,11 +265,14 @@ impl SlotStore {
         }
     }
 
-    // Whether the edit would make its list too long.
+    // Whether the edit would make its list too long. The pairs are counted only where there are slots enough for that.
     fn is_full(&self, edit: &Edit) -> bool
         ensures { IsTrue result ↔ IsFull edit.now
             (present (⟦<SlotStore as Store>⟧.history self.now)) }
     {
+        if self.slots.len() < MAX_PAIRS {
+            return false;
+        }
         self.count(edit.list) == MAX_PAIRS && self.adds_one(edit.list, edit.op, edit.pair.id)
     }
 
