@@ -1,5 +1,6 @@
 pub mod AgreeingLines
 pub mod Agreement
+pub mod CountedNames
 pub mod FaultPlaces
 pub mod Fitting
 pub mod Folding

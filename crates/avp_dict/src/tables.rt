@@ -1,6 +1,7 @@
 //! Tables from a key to the place of the last line that has it, and lists of lines with their tables.
 
 mod attributes;
+mod keyed;
 mod keys;
 mod names;
 mod places;

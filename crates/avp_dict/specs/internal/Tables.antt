@@ -1,14 +1,13 @@
 -- Tables of lines: each gives the place of the last line with a key.
-use Rattle.std.specs.Prelude.{◌≡◌, ◌≤◌, ℕ, suc, Bool, ◌==◌, nat_eq, ◌&&◌, List, [], ◌∷◌, map, length, Option, Some, None, if◌then◌else◌}
+use Rattle.std.specs.Prelude.{◌≡◌, ◌≤◌, ℕ, suc, Bool, ◌==◌, ◌&&◌, List, [], ◌∷◌, map, length, Option, Some, None, if◌then◌else◌}
 use Rattle.std.specs.List.{All}
 use Rattle.std.specs.Map.{keys_of, lookup}
 use Rattle.std.specs.Str.{bytes_eq}
 use Rattle.avp_lists.specs.declared.pairs.AttrId.{AttrId}
 use Rattle.avp_lists.specs.declared.pairs.AttrId.TheVariants.{Plain, Vendor, Extended}
-use Rattle.avp_dict.specs.declared.entries.AttributeLine.{AttributeLine}
 use Rattle.avp_dict.specs.declared.entries.ValueLine.{ValueLine}
 use Rattle.avp_dict.specs.declared.entries.VendorLine.{VendorLine}
-use Rattle.avp_dict.specs.Dictionary.{attribute_key, first_keys}
+use Rattle.avp_dict.specs.Dictionary.{first_keys}
 use Rattle.avp_dict.specs.Letters.{max_name}
 use Rattle.avp_dict.specs.Words.{lower}
 
@@ -53,17 +52,8 @@ vendor_key v = map lower v.name
 
 -- ---- tables
 
-pub record AreAttributeTables (names : List (List ℕ × ℕ)) (ids : List (IdKey × ℕ)) (lines : List AttributeLine) : Type 0 where
-  pub by_name : IsTable bytes_eq names (map attribute_key lines)
-  pub by_id : IsTable same_id_key ids (map (λ a. id_key a.id) lines)
-  pub short : All (λ a. length a.name ≤ max_name) lines
-
-pub record AreValueTables (names : List ((IdKey × List ℕ) × ℕ)) (numbers : List ((IdKey × ℕ) × ℕ)) (lines : List ValueLine) : Type 0 where
-  pub by_name : IsTable same_value_name names (map value_name_key lines)
-  pub by_number : IsTable same_value_number numbers (map value_number_key lines)
-  pub short : All (λ v. length v.name ≤ max_name) lines
-
-pub record AreVendorTables (names : List (List ℕ × ℕ)) (numbers : List (ℕ × ℕ)) (lines : List VendorLine) : Type 0 where
-  pub by_name : IsTable bytes_eq names (map vendor_key lines)
-  pub by_number : IsTable nat_eq numbers (map (λ v. v.number) lines)
-  pub short : All (λ v. length v.name ≤ max_name) lines
+-- the tables of the lines' names and numbers, and no name too long
+pub record AreTables {L K N : Type 0} (same_name : K → K → Bool) (same_number : N → N → Bool) (spelled : L → List ℕ) (name_of : L → K) (number_of : L → N) (names : List (K × ℕ)) (numbers : List (N × ℕ)) (lines : List L) : Type 0 where
+  pub by_name : IsTable same_name names (map name_of lines)
+  pub by_number : IsTable same_number numbers (map number_of lines)
+  pub short : All (λ line. length (spelled line) ≤ max_name) lines

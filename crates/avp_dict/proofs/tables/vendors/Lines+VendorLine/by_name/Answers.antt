@@ -1,0 +1,6 @@
+use Rattle.avp_dict.specs.Dictionary.{is_vendor_named}
+use Rattle.avp_dict.proofs.NameLengths.{by_folded}
+use Rattle.avp_dict.proofs.tables.vendors.KeyedLines+VendorLine.by_name.Goals as goal
+
+pub returns : goal.returns
+returns c = c.named.ensures (is_vendor_named c.args.name.now) (by_folded (λ v. v.name) c.args.name.now c.of.result c.of.ensures.folded c.of.ensures.long)
