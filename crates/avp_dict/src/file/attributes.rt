@@ -126,11 +126,7 @@ fn id_of_dotted(block: Option<u32>, t: Number, x: Number) -> Result<Option<AttrI
 fn is_number(word: &[u8]) -> bool
     ensures { result ≡ is_number word.now }
 {
-    match number_of(word) {
-        Number::Unreadable => false,
-        Number::TooGreat => true,
-        Number::Is(_) => true,
-    }
+    number_of(word).is_read()
 }
 
 fn are_readable(parts: &[&[u8]]) -> bool

@@ -1,6 +1,6 @@
 //! Numbers of a line.
 
-ghost use Rattle.std.specs.Prelude.{◌≡◌, ◌≤◌, ◌+◌, ◌*◌, ℕ};
+ghost use Rattle.std.specs.Prelude.{◌≡◌, ◌≤◌, ◌+◌, ◌*◌, ℕ, Option, is_some};
 ghost use Rattle.std.specs.Char.{digit_value};
 ghost use Rattle.avp_dict.specs.Vendors.{bounded};
 ghost use Rattle.avp_dict.specs.Words.{digits, number_of};
@@ -21,6 +21,19 @@ pub enum Number {
     /// 2 ^ 64 or more.
     TooGreat,
     Is(u64),
+}
+
+impl Number {
+    /// Whether the word is a number.
+    pub(crate) fn is_read(self) -> bool
+        ensures { (n : Option ℕ) → Reads self n → result ≡ is_some n }
+    {
+        match self {
+            Number::Unreadable => false,
+            Number::TooGreat => true,
+            Number::Is(_) => true,
+        }
+    }
 }
 
 fn digit(octet: u8) -> u64

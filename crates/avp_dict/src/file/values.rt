@@ -21,7 +21,7 @@ use crate::faults::{DictFault, DictKind, LineError};
 use crate::file::attributes::is_name_octet;
 use crate::file::context::Context;
 use crate::file::meanings::{Meaning, Reading};
-use crate::file::numbers::{Number, digits};
+use crate::file::numbers::digits;
 use crate::file::settling::{is_kept, used};
 use crate::file::words::MAX_NAME;
 use crate::tables::{Attributes, NameSet, Values, Vendors};
@@ -40,23 +40,13 @@ fn are_octets_of_word(name: &[u8]) -> bool
     name.iter().all(|octet| is_value_name_octet(*octet))
 }
 
-fn is_read(number: Number) -> bool
-    ensures { (n : Option ℕ) → Reads number n → result ≡ is_some n }
-{
-    match number {
-        Number::Unreadable => false,
-        Number::TooGreat => true,
-        Number::Is(_) => true,
-    }
-}
-
 fn reads_as_number(word: &[u8]) -> bool
     ensures { result ≡ reads_as_number word.now }
 {
     match word {
-        [b'0', b'x', rest @ ..] => is_read(digits(16, rest)),
-        [b'0', b'X', rest @ ..] => is_read(digits(16, rest)),
-        _ => is_read(digits(10, word)),
+        [b'0', b'x', rest @ ..] => digits(16, rest).is_read(),
+        [b'0', b'X', rest @ ..] => digits(16, rest).is_read(),
+        _ => digits(10, word).is_read(),
     }
 }
 
