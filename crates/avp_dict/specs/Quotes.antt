@@ -1,9 +1,13 @@
 -- Quoted texts: how octets are printed between double quotes, and which octets a text between quotes stands for.
-use Rattle.std.specs.Prelude.{ℕ, zero, suc, ◌+◌, ◌*◌, ◌-◌, ◌/◌, ◌%◌, Bool, ◌&&◌, ◌||◌, ◌==◌, nat_le, if◌then◌else◌, List, [], ◌∷◌, ◌++◌, length, take, drop, slice_index}
-use Rattle.std.specs.List.{flat_map}
+use Rattle.std.specs.Prelude.{codes, ℕ, zero, suc, ◌+◌, ◌*◌, ◌-◌, ◌/◌, ◌%◌, Bool, ◌&&◌, ◌||◌, ◌==◌, nat_le, if◌then◌else◌, List, [], ◌∷◌, ◌++◌, length, take, drop, slice_index, Some, None}
+use Rattle.std.specs.List.{find, flat_map, zip}
 use Rattle.avp_dict.specs.declared.value.quotes.Escape.{Escape}
 use Rattle.avp_dict.specs.declared.value.quotes.QuoteMark.{QuoteMark}
 use Rattle.avp_dict.specs.declared.value.quotes.QuoteMark.TheVariants.{Double, Single}
+
+-- the letters after a `\` and the octets that they stand for, for writing and for reading
+abbrev pub escapes : List (ℕ × ℕ)
+escapes = zip (codes "\"\\nrt") (codes "\"\\\n\r\t")
 
 -- ---- printing
 
@@ -11,15 +15,12 @@ use Rattle.avp_dict.specs.declared.value.quotes.QuoteMark.TheVariants.{Double, S
 abbrev pub octal_escape : ℕ → List ℕ
 octal_escape o = 92 ∷ (48 + o / 64) ∷ (48 + o / 8 % 8) ∷ (48 + o % 8) ∷ []
 
--- an octet between double quotes: `\"`, `\\`, `\n`, `\r`, `\t`, itself from 0x20 to 0x7e, else in octal digits
+-- an octet between double quotes: `\` and its letter, itself from 0x20 to 0x7e, else in octal digits
 abbrev pub quoted_octet : ℕ → List ℕ
-quoted_octet o =
-    if o == 34 then (92 ∷ 34 ∷ [])
-    else if o == 92 then (92 ∷ 92 ∷ [])
-    else if o == 10 then (92 ∷ 110 ∷ [])
-    else if o == 13 then (92 ∷ 114 ∷ [])
-    else if o == 9 then (92 ∷ 116 ∷ [])
-    else if nat_le 32 o && nat_le o 126 then o ∷ [] else octal_escape o
+quoted_octet o = elim (find (λ e. e.1 == o) escapes) [
+  | Some e ↦ 92 ∷ e.0 ∷ []
+  | None ↦ (if nat_le 32 o && nat_le o 126 then o ∷ [] else octal_escape o)
+]
 
 -- octets between double quotes, with these
 unfoldable pub quoted : List ℕ → List ℕ
@@ -41,9 +42,9 @@ begins_octal text = is_octal (slice_index text 0) && nat_le (slice_index text 0)
 abbrev pub octal_value : ℕ → ℕ → ℕ → ℕ
 octal_value a b c = (a - 48) * 64 + (b - 48) * 8 + (c - 48)
 
--- the octet of `\` and a letter: `\n`, `\r`, `\t`, and `\c` is c for any other c
+-- the octet of `\` and a letter: itself where no octet has it
 abbrev pub escaped_letter : ℕ → ℕ
-escaped_letter c = if c == 110 then 10 else if c == 114 then 13 else if c == 116 then 9 else c
+escaped_letter c = elim (find (λ e. e.0 == c) escapes) [ Some e ↦ e.1 | None ↦ c ]
 
 -- an octet, and how many octets after a `\` stand for it
 abbrev pub escape_by : ℕ → ℕ → Escape
