@@ -1,7 +1,8 @@
 -- Type words and flags, and how the values of an attribute with them are read.
-use Rattle.std.specs.Prelude.{codes, ℕ, Bool, true, false, not, ◌&&◌, ◌||◌, ◌==◌, if◌then◌else◌, List, Option, Some, None}
+use Rattle.std.specs.Prelude.{codes, ℕ, Bool, true, false, not, ◌&&◌, ◌||◌, ◌==◌, if◌then◌else◌, List, [], ◌∷◌, Option, Some}
 use Rattle.std.specs.Option.{unwrap_or}
 use Rattle.std.specs.List.{list_any, list_all}
+use Rattle.std.specs.Map.{lookup}
 use Rattle.avp_lists.specs.declared.pairs.AttrId.{AttrId}
 use Rattle.avp_lists.specs.declared.pairs.AttrId.TheVariants as ids
 use Rattle.avp_dict.specs.declared.entries.Kind.{Kind}
@@ -24,20 +25,17 @@ is_opaque w = same_name w (codes "has_tag") || same_name w (codes "encrypt=2") |
 abbrev pub is_hiding : List ℕ → Bool
 is_hiding w = same_name w (codes "encrypt=1")
 
+-- the type words, with their types
+abbrev pub kind_words : List (List ℕ × Kind)
+kind_words =
+    (codes "string", kinds.Text) ∷ (codes "octets", kinds.Bytes) ∷ (codes "ipaddr", kinds.Addr)
+    ∷ (codes "integer", kinds.Integer) ∷ (codes "date", kinds.Date) ∷ (codes "byte", kinds.Byte)
+    ∷ (codes "short", kinds.Short) ∷ (codes "signed", kinds.Signed)
+    ∷ (codes "integer64", kinds.Integer64) ∷ (codes "ether", kinds.Ether) ∷ []
+
 -- the type of a word, if it is one of the ten
 abbrev pub kind_word : List ℕ → Option Kind
-kind_word w =
-    if same_name w (codes "string") then Some kinds.Text
-    else if same_name w (codes "octets") then Some kinds.Bytes
-    else if same_name w (codes "ipaddr") then Some kinds.Addr
-    else if same_name w (codes "integer") then Some kinds.Integer
-    else if same_name w (codes "date") then Some kinds.Date
-    else if same_name w (codes "byte") then Some kinds.Byte
-    else if same_name w (codes "short") then Some kinds.Short
-    else if same_name w (codes "signed") then Some kinds.Signed
-    else if same_name w (codes "integer64") then Some kinds.Integer64
-    else if same_name w (codes "ether") then Some kinds.Ether
-    else None
+kind_word w = lookup (same_name w) kind_words
 
 abbrev pub is_text_kind : Option Kind → Bool
 is_text_kind (Some kinds.Text) = true
