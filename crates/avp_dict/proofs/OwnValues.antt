@@ -31,7 +31,7 @@ IsSized _ = Unit {0}
 
 -- ---- numbers
 
-number_back : (k n : ℕ) → k ≤ 4 → n < 256 ^ k → number_from_digits 256 (bytes_high_first k n) ≡ n
+pub number_back : (k n : ℕ) → k ≤ 4 → n < 256 ^ k → number_from_digits 256 (bytes_high_first k n) ≡ n
 number_back zero n h lt = omega arith
 number_back (suc zero) n h lt = omega arith
 number_back (suc (suc zero)) n h lt = omega arith

@@ -27,5 +27,5 @@ pub use file::words::words_between_blanks;
 pub use request::faults::{LineFault, LineKind};
 pub use request::lines::next_line;
 pub use value::faults::ValueFault;
-pub use value::quotes::{QuoteMark, octets_between, quote};
+pub use value::quotes::{Escape, QuoteMark, double_escape, octets_between, quote};
 pub use value::texts::is_container;

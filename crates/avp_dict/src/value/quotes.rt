@@ -14,7 +14,7 @@ pub enum QuoteMark {
 
 /// What follows a `\` between quotes: an octet, and how many octets of the text stand for it.
 #[derive(Clone, Copy)]
-pub(crate) struct Escape {
+pub struct Escape {
     pub octet: u8,
     pub taken: usize,
 }
@@ -87,8 +87,10 @@ fn escaped_letter(letter: u8) -> u8
     }
 }
 
-fn double_escape(text: &[u8]) -> Escape
-    ensures { result ≡ double_escape text.now }
+/// What follows a `\` between double quotes: three octal digits, a letter that stands for an octet, or an octet itself.
+pub fn double_escape(text: &[u8]) -> Escape
+    ensures value { result ≡ double_escape text.now }
+    ensures within { result.taken ≤ length text.now }
 {
     match text {
         [] => Escape {
