@@ -1,14 +1,16 @@
--- What holds of every dictionary that was read: a name stands for one thing and has no form of a name by number, and each vendor has one of the formats that exist.
-use Rattle.std.specs.Prelude.{◌≡◌, ℕ, Bool, true, false, not, ◌&&◌, ◌==◌, List, Some}
+-- What holds of every dictionary that was read: a name stands for one thing and has no form of a name by number, and each vendor has one of the formats that exist; and what follows for the look-ups.
+use Rattle.std.specs.Prelude.{◌≡◌, ℕ, Bool, true, false, not, ◌&&◌, ◌==◌, List, Some, IfSome}
 use Rattle.std.specs.List.{All}
 use Rattle.avp_lists.specs.declared.pairs.AttrId.{AttrId}
 use Rattle.avp_lists.specs.Pairs.{id_eq}
 use Rattle.avp_dict.specs.declared.entries.AttributeLine.{AttributeLine}
 use Rattle.avp_dict.specs.declared.entries.ValueLine.{ValueLine}
 use Rattle.avp_dict.specs.declared.entries.VendorLine.{VendorLine}
+use Rattle.avp_dict.specs.declared.entries.Named.{Named}
 use Rattle.avp_dict.specs.Dictionary.{Dictionary, is_attribute_named, is_value_named}
 use Rattle.avp_dict.specs.Letters.{begins_as_attr}
 use Rattle.avp_dict.specs.Limits.{is_known}
+use Rattle.avp_dict.specs.Names.{named, vendor_format}
 use Rattle.avp_dict.specs.Types.{is_text_kind}
 use Rattle.avp_dict.specs.Values.{reads_as_number}
 use Rattle.avp_dict.specs.Vendors.{is_format}
@@ -40,3 +42,14 @@ pub record IsSound (dictionary : Dictionary) : Type 0 where
   pub attributes : All (IsSoundAttribute dictionary) dictionary.attributes
   pub values : All (IsSoundValue dictionary.values) dictionary.values
   pub vendors : All IsSoundVendor dictionary.vendors
+
+-- each name stands for a known id
+abbrev pub NamesKnown : Dictionary → Type 0
+NamesKnown dictionary =
+    (name : List ℕ) (found : Named) → named name dictionary ≡ Some found
+    → is_known found.id dictionary ≡ true
+
+-- no vendor has a format of two other parts
+abbrev pub HasKnownFormats : Dictionary → Type 0
+HasKnownFormats dictionary =
+    (vendor : ℕ) → IfSome (vendor_format vendor dictionary) (λ f. is_format f.t f.l ≡ true)

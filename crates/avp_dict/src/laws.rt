@@ -1,15 +1,12 @@
 //! Laws of every dictionary, as calls that do nothing: their contracts are what they are for.
 
-ghost use Rattle.std.specs.Prelude.{◌≡◌, ℕ, List, Some, true, IfSome, IsTrue};
-ghost use Rattle.avp_dict.specs.Limits.{fits, is_known};
+ghost use Rattle.std.specs.Prelude.{IsTrue};
+ghost use Rattle.avp_dict.specs.Limits.{fits};
 ghost use Rattle.avp_dict.specs.Quotes.{between_quotes, double_quoted_octets};
 ghost use Rattle.avp_dict.specs.ReadingBack.{ReadsBack, is_writable, unquoted};
-ghost use Rattle.avp_dict.specs.Soundness.{IsSound};
-ghost use Rattle.avp_dict.specs.Names.{named, vendor_format};
-ghost use Rattle.avp_dict.specs.declared.entries.Named.{Named};
+ghost use Rattle.avp_dict.specs.Soundness.{HasKnownFormats, IsSound, NamesKnown};
 ghost use Rattle.avp_dict.specs.SpelledPairs.{SpelledPairsFit};
 ghost use Rattle.avp_dict.specs.SpelledValues.{SpelledValuesClean};
-ghost use Rattle.avp_dict.specs.Vendors.{is_format};
 ghost use Rattle.avp_dict.specs.internal.Ranges.{AreOctets, IsIdInRange, IsValueInRange};
 
 use crate::dictionaries::Dictionary;
@@ -55,10 +52,8 @@ impl Dictionary {
     #[tactic(auto, using(crate::proofs::Fitting::names_known, crate::proofs::Fitting::formats_known))]
     pub fn is_sound(&self)
         ensures sound { IsSound self.now }
-        ensures names { (name : List ℕ) (found : Named) → named name self.now ≡ Some found
-            → is_known found.id self.now ≡ true }
-        ensures formats { (vendor : ℕ) →
-            IfSome (vendor_format vendor self.now) (λ f. is_format f.t f.l ≡ true) }
+        ensures names { NamesKnown self.now }
+        ensures formats { HasKnownFormats self.now }
     {
         self.sound();
     }

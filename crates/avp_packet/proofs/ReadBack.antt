@@ -21,13 +21,13 @@ use Rattle.avp_dict.specs.Limits.{fits, is_known}
 use Rattle.avp_dict.specs.Names.{unless_three, vendor_format}
 use Rattle.avp_dict.specs.Sent.{is_canonical, is_clean, is_clean_pair, is_container, is_internal, is_sent, sent}
 use Rattle.avp_dict.specs.Settled.{holds, is_in_format}
-use Rattle.avp_dict.specs.Soundness.{IsSound}
+use Rattle.avp_dict.specs.Soundness.{HasKnownFormats, IsSound}
 use Rattle.avp_dict.specs.Vendors.{is_format}
 use Rattle.avp_dict.specs.AttributeNumbers.{vendor_specific}
 use Rattle.avp_packet.specs.AttributeOctets.{attribute_octets, fragments, is_long, part, parts_holding, parts_of, parts_of_pair, sent_octets, vendor_value}
 use Rattle.avp_packet.specs.Meanings.{Run, are_subs, are_subs_behind, begins_sub, extended_type, first_run, first_sub, attribute_pairs, others, pair_meant, piece_of, run, sub_length, subs, subs_behind, vendor_of, vendor_subs}
 use Rattle.avp_packet.specs.Splitting.{Part, left, part_octets, parts}
-use Rattle.avp_packet.specs.VendorFormats.{HasKnownFormats, known_format, usable_format}
+use Rattle.avp_packet.specs.VendorFormats.{known_format, usable_format}
 use Rattle.avp_packet.specs.internal.Holding.{CanHold, FitsFormat}
 use Rattle.avp_packet.specs.internal.Ranges.{IsVendorInRange}
 use Rattle.avp_packet.specs.ExtendedTypes.{extended_type_1, extended_type_4, long_extended_type_1, long_extended_type_2, piece_octets, more_flag, holds_one, holds_long}

@@ -16,7 +16,7 @@ use Rattle.avp_dict.specs.Dictionary.{Dictionary}
 use Rattle.avp_dict.specs.Limits.{fits, is_known}
 use Rattle.avp_dict.specs.Octets.{is_hidden, octets}
 use Rattle.avp_dict.specs.Sent.{is_clean, is_clean_pair, is_sent, sent}
-use Rattle.avp_dict.specs.Soundness.{IsSound}
+use Rattle.avp_dict.specs.Soundness.{HasKnownFormats, IsSound}
 use Rattle.avp_dict.specs.AttributeNumbers.{proxy_state, message_authenticator}
 use Rattle.avp_packet.specs.declared.encoding.dividing.Division.{Division}
 use Rattle.avp_packet.specs.AttributeOctets.{attribute_octets, fragments, is_long, part, parts_holding, parts_of, parts_of_pair, sent_octets, vendor_part}
@@ -26,7 +26,7 @@ use Rattle.avp_packet.specs.Packets.{attributes_signed, attributes_with, hiding_
 use Rattle.avp_packet.specs.Sending.{Content, message_authenticator_id, pairs_sent, without_signatures}
 use Rattle.avp_packet.specs.Signed.{blanked, is_signature, signatures}
 use Rattle.avp_packet.specs.Splitting.{Part, left, part_octets, parts}
-use Rattle.avp_packet.specs.VendorFormats.{HasKnownFormats, known_format}
+use Rattle.avp_packet.specs.VendorFormats.{known_format}
 use Rattle.avp_packet.specs.internal.Filling.{IsDivided, KeepsAll, divided_octets, divided_signed, signature_if}
 use Rattle.avp_packet.specs.internal.Ranges.{IsVendorInRange}
 use Rattle.avp_packet.specs.ExtendedTypes.{extended_type_1, piece_octets}

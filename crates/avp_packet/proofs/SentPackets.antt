@@ -5,7 +5,7 @@ use Rattle.avp_lists.specs.declared.pairs.Pair.{Pair}
 use Rattle.avp_dict.specs.Dictionary.{Dictionary}
 use Rattle.avp_dict.specs.Limits.{fits}
 use Rattle.avp_dict.specs.Sent.{is_clean}
-use Rattle.avp_dict.specs.Soundness.{IsSound}
+use Rattle.avp_dict.specs.Soundness.{HasKnownFormats, IsSound}
 use Rattle.avp_packet.specs.declared.encoding.dividing.Division.{Division}
 use Rattle.avp_packet.specs.Hmac.{hmac}
 use Rattle.avp_packet.specs.Meanings.{attribute_pairs}
@@ -14,7 +14,6 @@ use Rattle.avp_packet.specs.Packets.{attributes_of, attributes_signed, hiding_au
 use Rattle.avp_packet.specs.Sending.{Content, without_signatures}
 use Rattle.avp_packet.specs.Signed.{is_signed}
 use Rattle.avp_packet.specs.Splitting.{left, parts}
-use Rattle.avp_packet.specs.VendorFormats.{HasKnownFormats}
 use Rattle.avp_packet.specs.internal.Filling.{IsDivided, KeepsAll, divided_octets}
 use Rattle.avp_packet.specs.internal.Ranges.{IsVendorInRange}
 use Rattle.avp_packet.proofs.Assembled.{attributes_of-packet, is_signed-packet, length-packet}

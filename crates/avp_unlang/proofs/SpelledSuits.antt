@@ -9,6 +9,7 @@ use Rattle.avp_dict.specs.declared.entries.Named.{Named}
 use Rattle.avp_dict.specs.Dictionary.{Dictionary}
 use Rattle.avp_dict.specs.declared.value.quotes.QuoteMark.TheVariants.{Double, Single}
 use Rattle.avp_dict.specs.Quotes.{single_quoted_octets}
+use Rattle.avp_dict.specs.Soundness.{NamesKnown}
 use Rattle.avp_unlang.specs.declared.codes.Code.{Code}
 use Rattle.avp_unlang.specs.declared.text.statements.Keyword.{Keyword}
 use Rattle.avp_unlang.specs.declared.text.statements.Keyword.TheVariants as keyword
@@ -32,7 +33,7 @@ use Rattle.avp_unlang.specs.declared.tree.Statement.TheVariants.{Update, If, Tra
 use Rattle.avp_unlang.specs.Conditions.{relation_of, plain_octets, ComparandFrom, comparison_of, ComparedFrom, ComparedIs, WordFrom, any_of, all_of, Both, Either, Closed, OperandFrom, Within}
 use Rattle.avp_unlang.specs.References.{reference, target_in, type_of}
 use Rattle.avp_unlang.specs.Resolutions.{line_suits, literal_fits}
-use Rattle.avp_unlang.specs.Suiting.{NamesKnown, branch_layer_suits, branches_suit, else_suits, branch_suits, comparand_suits, comparison_suits, cond_layer_suits, cond_suits, itself, policy_suits, same_kind, statement_layer_suits, statement_suits}
+use Rattle.avp_unlang.specs.Suiting.{branch_layer_suits, branches_suit, else_suits, branch_suits, comparand_suits, comparison_suits, cond_layer_suits, cond_suits, itself, policy_suits, same_kind, statement_layer_suits, statement_suits}
 use Rattle.avp_dict.specs.Limits.{is_known}
 use Rattle.avp_dict.specs.Names.{named}
 use Rattle.avp_dict.specs.declared.entries.Kind.{Kind}

@@ -1,9 +1,7 @@
 -- When a policy suits a dictionary: its attributes are known, its literals fit, and what it compares is of one type.
-use Rattle.std.specs.Prelude.{◌≡◌, ℕ, Bool, true, false, ◌&&◌, List, Option, Some, None}
+use Rattle.std.specs.Prelude.{ℕ, Bool, true, false, ◌&&◌, List, Option, Some, None}
 use Rattle.std.specs.List.{list_all}
-use Rattle.avp_dict.specs.Limits.{fits, is_known}
-use Rattle.avp_dict.specs.Names.{named}
-use Rattle.avp_dict.specs.declared.entries.Named.{Named}
+use Rattle.avp_dict.specs.Limits.{fits}
 use Rattle.avp_dict.specs.declared.entries.Kind.{Kind}
 use Rattle.avp_dict.specs.declared.entries.Kind.TheVariants as kinds
 use Rattle.avp_dict.specs.Dictionary.{Dictionary}
@@ -95,13 +93,7 @@ abbrev pub else_suits : Dictionary → Option (List Statement) → Bool
 else_suits dictionary None = true
 else_suits dictionary (Some block) = policy_suits dictionary block
 
--- ---- names
-
--- each name of the dictionary stands for a known id
-abbrev pub NamesKnown : Dictionary → Type 0
-NamesKnown dictionary =
-    (name : List ℕ) (found : Named) → named name dictionary ≡ Some found
-    → is_known found.id dictionary ≡ true
+-- ---- texts
 
 -- a text spells the policy by the dictionary
 abbrev pub IsSpelled : Dictionary → List Statement → Type 0
