@@ -25,7 +25,7 @@ use Rattle.avp_dict.specs.Limits.{fits, is_known, is_of_kind, is_typed, is_withi
 use Rattle.avp_dict.specs.Names.{Described, described, named}
 use Rattle.avp_dict.specs.Octets.{is_hidden, octets, of_length, read_value, value_of_octets, value_read}
 use Rattle.avp_dict.specs.Printing.{attr_name, hexadecimal, printed_name, printed_text, typed_text}
-use Rattle.avp_dict.specs.ReadingBack.{ReadsBack, is_writable, unquoted}
+use Rattle.avp_dict.specs.Laws.{ReadsBack, is_writable, unquoted}
 use Rattle.avp_dict.specs.Sent.{is_canonical, is_container, is_internal, is_raw, is_shown}
 use Rattle.avp_dict.specs.Settled.{is_in_format}
 use Rattle.avp_dict.specs.Soundness.{IsSound}

@@ -4,6 +4,7 @@ pub mod Blocks
 pub mod Counts
 pub mod Dictionary
 pub mod DictionaryReading
+pub mod Laws
 pub mod Letters
 pub mod Limits
 pub mod Lines
@@ -13,7 +14,6 @@ pub mod Octets
 pub mod Outcomes
 pub mod Printing
 pub mod Quotes
-pub mod ReadingBack
 pub mod Readings
 pub mod Refusals
 pub mod RequestLines
@@ -21,8 +21,6 @@ pub mod Requests
 pub mod Sent
 pub mod Settled
 pub mod Soundness
-pub mod SpelledPairs
-pub mod SpelledValues
 pub mod Spellings
 pub mod Types
 pub mod Values

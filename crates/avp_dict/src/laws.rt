@@ -1,12 +1,8 @@
 //! Laws of every dictionary, as calls that do nothing: their contracts are what they are for.
 
 ghost use Rattle.std.specs.Prelude.{IsTrue};
-ghost use Rattle.avp_dict.specs.Limits.{fits};
-ghost use Rattle.avp_dict.specs.Quotes.{between_quotes, double_quoted_octets};
-ghost use Rattle.avp_dict.specs.ReadingBack.{ReadsBack, is_writable, unquoted};
+ghost use Rattle.avp_dict.specs.Laws.{ReadsBack, SpelledPairsFit, SpelledValuesClean, is_writable};
 ghost use Rattle.avp_dict.specs.Soundness.{HasKnownFormats, IsSound, NamesKnown};
-ghost use Rattle.avp_dict.specs.SpelledPairs.{SpelledPairsFit};
-ghost use Rattle.avp_dict.specs.SpelledValues.{SpelledValuesClean};
 ghost use Rattle.avp_dict.specs.internal.Ranges.{AreOctets, IsIdInRange, IsValueInRange};
 
 use crate::dictionaries::Dictionary;

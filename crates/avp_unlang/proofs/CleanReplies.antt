@@ -6,7 +6,7 @@ use Rattle.std.proofs.lemmas.List.Elements.{All-cons, All-head, All-nil, All-tai
 use Rattle.avp_lists.specs.declared.pairs.Pair.{Pair}
 use Rattle.avp_dict.specs.Limits.{fits}
 use Rattle.avp_dict.specs.Sent.{is_clean, is_clean_pair}
-use Rattle.avp_dict.specs.SpelledValues.{SpelledValuesClean}
+use Rattle.avp_dict.specs.Laws.{SpelledValuesClean}
 use Rattle.avp_dict.specs.Dictionary.{Dictionary}
 use Rattle.avp_unlang.specs.Cleanness.{KeepsReplyClean}
 use Rattle.avp_unlang.specs.Meaning.{meaning_of}

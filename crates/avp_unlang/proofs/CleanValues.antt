@@ -12,7 +12,7 @@ use Rattle.avp_lists.specs.declared.lists.State.{State}
 use Rattle.avp_dict.specs.Limits.{fits, is_known, is_typed, is_within}
 use Rattle.avp_dict.specs.Octets.{kind_of, octets, read_value}
 use Rattle.avp_dict.specs.Sent.{is_canonical, is_clean_pair, is_container}
-use Rattle.avp_dict.specs.SpelledValues.{SpelledValuesClean}
+use Rattle.avp_dict.specs.Laws.{SpelledValuesClean}
 use Rattle.avp_dict.specs.Spellings.{unless_long, value_spelled}
 use Rattle.avp_dict.specs.declared.entries.Named.{Named}
 use Rattle.avp_dict.specs.declared.entries.Kind.{Kind}

@@ -1,15 +1,18 @@
--- Which pairs are read back from what is printed for them, and what that says.
-use Rattle.std.specs.Prelude.{◌≡◌, ℕ, Bool, not, ◌&&◌, ◌||◌, List, Some, Ok}
+-- What holds of every dictionary's texts: what is printed is read back, and what a text spells is clean and fits.
+use Rattle.std.specs.Prelude.{◌≡◌, ℕ, Bool, true, not, ◌&&◌, ◌||◌, IsTrue, List, Some, Ok}
+use Rattle.std.specs.Option.{option_and_then}
 use Rattle.avp_lists.specs.declared.pairs.Pair.{Pair}
 use Rattle.avp_lists.specs.declared.pairs.Value.{Value}
 use Rattle.avp_lists.specs.declared.pairs.Value.TheVariants.{Text}
 use Rattle.avp_dict.specs.declared.entries.Named.{Named}
 use Rattle.avp_dict.specs.Dictionary.{Dictionary}
+use Rattle.avp_dict.specs.Limits.{fits, is_known}
 use Rattle.avp_dict.specs.Names.{named}
 use Rattle.avp_dict.specs.Octets.{is_hidden}
 use Rattle.avp_dict.specs.Printing.{printed_name, printed_text}
 use Rattle.avp_dict.specs.Quotes.{between_quotes, double_quoted_octets}
-use Rattle.avp_dict.specs.Sent.{is_canonical, is_container, is_internal, is_raw}
+use Rattle.avp_dict.specs.Requests.{pair_named, pair_with}
+use Rattle.avp_dict.specs.Sent.{is_canonical, is_clean_pair, is_container, is_internal, is_raw}
 use Rattle.avp_dict.specs.Spellings.{value_spelled}
 
 -- a canonical pair that may be written: no attribute that only holds others, and no raw octets of an internal or hidden attribute
@@ -27,3 +30,17 @@ pub record ReadsBack (pair : Pair) (dictionary : Dictionary) : Type 0 where
   pub named : named (printed_name pair.id pair.value dictionary) dictionary ≡ Some name
   pub same : name.id ≡ pair.id
   pub spelled : value_spelled name (unquoted pair.value (printed_text pair.id pair.value dictionary)) dictionary ≡ Ok pair.value
+
+-- the pair of a known id and a value that a text stands for is clean: its own octets stand for it, and it holds no other attributes
+abbrev pub SpelledValuesClean : Dictionary → Type 0
+SpelledValuesClean dictionary =
+    (name : Named) (text : List ℕ) (value : Value) → is_known name.id dictionary ≡ true
+    → value_spelled name text dictionary ≡ Ok value
+    → is_clean_pair dictionary (pair_with name value) ≡ true
+
+-- the pair of a name and a text that stands for a value under it fits
+abbrev pub SpelledPairsFit : Dictionary → Type 0
+SpelledPairsFit dictionary =
+    (name text : List ℕ) (pair : Pair)
+    → option_and_then (pair_named dictionary text) (named name dictionary) ≡ Some pair
+    → IsTrue (fits pair dictionary)
