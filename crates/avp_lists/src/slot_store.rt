@@ -3,7 +3,7 @@ ghost use Rattle.std.specs.Prelude.{◌≡◌, ◌↔◌, IsTrue, not, ◌+◌, 
 ghost use Rattle.std.specs.Option.{option_to_list};
 ghost use Rattle.avp_lists.specs.Instances.{has_instance};
 ghost use Rattle.avp_lists.specs.internal.Growth.{adds_one};
-ghost use Rattle.avp_lists.specs.History.{starting, present, after_edit};
+ghost use Rattle.avp_lists.specs.History.{starting, present, after_edit, at_place};
 ghost use Rattle.avp_lists.specs.States.{list_of, edited, IsFull, IsLimited};
 ghost use Rattle.avp_lists.specs.internal.Slots.{NamesWithin, SwapWithin};
 ghost use Rattle.avp_lists.specs.internal.Steps.{slots_at, max_kept, BacksBelow, AllCounted, CountsWithin, CountsGrow, AllHoused, StatesLimited};
@@ -276,6 +276,24 @@ impl SlotStore {
         self.count(edit.list) == MAX_PAIRS && self.adds_one(edit.list, edit.op, edit.pair.id)
     }
 
+    // Goes to the state at a place.
+    fn go_to(&mut self, to: usize)
+        requires { to < length self.old.steps.items }
+        ensures moved { ⟦<SlotStore as Store>⟧.history self.new
+            ≡ at_place to (⟦<SlotStore as Store>⟧.history self.old) }
+        ensures kept { self.new.place + ⟦<SlotStore as Store>⟧.room self.new
+            ≡ self.old.place + ⟦<SlotStore as Store>⟧.room self.old }
+    {
+        move_to(
+            &mut self.slots,
+            &self.steps,
+            &mut self.nexts,
+            self.place,
+            to,
+        );
+        self.place = to;
+    }
+
     // Cuts off what is after the place, and edits.
     fn change(&mut self, edit: Edit) -> Result<(), AllocError>
         requires fits { IsLimited (edited edit
@@ -387,14 +405,7 @@ impl Store for SlotStore {
             return false;
         }
         let to = self.place - 1;
-        move_to(
-            &mut self.slots,
-            &self.steps,
-            &mut self.nexts,
-            self.place,
-            to,
-        );
-        self.place = to;
+        self.go_to(to);
         true
     }
 
@@ -403,14 +414,7 @@ impl Store for SlotStore {
         if to == self.steps.len() {
             return false;
         }
-        move_to(
-            &mut self.slots,
-            &self.steps,
-            &mut self.nexts,
-            self.place,
-            to,
-        );
-        self.place = to;
+        self.go_to(to);
         true
     }
 

@@ -1,5 +1,5 @@
 use Rattle.avp_lists.proofs.Moves.{steps_within}
-use Rattle.avp_lists.proofs.slot_store.SlotStoreStore.undo.Goals as goal
+use Rattle.avp_lists.proofs.slot_store.SlotStore.go_to.Goals as goal
 
 pub move_to-requires-clause-within : goal.move_to-requires-clause-within
 move_to-requires-clause-within c =
