@@ -122,7 +122,7 @@ module _ (dictionary : Dictionary) where
 
     pub lines_clean : (own : Name) → Holds (Adds dictionary CleanWhereFits) (LineIs dictionary own)
     lines_clean own p line rest h =
-        let name = h.2.0.1 in
+        let name = h.2.0.named in
         let operation = h.2.3.0 in
         subst (Adds dictionary CleanWhereFits) (sym h.2.3.3.3.0)
         (line_clean (line_of (next_token p).1.line h.2.0 operation h.2.3.3.0) name refl (λ stays. source_by_clean (is_removal operation) name stays h.2.3.1 h.2.3.3.0 h.2.3.3.1 h.2.3.3.2))

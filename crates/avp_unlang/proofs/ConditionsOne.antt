@@ -1,13 +1,13 @@
 -- A place spells at most one condition, and how refusals inside one are refusals of it.
 use Rattle.std.proofs.Common.{◌≡◌, ℕ, zero, suc, List, Option, Some, None, Result, refl, sym, ap, subst, ◌∙◌}
 use Rattle.std.specs.Option.{option_and_then, option_map}
-use Rattle.avp_lists.specs.declared.lists.List.{List as Name}
 use Rattle.avp_dict.specs.declared.entries.Named.{Named}
 use Rattle.avp_dict.specs.Dictionary.{Dictionary}
 use Rattle.avp_dict.specs.declared.value.quotes.QuoteMark.TheVariants.{Double, Single}
 use Rattle.avp_dict.specs.Quotes.{single_quoted_octets}
 use Rattle.avp_unlang.specs.declared.codes.Code.{Code}
 use Rattle.avp_unlang.specs.declared.faults.PolicyFault.{PolicyFault}
+use Rattle.avp_unlang.specs.declared.text.references.Reference.{Reference}
 use Rattle.avp_unlang.specs.declared.text.tokens.Sign.TheVariants as sign
 use Rattle.avp_unlang.specs.declared.text.tokens.Token.{Token}
 use Rattle.avp_unlang.specs.declared.text.tokens.Token.TheVariants.{Operator, Word, Quoted}
@@ -58,24 +58,24 @@ module _ (dictionary : Dictionary) where
   comparand_from_one name (Quoted Double text) p x y r s h g = becomes_one (option_map Literal (option_and_then (literal dictionary name) (plain_octets text))) p x y r s h g
   comparand_from_one name (Operator sign.Reference) p x y r s h g =
       let at = alike_one dictionary name.id p h.0 g.0 r s h.1 g.1 in
-      (h.2 ∙ ap (λ (n : Name × Named). Instance n.0 n.1.id) at.0 ∙ sym g.2, at.1)
+      (h.2 ∙ ap (λ (n : Reference). Instance n.list n.named.id) at.0 ∙ sym g.2, at.1)
   comparand_from_one name _ p x y r s h g = absurd h
 
   comparand_one : (name : Named) → IsOne (ComparandIs dictionary name)
   comparand_one name p x y r s h g = comparand_from_one name (next_token p).0 (next_token p).1 x y r s h g
 
-  compared_from_one : (found : Name × Named) (o : Option Relation) (p : Place) → IsOne (ComparedFrom dictionary found o p)
-  compared_from_one found None p after x y r s h g = gives_one (Present found.0 found.1.id) p x y r s h g
+  compared_from_one : (found : Reference) (o : Option Relation) (p : Place) → IsOne (ComparedFrom dictionary found o p)
+  compared_from_one found None p after x y r s h g = gives_one (Present found.list found.named.id) p x y r s h g
   compared_from_one found (Some relation) p after x y r s h g =
-      then_one (ComparandIs dictionary found.1) (λ c. Gives (Compare (comparison_of dictionary found relation c))) (comparand_one found.1) (λ c. gives_one (Compare (comparison_of dictionary found relation c))) after x y r s h g
+      then_one (ComparandIs dictionary found.named) (λ c. Gives (Compare (comparison_of dictionary found relation c))) (comparand_one found.named) (λ c. gives_one (Compare (comparison_of dictionary found relation c))) after x y r s h g
 
-  pub compared_one : (found : Name × Named) → IsOne (ComparedIs dictionary found)
+  pub compared_one : (found : Reference) → IsOne (ComparedIs dictionary found)
   compared_one found p x y r s h g = compared_from_one found (relation_of (next_token p).0) p (next_token p).1 x y r s h g
 
   word_one : (o : Option Code) (word : List ℕ) → IsOne (WordFrom dictionary o word)
   word_one (Some code) word p x y r s h g = gives_one (Last code) p x y r s h g
   word_one None word p x y r s h g =
-      compared_one g.0 p x y r s (subst (λ (n : Name × Named). ComparedIs dictionary n p x r) (some_is h.0 g.0 (sym h.1 ∙ g.1)) h.2) g.2
+      compared_one g.0 p x y r s (subst (λ (n : Reference). ComparedIs dictionary n p x r) (some_is h.0 g.0 (sym h.1 ∙ g.1)) h.2) g.2
 
   -- a refusal of the reference that something is compared with
   pub alike_refused : (name : Named) (p : Place) (q : Token × Place) (e : PolicyFault) → q ≡ next_token p → q.0 ≡ Operator sign.Reference

@@ -12,6 +12,7 @@ use Rattle.avp_dict.specs.Quotes.{single_quoted_octets}
 use Rattle.avp_dict.specs.Spellings.{is_barred}
 use Rattle.avp_unlang.specs.declared.faults.PolicyFault.{PolicyFault}
 use Rattle.avp_unlang.specs.declared.faults.PolicyKind.TheVariants.{Memory}
+use Rattle.avp_unlang.specs.declared.text.references.Reference.{Reference}
 use Rattle.avp_unlang.specs.declared.text.tokens.Sign.TheVariants as sign
 use Rattle.avp_unlang.specs.declared.text.tokens.Token.{Token}
 use Rattle.avp_unlang.specs.declared.text.tokens.Token.TheVariants.{Operator, Word, Quoted}
@@ -23,7 +24,7 @@ use Rattle.avp_unlang.specs.Forms.{Form, Then, Gives, Refuses, ReadsAll}
 use Rattle.avp_unlang.specs.Lines.{TargetIs, OpIs, LineIs, after_reference, op_of, line_of}
 use Rattle.avp_unlang.specs.Parts.{PartsAre}
 use Rattle.avp_unlang.specs.Places.{Place}
-use Rattle.avp_unlang.specs.References.{ReadableIs, AlikeIs, readable, reference}
+use Rattle.avp_unlang.specs.References.{ReadableIs, AlikeIs, readable, reference_in}
 use Rattle.avp_unlang.specs.Sources.{literal, filled_source, FilledIs, ValueFrom, ValueIs, IgnoredFrom, IgnoredIs, SourceBy, SourceIs, is_removal}
 use Rattle.avp_unlang.specs.Between.{Counts, Follows}
 use Rattle.avp_unlang.specs.Tokens.{next_token}
@@ -62,7 +63,7 @@ module _ (dictionary : Dictionary) where
   pub target_one : (own : Name) → IsOne (TargetIs dictionary own)
   target_one own p x y r s h g =
       let at = words_one (after_reference p) h.0 g.0 r s h.1 g.1 in
-      (some_is x y (sym (subst (λ w. reference dictionary own w ≡ Some x) at.0 h.2) ∙ g.2), at.1)
+      (some_is x y (sym (subst (λ w. reference_in dictionary own w ≡ Some x) at.0 h.2) ∙ g.2), at.1)
 
   -- ---- sources
 
@@ -85,7 +86,7 @@ module _ (dictionary : Dictionary) where
   value_from_one name (Quoted Double text) p x y r s h g = (filled_one name text x y h.0 g.0, h.1 ∙ sym g.1)
   value_from_one name (Operator sign.Reference) p x y r s h g =
       let at = alike_one name.id p h.0 g.0 r s h.1 g.1 in
-      (h.2 ∙ ap (λ (n : Name × Named). Instance n.0 n.1.id) at.0 ∙ sym g.2, at.1)
+      (h.2 ∙ ap (λ (n : Reference). Instance n.list n.named.id) at.0 ∙ sym g.2, at.1)
   value_from_one name _ p x y r s h g = absurd h
 
   pub value_one : (name : Named) → IsOne (ValueIs dictionary name)
@@ -129,23 +130,23 @@ module _ (dictionary : Dictionary) where
       (some_is x y (sym h.2 ∙ ap op_of at.0 ∙ g.2), at.1)
 
   -- what follows each part of a line
-  abbrev pub Ending : ℕ → Name × Named → Op → Source → Form Place Line
+  abbrev pub Ending : ℕ → Reference → Op → Source → Form Place Line
   Ending first target operation source = Gives (line_of first target operation source)
 
-  abbrev pub Sourced : ℕ → Name × Named → Op → Form Place Line
-  Sourced first target operation = Then (SourceIs dictionary operation target.1) (Ending first target operation)
+  abbrev pub Sourced : ℕ → Reference → Op → Form Place Line
+  Sourced first target operation = Then (SourceIs dictionary operation target.named) (Ending first target operation)
 
-  abbrev pub Operated : ℕ → Name × Named → Form Place Line
+  abbrev pub Operated : ℕ → Reference → Form Place Line
   Operated first target = Then OpIs (Sourced first target)
 
   abbrev pub Targeted : ℕ → Name → Form Place Line
   Targeted first own = Then (TargetIs dictionary own) (Operated first)
 
-  sourced_one : (first : ℕ) (target : Name × Named) (operation : Op) → IsOne (Sourced first target operation)
+  sourced_one : (first : ℕ) (target : Reference) (operation : Op) → IsOne (Sourced first target operation)
   sourced_one first target operation =
-      then_one (SourceIs dictionary operation target.1) (Ending first target operation) (source_one operation target.1) (λ source. gives_one (line_of first target operation source))
+      then_one (SourceIs dictionary operation target.named) (Ending first target operation) (source_one operation target.named) (λ source. gives_one (line_of first target operation source))
 
-  operated_one : (first : ℕ) (target : Name × Named) → IsOne (Operated first target)
+  operated_one : (first : ℕ) (target : Reference) → IsOne (Operated first target)
   operated_one first target = then_one OpIs (Sourced first target) op_one (sourced_one first target)
 
   targeted_one : (first : ℕ) (own : Name) → IsOne (Targeted first own)

@@ -2,8 +2,8 @@
 use Rattle.std.proofs.Common.{◌≡◌, ℕ, ◌<◌, ◌⊎◌, inl, inr, Bool, true, false, List, length, Option, Some, None, refl, sym, ap, subst, ◌∙◌, arith}
 use Rattle.std.specs.Prelude.{is_some, IsTrue}
 use Rattle.avp_lists.specs.declared.lists.List.{List as Name}
-use Rattle.avp_dict.specs.declared.entries.Named.{Named}
 use Rattle.avp_dict.specs.Dictionary.{Dictionary}
+use Rattle.avp_unlang.specs.declared.text.references.Reference.{Reference}
 use Rattle.avp_unlang.specs.declared.tree.Part.{Part}
 use Rattle.avp_unlang.specs.declared.tree.Part.TheVariants.{Text, Instance}
 use Rattle.avp_unlang.specs.Parts.{octet_at, begins_octet, OctetIs, braced, InstanceIs, PartIs, PartsAre, is_left}
@@ -34,8 +34,8 @@ module _ (dictionary : Dictionary) where
   part_one p (Instance l i) (Text qs) r s h g = absurd (not_both (begins_octet p) g.0 h.0)
   part_one p (Instance l i) (Instance m j) r s h g =
       let at = instance_one p h.1 g.1 r s h.2 g.2 in
-      let list = h.3 ∙ ap (λ (n : Name × Named). n.0) at.0 ∙ sym g.3 in
-      let id = h.4 ∙ ap (λ (n : Name × Named). n.1.id) at.0 ∙ sym g.4 in
+      let list = h.3 ∙ ap (λ (n : Reference). n.list) at.0 ∙ sym g.3 in
+      let id = h.4 ∙ ap (λ (n : Reference). n.named.id) at.0 ∙ sym g.4 in
       (ap (λ (k : Name). Instance k i) list ∙ ap (λ k. Instance m k) id, at.1)
 
   pub parts_one : (text : List ℕ) (xs ys : List Part) → PartsAre dictionary text xs → PartsAre dictionary text ys → xs ≡ ys
@@ -51,7 +51,7 @@ moved_more text mid rest h lt =
     inl (elim h as (λ _. length rest < length text) [ inl moved ↦ omega arith | inr stays ↦ subst (λ (k : List ℕ). length rest < length k) stays lt ])
 
 -- a text that begins with no octet and no expansion has no first part
-pub no_part : (dictionary : Dictionary) (text : List ℕ) → begins_octet text ≡ false → ((found : Name × Named) (rest : List ℕ) → InstanceIs dictionary text found rest → ⊥)
+pub no_part : (dictionary : Dictionary) (text : List ℕ) → begins_octet text ≡ false → ((found : Reference) (rest : List ℕ) → InstanceIs dictionary text found rest → ⊥)
     → (part : Part) (rest : List ℕ) → PartIs dictionary text part rest → ⊥
 no_part dictionary text none refused (Text os) rest h = not_both (begins_octet text) h.0 none
 no_part dictionary text none refused (Instance l i) rest h = refused h.1 rest h.2

@@ -8,6 +8,7 @@ use Rattle.avp_dict.specs.declared.value.quotes.QuoteMark.TheVariants.{Double, S
 use Rattle.avp_unlang.specs.declared.codes.Code.{Code}
 use Rattle.avp_unlang.specs.declared.text.statements.Keyword.{Keyword}
 use Rattle.avp_unlang.specs.declared.text.statements.Keyword.TheVariants as keyword
+use Rattle.avp_unlang.specs.declared.text.references.Reference.{Reference}
 use Rattle.avp_unlang.specs.declared.text.tokens.Sign.TheVariants as sign
 use Rattle.avp_unlang.specs.declared.text.tokens.Token.{Token}
 use Rattle.avp_unlang.specs.declared.text.tokens.Token.TheVariants as token
@@ -149,7 +150,7 @@ module _ (dictionary : Dictionary) where
       let start = counts_room 1 p h.0 h.1 in
       let target = target_keeps own h.0 h.2.0 h.2.1 h.2.2 in
       let op = op_keeps h.2.1 h.2.3.0 h.2.3.1 h.2.3.2 in
-      let source = source_by_keeps (is_removal h.2.3.0) h.2.0.1 h.2.3.1 h.2.3.3.0 h.2.3.3.1 h.2.3.3.2 in
+      let source = source_by_keeps (is_removal h.2.3.0) h.2.0.named h.2.3.1 h.2.3.3.0 h.2.3.3.1 h.2.3.3.2 in
       let end = ap (λ (q : Place). q.room) h.2.3.3.3.1 in
       omega arith
 
@@ -162,12 +163,12 @@ module _ (dictionary : Dictionary) where
   comparand_from_keeps name (token.Operator sign.Reference) p x rest h = readable_keeps p h.0 rest h.1.0
   comparand_from_keeps name _ p x rest h = absurd h
 
-  compared_from_keeps : (found : Name × Named) (o : Option Relation) (p after : Place) → after.room ≡ p.room → (c : Cond) (rest : Place) → ComparedFrom dictionary found o p after c rest → rest.room ≡ p.room
+  compared_from_keeps : (found : Reference) (o : Option Relation) (p after : Place) → after.room ≡ p.room → (c : Cond) (rest : Place) → ComparedFrom dictionary found o p after c rest → rest.room ≡ p.room
   compared_from_keeps found None p after same c rest h = ap (λ (q : Place). q.room) h.1
   compared_from_keeps found (Some relation) p after same c rest h =
-      ap (λ (q : Place). q.room) h.3.1 ∙ comparand_from_keeps found.1 (next_token after).0 (next_token after).1 h.0 h.1 h.2 ∙ next_room after ∙ same
+      ap (λ (q : Place). q.room) h.3.1 ∙ comparand_from_keeps found.named (next_token after).0 (next_token after).1 h.0 h.1 h.2 ∙ next_room after ∙ same
 
-  compared_keeps : (found : Name × Named) → Keeps (ComparedIs dictionary found)
+  compared_keeps : (found : Reference) → Keeps (ComparedIs dictionary found)
   compared_keeps found p c rest h = compared_from_keeps found (relation_of (next_token p).0) p (next_token p).1 (next_room p) c rest h
 
   word_keeps : (o : Option Code) (word : List ℕ) → Keeps (WordFrom dictionary o word)

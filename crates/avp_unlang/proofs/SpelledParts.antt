@@ -88,5 +88,5 @@ module _ (dictionary : Dictionary) (name : Named) where
     value_holds (token.Word text) p s rest h = literal_holds text s h.0
     value_holds (token.Quoted Single text) p s rest h = literal_holds (single_quoted_octets text) s h.0
     value_holds (token.Quoted Double text) p s rest h = filled_holds h.0.1 s h.0.3
-    value_holds (token.Operator sign.Reference) p s rest h = subst P (sym h.2) (of_instance h.0.0 h.0.1.id)
+    value_holds (token.Operator sign.Reference) p s rest h = subst P (sym h.2) (of_instance h.0.list h.0.named.id)
     value_holds _ p s rest h = absurd h

@@ -13,6 +13,7 @@ use Rattle.avp_dict.specs.Soundness.{NamesKnown}
 use Rattle.avp_unlang.specs.declared.codes.Code.{Code}
 use Rattle.avp_unlang.specs.declared.text.statements.Keyword.{Keyword}
 use Rattle.avp_unlang.specs.declared.text.statements.Keyword.TheVariants as keyword
+use Rattle.avp_unlang.specs.declared.text.references.Reference.{Reference}
 use Rattle.avp_unlang.specs.declared.text.tokens.Sign.TheVariants as sign
 use Rattle.avp_unlang.specs.declared.text.tokens.Token.{Token}
 use Rattle.avp_unlang.specs.declared.text.tokens.Token.TheVariants as token
@@ -31,7 +32,7 @@ use Rattle.avp_unlang.specs.declared.tree.Statement.TheFolds.{fold-roll-Statemen
 use Rattle.avp_unlang.specs.declared.tree.Statement.TheOpen as layer
 use Rattle.avp_unlang.specs.declared.tree.Statement.TheVariants.{Update, If, Transaction, Word, rolls-Update, rolls-If, rolls-Transaction, rolls-Word}
 use Rattle.avp_unlang.specs.Conditions.{relation_of, plain_octets, ComparandFrom, comparison_of, ComparedFrom, ComparedIs, WordFrom, any_of, all_of, Both, Either, Closed, OperandFrom, Within}
-use Rattle.avp_unlang.specs.References.{reference, target_in, type_of}
+use Rattle.avp_unlang.specs.References.{reference_in, reference_to, target_in, type_of}
 use Rattle.avp_unlang.specs.Resolutions.{line_suits, literal_fits}
 use Rattle.avp_unlang.specs.Suiting.{branch_layer_suits, branches_suit, else_suits, branch_suits, comparand_suits, comparison_suits, cond_layer_suits, cond_suits, itself, policy_suits, same_kind, statement_layer_suits, statement_suits}
 use Rattle.avp_dict.specs.Limits.{is_known}
@@ -124,12 +125,12 @@ module _ (dictionary : Dictionary) (known : NamesKnown dictionary) where
       value_holds dictionary name (λ x. literal_fits dictionary name.id x ≡ true) (λ text v e. (literal_is dictionary name text v e).1) (λ parts. refl) (λ list id. refl)
       (next_token p).0 (next_token p).1 s rest h.1
 
-  target_known : (o : Option Named) (in_list : Name) (target : Name × Named) → ((n : Named) → o ≡ Some n → is_known n.id dictionary ≡ true) → option_map (λ n. (in_list, n)) o ≡ Some target → is_known target.1.id dictionary ≡ true
+  target_known : (o : Option Named) (in_list : Name) (target : Reference) → ((n : Named) → o ≡ Some n → is_known n.id dictionary ≡ true) → option_map (reference_to in_list) o ≡ Some target → is_known target.named.id dictionary ≡ true
   target_known None in_list target h e = absurd cc
-  target_known (Some n) in_list target h e = ap (λ (t : Name × Named). is_known t.1.id dictionary) (sym (some_is (in_list, n) target e)) ∙ h n refl
+  target_known (Some n) in_list target h e = ap (λ (t : Reference). is_known t.named.id dictionary) (sym (some_is (reference_to in_list n) target e)) ∙ h n refl
 
-  reference_known : (own : Name) (word : List ℕ) (target : Name × Named) → reference dictionary own word ≡ Some target → is_known target.1.id dictionary ≡ true
-  unfolding reference
+  reference_known : (own : Name) (word : List ℕ) (target : Reference) → reference_in dictionary own word ≡ Some target → is_known target.named.id dictionary ≡ true
+  unfolding reference_in
   reference_known own word target e =
       target_known (named (target_in own word).1 dictionary) (target_in own word).0 target (λ n. known (target_in own word).1 n) e
 
@@ -141,7 +142,7 @@ module _ (dictionary : Dictionary) (known : NamesKnown dictionary) where
   lines_suit own p line rest h =
       ap (line_suits dictionary) h.2.3.3.3.0
       ∙ line_parts (line_of (next_token p).1.line h.2.0 h.2.3.0 h.2.3.3.0) (reference_known own h.2.2.0 h.2.0 h.2.2.2)
-      (source_by_fits (is_removal h.2.3.0) h.2.0.1 h.2.3.1 h.2.3.3.0 h.2.3.3.1 h.2.3.3.2)
+      (source_by_fits (is_removal h.2.3.0) h.2.0.named h.2.3.1 h.2.3.3.0 h.2.3.3.1 h.2.3.3.2)
 
   -- ---- conditions
 
@@ -179,35 +180,35 @@ module _ (dictionary : Dictionary) (known : NamesKnown dictionary) where
   all_fits (c ∷ []) h = (and_parts (cond_suits dictionary c) true h).0
   all_fits (c ∷ d ∷ cs) h = fits_All (c ∷ d ∷ cs) ∙ h
 
-  module _ (found : Name × Named) (relation : Relation) (y : Comparand) where
+  module _ (found : Reference) (relation : Relation) (y : Comparand) where
     abbrev against : Comparand → Bool
     against x = comparand_suits dictionary (comparison_of dictionary found relation y) x
 
-    literal_suits : (text : List ℕ) (x : Comparand) → option_map comparand.Literal (literal dictionary found.1 text) ≡ Some x → against x ≡ true
+    literal_suits : (text : List ℕ) (x : Comparand) → option_map comparand.Literal (literal dictionary found.named text) ≡ Some x → against x ≡ true
     literal_suits text x e =
-        let m = mapped comparand.Literal (literal dictionary found.1 text) x e in
-        subst (λ (z : Comparand). against z ≡ true) m.2 (literal_is dictionary found.1 text m.0 m.1).1
+        let m = mapped comparand.Literal (literal dictionary found.named text) x e in
+        subst (λ (z : Comparand). against z ≡ true) m.2 (literal_is dictionary found.named text m.0 m.1).1
 
-    plain_suits : (o : Option (List ℕ)) (x : Comparand) → option_map comparand.Literal (option_and_then (literal dictionary found.1) o) ≡ Some x → against x ≡ true
+    plain_suits : (o : Option (List ℕ)) (x : Comparand) → option_map comparand.Literal (option_and_then (literal dictionary found.named) o) ≡ Some x → against x ≡ true
     plain_suits None x e = absurd cc
     plain_suits (Some text) x e = literal_suits text x e
 
-    comparand_from_suits : (t : Token) → Suits (λ x. against x) (ComparandFrom dictionary found.1 t)
+    comparand_from_suits : (t : Token) → Suits (λ x. against x) (ComparandFrom dictionary found.named t)
     comparand_from_suits (token.Word text) p x rest h = literal_suits text x h.0
     comparand_from_suits (token.Quoted Single text) p x rest h = literal_suits (single_quoted_octets text) x h.0
     comparand_from_suits (token.Quoted Double text) p x rest h = plain_suits (plain_octets text) x h.0
     comparand_from_suits (token.Operator sign.Reference) p x rest h =
-        ap (λ (z : Comparand). against z) h.2 ∙ ap (same_kind (type_of dictionary found.1.id)) (sym h.1.1) ∙ same_kind_self (type_of dictionary found.1.id)
+        ap (λ (z : Comparand). against z) h.2 ∙ ap (same_kind (type_of dictionary found.named.id)) (sym h.1.1) ∙ same_kind_self (type_of dictionary found.named.id)
     comparand_from_suits _ p x rest h = absurd h
 
-  compared_from_fits : (found : Name × Named) (o : Option Relation) (p : Place) → Suits (cond_suits dictionary) (ComparedFrom dictionary found o p)
-  compared_from_fits found None p after c rest h = ap (cond_suits dictionary) h.0 ∙ fits_Present found.0 found.1.id
+  compared_from_fits : (found : Reference) (o : Option Relation) (p : Place) → Suits (cond_suits dictionary) (ComparedFrom dictionary found o p)
+  compared_from_fits found None p after c rest h = ap (cond_suits dictionary) h.0 ∙ fits_Present found.list found.named.id
   compared_from_fits found (Some relation) p after c rest h =
       ap (cond_suits dictionary) h.3.0 ∙ fits_Compare (comparison_of dictionary found relation h.0)
-      ∙ both_true (same_kind (type_of dictionary found.1.id) (type_of dictionary found.1.id)) (comparand_suits dictionary (comparison_of dictionary found relation h.0) h.0) (same_kind_self (type_of dictionary found.1.id))
+      ∙ both_true (same_kind (type_of dictionary found.named.id) (type_of dictionary found.named.id)) (comparand_suits dictionary (comparison_of dictionary found relation h.0) h.0) (same_kind_self (type_of dictionary found.named.id))
       (comparand_from_suits found relation h.0 (next_token after).0 (next_token after).1 h.0 h.1 h.2)
 
-  compared_fits : (found : Name × Named) → Suits (cond_suits dictionary) (ComparedIs dictionary found)
+  compared_fits : (found : Reference) → Suits (cond_suits dictionary) (ComparedIs dictionary found)
   compared_fits found p c rest h = compared_from_fits found (relation_of (next_token p).0) p (next_token p).1 c rest h
 
   word_fits : (o : Option Code) (word : List ℕ) → Suits (cond_suits dictionary) (WordFrom dictionary o word)

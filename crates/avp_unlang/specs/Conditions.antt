@@ -1,13 +1,13 @@
 -- Conditions: how they are spelled. Each case is chosen by the next token.
 use Rattle.std.specs.Prelude.{◌≡◌, ℕ, zero, suc, Bool, false, not, ◌&&◌, ◌||◌, ◌==◌, List, [], ◌∷◌, Option, Some, None, if◌then◌else◌}
 use Rattle.std.specs.Option.{option_and_then, option_map}
-use Rattle.avp_lists.specs.declared.lists.List.{List as Name}
 use Rattle.avp_lists.specs.declared.pairs.Value.{Value}
 use Rattle.avp_dict.specs.declared.entries.Named.{Named}
 use Rattle.avp_dict.specs.declared.value.quotes.QuoteMark.TheVariants.{Double, Single}
 use Rattle.avp_dict.specs.Dictionary.{Dictionary}
 use Rattle.avp_dict.specs.Quotes.{double_quoted_octets, single_quoted_octets}
 use Rattle.avp_unlang.specs.declared.codes.Code.{Code}
+use Rattle.avp_unlang.specs.declared.text.references.Reference.{Reference}
 use Rattle.avp_unlang.specs.declared.text.tokens.Sign.TheVariants as sign
 use Rattle.avp_unlang.specs.declared.text.tokens.Token.{Token}
 use Rattle.avp_unlang.specs.declared.text.tokens.Token.TheVariants.{Operator, Word, Quoted}
@@ -67,36 +67,36 @@ ComparandFrom dictionary name (Quoted Single text) after x rest =
 ComparandFrom dictionary name (Quoted Double text) after x rest =
     Becomes (option_map Literal (plain_literal dictionary name text)) after x rest
 ComparandFrom dictionary name (Operator sign.Reference) after x rest =
-    (found : Name × Named) × AlikeIs dictionary name.id after found rest
-    × (x ≡ Instance found.0 found.1.id)
+    (found : Reference) × AlikeIs dictionary name.id after found rest
+    × (x ≡ Instance found.list found.named.id)
 ComparandFrom dictionary name _ after x rest = ⊥
 
 abbrev pub ComparandIs : Dictionary → Named → Form Place Comparand
 ComparandIs dictionary name p x rest =
     ComparandFrom dictionary name (next_token p).0 (next_token p).1 x rest
 
-abbrev pub comparison_of : Dictionary → Name × Named → Relation → Comparand → Comparison
+abbrev pub comparison_of : Dictionary → Reference → Relation → Comparand → Comparison
 comparison_of dictionary found relation x = record {
-  list = found.0;
-  id = found.1.id;
-  kind = type_of dictionary found.1.id;
+  list = found.list;
+  id = found.named.id;
+  kind = type_of dictionary found.named.id;
   relation = relation;
   comparand = x;
 }
 
 -- after an operator that compares: what the reference is compared with
-abbrev pub ComparedBy : Dictionary → Name × Named → Relation → Form Place Cond
+abbrev pub ComparedBy : Dictionary → Reference → Relation → Form Place Cond
 ComparedBy dictionary found relation = do
-  x ← ComparandIs dictionary found.1
+  x ← ComparandIs dictionary found.named
   Gives (Compare (comparison_of dictionary found relation x))
 
 -- after a reference: nothing more, or an operator that compares and what it compares with
-abbrev pub ComparedFrom : Dictionary → Name × Named → Option Relation → Place → Form Place Cond
-ComparedFrom dictionary found None p after c rest = Gives (Present found.0 found.1.id) p c rest
+abbrev pub ComparedFrom : Dictionary → Reference → Option Relation → Place → Form Place Cond
+ComparedFrom dictionary found None p after c rest = Gives (Present found.list found.named.id) p c rest
 ComparedFrom dictionary found (Some relation) p after c rest =
     ComparedBy dictionary found relation after c rest
 
-abbrev pub ComparedIs : Dictionary → Name × Named → Form Place Cond
+abbrev pub ComparedIs : Dictionary → Reference → Form Place Cond
 ComparedIs dictionary found p c rest =
     ComparedFrom dictionary found (relation_of (next_token p).0) p (next_token p).1 c rest
 
@@ -110,7 +110,7 @@ ReferredIs dictionary = do
 abbrev pub WordFrom : Dictionary → Option Code → List ℕ → Form Place Cond
 WordFrom dictionary (Some code) word p c rest = Gives (Last code) p c rest
 WordFrom dictionary None word p c rest =
-    (found : Name × Named) × (readable dictionary word ≡ Some found)
+    (found : Reference) × (readable dictionary word ≡ Some found)
     × ComparedIs dictionary found p c rest
 
 -- ---- operands

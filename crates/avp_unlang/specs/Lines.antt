@@ -3,8 +3,8 @@ use Rattle.std.specs.Prelude.{◌≡◌, ℕ, Bool, true, false, List, Option, S
 use Rattle.avp_lists.specs.declared.edits.Op.{Op}
 use Rattle.avp_lists.specs.declared.edits.Op.TheVariants as op
 use Rattle.avp_lists.specs.declared.lists.List.{List as Name}
-use Rattle.avp_dict.specs.declared.entries.Named.{Named}
 use Rattle.avp_dict.specs.Dictionary.{Dictionary}
+use Rattle.avp_unlang.specs.declared.text.references.Reference.{Reference}
 use Rattle.avp_unlang.specs.declared.text.tokens.Sign.TheVariants as sign
 use Rattle.avp_unlang.specs.declared.text.tokens.Token.{Token}
 use Rattle.avp_unlang.specs.declared.text.tokens.Token.TheVariants.{Operator, Word}
@@ -12,7 +12,7 @@ use Rattle.avp_unlang.specs.declared.tree.Line.{Line}
 use Rattle.avp_unlang.specs.declared.tree.Source.{Source}
 use Rattle.avp_unlang.specs.Forms.{Form, Gives, ◌>>◌, ◌>>=◌}
 use Rattle.avp_unlang.specs.Places.{Place}
-use Rattle.avp_unlang.specs.References.{reference}
+use Rattle.avp_unlang.specs.References.{reference_in}
 use Rattle.avp_unlang.specs.Sources.{SourceIs}
 use Rattle.avp_unlang.specs.Between.{Counts, Follows}
 use Rattle.avp_unlang.specs.Tokens.{next_token}
@@ -26,10 +26,10 @@ unfoldable pub after_reference : Place → Place
 after_reference p = after_reference_from p (next_token p)
 
 -- a target, with `&` or without: its list and what its name stands for
-abbrev pub TargetIs : Dictionary → Name → Form Place (Name × Named)
+abbrev pub TargetIs : Dictionary → Name → Form Place Reference
 TargetIs dictionary own p target rest =
     (word : List ℕ) × Follows (Word word) (after_reference p) rest
-    × (reference dictionary own word ≡ Some target)
+    × (reference_in dictionary own word ≡ Some target)
 
 -- the edit that an operator stands for
 unfoldable pub op_of : Token → Option Op
@@ -45,8 +45,9 @@ op_of _ = None
 abbrev pub OpIs : Form Place Op
 OpIs p operation rest = (token : Token) × Follows token p rest × (op_of token ≡ Some operation)
 
-abbrev pub line_of : ℕ → Name × Named → Op → Source → Line
-line_of line target operation source = record { line = line; list = target.0; id = target.1.id; op = operation; source = source }
+abbrev pub line_of : ℕ → Reference → Op → Source → Line
+line_of line target operation source =
+    record { line = line; list = target.list; id = target.named.id; op = operation; source = source }
 
 -- an update line whose first token is on line n of the text; it adds one to the size
 abbrev pub LineOn : Dictionary → Name → ℕ → Form Place Line
@@ -54,7 +55,7 @@ LineOn dictionary own n = do
   Counts 1
   target ← TargetIs dictionary own
   operation ← OpIs
-  source ← SourceIs dictionary operation target.1
+  source ← SourceIs dictionary operation target.named
   Gives (line_of n target operation source)
 
 abbrev pub LineIs : Dictionary → Name → Form Place Line

@@ -1,9 +1,8 @@
 -- Texts between double quotes into which values are put: `%{name}` and `%{list:name}`, with `%%` for a plain `%`.
 use Rattle.std.specs.Prelude.{◌≡◌, ℕ, zero, Bool, true, false, ◌&&◌, ◌==◌, if◌then◌else◌, List, [], ◌∷◌, drop, take, Option, Some, None, is_some}
-use Rattle.avp_lists.specs.declared.lists.List.{List as Name}
-use Rattle.avp_dict.specs.declared.entries.Named.{Named}
 use Rattle.avp_dict.specs.Dictionary.{Dictionary}
 use Rattle.avp_dict.specs.Quotes.{double_escape}
+use Rattle.avp_unlang.specs.declared.text.references.Reference.{Reference}
 use Rattle.avp_unlang.specs.declared.tree.Part.{Part}
 use Rattle.avp_unlang.specs.declared.tree.Part.TheVariants.{Text, Instance}
 use Rattle.avp_unlang.specs.Forms.{Form, While}
@@ -45,7 +44,7 @@ abbrev pub braced : List ℕ → Option (List ℕ × List ℕ)
 braced text = closed_after (word_length text) text (drop (word_length text) text)
 
 -- `%{`, a word that refers to values, and `}`
-abbrev pub InstanceIs : Dictionary → Form (List ℕ) (Name × Named)
+abbrev pub InstanceIs : Dictionary → Form (List ℕ) Reference
 InstanceIs dictionary text found rest =
     (inner : List ℕ) × (after_opening text ≡ Some inner)
     × (word : List ℕ) × (braced inner ≡ Some (word, rest)) × (readable dictionary word ≡ Some found)
@@ -55,8 +54,8 @@ abbrev pub PartIs : Dictionary → Form (List ℕ) Part
 PartIs dictionary text (Text octets) rest =
     (begins_octet text ≡ true) × While begins_octet OctetIs text octets rest
 PartIs dictionary text (Instance list id) rest =
-    (begins_octet text ≡ false) × (found : Name × Named) × InstanceIs dictionary text found rest
-    × (list ≡ found.0) × (id ≡ found.1.id)
+    (begins_octet text ≡ false) × (found : Reference) × InstanceIs dictionary text found rest
+    × (list ≡ found.list) × (id ≡ found.named.id)
 
 abbrev pub is_left : List ℕ → Bool
 is_left [] = false

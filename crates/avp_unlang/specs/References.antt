@@ -11,6 +11,7 @@ use Rattle.avp_dict.specs.Dictionary.{Dictionary}
 use Rattle.avp_dict.specs.Names.{named}
 use Rattle.avp_dict.specs.Octets.{kind_of}
 use Rattle.avp_dict.specs.Sent.{is_container}
+use Rattle.avp_unlang.specs.declared.text.references.Reference.{Reference}
 use Rattle.avp_unlang.specs.declared.text.tokens.Token.TheVariants.{Word}
 use Rattle.avp_unlang.specs.Forms.{Form}
 use Rattle.avp_unlang.specs.Places.{Place}
@@ -40,22 +41,25 @@ target_in own word =
       ]
     ]
 
+abbrev pub reference_to : Name → Named → Reference
+reference_to list name = record { list = list; named = name }
+
 -- the list, and what the name stands for
-unfoldable pub reference : Dictionary → Name → List ℕ → Option (Name × Named)
-reference dictionary own word =
-    option_map (λ name. ((target_in own word).0, name)) (named (target_in own word).1 dictionary)
+unfoldable pub reference_in : Dictionary → Name → List ℕ → Option Reference
+reference_in dictionary own word =
+    option_map (reference_to (target_in own word).0) (named (target_in own word).1 dictionary)
 
 -- attributes that only hold others have no values to look at (RFC 2865, section 5.26; RFC 6929, section 2)
-abbrev pub unless_container : Name × Named → Option (Name × Named)
-unless_container r = if is_container r.1.id then None else Some r
+abbrev pub unless_container : Reference → Option Reference
+unless_container r = if is_container r.named.id then None else Some r
 
 -- a reference to values; without a list it is of the request
-unfoldable pub readable : Dictionary → List ℕ → Option (Name × Named)
+unfoldable pub readable : Dictionary → List ℕ → Option Reference
 readable dictionary word =
-    option_and_then unless_container (reference dictionary lists.Request word)
+    option_and_then unless_container (reference_in dictionary lists.Request word)
 
 -- a word that refers to values
-abbrev pub ReadableIs : Dictionary → Form Place (Name × Named)
+abbrev pub ReadableIs : Dictionary → Form Place Reference
 ReadableIs dictionary p found rest =
     (word : List ℕ) × Follows (Word word) p rest × (readable dictionary word ≡ Some found)
 
@@ -64,6 +68,6 @@ abbrev pub type_of : Dictionary → AttrId → Kind
 type_of dictionary id = unwrap_or (kind_of id dictionary) Bytes
 
 -- a reference to values of the same type as this attribute's
-abbrev pub AlikeIs : Dictionary → AttrId → Form Place (Name × Named)
+abbrev pub AlikeIs : Dictionary → AttrId → Form Place Reference
 AlikeIs dictionary id p found rest =
-    ReadableIs dictionary p found rest × (type_of dictionary id ≡ type_of dictionary found.1.id)
+    ReadableIs dictionary p found rest × (type_of dictionary id ≡ type_of dictionary found.named.id)

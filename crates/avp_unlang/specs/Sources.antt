@@ -5,7 +5,6 @@ use Rattle.std.specs.Result.{result_ok}
 use Rattle.avp_lists.specs.declared.pairs.Value.{Value}
 use Rattle.avp_lists.specs.declared.edits.Op.{Op}
 use Rattle.avp_lists.specs.declared.edits.Op.TheVariants as op
-use Rattle.avp_lists.specs.declared.lists.List.{List as Name}
 use Rattle.avp_dict.specs.declared.entries.Named.{Named}
 use Rattle.avp_dict.specs.declared.value.quotes.QuoteMark.TheVariants.{Double, Single}
 use Rattle.avp_dict.specs.Dictionary.{Dictionary}
@@ -14,6 +13,7 @@ use Rattle.avp_dict.specs.Quotes.{single_quoted_octets}
 use Rattle.avp_dict.specs.Requests.{pair_with}
 use Rattle.avp_dict.specs.Sent.{is_container}
 use Rattle.avp_dict.specs.Spellings.{is_barred, value_spelled}
+use Rattle.avp_unlang.specs.declared.text.references.Reference.{Reference}
 use Rattle.avp_unlang.specs.declared.text.tokens.Sign.TheVariants as sign
 use Rattle.avp_unlang.specs.declared.text.tokens.Token.{Token}
 use Rattle.avp_unlang.specs.declared.text.tokens.Token.TheVariants.{Operator, Word, Quoted}
@@ -70,8 +70,8 @@ ValueFrom dictionary name (Quoted Single text) after source rest =
 ValueFrom dictionary name (Quoted Double text) after source rest =
     FilledIs dictionary name text source × (rest ≡ after)
 ValueFrom dictionary name (Operator sign.Reference) after source rest =
-    (found : Name × Named) × AlikeIs dictionary name.id after found rest
-    × (source ≡ Instance found.0 found.1.id)
+    (found : Reference) × AlikeIs dictionary name.id after found rest
+    × (source ≡ Instance found.list found.named.id)
 ValueFrom dictionary name _ after source rest = ⊥
 
 abbrev pub ValueIs : Dictionary → Named → Form Place Source

@@ -1,7 +1,6 @@
 //! Conditions, read from a text.
 
 ghost use Rattle.std.specs.Prelude.{◌≡◌, ◌≢◌, ◌≤◌, ◌<◌, suc, length, Some, None, false, IfOk, IfErr};
-ghost use Rattle.avp_lists.specs.declared.lists.List.{List as Name};
 ghost use Rattle.avp_unlang.specs.Conditions.{Both, Closed, ComparandIs, ComparedIs, Either, Negated, ReferredIs, Within, WordFrom, all_of, any_of, has_expansion, plain_literal, relation_of};
 ghost use Rattle.avp_unlang.specs.Forms.{Reads};
 ghost use Rattle.avp_unlang.specs.Words.{code_named};
@@ -12,12 +11,12 @@ use crate::codes::code_named;
 use crate::faults::{PolicyFault, PolicyKind};
 use crate::items::Items;
 use crate::text::cursors::{Cursor, Read};
-use crate::text::references::{alike, readable, referred, type_of};
+use crate::text::references::{Reference, alike, readable, referred, type_of};
 use crate::text::sources::{SourceLines, literal, quoted_literal};
 use crate::text::tokens::{Excerpt, Sign, Token, front};
 use crate::tree::{Comparand, Comparison, Cond, Relation};
 use avp_dict::{Dictionary, Named, QuoteMark};
-use avp_lists::{List, Value};
+use avp_lists::Value;
 use std::alloc::Global;
 
 #[tactic(auto, unfolding(crate::specs::Conditions::relation_of))]
@@ -113,8 +112,8 @@ fn comparand<'a>(
             Ok((Comparand::Literal(value), after))
         }
         Token::Operator(Sign::Reference) => {
-            let ((list, other), rest) = alike(dictionary, named.id, &after)?;
-            Ok((Comparand::Instance(list, other.id), rest))
+            let (other, rest) = alike(dictionary, named.id, &after)?;
+            Ok((Comparand::Instance(other.list, other.named.id), rest))
         }
         _ => Err(at.misplaced()),
     }
@@ -124,23 +123,22 @@ fn comparand<'a>(
 fn compared<'a>(
     alloc: Global,
     dictionary: &Dictionary,
-    found: (List, Named),
+    found: Reference,
     name_line: usize,
     at: Cursor<'a>,
 ) -> Read<'a, Cond>
     ensures read { Reads (ComparedIs dictionary.now found at.entry) result }
     ensures shorter { IfOk result (λ x. length x.1.text ≤ length at.entry.text) }
 {
-    let (list, named) = found;
     let (token, after) = at.next();
     match relation_of(&token) {
-        None => Ok((Cond::Present(list, named.id), at)),
+        None => Ok((Cond::Present(found.list, found.named.id), at)),
         Some(relation) => {
-            let (comparand, rest) = comparand(alloc, dictionary, named, name_line, &after)?;
+            let (comparand, rest) = comparand(alloc, dictionary, found.named, name_line, &after)?;
             let comparison = Comparison {
-                list,
-                id: named.id,
-                kind: type_of(dictionary, named.id),
+                list: found.list,
+                id: found.named.id,
+                kind: type_of(dictionary, found.named.id),
                 relation,
                 comparand,
             };

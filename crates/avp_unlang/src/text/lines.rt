@@ -7,11 +7,11 @@ ghost use Rattle.avp_unlang.specs.Lines.{LineIs, OpIs, TargetIs, after_reference
 use crate::faults::PolicyKind;
 use crate::items::Items;
 use crate::text::cursors::{Cursor, Read};
-use crate::text::references::reference;
+use crate::text::references::{Reference, reference_in};
 use crate::text::sources::source;
 use crate::text::tokens::{Sign, Token};
 use crate::tree::{Line, Lines};
-use avp_dict::{Dictionary, Named};
+use avp_dict::Dictionary;
 use avp_lists::{List, Op};
 use std::alloc::Global;
 
@@ -27,15 +27,15 @@ fn after_reference<'a>(at: Cursor<'a>) -> Cursor<'a>
     }
 }
 
-// A target: its list and what its name stands for.
-fn target<'a>(dictionary: &Dictionary, own: List, at: Cursor<'a>) -> Read<'a, (List, Named)>
+// The target of a line.
+fn target<'a>(dictionary: &Dictionary, own: List, at: Cursor<'a>) -> Read<'a, Reference>
     ensures read { Reads (TargetIs dictionary.now own at.entry) result }
     ensures shorter { IfOk result (λ x. length x.1.text < length at.entry.text) }
 {
     let begin = after_reference(at);
     let (token, after) = begin.next();
     match &token {
-        Token::Word(word) => match reference(dictionary, own, word.as_slice()) {
+        Token::Word(word) => match reference_in(dictionary, own, word.as_slice()) {
             None => Err(after.fault(PolicyKind::Unknown)),
             Some(found) => Ok((found, after)),
         },
@@ -77,13 +77,13 @@ fn line<'a>(alloc: Global, dictionary: &Dictionary, own: List, at: Cursor<'a>) -
 {
     let first = at.next().1.line();
     let start = at.count(1, first)?;
-    let ((list, named), mid) = target(dictionary, own, start)?;
+    let (target, mid) = target(dictionary, own, start)?;
     let (op, end) = operator(&mid)?;
-    let (source, rest) = source(alloc, dictionary, op, named, mid.line(), &end)?;
+    let (source, rest) = source(alloc, dictionary, op, target.named, mid.line(), &end)?;
     let found = Line {
         line: first,
-        list,
-        id: named.id,
+        list: target.list,
+        id: target.named.id,
         op,
         source,
     };

@@ -1,19 +1,18 @@
 //! Texts between double quotes into which values are put.
 
 ghost use Rattle.std.specs.Prelude.{◌≡◌, ◌≤◌, ◌<◌, ◌∷◌, ℕ, List as TheList, length, IfOk, IfSome, IfNone, IsTrue, OnErr, option_map};
-ghost use Rattle.avp_lists.specs.declared.lists.List.{List as Name};
-ghost use Rattle.avp_dict.specs.declared.entries.Named.{Named as TheNamed};
 ghost use Rattle.avp_dict.specs.Quotes.{double_escape, escaped_letter};
 ghost use Rattle.avp_unlang.specs.Forms.{Reads, ReadsAll, While};
+ghost use Rattle.avp_unlang.specs.declared.text.references.Reference.{Reference as Referred};
 ghost use Rattle.avp_unlang.specs.Parts.{InstanceIs, OctetIs, PartIs, PartsAre, after_opening, begins_octet, braced, is_left, octet_at};
 
 use crate::faults::{PolicyFault, PolicyKind};
 use crate::items::Items;
-use crate::text::references::readable;
+use crate::text::references::{Reference, readable};
 use crate::text::tokens::{Excerpt, word_length};
 use crate::tree::{Part, Parts};
-use avp_dict::{Dictionary, Named};
-use avp_lists::{List, Octets};
+use avp_dict::Dictionary;
+use avp_lists::Octets;
 use std::alloc::{AllocError, Global};
 
 fn escaped_letter(letter: u8) -> u8
@@ -109,9 +108,9 @@ fn braced<'a>(text: &Excerpt<'a>) -> Option<(Excerpt<'a>, Excerpt<'a>)>
 fn instance<'a>(
     dictionary: &Dictionary,
     text: &Excerpt<'a>,
-) -> Result<((List, Named), Excerpt<'a>), PolicyKind>
+) -> Result<(Reference, Excerpt<'a>), PolicyKind>
     ensures ok { IfOk result (λ x. InstanceIs dictionary.now text.now x.0 x.1) }
-    ensures err { OnErr result ((found : Name × TheNamed) (rest : TheList ℕ)
+    ensures err { OnErr result ((found : Referred) (rest : TheList ℕ)
         → InstanceIs dictionary.now text.now found rest → ⊥) }
     ensures shorter { IfOk result (λ x. length x.1 < length text.now) }
 {
@@ -142,7 +141,7 @@ fn part<'a>(
         return Ok((Part::Text(octets), rest));
     }
     match instance(dictionary, &text) {
-        Ok(((list, named), rest)) => Ok((Part::Instance(list, named.id), rest)),
+        Ok((found, rest)) => Ok((Part::Instance(found.list, found.named.id), rest)),
         Err(kind) => Err(PolicyFault { line, kind }),
     }
 }

@@ -2,13 +2,20 @@
 
 ghost use Rattle.std.specs.Prelude.{◌≡◌, ◌<◌, length, Some, None, IfOk, OnErr};
 ghost use Rattle.avp_unlang.specs.Forms.{Reads};
-ghost use Rattle.avp_unlang.specs.References.{AlikeIs, ReadableIs, list_named, readable, reference, target_in, type_of};
+ghost use Rattle.avp_unlang.specs.References.{AlikeIs, ReadableIs, list_named, readable, reference_in, target_in, type_of};
 
 use crate::faults::PolicyKind;
 use crate::text::cursors::{Cursor, Read};
 use crate::text::tokens::Token;
 use avp_dict::{Dictionary, Kind, Named, is_container};
 use avp_lists::{AttrId, List};
+
+/// What a word refers to: a list, and what the name of an attribute stands for.
+#[derive(Clone, Copy, Debug)]
+pub(crate) struct Reference {
+    pub list: List,
+    pub named: Named,
+}
 
 #[tactic(auto, unfolding(crate::specs::References::list_named))]
 pub(crate) fn list_named(word: &[u8]) -> Option<List>
@@ -41,38 +48,38 @@ fn target_in(own: List, word: &[u8]) -> (List, &[u8])
     }
 }
 
-/// The list of a word, and what its name stands for; a name alone is of the list at hand.
-#[tactic(auto, unfolding(crate::specs::References::reference))]
-pub(crate) fn reference(dictionary: &Dictionary, own: List, word: &[u8]) -> Option<(List, Named)>
-    ensures { result ≡ reference dictionary.now own word.now }
+/// What a word refers to; a name alone is of the list at hand.
+#[tactic(auto, unfolding(crate::specs::References::reference_in))]
+pub(crate) fn reference_in(dictionary: &Dictionary, own: List, word: &[u8]) -> Option<Reference>
+    ensures { result ≡ reference_in dictionary.now own word.now }
 {
     let (list, name) = target_in(own, word);
     match dictionary.by_name(name) {
         None => None,
-        Some(named) => Some((list, named)),
+        Some(named) => Some(Reference { list, named }),
     }
 }
 
-/// The list of a word, and what its name stands for, whose values may be looked at; a name alone is of the request.
+/// What a word refers to, where its values may be looked at; a name alone is of the request.
 #[tactic(auto, unfolding(crate::specs::References::readable))]
-pub(crate) fn readable(dictionary: &Dictionary, word: &[u8]) -> Result<(List, Named), PolicyKind>
+pub(crate) fn readable(dictionary: &Dictionary, word: &[u8]) -> Result<Reference, PolicyKind>
     ensures ok { IfOk result (λ found. readable dictionary.now word.now ≡ Some found) }
     ensures err { OnErr result (readable dictionary.now word.now ≡ None) }
 {
-    match reference(dictionary, List::Request, word) {
+    match reference_in(dictionary, List::Request, word) {
         None => Err(PolicyKind::Unknown),
-        Some((list, named)) => {
-            if is_container(named.id) {
+        Some(found) => {
+            if is_container(found.named.id) {
                 Err(PolicyKind::NotWritable)
             } else {
-                Ok((list, named))
+                Ok(found)
             }
         }
     }
 }
 
 /// The reference after an `&`. Its faults have the line of its word.
-pub(crate) fn referred<'a>(dictionary: &Dictionary, at: &Cursor<'a>) -> Read<'a, (List, Named)>
+pub(crate) fn referred<'a>(dictionary: &Dictionary, at: &Cursor<'a>) -> Read<'a, Reference>
     ensures read { Reads (ReadableIs dictionary.now at.now) result }
     ensures shorter { IfOk result (λ x. length x.1.text < length at.now.text) }
 {
@@ -97,16 +104,12 @@ pub(crate) fn type_of(dictionary: &Dictionary, id: AttrId) -> Kind
 }
 
 /// The reference after an `&` to values of the same type as this attribute's. Its faults have the line of its word.
-pub(crate) fn alike<'a>(
-    dictionary: &Dictionary,
-    id: AttrId,
-    at: &Cursor<'a>,
-) -> Read<'a, (List, Named)>
+pub(crate) fn alike<'a>(dictionary: &Dictionary, id: AttrId, at: &Cursor<'a>) -> Read<'a, Reference>
     ensures read { Reads (AlikeIs dictionary.now id at.now) result }
     ensures shorter { IfOk result (λ x. length x.1.text < length at.now.text) }
 {
     let (found, after) = referred(dictionary, at)?;
-    if type_of(dictionary, id) != type_of(dictionary, found.1.id) {
+    if type_of(dictionary, id) != type_of(dictionary, found.named.id) {
         return Err(after.fault(PolicyKind::OtherType));
     }
     Ok((found, after))

@@ -169,8 +169,8 @@ fn value_source<'a>(
             Ok((source, after))
         }
         Token::Operator(Sign::Reference) => {
-            let ((list, other), rest) = alike(dictionary, named.id, &after)?;
-            Ok((Source::Instance(list, other.id), rest))
+            let (other, rest) = alike(dictionary, named.id, &after)?;
+            Ok((Source::Instance(other.list, other.named.id), rest))
         }
         _ => Err(at.misplaced()),
     }

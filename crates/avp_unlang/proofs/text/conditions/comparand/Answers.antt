@@ -6,8 +6,8 @@ use Rattle.avp_unlang.proofs.ConditionsOne.{alike_refused}
 use Rattle.avp_unlang.proofs.Determined.{exits}
 use Rattle.avp_unlang.proofs.text.conditions.comparand.Goals as goal
 
-pub returns-in_err-list-in-Operator-Reference-clause-read : goal.returns-in_err-list-in-Operator-Reference-clause-read
-returns-in_err-list-in-Operator-Reference-clause-read c =
+pub returns-in_err-other-in-Operator-Reference-clause-read : goal.returns-in_err-other-in-Operator-Reference-clause-read
+returns-in_err-other-in-Operator-Reference-clause-read c =
     let first : c.next-token.result.0 ≡ Operator Reference = search rules in
-    exits (ComparandIs c.args.dictionary.now c.args.named c.args.at.now) _ _ c.from_residual-in_err-list-in-Operator-Reference.ensures.1
-    (alike_refused c.args.dictionary.now c.args.named c.args.at.now c.next-token.result c.in_err-list-in-Operator-Reference.field-0.0 c.next-token.ensures.same first c.in_err-list-in-Operator-Reference.ensures.read)
+    exits (ComparandIs c.args.dictionary.now c.args.named c.args.at.now) _ _ c.from_residual-in_err-other-in-Operator-Reference.ensures.1
+    (alike_refused c.args.dictionary.now c.args.named c.args.at.now c.next-token.result c.in_err-other-in-Operator-Reference.field-0.0 c.next-token.ensures.same first c.in_err-other-in-Operator-Reference.ensures.read)

@@ -6,4 +6,4 @@ pub returns-in-Err-clause-read : goal.returns-in-Err-clause-read
 returns-in-Err-clause-read c = λ _. no_part c.args.dictionary.now c.args.text (sym c.if-begins_octet.ensures) c.in-Err.ensures.err
 
 pub returns-in-Ok-clause-read : goal.returns-in-Ok-clause-read
-returns-in-Ok-clause-read c = (sym c.if-begins_octet.ensures, (c.in-Ok.list, c.in-Ok.named), c.in-Ok.ensures.ok, refl, refl)
+returns-in-Ok-clause-read c = (sym c.if-begins_octet.ensures, c.in-Ok.found, c.in-Ok.ensures.ok, refl, refl)

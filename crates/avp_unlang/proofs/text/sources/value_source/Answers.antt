@@ -13,8 +13,8 @@ returns-in_err-source-in-Quoted-Double-default-clause-read c =
     exits (ValueIs c.args.dictionary.now c.args.named c.args.at.now) _ _ c.from_residual-in_err-source-in-Quoted-Double-default.ensures.1
     (double_refused c.args.dictionary.now c.args.named c.args.at.now c.next-token.result c.in-Quoted-Double-default.text c.in_err-source-in-Quoted-Double-default.field-0.0 c.next-token.ensures.same first c.in_err-source-in-Quoted-Double-default.ensures)
 
-pub returns-in_err-list-in-Operator-Reference-clause-read : goal.returns-in_err-list-in-Operator-Reference-clause-read
-returns-in_err-list-in-Operator-Reference-clause-read c =
+pub returns-in_err-other-in-Operator-Reference-clause-read : goal.returns-in_err-other-in-Operator-Reference-clause-read
+returns-in_err-other-in-Operator-Reference-clause-read c =
     let first : c.next-token.result.0 ≡ Operator Reference = search rules in
-    exits (ValueIs c.args.dictionary.now c.args.named c.args.at.now) _ _ c.from_residual-in_err-list-in-Operator-Reference.ensures.1
-    (reference_refused c.args.dictionary.now c.args.named c.args.at.now c.next-token.result c.in_err-list-in-Operator-Reference.field-0.0 c.next-token.ensures.same first c.in_err-list-in-Operator-Reference.ensures.read)
+    exits (ValueIs c.args.dictionary.now c.args.named c.args.at.now) _ _ c.from_residual-in_err-other-in-Operator-Reference.ensures.1
+    (reference_refused c.args.dictionary.now c.args.named c.args.at.now c.next-token.result c.in_err-other-in-Operator-Reference.field-0.0 c.next-token.ensures.same first c.in_err-other-in-Operator-Reference.ensures.read)
