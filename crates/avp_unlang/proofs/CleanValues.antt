@@ -23,8 +23,9 @@ use Rattle.avp_dict.specs.declared.value.faults.ValueFault.TheVariants.{TooLong}
 use Rattle.avp_dict.proofs.OwnValues.{raw_canonical, read_value_sized, typed_canonical}
 use Rattle.avp_unlang.specs.Lines.{LineIs, line_of}
 use Rattle.avp_unlang.specs.Resolutions.{given, instance_value, pair_of, paired, parts_text, read_by_kind, resolution, source_value}
-use Rattle.avp_unlang.specs.Sources.{SourceBy, is_removal, literal}
+use Rattle.avp_unlang.specs.Sources.{SourceBy, is_removal}
 use Rattle.avp_unlang.specs.Tokens.{next_token}
+use Rattle.avp_unlang.specs.Values.{literal}
 use Rattle.avp_unlang.specs.declared.meaning.resolving.Unresolved.{Unresolved}
 use Rattle.avp_unlang.specs.declared.tree.Line.{Line}
 use Rattle.avp_unlang.specs.declared.tree.Part.{Part}
@@ -112,7 +113,7 @@ module _ (dictionary : Dictionary) where
     source_by_clean : (b : Bool) (name : Named) → b ≡ false → Holds (SourceClean name) (SourceBy b dictionary name)
     source_by_clean true name stays p from rest h = absurd cc
     source_by_clean false name stays p from rest h =
-        value_holds dictionary name (SourceClean name) (literal_clean name) (text_clean name) (instance_clean name h.0) (next_token p).0 (next_token p).1 from rest h.1
+        value_holds dictionary name (SourceClean name) (literal_clean name) (text_clean name) (instance_clean name h.0) p from rest h.1
 
     line_clean : (line : Line) (name : Named) → name.id ≡ line.id → (is_removal line.op ≡ false → SourceClean name line.source) → Adds dictionary CleanWhereFits line
     unfolding resolution

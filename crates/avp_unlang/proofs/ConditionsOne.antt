@@ -1,31 +1,32 @@
 -- A place spells at most one condition, and how refusals inside one are refusals of it.
-use Rattle.std.proofs.Common.{◌≡◌, ℕ, zero, suc, List, Option, Some, None, Result, refl, sym, ap, subst, ◌∙◌}
-use Rattle.std.specs.Option.{option_and_then, option_map}
+use Rattle.std.proofs.Common.{◌≡◌, ◌≢◌, ℕ, zero, suc, List, Option, Some, None, Result, refl, sym, subst, ◌∙◌}
+use Rattle.std.specs.Option.{option_map}
 use Rattle.avp_dict.specs.declared.entries.Named.{Named}
 use Rattle.avp_dict.specs.Dictionary.{Dictionary}
-use Rattle.avp_dict.specs.declared.value.quotes.QuoteMark.TheVariants.{Double, Single}
-use Rattle.avp_dict.specs.Quotes.{single_quoted_octets}
 use Rattle.avp_unlang.specs.declared.codes.Code.{Code}
 use Rattle.avp_unlang.specs.declared.faults.PolicyFault.{PolicyFault}
+use Rattle.avp_unlang.specs.declared.faults.PolicyKind.TheVariants.{Memory}
 use Rattle.avp_unlang.specs.declared.text.references.Reference.{Reference}
 use Rattle.avp_unlang.specs.declared.text.tokens.Sign.TheVariants as sign
 use Rattle.avp_unlang.specs.declared.text.tokens.Token.{Token}
-use Rattle.avp_unlang.specs.declared.text.tokens.Token.TheVariants.{Operator, Word, Quoted}
+use Rattle.avp_unlang.specs.declared.text.tokens.Token.TheVariants.{Operator, Word}
+use Rattle.avp_unlang.specs.declared.text.values.Written.{Written}
+use Rattle.avp_unlang.specs.declared.text.values.Written.TheVariants as written
 use Rattle.avp_unlang.specs.declared.tree.Comparand.TheVariants.{Literal, Instance}
 use Rattle.avp_unlang.specs.declared.tree.Cond.{Cond}
 use Rattle.avp_unlang.specs.declared.tree.Cond.TheVariants.{Not, Last, Present, Compare}
 use Rattle.avp_unlang.specs.declared.tree.Relation.{Relation}
-use Rattle.avp_unlang.specs.Conditions.{relation_of, plain_octets, ComparandFrom, ComparandIs, comparison_of, ComparedFrom, ComparedIs, WordFrom, any_of, all_of, Both, Either, Negated, Closed, OperandFrom, OperandIs, Within}
+use Rattle.avp_unlang.specs.Conditions.{relation_of, plain_literal, ComparandOf, ComparandIs, comparison_of, ComparedFrom, ComparedIs, WordFrom, any_of, all_of, Both, Either, Negated, Closed, OperandFrom, OperandIs, Within}
 use Rattle.avp_unlang.specs.Forms.{Form, After, Chain, Gives, Refuses, Reads}
 use Rattle.avp_unlang.specs.Places.{Place}
-use Rattle.avp_unlang.specs.References.{AlikeIs, ReadableIs}
-use Rattle.avp_unlang.specs.Sources.{literal}
+use Rattle.avp_unlang.specs.References.{ReadableIs}
 use Rattle.avp_unlang.specs.Between.{Follows}
 use Rattle.avp_unlang.specs.Tokens.{next_token}
+use Rattle.avp_unlang.specs.Values.{WrittenIs}
 use Rattle.avp_unlang.specs.Words.{code_named}
 use Rattle.avp_unlang.proofs.Chains.{chain_one}
 use Rattle.avp_unlang.proofs.Determined.{IsOne, some_is, gives_one, becomes_one, after_one, then_one, then_stops, then_on, after_stops}
-use Rattle.avp_unlang.proofs.LinesOne.{follows_sure, alike_one, readable_one}
+use Rattle.avp_unlang.proofs.LinesOne.{follows_sure, readable_one, written_one}
 
 -- ---- operands with a sign between them
 
@@ -52,17 +53,23 @@ closed_one form one = then_one (Either form) Closing (either_one form one) closi
 module _ (dictionary : Dictionary) where
   -- ---- comparisons
 
-  comparand_from_one : (name : Named) (token : Token) → IsOne (ComparandFrom dictionary name token)
-  comparand_from_one name (Word text) p x y r s h g = becomes_one (option_map Literal (literal dictionary name text)) p x y r s h g
-  comparand_from_one name (Quoted Single text) p x y r s h g = becomes_one (option_map Literal (literal dictionary name (single_quoted_octets text))) p x y r s h g
-  comparand_from_one name (Quoted Double text) p x y r s h g = becomes_one (option_map Literal (option_and_then (literal dictionary name) (plain_octets text))) p x y r s h g
-  comparand_from_one name (Operator sign.Reference) p x y r s h g =
-      let at = alike_one dictionary name.id p h.0 g.0 r s h.1 g.1 in
-      (h.2 ∙ ap (λ (n : Reference). Instance n.list n.named.id) at.0 ∙ sym g.2, at.1)
-  comparand_from_one name _ p x y r s h g = absurd h
+  comparand_of_one : (name : Named) (x : Written) → IsOne (ComparandOf dictionary name x)
+  comparand_of_one name (written.Literal value) p x y r s h g = gives_one (Literal value) p x y r s h g
+  comparand_of_one name (written.Double text) p x y r s h g = becomes_one (option_map Literal (plain_literal dictionary name text)) p x y r s h g
+  comparand_of_one name (written.Instance list id) p x y r s h g = gives_one (Instance list id) p x y r s h g
 
   comparand_one : (name : Named) → IsOne (ComparandIs dictionary name)
-  comparand_one name p x y r s h g = comparand_from_one name (next_token p).0 (next_token p).1 x y r s h g
+  comparand_one name = then_one (WrittenIs dictionary name) (ComparandOf dictionary name) (written_one dictionary name) (comparand_of_one name)
+
+  none_mapped : {A B : Type 0} (f : A → B) (o : Option A) (y : B) → o ≡ None → option_map f o ≡ Some y → ⊥
+  none_mapped f o y none e = cc
+
+  -- a refusal of a text between double quotes
+  pub plain_refused : (name : Named) (p : Place) (x : Written) (mid : Place) (text : List ℕ) (e : PolicyFault) → WrittenIs dictionary name p x mid → x ≡ written.Double text
+      → (e.kind ≢ Memory → plain_literal dictionary name text ≡ None) → Refuses (ComparandIs dictionary name p) e
+  plain_refused name p x mid text e read is none =
+      then_on (WrittenIs dictionary name) (ComparandOf dictionary name) (written_one dictionary name) p (written.Double text) mid
+      (subst (λ (w : Written). WrittenIs dictionary name p w mid) is read) e (λ some y rest h. none_mapped Literal (plain_literal dictionary name text) y (none some) h.0)
 
   compared_from_one : (found : Reference) (o : Option Relation) (p : Place) → IsOne (ComparedFrom dictionary found o p)
   compared_from_one found None p after x y r s h g = gives_one (Present found.list found.named.id) p x y r s h g
@@ -72,17 +79,18 @@ module _ (dictionary : Dictionary) where
   pub compared_one : (found : Reference) → IsOne (ComparedIs dictionary found)
   compared_one found p x y r s h g = compared_from_one found (relation_of (next_token p).0) p (next_token p).1 x y r s h g
 
+  -- a refusal of what a reference is compared with
+  pub compared_refused : (found : Reference) (relation : Relation) (p : Place) (token : Token) (mid : Place) (e : PolicyFault) → Follows token p mid → relation_of token ≡ Some relation
+      → Refuses (ComparandIs dictionary found.named mid) e → Refuses (ComparedIs dictionary found p) e
+  compared_refused found relation p token mid e follows related refused =
+      let at : Refuses (ComparedFrom dictionary found (Some relation) p mid) e =
+      then_stops (ComparandIs dictionary found.named) (λ c. Gives (Compare (comparison_of dictionary found relation c))) mid e refused in
+      subst (λ (k : Token × Place). Refuses (ComparedFrom dictionary found (relation_of k.0) p k.1) e) (sym follows) (subst (λ o. Refuses (ComparedFrom dictionary found o p mid) e) (sym related) at)
+
   word_one : (o : Option Code) (word : List ℕ) → IsOne (WordFrom dictionary o word)
   word_one (Some code) word p x y r s h g = gives_one (Last code) p x y r s h g
   word_one None word p x y r s h g =
       compared_one g.0 p x y r s (subst (λ (n : Reference). ComparedIs dictionary n p x r) (some_is h.0 g.0 (sym h.1 ∙ g.1)) h.2) g.2
-
-  -- a refusal of the reference that something is compared with
-  pub alike_refused : (name : Named) (p : Place) (q : Token × Place) (e : PolicyFault) → q ≡ next_token p → q.0 ≡ Operator sign.Reference
-      → Refuses (AlikeIs dictionary name.id q.1) e → Refuses (ComparandIs dictionary name p) e
-  alike_refused name p q e is first refused =
-      let at : Refuses (ComparandFrom dictionary name (Operator sign.Reference) q.1) e = λ some x rest h. refused some h.0 rest h.1 in
-      subst (λ (k : Token × Place). Refuses (ComparandFrom dictionary name k.0 k.1) e) is (subst (λ k. Refuses (ComparandFrom dictionary name k q.1) e) (sym first) at)
 
   -- ---- operands
 

@@ -9,6 +9,7 @@ use Rattle.avp_dict.specs.declared.entries.Named.{Named}
 use Rattle.avp_dict.specs.Dictionary.{Dictionary}
 use Rattle.avp_dict.specs.declared.value.quotes.QuoteMark.TheVariants.{Double, Single}
 use Rattle.avp_dict.specs.Quotes.{single_quoted_octets}
+use Rattle.avp_dict.specs.Sent.{is_container}
 use Rattle.avp_dict.specs.Spellings.{is_barred}
 use Rattle.avp_unlang.specs.declared.faults.PolicyFault.{PolicyFault}
 use Rattle.avp_unlang.specs.declared.faults.PolicyKind.TheVariants.{Memory}
@@ -16,19 +17,22 @@ use Rattle.avp_unlang.specs.declared.text.references.Reference.{Reference}
 use Rattle.avp_unlang.specs.declared.text.tokens.Sign.TheVariants as sign
 use Rattle.avp_unlang.specs.declared.text.tokens.Token.{Token}
 use Rattle.avp_unlang.specs.declared.text.tokens.Token.TheVariants.{Operator, Word, Quoted}
+use Rattle.avp_unlang.specs.declared.text.values.Written.{Written}
+use Rattle.avp_unlang.specs.declared.text.values.Written.TheVariants as written
 use Rattle.avp_unlang.specs.declared.tree.Line.{Line}
 use Rattle.avp_unlang.specs.declared.tree.Part.{Part}
 use Rattle.avp_unlang.specs.declared.tree.Source.{Source}
 use Rattle.avp_unlang.specs.declared.tree.Source.TheVariants.{Literal, Instance}
-use Rattle.avp_unlang.specs.Forms.{Form, Then, Gives, Refuses, ReadsAll}
+use Rattle.avp_unlang.specs.Forms.{Form, Then, Gives, Refuses, Reads, ReadsAll}
 use Rattle.avp_unlang.specs.Lines.{TargetIs, OpIs, LineIs, after_reference, op_of, line_of}
 use Rattle.avp_unlang.specs.Parts.{PartsAre}
 use Rattle.avp_unlang.specs.Places.{Place}
 use Rattle.avp_unlang.specs.References.{ReadableIs, AlikeIs, readable, reference_in}
-use Rattle.avp_unlang.specs.Sources.{literal, filled_source, FilledIs, ValueFrom, ValueIs, IgnoredFrom, IgnoredIs, SourceBy, SourceIs, is_removal}
+use Rattle.avp_unlang.specs.Sources.{filled_source, FilledIs, SourceOf, ValueIs, IgnoredFrom, IgnoredIs, SourceBy, SourceIs, is_removal}
 use Rattle.avp_unlang.specs.Between.{Counts, Follows}
 use Rattle.avp_unlang.specs.Tokens.{next_token}
-use Rattle.avp_unlang.proofs.Determined.{IsOne, IsSure, some_is, pair_one, gives_one, becomes_one, after_one, then_one}
+use Rattle.avp_unlang.specs.Values.{literal, WrittenFrom, WrittenIs}
+use Rattle.avp_unlang.proofs.Determined.{IsOne, IsSure, some_is, pair_one, gives_one, becomes_one, after_one, then_one, then_on}
 use Rattle.avp_unlang.proofs.PartsOne.{parts_one}
 
 -- ---- steps
@@ -65,6 +69,27 @@ module _ (dictionary : Dictionary) where
       let at = words_one (after_reference p) h.0 g.0 r s h.1 g.1 in
       (some_is x y (sym (subst (λ w. reference_in dictionary own w ≡ Some x) at.0 h.2) ∙ g.2), at.1)
 
+  -- ---- written values
+
+  written_from_one : (name : Named) (token : Token) → IsOne (WrittenFrom dictionary name token)
+  written_from_one name (Word text) p x y r s h g = becomes_one (option_map written.Literal (literal dictionary name text)) p x y r s h g
+  written_from_one name (Quoted Single text) p x y r s h g = becomes_one (option_map written.Literal (literal dictionary name (single_quoted_octets text))) p x y r s h g
+  written_from_one name (Quoted Double text) p x y r s h g = gives_one (written.Double text) p x y r s h g
+  written_from_one name (Operator sign.Reference) p x y r s h g =
+      let at = alike_one name.id p h.0 g.0 r s h.1 g.1 in
+      (h.2 ∙ ap (λ (n : Reference). written.Instance n.list n.named.id) at.0 ∙ sym g.2, at.1)
+  written_from_one name _ p x y r s h g = absurd h
+
+  pub written_one : (name : Named) → IsOne (WrittenIs dictionary name)
+  written_one name p x y r s h g = written_from_one name (next_token p).0 (next_token p).1 x y r s h g
+
+  -- a refusal of the reference after an `&`
+  pub reference_refused : (name : Named) (p : Place) (q : Token × Place) (e : PolicyFault) → q ≡ next_token p → q.0 ≡ Operator sign.Reference
+      → Refuses (AlikeIs dictionary name.id q.1) e → Refuses (WrittenIs dictionary name p) e
+  reference_refused name p q e is first refused =
+      let at : Refuses (WrittenFrom dictionary name (Operator sign.Reference) q.1) e = λ some x rest h. refused some h.0 rest h.1 in
+      subst (λ (k : Token × Place). Refuses (WrittenFrom dictionary name k.0 k.1) e) is (subst (λ k. Refuses (WrittenFrom dictionary name k q.1) e) (sym first) at)
+
   -- ---- sources
 
   pub filled_reads : (name : Named) (text : List ℕ) (parts : List Part) → is_barred name dictionary ≡ false → PartsAre dictionary text parts → (r : Result Source PolicyFault)
@@ -80,31 +105,20 @@ module _ (dictionary : Dictionary) where
       let same = parts_one dictionary text h.1 g.1 h.2 g.2 in
       some_is x y (sym (subst (λ ps. filled_source dictionary name ps ≡ Some x) same h.3) ∙ g.3)
 
-  value_from_one : (name : Named) (token : Token) → IsOne (ValueFrom dictionary name token)
-  value_from_one name (Word text) p x y r s h g = becomes_one (option_map Literal (literal dictionary name text)) p x y r s h g
-  value_from_one name (Quoted Single text) p x y r s h g = becomes_one (option_map Literal (literal dictionary name (single_quoted_octets text))) p x y r s h g
-  value_from_one name (Quoted Double text) p x y r s h g = (filled_one name text x y h.0 g.0, h.1 ∙ sym g.1)
-  value_from_one name (Operator sign.Reference) p x y r s h g =
-      let at = alike_one name.id p h.0 g.0 r s h.1 g.1 in
-      (h.2 ∙ ap (λ (n : Reference). Instance n.list n.named.id) at.0 ∙ sym g.2, at.1)
-  value_from_one name _ p x y r s h g = absurd h
+  source_of_one : (name : Named) (x : Written) → IsOne (SourceOf dictionary name x)
+  source_of_one name (written.Literal value) p x y r s h g = gives_one (Literal value) p x y r s h g
+  source_of_one name (written.Double text) p x y r s h g = (filled_one name text x y h.0 g.0, h.1 ∙ sym g.1)
+  source_of_one name (written.Instance list id) p x y r s h g = gives_one (Instance list id) p x y r s h g
 
-  pub value_one : (name : Named) → IsOne (ValueIs dictionary name)
-  value_one name p x y r s h g = value_from_one name (next_token p).0 (next_token p).1 x y r s h g
+  value_one : (name : Named) → IsOne (ValueIs dictionary name)
+  value_one name = then_one (WrittenIs dictionary name) (SourceOf dictionary name) (written_one name) (source_of_one name)
 
-  -- a refusal of what stands behind the first token of a source
-  value_refused : (name : Named) (p : Place) (q : Token × Place) (token : Token) (e : PolicyFault) → q ≡ next_token p → q.0 ≡ token
-      → Refuses (ValueFrom dictionary name token q.1) e → Refuses (ValueIs dictionary name p) e
-  value_refused name p q token e is first refused =
-      subst (λ (k : Token × Place). Refuses (ValueFrom dictionary name k.0 k.1) e) is (subst (λ k. Refuses (ValueFrom dictionary name k q.1) e) (sym first) refused)
-
-  pub double_refused : (name : Named) (p : Place) (q : Token × Place) (text : List ℕ) (e : PolicyFault) → q ≡ next_token p → q.0 ≡ Quoted Double text
+  -- a refusal of a text between double quotes
+  pub double_refused : (name : Named) (p : Place) (x : Written) (mid : Place) (text : List ℕ) (e : PolicyFault) → WrittenIs dictionary name p x mid → x ≡ written.Double text
       → (e.kind ≢ Memory → (source : Source) → FilledIs dictionary name text source → ⊥) → Refuses (ValueIs dictionary name p) e
-  double_refused name p q text e is first refused = value_refused name p q (Quoted Double text) e is first (λ some source rest h. refused some source h.0)
-
-  pub reference_refused : (name : Named) (p : Place) (q : Token × Place) (e : PolicyFault) → q ≡ next_token p → q.0 ≡ Operator sign.Reference
-      → Refuses (AlikeIs dictionary name.id q.1) e → Refuses (ValueIs dictionary name p) e
-  reference_refused name p q e is first refused = value_refused name p q (Operator sign.Reference) e is first (λ some source rest h. refused some h.0 rest h.1)
+  double_refused name p x mid text e read is refused =
+      then_on (WrittenIs dictionary name) (SourceOf dictionary name) (written_one name) p (written.Double text) mid
+      (subst (λ (w : Written). WrittenIs dictionary name p w mid) is read) e (λ some source rest h. refused some source h.0)
 
   ignored_from_sure : (token : Token) → IsSure (IgnoredFrom token)
   ignored_from_sure (Word text) p r s h g = h ∙ sym g
@@ -121,6 +135,15 @@ module _ (dictionary : Dictionary) where
 
   pub source_one : (operation : Op) (name : Named) → IsOne (SourceIs dictionary operation name)
   source_one operation name = source_by_one (is_removal operation) name
+
+  by_value : (name : Named) (p : Place) → is_container name.id ≡ false → (r : Result (Source × Place) PolicyFault) → Reads (ValueIs dictionary name p) r → Reads (SourceBy false dictionary name p) r
+  by_value name p own (Ok x) reads = (own, reads)
+  by_value name p own (Err e) reads = λ some x rest h. reads some x rest h.1
+
+  -- a source that is looked at
+  pub value_reads : (operation : Op) (name : Named) (p : Place) (r : Result (Source × Place) PolicyFault) → is_removal operation ≡ false → is_container name.id ≡ false
+      → Reads (ValueIs dictionary name p) r → Reads (SourceIs dictionary operation name p) r
+  value_reads operation name p r looked own reads = subst (λ b. Reads (SourceBy b dictionary name p) r) (sym looked) (by_value name p own r reads)
 
   -- ---- lines
 

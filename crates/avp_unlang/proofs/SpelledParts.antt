@@ -15,11 +15,16 @@ use Rattle.avp_dict.specs.Dictionary.{Dictionary}
 use Rattle.avp_dict.specs.declared.value.faults.ValueFault.{ValueFault}
 use Rattle.avp_unlang.specs.Forms.{Form, Step, Chain, Others, While}
 use Rattle.avp_unlang.specs.Places.{Place}
-use Rattle.avp_unlang.specs.Sources.{ValueFrom, filled_source, fitting, literal, whole_text}
+use Rattle.avp_unlang.specs.References.{type_of}
+use Rattle.avp_unlang.specs.Sources.{SourceOf, ValueIs, filled_source, whole_text}
 use Rattle.avp_unlang.specs.Statements.{BlockIs}
+use Rattle.avp_unlang.specs.Tokens.{next_token}
+use Rattle.avp_unlang.specs.Values.{WrittenFrom, WrittenIs, fitting, literal}
 use Rattle.avp_unlang.specs.declared.text.tokens.Sign.TheVariants as sign
 use Rattle.avp_unlang.specs.declared.text.tokens.Token.{Token}
 use Rattle.avp_unlang.specs.declared.text.tokens.Token.TheVariants as token
+use Rattle.avp_unlang.specs.declared.text.values.Written.{Written}
+use Rattle.avp_unlang.specs.declared.text.values.Written.TheVariants as written
 use Rattle.avp_unlang.specs.declared.tree.Part.{Part}
 use Rattle.avp_unlang.specs.declared.tree.Source.{Source}
 use Rattle.avp_unlang.specs.declared.tree.Source.TheVariants as source
@@ -69,6 +74,27 @@ module _ (dictionary : Dictionary) (name : Named) where
   unfolding literal
   literal_is text v e = fitting_is (value_spelled name text dictionary) v e
 
+  -- ---- written values
+
+  -- what is known of one
+  abbrev pub IsWritten : Written → Type 0
+  IsWritten (written.Literal value) = (text : List ℕ) × (literal dictionary name text ≡ Some value)
+  IsWritten (written.Double text) = Unit {0}
+  IsWritten (written.Instance list id) = type_of dictionary name.id ≡ type_of dictionary id
+
+  literal_written : (text : List ℕ) (x : Written) → option_map written.Literal (literal dictionary name text) ≡ Some x → IsWritten x
+  literal_written text x e = let m = mapped written.Literal (literal dictionary name text) x e in subst IsWritten m.2 (text, m.1)
+
+  written_from_holds : (t : Token) → Holds IsWritten (WrittenFrom dictionary name t)
+  written_from_holds (token.Word text) p x rest h = literal_written text x h.0
+  written_from_holds (token.Quoted Single text) p x rest h = literal_written (single_quoted_octets text) x h.0
+  written_from_holds (token.Quoted Double text) p x rest h = subst IsWritten (sym h.0) tt
+  written_from_holds (token.Operator sign.Reference) p x rest h = subst IsWritten (sym h.2) h.1.1
+  written_from_holds _ p x rest h = absurd h
+
+  pub written_holds : Holds IsWritten (WrittenIs dictionary name)
+  written_holds p x rest h = written_from_holds (next_token p).0 (next_token p).1 x rest h
+
   -- ---- sources
 
   module _ (P : Source → Type 0) (of_literal : (text : List ℕ) (v : Value) → literal dictionary name text ≡ Some v → P (source.Literal v)) (of_text : (parts : List Part) → P (source.Text name.raw parts)) (of_instance : (list : Name) (id : AttrId) → P (source.Instance list id)) where
@@ -84,9 +110,10 @@ module _ (dictionary : Dictionary) (name : Named) where
     unfolding filled_source
     filled_holds parts s e = filled_by_holds parts (whole_text parts) s e
 
-    pub value_holds : (t : Token) → Holds P (ValueFrom dictionary name t)
-    value_holds (token.Word text) p s rest h = literal_holds text s h.0
-    value_holds (token.Quoted Single text) p s rest h = literal_holds (single_quoted_octets text) s h.0
-    value_holds (token.Quoted Double text) p s rest h = filled_holds h.0.1 s h.0.3
-    value_holds (token.Operator sign.Reference) p s rest h = subst P (sym h.2) (of_instance h.0.list h.0.named.id)
-    value_holds _ p s rest h = absurd h
+    source_of_holds : (x : Written) → IsWritten x → Holds P (SourceOf dictionary name x)
+    source_of_holds (written.Literal value) is p s rest h = subst P (sym h.0) (of_literal is.0 value is.1)
+    source_of_holds (written.Double text) is p s rest h = filled_holds h.0.1 s h.0.3
+    source_of_holds (written.Instance list id) is p s rest h = subst P (sym h.0) (of_instance list id)
+
+    pub value_holds : Holds P (ValueIs dictionary name)
+    value_holds p s rest h = source_of_holds h.0 (written_holds p h.0 h.1 h.2) h.1 s rest h.3

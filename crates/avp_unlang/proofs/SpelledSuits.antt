@@ -7,8 +7,6 @@ use Rattle.avp_lists.specs.declared.pairs.AttrId.{AttrId}
 use Rattle.avp_lists.specs.declared.lists.List.{List as Name}
 use Rattle.avp_dict.specs.declared.entries.Named.{Named}
 use Rattle.avp_dict.specs.Dictionary.{Dictionary}
-use Rattle.avp_dict.specs.declared.value.quotes.QuoteMark.TheVariants.{Double, Single}
-use Rattle.avp_dict.specs.Quotes.{single_quoted_octets}
 use Rattle.avp_dict.specs.Soundness.{NamesKnown}
 use Rattle.avp_unlang.specs.declared.codes.Code.{Code}
 use Rattle.avp_unlang.specs.declared.text.statements.Keyword.{Keyword}
@@ -17,6 +15,8 @@ use Rattle.avp_unlang.specs.declared.text.references.Reference.{Reference}
 use Rattle.avp_unlang.specs.declared.text.tokens.Sign.TheVariants as sign
 use Rattle.avp_unlang.specs.declared.text.tokens.Token.{Token}
 use Rattle.avp_unlang.specs.declared.text.tokens.Token.TheVariants as token
+use Rattle.avp_unlang.specs.declared.text.values.Written.{Written}
+use Rattle.avp_unlang.specs.declared.text.values.Written.TheVariants as written
 use Rattle.avp_unlang.specs.declared.tree.Branch.{Branch, out-Branch}
 use Rattle.avp_unlang.specs.declared.tree.Comparand.{Comparand}
 use Rattle.avp_unlang.specs.declared.tree.Comparand.TheVariants as comparand
@@ -31,7 +31,7 @@ use Rattle.avp_unlang.specs.declared.tree.Statement.{Statement}
 use Rattle.avp_unlang.specs.declared.tree.Statement.TheFolds.{fold-roll-Statement, fold-roll-Branch, fold_out-Branch}
 use Rattle.avp_unlang.specs.declared.tree.Statement.TheOpen as layer
 use Rattle.avp_unlang.specs.declared.tree.Statement.TheVariants.{Update, If, Transaction, Word, rolls-Update, rolls-If, rolls-Transaction, rolls-Word}
-use Rattle.avp_unlang.specs.Conditions.{relation_of, plain_octets, ComparandFrom, comparison_of, ComparedFrom, ComparedIs, WordFrom, any_of, all_of, Both, Either, Closed, OperandFrom, Within}
+use Rattle.avp_unlang.specs.Conditions.{relation_of, plain_octets, ComparandIs, ComparandOf, comparison_of, ComparedFrom, ComparedIs, WordFrom, any_of, all_of, Both, Either, Closed, OperandFrom, Within}
 use Rattle.avp_unlang.specs.References.{reference_in, reference_to, target_in, type_of}
 use Rattle.avp_unlang.specs.Resolutions.{line_suits, literal_fits}
 use Rattle.avp_unlang.specs.Suiting.{branch_layer_suits, branches_suit, else_suits, branch_suits, comparand_suits, comparison_suits, cond_layer_suits, cond_suits, itself, policy_suits, same_kind, statement_layer_suits, statement_suits}
@@ -44,13 +44,14 @@ use Rattle.avp_unlang.specs.Forms.{Form, Step, While, Chain}
 use Rattle.avp_unlang.specs.Lines.{LineIs, begins_line, line_of}
 use Rattle.avp_unlang.specs.Places.{Place, start_of}
 use Rattle.avp_unlang.specs.Policies.{SpellsPolicy}
-use Rattle.avp_unlang.specs.Sources.{literal, SourceBy, is_removal}
+use Rattle.avp_unlang.specs.Sources.{SourceBy, is_removal}
 use Rattle.avp_unlang.specs.Statements.{BlockIs, branch_of, BranchIs, Otherwise, StatementFrom, Nested, keyword_in, list_at, begins_word}
 use Rattle.avp_unlang.specs.Between.{Follows}
 use Rattle.avp_unlang.specs.Tokens.{next_token}
+use Rattle.avp_unlang.specs.Values.{literal}
 use Rattle.avp_unlang.specs.Words.{code_named}
 use Rattle.avp_unlang.proofs.Determined.{some_is}
-use Rattle.avp_unlang.proofs.SpelledParts.{Holds, block_holds, chain_holds, literal_is, mapped, value_holds, while_holds}
+use Rattle.avp_unlang.proofs.SpelledParts.{Holds, IsWritten, block_holds, chain_holds, literal_is, mapped, value_holds, while_holds, written_holds}
 
 -- ---- lists
 
@@ -123,7 +124,7 @@ module _ (dictionary : Dictionary) (known : NamesKnown dictionary) where
   source_by_fits true name p s rest h = ap (literal_fits dictionary name.id) h.1
   source_by_fits false name p s rest h =
       value_holds dictionary name (λ x. literal_fits dictionary name.id x ≡ true) (λ text v e. (literal_is dictionary name text v e).1) (λ parts. refl) (λ list id. refl)
-      (next_token p).0 (next_token p).1 s rest h.1
+      p s rest h.1
 
   target_known : (o : Option Named) (in_list : Name) (target : Reference) → ((n : Named) → o ≡ Some n → is_known n.id dictionary ≡ true) → option_map (reference_to in_list) o ≡ Some target → is_known target.named.id dictionary ≡ true
   target_known None in_list target h e = absurd cc
@@ -193,20 +194,22 @@ module _ (dictionary : Dictionary) (known : NamesKnown dictionary) where
     plain_suits None x e = absurd cc
     plain_suits (Some text) x e = literal_suits text x e
 
-    comparand_from_suits : (t : Token) → Suits (λ x. against x) (ComparandFrom dictionary found.named t)
-    comparand_from_suits (token.Word text) p x rest h = literal_suits text x h.0
-    comparand_from_suits (token.Quoted Single text) p x rest h = literal_suits (single_quoted_octets text) x h.0
-    comparand_from_suits (token.Quoted Double text) p x rest h = plain_suits (plain_octets text) x h.0
-    comparand_from_suits (token.Operator sign.Reference) p x rest h =
-        ap (λ (z : Comparand). against z) h.2 ∙ ap (same_kind (type_of dictionary found.named.id)) (sym h.1.1) ∙ same_kind_self (type_of dictionary found.named.id)
-    comparand_from_suits _ p x rest h = absurd h
+    comparand_of_suits : (w : Written) → IsWritten dictionary found.named w → Suits (λ x. against x) (ComparandOf dictionary found.named w)
+    comparand_of_suits (written.Literal value) is p x rest h =
+        subst (λ (z : Comparand). against z ≡ true) (sym h.0) (literal_is dictionary found.named is.0 value is.1).1
+    comparand_of_suits (written.Double text) is p x rest h = plain_suits (plain_octets text) x h.0
+    comparand_of_suits (written.Instance list id) is p x rest h =
+        ap (λ (z : Comparand). against z) h.0 ∙ ap (same_kind (type_of dictionary found.named.id)) (sym is) ∙ same_kind_self (type_of dictionary found.named.id)
+
+    comparand_fits : Suits (λ x. against x) (ComparandIs dictionary found.named)
+    comparand_fits p x rest h = comparand_of_suits h.0 (written_holds dictionary found.named p h.0 h.1 h.2) h.1 x rest h.3
 
   compared_from_fits : (found : Reference) (o : Option Relation) (p : Place) → Suits (cond_suits dictionary) (ComparedFrom dictionary found o p)
   compared_from_fits found None p after c rest h = ap (cond_suits dictionary) h.0 ∙ fits_Present found.list found.named.id
   compared_from_fits found (Some relation) p after c rest h =
       ap (cond_suits dictionary) h.3.0 ∙ fits_Compare (comparison_of dictionary found relation h.0)
       ∙ both_true (same_kind (type_of dictionary found.named.id) (type_of dictionary found.named.id)) (comparand_suits dictionary (comparison_of dictionary found relation h.0) h.0) (same_kind_self (type_of dictionary found.named.id))
-      (comparand_from_suits found relation h.0 (next_token after).0 (next_token after).1 h.0 h.1 h.2)
+      (comparand_fits found relation h.0 after h.0 h.1 h.2)
 
   compared_fits : (found : Reference) → Suits (cond_suits dictionary) (ComparedIs dictionary found)
   compared_fits found p c rest h = compared_from_fits found (relation_of (next_token p).0) p (next_token p).1 c rest h

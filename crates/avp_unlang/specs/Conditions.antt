@@ -3,14 +3,15 @@ use Rattle.std.specs.Prelude.{◌≡◌, ℕ, zero, suc, Bool, false, not, ◌&&
 use Rattle.std.specs.Option.{option_and_then, option_map}
 use Rattle.avp_lists.specs.declared.pairs.Value.{Value}
 use Rattle.avp_dict.specs.declared.entries.Named.{Named}
-use Rattle.avp_dict.specs.declared.value.quotes.QuoteMark.TheVariants.{Double, Single}
 use Rattle.avp_dict.specs.Dictionary.{Dictionary}
-use Rattle.avp_dict.specs.Quotes.{double_quoted_octets, single_quoted_octets}
+use Rattle.avp_dict.specs.Quotes.{double_quoted_octets}
 use Rattle.avp_unlang.specs.declared.codes.Code.{Code}
 use Rattle.avp_unlang.specs.declared.text.references.Reference.{Reference}
 use Rattle.avp_unlang.specs.declared.text.tokens.Sign.TheVariants as sign
 use Rattle.avp_unlang.specs.declared.text.tokens.Token.{Token}
-use Rattle.avp_unlang.specs.declared.text.tokens.Token.TheVariants.{Operator, Word, Quoted}
+use Rattle.avp_unlang.specs.declared.text.tokens.Token.TheVariants.{Operator, Word}
+use Rattle.avp_unlang.specs.declared.text.values.Written.{Written}
+use Rattle.avp_unlang.specs.declared.text.values.Written.TheVariants as written
 use Rattle.avp_unlang.specs.declared.tree.Comparand.{Comparand}
 use Rattle.avp_unlang.specs.declared.tree.Comparand.TheVariants.{Literal, Instance}
 use Rattle.avp_unlang.specs.declared.tree.Comparison.{Comparison}
@@ -21,10 +22,10 @@ use Rattle.avp_unlang.specs.declared.tree.Relation.TheVariants as relation
 use Rattle.avp_unlang.specs.Forms.{Form, Becomes, Chain, Gives, ◌>>◌, ◌>>=◌}
 use Rattle.avp_unlang.specs.Octets.{backslash, left_brace, percent}
 use Rattle.avp_unlang.specs.Places.{Place}
-use Rattle.avp_unlang.specs.References.{AlikeIs, ReadableIs, readable, type_of}
-use Rattle.avp_unlang.specs.Sources.{literal}
+use Rattle.avp_unlang.specs.References.{ReadableIs, readable, type_of}
 use Rattle.avp_unlang.specs.Between.{Follows}
 use Rattle.avp_unlang.specs.Tokens.{next_token}
+use Rattle.avp_unlang.specs.Values.{WrittenIs, literal}
 use Rattle.avp_unlang.specs.Words.{code_named}
 
 -- ---- comparisons
@@ -58,22 +59,17 @@ plain_octets text = if has_expansion false text then None else Some (double_quot
 abbrev pub plain_literal : Dictionary → Named → List ℕ → Option Value
 plain_literal dictionary name text = option_and_then (literal dictionary name) (plain_octets text)
 
--- what an attribute is compared with: a literal by its type, or after `&` a reference to values of its type
-abbrev pub ComparandFrom : Dictionary → Named → Token → Form Place Comparand
-ComparandFrom dictionary name (Word text) after x rest =
-    Becomes (option_map Literal (literal dictionary name text)) after x rest
-ComparandFrom dictionary name (Quoted Single text) after x rest =
-    Becomes (option_map Literal (literal dictionary name (single_quoted_octets text))) after x rest
-ComparandFrom dictionary name (Quoted Double text) after x rest =
-    Becomes (option_map Literal (plain_literal dictionary name text)) after x rest
-ComparandFrom dictionary name (Operator sign.Reference) after x rest =
-    (found : Reference) × AlikeIs dictionary name.id after found rest
-    × (x ≡ Instance found.list found.named.id)
-ComparandFrom dictionary name _ after x rest = ⊥
+-- what an attribute is compared with: a written value, where no value is put into a text between double quotes
+abbrev pub ComparandOf : Dictionary → Named → Written → Form Place Comparand
+ComparandOf dictionary name (written.Literal value) p x rest = Gives (Literal value) p x rest
+ComparandOf dictionary name (written.Double text) p x rest =
+    Becomes (option_map Literal (plain_literal dictionary name text)) p x rest
+ComparandOf dictionary name (written.Instance list id) p x rest = Gives (Instance list id) p x rest
 
 abbrev pub ComparandIs : Dictionary → Named → Form Place Comparand
-ComparandIs dictionary name p x rest =
-    ComparandFrom dictionary name (next_token p).0 (next_token p).1 x rest
+ComparandIs dictionary name = do
+  x ← WrittenIs dictionary name
+  ComparandOf dictionary name x
 
 abbrev pub comparison_of : Dictionary → Reference → Relation → Comparand → Comparison
 comparison_of dictionary found relation x = record {

@@ -17,5 +17,6 @@ pub mod Statements
 pub mod Suiting
 pub mod Tokens
 pub mod Truth
+pub mod Values
 pub mod Words
 pub mod formers

@@ -1,42 +1,27 @@
 -- What an update line sets its attribute to, and how it is spelled.
-use Rattle.std.specs.Prelude.{◌≡◌, ℕ, Bool, true, false, List, [], ◌∷◌, Option, Some, None, if◌then◌else◌}
-use Rattle.std.specs.Option.{option_and_then, option_map}
-use Rattle.std.specs.Result.{result_ok}
-use Rattle.avp_lists.specs.declared.pairs.Value.{Value}
+use Rattle.std.specs.Prelude.{◌≡◌, ℕ, Bool, true, false, List, [], ◌∷◌, Option, Some, None}
+use Rattle.std.specs.Option.{option_map}
 use Rattle.avp_lists.specs.declared.edits.Op.{Op}
 use Rattle.avp_lists.specs.declared.edits.Op.TheVariants as op
 use Rattle.avp_dict.specs.declared.entries.Named.{Named}
-use Rattle.avp_dict.specs.declared.value.quotes.QuoteMark.TheVariants.{Double, Single}
 use Rattle.avp_dict.specs.Dictionary.{Dictionary}
-use Rattle.avp_dict.specs.Limits.{fits}
-use Rattle.avp_dict.specs.Quotes.{single_quoted_octets}
-use Rattle.avp_dict.specs.Requests.{pair_with}
 use Rattle.avp_dict.specs.Sent.{is_container}
-use Rattle.avp_dict.specs.Spellings.{is_barred, value_spelled}
-use Rattle.avp_unlang.specs.declared.text.references.Reference.{Reference}
+use Rattle.avp_dict.specs.Spellings.{is_barred}
 use Rattle.avp_unlang.specs.declared.text.tokens.Sign.TheVariants as sign
 use Rattle.avp_unlang.specs.declared.text.tokens.Token.{Token}
 use Rattle.avp_unlang.specs.declared.text.tokens.Token.TheVariants.{Operator, Word, Quoted}
+use Rattle.avp_unlang.specs.declared.text.values.Written.{Written}
+use Rattle.avp_unlang.specs.declared.text.values.Written.TheVariants as written
 use Rattle.avp_unlang.specs.declared.tree.Part.{Part}
 use Rattle.avp_unlang.specs.declared.tree.Part.TheVariants as part
 use Rattle.avp_unlang.specs.declared.tree.Source.{Source}
 use Rattle.avp_unlang.specs.declared.tree.Source.TheVariants.{Literal, Text, Instance, Any}
-use Rattle.avp_unlang.specs.Forms.{Form, Step, Becomes}
+use Rattle.avp_unlang.specs.Forms.{Form, Step, Gives, ◌>>=◌}
 use Rattle.avp_unlang.specs.Parts.{PartsAre}
 use Rattle.avp_unlang.specs.Places.{Place}
-use Rattle.avp_unlang.specs.References.{AlikeIs}
 use Rattle.avp_unlang.specs.Between.{Follows}
 use Rattle.avp_unlang.specs.Tokens.{next_token}
-
--- ---- literals
-
-abbrev pub fitting : Dictionary → Named → Value → Option Value
-fitting dictionary name value = if fits (pair_with name value) dictionary then Some value else None
-
--- the value that a text stands for under a name; it fits the name's attribute
-unfoldable pub literal : Dictionary → Named → List ℕ → Option Value
-literal dictionary name text =
-    option_and_then (fitting dictionary name) (result_ok (value_spelled name text dictionary))
+use Rattle.avp_unlang.specs.Values.{WrittenIs, literal}
 
 -- ---- texts between double quotes
 
@@ -60,23 +45,18 @@ FilledIs dictionary name text source =
 
 -- ---- sources
 
--- by its first token: a literal, a text with parts, or after `&` a reference to values of the name's type
-abbrev pub ValueFrom : Dictionary → Named → Token → Form Place Source
-ValueFrom dictionary name (Word text) after source rest =
-    Becomes (option_map Literal (literal dictionary name text)) after source rest
-ValueFrom dictionary name (Quoted Single text) after source rest =
-    Becomes (option_map Literal (literal dictionary name (single_quoted_octets text)))
-    after source rest
-ValueFrom dictionary name (Quoted Double text) after source rest =
-    FilledIs dictionary name text source × (rest ≡ after)
-ValueFrom dictionary name (Operator sign.Reference) after source rest =
-    (found : Reference) × AlikeIs dictionary name.id after found rest
-    × (source ≡ Instance found.list found.named.id)
-ValueFrom dictionary name _ after source rest = ⊥
+-- the source that a written value is; a text between double quotes is read as parts
+abbrev pub SourceOf : Dictionary → Named → Written → Form Place Source
+SourceOf dictionary name (written.Literal value) p source rest = Gives (Literal value) p source rest
+SourceOf dictionary name (written.Double text) p source rest =
+    FilledIs dictionary name text source × (rest ≡ p)
+SourceOf dictionary name (written.Instance list id) p source rest =
+    Gives (Instance list id) p source rest
 
 abbrev pub ValueIs : Dictionary → Named → Form Place Source
-ValueIs dictionary name p source rest =
-    ValueFrom dictionary name (next_token p).0 (next_token p).1 source rest
+ValueIs dictionary name = do
+  x ← WrittenIs dictionary name
+  SourceOf dictionary name x
 
 -- a source by its tokens alone
 abbrev pub IgnoredFrom : Token → Step Place

@@ -43,6 +43,13 @@ pub struct PolicyFault {
     pub kind: PolicyKind,
 }
 
+/// The fault of this kind at this line.
+pub(crate) fn fault_at(line: usize, kind: PolicyKind) -> PolicyFault
+    ensures { result.kind ≡ kind }
+{
+    PolicyFault { line, kind }
+}
+
 // Want of memory belongs to no line.
 impl From<AllocError> for PolicyFault {
     ghost from_gives = { λ _ fault. fault.kind ≡ Memory };

@@ -9,3 +9,4 @@ pub mod references;
 pub mod sources;
 pub mod statements;
 pub mod tokens;
+pub mod values;

@@ -8,12 +8,12 @@ ghost use Rattle.avp_unlang.specs.declared.faults.PolicyKind.TheVariants.{Memory
 
 use crate::boxed::Boxed;
 use crate::codes::code_named;
-use crate::faults::{PolicyFault, PolicyKind};
+use crate::faults::{PolicyFault, PolicyKind, fault_at};
 use crate::items::Items;
 use crate::text::cursors::{Cursor, Read};
-use crate::text::references::{Reference, alike, readable, referred, type_of};
-use crate::text::sources::{SourceLines, literal, quoted_literal};
+use crate::text::references::{Reference, readable, referred, type_of};
 use crate::text::tokens::{Excerpt, Sign, Token, front};
+use crate::text::values::{ValueLines, Written, quoted_literal, value_written};
 use crate::tree::{Comparand, Comparison, Cond, Relation};
 use avp_dict::{Dictionary, Named, QuoteMark};
 use avp_lists::Value;
@@ -51,16 +51,11 @@ fn has_expansion(text: &[u8]) -> bool
 }
 
 // The fault of an expansion in a condition; that the name is not writable comes first.
-fn expansion_fault(dictionary: &Dictionary, named: Named, lines: SourceLines) -> PolicyFault {
+fn expansion_fault(dictionary: &Dictionary, named: Named, lines: ValueLines) -> PolicyFault {
     if dictionary.is_barred(named) {
-        return PolicyFault {
-            line: lines.name,
-            kind: PolicyKind::NotWritable,
-        };
-    }
-    PolicyFault {
-        line: lines.source,
-        kind: PolicyKind::Unreadable,
+        fault_at(lines.name, PolicyKind::NotWritable)
+    } else {
+        fault_at(lines.value, PolicyKind::Unreadable)
     }
 }
 
@@ -70,7 +65,7 @@ fn plain_literal(
     dictionary: &Dictionary,
     named: Named,
     text: &Excerpt,
-    lines: SourceLines,
+    lines: ValueLines,
 ) -> Result<Value, PolicyFault>
     ensures ok { IfOk result (λ value. plain_literal dictionary.now named text.now ≡ Some value) }
     ensures err { IfErr result (λ fault. fault.kind ≢ Memory
@@ -93,29 +88,18 @@ fn comparand<'a>(
     ensures read { Reads (ComparandIs dictionary.now named at.now) result }
     ensures shorter { IfOk result (λ x. length x.1.text ≤ length at.now.text) }
 {
-    let (token, after) = at.next();
-    let lines = SourceLines {
+    let lines = ValueLines {
         name: name_line,
-        source: after.line(),
+        value: at.next().1.line(),
     };
-    match token {
-        Token::Word(text) => {
-            let value = literal(alloc, dictionary, named, text.as_slice(), lines)?;
-            Ok((Comparand::Literal(value), after))
-        }
-        Token::Quoted(QuoteMark::Single, text) => {
-            let value = quoted_literal(alloc, dictionary, named, QuoteMark::Single, &text, lines)?;
-            Ok((Comparand::Literal(value), after))
-        }
-        Token::Quoted(QuoteMark::Double, text) => {
+    let (written, rest) = value_written(alloc, dictionary, named, lines, at)?;
+    match written {
+        Written::Literal(value) => Ok((Comparand::Literal(value), rest)),
+        Written::Double(text) => {
             let value = plain_literal(alloc, dictionary, named, &text, lines)?;
-            Ok((Comparand::Literal(value), after))
+            Ok((Comparand::Literal(value), rest))
         }
-        Token::Operator(Sign::Reference) => {
-            let (other, rest) = alike(dictionary, named.id, &after)?;
-            Ok((Comparand::Instance(other.list, other.named.id), rest))
-        }
-        _ => Err(at.misplaced()),
+        Written::Instance(list, id) => Ok((Comparand::Instance(list, id), rest)),
     }
 }
 

@@ -1,20 +1,15 @@
-use Rattle.std.proofs.Common.{◌≡◌, rules}
-use Rattle.avp_dict.specs.declared.value.quotes.QuoteMark.TheVariants.{Double}
-use Rattle.avp_unlang.specs.Sources.{ValueIs}
-use Rattle.avp_unlang.specs.declared.text.tokens.Token.TheVariants.{Operator, Quoted}
-use Rattle.avp_unlang.specs.declared.text.tokens.Sign.TheVariants.{Reference}
-use Rattle.avp_unlang.proofs.Determined.{exits}
-use Rattle.avp_unlang.proofs.LinesOne.{double_refused, reference_refused}
+use Rattle.avp_unlang.specs.Sources.{SourceOf, ValueIs}
+use Rattle.avp_unlang.specs.Values.{WrittenIs}
+use Rattle.avp_unlang.proofs.Determined.{exits, then_stops}
+use Rattle.avp_unlang.proofs.LinesOne.{double_refused}
 use Rattle.avp_unlang.proofs.text.sources.value_source.Goals as goal
 
-pub returns-in_err-source-in-Quoted-Double-default-clause-read : goal.returns-in_err-source-in-Quoted-Double-default-clause-read
-returns-in_err-source-in-Quoted-Double-default-clause-read c =
-    let first : c.next-token.result.0 ≡ Quoted Double c.in-Quoted-Double-default.text = search rules in
-    exits (ValueIs c.args.dictionary.now c.args.named c.args.at.now) _ _ c.from_residual-in_err-source-in-Quoted-Double-default.ensures.1
-    (double_refused c.args.dictionary.now c.args.named c.args.at.now c.next-token.result c.in-Quoted-Double-default.text c.in_err-source-in-Quoted-Double-default.field-0.0 c.next-token.ensures.same first c.in_err-source-in-Quoted-Double-default.ensures)
+pub returns-in_err-written-clause-read : goal.returns-in_err-written-clause-read
+returns-in_err-written-clause-read c =
+    exits (ValueIs c.args.dictionary.now c.args.named c.args.at.now) _ _ c.from_residual.ensures.1
+    (then_stops (WrittenIs c.args.dictionary.now c.args.named) (SourceOf c.args.dictionary.now c.args.named) c.args.at.now c.in_err-written.field-0.0 c.in_err-written.ensures.read)
 
-pub returns-in_err-other-in-Operator-Reference-clause-read : goal.returns-in_err-other-in-Operator-Reference-clause-read
-returns-in_err-other-in-Operator-Reference-clause-read c =
-    let first : c.next-token.result.0 ≡ Operator Reference = search rules in
-    exits (ValueIs c.args.dictionary.now c.args.named c.args.at.now) _ _ c.from_residual-in_err-other-in-Operator-Reference.ensures.1
-    (reference_refused c.args.dictionary.now c.args.named c.args.at.now c.next-token.result c.in_err-other-in-Operator-Reference.field-0.0 c.next-token.ensures.same first c.in_err-other-in-Operator-Reference.ensures.read)
+pub returns-in_err-source-in-Double-clause-read : goal.returns-in_err-source-in-Double-clause-read
+returns-in_err-source-in-Double-clause-read c =
+    exits (ValueIs c.args.dictionary.now c.args.named c.args.at.now) _ _ c.from_residual-in_err-source-in-Double.ensures.1
+    (double_refused c.args.dictionary.now c.args.named c.args.at.now c.in_ok-written.written c.in_ok-written.rest c.in-Double.text c.in_err-source-in-Double.field-0.0 c.in_ok-written.ensures.read c.in-Double.is c.in_err-source-in-Double.ensures)

@@ -1,0 +1,49 @@
+-- Values as they are written: literals, texts between double quotes, and references.
+use Rattle.std.specs.Prelude.{◌≡◌, ℕ, List, Option, Some, None, if◌then◌else◌}
+use Rattle.std.specs.Option.{option_and_then, option_map}
+use Rattle.std.specs.Result.{result_ok}
+use Rattle.avp_lists.specs.declared.pairs.Value.{Value}
+use Rattle.avp_dict.specs.declared.entries.Named.{Named}
+use Rattle.avp_dict.specs.declared.value.quotes.QuoteMark.TheVariants as quote
+use Rattle.avp_dict.specs.Dictionary.{Dictionary}
+use Rattle.avp_dict.specs.Limits.{fits}
+use Rattle.avp_dict.specs.Quotes.{single_quoted_octets}
+use Rattle.avp_dict.specs.Requests.{pair_with}
+use Rattle.avp_dict.specs.Spellings.{value_spelled}
+use Rattle.avp_unlang.specs.declared.text.references.Reference.{Reference}
+use Rattle.avp_unlang.specs.declared.text.tokens.Sign.TheVariants as sign
+use Rattle.avp_unlang.specs.declared.text.tokens.Token.{Token}
+use Rattle.avp_unlang.specs.declared.text.tokens.Token.TheVariants.{Operator, Word, Quoted}
+use Rattle.avp_unlang.specs.declared.text.values.Written.{Written}
+use Rattle.avp_unlang.specs.declared.text.values.Written.TheVariants.{Literal, Double, Instance}
+use Rattle.avp_unlang.specs.Forms.{Form, Becomes, Gives}
+use Rattle.avp_unlang.specs.Places.{Place}
+use Rattle.avp_unlang.specs.References.{AlikeIs}
+use Rattle.avp_unlang.specs.Tokens.{next_token}
+
+abbrev pub fitting : Dictionary → Named → Value → Option Value
+fitting dictionary name value = if fits (pair_with name value) dictionary then Some value else None
+
+-- the value that a text stands for under a name; it fits the name's attribute
+unfoldable pub literal : Dictionary → Named → List ℕ → Option Value
+literal dictionary name text =
+    option_and_then (fitting dictionary name) (result_ok (value_spelled name text dictionary))
+
+-- by its first token: a literal, a text between double quotes as it is, or after `&` a reference to values of the name's
+-- type
+abbrev pub WrittenFrom : Dictionary → Named → Token → Form Place Written
+WrittenFrom dictionary name (Word text) after written rest =
+    Becomes (option_map Literal (literal dictionary name text)) after written rest
+WrittenFrom dictionary name (Quoted quote.Single text) after written rest =
+    Becomes (option_map Literal (literal dictionary name (single_quoted_octets text)))
+    after written rest
+WrittenFrom dictionary name (Quoted quote.Double text) after written rest =
+    Gives (Double text) after written rest
+WrittenFrom dictionary name (Operator sign.Reference) after written rest =
+    (found : Reference) × AlikeIs dictionary name.id after found rest
+    × (written ≡ Instance found.list found.named.id)
+WrittenFrom dictionary name _ after written rest = ⊥
+
+abbrev pub WrittenIs : Dictionary → Named → Form Place Written
+WrittenIs dictionary name p written rest =
+    WrittenFrom dictionary name (next_token p).0 (next_token p).1 written rest

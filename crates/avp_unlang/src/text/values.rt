@@ -1,0 +1,124 @@
+//! Values as policy texts write them.
+
+ghost use Rattle.std.specs.Prelude.{◌≡◌, ◌≢◌, ◌≤◌, length, Some, None, IfOk, IfErr};
+ghost use Rattle.avp_dict.specs.declared.value.faults.ValueFault.TheVariants as value_faults;
+ghost use Rattle.avp_dict.specs.Quotes.{octets_between};
+ghost use Rattle.avp_unlang.specs.Forms.{Reads};
+ghost use Rattle.avp_unlang.specs.Values.{WrittenIs, literal};
+ghost use Rattle.avp_unlang.specs.declared.faults.PolicyKind.TheVariants.{Memory};
+
+use crate::faults::{PolicyFault, PolicyKind, fault_at};
+use crate::text::cursors::{Cursor, Read};
+use crate::text::references::alike;
+use crate::text::tokens::{Excerpt, Sign, Token};
+use avp_dict::{Dictionary, Named, QuoteMark, ValueFault, octets_between};
+use avp_lists::{AttrId, List, Pair, Value};
+use std::alloc::{AllocError, Global};
+
+/// A value as it is written for an attribute.
+#[derive(Debug, Drop)]
+pub(crate) enum Written<'a> {
+    /// A value of the attribute's type.
+    Literal(Value),
+    /// The octets between double quotes, as they are in the text: an update line reads them in another way than a
+    /// condition.
+    Double(Excerpt<'a>),
+    /// `&list:name`: the first instance of an attribute.
+    Instance(List, AttrId),
+}
+
+/// The lines of a name and of the value that is written for it.
+#[derive(Clone, Copy, Debug)]
+pub(crate) struct ValueLines {
+    pub name: usize,
+    pub value: usize,
+}
+
+// The fault of a value's text; want of memory belongs to no line.
+fn value_fault(fault: ValueFault, lines: ValueLines) -> PolicyFault
+    ensures { fault ≡ value_faults.Memory → result.kind ≡ Memory }
+{
+    match fault {
+        ValueFault::NotWritable => fault_at(lines.name, PolicyKind::NotWritable),
+        ValueFault::NotValue => fault_at(lines.value, PolicyKind::NotValue),
+        ValueFault::TooLong => fault_at(lines.value, PolicyKind::TooLong),
+        ValueFault::Memory => PolicyFault::from(AllocError),
+    }
+}
+
+/// The value that a text stands for under a name.
+#[tactic(auto, unfolding(crate::specs::Values::literal))]
+pub(crate) fn literal(
+    alloc: Global,
+    dictionary: &Dictionary,
+    named: Named,
+    text: &[u8],
+    lines: ValueLines,
+) -> Result<Value, PolicyFault>
+    ensures ok { IfOk result (λ value. literal dictionary.now named text.now ≡ Some value) }
+    ensures err { IfErr result (λ fault. fault.kind ≢ Memory
+        → literal dictionary.now named text.now ≡ None) }
+{
+    match dictionary.value_of_text(alloc, named, text) {
+        Ok(value) => {
+            let pair = Pair {
+                id: named.id,
+                value,
+            };
+            if dictionary.fits(&pair) {
+                Ok(pair.value)
+            } else {
+                Err(fault_at(lines.value, PolicyKind::NotValue))
+            }
+        }
+        Err(fault) => Err(value_fault(fault, lines)),
+    }
+}
+
+/// The value that a text between quotes stands for under a name.
+pub(crate) fn quoted_literal(
+    alloc: Global,
+    dictionary: &Dictionary,
+    named: Named,
+    mark: QuoteMark,
+    text: &Excerpt,
+    lines: ValueLines,
+) -> Result<Value, PolicyFault>
+    ensures ok { IfOk result (λ value. literal dictionary.now named (octets_between mark text.now)
+        ≡ Some value) }
+    ensures err { IfErr result (λ fault. fault.kind ≢ Memory
+        → literal dictionary.now named (octets_between mark text.now) ≡ None) }
+{
+    let octets = octets_between(alloc, mark, text.as_slice())?;
+    literal(alloc, dictionary, named, &octets, lines)
+}
+
+/// What is written for the attribute of a name.
+pub(crate) fn value_written<'a>(
+    alloc: Global,
+    dictionary: &Dictionary,
+    named: Named,
+    lines: ValueLines,
+    at: &Cursor<'a>,
+) -> Read<'a, Written<'a>>
+    ensures read { Reads (WrittenIs dictionary.now named at.now) result }
+    ensures shorter { IfOk result (λ x. length x.1.text ≤ length at.now.text) }
+{
+    let (token, after) = at.next();
+    match token {
+        Token::Word(text) => {
+            let value = literal(alloc, dictionary, named, text.as_slice(), lines)?;
+            Ok((Written::Literal(value), after))
+        }
+        Token::Quoted(QuoteMark::Single, text) => {
+            let value = quoted_literal(alloc, dictionary, named, QuoteMark::Single, &text, lines)?;
+            Ok((Written::Literal(value), after))
+        }
+        Token::Quoted(QuoteMark::Double, text) => Ok((Written::Double(text), after)),
+        Token::Operator(Sign::Reference) => {
+            let (other, rest) = alike(dictionary, named.id, &after)?;
+            Ok((Written::Instance(other.list, other.named.id), rest))
+        }
+        _ => Err(at.misplaced()),
+    }
+}
