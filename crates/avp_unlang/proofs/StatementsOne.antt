@@ -174,17 +174,17 @@ module _ (dictionary : Dictionary) where
   one_policy text xs ys h g = (while_one begins_word (Nested dictionary 65) (nested_one 65) (start_of text) xs ys h.0 g.0 h.2 g.2).0
 
   -- statements up to the end of a text, and up to another token
-  pub policy_ends : (text : List ℕ) (p : Place) (statements : List Statement) (end : Place) (q : Token × Place) → p ≡ start_of text → While begins_word (Nested dictionary 65) p statements end
-      → q ≡ next_token end → q.0 ≡ token.End → SpellsPolicy dictionary text statements
-  policy_ends text p statements end q start read is last =
-      (end, q.1, subst (λ k. While begins_word (Nested dictionary 65) k statements end) start read, sym is ∙ ap (λ (t : Token). (t, q.1)) last)
+  pub policy_ends : (text : List ℕ) (p : Place) (statements : List Statement) (end : Place) (next : Token) → p ≡ start_of text → While begins_word (Nested dictionary 65) p statements end
+      → next ≡ (next_token end).0 → next ≡ token.End → SpellsPolicy dictionary text statements
+  policy_ends text p statements end next start read is last =
+      (end, (next_token end).1, subst (λ k. While begins_word (Nested dictionary 65) k statements end) start read, ap (λ (t : Token). (t, (next_token end).1)) (sym is ∙ last))
 
-  pub policy_goes_on : (text : List ℕ) (p : Place) (statements : List Statement) (end : Place) (q : Token × Place) → p ≡ start_of text → While begins_word (Nested dictionary 65) p statements end
-      → q ≡ next_token end → (q.0 ≡ token.End → ⊥) → (others : List Statement) → SpellsPolicy dictionary text others → ⊥
-  policy_goes_on text p statements end q start read is last others h =
+  pub policy_goes_on : (text : List ℕ) (p : Place) (statements : List Statement) (end : Place) (next : Token) → p ≡ start_of text → While begins_word (Nested dictionary 65) p statements end
+      → next ≡ (next_token end).0 → (next ≡ token.End → ⊥) → (others : List Statement) → SpellsPolicy dictionary text others → ⊥
+  policy_goes_on text p statements end next start read is last others h =
       let mine = subst (λ k. While begins_word (Nested dictionary 65) k statements end) start read in
       let at = while_one begins_word (Nested dictionary 65) (nested_one 65) (start_of text) others statements h.0 end h.2 mine in
-      last (ap (λ (t : Token × Place). t.0) (is ∙ subst (λ k. next_token k ≡ (token.End, h.1)) at.1 h.3))
+      last (is ∙ ap (λ (t : Token × Place). t.0) (subst (λ k. next_token k ≡ (token.End, h.1)) at.1 h.3))
 
   pub policy_refused : (text : List ℕ) (p : Place) (e : PolicyFault) → p ≡ start_of text → Refuses (While begins_word (Nested dictionary 65) p) e
       → e.kind ≢ Memory → (statements : List Statement) → SpellsPolicy dictionary text statements → ⊥

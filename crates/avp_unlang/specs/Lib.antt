@@ -20,3 +20,4 @@ pub mod Truth
 pub mod Values
 pub mod Words
 pub mod formers
+pub mod internal

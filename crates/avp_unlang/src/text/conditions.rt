@@ -90,7 +90,7 @@ fn comparand<'a>(
 {
     let lines = ValueLines {
         name: name_line,
-        value: at.next().1.line(),
+        value: at.token_line(),
     };
     let (written, rest) = value_written(alloc, dictionary, named, lines, at)?;
     match written {
@@ -114,10 +114,10 @@ fn compared<'a>(
     ensures read { Reads (ComparedIs dictionary.now found at.entry) result }
     ensures shorter { IfOk result (λ x. length x.1.text ≤ length at.entry.text) }
 {
-    let (token, after) = at.next();
-    match relation_of(&token) {
+    match relation_of(at.token()) {
         None => Ok((Cond::Present(found.list, found.named.id), at)),
         Some(relation) => {
+            let after = at.after();
             let (comparand, rest) = comparand(alloc, dictionary, found.named, name_line, &after)?;
             let comparison = Comparison {
                 list: found.list,

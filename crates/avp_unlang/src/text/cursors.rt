@@ -7,28 +7,32 @@ ghost use Rattle.avp_unlang.specs.Places.{Place, start_of, counted};
 ghost use Rattle.avp_unlang.specs.Between.{Counts, Follows};
 ghost use Rattle.avp_unlang.specs.declared.text.tokens.Token.TheVariants.{End, Operator, Word};
 
-use crate::faults::{PolicyFault, PolicyKind};
+use crate::faults::{PolicyFault, PolicyKind, fault_at};
 use crate::text::tokens::{Sign, Token, front, token_at};
 use std::marker::Model;
 
 /// A place in a policy text: what is left of it, on which line that begins, and how much may still be added to the
-/// policy's size.
+/// policy's size. The next token is found once, when the place is made.
 #[derive(Debug, Drop)]
 pub(crate) struct Cursor<'a> {
     text: &'a [u8],
     line: usize,
     room: usize,
+    // The next token, its line and the text after it.
+    token: Token<'a>,
+    token_line: usize,
+    rest: &'a [u8],
 }
 
 impl<'a> Model for Cursor<'a> {
-    ghost use Rattle.std.specs.Prelude.{◌+◌, ◌<◌, ◌^◌, length};
     ghost use Rattle.avp_unlang.specs.Places.{Place};
+    ghost use Rattle.avp_unlang.specs.internal.Cursors.{IsAhead};
 
     ghost Value = { Place };
 
     ghost view = { λ c. record { text = c.text.now; line = c.line; room = c.room } };
 
-    ghost invariant = { λ c. c.line + length c.text.now < 2 ^ 64 };
+    ghost invariant = { λ c. IsAhead c.text.now c.line c.token c.token_line c.rest.now };
 }
 
 /// What a reader answers: what it read, and the place after it.
@@ -76,15 +80,28 @@ fn skip(line: usize, text: &[u8]) -> (usize, &[u8])
 pub(crate) const MAX_SIZE: usize = 65_535;
 
 impl<'a> Cursor<'a> {
+    // A place from its text on.
+    fn at(text: &'a [u8], line: usize, room: usize) -> Cursor<'a>
+        requires { line + length text.now < 2 ^ 64 }
+        ensures { result ≡ record { text = text.now; line = line; room = room } }
+    {
+        let (token_line, start) = skip(line, text);
+        let (token, rest) = token_at(start);
+        Cursor {
+            text,
+            line,
+            room,
+            token,
+            token_line,
+            rest,
+        }
+    }
+
     /// The beginning of a text.
     pub(crate) fn new(text: &'a [u8]) -> Cursor<'a>
         ensures { result ≡ start_of text.now }
     {
-        Cursor {
-            text,
-            line: 1,
-            room: MAX_SIZE,
-        }
+        Cursor::at(text, 1, MAX_SIZE)
     }
 
     /// How much may still be added to the size.
@@ -96,31 +113,25 @@ impl<'a> Cursor<'a> {
 
     /// The same place after so much is added to the size; none where that is too much.
     #[tactic(auto, unfolding(crate::specs::Places::counted))]
-    fn counted(&self, count: usize) -> Option<Cursor<'a>>
-        ensures value { result ≡ counted count self.now }
-        ensures same { IfSome result (λ start. start.text ≡ self.now.text) }
+    fn counted(self, count: usize) -> Option<Cursor<'a>>
+        ensures value { result ≡ counted count self.entry }
+        ensures same { IfSome result (λ start. start.text ≡ self.entry.text) }
     {
         if count > self.room {
             return None;
         }
-        Some(Cursor {
-            text: self.text,
-            line: self.line,
-            room: self.room - count,
-        })
+        let room = self.room - count;
+        Some(Cursor { room, ..self })
     }
 
     /// The same place after so much is added to the size. A fault is at this line.
-    pub(crate) fn count(&self, count: usize, line: usize) -> Result<Cursor<'a>, PolicyFault>
-        ensures taken { Takes (Counts count self.now) result }
-        ensures same { IfOk result (λ start. start.text ≡ self.now.text) }
+    pub(crate) fn count(self, count: usize, line: usize) -> Result<Cursor<'a>, PolicyFault>
+        ensures taken { Takes (Counts count self.entry) result }
+        ensures same { IfOk result (λ start. start.text ≡ self.entry.text) }
     {
         match self.counted(count) {
             Some(start) => Ok(start),
-            None => Err(PolicyFault {
-                line,
-                kind: PolicyKind::TooLarge,
-            }),
+            None => Err(fault_at(line, PolicyKind::TooLarge)),
         }
     }
 
@@ -131,32 +142,50 @@ impl<'a> Cursor<'a> {
         self.line
     }
 
-    /// The next token, and the place after it.
+    /// The next token.
     #[tactic(auto, unfolding(crate::specs::Tokens::next_token))]
+    pub(crate) fn token(&self) -> &Token<'a>
+        ensures { result.now ≡ (next_token self.now).0 }
+    {
+        &self.token
+    }
+
+    /// The line of the next token.
+    #[tactic(auto, unfolding(crate::specs::Tokens::next_token))]
+    pub(crate) fn token_line(&self) -> usize
+        ensures { result ≡ (next_token self.now).1.line }
+    {
+        self.token_line
+    }
+
+    /// The place after the next token. It finds the token that follows.
+    #[tactic(auto, unfolding(crate::specs::Tokens::next_token))]
+    pub(crate) fn after(&self) -> Cursor<'a>
+        ensures follows { Follows (next_token self.now).0 self.now result }
+        ensures within { length result.text ≤ length self.now.text }
+        ensures shorter { (next_token self.now).0 ≢ End
+            → length result.text < length self.now.text }
+    {
+        Cursor::at(self.rest, self.token_line, self.room)
+    }
+
+    /// The next token, and the place after it.
     pub(crate) fn next(&self) -> (Token<'a>, Cursor<'a>)
         ensures same { result ≡ next_token self.now }
         ensures within { length result.1.text ≤ length self.now.text }
         ensures shorter { result.0 ≢ End → length result.1.text < length self.now.text }
     {
-        let (line, start) = skip(self.line, self.text);
-        let (found, text) = token_at(start);
-        let after = Cursor {
-            text,
-            line,
-            room: self.room,
-        };
-        (found, after)
+        (self.token().copy(), self.after())
     }
 
     /// The place after this operator or bracket, if it comes next.
-    #[tactic(auto, unfolding(crate::specs::Tokens::next_token))]
     pub(crate) fn after_sign(&self, sign: Sign) -> Option<Cursor<'a>>
         ensures found { IfSome result (Follows (Operator sign) self.now) }
         ensures none { IfNone result ((rest : Place) → Follows (Operator sign) self.now rest → ⊥) }
         ensures shorter { IfSome result (λ rest. length rest.text < length self.now.text) }
     {
-        match self.next() {
-            (Token::Operator(other), rest) if other == sign => Some(rest),
+        match self.token() {
+            Token::Operator(other) if *other == sign => Some(self.after()),
             _ => None,
         }
     }
@@ -167,9 +196,8 @@ impl<'a> Cursor<'a> {
         ensures none { IfNone result ((rest : Place) → Follows (Word word.now) self.now rest → ⊥) }
         ensures shorter { IfSome result (λ rest. length rest.text < length self.now.text) }
     {
-        let (token, rest) = self.next();
-        match &token {
-            Token::Word(other) if other.as_slice() == word => Some(rest),
+        match self.token() {
+            Token::Word(other) if other.as_slice() == word => Some(self.after()),
             _ => None,
         }
     }
@@ -187,24 +215,17 @@ impl<'a> Cursor<'a> {
 
     /// The fault of a next token that does not fit.
     pub(crate) fn misplaced(&self) -> PolicyFault {
-        let (token, after) = self.next();
-        let kind = match token {
+        let kind = match self.token() {
             Token::Unreadable => PolicyKind::Unreadable,
             _ => PolicyKind::Misplaced,
         };
-        PolicyFault {
-            line: after.line,
-            kind,
-        }
+        fault_at(self.token_line, kind)
     }
 
     /// A fault at this line.
     pub(crate) fn fault(&self, kind: PolicyKind) -> PolicyFault
         ensures { result.kind ≡ kind }
     {
-        PolicyFault {
-            line: self.line,
-            kind,
-        }
+        fault_at(self.line, kind)
     }
 }

@@ -21,8 +21,8 @@ fn after_reference<'a>(at: Cursor<'a>) -> Cursor<'a>
     ensures same { result ≡ after_reference at.entry }
     ensures within { length result.text ≤ length at.entry.text }
 {
-    match at.next() {
-        (Token::Operator(Sign::Reference), after) => after,
+    match at.token() {
+        Token::Operator(Sign::Reference) => at.after(),
         _ => at,
     }
 }
@@ -75,7 +75,7 @@ fn line<'a>(alloc: Global, dictionary: &Dictionary, own: List, at: Cursor<'a>) -
     ensures read { Reads (LineIs dictionary.now own at.entry) result }
     ensures shorter { IfOk result (λ x. length x.1.text < length at.entry.text) }
 {
-    let first = at.next().1.line();
+    let first = at.token_line();
     let start = at.count(1, first)?;
     let (target, mid) = target(dictionary, own, start)?;
     let (op, end) = operator(&mid)?;
@@ -93,10 +93,10 @@ fn line<'a>(alloc: Global, dictionary: &Dictionary, own: List, at: Cursor<'a>) -
 fn begins_line(at: &Cursor) -> bool
     ensures { result ≡ begins_line at.now }
 {
-    match at.next().0 {
-        Token::Operator(Sign::Reference) | Token::Word(_) => true,
-        _ => false,
-    }
+    matches!(
+        at.token(),
+        Token::Operator(Sign::Reference) | Token::Word(_)
+    )
 }
 
 /// The lines of an `update` of this list.

@@ -92,7 +92,7 @@ pub fn read_policy(
 {
     dictionary.is_sound();
     let (statements, end) = statements(alloc, dictionary, MAX_NESTED, Cursor::new(text))?;
-    match end.next().0 {
+    match end.token() {
         Token::End => Ok(Policy {
             statements,
             size: MAX_SIZE - end.room(),

@@ -78,7 +78,7 @@ fn value_source<'a>(
 {
     let lines = ValueLines {
         name: name_line,
-        value: at.next().1.line(),
+        value: at.token_line(),
     };
     let (written, rest) = value_written(alloc, dictionary, named, lines, at)?;
     match written {

@@ -60,10 +60,7 @@ fn keyword_in(token: &Token) -> Keyword
 fn begins_word(at: &Cursor) -> bool
     ensures { result ≡ begins_word at.now }
 {
-    match at.next().0 {
-        Token::Word(_) => true,
-        _ => false,
-    }
+    matches!(at.token(), Token::Word(_))
 }
 
 // The list that is named next, else the request's.
@@ -72,10 +69,9 @@ fn list_at<'a>(at: Cursor<'a>) -> (List, Cursor<'a>)
     ensures same { result ≡ list_at at.entry }
     ensures within { length result.1.text ≤ length at.entry.text }
 {
-    let (token, after) = at.next();
-    if let Token::Word(word) = token {
+    if let Token::Word(word) = at.token() {
         if let Some(list) = list_named(word.as_slice()) {
-            return (list, after);
+            return (list, at.after());
         }
     }
     (List::Request, at)
@@ -119,12 +115,13 @@ fn update<'a>(
 }
 
 // A code, which is on the line of this place.
-fn word<'a>(code: Code, at: &Cursor<'a>) -> Read<'a, Statement>
-    ensures read { Reads (WordOn code at.now.line at.now) result }
-    ensures shorter { IfOk result (λ x. length x.1.text ≤ length at.now.text) }
+fn word<'a>(code: Code, at: Cursor<'a>) -> Read<'a, Statement>
+    ensures read { Reads (WordOn code at.entry.line at.entry) result }
+    ensures shorter { IfOk result (λ x. length x.1.text ≤ length at.entry.text) }
 {
-    let rest = at.count(1, at.line())?;
-    Ok((Statement::Word(at.line(), code), rest))
+    let line = at.line();
+    let rest = at.count(1, line)?;
+    Ok((Statement::Word(line, code), rest))
 }
 
 /// A statement. At most `depth` signs are nested in it.
@@ -143,7 +140,7 @@ fn statement<'a>(
         Keyword::Update => update(alloc, dictionary, depth, after),
         Keyword::If => conditional(alloc, dictionary, depth, after),
         Keyword::Transaction => transaction(alloc, dictionary, depth, after),
-        Keyword::Code(code) => word(code, &after),
+        Keyword::Code(code) => word(code, after),
         Keyword::Other => Err(at.misplaced()),
     }
 }

@@ -86,10 +86,32 @@ impl<'a> Excerpt<'a> {
         Excerpt { octets }
     }
 
+    pub(crate) fn copy(&self) -> Excerpt<'a>
+        ensures { result ≡ self.now }
+    {
+        Excerpt {
+            octets: self.octets,
+        }
+    }
+
     pub(crate) fn as_slice(&self) -> &'a [u8]
         ensures { result.now ≡ self.now }
     {
         self.octets
+    }
+}
+
+impl<'a> Token<'a> {
+    pub(crate) fn copy(&self) -> Token<'a>
+        ensures { result ≡ self.now }
+    {
+        match self {
+            Token::Operator(sign) => Token::Operator(*sign),
+            Token::Word(text) => Token::Word(text.copy()),
+            Token::Quoted(mark, text) => Token::Quoted(*mark, text.copy()),
+            Token::Unreadable => Token::Unreadable,
+            Token::End => Token::End,
+        }
     }
 }
 

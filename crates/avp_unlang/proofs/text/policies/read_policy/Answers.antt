@@ -29,13 +29,13 @@ invariant_of-result c =
 
 pub returns-in-End-clause-read : goal.returns-in-End-clause-read
 returns-in-End-clause-read c =
-    policy_ends c.args.dictionary.now c.args.text.now c.new.result c.in_ok-statements.statements c.in_ok-statements.end c.next.result c.new.ensures c.in_ok-statements.ensures.read c.next.ensures.same c.in-End.is
+    policy_ends c.args.dictionary.now c.args.text.now c.new.result c.in_ok-statements.statements c.in_ok-statements.end c.token.result.now c.new.ensures c.in_ok-statements.ensures.read c.token.ensures c.in-End.is
 
 pub returns-in_default-clause-read : goal.returns-in_default-clause-read
 returns-in_default-clause-read c = λ _.
-    policy_goes_on c.args.dictionary.now c.args.text.now c.new.result c.in_ok-statements.statements c.in_ok-statements.end c.next.result c.new.ensures c.in_ok-statements.ensures.read c.next.ensures.same c.in_default.not-End
+    policy_goes_on c.args.dictionary.now c.args.text.now c.new.result c.in_ok-statements.statements c.in_ok-statements.end c.token.result.now c.new.ensures c.in_ok-statements.ensures.read c.token.ensures c.in_default.not-End
 
 pub returns-in-End-clause-suits : goal.returns-in-End-clause-suits
 returns-in-End-clause-suits c =
     spelled_policy_suits c.args.dictionary.now c.is_sound.ensures.names c.args.text.now c.in_ok-statements.statements
-    (policy_ends c.args.dictionary.now c.args.text.now c.new.result c.in_ok-statements.statements c.in_ok-statements.end c.next.result c.new.ensures c.in_ok-statements.ensures.read c.next.ensures.same c.in-End.is)
+    (policy_ends c.args.dictionary.now c.args.text.now c.new.result c.in_ok-statements.statements c.in_ok-statements.end c.token.result.now c.new.ensures c.in_ok-statements.ensures.read c.token.ensures c.in-End.is)
