@@ -1,15 +1,11 @@
 -- The states of a store go on fitting the dictionary.
-use Rattle.std.proofs.Common.{◌≡◌, ℕ, zero, suc, ◌+◌, ◌<◌, ◌≤◌, Bool, true, false, cond, IsTrue, List, [], ◌∷◌, ◌++◌, Option, None, Some, Ok, Err, filter, length, take, drop, refl, sym, ap, ◌∙◌, subst, arith}
-use Rattle.std.specs.List.{All, list_all, position_or_len}
-use Rattle.std.proofs.lemmas.List.Elements.{All-append, All-drop, All-filter, All-take}
+use Rattle.std.proofs.Common.{◌≡◌, ℕ, zero, suc, ◌+◌, ◌<◌, ◌≤◌, Bool, true, false, cond, IsTrue, List, [], ◌∷◌, ◌++◌, Option, None, Some, Ok, Err, length, take, refl, sym, ap, ◌∙◌, subst, arith}
+use Rattle.std.specs.List.{All, list_all}
+use Rattle.std.proofs.lemmas.List.Elements.{All-append, All-take}
 use Rattle.avp_lists.specs.History.{History, continued, present, state_at}
-use Rattle.avp_lists.specs.Instances.{has_id, has_instance, is_other}
-use Rattle.avp_lists.specs.Operators.{agrees, apply, differs}
 use Rattle.avp_lists.specs.States.{IsFull, edited, edited_list, empty_state, list_of, max_pairs, with_list}
 use Rattle.avp_lists.specs.declared.pairs.Pair.{Pair}
 use Rattle.avp_lists.specs.declared.edits.Edit.{Edit}
-use Rattle.avp_lists.specs.declared.edits.Op.{Op}
-use Rattle.avp_lists.specs.declared.edits.Op.TheVariants.{AddNew, Append, KeepEqual, Prepend, RemoveAll, RemoveEqual, Replace}
 use Rattle.avp_lists.specs.declared.lists.List.{List as Name}
 use Rattle.avp_lists.specs.declared.lists.List.TheVariants.{Control, Reply, Request}
 use Rattle.avp_lists.specs.declared.lists.State.{State}
@@ -25,14 +21,14 @@ use Rattle.avp_step.proofs.Steppings.{added_present}
 use Rattle.avp_step.specs.internal.Stepping.{IsLineDone, StatesFit}
 use Rattle.std.specs.Borrow.{Bor}
 use Rattle.std.specs.Prelude.{◌&&◌}
-use Rattle.avp_unlang.proofs.Comparing.{testable}
+use Rattle.avp_unlang.proofs.Comparing.{and_left, and_right, testable}
+use Rattle.avp_unlang.proofs.KeptReplies.{applied}
 use Rattle.avp_unlang.specs.Suiting.{branch_suits, branches_suit, cond_suits, else_suits, policy_suits}
 use Rattle.avp_unlang.specs.Truth.{comparable}
 use Rattle.avp_unlang.specs.declared.tree.Branch.{Branch, out-Branch}
 use Rattle.avp_unlang.specs.declared.tree.Statement.{Statement}
 use Rattle.avp_unlang.proofs.SpelledSuits.{suits_Branch}
 use Rattle.avp_step.proofs.OpenedFrames.{put_stays}
-use Rattle.avp_unlang.proofs.Comparing.{and_left, and_right}
 use Rattle.avp_step.proofs.StepLaws.{and_assoc, and_true, frames_suit_push}
 use Rattle.avp_step.specs.internal.Frames.{StaysSuited, frame_suits, frames_suit}
 use Rattle.avp_step.specs.declared.frames.Frame.{Frame}
@@ -51,31 +47,9 @@ module _ (d : Dictionary) where
   pub earlier_fits : (h : History) (k : ℕ) → k < length h.states → StatesFit d h → StateFits d (state_at h k)
   earlier_fits h k lt all = all k empty_state lt
 
-one_applies : (d : Dictionary) (p : Pair) → IsTrue (fits p d) → All (λ q. IsTrue (fits q d)) (p ∷ [])
-one_applies d p h zero e within = h
-one_applies d p h (suc k) e within = absurd (omega arith)
-
 module _ (d : Dictionary) where
   abbrev AllFit : List Pair → Type 0
   AllFit pairs = All (λ q. IsTrue (fits q d)) pairs
-
-  appended : (p : Pair) (pairs : List Pair) → IsTrue (fits p d) → AllFit pairs → AllFit (pairs ++ p ∷ [])
-  appended p pairs h all = All-append (λ q. IsTrue (fits q d)) pairs (p ∷ []) all (one_applies d p h)
-
-  -- what an operator makes of pairs that fit
-  applied : (op : Op) (p : Pair) (pairs : List Pair) → IsTrue (fits p d) → AllFit pairs → AllFit (apply op p pairs)
-  applied AddNew p pairs h all = elim (has_instance p.id pairs) as (λ b. AllFit (cond b pairs (pairs ++ p ∷ []))) [ true ↦ all | false ↦ appended p pairs h all ]
-  applied Replace p pairs h all =
-      let P : Pair → Type 0 = λ q. IsTrue (fits q d) in
-      let n = position_or_len (has_id p.id) pairs in
-      let later = All-filter (is_other p.id) P (drop (n + 1) pairs) (All-drop P (n + 1) pairs all) in
-      All-append P (take n pairs) (p ∷ filter (is_other p.id) (drop (n + 1) pairs)) (All-take P n pairs all)
-      (All-append P (p ∷ []) (filter (is_other p.id) (drop (n + 1) pairs)) (one_applies d p h) later)
-  applied Append p pairs h all = appended p pairs h all
-  applied Prepend p pairs h all = All-append (λ q. IsTrue (fits q d)) (p ∷ []) pairs (one_applies d p h) all
-  applied RemoveEqual p pairs h all = All-filter (differs p) (λ q. IsTrue (fits q d)) pairs all
-  applied KeepEqual p pairs h all = All-filter (agrees p) (λ q. IsTrue (fits q d)) pairs all
-  applied RemoveAll p pairs h all = All-filter (is_other p.id) (λ q. IsTrue (fits q d)) pairs all
 
   -- one list in the place of another
   replaced : (which : Name) (pairs : List Pair) (s : State) → AllFit pairs → StateFits d s → StateFits d (with_list which pairs s)
@@ -90,7 +64,7 @@ module _ (d : Dictionary) where
   replaced Control pairs s h all Control = h
 
   pub edited_fits : (e : Edit) (s : State) → IsTrue (fits e.pair d) → StateFits d s → StateFits d (edited e s)
-  edited_fits e s h all = replaced e.list (edited_list e s) s (applied e.op e.pair (list_of e.list s) h (all e.list)) all
+  edited_fits e s h all = replaced e.list (edited_list e s) s (applied (λ q. IsTrue (fits q d)) e.op e.pair (list_of e.list s) (λ _. h) (all e.list)) all
 
   -- an edit of the present state by a pair that fits
   pub edit_fits : (e : Edit) (old new : History) → old.place < length old.states → new ≡ continued (edited e (present old)) old → IsTrue (fits e.pair d) → StatesFit d old → StatesFit d new

@@ -41,9 +41,9 @@ use Rattle.avp_unlang.proofs.SpelledParts.{Holds, block_holds, chain_holds, whil
 
 -- ---- edits
 
-module _ (dictionary : Dictionary) (P : Pair → Type 0) where
+module _ (P : Pair → Type 0) where
   -- what an operator makes of pairs that have it, with one that has it unless the operator removes all
-  applied : (op : Op) (p : Pair) (pairs : List Pair) → (is_removal op ≡ false → P p) → All P pairs → All P (apply op p pairs)
+  pub applied : (op : Op) (p : Pair) (pairs : List Pair) → (is_removal op ≡ false → P p) → All P pairs → All P (apply op p pairs)
   applied AddNew p pairs h all = elim (has_instance p.id pairs) as (λ b. All P (cond b pairs (pairs ++ p ∷ []))) [ true ↦ all | false ↦ All-push P pairs p all (h refl) ]
   applied Replace p pairs h all =
       let n = position_or_len (has_id p.id) pairs in
@@ -62,6 +62,7 @@ module _ (dictionary : Dictionary) (P : Pair → Type 0) where
   edit_keeps Reply op p s h all = applied op p s.reply h all
   edit_keeps Control op p s h all = all
 
+module _ (dictionary : Dictionary) (P : Pair → Type 0) where
   -- ---- meanings
 
   abbrev Keeps : Meaning → Type 0
@@ -124,7 +125,7 @@ module _ (dictionary : Dictionary) (P : Pair → Type 0) where
     line_followed : (r : Result Pair Unresolved) (s : State) (code : Code) → ((p : Pair) → is_removal line.op ≡ false → r ≡ Ok p → P p) → All P s.reply
         → All P (after_line entry (result_from line s r) code (all_lines dictionary entry ls)).state.reply
     line_followed (Ok p) s code adds all =
-        edit_followed (nat_le (length (edited_list (edit_of line p) s)) max_pairs) (edited (edit_of line p) s) code (edit_keeps line.list line.op p s (λ stays. adds p stays refl) all)
+        edit_followed (nat_le (length (edited_list (edit_of line p) s)) max_pairs) (edited (edit_of line p) s) code (edit_keeps P line.list line.op p s (λ stays. adds p stays refl) all)
     line_followed (Err why) s code adds all = kept
 
   more_lines : (line : Line) (ls : List Line) → Adds line → LinesKeep ls → LinesKeep (line ∷ ls)
