@@ -20,7 +20,7 @@ use Rattle.avp_step.specs.Walk.{IsLineLabel, Walk, entry, entry_at, moved_forwar
 use Rattle.avp_step.specs.internal.Held.{trace_from, walk_of, made, walk_states, nowhere, IsHeld}
 use Rattle.avp_step.proofs.LastSteps.{end_of-append}
 use Rattle.avp_step.proofs.TraceSizes.{trace_size}
-use Rattle.avp_unlang.specs.Depth.{depth_of}
+use Rattle.avp_unlang.specs.internal.Depth.{depth_of}
 use Rattle.avp_unlang.specs.Sizes.{size_of}
 use Rattle.std.specs.Borrow.{Bor}
 use Rattle.avp_step.specs.declared.frames.Frame.TheVariants.{Statements}

@@ -21,8 +21,7 @@ use Rattle.avp_step.specs.declared.marks.Mark.{Mark}
 use Rattle.avp_unlang.specs.Meaning.{Outcome, running, after_failure, LineResult, line_result, Edited, Failed}
 use Rattle.avp_step.specs.Trace.{Entry, Steps, Guarded, steps, guarded, statement_steps, guarded_steps, line_steps, line_step, branch_steps, all_steps, block_steps, end_of, then_steps, closed, reason_number, tested}
 use Rattle.avp_step.specs.internal.Frames.{frame_depth, frame_entry, States, else_steps, frame_steps, next_steps, rest, Sit, IsSame, IsNext}
-use Rattle.avp_unlang.specs.Depth.{depth_of_branches}
-use Rattle.avp_unlang.specs.Depth.{depth_of, depth_of_branch, statement_depth, branch_depth}
+use Rattle.avp_unlang.specs.internal.Depth.{depth_of, depth_of_branch, depth_of_branches, statement_depth, branch_depth}
 use Rattle.avp_step.specs.declared.frames.TheConstants.{MAX_FRAMES}
 use Rattle.avp_step.specs.internal.Stepping.{standing, entry_of, Names, IsStep, IsOver, IsRefused, HasRoom, IsLineDone}
 use Rattle.avp_step.specs.Walk.{IsLineLabel}

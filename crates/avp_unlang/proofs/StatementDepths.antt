@@ -19,7 +19,7 @@ use Rattle.avp_unlang.specs.declared.tree.Statement.{Statement}
 use Rattle.avp_unlang.specs.declared.tree.Statement.TheFolds.{fold-roll-Branch, fold-roll-Statement}
 use Rattle.avp_unlang.specs.declared.tree.Statement.TheOpen as layer
 use Rattle.avp_unlang.specs.declared.tree.Statement.TheVariants.{Update, If, Transaction, Word, rolls-Update, rolls-If, rolls-Transaction, rolls-Word}
-use Rattle.avp_unlang.specs.Depth.{branch_depth, depth, depth_of, depth_of_branch, depth_of_branches, else_depth, greatest, statement_depth}
+use Rattle.avp_unlang.specs.internal.Depth.{branch_depth, depth, depth_of, depth_of_branch, depth_of_branches, else_depth, greatest, statement_depth}
 use Rattle.avp_unlang.proofs.SpelledParts.{Holds, block_holds, chain_holds, while_holds}
 
 -- ---- statements by their kind

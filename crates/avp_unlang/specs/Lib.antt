@@ -1,7 +1,6 @@
 pub mod Between
 pub mod Cleanness
 pub mod Conditions
-pub mod Depth
 pub mod Forms
 pub mod Lines
 pub mod Meaning

@@ -7,7 +7,7 @@ use Rattle.avp_unlang.specs.Meaning.{Outcome, running}
 use Rattle.avp_unlang.specs.Suiting.{branches_suit, else_suits, policy_suits}
 use Rattle.avp_unlang.specs.Resolutions.{line_suits}
 use Rattle.avp_unlang.specs.declared.tree.Statement.{Statement}
-use Rattle.avp_unlang.specs.Depth.{depth_of, depth_of_branches, else_depth}
+use Rattle.avp_unlang.specs.internal.Depth.{depth_of, depth_of_branches, else_depth}
 use Rattle.avp_step.specs.Trace.{Steps, block_steps, branch_steps, closed, entered, guarded, line_steps, then_steps, unless_stopped, word_step}
 use Rattle.avp_step.specs.internal.Skips.{skips_of}
 use Rattle.avp_step.specs.declared.frames.Frame.{Frame}

@@ -1,5 +1,5 @@
 use Rattle.std.proofs.Common.{◌+◌, arith, ap, zero-le}
-use Rattle.avp_unlang.specs.Depth.{depth_of}
+use Rattle.avp_unlang.specs.internal.Depth.{depth_of}
 use Rattle.avp_step.proofs.OpenedFrames.{opened_block, opened_sits, block_passes, IfNone_weaker}
 use Rattle.avp_step.proofs.frames.open_block.Goals as goal
 

@@ -2,8 +2,7 @@ use Rattle.std.proofs.Common.{◌+◌, arith, ap, zero-le, sym, ◌∙◌}
 use Rattle.std.proofs.lemmas.List.{nil_from_length}
 use Rattle.std.proofs.lemmas.Bool.{eqb-true}
 use Rattle.avp_step.specs.internal.Frames.{else_skips}
-use Rattle.avp_unlang.specs.Depth.{else_depth}
-use Rattle.avp_unlang.specs.Depth.{depth_of}
+use Rattle.avp_unlang.specs.internal.Depth.{depth_of, else_depth}
 use Rattle.avp_step.specs.internal.Skips.{skips_of}
 use Rattle.avp_step.proofs.OpenedFrames.{opened_else, opened_sits, opened_passes}
 use Rattle.avp_step.proofs.frames.open_branches.Goals as goal

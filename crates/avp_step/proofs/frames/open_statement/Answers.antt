@@ -2,10 +2,9 @@ use Rattle.std.proofs.Common.{refl, arith, ap, sym, ◌∙◌, ◌&&◌, le_refl
 use Rattle.std.specs.List.{list_all}
 use Rattle.avp_unlang.specs.Suiting.{branches_suit, else_suits, policy_suits, statement_suits}
 use Rattle.avp_unlang.specs.Resolutions.{line_suits}
-use Rattle.avp_unlang.specs.Depth.{depth}
+use Rattle.avp_unlang.specs.internal.Depth.{depth, depth_of_branches}
 use Rattle.avp_step.specs.internal.Skips.{skips}
 use Rattle.avp_step.specs.internal.Frames.{frames_suit}
-use Rattle.avp_unlang.specs.Depth.{depth_of_branches}
 use Rattle.avp_step.proofs.Equations.{skips_Update, skips_If}
 use Rattle.avp_unlang.proofs.SpelledSuits.{suits_Update, suits_If, suits_Transaction}
 use Rattle.avp_unlang.proofs.StatementDepths.{depth_Update, depth_If}

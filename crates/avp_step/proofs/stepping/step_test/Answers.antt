@@ -1,7 +1,7 @@
 use Rattle.std.proofs.Common.{arith, sym, ◌∙◌, true, false, ap, zero-le, refl}
 use Rattle.avp_lists.specs.History.{History}
 use Rattle.avp_unlang.specs.declared.tree.Branch.{out-Branch}
-use Rattle.avp_unlang.specs.Depth.{depth_of_branches}
+use Rattle.avp_unlang.specs.internal.Depth.{depth_of_branches}
 use Rattle.avp_step.proofs.Fitting.{branch_block_fits, branch_testable, tested_stays}
 use Rattle.avp_unlang.proofs.Comparing.{and_right}
 use Rattle.avp_step.proofs.Steppings.{tested_step, put_sits, block_fits}

@@ -2,7 +2,7 @@ use Rattle.std.proofs.Common.{◌≡◌, arith, ap, sym, subst, ◌∙◌}
 use Rattle.avp_lists.specs.History.{present, state_at}
 use Rattle.avp_unlang.proofs.StatementDepths.{spelled_depth}
 use Rattle.avp_unlang.proofs.SpelledSuits.{spelled_policy_suits}
-use Rattle.avp_unlang.specs.Depth.{depth_of}
+use Rattle.avp_unlang.specs.internal.Depth.{depth_of}
 use Rattle.avp_unlang.specs.Resolutions.{StateFits}
 use Rattle.avp_unlang.specs.Sizes.{size_of}
 use Rattle.avp_unlang.specs.Suiting.{policy_suits}
