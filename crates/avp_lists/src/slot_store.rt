@@ -265,7 +265,8 @@ impl SlotStore {
         }
     }
 
-    // Whether the edit would make its list too long. The pairs are counted only where there are slots enough for that.
+    // Whether the edit would make its list too long. The pairs are counted only where one is added, and there are slots
+    // enough for a full list.
     fn is_full(&self, edit: &Edit) -> bool
         ensures { IsTrue result ↔ IsFull edit.now
             (present (⟦<SlotStore as Store>⟧.history self.now)) }
@@ -273,7 +274,7 @@ impl SlotStore {
         if self.slots.len() < MAX_PAIRS {
             return false;
         }
-        self.count(edit.list) == MAX_PAIRS && self.adds_one(edit.list, edit.op, edit.pair.id)
+        self.adds_one(edit.list, edit.op, edit.pair.id) && self.count(edit.list) == MAX_PAIRS
     }
 
     // Goes to the state at a place.
