@@ -171,8 +171,26 @@ pub fn hide(
     Ok(hidden(alloc, secret, authenticator, password)?)
 }
 
-/// Hidden octets shown, without the NULs at their end; `None` where their number is not 16, 32, .. 128.
+/// Hidden octets shown.
 #[tactic(auto, unfolding(crate::specs::Hiding::shown))]
+pub(crate) fn shown(
+    alloc: Global,
+    secret: &[u8],
+    authenticator: &[u8; 16],
+    hidden: &[u8],
+) -> Result<Option<Vec<u8>>, AllocError>
+    ensures { IfOk result (λ password. option_map (λ octets. octets.items) password
+        ≡ shown secret.now authenticator.now hidden.now) }
+{
+    if !is_block_length(hidden.len()) {
+        return Ok(None);
+    }
+    let mut octets = shown_blocks(alloc, secret, authenticator, hidden)?;
+    drop_last_nuls(&mut octets);
+    Ok(Some(octets))
+}
+
+/// Hidden octets shown, without the NULs at their end; `None` where their number is not 16, 32, .. 128.
 pub fn unhide(
     alloc: Global,
     secret: &[u8],
@@ -183,10 +201,5 @@ pub fn unhide(
     ensures { IfOk result (λ password. option_map (λ octets. octets.items) password
         ≡ shown secret.now authenticator.now hidden.now) }
 {
-    if !is_block_length(hidden.len()) {
-        return Ok(None);
-    }
-    let mut octets = shown_blocks(alloc, secret, authenticator, hidden)?;
-    drop_last_nuls(&mut octets);
-    Ok(Some(octets))
+    shown(alloc, secret, authenticator, hidden)
 }

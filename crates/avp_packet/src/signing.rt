@@ -70,18 +70,9 @@ fn is_signed_among(head: &[u8], authenticator: &[u8; 16], attributes: &[u8], sec
     are_equal(found.value, &digest)
 }
 
-/// Whether a packet is signed by its only Message-Authenticator (RFC 3579, section 3.2). The authenticator to give is a
-/// request's own, and for a reply that of its request. Where attributes are not whole, or there is no
-/// Message-Authenticator or more than one, it is not. Octets past Length are not looked at.
-///
-/// ```rust
-/// // The signed reply of a server that has the secret `testing123`.
-/// assert!(rt; check_message(reply, authenticator, b"testing123"));
-/// assert!(rt; !check_message(reply, authenticator, b"testing"));
-/// ```
+/// Whether a packet is signed, under this authenticator.
 #[tactic(auto, unfolding(crate::specs::Signed::is_signed))]
-pub fn check_message(octets: &[u8], authenticator: &[u8; 16], secret: &[u8]) -> bool
-    requires { 0 < length secret.now }
+pub(crate) fn is_signed(octets: &[u8], authenticator: &[u8; 16], secret: &[u8]) -> bool
     ensures { result ≡ is_signed octets.now authenticator.now secret.now }
 {
     let Some(length) = packet_length(octets) else {
@@ -97,4 +88,20 @@ pub fn check_message(octets: &[u8], authenticator: &[u8; 16], secret: &[u8]) -> 
         attributes,
         secret,
     )
+}
+
+/// Whether a packet is signed by its only Message-Authenticator (RFC 3579, section 3.2). The authenticator to give is a
+/// request's own, and for a reply that of its request. Where attributes are not whole, or there is no
+/// Message-Authenticator or more than one, it is not. Octets past Length are not looked at.
+///
+/// ```rust
+/// // The signed reply of a server that has the secret `testing123`.
+/// assert!(rt; check_message(reply, authenticator, b"testing123"));
+/// assert!(rt; !check_message(reply, authenticator, b"testing"));
+/// ```
+pub fn check_message(octets: &[u8], authenticator: &[u8; 16], secret: &[u8]) -> bool
+    requires { 0 < length secret.now }
+    ensures { result ≡ is_signed octets.now authenticator.now secret.now }
+{
+    is_signed(octets, authenticator, secret)
 }

@@ -99,8 +99,7 @@ fn push_subs(
     format: Format,
     octets: &[u8],
 ) -> Result<(), AllocError>
-    requires secret { 0 < length secret.now }
-    requires format { is_format format.t format.l ≡ true }
+    requires { is_format format.t format.l ≡ true }
     ensures { OnOk result (pairs.new.items ≡ pairs.old.items
         ++ map (sub_pair dictionary.now secret.now authenticator.now vendor) (subs format octets.now)) }
 {
@@ -149,7 +148,6 @@ pub(crate) fn push_vendor_pairs(
     authenticator: &[u8; 16],
     value: &[u8],
 ) -> Result<(), AllocError>
-    requires { 0 < length secret.now }
     ensures { OnOk result (pairs.new.items ≡ pairs.old.items
         ++ vendor_pairs dictionary.now secret.now authenticator.now (part VENDOR_SPECIFIC value.now)
         (vendor_subs dictionary.now value.now)) }

@@ -39,8 +39,7 @@ fn push_long<'a>(
     octets: &'a [u8],
     front: Front<'a>,
 ) -> Result<&'a [u8], AllocError>
-    requires secret { 0 < length secret.now }
-    requires front { octets.now ≡ part_octets (part_view front) ++ front.rest.now }
+    requires { octets.now ≡ part_octets (part_view front) ++ front.rest.now }
     ensures pair { OnOk result (pairs.new.items ≡ pairs.old.items
         ++ long_pair dictionary.now secret.now authenticator.now (part_view front.entry)
         (first_run (part_view front.entry) (parts front.entry.rest.now)) ∷ []) }
@@ -73,8 +72,7 @@ fn push_first<'a>(
     octets: &'a [u8],
     front: Front<'a>,
 ) -> Result<&'a [u8], AllocError>
-    requires secret { 0 < length secret.now }
-    requires front { octets.now ≡ part_octets (part_view front) ++ front.rest.now }
+    requires { octets.now ≡ part_octets (part_view front) ++ front.rest.now }
     ensures pairs { OnOk result (pairs.new.items ≡ pairs.old.items
         ++ first_pairs dictionary.now secret.now authenticator.now (part_view front.entry)
         (parts front.entry.rest.now)) }
@@ -119,8 +117,7 @@ pub(crate) fn attribute_pairs(
     octets: &[u8],
     count: usize,
 ) -> Result<Vec<Pair>, AllocError>
-    requires secret { 0 < length secret.now }
-    requires short { length octets.now ≤ MAX_ATTRIBUTE_OCTETS }
+    requires { length octets.now ≤ MAX_ATTRIBUTE_OCTETS }
     ensures pairs { IfOk result (λ pairs. pairs.items
         ≡ attribute_pairs dictionary.now secret.now authenticator.now (parts octets.now)) }
     ensures fits { IfOk result (λ pairs.

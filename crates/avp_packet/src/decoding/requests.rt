@@ -22,7 +22,7 @@ use crate::decoding::pairs::attribute_pairs;
 use crate::encoding::packets::hiding_authenticator;
 use crate::faults::PacketFault;
 use crate::packets::{ACCESS_REQUEST, ACCOUNTING_REQUEST, Packet};
-use crate::signing::{check_message, has_signature};
+use crate::signing::{has_signature, is_signed};
 use avp_dict::Dictionary;
 use avp_lists::Pairs;
 use std::alloc::{AllocError, Global};
@@ -44,7 +44,6 @@ fn read_packet(
     octets: &[u8],
     count: usize,
 ) -> Result<Packet, AllocError>
-    requires secret { 0 < length secret.now }
     requires head { PACKET_HEAD_OCTETS ≤ length_of octets.now }
     requires whole { length_of octets.now ≤ length octets.now }
     requires short { length_of octets.now ≤ MAX_PACKET_OCTETS }
@@ -73,19 +72,17 @@ fn read_packet(
 
 // Whether an Access-Request has a Message-Authenticator that does not sign it.
 fn is_wrongly_signed(octets: &[u8], secret: &[u8]) -> bool
-    requires secret { 0 < length secret.now }
     requires head { PACKET_HEAD_OCTETS ≤ length_of octets.now }
     requires whole { length_of octets.now ≤ length octets.now }
     ensures { result ≡ is_wrongly_signed octets.now secret.now }
 {
     octets[0] == ACCESS_REQUEST
         && has_signature(attributes_in(octets, length_of(octets)))
-        && !check_message(octets, &copy_authenticator(octets), secret)
+        && !is_signed(octets, &copy_authenticator(octets), secret)
 }
 
 // Why whole attributes are not taken as a request's, if they are not.
 fn refusal(octets: &[u8], secret: &[u8]) -> Option<PacketFault>
-    requires secret { 0 < length secret.now }
     requires head { PACKET_HEAD_OCTETS ≤ length_of octets.now }
     requires whole { length_of octets.now ≤ length octets.now }
     ensures some { IfSome result (λ fault. (dictionary : Dictionary)

@@ -5,7 +5,7 @@ ghost use Rattle.avp_packet.specs.AttributeOctets.{part};
 ghost use Rattle.avp_packet.specs.Meanings.{extended_pair, pair_meant, raw_pair, value_meant};
 
 use crate::encoding::pairs::is_hidden;
-use crate::hiding::unhide;
+use crate::hiding::shown;
 use avp_dict::Dictionary;
 use avp_lists::{AttrId, Octets, Pair, Value};
 use std::alloc::{AllocError, Global};
@@ -20,14 +20,13 @@ fn value_meant(
     id: AttrId,
     octets: &[u8],
 ) -> Result<Value, AllocError>
-    requires { 0 < length secret.now }
     ensures { IfOk result (λ value. value
         ≡ value_meant dictionary.now secret.now authenticator.now id octets.now) }
 {
     if !is_hidden(dictionary, id) {
         return dictionary.value_of_bytes(alloc, id, octets);
     }
-    match unhide(alloc, secret, authenticator, octets)? {
+    match shown(alloc, secret, authenticator, octets)? {
         Some(password) => Ok(dictionary.value_of_vec(id, password)),
         None => Ok(Value::Raw(Octets::from_slice(alloc, octets)?)),
     }
@@ -42,14 +41,13 @@ fn keep_value(
     id: AttrId,
     octets: Vec<u8>,
 ) -> Result<Value, AllocError>
-    requires { 0 < length secret.now }
     ensures { IfOk result (λ value. value
         ≡ value_meant dictionary.now secret.now authenticator.now id octets.items) }
 {
     if !is_hidden(dictionary, id) {
         return Ok(dictionary.value_of_vec(id, octets));
     }
-    match unhide(*octets.allocator(), secret, authenticator, &octets)? {
+    match shown(*octets.allocator(), secret, authenticator, &octets)? {
         Some(password) => Ok(dictionary.value_of_vec(id, password)),
         None => Ok(Value::Raw(Octets::from_vec(octets))),
     }
@@ -64,7 +62,6 @@ pub(crate) fn push_read(
     id: AttrId,
     octets: &[u8],
 ) -> Result<(), AllocError>
-    requires { 0 < length secret.now }
     ensures { OnOk result (pairs.new.items ≡ pairs.old.items
         ++ pair_meant dictionary.now secret.now authenticator.now id octets.now ∷ []) }
 {
@@ -89,7 +86,6 @@ pub(crate) fn push_joined(
     id: AttrId,
     octets: Vec<u8>,
 ) -> Result<(), AllocError>
-    requires { 0 < length secret.now }
     ensures { OnOk result (pairs.new.items ≡ pairs.old.items
         ++ pair_meant dictionary.now secret.now authenticator.now id octets.items ∷ []) }
 {
@@ -120,7 +116,6 @@ pub(crate) fn push_extended(
     t: u8,
     value: &[u8],
 ) -> Result<(), AllocError>
-    requires { 0 < length secret.now }
     ensures { OnOk result (pairs.new.items ≡ pairs.old.items
         ++ extended_pair dictionary.now secret.now authenticator.now (part t value.now) ∷ []) }
 {

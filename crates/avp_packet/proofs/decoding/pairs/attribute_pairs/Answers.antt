@@ -25,10 +25,10 @@ pub returns-clause-fits : goal.returns-clause-fits
 returns-clause-fits c =
     let below : (i : ℕ) → get_or c.args.octets.now i 0 < 256 = search rules in
     let bytes = bytes_by_index c.args.octets.now below in
-    rw (returns-clause-pairs c) (octets_fit c.args.dictionary.now c.args.secret.now c.args.authenticator.now c.args.octets.now bytes c.requires.short)
+    rw (returns-clause-pairs c) (octets_fit c.args.dictionary.now c.args.secret.now c.args.authenticator.now c.args.octets.now bytes c.requires)
 
 pub returns-clause-own : goal.returns-clause-own
 returns-clause-own c =
     let below : (i : ℕ) → get_or c.args.octets.now i 0 < 256 = search rules in
     let bytes = bytes_by_index c.args.octets.now below in
-    rw (returns-clause-pairs c) (octets_own c.args.dictionary.now c.is_sound.ensures.sound c.args.secret.now c.args.authenticator.now c.args.octets.now bytes c.requires.short)
+    rw (returns-clause-pairs c) (octets_own c.args.dictionary.now c.is_sound.ensures.sound c.args.secret.now c.args.authenticator.now c.args.octets.now bytes c.requires)

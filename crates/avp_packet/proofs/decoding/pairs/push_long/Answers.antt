@@ -11,7 +11,7 @@ pub returns-in_ok-push_joined-in-Some-clause-pair : goal.returns-in_ok-push_join
 returns-in_ok-push_joined-in-Some-clause-pair c =
     let f = c.args.front in
     let p : Part = part f.number f.value.now in
-    let found = first_run_in c.args.octets.now f.rest.now p c.extended_type_of-number.result c.requires.front c.extended_type_of-number.ensures ∙ sym c.in_ok-joined.ensures.run ∙ ap (option_map run_view) c.in-Some.is in
+    let found = first_run_in c.args.octets.now f.rest.now p c.extended_type_of-number.result c.requires c.extended_type_of-number.ensures ∙ sym c.in_ok-joined.ensures.run ∙ ap (option_map run_view) c.in-Some.is in
     let long = λ (o : Option Run). long_pair c.args.dictionary.now c.args.secret.now c.args.authenticator.now p o in
     c.in_ok-push_joined-in-Some.ensures
     ∙ rw c.extended_type_of-number.ensures (ap (λ (o : Option Run). c.args.pairs.now.items ++ long o ∷ []) (sym found))
@@ -21,14 +21,14 @@ returns-in_ok-push_joined-in-Some-clause-rest c =
     let f = c.args.front in
     let p : Part = part f.number f.value.now in
     let ps : List Part = parts f.rest.now in
-    let found = first_run_in c.args.octets.now f.rest.now p c.extended_type_of-number.result c.requires.front c.extended_type_of-number.ensures ∙ sym c.in_ok-joined.ensures.run ∙ ap (option_map run_view) c.in-Some.is in
+    let found = first_run_in c.args.octets.now f.rest.now p c.extended_type_of-number.result c.requires c.extended_type_of-number.ensures ∙ sym c.in_ok-joined.ensures.run ∙ ap (option_map run_view) c.in-Some.is in
     run_rest f.number (extended_type p) p ps (run_view c.in-Some.joined) found ∙ ap (λ (o : Option Run). drop (others_in ps o) ps) (sym found)
 
 pub returns-in_ok-push_raw-in-None-clause-pair : goal.returns-in_ok-push_raw-in-None-clause-pair
 returns-in_ok-push_raw-in-None-clause-pair c =
     let f = c.args.front in
     let p : Part = part f.number f.value.now in
-    let found = first_run_in c.args.octets.now f.rest.now p c.extended_type_of-number.result c.requires.front c.extended_type_of-number.ensures ∙ sym c.in_ok-joined.ensures.run ∙ ap (option_map run_view) c.in-None.is in
+    let found = first_run_in c.args.octets.now f.rest.now p c.extended_type_of-number.result c.requires c.extended_type_of-number.ensures ∙ sym c.in_ok-joined.ensures.run ∙ ap (option_map run_view) c.in-None.is in
     c.in_ok-push_raw-in-None.ensures
     ∙ ap (λ (o : Option Run). c.args.pairs.now.items ++ long_pair c.args.dictionary.now c.args.secret.now c.args.authenticator.now p o ∷ []) (sym found)
 
@@ -37,5 +37,5 @@ returns-in_ok-push_raw-in-None-clause-rest c =
     let f = c.args.front in
     let p : Part = part f.number f.value.now in
     let ps : List Part = parts f.rest.now in
-    let found = first_run_in c.args.octets.now f.rest.now p c.extended_type_of-number.result c.requires.front c.extended_type_of-number.ensures ∙ sym c.in_ok-joined.ensures.run ∙ ap (option_map run_view) c.in-None.is in
+    let found = first_run_in c.args.octets.now f.rest.now p c.extended_type_of-number.result c.requires c.extended_type_of-number.ensures ∙ sym c.in_ok-joined.ensures.run ∙ ap (option_map run_view) c.in-None.is in
     ap (λ (o : Option Run). drop (others_in ps o) ps) (sym found)
