@@ -14,8 +14,7 @@ use Rattle.avp_packet.specs.Packets.{attributes_of, attributes_signed, hiding_au
 use Rattle.avp_packet.specs.Sending.{Content, without_signatures}
 use Rattle.avp_packet.specs.Signed.{is_signed}
 use Rattle.avp_packet.specs.Splitting.{left, parts}
-use Rattle.avp_packet.specs.internal.Filling.{IsDivided, KeepsAll, divided_octets}
-use Rattle.avp_packet.specs.internal.Ranges.{IsVendorInRange}
+use Rattle.avp_packet.specs.internal.Filling.{AreVendorsInRange, IsDivided, KeepsAll, divided_octets}
 use Rattle.avp_packet.proofs.Assembled.{attributes_of-packet, is_signed-packet, length-packet}
 use Rattle.avp_packet.proofs.Filled.{length-hmac}
 use Rattle.avp_packet.proofs.OneMeaning.{meant_by}
@@ -38,13 +37,13 @@ module _ (dictionary : Dictionary) (secret : List ℕ) (code id : ℕ) (authenti
 
     module _ (division : Division) (divided : IsDivided content.kind content.pairs division) (kept : (q : Pair → Bool) → All (λ p. q p ≡ true) content.pairs → KeepsAll q division) where
       pub packet_means : IsSound dictionary → HasKnownFormats dictionary → is_clean content.pairs dictionary ≡ true → is_clean content.proxy_states dictionary ≡ true
-          → All (λ p. IsVendorInRange p.id) division.before.now → All (λ p. IsVendorInRange p.id) division.behind.now → All (λ p. IsVendorInRange p.id) content.proxy_states
+          → AreVendorsInRange division content.proxy_states
           → Means dictionary secret (hiding_authenticator code authenticator) (parts (attributes_of octets)) (pairs_meant dictionary secret code id authenticator content)
-      packet_means sound formats clean proxies_clean before_ranged behind_ranged proxies_ranged =
+      packet_means sound formats clean proxies_clean ranged =
           let hide_by : List ℕ = hiding_authenticator code authenticator in
           meant_by dictionary secret hide_by (parts (attributes_of octets)) _
           (ap (λ (os : List ℕ). attribute_pairs dictionary secret hide_by (parts os)) attributes_again
-          ∙ signed_means dictionary secret code id authenticator content division divided sound formats (before_clean dictionary content.pairs division clean kept) (behind_clean dictionary content.pairs division clean kept) proxies_clean before_ranged behind_ranged proxies_ranged)
+          ∙ signed_means dictionary secret code id authenticator content division divided sound formats (before_clean dictionary content.pairs division clean kept) (behind_clean dictionary content.pairs division clean kept) proxies_clean ranged.before ranged.behind ranged.proxies)
 
       pub packet_signed : division.signed ≡ true → without_signatures division.before.now ≡ division.before.now → without_signatures content.proxy_states ≡ content.proxy_states
           → All (λ p. fits p dictionary ≡ true) content.pairs → All (λ p. fits p dictionary ≡ true) content.proxy_states

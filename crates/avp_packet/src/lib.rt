@@ -11,6 +11,7 @@ mod encoding;
 mod faults;
 mod hiding;
 mod hmac;
+mod keys;
 mod packets;
 mod signing;
 

@@ -10,6 +10,7 @@ use Rattle.avp_packet.specs.Hmac.{hmac}
 use Rattle.avp_packet.specs.Packets.{hiding_authenticator, packet, zeros}
 use Rattle.avp_packet.specs.Sending.{Kind, before_signature, behind_signature, is_to_sign, without_signatures}
 use Rattle.avp_packet.specs.Splitting.{part_octets}
+use Rattle.avp_packet.specs.internal.Ranges.{IsVendorInRange}
 
 -- the pairs of a list, with its Message-Authenticators or without
 abbrev pub kept_pairs : Bool → List Pair → List Pair
@@ -26,6 +27,12 @@ pub record IsDivided (kind : Kind) (pairs : List Pair) (division : Division) : T
 pub record KeepsAll (q : Pair → Bool) (division : Division) : Type 0 where
   pub before : All (λ p. q p ≡ true) division.before.now
   pub behind : All (λ p. q p ≡ true) division.behind.now
+
+-- the vendors of its pairs, and of the Proxy-States behind it, are in range
+pub record AreVendorsInRange (division : Division) (proxy_states : List Pair) : Type 0 where
+  pub before : All (λ p. IsVendorInRange p.id) division.before.now
+  pub behind : All (λ p. IsVendorInRange p.id) division.behind.now
+  pub proxies : All (λ p. IsVendorInRange p.id) proxy_states
 
 -- a Message-Authenticator of these octets, where there is one
 abbrev pub signature_if : Bool → List ℕ → List ℕ

@@ -1,5 +1,6 @@
--- Attributes without where they lie in memory, and what an iterator has left.
-use Rattle.std.specs.Prelude.{List, drop, Result, Ok, Err}
+-- Attributes and keys without where they lie in memory, and what an iterator has left.
+use Rattle.std.specs.Prelude.{ℕ, List, drop, Result, Ok, Err}
+use Rattle.avp_dict.specs.Dictionary.{Dictionary}
 use Rattle.avp_packet.specs.declared.attribute.splitting.Attribute.{Attribute}
 use Rattle.avp_packet.specs.declared.attribute.splitting.Attributes.{Attributes}
 use Rattle.avp_packet.specs.declared.attribute.splitting.BadLength.{BadLength}
@@ -7,6 +8,7 @@ use Rattle.avp_packet.specs.declared.attribute.splitting.Front.{Front}
 use Rattle.avp_packet.specs.declared.decoding.fragments.Joined.{Joined}
 use Rattle.avp_packet.specs.declared.decoding.fragments.Piece.{Piece}
 use Rattle.avp_packet.specs.declared.attribute.subattributes.Sub.{Sub}
+use Rattle.avp_packet.specs.declared.keys.Keys.{Keys}
 use Rattle.avp_packet.specs.AttributeOctets.{part}
 use Rattle.avp_packet.specs.Meanings as meanings
 use Rattle.avp_packet.specs.Splitting.{Part, Placed, items_from, parts}
@@ -29,3 +31,7 @@ piece_view piece = record { more = piece.more; os = piece.octets.now }
 
 abbrev pub run_view : Joined → meanings.Run
 run_view joined = record { os = joined.octets.items; rest = parts joined.rest.now }
+
+-- what a definition gives under keys
+abbrev pub under : {T : Type 0} → Keys → (Dictionary → List ℕ → List ℕ → T) → T
+under keys given = given keys.dictionary.now keys.secret.now keys.authenticator.now

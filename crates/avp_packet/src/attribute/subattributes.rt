@@ -5,11 +5,12 @@ ghost use Rattle.std.specs.Int.Digits.{number_from_digits};
 ghost use Rattle.avp_dict.specs.Vendors.{is_format};
 ghost use Rattle.avp_packet.specs.AttributeOctets.{part};
 ghost use Rattle.avp_packet.specs.Meanings.{are_subs_behind, begins_sub, first_sub, sub_length, sub_pair, subs, vendor_pairs, vendor_subs};
-ghost use Rattle.avp_packet.specs.internal.Views.{sub_view};
+ghost use Rattle.avp_packet.specs.internal.Views.{sub_view, under};
 
 use crate::attribute::formats::known_format;
 use crate::attribute::numbers::VENDOR_SPECIFIC;
 use crate::decoding::values::{push_raw, push_read};
+use crate::keys::Keys;
 use avp_dict::{Dictionary, Format};
 use avp_lists::{AttrId, Pair};
 use std::alloc::AllocError;
@@ -92,27 +93,18 @@ fn are_whole(format: Format, octets: &[u8]) -> bool
 // Adds a pair for each of the vendor's attributes.
 fn push_subs(
     pairs: &mut Vec<Pair>,
-    dictionary: &Dictionary,
-    secret: &[u8],
-    authenticator: &[u8; 16],
+    keys: &Keys<'_>,
     vendor: u32,
     format: Format,
     octets: &[u8],
 ) -> Result<(), AllocError>
     requires { is_format format.t format.l ≡ true }
     ensures { OnOk result (pairs.new.items ≡ pairs.old.items
-        ++ map (sub_pair dictionary.now secret.now authenticator.now vendor) (subs format octets.now)) }
+        ++ map (under keys.now sub_pair vendor) (subs format octets.now)) }
 {
     let mut rest = octets;
     while let Some(sub) = first_sub(format, rest) {
-        push_read(
-            pairs,
-            dictionary,
-            secret,
-            authenticator,
-            AttrId::Vendor(vendor, sub.number),
-            sub.value,
-        )?;
+        push_read(pairs, keys, AttrId::Vendor(vendor, sub.number), sub.value)?;
         rest = sub.rest;
     }
     Ok(())
@@ -143,21 +135,17 @@ fn format_behind(dictionary: &Dictionary, value: &[u8]) -> Option<Format>
 /// none.
 pub(crate) fn push_vendor_pairs(
     pairs: &mut Vec<Pair>,
-    dictionary: &Dictionary,
-    secret: &[u8],
-    authenticator: &[u8; 16],
+    keys: &Keys<'_>,
     value: &[u8],
 ) -> Result<(), AllocError>
     ensures { OnOk result (pairs.new.items ≡ pairs.old.items
-        ++ vendor_pairs dictionary.now secret.now authenticator.now (part VENDOR_SPECIFIC value.now)
-        (vendor_subs dictionary.now value.now)) }
+        ++ under keys.now vendor_pairs (part VENDOR_SPECIFIC value.now)
+        (vendor_subs keys.now.dictionary.now value.now)) }
 {
-    match format_behind(dictionary, value) {
+    match format_behind(keys.dictionary, value) {
         Some(format) => push_subs(
             pairs,
-            dictionary,
-            secret,
-            authenticator,
+            keys,
             number_in(&value[..VENDOR_ID_OCTETS]),
             format,
             &value[VENDOR_ID_OCTETS..],

@@ -5,7 +5,7 @@ ghost use Rattle.avp_dict.specs.Limits.{fits};
 ghost use Rattle.avp_packet.specs.Meanings.{first_pairs, first_run, long_pair, attribute_pairs, others, others_in};
 ghost use Rattle.avp_packet.specs.CanonicalOrContainer.{IsCanonicalOrContainer};
 ghost use Rattle.avp_packet.specs.Splitting.{part_octets, parts};
-ghost use Rattle.avp_packet.specs.internal.Views.{part_view};
+ghost use Rattle.avp_packet.specs.internal.Views.{part_view, under};
 
 use crate::attribute::numbers::{
     EXTENDED_TYPE_1, EXTENDED_TYPE_4, LONG_EXTENDED_TYPE_1, LONG_EXTENDED_TYPE_2, VENDOR_SPECIFIC,
@@ -15,7 +15,7 @@ use crate::attribute::subattributes::push_vendor_pairs;
 use crate::decoding::fragments::join_run;
 use crate::decoding::values::{push_extended, push_joined, push_raw, push_read};
 use crate::encoding::pairs::MAX_ATTRIBUTE_OCTETS;
-use avp_dict::Dictionary;
+use crate::keys::Keys;
 use avp_lists::{AttrId, Pair};
 use std::alloc::{AllocError, Global};
 
@@ -33,15 +33,13 @@ fn extended_type_of(value: &[u8]) -> u8
 // them.
 fn push_long<'a>(
     pairs: &mut Vec<Pair>,
-    dictionary: &Dictionary,
-    secret: &[u8],
-    authenticator: &[u8; 16],
+    keys: &Keys<'_>,
     octets: &'a [u8],
     front: Front<'a>,
 ) -> Result<&'a [u8], AllocError>
     requires { octets.now ≡ part_octets (part_view front) ++ front.rest.now }
     ensures pair { OnOk result (pairs.new.items ≡ pairs.old.items
-        ++ long_pair dictionary.now secret.now authenticator.now (part_view front.entry)
+        ++ under keys.now long_pair (part_view front.entry)
         (first_run (part_view front.entry) (parts front.entry.rest.now)) ∷ []) }
     ensures rest { IfOk result (λ rest. parts rest.now
         ≡ drop (others_in (parts front.entry.rest.now)
@@ -53,7 +51,7 @@ fn push_long<'a>(
     match join_run(*pairs.allocator(), front.number, number, octets)? {
         Some(joined) => {
             let id = AttrId::Extended(front.number, number);
-            push_joined(pairs, dictionary, secret, authenticator, id, joined.octets)?;
+            push_joined(pairs, keys, id, joined.octets)?;
             Ok(joined.rest)
         }
         None => {
@@ -66,43 +64,29 @@ fn push_long<'a>(
 // Adds the pairs of the first attribute, with those that its value goes on in, and gives what is behind them.
 fn push_first<'a>(
     pairs: &mut Vec<Pair>,
-    dictionary: &Dictionary,
-    secret: &[u8],
-    authenticator: &[u8; 16],
+    keys: &Keys<'_>,
     octets: &'a [u8],
     front: Front<'a>,
 ) -> Result<&'a [u8], AllocError>
     requires { octets.now ≡ part_octets (part_view front) ++ front.rest.now }
     ensures pairs { OnOk result (pairs.new.items ≡ pairs.old.items
-        ++ first_pairs dictionary.now secret.now authenticator.now (part_view front.entry)
-        (parts front.entry.rest.now)) }
+        ++ under keys.now first_pairs (part_view front.entry) (parts front.entry.rest.now)) }
     ensures rest { IfOk result (λ rest. parts rest.now
         ≡ drop (others (part_view front.entry) (parts front.entry.rest.now))
         (parts front.entry.rest.now)) }
     ensures shorter { IfOk result (λ rest. length rest.now < length octets.now) }
 {
     match front.number {
-        VENDOR_SPECIFIC => push_vendor_pairs(
-            pairs,
-            dictionary,
-            secret,
-            authenticator,
-            front.value,
-        )?,
-        EXTENDED_TYPE_1..=EXTENDED_TYPE_4 => push_extended(
-            pairs,
-            dictionary,
-            secret,
-            authenticator,
-            front.number,
-            front.value,
-        )?,
+        VENDOR_SPECIFIC => push_vendor_pairs(pairs, keys, front.value)?,
+        EXTENDED_TYPE_1..=EXTENDED_TYPE_4 => {
+            push_extended(pairs, keys, front.number, front.value)?;
+        }
         LONG_EXTENDED_TYPE_1 | LONG_EXTENDED_TYPE_2 => {
-            return push_long(pairs, dictionary, secret, authenticator, octets, front);
+            return push_long(pairs, keys, octets, front);
         }
         number => {
             let id = AttrId::Plain(u32::from(number));
-            push_read(pairs, dictionary, secret, authenticator, id, front.value)?;
+            push_read(pairs, keys, id, front.value)?;
         }
     }
     Ok(front.rest)
@@ -111,24 +95,23 @@ fn push_first<'a>(
 /// The pairs that whole attributes mean, in a list with room for so many.
 pub(crate) fn attribute_pairs(
     alloc: Global,
-    dictionary: &Dictionary,
-    secret: &[u8],
-    authenticator: &[u8; 16],
+    keys: &Keys<'_>,
     octets: &[u8],
     count: usize,
 ) -> Result<Vec<Pair>, AllocError>
     requires { length octets.now ≤ MAX_ATTRIBUTE_OCTETS }
     ensures pairs { IfOk result (λ pairs. pairs.items
-        ≡ attribute_pairs dictionary.now secret.now authenticator.now (parts octets.now)) }
+        ≡ under keys.now attribute_pairs (parts octets.now)) }
     ensures fits { IfOk result (λ pairs.
-        All (λ pair. fits pair dictionary.now ≡ true) pairs.items) }
-    ensures own { IfOk result (λ pairs. All (IsCanonicalOrContainer dictionary.now) pairs.items) }
+        All (λ pair. fits pair keys.now.dictionary.now ≡ true) pairs.items) }
+    ensures own { IfOk result (λ pairs.
+        All (IsCanonicalOrContainer keys.now.dictionary.now) pairs.items) }
 {
-    dictionary.is_sound();
+    keys.dictionary.is_sound();
     let mut pairs = Vec::with_capacity(alloc, count)?;
     let mut rest = octets;
     while let Some(front) = first_attribute(rest) {
-        rest = push_first(&mut pairs, dictionary, secret, authenticator, rest, front)?;
+        rest = push_first(&mut pairs, keys, rest, front)?;
     }
     Ok(pairs)
 }

@@ -21,6 +21,7 @@ use crate::authenticators::{
 use crate::decoding::pairs::attribute_pairs;
 use crate::encoding::packets::hiding_authenticator;
 use crate::faults::PacketFault;
+use crate::keys::Keys;
 use crate::packets::{ACCESS_REQUEST, ACCOUNTING_REQUEST, Packet};
 use crate::signing::{has_signature, is_signed};
 use avp_dict::Dictionary;
@@ -59,9 +60,13 @@ fn read_packet(
 {
     let code = octets[0];
     let authenticator = copy_authenticator(octets);
-    let hidden_by = hiding_authenticator(code, &authenticator);
+    let keys = Keys {
+        dictionary,
+        secret,
+        authenticator: &hiding_authenticator(code, &authenticator),
+    };
     let attributes = attributes_in(octets, length_of(octets));
-    let pairs = attribute_pairs(alloc, dictionary, secret, &hidden_by, attributes, count)?;
+    let pairs = attribute_pairs(alloc, &keys, attributes, count)?;
     Ok(Packet {
         code,
         id: octets[1],

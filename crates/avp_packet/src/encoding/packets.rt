@@ -11,14 +11,14 @@ ghost use Rattle.avp_packet.specs.Packets.{IsReplyCode, IsRequestCode, IsShort, 
 ghost use Rattle.avp_packet.specs.Sending.{is_to_sign};
 ghost use Rattle.avp_packet.specs.Signed.{is_signed};
 ghost use Rattle.avp_packet.specs.Splitting.{left};
-ghost use Rattle.avp_packet.specs.internal.Filling.{IsPlace, divided_octets, divided_signed, filled};
-ghost use Rattle.avp_packet.specs.internal.Ranges.{IsVendorInRange};
+ghost use Rattle.avp_packet.specs.internal.Filling.{AreVendorsInRange, IsPlace, KeepsAll, divided_octets, divided_signed, filled};
 
 use crate::authenticators::{MAX_PACKET_OCTETS, PACKET_HEAD_OCTETS, ZEROS, digest_over, head_of};
 use crate::encoding::dividing::{Division, divide_reply, divide_request};
 use crate::encoding::pairs::{MAX_ATTRIBUTE_OCTETS, write_attributes};
 use crate::faults::EncodeFault;
 use crate::hmac::{SIGNATURE_OCTETS, signature_between};
+use crate::keys::Keys;
 use crate::packets::{ACCOUNTING_REQUEST, ACCOUNTING_RESPONSE};
 use avp_dict::Dictionary;
 use avp_lists::Pair;
@@ -64,19 +64,12 @@ fn fill_signature(octets: &mut Vec<u8>, place: usize, signature: &[u8; 16])
 
 // Signs the packet of attributes, where there is a blank Message-Authenticator among them.
 #[tactic(auto, unfolding(crate::specs::Packets::packet))]
-fn sign(
-    octets: &mut Vec<u8>,
-    place: Option<usize>,
-    code: u8,
-    id: u8,
-    authenticator: &[u8; 16],
-    secret: &[u8],
-)
+fn sign(octets: &mut Vec<u8>, place: Option<usize>, keys: &Keys<'_>, code: u8, id: u8)
     requires short { length octets.old.items ≤ MAX_ATTRIBUTE_OCTETS }
     requires place { IsPlace (length octets.old.items) place }
     requires blank { filled octets.old.items place zeros ≡ octets.old.items }
     ensures { octets.new.items ≡ filled octets.old.items place
-        (hmac secret.now (packet code id authenticator.now octets.old.items)) }
+        (hmac keys.now.secret.now (packet code id keys.now.authenticator.now octets.old.items)) }
 {
     let Some(place) = place else {
         return;
@@ -84,41 +77,38 @@ fn sign(
     let head = head_of(code, id, octets.len());
     let before = &octets[..place];
     let behind = &octets[place + SIGNATURE_OCTETS..];
-    let signature = signature_between(secret, &head, authenticator, before, behind);
+    let signature = signature_between(keys.secret, &head, keys.authenticator, before, behind);
     fill_signature(octets, place, &signature);
 }
 
-// The attributes of a packet, signed.
+// The attributes of a packet, signed, by keys that have the Request Authenticator.
 fn signed_attributes(
     alloc: Global,
-    dictionary: &Dictionary,
-    secret: &[u8],
+    keys: &Keys<'_>,
     code: u8,
     id: u8,
-    authenticator: &[u8; 16],
     division: &Division<'_>,
     proxy_states: &[Pair],
 ) -> Result<Vec<u8>, EncodeFault>
-    requires before_fit { All (λ pair. fits pair dictionary.now ≡ true) division.now.before.now }
-    requires behind_fit { All (λ pair. fits pair dictionary.now ≡ true) division.now.behind.now }
-    requires proxies_fit { All (λ pair. fits pair dictionary.now ≡ true) proxy_states.now }
+    requires list_fits { KeepsAll (λ pair. fits pair keys.now.dictionary.now) division.now }
+    requires proxies_fit { All (λ pair. fits pair keys.now.dictionary.now ≡ true) proxy_states.now }
     ensures octets { IfOk result (λ octets. octets.items
-        ≡ divided_signed dictionary.now secret.now code id authenticator.now division.now
-        proxy_states.now) }
+        ≡ divided_signed keys.now.dictionary.now keys.now.secret.now code id
+        keys.now.authenticator.now division.now proxy_states.now) }
     ensures short { IfOk result (λ octets. length octets.items ≤ MAX_ATTRIBUTE_OCTETS) }
-    ensures before_ranged { OnOk result
-        (All (λ pair. IsVendorInRange pair.id) division.now.before.now) }
-    ensures behind_ranged { OnOk result
-        (All (λ pair. IsVendorInRange pair.id) division.now.behind.now) }
-    ensures proxies_ranged { OnOk result (All (λ pair. IsVendorInRange pair.id) proxy_states.now) }
-    ensures too_long { result ≡ Err EncodeFault.TooLong
-        → MAX_ATTRIBUTE_OCTETS < length (divided_octets dictionary.now secret.now
-        (hiding_authenticator code authenticator.now) division.now proxy_states.now zeros) }
+    ensures ranged { OnOk result (AreVendorsInRange division.now proxy_states.now) }
+    ensures too_long { result ≡ Err EncodeFault.TooLong → MAX_ATTRIBUTE_OCTETS
+        < length (divided_octets keys.now.dictionary.now keys.now.secret.now
+        (hiding_authenticator code keys.now.authenticator.now)
+        division.now proxy_states.now zeros) }
 {
-    let hide_by = hiding_authenticator(code, authenticator);
-    let written = write_attributes(alloc, dictionary, secret, &hide_by, division, proxy_states)?;
+    let hiding = Keys {
+        authenticator: &hiding_authenticator(code, keys.authenticator),
+        ..*keys
+    };
+    let written = write_attributes(alloc, &hiding, division, proxy_states)?;
     let mut octets = written.octets;
-    sign(&mut octets, written.place, code, id, authenticator, secret);
+    sign(&mut octets, written.place, keys, code, id);
     Ok(octets)
 }
 
@@ -184,16 +174,12 @@ pub fn encode_request(
 {
     dictionary.is_sound();
     let division = divide_request(code, list);
-    let attributes = signed_attributes(
-        alloc,
+    let keys = Keys {
         dictionary,
         secret,
-        code,
-        id,
         authenticator,
-        &division,
-        &[],
-    )?;
+    };
+    let attributes = signed_attributes(alloc, &keys, code, id, &division, &[])?;
     let authenticator = request_authenticator(code, id, authenticator, &attributes, secret);
     let octets = packet(alloc, code, id, &authenticator, &attributes)?;
     Ok(octets)
@@ -222,16 +208,12 @@ pub fn encoded_authenticator(
         (request dictionary.now secret.now code id authenticator.now list.now) }
 {
     let division = divide_request(code, list);
-    let attributes = signed_attributes(
-        alloc,
+    let keys = Keys {
         dictionary,
         secret,
-        code,
-        id,
         authenticator,
-        &division,
-        &[],
-    )?;
+    };
+    let attributes = signed_attributes(alloc, &keys, code, id, &division, &[])?;
     Ok(request_authenticator(code, id, authenticator, &attributes, secret))
 }
 
@@ -298,16 +280,12 @@ pub fn encode_reply(
 {
     dictionary.is_sound();
     let division = divide_reply(signed, list);
-    let attributes = signed_attributes(
-        alloc,
+    let keys = Keys {
         dictionary,
         secret,
-        code,
-        id,
-        request_authenticator,
-        &division,
-        proxy_states,
-    )?;
+        authenticator: request_authenticator,
+    };
+    let attributes = signed_attributes(alloc, &keys, code, id, &division, proxy_states)?;
     let authenticator = digest_over(code, id, request_authenticator, &attributes, secret);
     let octets = packet(alloc, code, id, &authenticator, &attributes)?;
     Ok(octets)

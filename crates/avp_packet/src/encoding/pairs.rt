@@ -8,8 +8,9 @@ ghost use Rattle.avp_dict.specs.Octets.{is_hidden, octets_of};
 ghost use Rattle.avp_dict.specs.Sent.{is_internal, is_raw};
 ghost use Rattle.avp_packet.specs.AttributeOctets.{attribute_octets, sent_octets};
 ghost use Rattle.avp_packet.specs.Packets.{zeros};
-ghost use Rattle.avp_packet.specs.internal.Filling.{IsPlace, divided_octets, filled, kept_pairs, place_if, signature_if};
+ghost use Rattle.avp_packet.specs.internal.Filling.{AreVendorsInRange, IsPlace, KeepsAll, divided_octets, filled, kept_pairs, place_if, signature_if};
 ghost use Rattle.avp_packet.specs.internal.Ranges.{IsVendorInRange};
+ghost use Rattle.avp_packet.specs.internal.Views.{under};
 
 use crate::authenticators::{MAX_PACKET_OCTETS, PACKET_HEAD_OCTETS};
 use crate::encoding::attributes::push_holding;
@@ -17,6 +18,7 @@ use crate::encoding::dividing::{Division, MESSAGE_AUTHENTICATOR_ID};
 use crate::faults::EncodeFault;
 use crate::hiding::hidden;
 use crate::hmac::BLANK;
+use crate::keys::Keys;
 use avp_dict::Dictionary;
 use avp_lists::{AttrId, Pair, Value};
 use std::alloc::{AllocError, Global};
@@ -73,49 +75,41 @@ fn kept_octets(value: &Value) -> Option<&[u8]>
 #[tactic(auto, unfolding(crate::specs::AttributeOctets::sent_octets), using(crate::proofs::AttributeRoom::hidden_short))]
 fn sent_octets<'a>(
     alloc: Global,
-    dictionary: &Dictionary,
-    secret: &[u8],
-    authenticator: &[u8; 16],
+    keys: &Keys<'_>,
     pair: &'a Pair,
 ) -> Result<CowSlice<'a, u8>, AllocError>
-    requires { fits pair.now dictionary.now ≡ true }
+    requires { fits pair.now keys.now.dictionary.now ≡ true }
     ensures { IfOk result (λ octets. cow_slice_items octets
-        ≡ sent_octets dictionary.now secret.now authenticator.now pair.now) }
+        ≡ under keys.now sent_octets pair.now) }
 {
-    if is_hidden(dictionary, pair.id) && !is_raw(&pair.value) {
-        let plain = dictionary.bytes_of_value(alloc, pair.id, &pair.value)?;
-        let hidden = hidden(alloc, secret, authenticator, &plain)?;
+    if is_hidden(keys.dictionary, pair.id) && !is_raw(&pair.value) {
+        let plain = keys.dictionary.bytes_of_value(alloc, pair.id, &pair.value)?;
+        let hidden = hidden(alloc, keys.secret, keys.authenticator, &plain)?;
         return Ok(CowSlice::Owned(hidden));
     }
     if let Some(octets) = kept_octets(&pair.value) {
         return Ok(CowSlice::Borrowed(octets));
     }
-    let plain = dictionary.bytes_of_value(alloc, pair.id, &pair.value)?;
+    let plain = keys.dictionary.bytes_of_value(alloc, pair.id, &pair.value)?;
     Ok(CowSlice::Owned(plain))
 }
 
 // Adds the attributes that a pair is sent in.
-fn push_pair(
-    octets: &mut Vec<u8>,
-    dictionary: &Dictionary,
-    secret: &[u8],
-    authenticator: &[u8; 16],
-    pair: &Pair,
-) -> Result<(), AllocError>
-    requires { fits pair.now dictionary.now ≡ true }
+fn push_pair(octets: &mut Vec<u8>, keys: &Keys<'_>, pair: &Pair) -> Result<(), AllocError>
+    requires { fits pair.now keys.now.dictionary.now ≡ true }
     ensures octets { OnOk result (octets.new.items ≡ octets.old.items
-        ++ attribute_octets dictionary.now secret.now authenticator.now (pair.now ∷ [])) }
+        ++ under keys.now attribute_octets (pair.now ∷ [])) }
     ensures ranged { OnOk result (IsVendorInRange pair.now.id) }
 {
     if is_internal(pair.id) {
         return Ok(());
     }
-    let value = sent_octets(*octets.allocator(), dictionary, secret, authenticator, pair)?;
+    let value = sent_octets(*octets.allocator(), keys, pair)?;
     let value = value.as_slice();
     if value.is_empty() {
         return Ok(());
     }
-    push_holding(octets, dictionary, pair.id, value)?;
+    push_holding(octets, keys.dictionary, pair.id, value)?;
     Ok(())
 }
 
@@ -131,28 +125,24 @@ fn is_kept(pair: &Pair, all: bool) -> bool
 // Adds the attributes that a pair is sent in, unless it is left out, or the octets become too many.
 fn push_kept(
     octets: &mut Vec<u8>,
-    dictionary: &Dictionary,
-    secret: &[u8],
-    authenticator: &[u8; 16],
+    keys: &Keys<'_>,
     pair: &Pair,
     all: bool,
 ) -> Result<(), EncodeFault>
-    requires fits { fits pair.now dictionary.now ≡ true }
+    requires fits { fits pair.now keys.now.dictionary.now ≡ true }
     requires short { length octets.old.items ≤ MAX_ATTRIBUTE_OCTETS }
     ensures ok { OnOk result (octets.new.items ≡ octets.old.items
-        ++ attribute_octets dictionary.now secret.now authenticator.now
-        (kept_pairs all (pair.now ∷ []))) }
+        ++ under keys.now attribute_octets (kept_pairs all (pair.now ∷ []))) }
     ensures ranged { OnOk result (IsVendorInRange pair.now.id) }
     ensures short { OnOk result (length octets.new.items ≤ MAX_ATTRIBUTE_OCTETS) }
     ensures too_long { result ≡ Err EncodeFault.TooLong
-        → MAX_ATTRIBUTE_OCTETS < length octets.old.items + length
-        (attribute_octets dictionary.now secret.now authenticator.now
-        (kept_pairs all (pair.now ∷ []))) }
+        → MAX_ATTRIBUTE_OCTETS < length octets.old.items
+        + length (under keys.now attribute_octets (kept_pairs all (pair.now ∷ []))) }
 {
     if !is_kept(pair, all) {
         return Ok(());
     }
-    push_pair(octets, dictionary, secret, authenticator, pair)?;
+    push_pair(octets, keys, pair)?;
     if octets.len() > MAX_ATTRIBUTE_OCTETS {
         return Err(EncodeFault::TooLong);
     }
@@ -163,24 +153,22 @@ fn push_kept(
 // become too many.
 fn push_list(
     octets: &mut Vec<u8>,
-    dictionary: &Dictionary,
-    secret: &[u8],
-    authenticator: &[u8; 16],
+    keys: &Keys<'_>,
     list: &[Pair],
     all: bool,
 ) -> Result<(), EncodeFault>
-    requires fits { All (λ pair. fits pair dictionary.now ≡ true) list.now }
+    requires fits { All (λ pair. fits pair keys.now.dictionary.now ≡ true) list.now }
     requires short { length octets.old.items ≤ MAX_ATTRIBUTE_OCTETS }
     ensures ok { OnOk result (octets.new.items ≡ octets.old.items
-        ++ attribute_octets dictionary.now secret.now authenticator.now (kept_pairs all list.now)) }
+        ++ under keys.now attribute_octets (kept_pairs all list.now)) }
     ensures ranged { OnOk result (All (λ pair. IsVendorInRange pair.id) list.now) }
     ensures short { OnOk result (length octets.new.items ≤ MAX_ATTRIBUTE_OCTETS) }
     ensures too_long { result ≡ Err EncodeFault.TooLong
-        → MAX_ATTRIBUTE_OCTETS < length octets.old.items + length
-        (attribute_octets dictionary.now secret.now authenticator.now (kept_pairs all list.now)) }
+        → MAX_ATTRIBUTE_OCTETS < length octets.old.items
+        + length (under keys.now attribute_octets (kept_pairs all list.now)) }
 {
     for pair in list {
-        push_kept(octets, dictionary, secret, authenticator, pair, all)?;
+        push_kept(octets, keys, pair, all)?;
     }
     Ok(())
 }
@@ -216,50 +204,27 @@ pub(crate) struct Written {
 /// become too many.
 pub(crate) fn write_attributes(
     alloc: Global,
-    dictionary: &Dictionary,
-    secret: &[u8],
-    hide_by: &[u8; 16],
+    keys: &Keys<'_>,
     division: &Division<'_>,
     proxy_states: &[Pair],
 ) -> Result<Written, EncodeFault>
-    requires before_fit { All (λ pair. fits pair dictionary.now ≡ true) division.now.before.now }
-    requires behind_fit { All (λ pair. fits pair dictionary.now ≡ true) division.now.behind.now }
-    requires proxies_fit { All (λ pair. fits pair dictionary.now ≡ true) proxy_states.now }
+    requires list_fits { KeepsAll (λ pair. fits pair keys.now.dictionary.now) division.now }
+    requires proxies_fit { All (λ pair. fits pair keys.now.dictionary.now ≡ true) proxy_states.now }
     ensures blank { IfOk result (λ w. w.octets.items
-        ≡ divided_octets dictionary.now secret.now hide_by.now division.now proxy_states.now zeros) }
+        ≡ under keys.now divided_octets division.now proxy_states.now zeros) }
     ensures filled { IfOk result (λ w. (signature : List ℕ)
         → filled w.octets.items w.place signature
-        ≡ divided_octets dictionary.now secret.now hide_by.now division.now proxy_states.now
-        signature) }
+        ≡ under keys.now divided_octets division.now proxy_states.now signature) }
     ensures place { IfOk result (λ w. IsPlace (length w.octets.items) w.place) }
     ensures short { IfOk result (λ w. length w.octets.items ≤ MAX_ATTRIBUTE_OCTETS) }
-    ensures before_ranged { OnOk result
-        (All (λ pair. IsVendorInRange pair.id) division.now.before.now) }
-    ensures behind_ranged { OnOk result
-        (All (λ pair. IsVendorInRange pair.id) division.now.behind.now) }
-    ensures proxies_ranged { OnOk result (All (λ pair. IsVendorInRange pair.id) proxy_states.now) }
-    ensures too_long { result ≡ Err EncodeFault.TooLong
-        → MAX_ATTRIBUTE_OCTETS < length (divided_octets dictionary.now secret.now hide_by.now
-        division.now proxy_states.now zeros) }
+    ensures ranged { OnOk result (AreVendorsInRange division.now proxy_states.now) }
+    ensures too_long { result ≡ Err EncodeFault.TooLong → MAX_ATTRIBUTE_OCTETS
+        < length (under keys.now divided_octets division.now proxy_states.now zeros) }
 {
     let mut octets = Vec::with_capacity(alloc, MAX_ATTRIBUTE_OCTETS)?;
-    push_list(
-        &mut octets,
-        dictionary,
-        secret,
-        hide_by,
-        division.before,
-        true,
-    )?;
+    push_list(&mut octets, keys, division.before, true)?;
     let place = push_blank(&mut octets, division.signed)?;
-    push_list(
-        &mut octets,
-        dictionary,
-        secret,
-        hide_by,
-        division.behind,
-        false,
-    )?;
-    push_list(&mut octets, dictionary, secret, hide_by, proxy_states, true)?;
+    push_list(&mut octets, keys, division.behind, false)?;
+    push_list(&mut octets, keys, proxy_states, true)?;
     Ok(Written { octets, place })
 }

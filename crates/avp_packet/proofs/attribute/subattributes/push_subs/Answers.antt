@@ -12,7 +12,7 @@ loop-sub-preserved c =
     let b = c.in-Some.ensures.begins in
     let more = subs_more f rest c.requires (begins_some f rest c.requires b) b in
     let same : subs f rest ≡ sub_view c.in-Some.sub ∷ subs f after = cc (more, c.in-Some.ensures.sub, c.in-Some.ensures.rest) in
-    let pair = sub_pair c.args.dictionary.now c.args.secret.now c.args.authenticator.now c.args.vendor in
+    let pair = sub_pair c.args.keys.now.dictionary.now c.args.keys.now.secret.now c.args.keys.now.authenticator.now c.args.vendor in
     let old = c.loop-sub.pairs.items in
     rw c.in_ok-push_read.ensures
     (append_assoc old (pair (sub_view c.in-Some.sub) ∷ []) (map pair (subs f after))
@@ -20,7 +20,7 @@ loop-sub-preserved c =
 
 pub returns : goal.returns
 returns c =
-    let pair = sub_pair c.args.dictionary.now c.args.secret.now c.args.authenticator.now c.args.vendor in
+    let pair = sub_pair c.args.keys.now.dictionary.now c.args.keys.now.secret.now c.args.keys.now.authenticator.now c.args.vendor in
     let none = subs_none c.args.format c.loop-sub.rest.now c.in_default.ensures.none in
     let old = c.loop-sub.pairs.items in
     sym (append-nil old) ∙ ap (λ (ss : List Sub). old ++ map pair ss) (sym none) ∙ c.loop-sub.invariant

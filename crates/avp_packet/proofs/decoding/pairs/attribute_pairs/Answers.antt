@@ -10,7 +10,7 @@ use Rattle.avp_packet.proofs.decoding.pairs.attribute_pairs.Goals as goal
 pub loop-front-preserved : goal.loop-front-preserved
 loop-front-preserved c =
     let f = c.in-Some.front in
-    one_read c.args.dictionary.now c.args.secret.now c.args.authenticator.now c.loop-front.pairs.items c.push_first.new.pairs.items c.loop-front.rest.now f.rest.now c.in_ok-rest.rest.now (part f.number f.value.now)
+    one_read c.args.keys.now.dictionary.now c.args.keys.now.secret.now c.args.keys.now.authenticator.now c.loop-front.pairs.items c.push_first.new.pairs.items c.loop-front.rest.now f.rest.now c.in_ok-rest.rest.now (part f.number f.value.now)
     c.in-Some.ensures.octets c.in_ok-rest.ensures.pairs c.in_ok-rest.ensures.rest
     ∙ c.loop-front.invariant
 
@@ -18,17 +18,17 @@ pub returns-clause-pairs : goal.returns-clause-pairs
 returns-clause-pairs c =
     let old = c.loop-front.pairs.items in
     sym (append-nil old)
-    ∙ ap (λ (pairs : List Pair). old ++ pairs) (sym (none_left c.args.dictionary.now c.args.secret.now c.args.authenticator.now old c.loop-front.rest.now c.in_default.ensures.none))
+    ∙ ap (λ (pairs : List Pair). old ++ pairs) (sym (none_left c.args.keys.now.dictionary.now c.args.keys.now.secret.now c.args.keys.now.authenticator.now old c.loop-front.rest.now c.in_default.ensures.none))
     ∙ c.loop-front.invariant
 
 pub returns-clause-fits : goal.returns-clause-fits
 returns-clause-fits c =
     let below : (i : ℕ) → get_or c.args.octets.now i 0 < 256 = search rules in
     let bytes = bytes_by_index c.args.octets.now below in
-    rw (returns-clause-pairs c) (octets_fit c.args.dictionary.now c.args.secret.now c.args.authenticator.now c.args.octets.now bytes c.requires)
+    rw (returns-clause-pairs c) (octets_fit c.args.keys.now.dictionary.now c.args.keys.now.secret.now c.args.keys.now.authenticator.now c.args.octets.now bytes c.requires)
 
 pub returns-clause-own : goal.returns-clause-own
 returns-clause-own c =
     let below : (i : ℕ) → get_or c.args.octets.now i 0 < 256 = search rules in
     let bytes = bytes_by_index c.args.octets.now below in
-    rw (returns-clause-pairs c) (octets_own c.args.dictionary.now c.is_sound.ensures.sound c.args.secret.now c.args.authenticator.now c.args.octets.now bytes c.requires)
+    rw (returns-clause-pairs c) (octets_own c.args.keys.now.dictionary.now c.is_sound.ensures.sound c.args.keys.now.secret.now c.args.keys.now.authenticator.now c.args.octets.now bytes c.requires)

@@ -12,7 +12,7 @@ returns-in_ok-push_joined-in-Some-clause-pair c =
     let f = c.args.front in
     let p : Part = part f.number f.value.now in
     let found = first_run_in c.args.octets.now f.rest.now p c.extended_type_of-number.result c.requires c.extended_type_of-number.ensures ∙ sym c.in_ok-joined.ensures.run ∙ ap (option_map run_view) c.in-Some.is in
-    let long = λ (o : Option Run). long_pair c.args.dictionary.now c.args.secret.now c.args.authenticator.now p o in
+    let long = λ (o : Option Run). long_pair c.args.keys.now.dictionary.now c.args.keys.now.secret.now c.args.keys.now.authenticator.now p o in
     c.in_ok-push_joined-in-Some.ensures
     ∙ rw c.extended_type_of-number.ensures (ap (λ (o : Option Run). c.args.pairs.now.items ++ long o ∷ []) (sym found))
 
@@ -30,7 +30,7 @@ returns-in_ok-push_raw-in-None-clause-pair c =
     let p : Part = part f.number f.value.now in
     let found = first_run_in c.args.octets.now f.rest.now p c.extended_type_of-number.result c.requires c.extended_type_of-number.ensures ∙ sym c.in_ok-joined.ensures.run ∙ ap (option_map run_view) c.in-None.is in
     c.in_ok-push_raw-in-None.ensures
-    ∙ ap (λ (o : Option Run). c.args.pairs.now.items ++ long_pair c.args.dictionary.now c.args.secret.now c.args.authenticator.now p o ∷ []) (sym found)
+    ∙ ap (λ (o : Option Run). c.args.pairs.now.items ++ long_pair c.args.keys.now.dictionary.now c.args.keys.now.secret.now c.args.keys.now.authenticator.now p o ∷ []) (sym found)
 
 pub returns-in_ok-push_raw-in-None-clause-rest : goal.returns-in_ok-push_raw-in-None-clause-rest
 returns-in_ok-push_raw-in-None-clause-rest c =

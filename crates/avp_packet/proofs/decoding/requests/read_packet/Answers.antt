@@ -8,7 +8,7 @@ pub returns-clause-few : goal.returns-clause-few
 returns-clause-few c =
     let n : ℕ = c.length_of.result in
     let os : List ℕ = c.args.octets.now in
-    let pairs = few_pairs c.args.dictionary.now c.args.secret.now c.hiding_authenticator-hidden_by.result c.attributes_in-attributes.result.now in
+    let pairs = few_pairs c.args.dictionary.now c.args.secret.now c.hiding_authenticator.result c.attributes_in-attributes.result.now in
     let listed = ap length (c.from_vec.ensures ∙ c.in_ok-pairs.ensures.pairs) in
     let attributes = ap length c.attributes_in-attributes.ensures in
     let dropped = length-drop 20 (take n os) in

@@ -9,8 +9,8 @@ use Rattle.avp_packet.proofs.SentLists.{length-signed, proxies_unsigned, signed_
 use Rattle.avp_packet.proofs.SentPackets.{packet_means, packet_signed, packet_whole}
 use Rattle.avp_packet.proofs.encoding.packets.encode_reply.Goals as goal
 
-pub signed_attributes-requires-clause-behind_fit : goal.signed_attributes-requires-clause-behind_fit
-signed_attributes-requires-clause-behind_fit c = (c.divide_reply-division.ensures.kept (λ (p : Pair). fits p c.args.dictionary.now) c.requires.fits).behind
+pub signed_attributes-requires-clause-list_fits : goal.signed_attributes-requires-clause-list_fits
+signed_attributes-requires-clause-list_fits c = c.divide_reply-division.ensures.kept (λ (p : Pair). fits p c.args.dictionary.now) c.requires.fits
 
 pub returns-in_err-attributes-clause-too_long : goal.returns-in_err-attributes-clause-too_long
 returns-in_err-attributes-clause-too_long c = λ err.
@@ -58,7 +58,7 @@ returns-clause-means c = λ clean proxies_clean.
     (returns-clause-octets c) (length-digest_over _ _ _ _ _) (returns-clause-short c)
     c.divide_reply-division.result c.divide_reply-division.ensures.divided c.divide_reply-division.ensures.kept
     c.is_sound.ensures.sound c.is_sound.ensures.formats clean proxies_clean
-    c.in_ok-attributes.ensures.before_ranged c.in_ok-attributes.ensures.behind_ranged c.in_ok-attributes.ensures.proxies_ranged
+    c.in_ok-attributes.ensures.ranged
 
 pub returns-clause-signed : goal.returns-clause-signed
 unfolding reply

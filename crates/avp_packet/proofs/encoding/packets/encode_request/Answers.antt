@@ -11,8 +11,8 @@ use Rattle.avp_packet.proofs.SentLists.{length-signed, signed_octets}
 use Rattle.avp_packet.proofs.SentPackets.{packet_means, packet_signed, packet_whole}
 use Rattle.avp_packet.proofs.encoding.packets.encode_request.Goals as goal
 
-pub signed_attributes-requires-clause-behind_fit : goal.signed_attributes-requires-clause-behind_fit
-signed_attributes-requires-clause-behind_fit c = (c.divide_request-division.ensures.kept (λ (p : Pair). fits p c.args.dictionary.now) c.requires.fits).behind
+pub signed_attributes-requires-clause-list_fits : goal.signed_attributes-requires-clause-list_fits
+signed_attributes-requires-clause-list_fits c = c.divide_request-division.ensures.kept (λ (p : Pair). fits p c.args.dictionary.now) c.requires.fits
 
 pub returns-in_err-attributes-clause-too_long : goal.returns-in_err-attributes-clause-too_long
 returns-in_err-attributes-clause-too_long c = λ err.
@@ -53,7 +53,7 @@ returns-clause-means c = λ clean.
     (returns-clause-octets c) (length-request_authenticator _ _ _ _ _ c.told-authenticator) (returns-clause-short c)
     c.divide_request-division.result c.divide_request-division.ensures.divided c.divide_request-division.ensures.kept
     c.is_sound.ensures.sound c.is_sound.ensures.formats clean refl
-    c.in_ok-attributes.ensures.before_ranged c.in_ok-attributes.ensures.behind_ranged c.in_ok-attributes.ensures.proxies_ranged
+    c.in_ok-attributes.ensures.ranged
 
 pub returns-clause-signed : goal.returns-clause-signed
 unfolding request

@@ -8,8 +8,8 @@ use Rattle.avp_packet.proofs.Assembled.{authenticator_of-packet, length-request_
 use Rattle.avp_packet.proofs.SentLists.{length-signed, signed_octets}
 use Rattle.avp_packet.proofs.encoding.packets.encoded_authenticator.Goals as goal
 
-pub signed_attributes-requires-clause-behind_fit : goal.signed_attributes-requires-clause-behind_fit
-signed_attributes-requires-clause-behind_fit c = (c.divide_request-division.ensures.kept (λ (p : Pair). fits p c.args.dictionary.now) c.requires.fits).behind
+pub signed_attributes-requires-clause-list_fits : goal.signed_attributes-requires-clause-list_fits
+signed_attributes-requires-clause-list_fits c = c.divide_request-division.ensures.kept (λ (p : Pair). fits p c.args.dictionary.now) c.requires.fits
 
 pub returns-in_err-attributes-clause-too_long : goal.returns-in_err-attributes-clause-too_long
 returns-in_err-attributes-clause-too_long c = λ err.

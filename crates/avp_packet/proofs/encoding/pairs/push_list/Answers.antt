@@ -12,9 +12,9 @@ loop-pair-preserved c =
     let at = c.loop-pair.pair-index in
     let old = c.loop-pair.octets.items in
     let all = c.args.all in
-    let e = c.in_ok-push_kept.ensures.ok ∙ ap (λ (p : Pair). old ++ attribute_octets c.args.dictionary.now c.args.secret.now c.args.authenticator.now (kept_pairs all (p ∷ []))) c.pair-item.is in
+    let e = c.in_ok-push_kept.ensures.ok ∙ ap (λ (p : Pair). old ++ attribute_octets c.args.keys.now.dictionary.now c.args.keys.now.secret.now c.args.keys.now.authenticator.now (kept_pairs all (p ∷ []))) c.pair-item.is in
     record {
-      written = written-more c.args.dictionary.now c.args.secret.now c.args.authenticator.now all old c.push_kept.new.octets.items c.args.list.now at c.pair-item.result (omega arith) e ∙ c.loop-pair.invariant.written;
+      written = written-more c.args.keys.now.dictionary.now c.args.keys.now.secret.now c.args.keys.now.authenticator.now all old c.push_kept.new.octets.items c.args.list.now at c.pair-item.result (omega arith) e ∙ c.loop-pair.invariant.written;
       ranged = ranged_more at c.args.list.now c.pair-item.result c.pair-item.is (omega arith) c.in_ok-push_kept.ensures.ranged c.loop-pair.invariant.ranged;
       short = c.in_ok-push_kept.ensures.short;
     }
@@ -22,18 +22,18 @@ loop-pair-preserved c =
 pub returns-clause-ok : goal.returns-clause-ok
 returns-clause-ok c =
     let none : drop c.loop-pair.pair-index c.args.list.now ≡ [] = drop_all c.loop-pair.pair-index c.args.list.now (omega arith) in
-    let end : attribute_octets c.args.dictionary.now c.args.secret.now c.args.authenticator.now (kept_pairs c.args.all (drop c.loop-pair.pair-index c.args.list.now)) ≡ [] = rw none (kept-nil c.args.dictionary.now c.args.secret.now c.args.authenticator.now c.args.all) in
+    let end : attribute_octets c.args.keys.now.dictionary.now c.args.keys.now.secret.now c.args.keys.now.authenticator.now (kept_pairs c.args.all (drop c.loop-pair.pair-index c.args.list.now)) ≡ [] = rw none (kept-nil c.args.keys.now.dictionary.now c.args.keys.now.secret.now c.args.keys.now.authenticator.now c.args.all) in
     cc (end, append-nil c.loop-pair.octets.items, c.loop-pair.invariant.written)
 
 pub returns-in_err-push_kept-clause-too_long : goal.returns-in_err-push_kept-clause-too_long
 returns-in_err-push_kept-clause-too_long c = λ err.
     let at = c.loop-pair.pair-index in
     let old = c.loop-pair.octets.items in
-    let written = λ (ps : List Pair). attribute_octets c.args.dictionary.now c.args.secret.now c.args.authenticator.now (kept_pairs c.args.all ps) in
+    let written = λ (ps : List Pair). attribute_octets c.args.keys.now.dictionary.now c.args.keys.now.secret.now c.args.keys.now.authenticator.now (kept_pairs c.args.all ps) in
     let refused : c.push_kept.result ≡ Err TooLong = search rules in
     let here = c.in_err-push_kept.ensures.too_long (sym c.in_err-push_kept.was ∙ refused) in
     let first : written (drop at c.args.list.now) ≡ written (c.pair-item.result ∷ []) ++ written (drop (at + 1) c.args.list.now) =
-    rw (drop_more c.args.list.now at c.pair-item.result c.loop-pair-test.true, ← c.pair-item.is) (kept-cons c.args.dictionary.now c.args.secret.now c.args.authenticator.now c.args.all c.pair-item.result (drop (at + 1) c.args.list.now)) in
+    rw (drop_more c.args.list.now at c.pair-item.result c.loop-pair-test.true, ← c.pair-item.is) (kept-cons c.args.keys.now.dictionary.now c.args.keys.now.secret.now c.args.keys.now.authenticator.now c.args.all c.pair-item.result (drop (at + 1) c.args.list.now)) in
     let sizes = ap length first in
     let long = sym (length-append old (written (drop at c.args.list.now))) ∙ ap length c.loop-pair.invariant.written ∙ length-append c.args.octets.now.items (written c.args.list.now) in
     let both = length-append (written (c.pair-item.result ∷ [])) (written (drop (at + 1) c.args.list.now)) in

@@ -8,7 +8,7 @@ use Rattle.avp_packet.proofs.encoding.pairs.push_list.Given as goal
 
 abbrev pub invariant-loop-pair : goal.invariant-loop-pair
 invariant-loop-pair l = record {
-  written : l.octets.items ++ attribute_octets l.dictionary l.secret l.authenticator (kept_pairs l.all (drop l.pair-index l.list)) ≡ l.fn.octets.items ++ attribute_octets l.dictionary l.secret l.authenticator (kept_pairs l.all l.list);
+  written : l.octets.items ++ attribute_octets l.keys.dictionary.now l.keys.secret.now l.keys.authenticator.now (kept_pairs l.all (drop l.pair-index l.list)) ≡ l.fn.octets.items ++ attribute_octets l.keys.dictionary.now l.keys.secret.now l.keys.authenticator.now (kept_pairs l.all l.list);
   ranged : (k : ℕ) (d : Pair) → k < l.pair-index → IsVendorInRange (get_or l.list k d).id;
   short : length l.octets.items ≤ MAX_ATTRIBUTE_OCTETS;
 }

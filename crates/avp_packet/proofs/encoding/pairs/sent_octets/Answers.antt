@@ -9,7 +9,7 @@ pub returns-in-Some : goal.returns-in-Some
 unfolding sent_octets octets
 returns-in-Some c =
     let p = c.args.pair.now in
-    let d = c.args.dictionary.now in
+    let d = c.args.keys.now.dictionary.now in
     let plain : (is_hidden p.id d && not (is_raw p.value)) ≡ false =
     elim c.else-is_hidden.branch [ else-is_hidden-via-then-is_hidden+else-not-is_raw w ↦ search rules | else-is_hidden-via-else-is_hidden w ↦ search rules ] in
     rw plain (sym (c.in-Some.ensures (kind_of p.id d)))
