@@ -16,13 +16,6 @@ use Rattle.avp_packet.specs.Hiding.{hidden}
 use Rattle.avp_packet.specs.Splitting.{Part, part_octets}
 use Rattle.avp_packet.specs.VendorFormats.{known_format}
 
--- the octets of a pair's value: hidden where the attribute is, but for raw ones
-unfoldable pub sent_octets : Dictionary → List ℕ → List ℕ → Pair → List ℕ
-sent_octets dictionary secret authenticator pair =
-    if is_hidden pair.id dictionary && not (is_raw pair.value)
-    then hidden secret authenticator (octets pair.id pair.value dictionary)
-    else octets pair.id pair.value dictionary
-
 abbrev pub part : ℕ → List ℕ → Part
 part number value = record { number = number; value = value }
 
@@ -46,27 +39,33 @@ fragments (suc n) t number os =
 abbrev pub is_long : ℕ → Bool
 is_long t = nat_le long_extended_type_1 t
 
--- the attributes of an id that hold these octets
-unfoldable pub parts_holding : Dictionary → AttrId → List ℕ → List Part
-parts_holding dictionary (Plain number) os = part number os ∷ []
-parts_holding dictionary (Vendor vendor number) os =
-    option_map_or (vendor_part vendor number os) (known_format vendor dictionary) []
-parts_holding dictionary (Extended t number) os =
-    if is_long t
-    then fragments ((length os - 1) / piece_octets) t number os
-    else (part t (number ∷ os) ∷ [])
+module _ (dictionary : Dictionary) where
+  -- the attributes of an id that hold these octets
+  unfoldable pub parts_holding : AttrId → List ℕ → List Part
+  parts_holding (Plain number) os = part number os ∷ []
+  parts_holding (Vendor vendor number) os =
+      option_map_or (vendor_part vendor number os) (known_format vendor dictionary) []
+  parts_holding (Extended t number) os =
+      if is_long t
+      then fragments ((length os - 1) / piece_octets) t number os
+      else (part t (number ∷ os) ∷ [])
 
--- the attributes that a pair is sent in
-abbrev pub parts_of_pair : Dictionary → List ℕ → List ℕ → Pair → List Part
-parts_of_pair dictionary secret authenticator pair =
-    parts_holding dictionary pair.id (sent_octets dictionary secret authenticator pair)
+  module _ (secret authenticator : List ℕ) where
+    -- the octets of a pair's value: hidden where the attribute is, but for raw ones
+    unfoldable pub sent_octets : Pair → List ℕ
+    sent_octets pair =
+        if is_hidden pair.id dictionary && not (is_raw pair.value)
+        then hidden secret authenticator (octets pair.id pair.value dictionary)
+        else octets pair.id pair.value dictionary
 
--- the attributes that a list is sent in
-unfoldable pub parts_of : Dictionary → List ℕ → List ℕ → List Pair → List Part
-parts_of dictionary secret authenticator pairs =
-    flat_map (parts_of_pair dictionary secret authenticator) (sent pairs dictionary)
+    -- the attributes that a pair is sent in
+    abbrev pub parts_of_pair : Pair → List Part
+    parts_of_pair pair = parts_holding pair.id (sent_octets pair)
 
--- the octets of a list
-abbrev pub attribute_octets : Dictionary → List ℕ → List ℕ → List Pair → List ℕ
-attribute_octets dictionary secret authenticator pairs =
-    flat_map part_octets (parts_of dictionary secret authenticator pairs)
+    -- the attributes that a list is sent in
+    unfoldable pub parts_of : List Pair → List Part
+    parts_of pairs = flat_map parts_of_pair (sent pairs dictionary)
+
+    -- the octets of a list
+    abbrev pub attribute_octets : List Pair → List ℕ
+    attribute_octets pairs = flat_map part_octets (parts_of pairs)

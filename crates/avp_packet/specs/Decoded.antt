@@ -17,29 +17,11 @@ abbrev pub is_accounting_request : List ℕ → List ℕ → Bool
 is_accounting_request os secret =
     bytes_eq (authenticator_of os) (md5 (take 4 os ++ zeros ++ attributes_of os ++ secret))
 
-abbrev pub packet_read : Dictionary → List ℕ → List ℕ → Packet
-packet_read dictionary secret os = record {
-  code = code_of os;
-  id = id_of os;
-  authenticator = authenticator_of os;
-  list =
-      attribute_pairs dictionary secret (hiding_authenticator (code_of os) (authenticator_of os))
-      (parts (attributes_of os));
-}
-
 -- an Access-Request with a Message-Authenticator that does not sign it
 abbrev pub is_wrongly_signed : List ℕ → List ℕ → Bool
 is_wrongly_signed os secret = (code_of os == access_request)
     && list_any is_signature (parts (attributes_of os))
     && not (is_signed os (authenticator_of os) secret)
-
--- an Access-Request that is signed where it has a Message-Authenticator, or an Accounting-Request with its authenticator
-abbrev pub request_read : Dictionary → List ℕ → List ℕ → Result Packet PacketFault
-request_read dictionary secret os =
-    if not ((code_of os == access_request) || (code_of os == accounting_request)) then Err CodeNotTaken
-    else if (code_of os == accounting_request) && not (is_accounting_request os secret) then Err WrongAuthenticator
-    else if is_wrongly_signed os secret then Err WrongMessageAuthenticator
-    else Ok (packet_read dictionary secret os)
 
 -- what is left of attributes that end here begins with the first that is not whole
 abbrev pub unless_left : ℕ → List ℕ → Result Packet PacketFault → Result Packet PacketFault
@@ -50,10 +32,29 @@ unless_left end (o ∷ os) read = Err (BadAttribute (end - length (o ∷ os)))
 abbrev pub unless_bad : List ℕ → Result Packet PacketFault → Result Packet PacketFault
 unless_bad attributes read = unless_left (20 + length attributes) (left attributes) read
 
--- what octets are read as, or the first refusal
-unfoldable pub decoded : Dictionary → List ℕ → List ℕ → Result Packet PacketFault
-decoded dictionary secret os =
-    if nat_lt (length os) 20 then Err TooShort
-    else if not (is_packet_length (length_of os)) then Err LengthOutOfRange
-    else if nat_lt (length os) (length_of os) then Err CutShort
-    else unless_bad (attributes_of os) (request_read dictionary secret os)
+module _ (dictionary : Dictionary) (secret os : List ℕ) where
+  abbrev pub packet_read : Packet
+  packet_read = record {
+    code = code_of os;
+    id = id_of os;
+    authenticator = authenticator_of os;
+    list =
+        attribute_pairs dictionary secret (hiding_authenticator (code_of os) (authenticator_of os))
+        (parts (attributes_of os));
+  }
+
+  -- an Access-Request that is signed where it has a Message-Authenticator, or an Accounting-Request with its authenticator
+  abbrev pub request_read : Result Packet PacketFault
+  request_read =
+      if not ((code_of os == access_request) || (code_of os == accounting_request)) then Err CodeNotTaken
+      else if (code_of os == accounting_request) && not (is_accounting_request os secret) then Err WrongAuthenticator
+      else if is_wrongly_signed os secret then Err WrongMessageAuthenticator
+      else Ok packet_read
+
+  -- what octets are read as, or the first refusal
+  unfoldable pub decoded : Result Packet PacketFault
+  decoded =
+      if nat_lt (length os) 20 then Err TooShort
+      else if not (is_packet_length (length_of os)) then Err LengthOutOfRange
+      else if nat_lt (length os) (length_of os) then Err CutShort
+      else unless_bad (attributes_of os) request_read

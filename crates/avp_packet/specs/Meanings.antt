@@ -16,28 +16,7 @@ use Rattle.avp_packet.specs.Hiding.{shown}
 use Rattle.avp_packet.specs.Splitting.{Part}
 use Rattle.avp_packet.specs.VendorFormats.{known_format}
 
--- ---- values
-
-abbrev pub value_shown : Dictionary → AttrId → List ℕ → Option (List ℕ) → Value
-value_shown dictionary id os (Some password) = value_of_octets id password dictionary
-value_shown dictionary id os None = Raw os
-
--- the value of an attribute's octets, shown first where they are hidden
-unfoldable pub value_meant : Dictionary → List ℕ → List ℕ → AttrId → List ℕ → Value
-value_meant dictionary secret authenticator id os =
-    if is_hidden id dictionary
-    then value_shown dictionary id os (shown secret authenticator os)
-    else value_of_octets id os dictionary
-
-abbrev pub pair_meant : Dictionary → List ℕ → List ℕ → AttrId → List ℕ → Pair
-pair_meant dictionary secret authenticator id os =
-    record { id = id; value = value_meant dictionary secret authenticator id os }
-
--- an attribute whose octets are not looked into
-abbrev pub raw_pair : Part → Pair
-raw_pair part = record { id = Plain part.number; value = Raw part.value }
-
--- ---- vendors (RFC 2865, section 5.26)
+-- ---- a vendor's own attributes (RFC 2865, section 5.26)
 
 -- one of a vendor's own attributes
 pub record Sub : Type 0 where
@@ -89,32 +68,7 @@ vendor_of os = number_from_digits 256 (take 4 os)
 abbrev pub subs_by : List ℕ → Format → Option (List Sub)
 subs_by os f = if are_subs f (drop 4 os) then Some (subs f (drop 4 os)) else None
 
--- what is behind the Vendor-Id, by the format of the vendor
-unfoldable pub vendor_subs : Dictionary → List ℕ → Option (List Sub)
-vendor_subs dictionary os =
-    if nat_le 4 (length os)
-    then option_and_then (subs_by os) (known_format (vendor_of os) dictionary)
-    else None
-
-abbrev pub sub_pair : Dictionary → List ℕ → List ℕ → ℕ → Sub → Pair
-sub_pair dictionary secret authenticator vendor sub =
-    pair_meant dictionary secret authenticator (Vendor vendor sub.number) sub.value
-
--- a pair for each of the vendor's attributes, else the attribute as it is
-abbrev pub vendor_pairs : Dictionary → List ℕ → List ℕ → Part → Option (List Sub) → List Pair
-vendor_pairs dictionary secret authenticator part (Some subs) =
-    map (sub_pair dictionary secret authenticator (vendor_of part.value)) subs
-vendor_pairs dictionary secret authenticator part None = raw_pair part ∷ []
-
--- ---- extended attributes (RFC 6929, section 2.1)
-
-abbrev pub extended_pair : Dictionary → List ℕ → List ℕ → Part → Pair
-extended_pair dictionary secret authenticator part = elim part.value [
-  | n ∷ o ∷ os ↦ pair_meant dictionary secret authenticator (Extended part.number n) (o ∷ os)
-  | _ ↦ raw_pair part
-]
-
--- ---- long extended attributes (RFC 6929, section 2.2)
+-- ---- long values (RFC 6929, section 2.2)
 
 -- a piece of a long value, and whether another one follows
 pub record Piece : Type 0 where
@@ -158,24 +112,6 @@ extended_type part = slice_index part.value 0
 abbrev pub first_run : Part → List Part → Option Run
 first_run part parts = run part.number (extended_type part) (part ∷ parts)
 
-abbrev pub long_pair : Dictionary → List ℕ → List ℕ → Part → Option Run → Pair
-long_pair dictionary secret authenticator part (Some run) =
-    pair_meant dictionary secret authenticator (Extended part.number (extended_type part)) run.os
-long_pair dictionary secret authenticator part None = raw_pair part
-
--- ---- attributes
-
--- the pairs of the first attribute, with those that its value goes on in
-abbrev pub first_pairs : Dictionary → List ℕ → List ℕ → Part → List Part → List Pair
-first_pairs dictionary secret authenticator part parts =
-    if part.number == vendor_specific
-    then vendor_pairs dictionary secret authenticator part (vendor_subs dictionary part.value)
-    else if holds_one part.number
-    then extended_pair dictionary secret authenticator part ∷ []
-    else if holds_long part.number
-    then long_pair dictionary secret authenticator part (first_run part parts) ∷ []
-    else (pair_meant dictionary secret authenticator (Plain part.number) part.value ∷ [])
-
 -- how many of the attributes behind the first its value goes on in
 abbrev pub others_in : List Part → Option Run → ℕ
 others_in parts (Some run) = length parts - length run.rest
@@ -184,16 +120,72 @@ others_in parts None = 0
 abbrev pub others : Part → List Part → ℕ
 others part parts = if holds_long part.number then others_in parts (first_run part parts) else 0
 
--- the pairs of the attributes behind the first so many
-unfoldable pub meaning_behind : Dictionary → List ℕ → List ℕ → ℕ → List Part → List Pair
-meaning_behind dictionary secret authenticator k [] = []
-meaning_behind dictionary secret authenticator (suc k) (part ∷ parts) =
-    meaning_behind dictionary secret authenticator k parts
-meaning_behind dictionary secret authenticator zero (part ∷ parts) =
-    first_pairs dictionary secret authenticator part parts
-    ++ meaning_behind dictionary secret authenticator (others part parts) parts
+-- ---- pairs
 
--- the pairs that attributes mean
-abbrev pub attribute_pairs : Dictionary → List ℕ → List ℕ → List Part → List Pair
-attribute_pairs dictionary secret authenticator attributes =
-    meaning_behind dictionary secret authenticator 0 attributes
+-- an attribute whose octets are not looked into
+abbrev pub raw_pair : Part → Pair
+raw_pair part = record { id = Plain part.number; value = Raw part.value }
+
+module _ (dictionary : Dictionary) where
+  abbrev pub value_shown : AttrId → List ℕ → Option (List ℕ) → Value
+  value_shown id os (Some password) = value_of_octets id password dictionary
+  value_shown id os None = Raw os
+
+  -- what is behind the Vendor-Id, by the format of the vendor
+  unfoldable pub vendor_subs : List ℕ → Option (List Sub)
+  vendor_subs os =
+      if nat_le 4 (length os)
+      then option_and_then (subs_by os) (known_format (vendor_of os) dictionary)
+      else None
+
+  module _ (secret authenticator : List ℕ) where
+    -- the value of an attribute's octets, shown first where they are hidden
+    unfoldable pub value_meant : AttrId → List ℕ → Value
+    value_meant id os =
+        if is_hidden id dictionary
+        then value_shown id os (shown secret authenticator os)
+        else value_of_octets id os dictionary
+
+    abbrev pub pair_meant : AttrId → List ℕ → Pair
+    pair_meant id os = record { id = id; value = value_meant id os }
+
+    abbrev pub sub_pair : ℕ → Sub → Pair
+    sub_pair vendor sub = pair_meant (Vendor vendor sub.number) sub.value
+
+    -- a pair for each of the vendor's attributes, else the attribute as it is
+    abbrev pub vendor_pairs : Part → Option (List Sub) → List Pair
+    vendor_pairs part (Some subs) = map (sub_pair (vendor_of part.value)) subs
+    vendor_pairs part None = raw_pair part ∷ []
+
+    -- an extended attribute (RFC 6929, section 2.1)
+    abbrev pub extended_pair : Part → Pair
+    extended_pair part = elim part.value [
+      | n ∷ o ∷ os ↦ pair_meant (Extended part.number n) (o ∷ os)
+      | _ ↦ raw_pair part
+    ]
+
+    abbrev pub long_pair : Part → Option Run → Pair
+    long_pair part (Some run) = pair_meant (Extended part.number (extended_type part)) run.os
+    long_pair part None = raw_pair part
+
+    -- the pairs of the first attribute, with those that its value goes on in
+    abbrev pub first_pairs : Part → List Part → List Pair
+    first_pairs part parts =
+        if part.number == vendor_specific
+        then vendor_pairs part (vendor_subs part.value)
+        else if holds_one part.number
+        then extended_pair part ∷ []
+        else if holds_long part.number
+        then long_pair part (first_run part parts) ∷ []
+        else (pair_meant (Plain part.number) part.value ∷ [])
+
+    -- the pairs of the attributes behind the first so many
+    unfoldable pub meaning_behind : ℕ → List Part → List Pair
+    meaning_behind k [] = []
+    meaning_behind (suc k) (part ∷ parts) = meaning_behind k parts
+    meaning_behind zero (part ∷ parts) =
+        first_pairs part parts ++ meaning_behind (others part parts) parts
+
+    -- the pairs that attributes mean
+    abbrev pub attribute_pairs : List Part → List Pair
+    attribute_pairs attributes = meaning_behind 0 attributes

@@ -16,35 +16,38 @@ IsExtended t = (extended_type_1 ≤ t) × (t ≤ extended_type_4)
 abbrev pub IsLong : ℕ → Type 0
 IsLong t = (t ≡ long_extended_type_1) ⊎ (t ≡ long_extended_type_2)
 
--- the first attribute holds others, and none of them is there to be read
-abbrev pub IsUnread : Dictionary → Part → List Part → Type 0
-IsUnread dictionary part parts =
-    ((part.number ≡ vendor_specific) × (vendor_subs dictionary part.value ≡ None))
-    ⊎ ((IsExtended part.number × (length part.value < 2)) ⊎ (IsLong part.number × (first_run part parts ≡ None)))
+module _ (dictionary : Dictionary) where
+  -- the first attribute holds others, and none of them is there to be read
+  abbrev pub IsUnread : Part → List Part → Type 0
+  IsUnread part parts =
+      ((part.number ≡ vendor_specific) × (vendor_subs dictionary part.value ≡ None))
+      ⊎ ((IsExtended part.number × (length part.value < 2))
+      ⊎ (IsLong part.number × (first_run part parts ≡ None)))
 
-pub data Means (dictionary : Dictionary) (secret authenticator : List ℕ)
-    : List Part → List Pair → Type 0 where
-  nothing : Means dictionary secret authenticator [] []
-  of_vendor : (part : Part) (parts : List Part) (subs : List Sub) (pairs : List Pair)
-      → part.number ≡ vendor_specific → vendor_subs dictionary part.value ≡ Some subs
-      → Means dictionary secret authenticator parts pairs
-      → Means dictionary secret authenticator (part ∷ parts)
-      (map (sub_pair dictionary secret authenticator (vendor_of part.value)) subs ++ pairs)
-  of_extended : (t n o : ℕ) (os : List ℕ) (parts : List Part) (pairs : List Pair) → IsExtended t
-      → Means dictionary secret authenticator parts pairs
-      → Means dictionary secret authenticator (record { number = t; value = n ∷ o ∷ os } ∷ parts)
-      (pair_meant dictionary secret authenticator (Extended t n) (o ∷ os) ∷ pairs)
-  of_run : (part : Part) (parts : List Part) (run : Run) (pairs : List Pair)
-      → IsLong part.number → first_run part parts ≡ Some run
-      → Means dictionary secret authenticator run.rest pairs
-      → Means dictionary secret authenticator (part ∷ parts)
-      (pair_meant dictionary secret authenticator (Extended part.number (extended_type part)) run.os
-      ∷ pairs)
-  as_raw : (part : Part) (parts : List Part) (pairs : List Pair) → IsUnread dictionary part parts
-      → Means dictionary secret authenticator parts pairs
-      → Means dictionary secret authenticator (part ∷ parts) (raw_pair part ∷ pairs)
-  as_plain : (part : Part) (parts : List Part) (pairs : List Pair)
-      → is_container (Plain part.number) ≡ false
-      → Means dictionary secret authenticator parts pairs
-      → Means dictionary secret authenticator (part ∷ parts)
-      (pair_meant dictionary secret authenticator (Plain part.number) part.value ∷ pairs)
+  module _ (secret authenticator : List ℕ) where
+    pub data Means : List Part → List Pair → Type 0 where
+      nothing : Means [] []
+      of_vendor : (part : Part) (parts : List Part) (subs : List Sub) (pairs : List Pair)
+          → part.number ≡ vendor_specific → vendor_subs dictionary part.value ≡ Some subs
+          → Means parts pairs
+          → Means (part ∷ parts)
+          (map (sub_pair dictionary secret authenticator (vendor_of part.value)) subs ++ pairs)
+      of_extended : (t n o : ℕ) (os : List ℕ) (parts : List Part) (pairs : List Pair)
+          → IsExtended t
+          → Means parts pairs
+          → Means (record { number = t; value = n ∷ o ∷ os } ∷ parts)
+          (pair_meant dictionary secret authenticator (Extended t n) (o ∷ os) ∷ pairs)
+      of_run : (part : Part) (parts : List Part) (run : Run) (pairs : List Pair)
+          → IsLong part.number → first_run part parts ≡ Some run
+          → Means run.rest pairs
+          → Means (part ∷ parts)
+          (pair_meant dictionary secret authenticator (Extended part.number (extended_type part))
+          run.os ∷ pairs)
+      as_raw : (part : Part) (parts : List Part) (pairs : List Pair) → IsUnread part parts
+          → Means parts pairs
+          → Means (part ∷ parts) (raw_pair part ∷ pairs)
+      as_plain : (part : Part) (parts : List Part) (pairs : List Pair)
+          → is_container (Plain part.number) ≡ false
+          → Means parts pairs
+          → Means (part ∷ parts)
+          (pair_meant dictionary secret authenticator (Plain part.number) part.value ∷ pairs)

@@ -79,23 +79,6 @@ attributes_with dictionary secret code authenticator content signature =
     octets_sent dictionary secret (hiding_authenticator code authenticator)
     (pairs_sent dictionary content (raw_pair (part message_authenticator signature)))
 
--- the octets that sign a packet: the digest of the packet with zeros in their place (RFC 3579, section 3.2)
-unfoldable pub signature_of : Dictionary → List ℕ → ℕ → ℕ → List ℕ → Content → List ℕ
-signature_of dictionary secret code id authenticator content =
-    hmac secret (packet code id authenticator (attributes_with dictionary secret code authenticator content zeros))
-
--- the attributes of a packet, signed
-abbrev pub attributes_signed : Dictionary → List ℕ → ℕ → ℕ → List ℕ → Content → List ℕ
-attributes_signed dictionary secret code id authenticator content =
-    attributes_with dictionary secret code authenticator content
-    (signature_of dictionary secret code id authenticator content)
-
--- the pairs that these attributes mean, where the lists are clean
-abbrev pub pairs_meant : Dictionary → List ℕ → ℕ → ℕ → List ℕ → Content → List Pair
-pairs_meant dictionary secret code id authenticator content = pairs_sent dictionary content
-    (pair_meant dictionary secret (hiding_authenticator code authenticator) message_authenticator_id
-    (signature_of dictionary secret code id authenticator content))
-
 abbrev pub request_kind : ℕ → Kind
 request_kind code = if code == accounting_request then Accounting else Access
 
@@ -103,21 +86,38 @@ abbrev pub request_content : ℕ → List Pair → Content
 request_content code pairs =
     record { kind = request_kind code; pairs = pairs; proxy_states = [] }
 
-unfoldable pub request : Dictionary → List ℕ → ℕ → ℕ → List ℕ → List Pair → List ℕ
-request dictionary secret code id authenticator pairs =
-    let attributes = attributes_signed dictionary secret code id authenticator (request_content code pairs) in
-    packet code id (request_authenticator code id authenticator attributes secret) attributes
-
 -- the reply list's, then the Proxy-States'
 abbrev pub reply_content : Bool → List Pair → List Pair → Content
 reply_content signed pairs proxy_states =
     record { kind = Reply signed; pairs = pairs; proxy_states = proxy_states }
 
--- the authenticator of a reply is the digest over that of the request, and over the Message-Authenticator
-unfoldable pub reply : Dictionary → List ℕ → ℕ → ℕ → List ℕ → Bool → List Pair → List Pair → List ℕ
-reply dictionary secret code id authenticator signed pairs proxy_states =
-    let attributes = attributes_signed dictionary secret code id authenticator (reply_content signed pairs proxy_states) in
-    packet code id (digest_over code id authenticator attributes secret) attributes
+module _ (dictionary : Dictionary) (secret : List ℕ) (code id : ℕ) (authenticator : List ℕ) where
+  -- the octets that sign a packet: the digest of the packet with zeros in their place (RFC 3579, section 3.2)
+  unfoldable pub signature_of : Content → List ℕ
+  signature_of content = hmac secret
+      (packet code id authenticator (attributes_with dictionary secret code authenticator content zeros))
+
+  -- the attributes of a packet, signed
+  abbrev pub attributes_signed : Content → List ℕ
+  attributes_signed content =
+      attributes_with dictionary secret code authenticator content (signature_of content)
+
+  -- the pairs that these attributes mean, where the lists are clean
+  abbrev pub pairs_meant : Content → List Pair
+  pairs_meant content = pairs_sent dictionary content
+      (pair_meant dictionary secret (hiding_authenticator code authenticator)
+      message_authenticator_id (signature_of content))
+
+  unfoldable pub request : List Pair → List ℕ
+  request pairs =
+      let attributes = attributes_signed (request_content code pairs) in
+      packet code id (request_authenticator code id authenticator attributes secret) attributes
+
+  -- the authenticator of a reply is the digest over that of the request, and over the Message-Authenticator
+  unfoldable pub reply : Bool → List Pair → List Pair → List ℕ
+  reply signed pairs proxy_states =
+      let attributes = attributes_signed (reply_content signed pairs proxy_states) in
+      packet code id (digest_over code id authenticator attributes secret) attributes
 
 -- ---- octets given
 
