@@ -1,13 +1,13 @@
-//! A vendor's own attributes (RFC 2865, section 5.26).
+//! A vendor's format and its own attributes (RFC 2865, section 5.26).
 
 ghost use Rattle.std.specs.Prelude.{◌≡◌, ◌≤◌, ◌<◌, ◌+◌, ◌++◌, true, false, Some, None, length, drop, map, OnOk, IfSome, IfNone};
 ghost use Rattle.std.specs.Int.Digits.{number_from_digits};
 ghost use Rattle.avp_dict.specs.Vendors.{is_format};
 ghost use Rattle.avp_packet.specs.AttributeOctets.{part};
 ghost use Rattle.avp_packet.specs.Meanings.{are_subs_behind, begins_sub, first_sub, sub_length, sub_pair, subs, vendor_pairs, vendor_subs};
+ghost use Rattle.avp_packet.specs.VendorFormats.{known_format};
 ghost use Rattle.avp_packet.specs.internal.Views.{sub_view, under};
 
-use crate::attribute::formats::known_format;
 use crate::attribute::numbers::VENDOR_SPECIFIC;
 use crate::decoding::values::{push_raw, push_read};
 use crate::keys::Keys;
@@ -24,6 +24,16 @@ struct Sub<'a> {
     number: u32,
     value: &'a [u8],
     rest: &'a [u8],
+}
+
+/// A vendor's format of two parts, with 1, 2 or 4 octets of type and at most 2 of length, as in every dictionary.
+#[tactic(auto, unfolding(crate::specs::VendorFormats::known_format))]
+pub(crate) fn known_format(dictionary: &Dictionary, vendor: u32) -> Option<Format>
+    ensures format { result ≡ known_format vendor dictionary.now }
+    ensures usable { IfSome result (λ f. is_format f.t f.l ≡ true) }
+{
+    dictionary.is_sound();
+    dictionary.vendor(vendor)
 }
 
 // A number of at most four octets, the highest of them first.

@@ -8,8 +8,8 @@ ghost use Rattle.avp_packet.specs.AttributeOctets.{fragments, part, parts_holdin
 ghost use Rattle.avp_packet.specs.Splitting.{part_octets};
 ghost use Rattle.avp_packet.specs.internal.Holding.{CanHold, FitsFormat};
 
-use crate::attribute::formats::known_format;
 use crate::attribute::numbers::{LONG_EXTENDED_TYPE_1, MORE, PIECE_OCTETS, VENDOR_SPECIFIC};
+use crate::attribute::subattributes::known_format;
 use avp_dict::{Dictionary, Format};
 use avp_lists::AttrId;
 use std::alloc::AllocError;
