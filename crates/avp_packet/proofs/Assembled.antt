@@ -1,11 +1,9 @@
 -- Packets as they are put together, and what is read of them again.
-use Rattle.std.proofs.Common.{◌≡◌, ◌∙◌, ℕ, ◌+◌, ◌≤◌, Bool, true, nat_le, ◌==◌, List, [], ◌∷◌, ◌++◌, length, map, take, drop, refl, ap, arith}
+use Rattle.std.proofs.Common.{◌≡◌, ◌∙◌, ℕ, ◌+◌, ◌≤◌, true, nat_le, ◌==◌, List, [], ◌∷◌, ◌++◌, length, map, take, drop, refl, ap, arith}
 use Rattle.std.proofs.lemmas.Grind.{common_steps}
 use Rattle.std.proofs.lemmas.List.{length-append, take_at, drop_at, take_all}
 use Rattle.md5.specs.Md5.{md5}
 use Rattle.md5.proofs.StandardFacts.{length-md5}
-use Rattle.avp_lists.specs.declared.pairs.Pair.{Pair}
-use Rattle.avp_dict.specs.Dictionary.{Dictionary}
 use Rattle.avp_dict.specs.AttributeNumbers.{message_authenticator}
 use Rattle.std.specs.Int.{to_be_bytes, w16}
 use Rattle.std.specs.List.{flat_map}
@@ -14,7 +12,7 @@ use Rattle.avp_lists.specs.declared.pairs.Value.TheVariants.{Text}
 use Rattle.avp_lists.proofs.Equality.{value_eq-same}
 use Rattle.avp_packet.specs.AttributeOctets.{part}
 use Rattle.avp_packet.specs.Hmac.{hmac}
-use Rattle.avp_packet.specs.Packets.{accounting_request, attributes_of, attributes_signed, authenticator_of, digest_over, is_reply, length_of, packet, reply, reply_content, request, request_authenticator, request_content, zeros, max_packet_octets}
+use Rattle.avp_packet.specs.Packets.{accounting_request, attributes_of, authenticator_of, digest_over, is_reply, length_of, packet, request_authenticator, zeros, max_packet_octets}
 use Rattle.avp_packet.specs.Signed.{blanked, is_signed, signatures}
 use Rattle.avp_packet.specs.Splitting.{left, part_octets, parts}
 use Rattle.avp_packet.proofs.Tests.{by_test}
@@ -32,19 +30,6 @@ length-digest_over code id authenticator attributes secret = length-md5 (packet 
 pub length-request_authenticator : (code id : ℕ) (authenticator attributes secret : List ℕ) → length authenticator ≡ 16 → length (request_authenticator code id authenticator attributes secret) ≡ 16
 length-request_authenticator code id authenticator attributes secret h =
     by_test (length (request_authenticator code id authenticator attributes secret) ≡ 16) (code == accounting_request) (λ e. rw e (length-digest_over code id zeros attributes secret)) (λ e. rw e h)
-
-module _ (dictionary : Dictionary) (secret : List ℕ) (code id : ℕ) (authenticator : List ℕ) where
-  pub length_request : (pairs : List Pair) → length authenticator ≡ 16 → length (request dictionary secret code id authenticator pairs) ≡ 20 + length (attributes_signed dictionary secret code id authenticator (request_content code pairs))
-  unfolding request
-  length_request pairs h =
-      let attributes : List ℕ = attributes_signed dictionary secret code id authenticator (request_content code pairs) in
-      length-packet code id (request_authenticator code id authenticator attributes secret) attributes (length-request_authenticator code id authenticator attributes secret h)
-
-  pub length_reply : (signed : Bool) (pairs proxy_states : List Pair) → length (reply dictionary secret code id authenticator signed pairs proxy_states) ≡ 20 + length (attributes_signed dictionary secret code id authenticator (reply_content signed pairs proxy_states))
-  unfolding reply
-  length_reply signed pairs proxy_states =
-      let attributes : List ℕ = attributes_signed dictionary secret code id authenticator (reply_content signed pairs proxy_states) in
-      length-packet code id (digest_over code id authenticator attributes secret) attributes (length-digest_over code id authenticator attributes secret)
 
 -- ---- a packet taken apart
 

@@ -1,5 +1,5 @@
 -- A packet of signed attributes: what is read of it again.
-use Rattle.std.proofs.Common.{◌≡◌, ◌∙◌, ℕ, ◌≤◌, Bool, true, List, [], length, refl, sym, ap, arith}
+use Rattle.std.proofs.Common.{◌≡◌, ◌∙◌, ℕ, ◌≤◌, ◌<◌, Bool, true, List, [], length, refl, sym, ap, arith}
 use Rattle.std.specs.List.{All}
 use Rattle.avp_lists.specs.declared.pairs.Pair.{Pair}
 use Rattle.avp_dict.specs.Dictionary.{Dictionary}
@@ -14,15 +14,25 @@ use Rattle.avp_packet.specs.Packets.{attributes_of, attributes_signed, hiding_au
 use Rattle.avp_packet.specs.Sending.{Content, without_signatures}
 use Rattle.avp_packet.specs.Signed.{is_signed}
 use Rattle.avp_packet.specs.Splitting.{left, parts}
-use Rattle.avp_packet.specs.internal.Filling.{AreVendorsInRange, IsDivided, KeepsAll, divided_octets}
+use Rattle.avp_packet.specs.internal.Filling.{AreVendorsInRange, IsDivided, KeepsAll, divided_octets, divided_signed}
 use Rattle.avp_packet.proofs.Assembled.{attributes_of-packet, is_signed-packet, length-packet}
 use Rattle.avp_packet.proofs.Filled.{length-hmac}
 use Rattle.avp_packet.proofs.OneMeaning.{meant_by}
-use Rattle.avp_packet.proofs.SentLists.{before_clean, behind_clean, blank_text, laid_whole, left_whole, length-laid, one_signature, signed_means, signed_octets}
+use Rattle.avp_packet.proofs.SentLists.{before_clean, behind_clean, blank_text, laid_whole, left_whole, length-laid, length-signed, one_signature, signed_means, signed_octets}
 
 module _ (dictionary : Dictionary) (secret : List ℕ) (code id : ℕ) (authenticator : List ℕ) (content : Content) where
   abbrev sent_attributes : List ℕ
   sent_attributes = attributes_signed dictionary secret code id authenticator content
+
+  -- the attributes are too many for a packet, or not
+  module _ (own : List ℕ) (long : length own ≡ 16) (division : Division) (divided : IsDivided content.kind content.pairs division) where
+    pub packet_too_long : 4076 < length (divided_octets dictionary secret (hiding_authenticator code authenticator) division content.proxy_states zeros) → max_packet_octets < length (packet code id own sent_attributes)
+    packet_too_long more = omega (arith, more, length-packet code id own sent_attributes long, length-signed dictionary secret code id authenticator content division divided)
+
+    pub packet_short : (attributes : List ℕ) → attributes ≡ divided_signed dictionary secret code id authenticator division content.proxy_states → length attributes ≤ 4076 → length (packet code id own sent_attributes) ≤ max_packet_octets
+    packet_short attributes made few =
+        let same = ap length (made ∙ sym (signed_octets dictionary secret code id authenticator content division divided)) in
+        omega (arith, few, length-packet code id own sent_attributes long, same)
 
   -- octets are a packet of the attributes, and no longer than a packet may be
   module _ (octets own : List ℕ) (made : octets ≡ packet code id own sent_attributes) (long : length own ≡ 16) (short : length (packet code id own sent_attributes) ≤ max_packet_octets) where

@@ -144,7 +144,6 @@ fn packet(
 /// let packet = decode(alloc, dictionary, secret, &octets)?;
 /// assert!(rt; packet.list.as_slice() == list.as_slice());
 /// ```
-#[tactic(auto, unfolding(crate::specs::Packets::request), using(crate::proofs::Assembled::length_request))]
 pub fn encode_request(
     alloc: Global,
     dictionary: &Dictionary,
@@ -187,7 +186,6 @@ pub fn encode_request(
 
 /// The authenticator of the packet that [`encode_request`] makes of the same, without the packet: of an
 /// Accounting-Request its digest.
-#[tactic(auto, unfolding(crate::specs::Packets::request), using(crate::proofs::Assembled::length_request))]
 pub fn encoded_authenticator(
     alloc: Global,
     dictionary: &Dictionary,
@@ -238,7 +236,6 @@ pub fn encoded_authenticator(
 /// assert!(rt; check_reply(&reply, authenticator, secret));
 /// assert!(rt; check_message(&reply, authenticator, secret));
 /// ```
-#[tactic(auto, unfolding(crate::specs::Packets::reply), using(crate::proofs::Assembled::length_reply))]
 pub fn encode_reply(
     alloc: Global,
     dictionary: &Dictionary,

@@ -1,25 +1,23 @@
-use Rattle.std.proofs.Common.{rules, ◌≡◌, ◌∙◌, List, ℕ, Err, length, sym, ap, arith}
+use Rattle.std.proofs.Common.{rules, ◌≡◌, ◌∙◌, List, ℕ, Err, sym, ap, arith}
 use Rattle.avp_lists.specs.declared.pairs.Pair.{Pair}
 use Rattle.avp_dict.specs.Limits.{fits}
 use Rattle.avp_packet.specs.declared.faults.EncodeFault.TheVariants.{TooLong}
 use Rattle.avp_packet.specs.Packets.{attributes_signed, digest_over, packet, reply, reply_content}
 use Rattle.avp_packet.specs.Sending.{Content}
-use Rattle.avp_packet.proofs.Assembled.{is_reply-packet, length-digest_over, length_reply}
-use Rattle.avp_packet.proofs.SentLists.{length-signed, proxies_unsigned, signed_octets}
-use Rattle.avp_packet.proofs.SentPackets.{packet_means, packet_signed, packet_whole}
+use Rattle.avp_packet.proofs.Assembled.{is_reply-packet, length-digest_over, length-packet}
+use Rattle.avp_packet.proofs.SentLists.{proxies_unsigned, signed_octets}
+use Rattle.avp_packet.proofs.SentPackets.{packet_means, packet_short, packet_signed, packet_too_long, packet_whole}
 use Rattle.avp_packet.proofs.encoding.packets.encode_reply.Goals as goal
 
 pub signed_attributes-requires-clause-list_fits : goal.signed_attributes-requires-clause-list_fits
 signed_attributes-requires-clause-list_fits c = c.divide_reply-division.ensures.kept (λ (p : Pair). fits p c.args.dictionary.now) c.requires.fits
 
 pub returns-in_err-attributes-clause-too_long : goal.returns-in_err-attributes-clause-too_long
+unfolding reply
 returns-in_err-attributes-clause-too_long c = λ err.
-    let content : Content = reply_content c.args.signed c.args.list.now c.args.proxy_states.now in
     let refused : c.signed_attributes.result ≡ Err TooLong = search rules in
-    let long = c.in_err-attributes.ensures.too_long (sym c.in_err-attributes.was ∙ refused) in
-    let size = length_reply c.args.dictionary.now c.args.secret.now c.args.code c.args.id c.args.request_authenticator.now c.args.signed c.args.list.now c.args.proxy_states.now in
-    let laid = length-signed c.args.dictionary.now c.args.secret.now c.args.code c.args.id c.args.request_authenticator.now content c.divide_reply-division.result c.divide_reply-division.ensures.divided in
-    omega (arith, long, size, laid)
+    packet_too_long c.args.dictionary.now c.args.secret.now c.args.code c.args.id c.args.request_authenticator.now (reply_content c.args.signed c.args.list.now c.args.proxy_states.now) _ (length-digest_over _ _ _ _ _)
+    c.divide_reply-division.result c.divide_reply-division.ensures.divided (c.in_err-attributes.ensures.too_long (sym c.in_err-attributes.was ∙ refused))
 
 pub returns-clause-octets : goal.returns-clause-octets
 unfolding reply
@@ -31,18 +29,16 @@ returns-clause-octets c =
     (c.in_ok-attributes.ensures.octets ∙ sym (signed_octets c.args.dictionary.now c.args.secret.now c.args.code c.args.id c.args.request_authenticator.now content c.divide_reply-division.result c.divide_reply-division.ensures.divided))
 
 pub returns-clause-short : goal.returns-clause-short
+unfolding reply
 returns-clause-short c =
-    let content : Content = reply_content c.args.signed c.args.list.now c.args.proxy_states.now in
-    let size = length_reply c.args.dictionary.now c.args.secret.now c.args.code c.args.id c.args.request_authenticator.now c.args.signed c.args.list.now c.args.proxy_states.now in
-    let same = ap length (c.in_ok-attributes.ensures.octets ∙ sym (signed_octets c.args.dictionary.now c.args.secret.now c.args.code c.args.id c.args.request_authenticator.now content c.divide_reply-division.result c.divide_reply-division.ensures.divided)) in
-    let short = c.in_ok-attributes.ensures.short in
-    omega (arith, size, same, short)
+    packet_short c.args.dictionary.now c.args.secret.now c.args.code c.args.id c.args.request_authenticator.now (reply_content c.args.signed c.args.list.now c.args.proxy_states.now) _ (length-digest_over _ _ _ _ _)
+    c.divide_reply-division.result c.divide_reply-division.ensures.divided c.in_ok-attributes.attributes.items c.in_ok-attributes.ensures.octets c.in_ok-attributes.ensures.short
 
 pub returns-clause-accepted : goal.returns-clause-accepted
 unfolding reply
 returns-clause-accepted c =
     let attributes : List ℕ = attributes_signed c.args.dictionary.now c.args.secret.now c.args.code c.args.id c.args.request_authenticator.now (reply_content c.args.signed c.args.list.now c.args.proxy_states.now) in
-    let size = length_reply c.args.dictionary.now c.args.secret.now c.args.code c.args.id c.args.request_authenticator.now c.args.signed c.args.list.now c.args.proxy_states.now in
+    let size = length-packet c.args.code c.args.id (digest_over c.args.code c.args.id c.args.request_authenticator.now attributes c.args.secret.now) attributes (length-digest_over _ _ _ _ _) in
     rw (returns-clause-octets c) (is_reply-packet c.args.code c.args.id c.args.request_authenticator.now attributes c.args.secret.now (omega (arith, size, returns-clause-short c)))
 
 pub returns-clause-whole : goal.returns-clause-whole

@@ -1,4 +1,4 @@
-use Rattle.std.proofs.Common.{rules, ◌≡◌, ◌∙◌, true, List, [], ℕ, Err, length, refl, sym, ap, arith}
+use Rattle.std.proofs.Common.{rules, ◌≡◌, ◌∙◌, true, List, [], ℕ, Err, refl, sym, ap}
 use Rattle.std.specs.List.{All}
 use Rattle.avp_lists.specs.declared.pairs.Pair.{Pair}
 use Rattle.avp_dict.specs.Limits.{fits}
@@ -6,22 +6,20 @@ use Rattle.avp_dict.specs.Sent.{is_clean}
 use Rattle.avp_packet.specs.declared.faults.EncodeFault.TheVariants.{TooLong}
 use Rattle.avp_packet.specs.Packets.{packet, request, request_authenticator, request_content}
 use Rattle.avp_packet.specs.Sending.{Content}
-use Rattle.avp_packet.proofs.Assembled.{length-request_authenticator, length_request}
-use Rattle.avp_packet.proofs.SentLists.{length-signed, signed_octets}
-use Rattle.avp_packet.proofs.SentPackets.{packet_means, packet_signed, packet_whole}
+use Rattle.avp_packet.proofs.Assembled.{length-request_authenticator}
+use Rattle.avp_packet.proofs.SentLists.{signed_octets}
+use Rattle.avp_packet.proofs.SentPackets.{packet_means, packet_short, packet_signed, packet_too_long, packet_whole}
 use Rattle.avp_packet.proofs.encoding.packets.encode_request.Goals as goal
 
 pub signed_attributes-requires-clause-list_fits : goal.signed_attributes-requires-clause-list_fits
 signed_attributes-requires-clause-list_fits c = c.divide_request-division.ensures.kept (λ (p : Pair). fits p c.args.dictionary.now) c.requires.fits
 
 pub returns-in_err-attributes-clause-too_long : goal.returns-in_err-attributes-clause-too_long
+unfolding request
 returns-in_err-attributes-clause-too_long c = λ err.
-    let content : Content = request_content c.args.code c.args.list.now in
     let refused : c.signed_attributes.result ≡ Err TooLong = search rules in
-    let long = c.in_err-attributes.ensures.too_long (sym c.in_err-attributes.was ∙ refused) in
-    let size = length_request c.args.dictionary.now c.args.secret.now c.args.code c.args.id c.args.authenticator.now c.args.list.now c.told-authenticator in
-    let laid = length-signed c.args.dictionary.now c.args.secret.now c.args.code c.args.id c.args.authenticator.now content c.divide_request-division.result c.divide_request-division.ensures.divided in
-    omega (arith, long, size, laid)
+    packet_too_long c.args.dictionary.now c.args.secret.now c.args.code c.args.id c.args.authenticator.now (request_content c.args.code c.args.list.now) _ (length-request_authenticator _ _ _ _ _ c.told-authenticator)
+    c.divide_request-division.result c.divide_request-division.ensures.divided (c.in_err-attributes.ensures.too_long (sym c.in_err-attributes.was ∙ refused))
 
 pub returns-clause-octets : goal.returns-clause-octets
 unfolding request
@@ -33,12 +31,10 @@ returns-clause-octets c =
     (c.in_ok-attributes.ensures.octets ∙ sym (signed_octets c.args.dictionary.now c.args.secret.now c.args.code c.args.id c.args.authenticator.now content c.divide_request-division.result c.divide_request-division.ensures.divided))
 
 pub returns-clause-short : goal.returns-clause-short
+unfolding request
 returns-clause-short c =
-    let content : Content = request_content c.args.code c.args.list.now in
-    let size = length_request c.args.dictionary.now c.args.secret.now c.args.code c.args.id c.args.authenticator.now c.args.list.now c.told-authenticator in
-    let same = ap length (c.in_ok-attributes.ensures.octets ∙ sym (signed_octets c.args.dictionary.now c.args.secret.now c.args.code c.args.id c.args.authenticator.now content c.divide_request-division.result c.divide_request-division.ensures.divided)) in
-    let short = c.in_ok-attributes.ensures.short in
-    omega (arith, size, same, short)
+    packet_short c.args.dictionary.now c.args.secret.now c.args.code c.args.id c.args.authenticator.now (request_content c.args.code c.args.list.now) _ (length-request_authenticator _ _ _ _ _ c.told-authenticator)
+    c.divide_request-division.result c.divide_request-division.ensures.divided c.in_ok-attributes.attributes.items c.in_ok-attributes.ensures.octets c.in_ok-attributes.ensures.short
 
 pub returns-clause-whole : goal.returns-clause-whole
 unfolding request

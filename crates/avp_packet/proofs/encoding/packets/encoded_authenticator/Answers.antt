@@ -1,24 +1,23 @@
-use Rattle.std.proofs.Common.{rules, ◌≡◌, ◌∙◌, List, ℕ, Err, length, sym, ap, arith}
+use Rattle.std.proofs.Common.{rules, ◌≡◌, ◌∙◌, List, ℕ, Err, sym, ap}
 use Rattle.avp_lists.specs.declared.pairs.Pair.{Pair}
 use Rattle.avp_dict.specs.Limits.{fits}
 use Rattle.avp_packet.specs.declared.faults.EncodeFault.TheVariants.{TooLong}
 use Rattle.avp_packet.specs.Packets.{authenticator_of, packet, request, request_authenticator, request_content}
 use Rattle.avp_packet.specs.Sending.{Content}
-use Rattle.avp_packet.proofs.Assembled.{authenticator_of-packet, length-request_authenticator, length_request}
-use Rattle.avp_packet.proofs.SentLists.{length-signed, signed_octets}
+use Rattle.avp_packet.proofs.Assembled.{authenticator_of-packet, length-request_authenticator}
+use Rattle.avp_packet.proofs.SentLists.{signed_octets}
+use Rattle.avp_packet.proofs.SentPackets.{packet_short, packet_too_long}
 use Rattle.avp_packet.proofs.encoding.packets.encoded_authenticator.Goals as goal
 
 pub signed_attributes-requires-clause-list_fits : goal.signed_attributes-requires-clause-list_fits
 signed_attributes-requires-clause-list_fits c = c.divide_request-division.ensures.kept (λ (p : Pair). fits p c.args.dictionary.now) c.requires.fits
 
 pub returns-in_err-attributes-clause-too_long : goal.returns-in_err-attributes-clause-too_long
+unfolding request
 returns-in_err-attributes-clause-too_long c = λ err.
-    let content : Content = request_content c.args.code c.args.list.now in
     let refused : c.signed_attributes.result ≡ Err TooLong = search rules in
-    let long = c.in_err-attributes.ensures.too_long (sym c.in_err-attributes.was ∙ refused) in
-    let size = length_request c.args.dictionary.now c.args.secret.now c.args.code c.args.id c.args.authenticator.now c.args.list.now c.told-authenticator in
-    let laid = length-signed c.args.dictionary.now c.args.secret.now c.args.code c.args.id c.args.authenticator.now content c.divide_request-division.result c.divide_request-division.ensures.divided in
-    omega (arith, long, size, laid)
+    packet_too_long c.args.dictionary.now c.args.secret.now c.args.code c.args.id c.args.authenticator.now (request_content c.args.code c.args.list.now) _ (length-request_authenticator _ _ _ _ _ c.told-authenticator)
+    c.divide_request-division.result c.divide_request-division.ensures.divided (c.in_err-attributes.ensures.too_long (sym c.in_err-attributes.was ∙ refused))
 
 pub returns-clause-authenticator : goal.returns-clause-authenticator
 unfolding request
@@ -33,9 +32,7 @@ returns-clause-authenticator c =
     ∙ ap (λ (os : List ℕ). authenticator_of (packet c.args.code c.args.id (own os) os)) laid
 
 pub returns-clause-short : goal.returns-clause-short
+unfolding request
 returns-clause-short c =
-    let content : Content = request_content c.args.code c.args.list.now in
-    let size = length_request c.args.dictionary.now c.args.secret.now c.args.code c.args.id c.args.authenticator.now c.args.list.now c.told-authenticator in
-    let same = ap length (c.in_ok-attributes.ensures.octets ∙ sym (signed_octets c.args.dictionary.now c.args.secret.now c.args.code c.args.id c.args.authenticator.now content c.divide_request-division.result c.divide_request-division.ensures.divided)) in
-    let short = c.in_ok-attributes.ensures.short in
-    omega (arith, size, same, short)
+    packet_short c.args.dictionary.now c.args.secret.now c.args.code c.args.id c.args.authenticator.now (request_content c.args.code c.args.list.now) _ (length-request_authenticator _ _ _ _ _ c.told-authenticator)
+    c.divide_request-division.result c.divide_request-division.ensures.divided c.in_ok-attributes.attributes.items c.in_ok-attributes.ensures.octets c.in_ok-attributes.ensures.short
