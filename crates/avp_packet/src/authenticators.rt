@@ -16,6 +16,9 @@ pub const PACKET_HEAD_OCTETS: usize = 20;
 /// The most octets of a packet, of every code.
 pub const MAX_PACKET_OCTETS: usize = 4096;
 
+/// The most octets of a packet's attributes.
+pub(crate) const MAX_ATTRIBUTE_OCTETS: usize = MAX_PACKET_OCTETS - PACKET_HEAD_OCTETS;
+
 /// Where the authenticator begins.
 pub(crate) const AUTHENTICATOR_PLACE: usize = 4;
 

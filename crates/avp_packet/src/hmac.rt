@@ -9,7 +9,9 @@ ghost use Rattle.avp_packet.specs.Packets.{zeros};
 ghost use Rattle.avp_packet.specs.Splitting.{part_octets};
 
 use crate::attribute::numbers::MESSAGE_AUTHENTICATOR;
-use crate::hiding::masked;
+use crate::attribute::splitting::ATTRIBUTE_HEAD_OCTETS;
+use crate::authenticators::ZEROS;
+use crate::hiding::{BLOCK_OCTETS, masked};
 use md5::{Digest, Md5};
 
 /// The octets of a block of MD5.
@@ -20,12 +22,10 @@ const INNER_PAD: [u8; KEY_OCTETS] = [0x36; KEY_OCTETS];
 const OUTER_PAD: [u8; KEY_OCTETS] = [0x5c; KEY_OCTETS];
 
 /// The octets of a Message-Authenticator: Type, Length and 16 of Value.
-pub(crate) const SIGNATURE_OCTETS: usize = 18;
+pub(crate) const SIGNATURE_OCTETS: usize = ATTRIBUTE_HEAD_OCTETS + BLOCK_OCTETS;
 
-/// A Message-Authenticator with zeros in its value's place.
-pub(crate) const BLANK: [u8; SIGNATURE_OCTETS] = [
-    80, 18, 0, 0, 0, 0, 0, 0, 0, 0, 0, 0, 0, 0, 0, 0, 0, 0,
-];
+// The Type and Length of a Message-Authenticator.
+const SIGNATURE_HEAD: [u8; ATTRIBUTE_HEAD_OCTETS] = [MESSAGE_AUTHENTICATOR, SIGNATURE_OCTETS as u8];
 
 // The key, or the digest of a long one, with zeros up to a block.
 fn key_block(key: &[u8]) -> [u8; KEY_OCTETS]
@@ -50,7 +50,8 @@ fn keyed_hasher(pad: &[u8; KEY_OCTETS], key: &[u8; KEY_OCTETS]) -> Md5
     hasher
 }
 
-/// The octets that sign a packet, whose Message-Authenticator is between those before and those after.
+/// The octets that sign a packet, whose Message-Authenticator is between those before and those after, with zeros in its
+/// value's place.
 #[tactic(auto, unfolding(crate::specs::Hmac::hmac))]
 pub(crate) fn signature_between(
     secret: &[u8],
@@ -67,7 +68,8 @@ pub(crate) fn signature_between(
     inner.update(head);
     inner.update(authenticator);
     inner.update(before);
-    inner.update(&BLANK);
+    inner.update(&SIGNATURE_HEAD);
+    inner.update(&ZEROS);
     inner.update(after);
     let mut outer = keyed_hasher(&OUTER_PAD, &key);
     outer.update(&inner.finalize());

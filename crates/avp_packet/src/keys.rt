@@ -1,6 +1,13 @@
 //! What a packet's values are read and written by.
 
+ghost use Rattle.std.specs.Prelude.{◌≡◌};
+ghost use Rattle.avp_dict.specs.Octets.{is_hidden};
+ghost use Rattle.avp_packet.specs.Packets.{hiding_authenticator};
+
+use crate::authenticators::ZEROS;
+use crate::packets::{ACCOUNTING_REQUEST, ACCOUNTING_RESPONSE};
 use avp_dict::Dictionary;
+use avp_lists::AttrId;
 
 /// What a packet's values are read and written by: the dictionary of its attributes, and the secret and the
 /// authenticator that passwords are hidden by.
@@ -9,4 +16,25 @@ pub(crate) struct Keys<'a> {
     pub dictionary: &'a Dictionary,
     pub secret: &'a [u8],
     pub authenticator: &'a [u8; 16],
+}
+
+/// What the first block of a password is hidden by.
+pub(crate) fn hiding_authenticator(code: u8, authenticator: &[u8; 16]) -> [u8; 16]
+    ensures { result ≡ hiding_authenticator code authenticator.now }
+{
+    if code == ACCOUNTING_REQUEST || code == ACCOUNTING_RESPONSE {
+        ZEROS
+    } else {
+        *authenticator
+    }
+}
+
+/// Whether an id's values are hidden.
+pub(crate) fn is_hidden(dictionary: &Dictionary, id: AttrId) -> bool
+    ensures { result ≡ is_hidden id dictionary.now }
+{
+    match dictionary.by_id(id) {
+        Some(entry) => entry.hidden,
+        None => false,
+    }
 }

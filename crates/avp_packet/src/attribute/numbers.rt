@@ -18,4 +18,4 @@ pub(crate) const LONG_EXTENDED_TYPE_2: u8 = 246;
 /// The octets of a piece that another one follows.
 pub(crate) const PIECE_OCTETS: usize = 251;
 /// The flag of such a piece.
-pub(crate) const MORE: u8 = 0x80;
+pub(crate) const MORE_FLAG: u8 = 0x80;

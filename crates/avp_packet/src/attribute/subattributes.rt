@@ -15,8 +15,8 @@ use avp_dict::{Dictionary, Format};
 use avp_lists::{AttrId, Pair};
 use std::alloc::AllocError;
 
-// The octets of a Vendor-Id.
-const VENDOR_ID_OCTETS: usize = 4;
+/// The octets of a Vendor-Id.
+pub(crate) const VENDOR_ID_OCTETS: usize = 4;
 
 // One of a vendor's attributes, and what is behind it.
 #[derive(Clone, Copy)]

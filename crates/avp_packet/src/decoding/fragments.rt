@@ -7,7 +7,7 @@ ghost use Rattle.avp_packet.specs.Meanings.{joined, piece_of, run, run_with};
 ghost use Rattle.avp_packet.specs.Splitting.{parts};
 ghost use Rattle.avp_packet.specs.internal.Views.{piece_view, run_view};
 
-use crate::attribute::numbers::{MORE, PIECE_OCTETS};
+use crate::attribute::numbers::{MORE_FLAG, PIECE_OCTETS};
 use crate::attribute::splitting::{Front, first_attribute};
 use std::alloc::{AllocError, Global};
 
@@ -36,7 +36,7 @@ fn piece_in_attribute<'a>(t: u8, number: u8, front: &Front<'a>) -> Option<Piece<
     }
     match front.value {
         [n, flags, octets @ ..] if !octets.is_empty() && *n == number => Some(Piece {
-            more: *flags >= MORE,
+            more: *flags >= MORE_FLAG,
             octets,
             rest: front.rest,
         }),

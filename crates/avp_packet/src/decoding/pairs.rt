@@ -12,9 +12,9 @@ use crate::attribute::numbers::{
 };
 use crate::attribute::splitting::{Front, first_attribute};
 use crate::attribute::subattributes::push_vendor_pairs;
+use crate::authenticators::MAX_ATTRIBUTE_OCTETS;
 use crate::decoding::fragments::join_run;
 use crate::decoding::values::{push_extended, push_joined, push_raw, push_read};
-use crate::encoding::pairs::MAX_ATTRIBUTE_OCTETS;
 use crate::keys::Keys;
 use avp_lists::{AttrId, Pair};
 use std::alloc::{AllocError, Global};

@@ -19,9 +19,8 @@ use crate::authenticators::{
     is_accounting_request, is_packet_length, length_of,
 };
 use crate::decoding::pairs::attribute_pairs;
-use crate::encoding::packets::hiding_authenticator;
 use crate::faults::PacketFault;
-use crate::keys::Keys;
+use crate::keys::{Keys, hiding_authenticator};
 use crate::packets::{ACCESS_REQUEST, ACCOUNTING_REQUEST, Packet};
 use crate::signing::{has_signature, is_signed};
 use avp_dict::Dictionary;

@@ -5,9 +5,8 @@ ghost use Rattle.avp_packet.specs.AttributeOctets.{part};
 ghost use Rattle.avp_packet.specs.Meanings.{extended_pair, pair_meant, raw_pair, value_meant};
 ghost use Rattle.avp_packet.specs.internal.Views.{under};
 
-use crate::encoding::pairs::is_hidden;
 use crate::hiding::shown;
-use crate::keys::Keys;
+use crate::keys::{Keys, is_hidden};
 use avp_lists::{AttrId, Octets, Pair, Value};
 use std::alloc::{AllocError, Global};
 

@@ -8,14 +8,15 @@ ghost use Rattle.avp_packet.specs.AttributeOctets.{fragments, part, parts_holdin
 ghost use Rattle.avp_packet.specs.Splitting.{part_octets};
 ghost use Rattle.avp_packet.specs.internal.Holding.{CanHold, FitsFormat};
 
-use crate::attribute::numbers::{LONG_EXTENDED_TYPE_1, MORE, PIECE_OCTETS, VENDOR_SPECIFIC};
-use crate::attribute::subattributes::known_format;
+use crate::attribute::numbers::{LONG_EXTENDED_TYPE_1, MORE_FLAG, PIECE_OCTETS, VENDOR_SPECIFIC};
+use crate::attribute::splitting::ATTRIBUTE_HEAD_OCTETS;
+use crate::attribute::subattributes::{VENDOR_ID_OCTETS, known_format};
 use avp_dict::{Dictionary, Format};
 use avp_lists::AttrId;
 use std::alloc::AllocError;
 
-// Adds an attribute whose value begins with the front.
-fn push_attribute(
+/// Adds an attribute whose value begins with the front.
+pub(crate) fn push_attribute(
     octets: &mut Vec<u8>,
     number: u8,
     front: &[u8],
@@ -26,7 +27,7 @@ fn push_attribute(
         ++ part_octets (part number (front.now ++ rest.now))) }
 {
     octets.push(number)?;
-    octets.push((2 + front.len() + rest.len()) as u8)?;
+    octets.push((ATTRIBUTE_HEAD_OCTETS + front.len() + rest.len()) as u8)?;
     octets.extend_from_slice(front)?;
     octets.extend_from_slice(rest)
 }
@@ -39,7 +40,7 @@ fn push_fragments(octets: &mut Vec<u8>, t: u8, number: u8, value: &[u8]) -> Resu
     let mut rest = value;
     while rest.len() > PIECE_OCTETS {
         let (piece, after) = rest.split_at(PIECE_OCTETS);
-        push_attribute(octets, t, &[number, MORE], piece)?;
+        push_attribute(octets, t, &[number, MORE_FLAG], piece)?;
         rest = after;
     }
     push_attribute(octets, t, &[number, 0], rest)?;
@@ -92,7 +93,7 @@ fn push_vendor(
 {
     let length = usize::from(format.t) + usize::from(format.l) + value.len();
     octets.push(VENDOR_SPECIFIC)?;
-    octets.push((6 + length) as u8)?;
+    octets.push((ATTRIBUTE_HEAD_OCTETS + VENDOR_ID_OCTETS + length) as u8)?;
     push_vendor_head(octets, format, vendor, number, length as u8)?;
     octets.extend_from_slice(value)?;
     Ok(())

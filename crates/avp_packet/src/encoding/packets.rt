@@ -13,27 +13,19 @@ ghost use Rattle.avp_packet.specs.Signed.{is_signed};
 ghost use Rattle.avp_packet.specs.Splitting.{left};
 ghost use Rattle.avp_packet.specs.internal.Filling.{AreVendorsInRange, IsPlace, KeepsAll, divided_octets, divided_signed, filled};
 
-use crate::authenticators::{MAX_PACKET_OCTETS, PACKET_HEAD_OCTETS, ZEROS, digest_over, head_of};
+use crate::attribute::splitting::ATTRIBUTE_HEAD_OCTETS;
+use crate::authenticators::{
+    MAX_ATTRIBUTE_OCTETS, MAX_PACKET_OCTETS, PACKET_HEAD_OCTETS, ZEROS, digest_over, head_of,
+};
 use crate::encoding::dividing::{Division, divide_reply, divide_request};
-use crate::encoding::pairs::{MAX_ATTRIBUTE_OCTETS, write_attributes};
+use crate::encoding::pairs::write_attributes;
 use crate::faults::EncodeFault;
 use crate::hmac::{SIGNATURE_OCTETS, signature_between};
-use crate::keys::Keys;
+use crate::keys::{Keys, hiding_authenticator};
 use crate::packets::{ACCOUNTING_REQUEST, ACCOUNTING_RESPONSE};
 use avp_dict::Dictionary;
 use avp_lists::Pair;
 use std::alloc::{AllocError, Global};
-
-/// What the first block of a password is hidden by.
-pub(crate) fn hiding_authenticator(code: u8, authenticator: &[u8; 16]) -> [u8; 16]
-    ensures { result ≡ hiding_authenticator code authenticator.now }
-{
-    if code == ACCOUNTING_REQUEST || code == ACCOUNTING_RESPONSE {
-        ZEROS
-    } else {
-        *authenticator
-    }
-}
 
 // The authenticator of a request with these attributes.
 fn request_authenticator(
@@ -59,7 +51,7 @@ fn fill_signature(octets: &mut Vec<u8>, place: usize, signature: &[u8; 16])
     requires blank { filled octets.old.items (Some place) zeros ≡ octets.old.items }
     ensures { octets.new.items ≡ filled octets.old.items (Some place) signature.now }
 {
-    octets[place + 2..place + SIGNATURE_OCTETS].copy_from_slice(signature);
+    octets[place + ATTRIBUTE_HEAD_OCTETS..place + SIGNATURE_OCTETS].copy_from_slice(signature);
 }
 
 // Signs the packet of attributes, where there is a blank Message-Authenticator among them.

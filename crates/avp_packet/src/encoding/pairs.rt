@@ -12,30 +12,16 @@ ghost use Rattle.avp_packet.specs.internal.Filling.{AreVendorsInRange, IsPlace, 
 ghost use Rattle.avp_packet.specs.internal.Ranges.{IsVendorInRange};
 ghost use Rattle.avp_packet.specs.internal.Views.{under};
 
-use crate::authenticators::{MAX_PACKET_OCTETS, PACKET_HEAD_OCTETS};
-use crate::encoding::attributes::push_holding;
+use crate::attribute::numbers::MESSAGE_AUTHENTICATOR;
+use crate::authenticators::{MAX_ATTRIBUTE_OCTETS, ZEROS};
+use crate::encoding::attributes::{push_attribute, push_holding};
 use crate::encoding::dividing::{Division, MESSAGE_AUTHENTICATOR_ID};
 use crate::faults::EncodeFault;
 use crate::hiding::hidden;
-use crate::hmac::BLANK;
-use crate::keys::Keys;
-use avp_dict::Dictionary;
+use crate::keys::{Keys, is_hidden};
 use avp_lists::{AttrId, Pair, Value};
 use std::alloc::{AllocError, Global};
 use std::borrow::CowSlice;
-
-/// The most octets of a packet's attributes.
-pub(crate) const MAX_ATTRIBUTE_OCTETS: usize = MAX_PACKET_OCTETS - PACKET_HEAD_OCTETS;
-
-/// Whether an id's values are hidden.
-pub(crate) fn is_hidden(dictionary: &Dictionary, id: AttrId) -> bool
-    ensures { result ≡ is_hidden id dictionary.now }
-{
-    match dictionary.by_id(id) {
-        Some(entry) => entry.hidden,
-        None => false,
-    }
-}
 
 fn is_raw(value: &Value) -> bool
     ensures { result ≡ is_raw value.now }
@@ -186,7 +172,7 @@ fn push_blank(octets: &mut Vec<u8>, signed: bool) -> Result<Option<usize>, Encod
         return Ok(None);
     }
     let place = octets.len();
-    octets.extend_from_slice(&BLANK)?;
+    push_attribute(octets, MESSAGE_AUTHENTICATOR, &ZEROS, &[])?;
     if octets.len() > MAX_ATTRIBUTE_OCTETS {
         return Err(EncodeFault::TooLong);
     }

@@ -2,7 +2,7 @@ use Rattle.std.proofs.Common.{◌≡◌, ◌++◌, ℕ, ◌<◌, ◌≤◌, drop
 use Rattle.avp_lists.specs.declared.pairs.Pair.{Pair}
 use Rattle.avp_packet.specs.internal.Filling.{kept_pairs}
 use Rattle.avp_packet.specs.internal.Ranges.{IsVendorInRange}
-use Rattle.avp_packet.specs.declared.encoding.pairs.TheConstants.{MAX_ATTRIBUTE_OCTETS}
+use Rattle.avp_packet.specs.declared.authenticators.TheConstants.{MAX_ATTRIBUTE_OCTETS}
 use Rattle.avp_packet.specs.AttributeOctets.{attribute_octets}
 use Rattle.avp_packet.proofs.encoding.pairs.push_list.Given as goal
 
