@@ -5,7 +5,7 @@ ghost use Rattle.std.specs.Int.{to_be_bytes, w16};
 ghost use Rattle.std.specs.Str.{bytes_eq};
 ghost use Rattle.md5.specs.Md5.{md5};
 ghost use Rattle.avp_packet.specs.Decoded.{is_accounting_request};
-ghost use Rattle.avp_packet.specs.Packets.{authenticator_of, begins_packet, digest_over, is_packet_length, is_reply, length_of, zeros};
+ghost use Rattle.avp_packet.specs.Packets.{authenticator_of, begins_packet, digest_over, is_packet_length, is_reply, length_of};
 
 use crate::hiding::BLOCK_OCTETS;
 use md5::{Digest, Md5};

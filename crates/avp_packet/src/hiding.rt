@@ -1,6 +1,6 @@
 //! Hiding of passwords (RFC 2865, section 5.2).
 
-ghost use Rattle.std.specs.Prelude.{◌≡◌, ◌++◌, ◌*◌, ◌/◌, ◌<◌, ◌≤◌, ◌↔◌, true, false, length, IfOk, OnOk, IsTrue, Some, Err};
+ghost use Rattle.std.specs.Prelude.{◌≡◌, ◌++◌, ◌/◌, ◌<◌, ◌≤◌, ◌↔◌, true, false, length, IfOk, OnOk, IsTrue, Some, Err};
 ghost use Rattle.std.specs.Option.{option_map};
 ghost use Rattle.md5.specs.Md5.{md5};
 ghost use Rattle.avp_dict.specs.Octets.{ends_in_nul, is_hideable};

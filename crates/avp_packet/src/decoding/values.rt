@@ -1,6 +1,6 @@
 //! Values and pairs that attributes mean.
 
-ghost use Rattle.std.specs.Prelude.{◌≡◌, ◌<◌, ◌∷◌, ◌++◌, [], length, OnOk, IfOk};
+ghost use Rattle.std.specs.Prelude.{◌≡◌, ◌∷◌, ◌++◌, [], OnOk, IfOk};
 ghost use Rattle.avp_packet.specs.AttributeOctets.{part};
 ghost use Rattle.avp_packet.specs.Meanings.{extended_pair, pair_meant, raw_pair, value_meant};
 ghost use Rattle.avp_packet.specs.internal.Views.{under};

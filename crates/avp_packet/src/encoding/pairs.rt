@@ -4,7 +4,7 @@ ghost use Rattle.std.specs.Prelude.{◌≡◌, ◌≤◌, ◌<◌, ◌+◌, ◌�
 ghost use Rattle.avp_dict.specs.Limits.{fits};
 ghost use Rattle.std.specs.Cow.{cow_slice_items};
 ghost use Rattle.avp_dict.specs.declared.entries.Kind.{Kind};
-ghost use Rattle.avp_dict.specs.Octets.{is_hidden, octets_of};
+ghost use Rattle.avp_dict.specs.Octets.{octets_of};
 ghost use Rattle.avp_dict.specs.Sent.{is_internal, is_raw};
 ghost use Rattle.avp_packet.specs.AttributeOctets.{attribute_octets, sent_octets};
 ghost use Rattle.avp_packet.specs.Packets.{zeros};
