@@ -47,10 +47,7 @@ fn find_signature(octets: &[u8]) -> Option<Found<'_>>
 pub(crate) fn has_signature(attributes: &[u8]) -> bool
     ensures { result ≡ list_any is_signature (parts attributes.now) }
 {
-    match find_signature(attributes) {
-        Some(_) => true,
-        None => false,
-    }
+    find_signature(attributes).is_some()
 }
 
 // Whether there is one Message-Authenticator among whole attributes, and it is the digest of the packet.

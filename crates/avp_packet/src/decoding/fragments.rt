@@ -50,13 +50,8 @@ fn next_piece(t: u8, number: u8, octets: &[u8]) -> Option<Piece<'_>>
     ensures shorter { IfSome result (λ piece. length piece.rest.now < length octets.now) }
     ensures none { IfNone result (run t number (parts octets.now) ≡ None) }
 {
-    match first_attribute(octets) {
-        Some(front) => match piece_in_attribute(t, number, &front) {
-            Some(piece) => Some(piece),
-            None => None,
-        },
-        None => None,
-    }
+    let front = first_attribute(octets)?;
+    piece_in_attribute(t, number, &front)
 }
 
 /// The pieces of a type and an Extended-Type joined, where the attributes begin with all of them.
