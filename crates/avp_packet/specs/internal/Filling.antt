@@ -42,13 +42,21 @@ signature_if signed signature =
 abbrev pub place_if : Bool → ℕ → Option ℕ
 place_if signed place = if signed then Some place else None
 
--- the attributes of a list so divided, with these octets as its Message-Authenticator
-abbrev pub divided_octets : Dictionary → List ℕ → List ℕ → Division → List Pair → List ℕ → List ℕ
-divided_octets dictionary secret hide_by division proxy_states signature =
-    attribute_octets dictionary secret hide_by division.before.now
-    ++ signature_if division.signed signature
-    ++ attribute_octets dictionary secret hide_by (without_signatures division.behind.now)
-    ++ attribute_octets dictionary secret hide_by proxy_states
+module _ (dictionary : Dictionary) (secret : List ℕ) where
+  -- the attributes of a list so divided, with these octets as its Message-Authenticator
+  abbrev pub divided_octets : List ℕ → Division → List Pair → List ℕ → List ℕ
+  divided_octets hide_by division proxy_states signature =
+      let octets : List Pair → List ℕ = attribute_octets dictionary secret hide_by in
+      octets division.before.now
+      ++ signature_if division.signed signature
+      ++ octets (without_signatures division.behind.now)
+      ++ octets proxy_states
+
+  -- and with those that sign the packet
+  abbrev pub divided_signed : ℕ → ℕ → List ℕ → Division → List Pair → List ℕ
+  divided_signed code id authenticator division proxy_states =
+      let octets = divided_octets (hiding_authenticator code authenticator) division proxy_states in
+      octets (hmac secret (packet code id authenticator (octets zeros)))
 
 -- attributes, with these octets as the Message-Authenticator at its place
 abbrev pub filled : List ℕ → Option ℕ → List ℕ → List ℕ
@@ -60,9 +68,3 @@ filled os (Some place) signature =
 abbrev pub IsPlace : ℕ → Option ℕ → Type 0
 IsPlace n None = Unit {0}
 IsPlace n (Some place) = place + 18 ≤ n
-
--- and with those that sign the packet
-abbrev pub divided_signed : Dictionary → List ℕ → ℕ → ℕ → List ℕ → Division → List Pair → List ℕ
-divided_signed dictionary secret code id authenticator division proxy_states =
-    let octets = divided_octets dictionary secret (hiding_authenticator code authenticator) division proxy_states in
-    octets (hmac secret (packet code id authenticator (octets zeros)))
