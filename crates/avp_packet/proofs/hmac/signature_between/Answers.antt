@@ -1,9 +1,9 @@
-use Rattle.std.proofs.Common.{◌≡◌, ◌∙◌, ◌++◌, ◌∷◌, [], List, ℕ, refl, ap, append_assoc}
+use Rattle.std.proofs.Common.{◌≡◌, ◌∙◌, ◌++◌, ◌∷◌, [], List, ℕ, ap, append_assoc}
 use Rattle.md5.specs.Md5.{md5}
 use Rattle.avp_dict.specs.AttributeNumbers.{message_authenticator}
 use Rattle.avp_packet.specs.AttributeOctets.{part}
 use Rattle.avp_packet.specs.Hiding.{masked}
-use Rattle.avp_packet.specs.Hmac.{hmac, inner_pad, key_block}
+use Rattle.avp_packet.specs.Hmac.{hmac, inner_pad, key_block, outer_pad}
 use Rattle.avp_packet.specs.Packets.{zeros}
 use Rattle.avp_packet.specs.Splitting.{part_octets}
 use Rattle.avp_packet.proofs.hmac.signature_between.Goals as goal
@@ -19,4 +19,5 @@ returns c =
     let outer = c.finalize-2.ensures _ (c.update-7.ensures _ c.keyed_hasher-outer.ensures) in
     let text : c.finalize.result ≡ md5 (masked inner_pad block ++ (c.args.head.now ++ c.args.authenticator.now ++ c.args.before.now ++ part_octets (part message_authenticator zeros) ++ c.args.after.now)) =
     inner ∙ rw c.key_block-key.ensures (ap md5 (regrouped (masked inner_pad block) c.args.head.now c.args.authenticator.now c.args.before.now (message_authenticator ∷ 18 ∷ []) zeros c.args.after.now)) in
-    outer ∙ rw (c.key_block-key.ensures, text) refl
+    outer ∙ ap (λ (k : List ℕ). md5 (masked outer_pad k ++ c.finalize.result)) c.key_block-key.ensures
+    ∙ ap (λ (os : List ℕ). md5 (masked outer_pad block ++ os)) text
