@@ -18,6 +18,18 @@ pub(crate) struct Keys<'a> {
     pub authenticator: &'a [u8; 16],
 }
 
+impl Keys<'_> {
+    /// Whether an id's values are hidden.
+    pub fn is_hidden(&self, id: AttrId) -> bool
+        ensures { result ≡ is_hidden id self.now.dictionary.now }
+    {
+        match self.dictionary.by_id(id) {
+            Some(entry) => entry.hidden,
+            None => false,
+        }
+    }
+}
+
 /// What the first block of a password is hidden by.
 pub(crate) fn hiding_authenticator(code: u8, authenticator: &[u8; 16]) -> [u8; 16]
     ensures { result ≡ hiding_authenticator code authenticator.now }
@@ -26,15 +38,5 @@ pub(crate) fn hiding_authenticator(code: u8, authenticator: &[u8; 16]) -> [u8; 1
         ZEROS
     } else {
         *authenticator
-    }
-}
-
-/// Whether an id's values are hidden.
-pub(crate) fn is_hidden(dictionary: &Dictionary, id: AttrId) -> bool
-    ensures { result ≡ is_hidden id dictionary.now }
-{
-    match dictionary.by_id(id) {
-        Some(entry) => entry.hidden,
-        None => false,
     }
 }

@@ -6,7 +6,7 @@ ghost use Rattle.avp_packet.specs.Meanings.{extended_pair, pair_meant, raw_pair,
 ghost use Rattle.avp_packet.specs.internal.Views.{under};
 
 use crate::hiding::shown;
-use crate::keys::{Keys, is_hidden};
+use crate::keys::Keys;
 use avp_lists::{AttrId, Octets, Pair, Value};
 use std::alloc::{AllocError, Global};
 
@@ -20,7 +20,7 @@ fn value_meant(
 ) -> Result<Value, AllocError>
     ensures { IfOk result (λ value. value ≡ under keys.now value_meant id octets.now) }
 {
-    if !is_hidden(keys.dictionary, id) {
+    if !keys.is_hidden(id) {
         return keys.dictionary.value_of_bytes(alloc, id, octets);
     }
     match shown(alloc, keys.secret, keys.authenticator, octets)? {
@@ -34,7 +34,7 @@ fn value_meant(
 fn keep_value(keys: &Keys<'_>, id: AttrId, octets: Vec<u8>) -> Result<Value, AllocError>
     ensures { IfOk result (λ value. value ≡ under keys.now value_meant id octets.items) }
 {
-    if !is_hidden(keys.dictionary, id) {
+    if !keys.is_hidden(id) {
         return Ok(keys.dictionary.value_of_vec(id, octets));
     }
     match shown(

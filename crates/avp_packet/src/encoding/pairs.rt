@@ -18,7 +18,7 @@ use crate::encoding::attributes::{push_attribute, push_holding};
 use crate::encoding::dividing::{Division, MESSAGE_AUTHENTICATOR_ID};
 use crate::faults::EncodeFault;
 use crate::hiding::hidden;
-use crate::keys::{Keys, is_hidden};
+use crate::keys::Keys;
 use avp_lists::{AttrId, Pair, Value};
 use std::alloc::{AllocError, Global};
 use std::borrow::CowSlice;
@@ -68,7 +68,7 @@ fn sent_octets<'a>(
     ensures { IfOk result (λ octets. cow_slice_items octets
         ≡ under keys.now sent_octets pair.now) }
 {
-    if is_hidden(keys.dictionary, pair.id) && !is_raw(&pair.value) {
+    if keys.is_hidden(pair.id) && !is_raw(&pair.value) {
         let plain = keys.dictionary.bytes_of_value(alloc, pair.id, &pair.value)?;
         let hidden = hidden(alloc, keys.secret, keys.authenticator, &plain)?;
         return Ok(CowSlice::Owned(hidden));
