@@ -7,13 +7,14 @@ use Rattle.avp_packet.specs.Packets.{attributes_of, hiding_authenticator, pairs_
 use Rattle.avp_packet.specs.Sending.{Content}
 use Rattle.avp_packet.specs.Splitting.{parts}
 
--- the attributes of these octets mean the pairs, where the packet's code and authenticator tell what hides passwords
-abbrev pub OctetsMean : Dictionary → List ℕ → ℕ → List ℕ → List ℕ → List Pair → Type 0
-OctetsMean dictionary secret code authenticator os pairs =
-    Means dictionary secret (hiding_authenticator code authenticator) (parts (attributes_of os)) pairs
+module _ (dictionary : Dictionary) (secret : List ℕ) where
+  -- the attributes of these octets mean the pairs, where the packet's code and authenticator tell what hides passwords
+  abbrev pub OctetsMean : ℕ → List ℕ → List ℕ → List Pair → Type 0
+  OctetsMean code authenticator os pairs =
+      Means dictionary secret (hiding_authenticator code authenticator)
+      (parts (attributes_of os)) pairs
 
--- they mean the pairs that a packet of this content sends
-abbrev pub OctetsMeanContent : Dictionary → List ℕ → ℕ → ℕ → List ℕ → Content → List ℕ → Type 0
-OctetsMeanContent dictionary secret code id authenticator content os =
-    OctetsMean dictionary secret code authenticator os
-    (pairs_meant dictionary secret code id authenticator content)
+  -- they mean the pairs that a packet of this content sends
+  abbrev pub OctetsMeanContent : ℕ → ℕ → List ℕ → Content → List ℕ → Type 0
+  OctetsMeanContent code id authenticator content os =
+      OctetsMean code authenticator os (pairs_meant dictionary secret code id authenticator content)
