@@ -20,7 +20,7 @@ use Rattle.avp_step.specs.declared.frames.Next.TheVariants as next
 use Rattle.avp_step.specs.declared.marks.Mark.{Mark}
 use Rattle.avp_unlang.specs.Meaning.{Outcome, running, after_failure, LineResult, line_result, Edited, Failed}
 use Rattle.avp_step.specs.Trace.{Entry, Steps, Guarded, steps, guarded, statement_steps, guarded_steps, line_steps, line_step, branch_steps, all_steps, block_steps, end_of, then_steps, closed, reason_number, tested}
-use Rattle.avp_step.specs.internal.Frames.{frame_depth, frame_entry, States, else_steps, frame_steps, next_steps, rest, Sit, IsSame, IsNext}
+use Rattle.avp_step.specs.internal.Frames.{frame_depth, frame_entry, States, else_steps, frame_steps, next_steps, onward, rest, Sit, IsSame, IsNext}
 use Rattle.avp_unlang.specs.internal.Depth.{depth_of, depth_of_branch, depth_of_branches, statement_depth, branch_depth}
 use Rattle.avp_step.specs.declared.frames.TheConstants.{MAX_FRAMES}
 use Rattle.avp_step.specs.internal.Stepping.{standing, entry_of, Names, IsStep, IsOver, IsRefused, HasRoom, IsLineDone}
@@ -117,25 +117,25 @@ module _ (d : Dictionary) where
       ∙ ap (λ r. then_steps (λ o. line_step (at entry) l r o.code (line_steps d (at entry) others)) (rest d at fs) o) is
 
   -- the steps, one for each thing that comes next
-  pub entered_step : (fs fs1 fs2 : List Frame) (n place : ℕ) (ss : Bor (List Statement)) (last : Mark) (old new : History) → old.place < length old.states → new ≡ continued (present old) old → fs1 ≡ fs ++ End n place ∷ [] → fs2 ≡ fs1 ++ Statements ss ∷ [] → place ≡ old.place → IsStep d (λ at. then_steps (next_steps d at (next.Enter n ss)) (rest d at fs)) last old new (record { label = label.Enter n; code = last.code; stopped = false }) fs2
+  pub entered_step : (fs fs1 fs2 : List Frame) (n place : ℕ) (ss : Bor (List Statement)) (last : Mark) (old new : History) → old.place < length old.states → new ≡ continued (present old) old → fs1 ≡ fs ++ End n place ∷ [] → fs2 ≡ fs1 ++ Statements ss ∷ [] → place ≡ old.place → IsStep d (λ at. onward d at (Some (next.Enter n ss)) fs) last old new (record { label = label.Enter n; code = last.code; stopped = false }) fs2
   entered_step fs fs1 fs2 n place ss last old new has a e1 e2 is =
-      stepped (λ at. then_steps (next_steps d at (next.Enter n ss)) (rest d at fs)) last old new (record { label = label.Enter n; code = last.code; stopped = false }) fs2 (present old) has a
+      stepped (λ at. onward d at (Some (next.Enter n ss)) fs) last old new (record { label = label.Enter n; code = last.code; stopped = false }) fs2 (present old) has a
       (λ at names. entered_rest fs fs1 fs2 n place ss at (standing last old) e1 e2 (ap at is ∙ names old.place (le_refl _)))
 
-  pub tested_step : (answer : Bool) (bs others : Bor (List Branch)) (b : Branch) (or : Bor (Option (List Statement))) (block : Bor (List Statement)) (fs fs1 : List Frame) (last : Mark) (old new : History) → old.place < length old.states → new ≡ continued (present old) old → bs.now ≡ b ∷ others.now → block.now ≡ (out-Branch b).block → answer ≡ truth (out-Branch b).cond (present old) last.code → fs1 ≡ fs ++ after_test answer b others or block ∷ [] → IsStep d (λ at. then_steps (next_steps d at (next.Test bs or)) (rest d at fs)) last old new (record { label = label.If (out-Branch b).line answer; code = last.code; stopped = false }) fs1
+  pub tested_step : (answer : Bool) (bs others : Bor (List Branch)) (b : Branch) (or : Bor (Option (List Statement))) (block : Bor (List Statement)) (fs fs1 : List Frame) (last : Mark) (old new : History) → old.place < length old.states → new ≡ continued (present old) old → bs.now ≡ b ∷ others.now → block.now ≡ (out-Branch b).block → answer ≡ truth (out-Branch b).cond (present old) last.code → fs1 ≡ fs ++ after_test answer b others or block ∷ [] → IsStep d (λ at. onward d at (Some (next.Test bs or)) fs) last old new (record { label = label.If (out-Branch b).line answer; code = last.code; stopped = false }) fs1
   tested_step answer bs others b or block fs fs1 last old new has a split same is e =
-      stepped (λ at. then_steps (next_steps d at (next.Test bs or)) (rest d at fs)) last old new (record { label = label.If (out-Branch b).line answer; code = last.code; stopped = false }) fs1 (present old) has a
+      stepped (λ at. onward d at (Some (next.Test bs or)) fs) last old new (record { label = label.If (out-Branch b).line answer; code = last.code; stopped = false }) fs1 (present old) has a
       (λ at names. tested_rest answer bs.now b others or block fs fs1 at (standing last old) split same is e)
 
-  pub edited_step : (lines others : Bor (List Line)) (l : Line) (entry : ℕ) (fs fs1 : List Frame) (last : Mark) (old new : History) → old.place < length old.states → IsLineDone d l old new None → lines.now ≡ l ∷ others.now → fs1 ≡ fs ++ Lines others entry ∷ [] → IsStep d (λ at. then_steps (next_steps d at (next.Lines lines entry)) (rest d at fs)) last old new (record { label = label.Line l.line; code = last.code; stopped = false }) fs1
+  pub edited_step : (lines others : Bor (List Line)) (l : Line) (entry : ℕ) (fs fs1 : List Frame) (last : Mark) (old new : History) → old.place < length old.states → IsLineDone d l old new None → lines.now ≡ l ∷ others.now → fs1 ≡ fs ++ Lines others entry ∷ [] → IsStep d (λ at. onward d at (Some (next.Lines lines entry)) fs) last old new (record { label = label.Line l.line; code = last.code; stopped = false }) fs1
   edited_step lines others l entry fs fs1 last old new has done split e =
-      stepped (λ at. then_steps (next_steps d at (next.Lines lines entry)) (rest d at fs)) last old new (record { label = label.Line l.line; code = last.code; stopped = false }) fs1 (present new) has done.1
+      stepped (λ at. onward d at (Some (next.Lines lines entry)) fs) last old new (record { label = label.Line l.line; code = last.code; stopped = false }) fs1 (present new) has done.1
       (λ at names. edited_rest lines.now l others entry fs fs1 at (standing last old) (present new) split done.0 e)
 
-  pub failed_step : (lines others : Bor (List Line)) (l : Line) (entry : ℕ) (why : Reason) (k : ℕ) (fs : List Frame) (last : Mark) (old mid new : History) → k ≡ reason_number why → old.place < length old.states → entry ≤ old.place → IsLineDone d l old mid (Some why) → new ≡ continued (state_at mid entry) mid → lines.now ≡ l ∷ others.now → IsStep d (λ at. then_steps (next_steps d at (next.Lines lines entry)) (rest d at fs)) last old new (record { label = label.Failed l.line k; code = Fail; stopped = true }) fs
+  pub failed_step : (lines others : Bor (List Line)) (l : Line) (entry : ℕ) (why : Reason) (k : ℕ) (fs : List Frame) (last : Mark) (old mid new : History) → k ≡ reason_number why → old.place < length old.states → entry ≤ old.place → IsLineDone d l old mid (Some why) → new ≡ continued (state_at mid entry) mid → lines.now ≡ l ∷ others.now → IsStep d (λ at. onward d at (Some (next.Lines lines entry)) fs) last old new (record { label = label.Failed l.line k; code = Fail; stopped = true }) fs
   failed_step lines others l entry why k fs last old mid new is has earlier done added split =
-      subst (λ (n : ℕ). IsStep d (λ at. then_steps (next_steps d at (next.Lines lines entry)) (rest d at fs)) last old new (record { label = label.Failed l.line n; code = Fail; stopped = true }) fs) (sym is)
-      (stepped (λ at. then_steps (next_steps d at (next.Lines lines entry)) (rest d at fs)) last old new (record { label = label.Failed l.line (reason_number why); code = Fail; stopped = true }) fs (state_at old entry) has
+      subst (λ (n : ℕ). IsStep d (λ at. onward d at (Some (next.Lines lines entry)) fs) last old new (record { label = label.Failed l.line n; code = Fail; stopped = true }) fs) (sym is)
+      (stepped (λ at. onward d at (Some (next.Lines lines entry)) fs) last old new (record { label = label.Failed l.line (reason_number why); code = Fail; stopped = true }) fs (state_at old entry) has
       (added ∙ ap (λ h. continued (state_at h entry) h) done.1)
       (λ at names. failed_rest lines.now l others.now entry why fs at (standing last old) split done.0 ∙ ap (λ x. (record { label = label.Failed l.line (reason_number why); outcome = after_failure x }) ∷ rest d at fs (after_failure x)) (names entry earlier)))
 
@@ -144,7 +144,7 @@ module _ (d : Dictionary) where
   first_line entry l (Edited s) c t u o = (_, _, refl, tt)
   first_line entry l (Failed why) c t u o = (_, _, refl, tt)
 
-  pub refused_step : (lines others : Bor (List Line)) (l : Line) (entry : ℕ) (fs fs1 : List Frame) (last : Mark) (old : History) → last.stopped ≡ false → lines.now ≡ l ∷ others.now → fs1 ≡ fs ++ Lines lines entry ∷ [] → IsRefused d (λ at. then_steps (next_steps d at (next.Lines lines entry)) (rest d at fs)) last old fs1
+  pub refused_step : (lines others : Bor (List Line)) (l : Line) (entry : ℕ) (fs fs1 : List Frame) (last : Mark) (old : History) → last.stopped ≡ false → lines.now ≡ l ∷ others.now → fs1 ≡ fs ++ Lines lines entry ∷ [] → IsRefused d (λ at. onward d at (Some (next.Lines lines entry)) fs) last old fs1
   refused_step lines others l entry fs fs1 last old run split e = record {
     same = λ at names.
         ap (λ l. rest d at l (standing last old)) e ∙ rest_push d at fs (Lines lines entry) (standing last old)
@@ -155,13 +155,13 @@ module _ (d : Dictionary) where
   }
 
   -- the step of what comes next is the next step
-  pub onward_step : (t : Dictionary → States → Steps) (n : Next) (fs fs1 : List Frame) (last : Mark) (old new : History) (made : Mark) (place : ℕ) → place ≡ old.place → IsSame t (Some n) fs last.stopped place → IsStep d (λ at. then_steps (next_steps d at n) (rest d at fs)) last old new made fs1 → IsStep d (t d) last old new made fs1
+  pub onward_step : (t : Dictionary → States → Steps) (n : Next) (fs fs1 : List Frame) (last : Mark) (old new : History) (made : Mark) (place : ℕ) → place ≡ old.place → IsSame t (Some n) fs last.stopped place → IsStep d (λ at. onward d at (Some n) fs) last old new made fs1 → IsStep d (t d) last old new made fs1
   onward_step t n fs fs1 last old new made place is same s = record {
     same = λ at names. sym (same.same d at (standing last old) refl (ap at is ∙ names old.place (le_refl _))) ∙ s.same at names;
     added = s.added;
   }
 
-  pub onward_refused : (t : Dictionary → States → Steps) (n : Next) (fs fs1 : List Frame) (last : Mark) (old : History) (place : ℕ) → place ≡ old.place → IsSame t (Some n) fs last.stopped place → IsRefused d (λ at. then_steps (next_steps d at n) (rest d at fs)) last old fs1 → IsRefused d (t d) last old fs1
+  pub onward_refused : (t : Dictionary → States → Steps) (n : Next) (fs fs1 : List Frame) (last : Mark) (old : History) (place : ℕ) → place ≡ old.place → IsSame t (Some n) fs last.stopped place → IsRefused d (λ at. onward d at (Some n) fs) last old fs1 → IsRefused d (t d) last old fs1
   onward_refused t n fs fs1 last old place is same s = record {
     same = λ at names. s.same at names ∙ same.same d at (standing last old) refl (ap at is ∙ names old.place (le_refl _));
     line = λ at names. let r = s.line at names in (r.0, r.1, sym (same.same d at (standing last old) refl (ap at is ∙ names old.place (le_refl _))) ∙ r.2, r.3);
@@ -205,5 +205,5 @@ module _ (d : Dictionary) where
       let first = next_some r.at last.stopped n o next' in
       r.room _ _ (sym (same.same d r.at o refl (ap r.at is ∙ r.names h.place (le_refl _))) ∙ ap (λ es. es ++ rest d r.at fs (end_of o (next_steps d r.at n o))) first.is)
 
-  pub step_at_next : (n n' : Next) (fs fs1 : List Frame) (last : Mark) (old new : History) (made : Mark) → n ≡ n' → IsStep d (λ at. then_steps (next_steps d at n') (rest d at fs)) last old new made fs1 → IsStep d (λ at. then_steps (next_steps d at n) (rest d at fs)) last old new made fs1
-  step_at_next n n' fs fs1 last old new made is s = subst (λ k. IsStep d (λ at. then_steps (next_steps d at k) (rest d at fs)) last old new made fs1) (sym is) s
+  pub step_at_next : (n n' : Next) (fs fs1 : List Frame) (last : Mark) (old new : History) (made : Mark) → n ≡ n' → IsStep d (λ at. onward d at (Some n') fs) last old new made fs1 → IsStep d (λ at. onward d at (Some n) fs) last old new made fs1
+  step_at_next n n' fs fs1 last old new made is s = subst (λ k. IsStep d (λ at. onward d at (Some k) fs) last old new made fs1) (sym is) s

@@ -7,8 +7,8 @@ ghost use Rattle.avp_dict.specs.Dictionary.{Dictionary};
 ghost use Rattle.avp_unlang.specs.Meaning.{stops};
 ghost use Rattle.avp_unlang.specs.Suiting.{branches_suit, else_suits, policy_suits};
 ghost use Rattle.avp_unlang.specs.Resolutions.{StateFits, line_suits};
-ghost use Rattle.avp_step.specs.Trace.{reason_number, then_steps};
-ghost use Rattle.avp_step.specs.internal.Frames.{IsNext, NextSit, Sit, StaysSuited, frames_suit, next_suits, next_steps, rest};
+ghost use Rattle.avp_step.specs.Trace.{reason_number};
+ghost use Rattle.avp_step.specs.internal.Frames.{IsNext, NextSit, Sit, StaysSuited, frames_suit, next_suits, onward, rest};
 ghost use Rattle.avp_unlang.specs.internal.Depth.{depth_of, depth_of_branches, else_depth};
 ghost use Rattle.avp_step.specs.internal.Stepping.{HasRoom, IsLineDone, IsOver, IsRefused, IsStep, KeepsFit, StatesFit};
 ghost use Rattle.avp_step.specs.declared.frames.Frame.{Frame};
@@ -64,9 +64,7 @@ fn stay<S: Store>(store: &mut S)
 fn step_word<S: Store>(store: &mut S, line: usize, word: Code) -> Mark
     requires { 0 < S.room store.old }
     ensures made { (dictionary : Dictionary) (last : Mark) (frames : List Frame)
-        → IsStep dictionary
-        (λ at. then_steps (next_steps dictionary at (Next.Word line word))
-        (rest dictionary at frames))
+        → IsStep dictionary (λ at. onward dictionary at (Some (Next.Word line word)) frames)
         last (S.history store.old) (S.history store.new) result frames }
     ensures fit { KeepsFit (S.history store.old) (S.history store.new) }
     ensures kept { (S.history store.old).place + S.room store.old
@@ -85,9 +83,7 @@ fn step_close<S: Store>(store: &mut S, last: Mark, line: usize, to: usize) -> Ma
     requires earlier { to ≤ (S.history store.old).place }
     requires room { 0 < S.room store.old }
     ensures made { (dictionary : Dictionary) (frames : List Frame)
-        → IsStep dictionary
-        (λ at. then_steps (next_steps dictionary at (Next.Close line to))
-        (rest dictionary at frames))
+        → IsStep dictionary (λ at. onward dictionary at (Some (Next.Close line to)) frames)
         last (S.history store.old) (S.history store.new) result frames }
     ensures fit { KeepsFit (S.history store.old) (S.history store.new) }
     ensures kept { (S.history store.old).place + S.room store.old
@@ -168,10 +164,8 @@ fn step_enter<'a, S: Store>(
     requires frames_room { vec_len frames.old + (2 + depth_of block.now) ≤ MAX_FRAMES }
     requires capacity { MAX_FRAMES ≤ vec_capacity frames.old }
     requires sit { Sit (S.history store.old).place 0 frames.old.items }
-    ensures made { (dictionary : Dictionary)
-        → IsStep dictionary
-        (λ at. then_steps (next_steps dictionary at (Next.Enter line block.entry))
-        (rest dictionary at frames.old.items))
+    ensures made { (dictionary : Dictionary) → IsStep dictionary
+        (λ at. onward dictionary at (Some (Next.Enter line block.entry)) frames.old.items)
         last (S.history store.old) (S.history store.new) result frames.new.items }
     ensures sit { Sit (S.history store.new).place 0 frames.new.items }
     ensures fit { StaysSuited (λ d. frames_suit d frames.old.items && policy_suits d block.now)
@@ -208,10 +202,9 @@ fn step_test<'a, S: Store>(
         + (1 + max (depth_of_branches branches.now) (else_depth otherwise.now)) ≤ MAX_FRAMES }
     requires capacity { MAX_FRAMES ≤ vec_capacity frames.old }
     requires sit { Sit (S.history store.old).place 0 frames.old.items }
-    ensures made { IsStep dictionary.now (λ at. then_steps
-        (next_steps dictionary.now at (Next.Test branches.entry otherwise.entry))
-        (rest dictionary.now at frames.old.items)) last (S.history store.old) (S.history store.new)
-        result frames.new.items }
+    ensures made { IsStep dictionary.now (λ at. onward dictionary.now at
+        (Some (Next.Test branches.entry otherwise.entry)) frames.old.items)
+        last (S.history store.old) (S.history store.new) result frames.new.items }
     ensures sit { Sit (S.history store.new).place 0 frames.new.items }
     ensures fit { StaysSuited (λ d. frames_suit d frames.old.items
         && (branches_suit d branches.now && else_suits d otherwise.now)) None frames.new.items }
@@ -261,12 +254,11 @@ fn step_line<'a, S: Store>(
     requires capacity { MAX_FRAMES ≤ vec_capacity frames.old }
     requires sit { Sit (S.history store.old).place 0 frames.old.items }
     ensures made { IfOk result (λ made. IsStep dictionary.now
-        (λ at. then_steps (next_steps dictionary.now at (Next.Lines lines.entry entry))
-        (rest dictionary.now at frames.old.items)) last (S.history store.old) (S.history store.new)
-        made frames.new.items) }
+        (λ at. onward dictionary.now at (Some (Next.Lines lines.entry entry)) frames.old.items)
+        last (S.history store.old) (S.history store.new) made frames.new.items) }
     ensures refused { OnErr result (IsRefused dictionary.now
-        (λ at. then_steps (next_steps dictionary.now at (Next.Lines lines.entry entry))
-        (rest dictionary.now at frames.old.items)) last (S.history store.old) frames.new.items) }
+        (λ at. onward dictionary.now at (Some (Next.Lines lines.entry entry)) frames.old.items)
+        last (S.history store.old) frames.new.items) }
     ensures unchanged { OnErr result (S.history store.new ≡ S.history store.old) }
     ensures sit { Sit (S.history store.new).place 0 frames.new.items }
     ensures fit { StaysSuited (λ d. frames_suit d frames.old.items
@@ -321,12 +313,11 @@ fn step_next<'a, S: Store>(
     requires capacity { MAX_FRAMES ≤ vec_capacity frames.old }
     requires sit { Sit (S.history store.old).place 0 frames.old.items }
     ensures made { IfOk result (λ made. IsStep dictionary.now
-        (λ at. then_steps (next_steps dictionary.now at next.entry)
-        (rest dictionary.now at frames.old.items)) last (S.history store.old) (S.history store.new)
-        made frames.new.items) }
+        (λ at. onward dictionary.now at (Some next.entry) frames.old.items)
+        last (S.history store.old) (S.history store.new) made frames.new.items) }
     ensures refused { OnErr result (IsRefused dictionary.now
-        (λ at. then_steps (next_steps dictionary.now at next.entry)
-        (rest dictionary.now at frames.old.items)) last (S.history store.old) frames.new.items) }
+        (λ at. onward dictionary.now at (Some next.entry) frames.old.items)
+        last (S.history store.old) frames.new.items) }
     ensures unchanged { OnErr result (S.history store.new ≡ S.history store.old) }
     ensures sit { Sit (S.history store.new).place 0 frames.new.items }
     ensures fit { IsTrue (frames_suit dictionary.now frames.new.items) }
