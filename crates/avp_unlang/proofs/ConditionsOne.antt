@@ -1,18 +1,18 @@
 -- A place spells at most one condition, and how refusals inside one are refusals of it.
-use Rattle.std.proofs.Common.{◌≡◌, ◌≢◌, ℕ, zero, suc, List, Option, Some, None, Result, refl, sym, subst, ◌∙◌}
+use Rattle.std.proofs.Common.{◌≡◌, ℕ, zero, suc, List, Option, Some, None, Result, refl, sym, subst, ◌∙◌}
 use Rattle.std.specs.Option.{option_map}
 use Rattle.avp_dict.specs.declared.entries.Named.{Named}
 use Rattle.avp_dict.specs.Dictionary.{Dictionary}
 use Rattle.avp_unlang.specs.declared.codes.Code.{Code}
 use Rattle.avp_unlang.specs.declared.faults.PolicyFault.{PolicyFault}
-use Rattle.avp_unlang.specs.declared.faults.PolicyKind.TheVariants.{Memory}
 use Rattle.avp_unlang.specs.declared.text.references.Reference.{Reference}
 use Rattle.avp_unlang.specs.declared.text.tokens.Sign.TheVariants as sign
 use Rattle.avp_unlang.specs.declared.text.tokens.Token.{Token}
 use Rattle.avp_unlang.specs.declared.text.tokens.Token.TheVariants.{Operator, Word}
 use Rattle.avp_unlang.specs.declared.text.values.Written.{Written}
 use Rattle.avp_unlang.specs.declared.text.values.Written.TheVariants as written
-use Rattle.avp_unlang.specs.declared.tree.Comparand.TheVariants.{Literal, Instance}
+use Rattle.avp_unlang.specs.declared.tree.Comparand.{Comparand}
+use Rattle.avp_unlang.specs.declared.tree.Comparand.TheVariants.{Literal}
 use Rattle.avp_unlang.specs.declared.tree.Cond.{Cond}
 use Rattle.avp_unlang.specs.declared.tree.Cond.TheVariants.{Not, Last, Present, Compare}
 use Rattle.avp_unlang.specs.declared.tree.Relation.{Relation}
@@ -22,11 +22,10 @@ use Rattle.avp_unlang.specs.Places.{Place}
 use Rattle.avp_unlang.specs.References.{ReadableIs}
 use Rattle.avp_unlang.specs.Between.{Follows}
 use Rattle.avp_unlang.specs.Tokens.{next_token}
-use Rattle.avp_unlang.specs.Values.{WrittenIs}
 use Rattle.avp_unlang.specs.Words.{code_named}
 use Rattle.avp_unlang.proofs.Chains.{chain_one}
-use Rattle.avp_unlang.proofs.Determined.{IsOne, some_is, gives_one, becomes_one, after_one, then_one, then_stops, then_on, after_stops}
-use Rattle.avp_unlang.proofs.LinesOne.{follows_sure, readable_one, written_one}
+use Rattle.avp_unlang.proofs.Determined.{IsOne, some_is, gives_one, after_one, then_one, then_stops, then_on, after_stops}
+use Rattle.avp_unlang.proofs.LinesOne.{follows_sure, made_one, readable_one}
 
 -- ---- operands with a sign between them
 
@@ -53,23 +52,20 @@ closed_one form one = then_one (Either form) Closing (either_one form one) closi
 module _ (dictionary : Dictionary) where
   -- ---- comparisons
 
-  comparand_of_one : (name : Named) (x : Written) → IsOne (ComparandOf dictionary name x)
-  comparand_of_one name (written.Literal value) p x y r s h g = gives_one (Literal value) p x y r s h g
-  comparand_of_one name (written.Double text) p x y r s h g = becomes_one (option_map Literal (plain_literal dictionary name text)) p x y r s h g
-  comparand_of_one name (written.Instance list id) p x y r s h g = gives_one (Instance list id) p x y r s h g
+  comparand_of_one : (name : Named) (w : Written) (x y : Comparand) → ComparandOf dictionary name w x → ComparandOf dictionary name w y → x ≡ y
+  comparand_of_one name (written.Literal value) x y h g = h ∙ sym g
+  comparand_of_one name (written.Double text) x y h g = some_is x y (sym h ∙ g)
+  comparand_of_one name (written.Instance list id) x y h g = h ∙ sym g
 
   comparand_one : (name : Named) → IsOne (ComparandIs dictionary name)
-  comparand_one name = then_one (WrittenIs dictionary name) (ComparandOf dictionary name) (written_one dictionary name) (comparand_of_one name)
+  comparand_one name = made_one dictionary name (ComparandOf dictionary name) (comparand_of_one name)
 
   none_mapped : {A B : Type 0} (f : A → B) (o : Option A) (y : B) → o ≡ None → option_map f o ≡ Some y → ⊥
   none_mapped f o y none e = cc
 
   -- a refusal of a text between double quotes
-  pub plain_refused : (name : Named) (p : Place) (x : Written) (mid : Place) (text : List ℕ) (e : PolicyFault) → WrittenIs dictionary name p x mid → x ≡ written.Double text
-      → (e.kind ≢ Memory → plain_literal dictionary name text ≡ None) → Refuses (ComparandIs dictionary name p) e
-  plain_refused name p x mid text e read is none =
-      then_on (WrittenIs dictionary name) (ComparandOf dictionary name) (written_one dictionary name) p (written.Double text) mid
-      (subst (λ (w : Written). WrittenIs dictionary name p w mid) is read) e (λ some y rest h. none_mapped Literal (plain_literal dictionary name text) y (none some) h.0)
+  pub plain_refused : (name : Named) (w : Written) (text : List ℕ) → w ≡ written.Double text → plain_literal dictionary name text ≡ None → (x : Comparand) → ComparandOf dictionary name w x → ⊥
+  plain_refused name w text is none x h = none_mapped Literal (plain_literal dictionary name text) x none (subst (λ (k : Written). ComparandOf dictionary name k x) is h)
 
   compared_from_one : (found : Reference) (o : Option Relation) (p : Place) → IsOne (ComparedFrom dictionary found o p)
   compared_from_one found None p after x y r s h g = gives_one (Present found.list found.named.id) p x y r s h g

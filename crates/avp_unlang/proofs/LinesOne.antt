@@ -22,7 +22,6 @@ use Rattle.avp_unlang.specs.declared.text.values.Written.TheVariants as written
 use Rattle.avp_unlang.specs.declared.tree.Line.{Line}
 use Rattle.avp_unlang.specs.declared.tree.Part.{Part}
 use Rattle.avp_unlang.specs.declared.tree.Source.{Source}
-use Rattle.avp_unlang.specs.declared.tree.Source.TheVariants.{Literal, Instance}
 use Rattle.avp_unlang.specs.Forms.{Form, Then, Gives, Refuses, Reads, ReadsAll}
 use Rattle.avp_unlang.specs.Lines.{TargetIs, OpIs, LineIs, after_reference, op_of, line_of}
 use Rattle.avp_unlang.specs.Parts.{PartsAre}
@@ -31,8 +30,8 @@ use Rattle.avp_unlang.specs.References.{ReadableIs, AlikeIs, readable, reference
 use Rattle.avp_unlang.specs.Sources.{filled_source, FilledIs, SourceOf, ValueIs, IgnoredFrom, IgnoredIs, SourceBy, SourceIs, is_removal}
 use Rattle.avp_unlang.specs.Between.{Counts, Follows}
 use Rattle.avp_unlang.specs.Tokens.{next_token}
-use Rattle.avp_unlang.specs.Values.{literal, WrittenFrom, WrittenIs}
-use Rattle.avp_unlang.proofs.Determined.{IsOne, IsSure, some_is, pair_one, gives_one, becomes_one, after_one, then_one, then_on}
+use Rattle.avp_unlang.specs.Values.{literal, WrittenAs, WrittenFrom, WrittenIs}
+use Rattle.avp_unlang.proofs.Determined.{IsOne, IsSure, some_is, pair_one, gives_one, becomes_one, after_one, then_one}
 use Rattle.avp_unlang.proofs.PartsOne.{parts_one}
 
 -- ---- steps
@@ -90,6 +89,23 @@ module _ (dictionary : Dictionary) where
       let at : Refuses (WrittenFrom dictionary name (Operator sign.Reference) q.1) e = λ some x rest h. refused some h.0 rest h.1 in
       subst (λ (k : Token × Place). Refuses (WrittenFrom dictionary name k.0 k.1) e) is (subst (λ k. Refuses (WrittenFrom dictionary name k q.1) e) (sym first) at)
 
+  -- ---- what is made of a written value
+
+  module _ {A : Type 0} (name : Named) (makes : Written → A → Type 0) where
+    pub made_one : ((w : Written) (x y : A) → makes w x → makes w y → x ≡ y) → IsOne (WrittenAs dictionary name makes)
+    made_one one p x y r s h g =
+        let at = written_one name p h.0 g.0 r s h.1 g.1 in
+        (one g.0 x y (subst (λ (w : Written). makes w x) at.0 h.2) g.2, at.1)
+
+    -- no value is written, or nothing is made of it
+    pub made_stops : (p : Place) (e : PolicyFault) → Refuses (WrittenIs dictionary name p) e → Refuses (WrittenAs dictionary name makes p) e
+    made_stops p e refused = λ some x rest h. refused some h.0 rest h.1
+
+    pub made_refused : (p : Place) (w : Written) (mid : Place) (e : PolicyFault) → WrittenIs dictionary name p w mid → (e.kind ≢ Memory → (x : A) → makes w x → ⊥)
+        → Refuses (WrittenAs dictionary name makes p) e
+    made_refused p w mid e read refused = λ some x rest h.
+        let at = written_one name p h.0 w rest mid h.1 read in refused some x (subst (λ (k : Written). makes k x) at.0 h.2)
+
   -- ---- sources
 
   pub filled_reads : (name : Named) (text : List ℕ) (parts : List Part) → is_barred name dictionary ≡ false → PartsAre dictionary text parts → (r : Result Source PolicyFault)
@@ -105,20 +121,13 @@ module _ (dictionary : Dictionary) where
       let same = parts_one dictionary text h.1 g.1 h.2 g.2 in
       some_is x y (sym (subst (λ ps. filled_source dictionary name ps ≡ Some x) same h.3) ∙ g.3)
 
-  source_of_one : (name : Named) (x : Written) → IsOne (SourceOf dictionary name x)
-  source_of_one name (written.Literal value) p x y r s h g = gives_one (Literal value) p x y r s h g
-  source_of_one name (written.Double text) p x y r s h g = (filled_one name text x y h.0 g.0, h.1 ∙ sym g.1)
-  source_of_one name (written.Instance list id) p x y r s h g = gives_one (Instance list id) p x y r s h g
+  source_of_one : (name : Named) (w : Written) (x y : Source) → SourceOf dictionary name w x → SourceOf dictionary name w y → x ≡ y
+  source_of_one name (written.Literal value) x y h g = h ∙ sym g
+  source_of_one name (written.Double text) x y h g = filled_one name text x y h g
+  source_of_one name (written.Instance list id) x y h g = h ∙ sym g
 
   value_one : (name : Named) → IsOne (ValueIs dictionary name)
-  value_one name = then_one (WrittenIs dictionary name) (SourceOf dictionary name) (written_one name) (source_of_one name)
-
-  -- a refusal of a text between double quotes
-  pub double_refused : (name : Named) (p : Place) (x : Written) (mid : Place) (text : List ℕ) (e : PolicyFault) → WrittenIs dictionary name p x mid → x ≡ written.Double text
-      → (e.kind ≢ Memory → (source : Source) → FilledIs dictionary name text source → ⊥) → Refuses (ValueIs dictionary name p) e
-  double_refused name p x mid text e read is refused =
-      then_on (WrittenIs dictionary name) (SourceOf dictionary name) (written_one name) p (written.Double text) mid
-      (subst (λ (w : Written). WrittenIs dictionary name p w mid) is read) e (λ some source rest h. refused some source h.0)
+  value_one name = made_one name (SourceOf dictionary name) (source_of_one name)
 
   ignored_from_sure : (token : Token) → IsSure (IgnoredFrom token)
   ignored_from_sure (Word text) p r s h g = h ∙ sym g

@@ -13,7 +13,6 @@ use Rattle.avp_unlang.specs.declared.text.tokens.Sign.TheVariants as sign
 use Rattle.avp_unlang.specs.declared.text.tokens.Token.{Token}
 use Rattle.avp_unlang.specs.declared.text.tokens.Token.TheVariants as token
 use Rattle.avp_unlang.specs.declared.text.values.Written.{Written}
-use Rattle.avp_unlang.specs.declared.text.values.Written.TheVariants as written
 use Rattle.avp_unlang.specs.declared.tree.Branch.{Branch}
 use Rattle.avp_unlang.specs.declared.tree.Cond.{Cond}
 use Rattle.avp_unlang.specs.declared.tree.Line.{Line}
@@ -22,17 +21,17 @@ use Rattle.avp_unlang.specs.declared.tree.Statement.{Statement}
 use Rattle.avp_unlang.specs.declared.tree.Statement.TheFolds.{fold-roll-Statement, fold-roll-Branch}
 use Rattle.avp_unlang.specs.declared.tree.Statement.TheOpen as layer
 use Rattle.avp_unlang.specs.declared.tree.Statement.TheVariants.{Update, If, Transaction, Word, rolls-Update, rolls-If, rolls-Transaction, rolls-Word}
-use Rattle.avp_unlang.specs.Conditions.{relation_of, ComparandIs, ComparandOf, ComparedFrom, ComparedIs, WordFrom, Both, Either, Closed, OperandFrom, Within}
+use Rattle.avp_unlang.specs.Conditions.{relation_of, ComparandOf, ComparedFrom, ComparedIs, WordFrom, Both, Either, Closed, OperandFrom, Within}
 use Rattle.avp_unlang.specs.Forms.{Form, Step, Gives, After, Then, While, Others, Chain}
 use Rattle.avp_unlang.specs.Lines.{TargetIs, OpIs, LineIs, after_reference, begins_line}
 use Rattle.avp_unlang.specs.Places.{Place, counted}
 use Rattle.avp_unlang.specs.References.{ReadableIs}
 use Rattle.avp_unlang.specs.Sizes.{total, statement_size, branch_size, size, size_of_branch, size_of}
-use Rattle.avp_unlang.specs.Sources.{SourceOf, ValueIs, IgnoredFrom, SourceBy, is_removal}
+use Rattle.avp_unlang.specs.Sources.{SourceOf, IgnoredFrom, SourceBy, is_removal}
 use Rattle.avp_unlang.specs.Statements.{BlockIs, branch_of, BranchIs, Otherwise, StatementFrom, Nested, keyword_in, list_at, begins_word}
 use Rattle.avp_unlang.specs.Between.{Counts, Follows}
 use Rattle.avp_unlang.specs.Tokens.{next_token}
-use Rattle.avp_unlang.specs.Values.{WrittenFrom, WrittenIs}
+use Rattle.avp_unlang.specs.Values.{WrittenAs, WrittenFrom, WrittenIs}
 use Rattle.avp_unlang.specs.Words.{code_named}
 
 -- ---- what takes no room
@@ -141,13 +140,8 @@ module _ (dictionary : Dictionary) where
   written_keeps : (name : Named) → Keeps (WrittenIs dictionary name)
   written_keeps name p x rest h = written_from_keeps name (next_token p).0 (next_token p).1 x rest h ∙ next_room p
 
-  source_of_keeps : (name : Named) (w : Written) → Keeps (SourceOf dictionary name w)
-  source_of_keeps name (written.Literal value) p x rest h = ap (λ (q : Place). q.room) h.1
-  source_of_keeps name (written.Double text) p x rest h = ap (λ (q : Place). q.room) h.1
-  source_of_keeps name (written.Instance list id) p x rest h = ap (λ (q : Place). q.room) h.1
-
-  value_keeps : (name : Named) → Keeps (ValueIs dictionary name)
-  value_keeps name = then_keeps (WrittenIs dictionary name) (SourceOf dictionary name) (written_keeps name) (source_of_keeps name)
+  made_keeps : {A : Type 0} (name : Named) (makes : Written → A → Type 0) → Keeps (WrittenAs dictionary name makes)
+  made_keeps name makes p x rest h = written_keeps name p h.0 rest h.1
 
   ignored_from_keeps : (t : Token) → StepKeeps (IgnoredFrom t)
   ignored_from_keeps (token.Word text) p rest h = ap (λ (q : Place). q.room) h
@@ -157,7 +151,7 @@ module _ (dictionary : Dictionary) where
 
   source_by_keeps : (b : Bool) (name : Named) → Keeps (SourceBy b dictionary name)
   source_by_keeps true name p x rest h = ignored_from_keeps (next_token p).0 (next_token p).1 rest h.0 ∙ next_room p
-  source_by_keeps false name p x rest h = value_keeps name p x rest h.1
+  source_by_keeps false name p x rest h = made_keeps name (SourceOf dictionary name) p x rest h.1
 
   line_takes : (own : Name) → Takes (λ _. 1) (LineIs dictionary own)
   line_takes own p line rest h =
@@ -170,18 +164,10 @@ module _ (dictionary : Dictionary) where
 
   -- ---- conditions
 
-  comparand_of_keeps : (name : Named) (w : Written) → Keeps (ComparandOf dictionary name w)
-  comparand_of_keeps name (written.Literal value) p x rest h = ap (λ (q : Place). q.room) h.1
-  comparand_of_keeps name (written.Double text) p x rest h = ap (λ (q : Place). q.room) h.1
-  comparand_of_keeps name (written.Instance list id) p x rest h = ap (λ (q : Place). q.room) h.1
-
-  comparand_keeps : (name : Named) → Keeps (ComparandIs dictionary name)
-  comparand_keeps name = then_keeps (WrittenIs dictionary name) (ComparandOf dictionary name) (written_keeps name) (comparand_of_keeps name)
-
   compared_from_keeps : (found : Reference) (o : Option Relation) (p after : Place) → after.room ≡ p.room → (c : Cond) (rest : Place) → ComparedFrom dictionary found o p after c rest → rest.room ≡ p.room
   compared_from_keeps found None p after same c rest h = ap (λ (q : Place). q.room) h.1
   compared_from_keeps found (Some relation) p after same c rest h =
-      ap (λ (q : Place). q.room) h.3.1 ∙ comparand_keeps found.named after h.0 h.1 h.2 ∙ same
+      ap (λ (q : Place). q.room) h.3.1 ∙ made_keeps found.named (ComparandOf dictionary found.named) after h.0 h.1 h.2 ∙ same
 
   compared_keeps : (found : Reference) → Keeps (ComparedIs dictionary found)
   compared_keeps found p c rest h = compared_from_keeps found (relation_of (next_token p).0) p (next_token p).1 (next_room p) c rest h

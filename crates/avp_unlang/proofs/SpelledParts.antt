@@ -110,10 +110,10 @@ module _ (dictionary : Dictionary) (name : Named) where
     unfolding filled_source
     filled_holds parts s e = filled_by_holds parts (whole_text parts) s e
 
-    source_of_holds : (x : Written) → IsWritten x → Holds P (SourceOf dictionary name x)
-    source_of_holds (written.Literal value) is p s rest h = subst P (sym h.0) (of_literal is.0 value is.1)
-    source_of_holds (written.Double text) is p s rest h = filled_holds h.0.1 s h.0.3
-    source_of_holds (written.Instance list id) is p s rest h = subst P (sym h.0) (of_instance list id)
+    source_of_holds : (w : Written) → IsWritten w → (s : Source) → SourceOf dictionary name w s → P s
+    source_of_holds (written.Literal value) is s h = subst P (sym h) (of_literal is.0 value is.1)
+    source_of_holds (written.Double text) is s h = filled_holds h.1 s h.3
+    source_of_holds (written.Instance list id) is s h = subst P (sym h) (of_instance list id)
 
     pub value_holds : Holds P (ValueIs dictionary name)
-    value_holds p s rest h = source_of_holds h.0 (written_holds p h.0 h.1 h.2) h.1 s rest h.3
+    value_holds p s rest h = source_of_holds h.0 (written_holds p h.0 rest h.1) s h.2

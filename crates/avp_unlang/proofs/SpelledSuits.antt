@@ -194,15 +194,14 @@ module _ (dictionary : Dictionary) (known : NamesKnown dictionary) where
     plain_suits None x e = absurd cc
     plain_suits (Some text) x e = literal_suits text x e
 
-    comparand_of_suits : (w : Written) → IsWritten dictionary found.named w → Suits (λ x. against x) (ComparandOf dictionary found.named w)
-    comparand_of_suits (written.Literal value) is p x rest h =
-        subst (λ (z : Comparand). against z ≡ true) (sym h.0) (literal_is dictionary found.named is.0 value is.1).1
-    comparand_of_suits (written.Double text) is p x rest h = plain_suits (plain_octets text) x h.0
-    comparand_of_suits (written.Instance list id) is p x rest h =
-        ap (λ (z : Comparand). against z) h.0 ∙ ap (same_kind (type_of dictionary found.named.id)) (sym is) ∙ same_kind_self (type_of dictionary found.named.id)
+    comparand_of_suits : (w : Written) → IsWritten dictionary found.named w → (x : Comparand) → ComparandOf dictionary found.named w x → against x ≡ true
+    comparand_of_suits (written.Literal value) is x h = subst (λ (z : Comparand). against z ≡ true) (sym h) (literal_is dictionary found.named is.0 value is.1).1
+    comparand_of_suits (written.Double text) is x h = plain_suits (plain_octets text) x h
+    comparand_of_suits (written.Instance list id) is x h =
+        ap (λ (z : Comparand). against z) h ∙ ap (same_kind (type_of dictionary found.named.id)) (sym is) ∙ same_kind_self (type_of dictionary found.named.id)
 
     comparand_fits : Suits (λ x. against x) (ComparandIs dictionary found.named)
-    comparand_fits p x rest h = comparand_of_suits h.0 (written_holds dictionary found.named p h.0 h.1 h.2) h.1 x rest h.3
+    comparand_fits p x rest h = comparand_of_suits h.0 (written_holds dictionary found.named p h.0 rest h.1) x h.2
 
   compared_from_fits : (found : Reference) (o : Option Relation) (p : Place) → Suits (cond_suits dictionary) (ComparedFrom dictionary found o p)
   compared_from_fits found None p after c rest h = ap (cond_suits dictionary) h.0 ∙ fits_Present found.list found.named.id

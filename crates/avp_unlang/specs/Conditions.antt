@@ -19,13 +19,13 @@ use Rattle.avp_unlang.specs.declared.tree.Cond.{Cond}
 use Rattle.avp_unlang.specs.declared.tree.Cond.TheVariants.{Any, All, Not, Last, Present, Compare}
 use Rattle.avp_unlang.specs.declared.tree.Relation.{Relation}
 use Rattle.avp_unlang.specs.declared.tree.Relation.TheVariants as relation
-use Rattle.avp_unlang.specs.Forms.{Form, Becomes, Chain, Gives, ◌>>◌, ◌>>=◌}
+use Rattle.avp_unlang.specs.Forms.{Form, Chain, Gives, ◌>>◌, ◌>>=◌}
 use Rattle.avp_unlang.specs.Octets.{backslash, left_brace, percent}
 use Rattle.avp_unlang.specs.Places.{Place}
 use Rattle.avp_unlang.specs.References.{ReadableIs, readable, type_of}
 use Rattle.avp_unlang.specs.Between.{Follows}
 use Rattle.avp_unlang.specs.Tokens.{next_token}
-use Rattle.avp_unlang.specs.Values.{WrittenIs, literal}
+use Rattle.avp_unlang.specs.Values.{WrittenAs, literal}
 use Rattle.avp_unlang.specs.Words.{code_named}
 
 -- ---- comparisons
@@ -60,16 +60,14 @@ abbrev pub plain_literal : Dictionary → Named → List ℕ → Option Value
 plain_literal dictionary name text = option_and_then (literal dictionary name) (plain_octets text)
 
 -- what an attribute is compared with: a written value, where no value is put into a text between double quotes
-abbrev pub ComparandOf : Dictionary → Named → Written → Form Place Comparand
-ComparandOf dictionary name (written.Literal value) p x rest = Gives (Literal value) p x rest
-ComparandOf dictionary name (written.Double text) p x rest =
-    Becomes (option_map Literal (plain_literal dictionary name text)) p x rest
-ComparandOf dictionary name (written.Instance list id) p x rest = Gives (Instance list id) p x rest
+abbrev pub ComparandOf : Dictionary → Named → Written → Comparand → Type 0
+ComparandOf dictionary name (written.Literal value) x = x ≡ Literal value
+ComparandOf dictionary name (written.Double text) x =
+    option_map Literal (plain_literal dictionary name text) ≡ Some x
+ComparandOf dictionary name (written.Instance list id) x = x ≡ Instance list id
 
 abbrev pub ComparandIs : Dictionary → Named → Form Place Comparand
-ComparandIs dictionary name = do
-  x ← WrittenIs dictionary name
-  ComparandOf dictionary name x
+ComparandIs dictionary name = WrittenAs dictionary name (ComparandOf dictionary name)
 
 abbrev pub comparison_of : Dictionary → Reference → Relation → Comparand → Comparison
 comparison_of dictionary found relation x = record {

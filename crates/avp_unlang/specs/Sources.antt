@@ -16,12 +16,12 @@ use Rattle.avp_unlang.specs.declared.tree.Part.{Part}
 use Rattle.avp_unlang.specs.declared.tree.Part.TheVariants as part
 use Rattle.avp_unlang.specs.declared.tree.Source.{Source}
 use Rattle.avp_unlang.specs.declared.tree.Source.TheVariants.{Literal, Text, Instance, Any}
-use Rattle.avp_unlang.specs.Forms.{Form, Step, Gives, ◌>>=◌}
+use Rattle.avp_unlang.specs.Forms.{Form, Step}
 use Rattle.avp_unlang.specs.Parts.{PartsAre}
 use Rattle.avp_unlang.specs.Places.{Place}
 use Rattle.avp_unlang.specs.Between.{Follows}
 use Rattle.avp_unlang.specs.Tokens.{next_token}
-use Rattle.avp_unlang.specs.Values.{WrittenIs, literal}
+use Rattle.avp_unlang.specs.Values.{WrittenAs, literal}
 
 -- ---- texts between double quotes
 
@@ -46,17 +46,13 @@ FilledIs dictionary name text source =
 -- ---- sources
 
 -- the source that a written value is; a text between double quotes is read as parts
-abbrev pub SourceOf : Dictionary → Named → Written → Form Place Source
-SourceOf dictionary name (written.Literal value) p source rest = Gives (Literal value) p source rest
-SourceOf dictionary name (written.Double text) p source rest =
-    FilledIs dictionary name text source × (rest ≡ p)
-SourceOf dictionary name (written.Instance list id) p source rest =
-    Gives (Instance list id) p source rest
+abbrev pub SourceOf : Dictionary → Named → Written → Source → Type 0
+SourceOf dictionary name (written.Literal value) source = source ≡ Literal value
+SourceOf dictionary name (written.Double text) source = FilledIs dictionary name text source
+SourceOf dictionary name (written.Instance list id) source = source ≡ Instance list id
 
 abbrev pub ValueIs : Dictionary → Named → Form Place Source
-ValueIs dictionary name = do
-  x ← WrittenIs dictionary name
-  SourceOf dictionary name x
+ValueIs dictionary name = WrittenAs dictionary name (SourceOf dictionary name)
 
 -- a source by its tokens alone
 abbrev pub IgnoredFrom : Token → Step Place

@@ -47,3 +47,8 @@ WrittenFrom dictionary name _ after written rest = ⊥
 abbrev pub WrittenIs : Dictionary → Named → Form Place Written
 WrittenIs dictionary name p written rest =
     WrittenFrom dictionary name (next_token p).0 (next_token p).1 written rest
+
+-- a written value, and what is made of it
+abbrev pub WrittenAs : {A : Type 0} → Dictionary → Named → (Written → A → Type 0) → Form Place A
+WrittenAs dictionary name makes p x rest =
+    (written : Written) × WrittenIs dictionary name p written rest × makes written x

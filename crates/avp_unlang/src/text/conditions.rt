@@ -1,8 +1,8 @@
 //! Conditions, read from a text.
 
 ghost use Rattle.std.specs.Prelude.{◌≡◌, ◌≢◌, ◌≤◌, ◌<◌, suc, length, Some, None, false, IfOk, IfErr};
-ghost use Rattle.avp_unlang.specs.Conditions.{Both, Closed, ComparandIs, ComparedIs, Either, Negated, ReferredIs, Within, WordFrom, all_of, any_of, has_expansion, plain_literal, relation_of};
-ghost use Rattle.avp_unlang.specs.Forms.{Reads};
+ghost use Rattle.avp_unlang.specs.Conditions.{Both, Closed, ComparandOf, ComparedIs, Either, Negated, ReferredIs, Within, WordFrom, all_of, any_of, has_expansion, plain_literal, relation_of};
+ghost use Rattle.avp_unlang.specs.Forms.{Reads, ReadsAll};
 ghost use Rattle.avp_unlang.specs.Words.{code_named};
 ghost use Rattle.avp_unlang.specs.declared.faults.PolicyKind.TheVariants.{Memory};
 
@@ -77,29 +77,23 @@ fn plain_literal(
     quoted_literal(alloc, dictionary, named, QuoteMark::Double, text, lines)
 }
 
-// What an attribute on this line is compared with.
-fn comparand<'a>(
+// What an attribute is compared with.
+fn comparand_of(
     alloc: Global,
     dictionary: &Dictionary,
     named: Named,
-    name_line: usize,
-    at: &Cursor<'a>,
-) -> Read<'a, Comparand>
-    ensures read { Reads (ComparandIs dictionary.now named at.now) result }
-    ensures shorter { IfOk result (λ x. length x.1.text ≤ length at.now.text) }
+    written: Written,
+    lines: ValueLines,
+) -> Result<Comparand, PolicyFault>
+    ensures { ReadsAll (ComparandOf dictionary.now named written.entry) result }
 {
-    let lines = ValueLines {
-        name: name_line,
-        value: at.token_line(),
-    };
-    let (written, rest) = value_written(alloc, dictionary, named, lines, at)?;
     match written {
-        Written::Literal(value) => Ok((Comparand::Literal(value), rest)),
+        Written::Literal(value) => Ok(Comparand::Literal(value)),
         Written::Double(text) => {
             let value = plain_literal(alloc, dictionary, named, &text, lines)?;
-            Ok((Comparand::Literal(value), rest))
+            Ok(Comparand::Literal(value))
         }
-        Written::Instance(list, id) => Ok((Comparand::Instance(list, id), rest)),
+        Written::Instance(list, id) => Ok(Comparand::Instance(list, id)),
     }
 }
 
@@ -114,21 +108,24 @@ fn compared<'a>(
     ensures read { Reads (ComparedIs dictionary.now found at.entry) result }
     ensures shorter { IfOk result (λ x. length x.1.text ≤ length at.entry.text) }
 {
-    match relation_of(at.token()) {
-        None => Ok((Cond::Present(found.list, found.named.id), at)),
-        Some(relation) => {
-            let after = at.after();
-            let (comparand, rest) = comparand(alloc, dictionary, found.named, name_line, &after)?;
-            let comparison = Comparison {
-                list: found.list,
-                id: found.named.id,
-                kind: type_of(dictionary, found.named.id),
-                relation,
-                comparand,
-            };
-            Ok((Cond::Compare(comparison), rest))
-        }
-    }
+    let Some(relation) = relation_of(at.token()) else {
+        return Ok((Cond::Present(found.list, found.named.id), at));
+    };
+    let after = at.after();
+    let lines = ValueLines {
+        name: name_line,
+        value: after.token_line(),
+    };
+    let (written, rest) = value_written(alloc, dictionary, found.named, lines, &after)?;
+    let comparand = comparand_of(alloc, dictionary, found.named, written, lines)?;
+    let comparison = Comparison {
+        list: found.list,
+        id: found.named.id,
+        kind: type_of(dictionary, found.named.id),
+        relation,
+        comparand,
+    };
+    Ok((Cond::Compare(comparison), rest))
 }
 
 // The operand after an `&`.

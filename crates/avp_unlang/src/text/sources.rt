@@ -2,7 +2,7 @@
 
 ghost use Rattle.std.specs.Prelude.{◌≡◌, ◌≢◌, ◌≤◌, length, Some, None, IfOk, IfErr, option_map};
 ghost use Rattle.avp_unlang.specs.Forms.{Reads, ReadsAll, Takes};
-ghost use Rattle.avp_unlang.specs.Sources.{FilledIs, IgnoredIs, SourceIs, ValueIs, filled_source, is_removal, whole_text};
+ghost use Rattle.avp_unlang.specs.Sources.{FilledIs, IgnoredIs, SourceIs, SourceOf, filled_source, is_removal, whole_text};
 ghost use Rattle.avp_unlang.specs.declared.faults.PolicyKind.TheVariants.{Memory};
 
 use crate::faults::{PolicyFault, PolicyKind, fault_at};
@@ -65,29 +65,20 @@ fn filled_text(
     filled_source(alloc, dictionary, named, parts, lines)
 }
 
-// A source whose value is looked at.
-fn value_source<'a>(
+// The source that a written value is.
+fn source_of(
     alloc: Global,
     dictionary: &Dictionary,
     named: Named,
-    name_line: usize,
-    at: &Cursor<'a>,
-) -> Read<'a, Source>
-    ensures read { Reads (ValueIs dictionary.now named at.now) result }
-    ensures shorter { IfOk result (λ x. length x.1.text ≤ length at.now.text) }
+    written: Written,
+    lines: ValueLines,
+) -> Result<Source, PolicyFault>
+    ensures { ReadsAll (SourceOf dictionary.now named written.entry) result }
 {
-    let lines = ValueLines {
-        name: name_line,
-        value: at.token_line(),
-    };
-    let (written, rest) = value_written(alloc, dictionary, named, lines, at)?;
     match written {
-        Written::Literal(value) => Ok((Source::Literal(value), rest)),
-        Written::Double(text) => {
-            let source = filled_text(alloc, dictionary, named, text, lines)?;
-            Ok((source, rest))
-        }
-        Written::Instance(list, id) => Ok((Source::Instance(list, id), rest)),
+        Written::Literal(value) => Ok(Source::Literal(value)),
+        Written::Double(text) => filled_text(alloc, dictionary, named, text, lines),
+        Written::Instance(list, id) => Ok(Source::Instance(list, id)),
     }
 }
 
@@ -132,5 +123,11 @@ pub(crate) fn source<'a>(
     if is_container(named.id) {
         return Err(fault_at(name_line, PolicyKind::NotWritable));
     }
-    value_source(alloc, dictionary, named, name_line, at)
+    let lines = ValueLines {
+        name: name_line,
+        value: at.token_line(),
+    };
+    let (written, rest) = value_written(alloc, dictionary, named, lines, at)?;
+    let source = source_of(alloc, dictionary, named, written, lines)?;
+    Ok((source, rest))
 }
