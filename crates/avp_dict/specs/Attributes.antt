@@ -40,13 +40,16 @@ number_id vendors None n = Some (ids.Plain n)
 number_id vendors (Some vendor) n = vendor_id vendor n (format_of vendor vendors)
 
 -- the id of a number; none where the line is skipped
-unfoldable pub id_of_number : List VendorLine → Option ℕ → Option ℕ → Result (Option AttrId) DictKind
+unfoldable pub id_of_number : List VendorLine → Option ℕ → Option ℕ
+    → Result (Option AttrId) DictKind
 id_of_number vendors block None = Err Unreadable
-id_of_number vendors block (Some n) = if nat_le n greatest_number then Ok (number_id vendors block n) else Err OutOfRange
+id_of_number vendors block (Some n) =
+    if nat_le n greatest_number then Ok (number_id vendors block n) else Err OutOfRange
 
 -- the id of two numbers with a dot between, outside a vendor block
 abbrev pub id_of_dotted : Option ℕ → Option ℕ → Option ℕ → Result (Option AttrId) DictKind
-id_of_dotted block (Some t) (Some x) = Ok (if is_none block && is_extended_id 1 t x then Some (ids.Extended t x) else None)
+id_of_dotted block (Some t) (Some x) =
+    Ok (if is_none block && is_extended_id 1 t x then Some (ids.Extended t x) else None)
 id_of_dotted block _ _ = Err Unreadable
 
 abbrev pub is_number : List ℕ → Bool
@@ -57,7 +60,8 @@ abbrev pub id_of_more : List (List ℕ) → Result (Option AttrId) DictKind
 id_of_more parts = if list_all is_number parts then Ok None else Err Unreadable
 
 -- the id of the parts between the dots
-unfoldable pub id_of_parts : List VendorLine → Option ℕ → List (List ℕ) → Result (Option AttrId) DictKind
+unfoldable pub id_of_parts : List VendorLine → Option ℕ → List (List ℕ)
+    → Result (Option AttrId) DictKind
 id_of_parts vendors block (n ∷ []) = id_of_number vendors block (number_of n)
 id_of_parts vendors block (t ∷ x ∷ []) = id_of_dotted block (number_of t) (number_of x)
 id_of_parts vendors block parts = id_of_more parts
@@ -65,24 +69,32 @@ id_of_parts vendors block parts = id_of_more parts
 -- ---- the line
 
 unfoldable pub is_attribute_name : List ℕ → Bool
-is_attribute_name name = list_all is_name_octet name && nat_le (length name) max_name && not (begins_as_attr name)
+is_attribute_name name =
+    list_all is_name_octet name && nat_le (length name) max_name && not (begins_as_attr name)
 
--- an earlier line gave the name to another id: the last one decides, since each line of a name agreed with those before it
+-- an earlier line gave the name to another id: the last one decides, since each line of a name agreed with those before
+-- it
 abbrev pub is_of_other_id : AttrId → Option AttrId → Bool
 is_of_other_id id None = false
 is_of_other_id id (Some other) = not (id_eq other id)
 
 -- a line whose number is read
-unfoldable pub attribute_of : List AttributeLine → List ℕ → List ℕ → List (List ℕ) → Option AttrId → Result Meaning DictKind
+unfoldable pub attribute_of : List AttributeLine → List ℕ → List ℕ → List (List ℕ) → Option AttrId
+    → Result Meaning DictKind
 attribute_of attributes name kind flags None = Ok (SkippedAttribute name)
 attribute_of attributes name kind flags (Some id) = if is_attribute_name name && are_flags flags
-    then (if is_of_other_id id (id_named name attributes) then Err OtherNumber else Ok (Attribute (record { name = name; id = id; typing = typing_of id kind flags })))
+    then (if is_of_other_id id (id_named name attributes) then Err OtherNumber
+    else Ok (Attribute (record { name = name; id = id; typing = typing_of id kind flags })))
     else Ok (SkippedAttribute name)
 
-unfoldable pub attribute_line : Context → Option ℕ → List ℕ → List ℕ → List ℕ → List (List ℕ) → Result Meaning DictKind
-attribute_line before block name number kind flags = id_of_parts before.vendors block (slice_split is_dot number) >>= attribute_of before.attributes name kind flags
+unfoldable pub attribute_line : Context → Option ℕ → List ℕ → List ℕ → List ℕ → List (List ℕ)
+    → Result Meaning DictKind
+attribute_line before block name number kind flags =
+    id_of_parts before.vendors block (slice_split is_dot number)
+    >>= attribute_of before.attributes name kind flags
 
 unfoldable pub attribute : Context → Option ℕ → List (List ℕ) → Result Meaning DictKind
 attribute before block (name ∷ number ∷ kind ∷ []) = attribute_line before block name number kind []
-attribute before block (name ∷ number ∷ kind ∷ flags ∷ []) = attribute_line before block name number kind (slice_split is_comma flags)
+attribute before block (name ∷ number ∷ kind ∷ flags ∷ []) =
+    attribute_line before block name number kind (slice_split is_comma flags)
 attribute before block _ = Err Unreadable

@@ -40,11 +40,13 @@ abbrev pub ended : Bool → List Reading → Result Meaning DictKind
 ended fits opened = if fits then Ok (End (is_skipping opened)) else Err Unmatched
 
 unfoldable pub end_vendor : List Reading → List (List ℕ) → Result Meaning DictKind
-end_vendor opened (name ∷ []) = ended (option_map_or (opens_vendor_named name) (innermost opened) false) opened
+end_vendor opened (name ∷ []) =
+    ended (option_map_or (opens_vendor_named name) (innermost opened) false) opened
 end_vendor opened _ = Err Unreadable
 
 unfoldable pub end_tlv : List Reading → List (List ℕ) → Result Meaning DictKind
-end_tlv opened (name ∷ []) = ended (option_map_or (opens_tlv_named name) (innermost opened) false) opened
+end_tlv opened (name ∷ []) =
+    ended (option_map_or (opens_tlv_named name) (innermost opened) false) opened
 end_tlv opened _ = Err Unreadable
 
 -- ---- BEGIN lines
@@ -65,7 +67,9 @@ begin_known vendors name = elim (vendor_named name vendors) [
   | Some vendor ↦ Ok (BeginVendor name (unless_third vendor (format_of vendor vendors)))
 ]
 
-unfoldable pub begin_vendor : List VendorLine → List Reading → List (List ℕ) → Result Meaning DictKind
-begin_vendor vendors opened (name ∷ []) = if is_skipping opened then Ok (BeginVendor name None) else begin_known vendors name
+unfoldable pub begin_vendor : List VendorLine → List Reading → List (List ℕ)
+    → Result Meaning DictKind
+begin_vendor vendors opened (name ∷ []) =
+    if is_skipping opened then Ok (BeginVendor name None) else begin_known vendors name
 begin_vendor vendors opened (name ∷ word ∷ []) = Ok (BeginVendor name None)
 begin_vendor vendors opened _ = Err Unreadable

@@ -1,4 +1,5 @@
--- What dictionary files define: attributes, the names of their values, and vendors, each by a line of its own; and how they are found.
+-- What dictionary files define: attributes, the names of their values, and vendors, each by a line of its own; and how
+-- they are found.
 use Rattle.std.specs.Prelude.{ℕ, Bool, ◌&&◌, ◌==◌, if◌then◌else◌, List, [], ◌∷◌, ◌++◌, map, reverse, Option}
 use Rattle.std.specs.Option.{option_map}
 use Rattle.std.specs.List.{find, fold, list_any}
@@ -13,7 +14,8 @@ use Rattle.avp_dict.specs.declared.entries.Typing.{Typing}
 use Rattle.avp_dict.specs.declared.entries.Note.{Note}
 use Rattle.avp_dict.specs.Words.{lower, same_name}
 
--- the used ATTRIBUTE lines, the used VALUE lines, the VENDOR lines outside skipped blocks, and where the skipped lines are, each in the order of the lines
+-- the used ATTRIBUTE lines, the used VALUE lines, the VENDOR lines outside skipped blocks, and where the skipped lines
+-- are, each in the order of the lines
 pub record Dictionary : Type 0 where
   pub attributes : List AttributeLine
   pub values : List ValueLine
@@ -82,7 +84,8 @@ number_named id name values = option_map number_of_line (last_where (is_value_na
 
 -- the printed name of a number: the last one
 unfoldable pub name_numbered : AttrId → ℕ → List ValueLine → Option (List ℕ)
-name_numbered id number values = option_map name_of_line (last_where (is_value_numbered id number) values)
+name_numbered id number values =
+    option_map name_of_line (last_where (is_value_numbered id number) values)
 
 -- ---- vendors
 
@@ -104,4 +107,5 @@ vendor_named name vendors = option_map vendor_of_line (last_where (is_vendor_nam
 
 -- the format of a vendor: that of its last line
 unfoldable pub format_of : ℕ → List VendorLine → Option VendorFormat
-format_of number vendors = option_map format_of_line (last_where (is_vendor_numbered number) vendors)
+format_of number vendors =
+    option_map format_of_line (last_where (is_vendor_numbered number) vendors)

@@ -23,11 +23,19 @@ max_lines = 200000
 
 -- what the lines define, without the names of values and the notes
 abbrev pub outline_of : Context → Dictionary
-outline_of context = record { attributes = used context.vendors context.attributes; values = []; vendors = context.vendors; notes = [] }
+outline_of context =
+    record {
+      attributes = used context.vendors context.attributes;
+      values = [];
+      vendors = context.vendors;
+      notes = [];
+    }
 
--- the used attributes and the vendors of all lines, and what the lines add one after the other: the names of values, and notes
+-- the used attributes and the vendors of all lines, and what the lines add one after the other: the names of values,
+-- and notes
 unfoldable pub settled_dictionary : List Reading → Result Dictionary DictFault
-settled_dictionary lines = resolve (skipped_names (context_of lines).vendors lines) (outline_of (context_of lines)) lines
+settled_dictionary lines =
+    resolve (skipped_names (context_of lines).vendors lines) (outline_of (context_of lines)) lines
 
 -- first the lines, so many at most, one after the other; then a block left open, and the VALUE lines
 unfoldable pub dictionary_of : ℕ → List NamedFile → Result Dictionary DictFault

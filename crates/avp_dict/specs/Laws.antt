@@ -15,9 +15,12 @@ use Rattle.avp_dict.specs.Requests.{pair_named, pair_with}
 use Rattle.avp_dict.specs.Sent.{is_canonical, is_clean_pair, is_container, is_internal, is_raw}
 use Rattle.avp_dict.specs.Spellings.{value_spelled}
 
--- a canonical pair that may be written: no attribute that only holds others, and no raw octets of an internal or hidden attribute
+-- a canonical pair that may be written: no attribute that only holds others, and no raw octets of an internal or hidden
+-- attribute
 unfoldable pub is_writable : Pair → Dictionary → Bool
-is_writable pair dictionary = is_canonical pair dictionary && not (is_container pair.id) && not (is_raw pair.value && (is_internal pair.id || is_hidden pair.id dictionary))
+is_writable pair dictionary =
+    is_canonical pair dictionary && not (is_container pair.id)
+    && not (is_raw pair.value && (is_internal pair.id || is_hidden pair.id dictionary))
 
 -- what a printed text stands for: a string's what its quotes hold
 abbrev pub unquoted : Value → List ℕ → List ℕ
@@ -29,9 +32,12 @@ pub record ReadsBack (pair : Pair) (dictionary : Dictionary) : Type 0 where
   pub name : Named
   pub named : named (printed_name pair.id pair.value dictionary) dictionary ≡ Some name
   pub same : name.id ≡ pair.id
-  pub spelled : value_spelled name (unquoted pair.value (printed_text pair.id pair.value dictionary)) dictionary ≡ Ok pair.value
+  pub spelled :
+      value_spelled name (unquoted pair.value (printed_text pair.id pair.value dictionary)) dictionary
+      ≡ Ok pair.value
 
--- the pair of a known id and a value that a text stands for is clean: its own octets stand for it, and it holds no other attributes
+-- the pair of a known id and a value that a text stands for is clean: its own octets stand for it, and it holds no
+-- other attributes
 abbrev pub SpelledValuesClean : Dictionary → Type 0
 SpelledValuesClean dictionary =
     (name : Named) (text : List ℕ) (value : Value) → is_known name.id dictionary ≡ true

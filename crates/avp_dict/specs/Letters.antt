@@ -36,4 +36,5 @@ begins_as_attr name = same_name (take 5 name) (codes "attr-") && is_decimal (sli
 
 -- a type word without a part in square brackets at its end
 abbrev pub word_before_bracket : List ℕ → List ℕ
-word_before_bracket word = if slice_index word (length word - 1) == 93 then before_first (λ o. o == 91) word else word
+word_before_bracket word =
+    if slice_index word (length word - 1) == 93 then before_first (λ o. o == 91) word else word

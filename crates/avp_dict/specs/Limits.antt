@@ -19,23 +19,29 @@ use Rattle.avp_dict.specs.Values.{max_of}
 
 -- ---- lengths
 
--- what one attribute of 255 octets holds: less a Vendor-Id and the vendor's own type and length (RFC 2865, section 5.26)
+-- what one attribute of 255 octets holds: less a Vendor-Id and the vendor's own type and length (RFC 2865, section
+-- 5.26)
 abbrev pub vendor_room : Format → ℕ
 vendor_room f = 249 - f.t - f.l
 
--- types 241 to 244 hold one attribute, and 245 and 246 what a packet holds in fragments (RFC 6929, sections 2.1 and 2.2)
+-- types 241 to 244 hold one attribute, and 245 and 246 what a packet holds in fragments (RFC 6929, sections 2.1 and
+-- 2.2)
 abbrev pub extended_room : ℕ → ℕ
-extended_room t = if nat_le 241 t && nat_le t 244 then 252 else if nat_le 245 t && nat_le t 246 then 4012 else 0
+extended_room t =
+    if nat_le 241 t && nat_le t 244 then 252 else if nat_le 245 t && nat_le t 246 then 4012 else 0
 
 -- the most octets of an id's attribute; 0 where the vendor has no format of two parts
 unfoldable pub max_octets : AttrId → Dictionary → ℕ
 max_octets (ids.Plain n) dictionary = if nat_le n max_plain then 253 else 4012
-max_octets (ids.Vendor vendor n) dictionary = option_map_or vendor_room (vendor_format vendor dictionary) 0
+max_octets (ids.Vendor vendor n) dictionary =
+    option_map_or vendor_room (vendor_format vendor dictionary) 0
 max_octets (ids.Extended t n) dictionary = extended_room t
 
 -- the most octets of a value of the id's type
 unfoldable pub greatest_length : AttrId → Dictionary → ℕ
-greatest_length id dictionary = if is_hidden id dictionary then min max_hidden_octets (max_octets id dictionary) else max_octets id dictionary
+greatest_length id dictionary =
+    if is_hidden id dictionary then min max_hidden_octets (max_octets id dictionary)
+    else max_octets id dictionary
 
 -- ---- fitting pairs
 
@@ -67,7 +73,8 @@ is_typed id value dictionary = option_map_or (is_of_kind value) (kind_of id dict
 
 -- a length that the id's type allows; hidden octets do not end in NUL
 abbrev pub is_value_within : AttrId → Value → Dictionary → Bool
-is_value_within id value dictionary = nat_le (length (octets id value dictionary)) (greatest_length id dictionary)
+is_value_within id value dictionary =
+    nat_le (length (octets id value dictionary)) (greatest_length id dictionary)
     && not (is_hidden id dictionary && ends_in_nul (octets id value dictionary))
 
 -- raw octets have the length that the id's attribute holds
@@ -76,4 +83,6 @@ is_within id (Raw os) dictionary = nat_le (length os) (max_octets id dictionary)
 is_within id value dictionary = is_value_within id value dictionary
 
 unfoldable pub fits : Pair → Dictionary → Bool
-fits pair dictionary = is_known pair.id dictionary && is_typed pair.id pair.value dictionary && is_within pair.id pair.value dictionary
+fits pair dictionary =
+    is_known pair.id dictionary && is_typed pair.id pair.value dictionary
+    && is_within pair.id pair.value dictionary

@@ -60,7 +60,8 @@ octets_at files place = option_map_or (λ file. file.octets) (slice_get files pl
 
 -- the place of the file that a line includes
 abbrev pub file_included : List NamedFile → List ℕ → Option ℕ
-file_included files text = option_and_then (λ name. file_named name files) (included_by (words_of text))
+file_included files text =
+    option_and_then (λ name. file_named name files) (included_by (words_of text))
 
 -- what follows a line: the lines of the file that it includes, as lines_at gives them
 abbrev pub lines_below : List NamedFile → (ℕ → List Line) → List ℕ → List Line
@@ -69,7 +70,9 @@ lines_below files lines_at text = option_map_or lines_at (file_included files te
 -- the texts as lines from this number on, each followed by what is below it
 abbrev pub expanded : (List ℕ → List Line) → ℕ → ℕ → ℕ → List (List ℕ) → List Line
 expanded below file depth number [] = []
-expanded below file depth number (text ∷ texts) = record { file = file; number = number; depth = depth; text = text } ∷ (below text ++ expanded below file depth (number + 1) texts)
+expanded below file depth number (text ∷ texts) =
+    record { file = file; number = number; depth = depth; text = text }
+    ∷ (below text ++ expanded below file depth (number + 1) texts)
 
 -- includes go so many files deep
 abbrev pub max_depth : ℕ
@@ -78,7 +81,9 @@ max_depth = 8
 -- the lines of a file, where so many levels of files may be open, itself included
 unfoldable pub lines_in : List NamedFile → ℕ → ℕ → List Line
 lines_in files zero place = []
-lines_in files (suc levels) place = expanded (lines_below files (lines_in files levels)) place (max_depth - levels) 1 (texts_of (octets_at files place))
+lines_in files (suc levels) place =
+    expanded (lines_below files (lines_in files levels)) place (max_depth - levels) 1
+    (texts_of (octets_at files place))
 
 -- all lines of the set: the main file is the first
 unfoldable pub lines_of : List NamedFile → List Line

@@ -4,9 +4,10 @@ use Rattle.std.specs.List.{fold}
 use Rattle.avp_dict.specs.declared.entries.AttributeLine.{AttributeLine}
 use Rattle.avp_dict.specs.declared.entries.VendorLine.{VendorLine}
 
--- a blank line or an include; a line that only gives a note; a skipped ATTRIBUTE line, by its name; a VENDOR line; an ATTRIBUTE
--- line that is not skipped; a VALUE line, its attribute, name and number; a BEGIN-VENDOR line, with the vendor where the block is
--- read and none where it is skipped; a BEGIN-TLV line; and the end of a block, which says whether it gives a note
+-- a blank line or an include; a line that only gives a note; a skipped ATTRIBUTE line, by its name; a VENDOR line; an
+-- ATTRIBUTE line that is not skipped; a VALUE line, its attribute, name and number; a BEGIN-VENDOR line, with the
+-- vendor where the block is read and none where it is skipped; a BEGIN-TLV line; and the end of a block, which says
+-- whether it gives a note
 pub data Meaning : Type 0 where
   Nothing : Meaning
   Skipped : Meaning
@@ -24,20 +25,32 @@ pub record Reading : Type 0 where
   pub line : ℕ
   pub meaning : Meaning
 
--- the attributes and vendors that lines define, and the lines that opened the blocks that are open after them, the innermost last
+-- the attributes and vendors that lines define, and the lines that opened the blocks that are open after them, the
+-- innermost last
 pub record Context : Type 0 where
   pub attributes : List AttributeLine
   pub vendors : List VendorLine
   pub opened : List Reading
 
 abbrev pub with_attribute : Context → AttributeLine → Context
-with_attribute context a = record { attributes = context.attributes ++ a ∷ []; vendors = context.vendors; opened = context.opened }
+with_attribute context a =
+    record {
+      attributes = context.attributes ++ a ∷ [];
+      vendors = context.vendors;
+      opened = context.opened;
+    }
 
 abbrev pub with_vendor : Context → VendorLine → Context
-with_vendor context v = record { attributes = context.attributes; vendors = context.vendors ++ v ∷ []; opened = context.opened }
+with_vendor context v =
+    record {
+      attributes = context.attributes;
+      vendors = context.vendors ++ v ∷ [];
+      opened = context.opened;
+    }
 
 abbrev pub with_opened : Context → List Reading → Context
-with_opened context opened = record { attributes = context.attributes; vendors = context.vendors; opened = opened }
+with_opened context opened =
+    record { attributes = context.attributes; vendors = context.vendors; opened = opened }
 
 -- a BEGIN line opens a block, and an END line closes the last open one
 abbrev pub after_reading : Context → Reading → Context

@@ -31,7 +31,8 @@ extended_numbered _ _ = None
 
 -- Attr-26.V.N, where the vendor's format has two parts and holds N
 abbrev pub vendor_id_numbered : List VendorLine → Option ℕ → Option ℕ → Option AttrId
-vendor_id_numbered vendors (Some v) (Some n) = if nat_le v greatest_number && is_in_format v n vendors then Some (ids.Vendor v n) else None
+vendor_id_numbered vendors (Some v) (Some n) =
+    if nat_le v greatest_number && is_in_format v n vendors then Some (ids.Vendor v n) else None
 vendor_id_numbered vendors _ _ = None
 
 abbrev pub is_vendor_specific : Option ℕ → Bool
@@ -42,7 +43,9 @@ is_vendor_specific None = false
 abbrev pub id_numbered : List VendorLine → List (List ℕ) → Option AttrId
 id_numbered vendors (n ∷ []) = plain_numbered (digits 10 n)
 id_numbered vendors (t ∷ n ∷ []) = extended_numbered (digits 10 t) (digits 10 n)
-id_numbered vendors (t ∷ v ∷ n ∷ []) = if is_vendor_specific (digits 10 t) then vendor_id_numbered vendors (digits 10 v) (digits 10 n) else None
+id_numbered vendors (t ∷ v ∷ n ∷ []) =
+    if is_vendor_specific (digits 10 t) then vendor_id_numbered vendors (digits 10 v) (digits 10 n)
+    else None
 id_numbered vendors _ = None
 
 abbrev pub named_by : Bool → AttrId → Named
@@ -51,7 +54,8 @@ named_by raw id = record { id = id; raw = raw }
 -- the id of a name: by the numbers after Attr-, or by the ATTRIBUTE lines with it
 unfoldable pub named : List ℕ → Dictionary → Option Named
 named name dictionary = if begins_as_attr name
-    then option_map (named_by true) (id_numbered dictionary.vendors (slice_split is_dot (drop 5 name)))
+    then option_map (named_by true)
+    (id_numbered dictionary.vendors (slice_split is_dot (drop 5 name)))
     else option_map (named_by false) (id_named name dictionary.attributes)
 
 -- ---- by id
@@ -67,7 +71,8 @@ described_by a = record { name = a.name; kind = a.typing.kind; hidden = a.typing
 
 -- by the last used ATTRIBUTE line with the id
 unfoldable pub described : AttrId → Dictionary → Option Described
-described id dictionary = option_map described_by (last_where (is_attribute_of id) dictionary.attributes)
+described id dictionary =
+    option_map described_by (last_where (is_attribute_of id) dictionary.attributes)
 
 -- ---- vendors
 

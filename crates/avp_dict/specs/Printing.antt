@@ -71,8 +71,11 @@ name_by id (Some d) = d.name
 
 -- the text that is printed for a value of an id
 unfoldable pub printed_text : AttrId → Value → Dictionary → List ℕ
-printed_text id value dictionary = if is_by_number id value then hexadecimal (octets id value dictionary) else text_by id value dictionary (described id dictionary)
+printed_text id value dictionary =
+    if is_by_number id value then hexadecimal (octets id value dictionary)
+    else text_by id value dictionary (described id dictionary)
 
 -- the name that is printed before it: that of the id's last ATTRIBUTE line, or one by number
 unfoldable pub printed_name : AttrId → Value → Dictionary → List ℕ
-printed_name id value dictionary = if is_by_number id value then attr_name id else name_by id (described id dictionary)
+printed_name id value dictionary =
+    if is_by_number id value then attr_name id else name_by id (described id dictionary)

@@ -37,7 +37,9 @@ is_octal o = nat_le 48 o && nat_le o 55
 
 -- three octal digits of at most 377
 abbrev pub begins_octal : List ℕ → Bool
-begins_octal text = is_octal (slice_index text 0) && nat_le (slice_index text 0) 51 && is_octal (slice_index text 1) && is_octal (slice_index text 2)
+begins_octal text =
+    is_octal (slice_index text 0) && nat_le (slice_index text 0) 51 && is_octal (slice_index text 1)
+    && is_octal (slice_index text 2)
 
 abbrev pub octal_value : ℕ → ℕ → ℕ → ℕ
 octal_value a b c = (a - 48) * 64 + (b - 48) * 8 + (c - 48)

@@ -18,7 +18,8 @@ use Rattle.avp_dict.specs.Attributes.{attribute}
 -- whether the file has to be there, its place if it is, and the depth of the line
 abbrev pub include_line : Bool → Option ℕ → ℕ → Result Meaning DictKind
 include_line required None depth = if required then Err NoFile else Ok Skipped
-include_line required (Some place) depth = if nat_lt depth max_depth then Ok Nothing else Err TooDeep
+include_line required (Some place) depth =
+    if nat_lt depth max_depth then Ok Nothing else Err TooDeep
 
 unfoldable pub include : Option ℕ → ℕ → List ℕ → List (List ℕ) → Result Meaning DictKind
 include found depth head (path ∷ []) = include_line (same_name head (codes "$include")) found depth
@@ -27,7 +28,8 @@ include found depth head _ = Err Unreadable
 -- ---- VALUE lines, whose names are resolved after the last line
 
 abbrev pub value_words : List ℕ → List ℕ → List ℕ → Result Meaning DictKind
-value_words attribute name number = bounded greatest_value number >>= λ n. Ok (Value attribute name n)
+value_words attribute name number =
+    bounded greatest_value number >>= λ n. Ok (Value attribute name n)
 
 unfoldable pub value : List (List ℕ) → Result Meaning DictKind
 value (attribute ∷ name ∷ number ∷ []) = value_words attribute name number
@@ -38,7 +40,8 @@ value _ = Err Unreadable
 -- a line in a skipped block, other than its BEGIN and END, includes and blank lines
 abbrev pub skipped_line : List ℕ → List (List ℕ) → Meaning
 skipped_line head [] = Skipped
-skipped_line head (name ∷ words) = if same_name head (codes "attribute") then SkippedAttribute name else Skipped
+skipped_line head (name ∷ words) =
+    if same_name head (codes "attribute") then SkippedAttribute name else Skipped
 
 unfoldable pub plain_line : Context → Option ℕ → List ℕ → List (List ℕ) → Result Meaning DictKind
 plain_line before block head rest =
@@ -47,11 +50,13 @@ plain_line before block head rest =
     else if same_name head (codes "vendor") then vendor before.vendors rest
     else Err Unreadable
 
--- the words of a line after its first, by what the lines before it leave; found is the place of the file that it includes
+-- the words of a line after its first, by what the lines before it leave; found is the place of the file that it
+-- includes
 unfoldable pub read_head : Context → Option ℕ → ℕ → List ℕ → List (List ℕ) → Result Meaning DictKind
 read_head before found depth head rest =
     if is_include head then include found depth head rest
-    else if same_name head (codes "begin-vendor") then begin_vendor before.vendors before.opened rest
+    else if same_name head (codes "begin-vendor")
+    then begin_vendor before.vendors before.opened rest
     else if same_name head (codes "end-vendor") then end_vendor before.opened rest
     else if same_name head (codes "begin-tlv") then begin_tlv rest
     else if same_name head (codes "end-tlv") then end_tlv before.opened rest
@@ -64,14 +69,20 @@ read_words before found depth (head ∷ rest) = read_head before found depth hea
 
 -- a line, by what the lines before it leave
 unfoldable pub read_line : List NamedFile → Context → Line → Result Meaning DictKind
-read_line files before line = read_words before (file_included files line.text) line.depth (words_of line.text)
+read_line files before line =
+    read_words before (file_included files line.text) line.depth (words_of line.text)
 
 -- so many lines are read; one more is refused, before anything else about it
 abbrev pub within : ℕ → List Reading → Result Meaning DictKind → Result Meaning DictKind
 within limit before read = if nat_lt (length before) limit then read else Err TooLong
 
 -- what the lines are read as, so many at most: each by the lines before it, or the first refusal
-unfoldable pub read_lines : ℕ → List NamedFile → List Reading → List Line → Result (List Reading) DictFault
+unfoldable pub read_lines : ℕ → List NamedFile → List Reading → List Line
+    → Result (List Reading) DictFault
 read_lines limit files before [] = Ok before
-read_lines limit files before (line ∷ lines) = refused_at line.file line.number (within limit before (read_line files (context_of before) line)) >>= λ meaning.
-    read_lines limit files (before ++ record { file = line.file; line = line.number; meaning = meaning } ∷ []) lines
+read_lines limit files before (line ∷ lines) =
+    refused_at line.file line.number
+    (within limit before (read_line files (context_of before) line))
+    >>= λ meaning.
+    read_lines limit files
+    (before ++ record { file = line.file; line = line.number; meaning = meaning } ∷ []) lines

@@ -106,7 +106,8 @@ joined (Some xs) others = option_map (λ ys. xs ++ ys) others
 unfoldable pub pairs_of : List Token → Option (List Assignment)
 pairs_of [] = Some []
 pairs_of (Run name ∷ Sign ∷ value ∷ []) = option_map (assigned name) (value_text value)
-pairs_of (Run name ∷ Sign ∷ value ∷ Comma ∷ tokens) = joined (option_map (assigned name) (value_text value)) (pairs_of tokens)
+pairs_of (Run name ∷ Sign ∷ value ∷ Comma ∷ tokens) =
+    joined (option_map (assigned name) (value_text value)) (pairs_of tokens)
 pairs_of _ = None
 
 abbrev pub line_assignments : List ℕ → Option (List Assignment)

@@ -16,7 +16,8 @@ pair_with name value = record { id = name.id; value = value }
 
 -- the pair of a text under a known name
 abbrev pub pair_named : Dictionary → List ℕ → Named → Option Pair
-pair_named dictionary text name = option_map (pair_with name) (result_ok (value_spelled name text dictionary))
+pair_named dictionary text name =
+    option_map (pair_with name) (result_ok (value_spelled name text dictionary))
 
 -- the pair that an assignment spells
 unfoldable pub pair_spelled : Dictionary → Assignment → Option Pair
@@ -25,7 +26,9 @@ pair_spelled dictionary a = option_and_then (pair_named dictionary a.text) (name
 -- the pairs of all, where each has one
 unfoldable pub pairs_spelled : Dictionary → List Assignment → Option (List Pair)
 pairs_spelled dictionary [] = Some []
-pairs_spelled dictionary (a ∷ as_) = joined (option_map (λ pair. pair ∷ []) (pair_spelled dictionary a)) (pairs_spelled dictionary as_)
+pairs_spelled dictionary (a ∷ as_) =
+    joined (option_map (λ pair. pair ∷ []) (pair_spelled dictionary a))
+    (pairs_spelled dictionary as_)
 
 -- no more pairs than a list may have
 abbrev pub few_enough : List Pair → Option (List Pair)
@@ -33,4 +36,5 @@ few_enough pairs = if nat_le (length pairs) max_pairs then Some pairs else None
 
 -- the request of a text: the pairs that its lines assign
 unfoldable pub request_spelled : List ℕ → Dictionary → Option (List Pair)
-request_spelled text dictionary = option_and_then few_enough (option_and_then (pairs_spelled dictionary) (assignments_of text))
+request_spelled text dictionary =
+    option_and_then few_enough (option_and_then (pairs_spelled dictionary) (assignments_of text))

@@ -39,7 +39,9 @@ is_shown _ = true
 -- a pair that its own octets stand for
 unfoldable pub is_canonical : Pair → Dictionary → Bool
 is_canonical pair dictionary = fits pair dictionary
-    && (if is_hidden pair.id dictionary then is_shown pair.value else value_eq pair.value (value_of_octets pair.id (octets pair.id pair.value dictionary) dictionary))
+    && (if is_hidden pair.id dictionary then is_shown pair.value
+    else value_eq pair.value
+    (value_of_octets pair.id (octets pair.id pair.value dictionary) dictionary))
 
 abbrev pub is_clean_pair : Dictionary → Pair → Bool
 is_clean_pair dictionary pair = is_canonical pair dictionary && not (is_container pair.id)
@@ -51,7 +53,8 @@ is_clean pairs dictionary = list_all (is_clean_pair dictionary) pairs
 -- a pair that is not internal, and has octets or hides that it has none
 abbrev pub is_sent : Dictionary → Pair → Bool
 is_sent dictionary pair = not (is_internal pair.id)
-    && (not (length (octets pair.id pair.value dictionary) == 0) || (is_hidden pair.id dictionary && not (is_raw pair.value)))
+    && (not (length (octets pair.id pair.value dictionary) == 0)
+    || (is_hidden pair.id dictionary && not (is_raw pair.value)))
 
 -- the pairs that are sent
 unfoldable pub sent : List Pair → Dictionary → List Pair

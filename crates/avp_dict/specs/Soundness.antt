@@ -1,4 +1,5 @@
--- What holds of every dictionary that was read: a name stands for one thing and has no form of a name by number, and each vendor has one of the formats that exist; and what follows for the look-ups.
+-- What holds of every dictionary that was read: a name stands for one thing and has no form of a name by number, and
+-- each vendor has one of the formats that exist; and what follows for the look-ups.
 use Rattle.std.specs.Prelude.{◌≡◌, ℕ, Bool, true, false, not, ◌&&◌, ◌==◌, List, Some, IfSome}
 use Rattle.std.specs.List.{All}
 use Rattle.avp_lists.specs.declared.pairs.AttrId.{AttrId}

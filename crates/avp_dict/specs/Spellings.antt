@@ -30,7 +30,8 @@ octets_spelled text = if is_hexadecimal text then result_ok (decode_of (drop 2 t
 
 -- a text that does not begin with 0x stands for its own octets, where the type word allows it
 unfoldable pub bytes_spelled : Bool → List ℕ → Option (List ℕ)
-bytes_spelled by_text text = if by_text && not (is_hexadecimal text) then Some text else octets_spelled text
+bytes_spelled by_text text =
+    if by_text && not (is_hexadecimal text) then Some text else octets_spelled text
 
 -- ---- numbers
 
@@ -41,7 +42,8 @@ up_to most (Some n) = if nat_le n most then Some n else None
 
 -- a number, or a name that VALUE lines give to one
 unfoldable pub number_spelled : ℕ → AttrId → List ℕ → Dictionary → Option ℕ
-number_spelled most id text dictionary = up_to most (option_or (number_of text) (number_named id text dictionary.values))
+number_spelled most id text dictionary =
+    up_to most (option_or (number_of text) (number_named id text dictionary.values))
 
 abbrev pub negated : ℕ → ℤ
 negated n = neg_ℤ (pos n)
@@ -52,7 +54,9 @@ is_negative text = slice_index text 0 == 45
 
 -- decimal digits, or '-' and decimal digits, of a number of 32 bits
 unfoldable pub signed_spelled : List ℕ → Option ℤ
-signed_spelled text = if is_negative text then option_map negated (up_to (greatest_signed + 1) (digits 10 (drop 1 text)))
+signed_spelled text =
+    if is_negative text
+    then option_map negated (up_to (greatest_signed + 1) (digits 10 (drop 1 text)))
     else option_map pos (up_to greatest_signed (digits 10 text))
 
 -- ---- addresses
@@ -60,7 +64,8 @@ signed_spelled text = if is_negative text then option_map negated (up_to (greate
 -- the numbers of the parts, where each has one
 unfoldable pub each_number : (List ℕ → Option ℕ) → List (List ℕ) → Option (List ℕ)
 each_number number [] = Some []
-each_number number (part ∷ parts) = option_and_then (λ n. option_map (λ ns. n ∷ ns) (each_number number parts)) (number part)
+each_number number (part ∷ parts) =
+    option_and_then (λ n. option_map (λ ns. n ∷ ns) (each_number number parts)) (number part)
 
 -- so many parts
 abbrev pub in_parts : ℕ → (List ℕ → Option ℕ) → List (List ℕ) → Option (List ℕ)
@@ -87,17 +92,24 @@ ether_spelled text = in_parts 6 digit_pair (slice_split is_colon text)
 
 -- ---- values
 
--- a text under a name of an ATTRIBUTE line, by the type; by_text says whether the line's own type word is string or octets
+-- a text under a name of an ATTRIBUTE line, by the type; by_text says whether the line's own type word is string or
+-- octets
 abbrev pub spelled_as : Kind → Bool → AttrId → List ℕ → Dictionary → Option Value
 spelled_as kinds.Text by_text id text dictionary = Some (values.Text text)
-spelled_as kinds.Bytes by_text id text dictionary = option_map values.Bytes (bytes_spelled by_text text)
+spelled_as kinds.Bytes by_text id text dictionary =
+    option_map values.Bytes (bytes_spelled by_text text)
 spelled_as kinds.Addr by_text id text dictionary = option_map Addr (address_spelled text)
 spelled_as kinds.Ether by_text id text dictionary = option_map Ether (ether_spelled text)
-spelled_as kinds.Byte by_text id text dictionary = option_map Int (number_spelled 255 id text dictionary)
-spelled_as kinds.Short by_text id text dictionary = option_map Int (number_spelled 65535 id text dictionary)
-spelled_as kinds.Integer by_text id text dictionary = option_map Int (number_spelled greatest_number id text dictionary)
-spelled_as kinds.Integer64 by_text id text dictionary = option_map Int (number_spelled greatest_value id text dictionary)
-spelled_as kinds.Date by_text id text dictionary = option_map Int (up_to greatest_number (number_of text))
+spelled_as kinds.Byte by_text id text dictionary =
+    option_map Int (number_spelled 255 id text dictionary)
+spelled_as kinds.Short by_text id text dictionary =
+    option_map Int (number_spelled 65535 id text dictionary)
+spelled_as kinds.Integer by_text id text dictionary =
+    option_map Int (number_spelled greatest_number id text dictionary)
+spelled_as kinds.Integer64 by_text id text dictionary =
+    option_map Int (number_spelled greatest_value id text dictionary)
+spelled_as kinds.Date by_text id text dictionary =
+    option_map Int (up_to greatest_number (number_of text))
 spelled_as kinds.Signed by_text id text dictionary = option_map Signed (signed_spelled text)
 
 abbrev pub spelled_by : AttrId → List ℕ → Dictionary → Typing → Option Value
@@ -109,8 +121,10 @@ octets_value id dictionary os = value_of_octets id os dictionary
 
 -- the value that a text stands for, its length aside
 unfoldable pub spelled : Named → List ℕ → Dictionary → Option Value
-spelled name text dictionary = if name.raw then option_map (octets_value name.id dictionary) (octets_spelled text)
-    else option_and_then (spelled_by name.id text dictionary) (typing_of_id name.id dictionary.attributes)
+spelled name text dictionary =
+    if name.raw then option_map (octets_value name.id dictionary) (octets_spelled text)
+    else option_and_then (spelled_by name.id text dictionary)
+    (typing_of_id name.id dictionary.attributes)
 
 -- ---- refusals
 
@@ -120,11 +134,14 @@ is_barred name dictionary = is_container name.id || (name.raw && is_hidden name.
 
 abbrev pub unless_long : AttrId → Dictionary → Option Value → Result Value ValueFault
 unless_long id dictionary None = Err NotValue
-unless_long id dictionary (Some value) = if is_within id value dictionary then Ok value else Err TooLong
+unless_long id dictionary (Some value) =
+    if is_within id value dictionary then Ok value else Err TooLong
 
 -- the value of a text under a name, or the first reason that there is none
 unfoldable pub value_spelled : Named → List ℕ → Dictionary → Result Value ValueFault
-value_spelled name text dictionary = if is_barred name dictionary then Err NotWritable else unless_long name.id dictionary (spelled name text dictionary)
+value_spelled name text dictionary =
+    if is_barred name dictionary then Err NotWritable
+    else unless_long name.id dictionary (spelled name text dictionary)
 
 -- a value, and a fault other than want of memory, is the one that the definition gives
 abbrev pub AnswersValue : Result Value ValueFault → Result Value ValueFault → Type 0

@@ -13,14 +13,20 @@ use Rattle.avp_dict.specs.Words.{same_name}
 use Rattle.avp_dict.specs.Letters.{word_before_bracket}
 
 abbrev pub is_flag : List ℕ → Bool
-is_flag w = same_name w (codes "has_tag") || same_name w (codes "encrypt=1") || same_name w (codes "encrypt=2") || same_name w (codes "encrypt=3") || same_name w (codes "concat") || same_name w (codes "array") || same_name w (codes "secret") || same_name w (codes "virtual")
+is_flag w =
+    same_name w (codes "has_tag") || same_name w (codes "encrypt=1")
+    || same_name w (codes "encrypt=2") || same_name w (codes "encrypt=3")
+    || same_name w (codes "concat") || same_name w (codes "array") || same_name w (codes "secret")
+    || same_name w (codes "virtual")
 
 abbrev pub are_flags : List (List ℕ) → Bool
 are_flags flags = list_all is_flag flags
 
 -- a flag that makes the type octets
 abbrev pub is_opaque : List ℕ → Bool
-is_opaque w = same_name w (codes "has_tag") || same_name w (codes "encrypt=2") || same_name w (codes "encrypt=3")
+is_opaque w =
+    same_name w (codes "has_tag") || same_name w (codes "encrypt=2")
+    || same_name w (codes "encrypt=3")
 
 abbrev pub is_hiding : List ℕ → Bool
 is_hiding w = same_name w (codes "encrypt=1")
@@ -44,16 +50,22 @@ is_text_kind _ = false
 
 -- Plain 26, 33, 80 and 241 to 246, whose line's type and flags are not looked at
 abbrev pub is_fixed : AttrId → Bool
-is_fixed (ids.Plain n) = (n == vendor_specific) || (n == proxy_state) || (n == message_authenticator) || is_extended_type n
+is_fixed (ids.Plain n) =
+    (n == vendor_specific) || (n == proxy_state) || (n == message_authenticator)
+    || is_extended_type n
 is_fixed _ = false
 
 abbrev pub typing_by : Option Kind → Bool → Bool → Typing
 typing_by own opaque hiding = record {
-  kind = if opaque || (hiding && not (is_text_kind own)) then kinds.Bytes else unwrap_or own kinds.Bytes;
+  kind =
+      if opaque || (hiding && not (is_text_kind own)) then kinds.Bytes
+      else unwrap_or own kinds.Bytes;
   hidden = hiding && is_text_kind own;
   by_text = is_text_kind own;
 }
 
 abbrev pub typing_of : AttrId → List ℕ → List (List ℕ) → Typing
-typing_of id word flags = if is_fixed id then record { kind = kinds.Bytes; hidden = false; by_text = true }
-    else typing_by (kind_word (word_before_bracket word)) (list_any is_opaque flags) (list_any is_hiding flags)
+typing_of id word flags =
+    if is_fixed id then record { kind = kinds.Bytes; hidden = false; by_text = true }
+    else typing_by (kind_word (word_before_bracket word)) (list_any is_opaque flags)
+    (list_any is_hiding flags)

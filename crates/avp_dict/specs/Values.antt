@@ -1,4 +1,5 @@
--- VALUE lines and notes, after the last line: each VALUE line by the attributes of all lines and by the VALUE lines before it.
+-- VALUE lines and notes, after the last line: each VALUE line by the attributes of all lines and by the VALUE lines
+-- before it.
 use Rattle.std.specs.Prelude.{ℕ, Bool, true, false, not, ◌&&◌, ◌||◌, ◌==◌, nat_le, if◌then◌else◌, List, [], ◌∷◌, ◌++◌, length, drop, slice_index, Option, Some, None, is_none, is_some, Result, Ok, Err}
 use Rattle.std.specs.Option.{option_and_then}
 use Rattle.std.specs.List.{list_any, list_all}
@@ -24,13 +25,16 @@ use Rattle.avp_dict.specs.Words.{digits, is_hexadecimal, same_name}
 
 -- 0x, or 0X
 abbrev pub begins_hexadecimal : List ℕ → Bool
-begins_hexadecimal word = is_hexadecimal word || ((slice_index word 0 == 48) && (slice_index word 1 == 88))
+begins_hexadecimal word =
+    is_hexadecimal word || ((slice_index word 0 == 48) && (slice_index word 1 == 88))
 
 abbrev pub reads_as_number : List ℕ → Bool
-reads_as_number word = is_some (if begins_hexadecimal word then digits 16 (drop 2 word) else digits 10 word)
+reads_as_number word =
+    is_some (if begins_hexadecimal word then digits 16 (drop 2 word) else digits 10 word)
 
 unfoldable pub is_value_name : List ℕ → Bool
-is_value_name name = list_all is_value_name_octet name && nat_le (length name) max_name && not (reads_as_number name)
+is_value_name name =
+    list_all is_value_name_octet name && nat_le (length name) max_name && not (reads_as_number name)
 
 -- ---- a VALUE line
 
@@ -45,13 +49,15 @@ max_of _ = None
 abbrev pub max_of_typing : Typing → Option ℕ
 max_of_typing typing = max_of typing.kind
 
--- an earlier VALUE line gave the name another number: the last one decides, since each line of a name agreed with those before it
+-- an earlier VALUE line gave the name another number: the last one decides, since each line of a name agreed with those
+-- before it
 abbrev pub is_of_other_number : ℕ → Option ℕ → Bool
 is_of_other_number number None = false
 is_of_other_number number (Some other) = not (other == number)
 
 -- the name of a number of an attribute with this greatest number; none where the line only gives a note
-unfoldable pub value_up_to : List ValueLine → AttrId → List ℕ → ℕ → Option ℕ → Result (Option ValueLine) DictKind
+unfoldable pub value_up_to : List ValueLine → AttrId → List ℕ → ℕ → Option ℕ
+    → Result (Option ValueLine) DictKind
 value_up_to values id name number None = Ok None
 value_up_to values id name number (Some most) =
     if not (is_value_name name) then Ok None
@@ -62,11 +68,15 @@ value_up_to values id name number (Some most) =
 abbrev pub is_same_name : List ℕ → List ℕ → Bool
 is_same_name name other = same_name other name
 
--- a VALUE line of this attribute's name; without such an attribute a note if the name is that of a skipped ATTRIBUTE line
-unfoldable pub value_of : List (List ℕ) → Dictionary → List ℕ → List ℕ → ℕ → Option AttrId → Result (Option ValueLine) DictKind
+-- a VALUE line of this attribute's name; without such an attribute a note if the name is that of a skipped ATTRIBUTE
+-- line
+unfoldable pub value_of : List (List ℕ) → Dictionary → List ℕ → List ℕ → ℕ → Option AttrId
+    → Result (Option ValueLine) DictKind
 value_of skipped dictionary attribute name number (Some id) =
-    value_up_to dictionary.values id name number (option_and_then max_of_typing (typing_of_id id dictionary.attributes))
-value_of skipped dictionary attribute name number None = if list_any (is_same_name attribute) skipped then Ok None else Err NoAttribute
+    value_up_to dictionary.values id name number
+    (option_and_then max_of_typing (typing_of_id id dictionary.attributes))
+value_of skipped dictionary attribute name number None =
+    if list_any (is_same_name attribute) skipped then Ok None else Err NoAttribute
 
 -- ---- notes
 
@@ -106,11 +116,16 @@ with_value dictionary r (Some v) = record {
 -- the dictionary with what a line adds; skipped are the names on skipped ATTRIBUTE lines
 unfoldable pub with_line : List (List ℕ) → Dictionary → Reading → Result Dictionary DictFault
 with_line skipped dictionary r = elim r.meaning [
-  | Value attribute name number ↦ refused_at r.file r.line (value_of skipped dictionary attribute name number (id_named attribute dictionary.attributes)) >>= λ value. Ok (with_value dictionary r value)
+  | Value attribute name number ↦
+      refused_at r.file r.line
+      (value_of skipped dictionary attribute name number
+      (id_named attribute dictionary.attributes))
+      >>= λ value. Ok (with_value dictionary r value)
   | m ↦ Ok (if is_noted dictionary.vendors m then with_note dictionary r else dictionary)
 ]
 
 -- the dictionary with what the lines add, or the first refusal
 unfoldable pub resolve : List (List ℕ) → Dictionary → List Reading → Result Dictionary DictFault
 resolve skipped dictionary [] = Ok dictionary
-resolve skipped dictionary (r ∷ rs) = with_line skipped dictionary r >>= λ more. resolve skipped more rs
+resolve skipped dictionary (r ∷ rs) =
+    with_line skipped dictionary r >>= λ more. resolve skipped more rs

@@ -27,7 +27,8 @@ abbrev pub is_format : ℕ → ℕ → Bool
 is_format t l = ((t == 1) || (t == 2) || (t == 4)) && nat_le l 2
 
 abbrev pub two_parts : Bool → Option ℕ → Option ℕ → Option VendorFormat
-two_parts third (Some t) (Some l) = if is_format t l then Some (record { t = t; l = l; third = third }) else None
+two_parts third (Some t) (Some l) =
+    if is_format t l then Some (record { t = t; l = l; third = third }) else None
 two_parts third _ _ = None
 
 abbrev pub format_parts : List (List ℕ) → Option VendorFormat
@@ -37,23 +38,34 @@ format_parts _ = None
 
 -- format=t,l or format=t,l,c
 unfoldable pub format_word : List ℕ → Option VendorFormat
-format_word word = if nat_lt (length word) 7 then None else if same_name (take 7 word) (codes "format=") then format_parts (slice_split is_comma (drop 7 word)) else None
+format_word word =
+    if nat_lt (length word) 7 then None
+    else if same_name (take 7 word) (codes "format=")
+    then format_parts (slice_split is_comma (drop 7 word))
+    else None
 
 abbrev pub standard_format : VendorFormat
 standard_format = record { t = 1; l = 1; third = false }
 
--- an earlier line gave the name another number: the last one decides, since each line of a name agreed with those before it
+-- an earlier line gave the name another number: the last one decides, since each line of a name agreed with those
+-- before it
 abbrev pub is_other_vendor : ℕ → Option ℕ → Bool
 is_other_vendor number None = false
 is_other_vendor number (Some other) = not (other == number)
 
 -- a name and a number that are good, and the format
-unfoldable pub vendor_numbered : List VendorLine → List ℕ → VendorFormat → ℕ → Result Meaning DictKind
-vendor_numbered vendors name f n = if is_other_vendor n (vendor_named name vendors) then Err OtherNumber else Ok (Vendor (record { name = name; number = n; format = f }))
+unfoldable pub vendor_numbered : List VendorLine → List ℕ → VendorFormat → ℕ
+    → Result Meaning DictKind
+vendor_numbered vendors name f n =
+    if is_other_vendor n (vendor_named name vendors) then Err OtherNumber
+    else Ok (Vendor (record { name = name; number = n; format = f }))
 
-unfoldable pub vendor_line : List VendorLine → List ℕ → List ℕ → Option VendorFormat → Result Meaning DictKind
+unfoldable pub vendor_line : List VendorLine → List ℕ → List ℕ → Option VendorFormat
+    → Result Meaning DictKind
 vendor_line vendors name number None = Err Unreadable
-vendor_line vendors name number (Some f) = if is_vendor_name name then (bounded greatest_number number >>= vendor_numbered vendors name f) else Err Unreadable
+vendor_line vendors name number (Some f) =
+    if is_vendor_name name then (bounded greatest_number number >>= vendor_numbered vendors name f)
+    else Err Unreadable
 
 unfoldable pub vendor : List VendorLine → List (List ℕ) → Result Meaning DictKind
 vendor vendors (name ∷ number ∷ []) = vendor_line vendors name number (Some standard_format)

@@ -1,4 +1,5 @@
--- The attributes that pairs are sent in, and their octets (RFC 2865, sections 5 and 5.26; RFC 6929, sections 2.1 and 2.2).
+-- The attributes that pairs are sent in, and their octets (RFC 2865, sections 5 and 5.26; RFC 6929, sections 2.1 and
+-- 2.2).
 use Rattle.std.specs.Prelude.{ℕ, zero, suc, ◌+◌, ◌-◌, ◌/◌, Bool, ◌&&◌, not, nat_le, if◌then◌else◌, List, [], ◌∷◌, ◌++◌, length, take, drop}
 use Rattle.std.specs.Int.{bytes_high_first}
 use Rattle.std.specs.List.{flat_map}

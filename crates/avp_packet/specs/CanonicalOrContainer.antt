@@ -5,4 +5,5 @@ use Rattle.avp_dict.specs.Dictionary.{Dictionary}
 use Rattle.avp_dict.specs.Sent.{is_canonical, is_container}
 
 abbrev pub IsCanonicalOrContainer : Dictionary → Pair → Type 0
-IsCanonicalOrContainer dictionary pair = is_container pair.id ≡ false → is_canonical pair dictionary ≡ true
+IsCanonicalOrContainer dictionary pair =
+    is_container pair.id ≡ false → is_canonical pair dictionary ≡ true

@@ -1,4 +1,5 @@
--- What octets given as a packet are read as, and what is refused of them (RFC 2865, section 3; RFC 2866, section 3; RFC 3579, section 3.2).
+-- What octets given as a packet are read as, and what is refused of them (RFC 2865, section 3; RFC 2866, section 3; RFC
+-- 3579, section 3.2).
 use Rattle.std.specs.Prelude.{ℕ, ◌+◌, ◌-◌, Bool, ◌&&◌, ◌||◌, not, ◌==◌, nat_lt, if◌then◌else◌, List, [], ◌∷◌, ◌++◌, length, take, Result, Ok, Err}
 use Rattle.std.specs.List.{list_any}
 use Rattle.std.specs.Str.{bytes_eq}
@@ -43,11 +44,14 @@ module _ (dictionary : Dictionary) (secret os : List ℕ) where
         (parts (attributes_of os));
   }
 
-  -- an Access-Request that is signed where it has a Message-Authenticator, or an Accounting-Request with its authenticator
+  -- an Access-Request that is signed where it has a Message-Authenticator, or an Accounting-Request with its
+  -- authenticator
   abbrev pub request_read : Result Packet PacketFault
   request_read =
-      if not ((code_of os == access_request) || (code_of os == accounting_request)) then Err CodeNotTaken
-      else if (code_of os == accounting_request) && not (is_accounting_request os secret) then Err WrongAuthenticator
+      if not ((code_of os == access_request) || (code_of os == accounting_request))
+      then Err CodeNotTaken
+      else if (code_of os == accounting_request) && not (is_accounting_request os secret)
+      then Err WrongAuthenticator
       else if is_wrongly_signed os secret then Err WrongMessageAuthenticator
       else Ok packet_read
 

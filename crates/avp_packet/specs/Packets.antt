@@ -73,7 +73,8 @@ abbrev pub octets_sent : Dictionary → List ℕ → List ℕ → List Pair → 
 octets_sent dictionary secret hide_by pairs =
     flat_map part_octets (flat_map (parts_of_pair dictionary secret hide_by) pairs)
 
--- the attributes of a packet with this authenticator, and with these octets as its Message-Authenticator, where it has one
+-- the attributes of a packet with this authenticator, and with these octets as its Message-Authenticator, where it has
+-- one
 abbrev pub attributes_with : Dictionary → List ℕ → ℕ → List ℕ → Content → List ℕ → List ℕ
 attributes_with dictionary secret code authenticator content signature =
     octets_sent dictionary secret (hiding_authenticator code authenticator)
@@ -95,7 +96,8 @@ module _ (dictionary : Dictionary) (secret : List ℕ) (code id : ℕ) (authenti
   -- the octets that sign a packet: the digest of the packet with zeros in their place (RFC 3579, section 3.2)
   unfoldable pub signature_of : Content → List ℕ
   signature_of content = hmac secret
-      (packet code id authenticator (attributes_with dictionary secret code authenticator content zeros))
+      (packet code id authenticator
+      (attributes_with dictionary secret code authenticator content zeros))
 
   -- the attributes of a packet, signed
   abbrev pub attributes_signed : Content → List ℕ
@@ -161,4 +163,5 @@ begins_packet os =
 unfoldable pub is_reply : List ℕ → List ℕ → List ℕ → Bool
 is_reply os authenticator secret =
     begins_packet os
-    && bytes_eq (authenticator_of os) (md5 (take 4 os ++ authenticator ++ attributes_of os ++ secret))
+    && bytes_eq (authenticator_of os)
+    (md5 (take 4 os ++ authenticator ++ attributes_of os ++ secret))

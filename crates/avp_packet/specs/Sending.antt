@@ -22,13 +22,15 @@ pub data Kind : Type 0 where
   Accounting : Kind
   Reply : Bool → Kind
 
--- an Access-Request is signed where its list has a Message-Authenticator, an Accounting-Request never, a reply where it is asked for
+-- an Access-Request is signed where its list has a Message-Authenticator, an Accounting-Request never, a reply where it
+-- is asked for
 abbrev pub is_to_sign : Kind → List Pair → Bool
 is_to_sign Access pairs = has_instance message_authenticator_id pairs
 is_to_sign Accounting pairs = false
 is_to_sign (Reply signed) pairs = signed
 
--- the list's pairs before the packet's Message-Authenticator, which is where an Access-Request's list has its first, and first in a reply; all pairs of an Accounting-Request, and of a request with none
+-- the list's pairs before the packet's Message-Authenticator, which is where an Access-Request's list has its first,
+-- and first in a reply; all pairs of an Accounting-Request, and of a request with none
 abbrev pub before_signature : Kind → List Pair → List Pair
 before_signature Access pairs = before_first (has_id message_authenticator_id) pairs
 before_signature Accounting pairs = pairs
@@ -36,7 +38,8 @@ before_signature (Reply signed) pairs = []
 
 -- those behind it, among which no other one is sent
 abbrev pub behind_signature : Kind → List Pair → List Pair
-behind_signature Access pairs = without_signatures (after_first (has_id message_authenticator_id) pairs)
+behind_signature Access pairs =
+    without_signatures (after_first (has_id message_authenticator_id) pairs)
 behind_signature Accounting pairs = []
 behind_signature (Reply signed) pairs = without_signatures pairs
 

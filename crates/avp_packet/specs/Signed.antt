@@ -28,7 +28,8 @@ abbrev pub is_only : List ℕ → List Part → Bool
 is_only digest (part ∷ []) = bytes_eq part.value digest
 is_only digest _ = false
 
--- a packet of whole attributes, and among them one Message-Authenticator, the digest under the secret; octets past Length are not looked at
+-- a packet of whole attributes, and among them one Message-Authenticator, the digest under the secret; octets past
+-- Length are not looked at
 unfoldable pub is_signed : List ℕ → List ℕ → List ℕ → Bool
 is_signed os authenticator secret =
     begins_packet os

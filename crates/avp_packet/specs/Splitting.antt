@@ -65,7 +65,8 @@ abbrev pub placed : Part → ℕ → Placed
 placed part offset = record { number = part.number; value = part.value; offset = offset }
 
 -- attributes one after the other, the first of them at this offset, and then what follows
-unfoldable pub placed_from : ℕ → List Part → List (Result Placed BadLength) → List (Result Placed BadLength)
+unfoldable pub placed_from : ℕ → List Part → List (Result Placed BadLength)
+    → List (Result Placed BadLength)
 placed_from offset [] behind = behind
 placed_from offset (part ∷ parts) behind =
     Ok (placed part offset) ∷ placed_from (offset + (2 + length part.value)) parts behind

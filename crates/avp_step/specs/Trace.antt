@@ -53,17 +53,20 @@ reason_number NotValue = 2
 reason_number TooLong = 3
 reason_number Full = 4
 
--- a line with its result, and then the others; after one that fails the lists are those at the update's entry, and the run stops
+-- a line with its result, and then the others; after one that fails the lists are those at the update's entry, and the
+-- run stops
 abbrev pub line_step : State → Line → LineResult → Code → Steps → List Entry
 line_step entry line (Edited s) c others =
     record { label = label.Line line.line; outcome = running s c } ∷ others (running s c)
 line_step entry line (Failed why) c others =
-    record { label = label.Failed line.line (reason_number why); outcome = after_failure entry } ∷ []
+    record { label = label.Failed line.line (reason_number why); outcome = after_failure entry }
+    ∷ []
 
 abbrev pub line_steps : Dictionary → State → List Line → Steps
 line_steps dictionary entry [] o = []
 line_steps dictionary entry (line ∷ others) o =
-    line_step entry line (line_result dictionary line o.state) o.code (line_steps dictionary entry others)
+    line_step entry line (line_result dictionary line o.state) o.code
+    (line_steps dictionary entry others)
 
 -- ---- conditions
 
@@ -110,7 +113,8 @@ abbrev pub statement_steps : Dictionary → Statement-F Steps Guarded → Steps
 statement_steps dictionary (Update n lines) o = line_steps dictionary o.state lines o
 statement_steps dictionary (If branches otherwise) o = branch_steps branches (none_or otherwise) o
 statement_steps dictionary (Transaction n block) o =
-    entered n o ∷ then_steps (all_steps block) (λ r. closed n o.state r ∷ []) (running o.state o.code)
+    entered n o
+    ∷ then_steps (all_steps block) (λ r. closed n o.state r ∷ []) (running o.state o.code)
 statement_steps dictionary (Word n word) o = word_step n word o ∷ []
 
 abbrev pub guarded_steps : Branch-F Steps Guarded → Guarded

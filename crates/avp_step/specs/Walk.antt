@@ -79,7 +79,8 @@ pub record IsHeldUp (old new : Walk) : Type 0 where
 
 -- a move may lead from one walk to another: a step of an update line may be refused
 abbrev pub MoveMay : Walk → Move → Walk → Type 0
-MoveMay w Forward v = (v ≡ moved_forward w) ⊎ ((v ≡ w) × IsLineLabel (entry_at w (w.position + 1)).label)
+MoveMay w Forward v =
+    (v ≡ moved_forward w) ⊎ ((v ≡ w) × IsLineLabel (entry_at w (w.position + 1)).label)
 MoveMay w Back v = v ≡ moved_back w
 MoveMay w Start v = v ≡ moved_to_start w
 MoveMay w End v = (v ≡ moved_to_end w) ⊎ IsHeldUp w v

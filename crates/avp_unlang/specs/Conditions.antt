@@ -86,7 +86,8 @@ ComparedBy dictionary found relation = do
 
 -- after a reference: nothing more, or an operator that compares and what it compares with
 abbrev pub ComparedFrom : Dictionary → Reference → Option Relation → Place → Form Place Cond
-ComparedFrom dictionary found None p after c rest = Gives (Present found.list found.named.id) p c rest
+ComparedFrom dictionary found None p after c rest =
+    Gives (Present found.list found.named.id) p c rest
 ComparedFrom dictionary found (Some relation) p after c rest =
     ComparedBy dictionary found relation after c rest
 

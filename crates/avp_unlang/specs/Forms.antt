@@ -39,12 +39,14 @@ step >> next = After step next
 -- values while the next token begins one
 abbrev pub While : {S A : Type 0} → (S → Bool) → Form S A → Form S (List A)
 While begins form p [] rest = (begins p ≡ false) × (rest ≡ p)
-While begins form p (x ∷ xs) rest = (begins p ≡ true) × (end : _) × form p x end × While begins form end xs rest
+While begins form p (x ∷ xs) rest =
+    (begins p ≡ true) × (end : _) × form p x end × While begins form end xs rest
 
 -- after a value: no further one, or a step between them and the next one
 abbrev pub Others : {S A : Type 0} → Step S → Form S A → Form S (List A)
 Others step form p [] rest = ((next : _) → step p next → ⊥) × (rest ≡ p)
-Others step form p (x ∷ xs) rest = (next : _) × step p next × (end : _) × form next x end × Others step form end xs rest
+Others step form p (x ∷ xs) rest =
+    (next : _) × step p next × (end : _) × form next x end × Others step form end xs rest
 
 -- one or more values with a step between any two
 abbrev pub Chain : {S A : Type 0} → Step S → Form S A → Form S (List A)

@@ -47,7 +47,13 @@ OpIs p operation rest = (token : Token) × Follows token p rest × (op_of token 
 
 abbrev pub line_of : ℕ → Reference → Op → Source → Line
 line_of line target operation source =
-    record { line = line; list = target.list; id = target.named.id; op = operation; source = source }
+    record {
+      line = line;
+      list = target.list;
+      id = target.named.id;
+      op = operation;
+      source = source;
+    }
 
 -- an update line whose first token is on line n of the text; it adds one to the size
 abbrev pub LineOn : Dictionary → Name → ℕ → Form Place Line

@@ -108,7 +108,8 @@ all_lines dictionary entry (line ∷ others) s c =
 -- the first branch whose condition is true, else the last block
 abbrev pub first_true : List Choice → Meaning → Meaning
 first_true [] otherwise s c = otherwise s c
-first_true (b ∷ bs) otherwise s c = if truth b.cond s c then b.block s c else first_true bs otherwise s c
+first_true (b ∷ bs) otherwise s c =
+    if truth b.cond s c then b.block s c else first_true bs otherwise s c
 
 abbrev pub if_given : Option (List Meaning) → Meaning
 if_given None s c = running s c
@@ -120,7 +121,8 @@ after_body entry o = if o.stopped then running entry o.code else o
 
 abbrev pub statement_meaning : Dictionary → Statement-F Meaning Choice → Meaning
 statement_meaning dictionary (Update n lines) s c = all_lines dictionary s lines s c
-statement_meaning dictionary (If branches otherwise) s c = first_true branches (if_given otherwise) s c
+statement_meaning dictionary (If branches otherwise) s c =
+    first_true branches (if_given otherwise) s c
 statement_meaning dictionary (Transaction n block) s c = after_body s (in_order block s c)
 statement_meaning dictionary (Word n word) s c = after_word word s
 

@@ -16,4 +16,5 @@ max_nested = 64
 abbrev pub SpellsPolicy : Dictionary → List ℕ → List Statement → Type 0
 SpellsPolicy dictionary text statements =
     (end : Place) × (rest : Place)
-    × While begins_word (Nested dictionary (suc max_nested)) (start_of text) statements end × Follows End end rest
+    × While begins_word (Nested dictionary (suc max_nested)) (start_of text) statements end
+    × Follows End end rest

@@ -27,7 +27,8 @@ list_named word =
 
 -- what a word has after these first octets
 abbrev pub after_front : List ℕ → List ℕ → Option (List ℕ)
-after_front front word = if bytes_eq (take (length front) word) front then Some (drop (length front) word) else None
+after_front front word =
+    if bytes_eq (take (length front) word) front then Some (drop (length front) word) else None
 
 -- The list and the name of a word: `list:name`, or a name alone, which is of the list at hand. A `:` that does not
 -- follow a list stays in the name, and no attribute has such a name.
@@ -37,7 +38,10 @@ target_in own word =
       | Some name ↦ (lists.Request, name)
       | None ↦ elim (after_front (codes "reply:") word) [
         | Some name ↦ (lists.Reply, name)
-        | None ↦ elim (after_front (codes "control:") word) [ Some name ↦ (lists.Control, name) | None ↦ (own, word) ]
+        | None ↦ elim (after_front (codes "control:") word) [
+          | Some name ↦ (lists.Control, name)
+          | None ↦ (own, word)
+        ]
       ]
     ]
 

@@ -45,7 +45,8 @@ begins_word p = is_word_token (next_token p).0
 
 -- the list that is named next, and the place after it; else the request
 abbrev pub list_from : Place → Token × Place → Name × Place
-list_from p (token.Word word, rest) = elim (list_named word) [ None ↦ (Request, p) | Some list ↦ (list, rest) ]
+list_from p (token.Word word, rest) =
+    elim (list_named word) [ None ↦ (Request, p) | Some list ↦ (list, rest) ]
 list_from p _ = (Request, p)
 
 unfoldable pub list_at : Place → Name × Place
@@ -80,8 +81,10 @@ BranchIs dictionary n inner p branch rest = BranchOn dictionary n inner p.line p
 
 -- `else` and a block, or nothing
 abbrev pub Otherwise : ℕ → Form Place Statement → Form Place (Option (List Statement))
-Otherwise n inner p None rest = ((next : Place) → Follows (token.Word (codes "else")) p next → ⊥) × (rest ≡ p)
-Otherwise n inner p (Some block) rest = (Follows (token.Word (codes "else")) >> BlockIs n begins_word inner) p block rest
+Otherwise n inner p None rest =
+    ((next : Place) → Follows (token.Word (codes "else")) p next → ⊥) × (rest ≡ p)
+Otherwise n inner p (Some block) rest =
+    (Follows (token.Word (codes "else")) >> BlockIs n begins_word inner) p block rest
 
 -- after `update` and a list: lines of the list
 abbrev pub UpdateOn : Dictionary → ℕ → Name → ℕ → Form Place Statement
@@ -91,7 +94,8 @@ UpdateOn dictionary n own line = do
 
 -- after `if`: its branch, and those of each `elsif`
 abbrev pub BranchesAre : Dictionary → ℕ → Form Place Statement → Form Place (List Branch)
-BranchesAre dictionary n inner = Chain (Follows (token.Word (codes "elsif"))) (BranchIs dictionary n inner)
+BranchesAre dictionary n inner =
+    Chain (Follows (token.Word (codes "elsif"))) (BranchIs dictionary n inner)
 
 -- the same, and an `else`
 abbrev pub IfIs : Dictionary → ℕ → Form Place Statement → Form Place Statement
@@ -118,7 +122,8 @@ abbrev pub StatementFrom : Dictionary → ℕ → Form Place Statement → Keywo
 StatementFrom dictionary n inner keyword.Update p s rest =
     UpdateOn dictionary n (list_at p).0 p.line (list_at p).1 s rest
 StatementFrom dictionary n inner keyword.If p s rest = IfIs dictionary n inner p s rest
-StatementFrom dictionary n inner keyword.Transaction p s rest = TransactionOn n inner p.line p s rest
+StatementFrom dictionary n inner keyword.Transaction p s rest =
+    TransactionOn n inner p.line p s rest
 StatementFrom dictionary n inner (keyword.Code code) p s rest = WordOn code p.line p s rest
 StatementFrom dictionary n inner keyword.Other p s rest = ⊥
 

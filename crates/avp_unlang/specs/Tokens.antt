@@ -115,7 +115,8 @@ text_at (c ∷ cs) = elim (quote_of c) [
 
 -- the token that a text begins with, and the text after it
 unfoldable pub token_at : List ℕ → Token × List ℕ
-token_at text = elim (operator_at text) [ None ↦ text_at text | Some found ↦ (Operator found.0, found.1) ]
+token_at text =
+    elim (operator_at text) [ None ↦ text_at text | Some found ↦ (Operator found.0, found.1) ]
 
 -- The next token of a place, and the place after it, which is on the token's line.
 unfoldable pub next_token : Place → Token × Place

@@ -29,8 +29,8 @@ unfoldable pub literal : Dictionary → Named → List ℕ → Option Value
 literal dictionary name text =
     option_and_then (fitting dictionary name) (result_ok (value_spelled name text dictionary))
 
--- by its first token: a literal, a text between double quotes as it is, or after `&` a reference to values of the name's
--- type
+-- by its first token: a literal, a text between double quotes as it is, or after `&` a reference to values of the
+-- name's type
 abbrev pub WrittenFrom : Dictionary → Named → Token → Form Place Written
 WrittenFrom dictionary name (Word text) after written rest =
     Becomes (option_map Literal (literal dictionary name text)) after written rest

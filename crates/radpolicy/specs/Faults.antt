@@ -116,7 +116,8 @@ name_at files i = name_of (slice_get files i)
 
 -- where a fault is, after a blank
 abbrev pub place_of : List NamedFile → Fault → List ℕ
-place_of files (fault.Dictionary f) = codes " " ++ name_at files f.file ++ codes ":" ++ decimal f.line
+place_of files (fault.Dictionary f) =
+    codes " " ++ name_at files f.file ++ codes ":" ++ decimal f.line
 place_of files (fault.Request f) = codes " request:" ++ decimal f.line
 place_of files (fault.Policy f) = codes " policy:" ++ decimal f.line
 place_of files (fault.ScriptWord line) = codes " script:" ++ decimal line
@@ -133,7 +134,9 @@ fault_code_text n = 69 ∷ (48 + n / 10) ∷ (48 + n % 10) ∷ []
 
 -- the line of a fault
 unfoldable pub fault_line : List NamedFile → Fault → List ℕ
-fault_line files f = codes "radpolicy: " ++ fault_code_text (fault_number f) ++ place_text files f ++ codes ": " ++ fault_text f ++ codes "\n"
+fault_line files f =
+    codes "radpolicy: " ++ fault_code_text (fault_number f) ++ place_text files f ++ codes ": "
+    ++ fault_text f ++ codes "\n"
 
 -- the exit status for a fault
 abbrev pub status_of : Fault → ℕ
@@ -180,7 +183,8 @@ fault_of_policy f = of_kind f.kind
 abbrev pub MemoryOr : (Fault → Type 0) → Fault → Type 0
 MemoryOr IsFault f = (f ≡ fault.Memory) ⊎ IsFault f
 
--- the line of this fault is printed by `print_fault`: the program shows the help itself, and the name of a file that it cannot read
+-- the line of this fault is printed by `print_fault`: the program shows the help itself, and the name of a file that it
+-- cannot read
 abbrev pub IsPrinted : Fault → Type 0
 IsPrinted fault.Help = ⊥
 IsPrinted fault.FileNotReadable = ⊥

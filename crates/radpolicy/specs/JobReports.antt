@@ -70,11 +70,16 @@ entry_state pairs = record { request = pairs; reply = []; control = [] }
 
 -- what the policy means from the request's pairs, two empty lists and the code `ok`
 abbrev pub run_of : Dictionary → List Statement → Packet → End
-run_of dictionary statements request = meaning_of dictionary statements (entry_state request.list) Code.Ok
+run_of dictionary statements request =
+    meaning_of dictionary statements (entry_state request.list) Code.Ok
 
 -- the line of what the run sends: nothing is said of it without a secret; none where a packet is too long
 abbrev pub sent_line : Form → Opened → Packet → End → Option (List ℕ)
-sent_line form opened request end = elim opened.secret [ None ↦ Some [] | Some secret ↦ answer_line (answer_of form opened.dictionary secret request end) ]
+sent_line form opened request end =
+    elim opened.secret [
+      | None ↦ Some []
+      | Some secret ↦ answer_line (answer_of form opened.dictionary secret request end)
+    ]
 
 -- the report of a run; none where its packet is too long
 abbrev pub report_of_run : Form → Opened → List Statement → Packet → Option Report
@@ -103,13 +108,21 @@ IsScript job script = script_spelled (script_of job) ≡ Ok script
 
 -- the walk over the policy's trace, at its start
 abbrev pub request_walk : Dictionary → List Statement → Packet → Walk
-request_walk dictionary statements request = record { dictionary = dictionary; trace = trace_of dictionary statements (entry_state request.list); position = 0 }
+request_walk dictionary statements request =
+    record {
+      dictionary = dictionary;
+      trace = trace_of dictionary statements (entry_state request.list);
+      position = 0;
+    }
 
 -- the report of a walk by a script
 abbrev pub step_report : List ScriptWord → Walk → Report
 step_report script walk =
     let end = (entry (after_script script walk)).outcome in
-    record { text = script_text script walk; outcome = record { code = Some end.code; stopped = end.stopped } }
+    record {
+      text = script_text script walk;
+      outcome = record { code = Some end.code; stopped = end.stopped };
+    }
 
 -- the report of a walk by the job's script
 pub record IsStepReport (job : Job) (report : Report) : Type 0 where
@@ -127,14 +140,17 @@ pub record IsStepReport (job : Job) (report : Report) : Type 0 where
 
 -- the report of `encode`: the packet of its request; none where that is too long
 abbrev pub encode_report : Opened → Packet → Option Report
-encode_report opened request = option_map (λ octets. plain_report (packet_line octets)) (request_packet opened.dictionary (key opened) request)
+encode_report opened request =
+    option_map (λ octets. plain_report (packet_line octets))
+    (request_packet opened.dictionary (key opened) request)
 
 -- the report of `decode`: the head and the list of its request
 abbrev pub decode_report : Opened → Packet → Option Report
 decode_report opened request = Some (plain_report (packet_text opened.dictionary request))
 
 -- the report that is made of a job's request, with no policy
-pub record IsPacketReport (made_of : Opened → Packet → Option Report) (job : Job) (report : Report) : Type 0 where
+pub record IsPacketReport (made_of : Opened → Packet → Option Report) (job : Job)
+    (report : Report) : Type 0 where
   pub opened : Opened
   pub request : Packet
   pub opens : IsOpened job opened
@@ -146,7 +162,9 @@ pub record IsPacketReport (made_of : Opened → Packet → Option Report) (job :
 -- the size of the job's policy, where it has one
 abbrev pub IsSizeOf : Option (List ℕ) → Job → Dictionary → Option ℕ → Type 0
 IsSizeOf None job dictionary size = size ≡ None
-IsSizeOf (Some text) job dictionary size = (statements : List Statement) × IsPolicy job dictionary statements × (size ≡ Some (size_of statements))
+IsSizeOf (Some text) job dictionary size =
+    (statements : List Statement) × IsPolicy job dictionary statements
+    × (size ≡ Some (size_of statements))
 
 -- the report of a check: what the dictionary holds, and how large the policy is
 pub record IsCheckReport (job : Job) (report : Report) : Type 0 where
@@ -207,7 +225,8 @@ pub record IsRequestOrReplyRefusal (job : Job) (f : Fault) : Type 0 where
   pub opens : IsOpened job opened
   pub policy : IsPolicy job opened.dictionary statements
   pub fault : IsRequestRefusal job opened f
-      ⊎ ((request : Packet) × IsReceived job opened request × (report_of_run job.form opened statements request ≡ None) × (f ≡ fault.PacketTooLong))
+      ⊎ ((request : Packet) × IsReceived job opened request
+      × (report_of_run job.form opened statements request ≡ None) × (f ≡ fault.PacketTooLong))
 
 abbrev pub IsRunRefusal : Job → Fault → Type 0
 IsRunRefusal job f = IsOpenRefusal job f ⊎ IsPolicyRefusal job f ⊎ IsRequestOrReplyRefusal job f
@@ -225,11 +244,13 @@ abbrev pub IsStepRefusal : Job → Fault → Type 0
 IsStepRefusal job f = IsOpenRefusal job f ⊎ IsPolicyRefusal job f ⊎ IsScriptOrRequestRefusal job f
 
 -- the request is none, or what is made of it is too long for a packet
-pub record IsMakingRefusal (made_of : Opened → Packet → Option Report) (job : Job) (f : Fault) : Type 0 where
+pub record IsMakingRefusal (made_of : Opened → Packet → Option Report) (job : Job) (f : Fault)
+    : Type 0 where
   pub opened : Opened
   pub opens : IsOpened job opened
   pub fault : IsRequestRefusal job opened f
-      ⊎ ((request : Packet) × IsReceived job opened request × (made_of opened request ≡ None) × (f ≡ fault.PacketTooLong))
+      ⊎ ((request : Packet) × IsReceived job opened request × (made_of opened request ≡ None)
+      × (f ≡ fault.PacketTooLong))
 
 abbrev pub IsPacketRefusal : (Opened → Packet → Option Report) → Job → Fault → Type 0
 IsPacketRefusal made_of job f = IsOpenRefusal job f ⊎ IsMakingRefusal made_of job f

@@ -67,7 +67,8 @@ AreDistinct names = AllPairs (λ a b. a ≢ b) names
 -- What goes together in `run`, by the form of its request: a packet in hexadecimal digits brings its own identifier and
 -- authenticator, and a reply to lines wants a secret and an authenticator, which is made for an Accounting-Request.
 abbrev pub RunRulesOf : Form → AskedPacket → Type 0
-RunRulesOf Hex packet = (packet.has_secret ≡ true) × (packet.identifier ≡ 0) × (packet.has_authenticator ≡ false)
+RunRulesOf Hex packet =
+    (packet.has_secret ≡ true) × (packet.identifier ≡ 0) × (packet.has_authenticator ≡ false)
 RunRulesOf Access packet = packet.has_authenticator ≡ packet.has_secret
 RunRulesOf Accounting packet = packet.has_authenticator ≡ false
 

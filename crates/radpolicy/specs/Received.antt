@@ -1,4 +1,5 @@
--- The request of a job: from a packet in hexadecimal digits, or from lines (RFC 2865, section 4.1; RFC 2866, section 4.1).
+-- The request of a job: from a packet in hexadecimal digits, or from lines (RFC 2865, section 4.1; RFC 2866, section
+-- 4.1).
 use Rattle.std.specs.Prelude.{◌≡◌, ◌≢◌, ℕ, Bool, not, ◌||◌, ◌==◌, List, [], filter, Option, Some, None, Result, Ok, Err}
 use Rattle.std.specs.Option.{unwrap_or}
 use Rattle.std.specs.Result.{result_ok}
@@ -46,13 +47,22 @@ packet_for dictionary secret (Some octets) = unread_packet (decoded dictionary s
 -- lines, as the list of a packet of this code
 abbrev pub lines_for : ℕ → Job → Option (List Pair) → Result Packet Unread
 lines_for code job None = Err BadLines
-lines_for code job (Some pairs) = Ok (record { code = code; id = job.identifier; authenticator = unwrap_or job.authenticator zeros; list = pairs })
+lines_for code job (Some pairs) =
+    Ok (record {
+      code = code;
+      id = job.identifier;
+      authenticator = unwrap_or job.authenticator zeros;
+      list = pairs;
+    })
 
 -- the request of a job, by its form
 abbrev pub request_of : Form → Dictionary → Option (List ℕ) → Job → Result Packet Unread
-request_of Hex dictionary secret job = packet_for dictionary (unwrap_or secret []) (hex_octets job.request)
-request_of Access dictionary secret job = lines_for access_request job (request_spelled job.request dictionary)
-request_of Accounting dictionary secret job = lines_for accounting_request job (request_spelled job.request dictionary)
+request_of Hex dictionary secret job =
+    packet_for dictionary (unwrap_or secret []) (hex_octets job.request)
+request_of Access dictionary secret job =
+    lines_for access_request job (request_spelled job.request dictionary)
+request_of Accounting dictionary secret job =
+    lines_for accounting_request job (request_spelled job.request dictionary)
 
 abbrev pub request_for : Dictionary → Option (List ℕ) → Job → Result Packet Unread
 request_for dictionary secret job = request_of job.form dictionary secret job

@@ -22,7 +22,8 @@ within_packet octets = if nat_le (length octets) MAX_PACKET_OCTETS then Some oct
 
 -- the packet of a request
 abbrev pub request_packet : Dictionary → List ℕ → Packet → Option (List ℕ)
-request_packet dictionary secret r = within_packet (request dictionary secret r.code r.id r.authenticator r.list)
+request_packet dictionary secret r =
+    within_packet (request dictionary secret r.code r.id r.authenticator r.list)
 
 -- the code of an Access-Request's reply
 abbrev pub access_reply : Code → Option ℕ
@@ -38,7 +39,8 @@ accounting_reply _ = Some accounting_response
 
 -- the code of the reply to a request of this code, after a run that ended with this result
 abbrev pub reply_code : ℕ → Code → Option ℕ
-reply_code request_code last = if request_code == accounting_request then accounting_reply last else access_reply last
+reply_code request_code last =
+    if request_code == accounting_request then accounting_reply last else access_reply last
 
 -- the pairs of a reply: those of the reply list, and none after `fail`
 abbrev pub reply_pairs : Code → List Pair → List Pair
@@ -53,9 +55,11 @@ proxy_states r = instances (Plain proxy_state) r.list
 abbrev pub signs_reply : Packet → Bool
 signs_reply r = (r.code == access_request) && has_instance message_authenticator_id r.list
 
--- the authenticator that a reply answers: that of the request, which for the lines of an Accounting-Request is that of its packet
+-- the authenticator that a reply answers: that of the request, which for the lines of an Accounting-Request is that of
+-- its packet
 abbrev pub answered_authenticator : Form → Dictionary → List ℕ → Packet → Option (List ℕ)
-answered_authenticator Accounting dictionary secret r = option_map authenticator_of (request_packet dictionary secret r)
+answered_authenticator Accounting dictionary secret r =
+    option_map authenticator_of (request_packet dictionary secret r)
 answered_authenticator _ dictionary secret r = Some r.authenticator
 
 -- what a run sends
@@ -70,14 +74,21 @@ abbrev pub sent_or_too_long : Option (List ℕ) → Answer
 sent_or_too_long (Some octets) = Sent octets
 sent_or_too_long None = TooLong
 
--- the reply of this code, signed or not, with these pairs and Proxy-States, if there is one, to a request with this identifier and authenticator
-abbrev pub reply_with : Dictionary → List ℕ → ℕ → Option (List ℕ) → Bool → List Pair → List Pair → Option ℕ
+-- the reply of this code, signed or not, with these pairs and Proxy-States, if there is one, to a request with this
+-- identifier and authenticator
+abbrev pub reply_with : Dictionary → List ℕ → ℕ → Option (List ℕ) → Bool → List Pair → List Pair
+    → Option ℕ
     → Answer
 reply_with dictionary secret id authenticator signed pairs proxies None = Nothing
 reply_with dictionary secret id authenticator signed pairs proxies (Some code) =
-    sent_or_too_long (option_and_then (λ a. within_packet (reply dictionary secret code id a signed pairs proxies)) authenticator)
+    sent_or_too_long
+    (option_and_then
+    (λ a. within_packet (reply dictionary secret code id a signed pairs proxies))
+    authenticator)
 
 -- what a run sends that ended so
 unfoldable pub answer_of : Form → Dictionary → List ℕ → Packet → End → Answer
 answer_of form dictionary secret r end =
-    reply_with dictionary secret r.id (answered_authenticator form dictionary secret r) (signs_reply r) (reply_pairs end.code end.state.reply) (proxy_states r) (reply_code r.code end.code)
+    reply_with dictionary secret r.id (answered_authenticator form dictionary secret r)
+    (signs_reply r) (reply_pairs end.code end.state.reply) (proxy_states r)
+    (reply_code r.code end.code)

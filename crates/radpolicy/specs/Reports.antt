@@ -19,7 +19,9 @@ use Rattle.avp_unlang.specs.Meaning.{Outcome as End}
 
 -- the line of a pair, by a dictionary
 abbrev pub pair_line : Dictionary → Pair → List ℕ
-pair_line dictionary pair = codes "  " ++ printed_name pair.id pair.value dictionary ++ codes " = " ++ printed_text pair.id pair.value dictionary ++ codes "\n"
+pair_line dictionary pair =
+    codes "  " ++ printed_name pair.id pair.value dictionary ++ codes " = "
+    ++ printed_text pair.id pair.value dictionary ++ codes "\n"
 
 -- a list: its name on a line, then a line for each pair
 abbrev pub list_text : Dictionary → List ℕ → List Pair → List ℕ
@@ -28,7 +30,9 @@ list_text dictionary name pairs = name ++ codes "\n" ++ flat_map (pair_line dict
 -- the three lists
 abbrev pub state_text : Dictionary → State → List ℕ
 state_text dictionary state =
-    list_text dictionary (codes "request") state.request ++ list_text dictionary (codes "reply") state.reply ++ list_text dictionary (codes "control") state.control
+    list_text dictionary (codes "request") state.request
+    ++ list_text dictionary (codes "reply") state.reply
+    ++ list_text dictionary (codes "control") state.control
 
 abbrev pub code_text : Code → List ℕ
 code_text code.Ok = codes "ok"
@@ -39,7 +43,8 @@ code_text code.Reject = codes "reject"
 
 -- the line of the result
 abbrev pub result_line : Code → Bool → List ℕ
-result_line last stopped = codes "result " ++ code_text last ++ (if stopped then codes " stopped" else []) ++ codes "\n"
+result_line last stopped =
+    codes "result " ++ code_text last ++ (if stopped then codes " stopped" else []) ++ codes "\n"
 
 -- a report: its text, and what the job came to
 pub record Report : Type 0 where
@@ -86,7 +91,8 @@ packet_text dictionary packet =
 
 -- the line of a note: its file and its line
 abbrev pub note_line : List NamedFile → Note → List ℕ
-note_line files note = codes "note " ++ name_at files note.file ++ codes ":" ++ decimal note.line ++ codes "\n"
+note_line files note =
+    codes "note " ++ name_at files note.file ++ codes ":" ++ decimal note.line ++ codes "\n"
 
 -- the files given, the names that they define, and the notes in the order of their lines
 abbrev pub dictionary_text : List NamedFile → Dictionary → List ℕ
@@ -105,4 +111,5 @@ size_text (Some size) = count_line (codes "size") size
 
 -- the report of a check
 abbrev pub check_report : List NamedFile → Dictionary → Option ℕ → Report
-check_report files dictionary size = plain_report (dictionary_text files dictionary ++ size_text size)
+check_report files dictionary size =
+    plain_report (dictionary_text files dictionary ++ size_text size)

@@ -34,7 +34,8 @@ line_words line = filter is_word (slice_split is_blank line)
 -- what all words stand for, where each stands for something
 unfoldable pub words_named : List (List ℕ) → Option (List ScriptWord)
 words_named [] = Some []
-words_named (text ∷ texts) = option_and_then (λ w. option_map (λ ws. w ∷ ws) (words_named texts)) (word_named text)
+words_named (text ∷ texts) =
+    option_and_then (λ w. option_map (λ ws. w ∷ ws) (words_named texts)) (word_named text)
 
 abbrev pub after_words : List ScriptWord → Result (List ScriptWord) ℕ → Result (List ScriptWord) ℕ
 after_words ws (Ok others) = Ok (ws ++ others)
@@ -43,7 +44,9 @@ after_words ws (Err line) = Err line
 -- the words of lines, the first of which has this number, or the number of the first line with an unknown word
 unfoldable pub script_from : ℕ → List (List ℕ) → Result (List ScriptWord) ℕ
 script_from n [] = Ok []
-script_from n (line ∷ lines) = elim (words_named (line_words line)) [ None ↦ Err n | Some ws ↦ after_words ws (script_from (n + 1) lines) ]
+script_from n (line ∷ lines) =
+    elim (words_named (line_words line))
+    [ None ↦ Err n | Some ws ↦ after_words ws (script_from (n + 1) lines) ]
 
 -- the words of a script, or the line of the first unknown one
 abbrev pub script_spelled : List ℕ → Result (List ScriptWord) ℕ
@@ -95,7 +98,8 @@ stays_text false = []
 -- the line of a move from a position: the position, the step's label and the code as they are afterwards
 abbrev pub move_line : ℕ → Walk → List ℕ
 move_line before after =
-    decimal after.position ++ codes " " ++ label_text (entry after).label ++ codes " " ++ code_text (entry after).outcome.code
+    decimal after.position ++ codes " " ++ label_text (entry after).label ++ codes " "
+    ++ code_text (entry after).outcome.code
     ++ stays_text (after.position == before) ++ codes "\n"
 
 -- what a word prints: the line of a move, or the three lists

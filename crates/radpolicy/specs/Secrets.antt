@@ -11,7 +11,8 @@ is_control o = nat_lt o 32
 -- octets without the controls at their end
 unfoldable pub without_last_controls : List ℕ → List ℕ
 without_last_controls [] = []
-without_last_controls (o ∷ os) = if list_all is_control (o ∷ os) then [] else (o ∷ without_last_controls os)
+without_last_controls (o ∷ os) =
+    if list_all is_control (o ∷ os) then [] else (o ∷ without_last_controls os)
 
 -- a file's first line, without the controls at its end
 abbrev pub secret_in : List ℕ → List ℕ
@@ -25,7 +26,8 @@ usable_secret secret = Some secret
 -- Without a file there is no secret; with one it is the file's, which is refused (`None`) if it has no octets.
 abbrev pub secret_from : Option (List ℕ) → Option (Option (List ℕ))
 secret_from None = Some None
-secret_from (Some file) = elim (usable_secret (secret_in file)) [ None ↦ None | Some secret ↦ Some (Some secret) ]
+secret_from (Some file) =
+    elim (usable_secret (secret_in file)) [ None ↦ None | Some secret ↦ Some (Some secret) ]
 
 abbrev pub secret_for : Job → Option (Option (List ℕ))
 secret_for job = secret_from job.secret

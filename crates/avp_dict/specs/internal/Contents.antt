@@ -3,4 +3,10 @@ use Rattle.avp_dict.specs.declared.contents.Contents.{Contents}
 use Rattle.avp_dict.specs.Dictionary.{Dictionary}
 
 abbrev pub contents_view : Contents → Dictionary
-contents_view c = record { attributes = c.attributes; values = c.values; vendors = c.vendors; notes = c.notes.items }
+contents_view c =
+    record {
+      attributes = c.attributes;
+      values = c.values;
+      vendors = c.vendors;
+      notes = c.notes.items;
+    }

@@ -29,7 +29,8 @@ ReadsLine (Err kind) read = RefusesLine kind read
 
 -- the pair of a name and the token of its value
 abbrev pub pair_of_token : Dictionary → Named → Token → Option Pair
-pair_of_token dictionary name token = option_and_then (λ text. pair_named dictionary text name) (value_text token)
+pair_of_token dictionary name token =
+    option_and_then (λ text. pair_named dictionary text name) (value_text token)
 
 -- what is assigned after a pair
 abbrev pub assigned_after : List Token → Option (List Assignment)
@@ -46,7 +47,8 @@ pairs_after dictionary tokens = option_and_then (pairs_spelled dictionary) (assi
 
 -- the pairs that the lines of a packet spell
 unfoldable pub packet_pairs : Dictionary → List (List ℕ) → Option (List Pair)
-packet_pairs dictionary texts = option_and_then (pairs_spelled dictionary) (packet_assignments texts)
+packet_pairs dictionary texts =
+    option_and_then (pairs_spelled dictionary) (packet_assignments texts)
 
 -- pairs that were read, before others
 unfoldable pub after_pairs : List Pair → Option (List Pair) → Option (List Pair)
@@ -54,4 +56,6 @@ after_pairs front others = joined (Some front) others
 
 -- these pairs and those here are no request, whatever follows
 unfoldable pub IsNoRequest : List Pair → Option (List Pair) → Type 0
-IsNoRequest pairs here = (more : Option (List Pair)) → option_and_then few_enough (joined (after_pairs pairs here) more) ≡ None
+IsNoRequest pairs here =
+    (more : Option (List Pair))
+    → option_and_then few_enough (joined (after_pairs pairs here) more) ≡ None

@@ -14,8 +14,10 @@ abbrev pub meaning_view : CodeMeaning → Meaning
 meaning_view code.Nothing = Nothing
 meaning_view code.Skipped = Skipped
 meaning_view (code.SkippedAttribute name) = SkippedAttribute name.now
-meaning_view (code.Vendor name number format) = Vendor (record { name = name.now; number = number; format = format })
-meaning_view (code.Attribute name id typing) = Attribute (record { name = name.now; id = id; typing = typing })
+meaning_view (code.Vendor name number format) =
+    Vendor (record { name = name.now; number = number; format = format })
+meaning_view (code.Attribute name id typing) =
+    Attribute (record { name = name.now; id = id; typing = typing })
 meaning_view (code.Value attribute name number) = Value attribute.now name.now number
 meaning_view (code.BeginVendor name vendor) = BeginVendor name.now vendor
 meaning_view (code.BeginTlv name) = BeginTlv name.now
@@ -28,7 +30,12 @@ abbrev pub reading_views : List CodeReading → List Reading
 reading_views readings = map reading_view readings
 
 abbrev pub context_view : CodeContext → Context
-context_view context = record { attributes = context.attributes; vendors = context.vendors; opened = reading_views context.opened.items }
+context_view context =
+    record {
+      attributes = context.attributes;
+      vendors = context.vendors;
+      opened = reading_views context.opened.items;
+    }
 
 -- the name of a line that a table takes is as short as a name has to be
 abbrev pub IsShort : CodeMeaning → Type 0

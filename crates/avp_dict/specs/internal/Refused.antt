@@ -7,4 +7,5 @@ use Rattle.avp_dict.specs.Outcomes.{is_memory, want_of_memory}
 
 abbrev pub fault_at : ℕ → ℕ → LineError → DictFault
 fault_at file line Memory = want_of_memory
-fault_at file line (Refused kind) = if is_memory kind then want_of_memory else record { file = file; line = line; kind = kind }
+fault_at file line (Refused kind) =
+    if is_memory kind then want_of_memory else record { file = file; line = line; kind = kind }

@@ -14,10 +14,13 @@ use Rattle.avp_dict.specs.Words.{lower}
 -- the place of the last line that passes
 abbrev pub last_place : {X : Type 0} → (X → Bool) → List X → Option ℕ
 last_place test [] = None
-last_place test (x ∷ xs) = elim (last_place test xs) [ Some i ↦ Some (suc i) | None ↦ (if test x then Some 0 else None) ]
+last_place test (x ∷ xs) =
+    elim (last_place test xs) [ Some i ↦ Some (suc i) | None ↦ (if test x then Some 0 else None) ]
 
--- the table of lines with these keys: the place of the last line with each key, the keys in the order of their first lines
-pub record IsTable {K : Type 0} (eq : K → K → Bool) (entries : List (K × ℕ)) (keys : List K) : Type 0 where
+-- the table of lines with these keys: the place of the last line with each key, the keys in the order of their first
+-- lines
+pub record IsTable {K : Type 0} (eq : K → K → Bool) (entries : List (K × ℕ)) (keys : List K) : Type
+    0 where
   pub placed : (key : K) → lookup (eq key) entries ≡ last_place (λ k. eq k key) keys
   pub ordered : keys_of entries ≡ first_keys eq keys
 
@@ -53,7 +56,9 @@ vendor_key v = map lower v.name
 -- ---- tables
 
 -- the tables of the lines' names and numbers, and no name too long
-pub record AreTables {L K N : Type 0} (same_name : K → K → Bool) (same_number : N → N → Bool) (spelled : L → List ℕ) (name_of : L → K) (number_of : L → N) (names : List (K × ℕ)) (numbers : List (N × ℕ)) (lines : List L) : Type 0 where
+pub record AreTables {L K N : Type 0} (same_name : K → K → Bool) (same_number : N → N → Bool)
+    (spelled : L → List ℕ) (name_of : L → K) (number_of : L → N) (names : List (K × ℕ))
+    (numbers : List (N × ℕ)) (lines : List L) : Type 0 where
   pub by_name : IsTable same_name names (map name_of lines)
   pub by_number : IsTable same_number numbers (map number_of lines)
   pub short : All (λ line. length (spelled line) ≤ max_name) lines

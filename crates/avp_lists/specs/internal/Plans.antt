@@ -62,7 +62,13 @@ pub record IsPlan (e : Edit) (pool : List Pair) (c : List Slot) (p : Plan) : Typ
 
 -- n slots of the first state, from a place in the pool on
 abbrev pub fresh_slot : WhichList → ℕ → Slot
-fresh_slot which at = record { list = which; end = Tail; mark = record { live = true; pair = at }; first = record { live = true; pair = at } }
+fresh_slot which at =
+    record {
+      list = which;
+      end = Tail;
+      mark = record { live = true; pair = at };
+      first = record { live = true; pair = at };
+    }
 
 abbrev pub fresh : WhichList → ℕ → ℕ → List Slot
 fresh which at zero = []

@@ -56,16 +56,23 @@ shown_pairs_at end which pool c = map (slot_pair pool) (filter (shows_at end whi
 
 -- the pairs of a list: those that entered at its head, the last one first, and then those that entered at its tail
 abbrev pub shown_pairs : WhichList → List Pair → List Slot → List Pair
-shown_pairs which pool c = reverse (shown_pairs_at Head which pool c) ++ shown_pairs_at Tail which pool c
+shown_pairs which pool c =
+    reverse (shown_pairs_at Head which pool c) ++ shown_pairs_at Tail which pool c
 
 -- the slots whose pairs come before that of a slot, which entered at this end and lies between these
 abbrev pub ahead : End → List Slot → List Slot → List Slot
 ahead Head before after = reverse (filter (entered_at Head) after)
-ahead Tail before after = reverse (filter (entered_at Head) (before ++ after)) ++ filter (entered_at Tail) before
+ahead Tail before after =
+    reverse (filter (entered_at Head) (before ++ after)) ++ filter (entered_at Tail) before
 
 abbrev pub ahead_at : ℕ → List Slot → List Slot
 ahead_at i c = ahead (slot_at c i).end (take i c) (drop (i + 1) c)
 
 -- the state that the slots show
 abbrev pub shown_state : List Pair → List Slot → State
-shown_state pool c = record { request = shown_pairs Request pool c; reply = shown_pairs Reply pool c; control = shown_pairs Control pool c }
+shown_state pool c =
+    record {
+      request = shown_pairs Request pool c;
+      reply = shown_pairs Reply pool c;
+      control = shown_pairs Control pool c;
+    }

@@ -31,7 +31,13 @@ kept s = record { list = s.list; end = s.end; mark = s.mark; first = s.mark }
 
 -- the slot with its mark turned
 abbrev pub flipped : Slot → Slot
-flipped s = record { list = s.list; end = s.end; mark = record { live = not s.mark.live; pair = s.mark.pair }; first = s.first }
+flipped s =
+    record {
+      list = s.list;
+      end = s.end;
+      mark = record { live = not s.mark.live; pair = s.mark.pair };
+      first = s.first;
+    }
 
 abbrev pub turn : List Slot → ℕ → List Slot
 turn c i = slice_set c i (flipped (slot_at c i))
@@ -45,7 +51,13 @@ abbrev pub other_pair : ℕ → ℕ → ℕ → ℕ
 other_pair old new at = if at == old then new else if at == new then old else at
 
 abbrev pub with_other : Swap → Slot → Slot
-with_other w s = record { list = s.list; end = s.end; mark = record { live = s.mark.live; pair = other_pair w.old w.new s.mark.pair }; first = s.first }
+with_other w s =
+    record {
+      list = s.list;
+      end = s.end;
+      mark = record { live = s.mark.live; pair = other_pair w.old w.new s.mark.pair };
+      first = s.first;
+    }
 
 abbrev pub swap_at : Option Swap → List Slot → List Slot
 swap_at None c = c

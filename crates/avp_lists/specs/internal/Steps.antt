@@ -11,7 +11,8 @@ use Rattle.avp_lists.specs.internal.Slots.{at_first, forward, NamesWithin, SwapW
 use Rattle.avp_lists.specs.internal.Shown.{shown_state}
 use Rattle.avp_lists.specs.States.{empty_state, IsLimited}
 
--- the slots of the state after a change, by those of the states before it, and by those of the first state where there are none
+-- the slots of the state after a change, by those of the states before it, and by those of the first state where there
+-- are none
 abbrev pub last_or : List Slot → List (List Slot) → List Slot
 last_or d done = slice_index_or done (length done - 1) d
 
@@ -67,11 +68,15 @@ node steps k = node_of k (change_at steps k)
 
 -- what each step names is among n slots
 abbrev pub StepsWithin : ℕ → List Step → Type 0
-StepsWithin n steps = (k : ℕ) → NamesWithin n (names_of (change_at steps k)) × SwapWithin n (swap_of (change_at steps k))
+StepsWithin n steps =
+    (k : ℕ)
+    → NamesWithin n (names_of (change_at steps k)) × SwapWithin n (swap_of (change_at steps k))
 
 -- a step goes back to an earlier place that none of its kind leads to
 abbrev pub BacksBelow : List Step → Type 0
-BacksBelow steps = (k to : ℕ) → k < length steps → change_at steps k ≡ Back to → (to < k) × (turns (change_at steps to) ≡ true)
+BacksBelow steps =
+    (k to : ℕ) → k < length steps → change_at steps k ≡ Back to
+    → (to < k) × (turns (change_at steps to) ≡ true)
 
 -- what a step names is among the slots that it counts
 abbrev pub NamesCounted : Step → Type 0
@@ -86,7 +91,10 @@ CountsWithin m n steps = (k : ℕ) → ((step_at steps k).slots ≤ m) × ((step
 
 -- no step counts more than a later one
 abbrev pub CountsGrow : List Step → Type 0
-CountsGrow steps = (j k : ℕ) → j ≤ k → k < length steps → ((step_at steps j).slots ≤ (step_at steps k).slots) × ((step_at steps j).pairs ≤ (step_at steps k).pairs)
+CountsGrow steps =
+    (j k : ℕ) → j ≤ k → k < length steps
+    → ((step_at steps j).slots ≤ (step_at steps k).slots)
+    × ((step_at steps j).pairs ≤ (step_at steps k).pairs)
 
 -- how many pairs there are at most after an edit at a place
 abbrev pub max_kept : List Step → ℕ → ℕ
@@ -94,7 +102,9 @@ max_kept steps k = (step_at steps k).pairs + 1
 
 -- in each state, the slots that show a pair and those pairs are among those that its step counts
 abbrev pub AllHoused : List Slot → List Step → Type 0
-AllHoused slots steps = (k : ℕ) → Housed (step_at steps k).slots (step_at steps k).pairs (slots_at slots steps k)
+AllHoused slots steps =
+    (k : ℕ) → Housed (step_at steps k).slots (step_at steps k).pairs (slots_at slots steps k)
 
 abbrev pub StatesLimited : List Pair → List Slot → List Step → Type 0
-StatesLimited pool slots steps = (k : ℕ) → IsLimited (slice_index_or (shown_states pool slots steps) k empty_state)
+StatesLimited pool slots steps =
+    (k : ℕ) → IsLimited (slice_index_or (shown_states pool slots steps) k empty_state)

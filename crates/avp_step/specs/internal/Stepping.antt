@@ -20,7 +20,8 @@ standing m h = record { state = present h; code = m.code; stopped = m.stopped }
 
 -- the step that a mark and a state stand for
 abbrev pub entry_of : Mark → State → Entry
-entry_of m s = record { label = m.label; outcome = record { state = s; code = m.code; stopped = m.stopped } }
+entry_of m s =
+    record { label = m.label; outcome = record { state = s; code = m.code; stopped = m.stopped } }
 
 -- these are the store's states up to its place
 abbrev pub Names : States → History → Type 0
@@ -43,7 +44,8 @@ pub record IsRefused (dictionary : Dictionary) (t : States → Steps) (last : Ma
     (frames : List Frame) : Type 0 where
   pub same : (at : States) → Names at old
       → rest dictionary at frames (standing last old) ≡ t at (standing last old)
-  pub line : (at : States) → Names at old → (e : Entry) × (es : List Entry) × (t at (standing last old) ≡ e ∷ es) × IsLineLabel e.label
+  pub line : (at : States) → Names at old
+      → (e : Entry) × (es : List Entry) × (t at (standing last old) ≡ e ∷ es) × IsLineLabel e.label
 
 -- there is room in the store for the next step, if there is one
 pub record HasRoom (dictionary : Dictionary) (frames : List Frame) (last : Mark) (h : History)

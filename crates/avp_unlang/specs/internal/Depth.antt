@@ -1,4 +1,5 @@
--- How many parts of a policy are begun and not yet ended at once in a run. (How deep signs may nest is said where they are spelled.)
+-- How many parts of a policy are begun and not yet ended at once in a run. (How deep signs may nest is said where they
+-- are spelled.)
 use Rattle.std.specs.Prelude.{ℕ, ◌+◌, List, [], ◌∷◌, map, max, Option, Some, None}
 use Rattle.avp_unlang.specs.declared.tree.Branch.{Branch}
 use Rattle.avp_unlang.specs.declared.tree.Statement.{Statement}

@@ -22,7 +22,8 @@ use Rattle.avp_dict.specs.Sent.{is_clean}
 -- what is sent after this code, with these pairs
 unfoldable pub answered_by : Dictionary → ReplyHead → Code → List Pair → Answer
 answered_by dictionary head last pairs =
-    reply_with dictionary head.secret.now head.id head.authenticator head.signed (reply_pairs last pairs)
+    reply_with dictionary head.secret.now head.id head.authenticator head.signed
+    (reply_pairs last pairs)
     head.proxy_states.items (reply_code head.code last)
 
 -- a packet that is sent so is accepted and read as its pairs and Proxy-States
@@ -75,6 +76,7 @@ pub record IsUsable (dictionary : Dictionary) (head : ReplyHead) : Type 0 where
 
 -- a line was added to a text, or there is none
 abbrev pub AddsLine : Result (Unit {0}) EncodeFault → Option (List ℕ) → List ℕ → List ℕ → Type 0
-AddsLine (Ok u) line before after = (added : List ℕ) × (line ≡ Some added) × (after ≡ before ++ added)
+AddsLine (Ok u) line before after =
+    (added : List ℕ) × (line ≡ Some added) × (after ≡ before ++ added)
 AddsLine (Err encode.TooLong) line before after = line ≡ None
 AddsLine (Err encode.Memory) line before after = Unit {0}
