@@ -1,7 +1,6 @@
 //! Texts between double quotes into which values are put.
 
 ghost use Rattle.std.specs.Prelude.{◌≡◌, ◌≤◌, ◌<◌, ◌∷◌, ℕ, List as TheList, length, IfOk, IfSome, IfNone, IsTrue, OnErr, option_map};
-ghost use Rattle.avp_dict.specs.Quotes.{double_escape, escaped_letter};
 ghost use Rattle.avp_unlang.specs.Forms.{Reads, ReadsAll, While};
 ghost use Rattle.avp_unlang.specs.declared.text.references.Reference.{Reference as Referred};
 ghost use Rattle.avp_unlang.specs.Parts.{InstanceIs, OctetIs, PartIs, PartsAre, after_opening, begins_octet, braced, is_left, octet_at};
@@ -11,36 +10,9 @@ use crate::items::Items;
 use crate::text::references::{Reference, readable};
 use crate::text::tokens::{Excerpt, word_length};
 use crate::tree::{Part, Parts};
-use avp_dict::Dictionary;
+use avp_dict::{Dictionary, double_escape};
 use avp_lists::Octets;
 use std::alloc::{AllocError, Global};
-
-fn escaped_letter(letter: u8) -> u8
-    ensures { result ≡ escaped_letter letter }
-{
-    match letter {
-        b'n' => b'\n',
-        b'r' => b'\r',
-        b't' => b'\t',
-        other => other,
-    }
-}
-
-// The octet that is escaped after a `\`, and how many octets stand for it.
-fn double_escape(text: &[u8]) -> (u8, usize)
-    ensures octet { result.0 ≡ (double_escape text.now).octet }
-    ensures taken { result.1 ≡ (double_escape text.now).taken }
-    ensures within { result.1 ≤ length text.now }
-{
-    match text {
-        [] => (b'\\', 0),
-        [a @ b'0'..=b'3', b @ b'0'..=b'7', c @ b'0'..=b'7', ..] => (
-            (*a - b'0') * 64 + (*b - b'0') * 8 + (*c - b'0'),
-            3,
-        ),
-        [letter, ..] => (escaped_letter(*letter), 1),
-    }
-}
 
 // The octet that a text begins with, and the text after it; none at the end and at a `%` that is not followed by another.
 #[tactic(auto, unfolding(crate::specs::Parts::octet_at))]
@@ -51,8 +23,8 @@ fn octet<'a>(text: &Excerpt<'a>) -> Option<(u8, Excerpt<'a>)>
     match text.as_slice() {
         [] => None,
         [b'\\', rest @ ..] => {
-            let (octet, taken) = double_escape(rest);
-            Some((octet, Excerpt::new(&rest[taken..])))
+            let escape = double_escape(rest);
+            Some((escape.octet, Excerpt::new(&rest[escape.taken..])))
         }
         [b'%', b'%', rest @ ..] => Some((b'%', Excerpt::new(rest))),
         [b'%', ..] => None,
