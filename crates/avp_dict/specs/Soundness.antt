@@ -50,7 +50,7 @@ NamesKnown dictionary =
     (name : List ℕ) (found : Named) → named name dictionary ≡ Some found
     → is_known found.id dictionary ≡ true
 
--- no vendor has a format of two other parts
+-- each vendor's format of two parts is one of those that exist
 abbrev pub HasKnownFormats : Dictionary → Type 0
 HasKnownFormats dictionary =
     (vendor : ℕ) → IfSome (vendor_format vendor dictionary) (λ f. is_format f.t f.l ≡ true)

@@ -200,7 +200,10 @@ impl Dictionary {
     ///
     /// ```rust
     /// let service_type = AttrId::Plain(6);
-    /// assert_eq!(rt; dictionary.value_number(service_type, b"login-user"), Some(1));
+    /// assert_eq!(rt;
+    ///     dictionary.value_number(service_type, b"login-user"),
+    ///     Some(1)
+    /// );
     /// assert_eq!(rt; dictionary.value_number(service_type, b"Telnet"), None);
     /// ```
     pub fn value_number(&self, id: AttrId, name: &[u8]) -> Option<u64>

@@ -26,7 +26,7 @@ mod tests;
 /// A store that keeps one set of lists, and what each step turned in them.
 ///
 /// Each pair that enters a list stays in a pool, and a slot says whether it is shown. A step names the slots that it
-/// turned, so an edit costs what it changes, and no list is copied.
+/// turned, so an edit copies no list: it costs a walk over the slots, and what it changes.
 #[derive(Drop)]
 pub struct SlotStore {
     alloc: Global,

@@ -77,14 +77,11 @@ sent_or_too_long None = TooLong
 -- the reply of this code, signed or not, with these pairs and Proxy-States, if there is one, to a request with this
 -- identifier and authenticator
 abbrev pub reply_with : Dictionary → List ℕ → ℕ → Option (List ℕ) → Bool → List Pair → List Pair
-    → Option ℕ
-    → Answer
+    → Option ℕ → Answer
 reply_with dictionary secret id authenticator signed pairs proxies None = Nothing
 reply_with dictionary secret id authenticator signed pairs proxies (Some code) =
-    sent_or_too_long
-    (option_and_then
-    (λ a. within_packet (reply dictionary secret code id a signed pairs proxies))
-    authenticator)
+    sent_or_too_long (option_and_then
+    (λ a. within_packet (reply dictionary secret code id a signed pairs proxies)) authenticator)
 
 -- what a run sends that ended so
 unfoldable pub answer_of : Form → Dictionary → List ℕ → Packet → End → Answer

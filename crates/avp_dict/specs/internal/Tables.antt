@@ -41,9 +41,6 @@ same_id_key a b = (a.0 == b.0) && ((a.1.0 == b.1.0) && (a.1.1 == b.1.1))
 abbrev pub same_value_name : IdKey × List ℕ → IdKey × List ℕ → Bool
 same_value_name a b = same_id_key a.0 b.0 && bytes_eq a.1 b.1
 
-abbrev pub same_value_number : IdKey × ℕ → IdKey × ℕ → Bool
-same_value_number a b = same_id_key a.0 b.0 && (a.1 == b.1)
-
 abbrev pub value_name_key : ValueLine → IdKey × List ℕ
 value_name_key v = (id_key v.id, map lower v.name)
 

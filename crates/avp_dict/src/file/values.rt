@@ -1,6 +1,6 @@
 //! VALUE lines and notes, after the last line.
 
-ghost use Rattle.std.specs.Prelude.{◌≡◌, ◌∷◌, [], ℕ, List, Option, Ok, ◌≤◌, length, is_some, OnOk, IfErr, IfOk, IfSome, IsTrue};
+ghost use Rattle.std.specs.Prelude.{◌≡◌, [], Ok, ◌≤◌, length, OnOk, IfErr, IfOk, IfSome, IsTrue};
 ghost use Rattle.std.specs.Option.{option_and_then, option_copied};
 ghost use Rattle.std.specs.List.{list_all};
 ghost use Rattle.avp_dict.specs.DictionaryReading.{outline_of, settled_dictionary};
@@ -12,7 +12,6 @@ ghost use Rattle.avp_dict.specs.Values.{is_noted, is_of_other_number, is_value_n
 ghost use Rattle.avp_dict.specs.Dictionary.{typing_of_id};
 ghost use Rattle.avp_dict.specs.internal.Contents.{contents_view};
 ghost use Rattle.avp_dict.specs.internal.Meanings.{context_view, meaning_view, name_if, reading_view, reading_views, skipped_name_of};
-ghost use Rattle.avp_dict.specs.internal.Numbers.{Reads};
 ghost use Rattle.avp_dict.specs.internal.Outcomes.{Gives};
 
 use crate::contents::Contents;

@@ -18,7 +18,7 @@ use std::alloc::{AllocError, Global};
 /// A value as it is written for an attribute.
 #[derive(Debug, Drop)]
 pub(crate) enum Written<'a> {
-    /// A value of the attribute's type.
+    /// A value that a text stands for under the attribute's name.
     Literal(Value),
     /// The octets between double quotes, as they are in the text: an update line reads them in another way than a
     /// condition.
