@@ -2,14 +2,15 @@
 
 ghost use Rattle.radpolicy.specs.Plans.{IsSound, asked_by_job};
 
-use avp_dict::{FileSet, NamedFile};
-use avp_lists::Octets;
+use crate::commands::RUN;
+use crate::program::{Source, job_of};
+use avp_dict::FileSet;
 use avp_unlang::Code;
 use radpolicy::{
-    Command, Fault, Form, Job, WriteOutput, answer, help_text, print_fault, read_input, read_words,
+    Command, Fault, Job, WriteOutput, answer, help_text, print_fault, read_input, read_words,
     status,
 };
-use samples::{TEST_DICTIONARY, one_file};
+use samples::TEST_DICTIONARY;
 use std::alloc::Global;
 use std::process::Abort;
 use std::test::Fail;
@@ -77,17 +78,13 @@ fn texts(rt: HostRuntime) -> Result<(), Fail> {
 }
 
 fn answer_run(rt: &impl Abort, alloc: Global) -> Result<(), Fail> {
-    let job = Job {
-        command: Command::Run,
-        files: one_file(alloc, TEST_DICTIONARY)?,
-        request: Octets::from_vec(Vec::from_slice(alloc, b"NAS-Port = 3")?),
-        form: Form::Access,
-        identifier: 0,
-        authenticator: None,
-        secret: None,
-        policy: Some(Octets::from_vec(Vec::from_slice(alloc, b"reject")?)),
-        script: None,
-    };
+    let sources: [Source; 3] = [
+        ("d", TEST_DICTIONARY),
+        ("-", b"NAS-Port = 3"),
+        ("p", b"reject"),
+    ];
+    let plan = read_words(alloc, &RUN)?;
+    let job = job_of(alloc, &sources, &plan)?;
     does_a_job(rt, alloc, &job)
 }
 
