@@ -50,8 +50,8 @@ fn keyed_hasher(pad: &[u8; KEY_OCTETS], key: &[u8; KEY_OCTETS]) -> Md5
     hasher
 }
 
-/// The octets that sign a packet, whose Message-Authenticator is between those before and those after, with zeros in its
-/// value's place.
+/// The octets that sign a packet. Its Message-Authenticator is between those before and those after, with zeros for its
+/// value.
 #[tactic(auto, unfolding(crate::specs::Hmac::hmac))]
 pub(crate) fn signature_between(
     secret: &[u8],

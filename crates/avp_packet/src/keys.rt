@@ -9,8 +9,8 @@ use crate::packets::{ACCOUNTING_REQUEST, ACCOUNTING_RESPONSE};
 use avp_dict::Dictionary;
 use avp_lists::AttrId;
 
-/// What a packet's values are read and written by: the dictionary of its attributes, the secret, and an authenticator:
-/// that of the packet, or the one that hides its passwords where values are read or written.
+/// What a packet's values are read and written by: the dictionary of its attributes, the secret, and an authenticator.
+/// Values are read and written by the one that hides passwords; a packet is signed by its own or its request's.
 #[derive(Clone, Copy)]
 pub(crate) struct Keys<'a> {
     pub dictionary: &'a Dictionary,

@@ -88,7 +88,7 @@ fn escaped_letter(letter: u8) -> u8
 }
 
 /// What follows a `\` between double quotes: three octal digits, a letter that stands for an octet, or an octet itself.
-/// Nothing after it stands for the `\`.
+/// Where nothing follows, the `\` stands for itself.
 pub fn double_escape(text: &[u8]) -> Escape
     ensures value { result ≡ double_escape text.now }
     ensures within { result.taken ≤ length text.now }
