@@ -20,9 +20,6 @@ use crate::steps::{Change, Step, cut_and_push, make_room, make_room_beside, move
 use crate::store::Store;
 use std::alloc::{AllocError, Global};
 
-#[cfg(test)]
-mod tests;
-
 /// A store that keeps one set of lists, and what each step turned in them.
 ///
 /// Each pair that enters a list stays in a pool, and a slot says whether it is shown. A step names the slots that it
