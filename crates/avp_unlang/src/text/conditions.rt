@@ -1,6 +1,6 @@
 //! Conditions, read from a text.
 
-ghost use Rattle.std.specs.Prelude.{◌≡◌, ◌≢◌, ◌≤◌, ◌<◌, suc, length, Some, None, false, IfOk, IfErr};
+ghost use Rattle.std.specs.Prelude.{◌≡◌, ◌≢◌, ◌≤◌, ◌<◌, ◌∷◌, [], suc, length, Some, None, false, IfOk, IfErr};
 ghost use Rattle.avp_unlang.specs.Conditions.{Both, Closed, ComparandOf, ComparedIs, Either, Negated, ReferredIs, Within, WordFrom, all_of, any_of, has_expansion, plain_literal, relation_of};
 ghost use Rattle.avp_unlang.specs.Forms.{Reads, ReadsAll};
 ghost use Rattle.avp_unlang.specs.Words.{code_named};
@@ -160,30 +160,38 @@ fn worded_operand<'a>(
     }
 }
 
-// Operands with `&&` between them; one is itself.
-fn all_of(conds: Vec<Cond>) -> Cond
-    ensures { result ≡ all_of conds.items }
+// The only condition of a list, else all of them.
+fn only_of(conds: Vec<Cond>) -> Result<Cond, Vec<Cond>>
+    ensures ok { IfOk result (λ only. conds.items ≡ only ∷ []) }
+    ensures err { IfErr result (λ others. (others ≡ conds) × (length conds.items ≢ 1)) }
 {
     let mut conds = conds;
     if conds.len() == 1 {
         if let Some(only) = conds.pop() {
-            return only;
+            return Ok(only);
         }
     }
-    Cond::All(Items::from_vec(conds))
+    Err(conds)
+}
+
+// Operands with `&&` between them; one is itself.
+fn all_of(conds: Vec<Cond>) -> Cond
+    ensures { result ≡ all_of conds.items }
+{
+    match only_of(conds) {
+        Ok(only) => only,
+        Err(conds) => Cond::All(Items::from_vec(conds)),
+    }
 }
 
 // Operands with `||` between them; one is itself.
 fn any_of(conds: Vec<Cond>) -> Cond
     ensures { result ≡ any_of conds.items }
 {
-    let mut conds = conds;
-    if conds.len() == 1 {
-        if let Some(only) = conds.pop() {
-            return only;
-        }
+    match only_of(conds) {
+        Ok(only) => only,
+        Err(conds) => Cond::Any(Items::from_vec(conds)),
     }
-    Cond::Any(Items::from_vec(conds))
 }
 
 /// An operand. At most `depth` signs are nested in it.
