@@ -1,5 +1,5 @@
 //! The pairs that slots show.
-ghost use Rattle.std.specs.Prelude.{◌≡◌, ◌<◌, ◌≤◌, ◌+◌, ◌++◌, OnOk, IfOk, true, false, length, take, drop, filter, find, slice_get};
+ghost use Rattle.std.specs.Prelude.{◌≡◌, ◌<◌, ◌+◌, ◌++◌, OnOk, IfOk, true, false, length, take, drop, filter, find, slice_get};
 ghost use Rattle.std.specs.Option.{option_copied, IfSome, IfNone};
 ghost use Rattle.std.specs.List.{list_any};
 ghost use Rattle.avp_lists.specs.Instances.{has_id};

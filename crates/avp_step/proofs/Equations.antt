@@ -3,7 +3,6 @@ use Rattle.std.proofs.Common.{arith, ◌≡◌, ℕ, ◌+◌, List, [], ◌∷�
 use Rattle.avp_unlang.specs.declared.codes.Code.{Code}
 use Rattle.avp_unlang.specs.declared.tree.Line.{Line}
 use Rattle.avp_unlang.specs.declared.tree.Statement.{Statement}
-use Rattle.avp_unlang.specs.declared.tree.Statement.TheOpen.{Statement-F, Branch-F}
 use Rattle.avp_unlang.specs.declared.tree.Statement.TheOpen as open'
 use Rattle.avp_unlang.specs.declared.tree.Statement.TheVariants.{Update, If, Transaction, Word, rolls-Update, rolls-If, rolls-Transaction, rolls-Word}
 use Rattle.avp_unlang.specs.declared.tree.Statement.TheFolds.{fold-roll-Statement}

@@ -1,6 +1,6 @@
 //! What is still to run, as a stack of frames.
 
-ghost use Rattle.std.specs.Prelude.{◌≡◌, ◌+◌, ◌<◌, ◌≤◌, ◌∷◌, ◌++◌, ◌&&◌, [], false, length, map, max, vec_capacity, vec_len, IfNone};
+ghost use Rattle.std.specs.Prelude.{◌≡◌, ◌+◌, ◌<◌, ◌≤◌, ◌∷◌, ◌++◌, ◌&&◌, [], false, map, max, vec_capacity, vec_len, IfNone};
 ghost use Rattle.avp_unlang.specs.Suiting.{branches_suit, else_suits, policy_suits, statement_suits};
 ghost use Rattle.avp_step.specs.Trace.{block_steps, branch_steps, guarded, steps, then_steps};
 ghost use Rattle.avp_step.specs.internal.Frames.{IsNext, IsSame, NextSit, Sit, StaysSuited, all_skips, else_skips, else_steps, frame_depth, frame_entry, frame_suits, frame_skips, frame_steps, frames_suit, rest};

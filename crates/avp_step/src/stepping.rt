@@ -1,12 +1,12 @@
 //! One step of a run over a store.
 
-ghost use Rattle.std.specs.Prelude.{◌≡◌, ◌+◌, ◌<◌, ◌≤◌, ◌∷◌, ◌++◌, ◌&&◌, [], ℕ, false, true, length, max, vec_capacity, vec_len, IfOk, IfSome, IsTrue, OnErr, List, Some, None, Ok};
+ghost use Rattle.std.specs.Prelude.{◌≡◌, ◌+◌, ◌<◌, ◌≤◌, ◌&&◌, [], false, true, length, max, vec_capacity, vec_len, IfOk, IfSome, IsTrue, OnErr, List, Some, None, Ok};
 ghost use Rattle.std.specs.List.{list_all};
-ghost use Rattle.avp_lists.specs.History.{after_rollback, continued, present, state_at};
+ghost use Rattle.avp_lists.specs.History.{continued, present, state_at};
 ghost use Rattle.avp_dict.specs.Dictionary.{Dictionary};
 ghost use Rattle.avp_unlang.specs.Meaning.{stops};
 ghost use Rattle.avp_unlang.specs.Suiting.{branches_suit, else_suits, policy_suits};
-ghost use Rattle.avp_unlang.specs.Resolutions.{StateFits, line_suits};
+ghost use Rattle.avp_unlang.specs.Resolutions.{line_suits};
 ghost use Rattle.avp_step.specs.Trace.{reason_number};
 ghost use Rattle.avp_step.specs.internal.Frames.{IsNext, NextSit, Sit, StaysSuited, frames_suit, next_suits, onward, rest};
 ghost use Rattle.avp_unlang.specs.internal.Depth.{depth_of, depth_of_branches, else_depth};

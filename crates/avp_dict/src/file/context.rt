@@ -1,6 +1,6 @@
 //! What the lines before a line leave for it.
 
-ghost use Rattle.std.specs.Prelude.{◌≡◌, [], OnOk};
+ghost use Rattle.std.specs.Prelude.{◌≡◌, OnOk};
 ghost use Rattle.std.specs.Option.{option_map};
 ghost use Rattle.avp_dict.specs.Blocks.{block_vendor, innermost, is_skipping, opened_vendor, opens_skipped};
 ghost use Rattle.avp_dict.specs.Meanings.{after_reading, no_context};

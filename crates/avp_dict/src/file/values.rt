@@ -3,9 +3,9 @@
 ghost use Rattle.std.specs.Prelude.{◌≡◌, [], Ok, ◌≤◌, length, OnOk, IfErr, IfOk, IfSome, IsTrue};
 ghost use Rattle.std.specs.Option.{option_and_then, option_copied};
 ghost use Rattle.std.specs.List.{list_all};
-ghost use Rattle.avp_dict.specs.DictionaryReading.{outline_of, settled_dictionary};
+ghost use Rattle.avp_dict.specs.DictionaryReading.{settled_dictionary};
 ghost use Rattle.avp_dict.specs.Letters.{is_value_name_octet, max_name};
-ghost use Rattle.avp_dict.specs.Meanings.{Reading as SetReading, context_of};
+ghost use Rattle.avp_dict.specs.Meanings.{context_of};
 ghost use Rattle.avp_dict.specs.Outcomes.{Answers, Refuses};
 ghost use Rattle.avp_dict.specs.Settled.{skipped_names};
 ghost use Rattle.avp_dict.specs.Values.{is_noted, is_of_other_number, is_value_name, max_of, max_of_typing, reads_as_number, resolve, value_of, value_up_to, with_line, with_note, with_value};

@@ -2,15 +2,14 @@
 
 ghost use Rattle.std.specs.Prelude.{◌≡◌, ◌≢◌, ◌≤◌, ◌<◌, ◌+◌, ◌^◌, ◌++◌, ◌∷◌, [], Some, None, true, false, IfOk, IfErr, OnOk, OnErr, IfSome, MatchOption, length, List, All, IsTrue};
 ghost use Rattle.std.specs.List.{before_first, after_first, list_all};
-ghost use Rattle.std.specs.Option.{option_and_then};
 ghost use Rattle.avp_lists.specs.States.{max_pairs};
 ghost use Rattle.avp_lists.specs.declared.pairs.Pair.{Pair};
 ghost use Rattle.avp_dict.specs.Limits.{fits};
 ghost use Rattle.avp_dict.specs.Lines.{is_line_end, texts_of};
-ghost use Rattle.avp_dict.specs.RequestLines.{is_blank_line, is_idle_line, joined, pairs_of, tokens_at, without_front};
-ghost use Rattle.avp_dict.specs.Requests.{few_enough, pair_named, request_spelled};
+ghost use Rattle.avp_dict.specs.RequestLines.{is_blank_line, is_idle_line, pairs_of, tokens_at, without_front};
+ghost use Rattle.avp_dict.specs.Requests.{pair_named, request_spelled};
 ghost use Rattle.avp_dict.specs.Sent.{is_clean};
-ghost use Rattle.avp_dict.specs.internal.LineReading.{IsNoRequest, ReadsLine, RefusesLine, after_pairs, assigned_after, packet_pairs, pair_of_token, pairs_after, pairs_at};
+ghost use Rattle.avp_dict.specs.internal.LineReading.{IsNoRequest, ReadsLine, RefusesLine, after_pairs, assigned_after, pair_of_token, pairs_after, pairs_at};
 ghost use Rattle.avp_dict.specs.internal.RequestTokens.{side_after, token_view};
 
 use crate::dictionaries::Dictionary;

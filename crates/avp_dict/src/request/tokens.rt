@@ -1,8 +1,8 @@
 //! Tokens of request lines.
 
 ghost use Rattle.std.specs.Prelude.{◌≡◌, ◌∷◌, [], ◌<◌, ◌≤◌, ◌+◌, MatchOption, IfSome, length, take, drop, false};
-ghost use Rattle.std.specs.List.{before_first, position, position_or_len};
-ghost use Rattle.avp_dict.specs.RequestLines.{Between, Outside, Quoted, Run, Unended, is_sign, quote_octet, tokens_at, tokens_from};
+ghost use Rattle.std.specs.List.{position, position_or_len};
+ghost use Rattle.avp_dict.specs.RequestLines.{Between, Outside, Quoted, Run, Unended, quote_octet, tokens_at, tokens_from};
 ghost use Rattle.avp_dict.specs.Words.{is_blank};
 ghost use Rattle.avp_dict.specs.internal.RequestTokens.{begins_blank, ends_run, side_after, token_view};
 

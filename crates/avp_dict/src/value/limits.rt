@@ -1,7 +1,6 @@
 //! How long values may be, and which pairs fit a dictionary.
 
 ghost use Rattle.std.specs.Prelude.{◌≡◌, length};
-ghost use Rattle.std.specs.Option.{option_map_or};
 ghost use Rattle.avp_dict.specs.Limits.{extended_room, fits, greatest_length, is_known, is_of_kind, is_typed, is_value_within, is_within, max_number, max_octets, vendor_room};
 ghost use Rattle.avp_dict.specs.Octets.{ends_in_nul, number_octets, octets_of};
 

@@ -1,10 +1,10 @@
 //! Octets of values.
 
 ghost use Rattle.std.specs.Prelude.{◌≡◌, false, Some, IfOk, IsTrue};
-ghost use Rattle.std.specs.Option.{option_map, unwrap_or};
+ghost use Rattle.std.specs.Option.{unwrap_or};
 ghost use Rattle.avp_lists.specs.declared.pairs.Value.TheVariants.{Raw};
 ghost use Rattle.avp_dict.specs.Limits.{fits};
-ghost use Rattle.avp_dict.specs.Octets.{ends_in_nul, is_hidden, is_hideable, kind_of, number_octets, number_value, octets, octets_of, of_length, read_by, read_value, signed_value, value_of_octets, value_read};
+ghost use Rattle.avp_dict.specs.Octets.{ends_in_nul, is_hidden, is_hideable, kind_of, number_octets, number_value, octets, octets_of, of_length, read_value, signed_value, value_of_octets, value_read};
 ghost use Rattle.avp_dict.specs.Types.{is_text_kind};
 
 use crate::dictionaries::Dictionary;

@@ -1,7 +1,6 @@
 //! What update lines set their attributes to.
 
 ghost use Rattle.std.specs.Prelude.{◌≡◌, ◌++◌, IsTrue, IfOk, IfSome, OnOk, Some};
-ghost use Rattle.std.specs.List.{flat_map};
 ghost use Rattle.avp_lists.specs.History.{present};
 ghost use Rattle.avp_dict.specs.Limits.{fits, is_known, is_typed};
 ghost use Rattle.avp_dict.specs.Octets.{octets, read_value};

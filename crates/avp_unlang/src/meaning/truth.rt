@@ -6,7 +6,7 @@ ghost use Rattle.std.specs.Option.{option_copied};
 ghost use Rattle.avp_lists.specs.History.{present};
 ghost use Rattle.avp_dict.specs.Octets.{octets_of};
 ghost use Rattle.avp_dict.specs.declared.entries.Kind.{Kind};
-ghost use Rattle.avp_unlang.specs.Truth.{are_related, comparable, compared_with, first_value, is_alike, is_comparable, is_met, is_number_value, is_numeric, meets, number_order, order, relates, same_code, truth};
+ghost use Rattle.avp_unlang.specs.Truth.{comparable, compared_with, first_value, is_alike, is_comparable, is_met, is_number_value, is_numeric, meets, number_order, order, relates, same_code, truth};
 
 use crate::codes::Code;
 use crate::tree::{Comparand, Comparison, Cond, Relation};

@@ -1,6 +1,6 @@
 //! Texts between double quotes into which values are put.
 
-ghost use Rattle.std.specs.Prelude.{◌≡◌, ◌≤◌, ◌<◌, ◌∷◌, ℕ, List as TheList, length, IfOk, IfSome, IfNone, IsTrue, OnErr, option_map};
+ghost use Rattle.std.specs.Prelude.{◌≡◌, ◌<◌, ℕ, List as TheList, length, IfOk, IfSome, IsTrue, OnErr};
 ghost use Rattle.avp_unlang.specs.Forms.{Reads, ReadsAll, While};
 ghost use Rattle.avp_unlang.specs.declared.text.references.Reference.{Reference as Referred};
 ghost use Rattle.avp_unlang.specs.Parts.{InstanceIs, OctetIs, PartIs, PartsAre, after_opening, begins_octet, braced, is_left, octet_at};

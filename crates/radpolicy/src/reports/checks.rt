@@ -1,6 +1,6 @@
 //! The report of a check: what a dictionary holds.
 
-ghost use Rattle.std.specs.Prelude.{◌≡◌, ◌<◌, ◌++◌, All, codes, decimal, length, IfOk, OnOk};
+ghost use Rattle.std.specs.Prelude.{◌≡◌, ◌<◌, ◌++◌, All, length, IfOk, OnOk};
 ghost use Rattle.std.specs.List.{flat_map};
 ghost use Rattle.radpolicy.specs.Faults.{name_at};
 ghost use Rattle.radpolicy.specs.Reports.{count_line, dictionary_text, note_line, size_text};

@@ -3,7 +3,6 @@
 ghost use Rattle.std.specs.Prelude.{◌≡◌, ◌++◌, codes, IfOk, IsTrue, OnOk};
 ghost use Rattle.avp_lists.specs.History.{present};
 ghost use Rattle.avp_lists.specs.States.{list_of};
-ghost use Rattle.avp_lists.specs.declared.lists.State.{State};
 ghost use Rattle.avp_dict.specs.Limits.{fits};
 ghost use Rattle.avp_unlang.specs.Resolutions.{StateFits};
 ghost use Rattle.radpolicy.specs.Fitting.{AllFit};

@@ -2,7 +2,6 @@
 
 ghost use Rattle.std.specs.Prelude.{◌≡◌, ◌++◌, ◌≤◌, IfOk, OnOk, codes, decimal, length};
 ghost use Rattle.avp_lists.specs.States.{max_pairs};
-ghost use Rattle.avp_step.specs.Walk.{entry};
 ghost use Rattle.avp_unlang.specs.Suiting.{IsSpelled};
 ghost use Rattle.radpolicy.specs.Fitting.{AllFit};
 ghost use Rattle.radpolicy.specs.JobReports.{step_report, request_walk};
