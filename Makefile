@@ -1,4 +1,4 @@
-# make run        builds the program and shows the README's example
+# make run        builds the program and shows examples/access-request
 # make test       the gate, then the examples, the documents and the tests of tests/ through the built programs
 # make trials     the tests of tests/ alone
 # make bench      measures the program and packets, beside FreeRADIUS where it is installed (docs/SPEED.md)
