@@ -17,7 +17,7 @@ use std::alloc::{AllocError, Global};
 // What an edit turns, as names of slots.
 #[derive(Drop)]
 pub(crate) struct Plan {
-    // The slots that begin or stop to show their pairs.
+    // The slots that start or stop showing their pairs.
     pub turned: Vec<usize>,
     // The slot where the edit's pair takes the place of the first instance.
     pub swap: Option<Swap>,
@@ -140,7 +140,7 @@ fn plan_replacement(
     })
 }
 
-// Pairs go.
+// Pairs are removed, and none is added.
 fn plan_removal(
     alloc: Global,
     slots: &[Slot],

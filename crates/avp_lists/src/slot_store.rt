@@ -392,10 +392,7 @@ impl Store for SlotStore {
         if self.is_full(&edit) {
             return Err(EditFault::Full);
         }
-        match self.change(edit) {
-            Ok(()) => Ok(()),
-            Err(AllocError) => Err(EditFault::Memory),
-        }
+        self.change(edit).map_err(|_| EditFault::Memory)
     }
 
     fn undo(&mut self) -> bool {

@@ -63,15 +63,11 @@ fn turn(slots: &mut [Slot], name: usize)
     ensures { slots.new ≡ turn slots.old name }
 {
     let slot = slots[name];
-    slots[name] = Slot {
-        list: slot.list,
-        end: slot.end,
-        mark: Mark {
-            live: !slot.mark.live,
-            pair: slot.mark.pair,
-        },
-        first: slot.first,
+    let mark = Mark {
+        live: !slot.mark.live,
+        ..slot.mark
     };
+    slots[name] = Slot { mark, ..slot };
 }
 
 fn turn_all(slots: &mut [Slot], names: &[usize])
@@ -96,15 +92,8 @@ fn put_other(slots: &mut [Slot], swap: Option<Swap>)
         } else {
             slot.mark.pair
         };
-        slots[swap.slot] = Slot {
-            list: slot.list,
-            end: slot.end,
-            mark: Mark {
-                live: slot.mark.live,
-                pair,
-            },
-            first: slot.first,
-        };
+        let mark = Mark { pair, ..slot.mark };
+        slots[swap.slot] = Slot { mark, ..slot };
     }
 }
 
@@ -128,7 +117,7 @@ pub(crate) fn backward(slots: &mut [Slot], names: &[usize], by: Option<Swap>)
     turn_all(slots, names);
 }
 
-// The same in a vector.
+// `forward`, over a vector.
 pub(crate) fn turn_slots(slots: &mut Vec<Slot>, names: &[usize], by: Option<Swap>)
     requires names { NamesWithin (length slots.old.items) names.now }
     requires swap { SwapWithin (length slots.old.items) by }

@@ -7,6 +7,7 @@ use crate::edits::{Edit, EditFault};
 use crate::lists::{List, MAX_PAIRS, Pairs, State, copies};
 use crate::operators::{edited, find_instance, is_full};
 use crate::pairs::{AttrId, Pair};
+use crate::steps::make_room;
 use crate::store::Store;
 use std::alloc::{AllocError, Global};
 
@@ -41,9 +42,7 @@ fn cut_and_push(
     ensures err { OnErr result (snapshots.new.items ≡ snapshots.old.items) }
     ensures kept { vec_capacity snapshots.old ≤ vec_capacity snapshots.new }
 {
-    if end == snapshots.len() {
-        snapshots.reserve(1)?;
-    }
+    make_room(snapshots, end)?;
     snapshots.truncate(end);
     snapshots.push(snapshot).unwrap();
     Ok(())
@@ -201,10 +200,8 @@ impl Store for SnapshotStore {
         let Ok(next) = edited(self.alloc, state, edit) else {
             return Err(EditFault::Memory);
         };
-        match self.add(Snapshot::Whole(next)) {
-            Ok(()) => Ok(()),
-            Err(AllocError) => Err(EditFault::Memory),
-        }
+        self.add(Snapshot::Whole(next))
+            .map_err(|_| EditFault::Memory)
     }
 
     fn undo(&mut self) -> bool {

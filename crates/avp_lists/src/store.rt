@@ -36,7 +36,8 @@ pub trait Store: Drop {
     /// assert!(rt; timeout.value == Value::Int(600));
     /// ```
     fn first(&self, list: List, id: AttrId) -> Option<&Pair>
-        ensures { option_copied result ≡ first_instance id (list_of list (present (history self.now))) };
+        ensures { option_copied result
+            ≡ first_instance id (list_of list (present (history self.now))) };
 
     /// A copy of a present list.
     fn list(&self, list: List) -> Result<Vec<Pair>, AllocError>
@@ -94,7 +95,8 @@ pub trait Store: Drop {
             ≤ MAX_PAIRS) }
         ensures full { IsErrOf result EditFault.Full ↔ IsFull edit (present (history self.old)) }
         ensures err { OnErr result (history self.new ≡ history self.old) }
-        ensures kept { (history self.old).place + room self.old ≤ (history self.new).place + room self.new };
+        ensures kept { (history self.old).place + room self.old
+            ≤ (history self.new).place + room self.new };
 
     /// Goes to the state before, if there is one.
     ///
@@ -111,7 +113,8 @@ pub trait Store: Drop {
         ensures variant { IsTrue result ↔ (0 < (history self.old).place) }
         ensures moved { history self.new
             ≡ at_place ((history self.old).place - 1) (history self.old) }
-        ensures kept { (history self.new).place + room self.new ≡ (history self.old).place + room self.old };
+        ensures kept { (history self.new).place + room self.new
+            ≡ (history self.old).place + room self.old };
 
     /// Goes to the state after, if there is one.
     fn redo(&mut self) -> bool
@@ -120,7 +123,8 @@ pub trait Store: Drop {
         ensures moved { OnTrue result (history self.new
             ≡ at_place ((history self.old).place + 1) (history self.old)) }
         ensures end { OnFalse result (history self.new ≡ history self.old) }
-        ensures kept { (history self.new).place + room self.new ≡ (history self.old).place + room self.old };
+        ensures kept { (history self.new).place + room self.new
+            ≡ (history self.old).place + room self.old };
 
     /// Cuts off the states after the place, and adds the state at `to` once more. It is refused only
     /// where there is no room; the history and the place are then as they were.
@@ -139,7 +143,8 @@ pub trait Store: Drop {
         ensures ok { OnOk result (history self.new ≡ after_rollback to (history self.old)) }
         ensures enough { 0 < room self.old → IsOk result }
         ensures err { OnErr result (history self.new ≡ history self.old) }
-        ensures kept { (history self.old).place + room self.old ≤ (history self.new).place + room self.new };
+        ensures kept { (history self.old).place + room self.old
+            ≤ (history self.new).place + room self.new };
 
     /// Forgets each state but the present one.
     ///

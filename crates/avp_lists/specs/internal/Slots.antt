@@ -23,21 +23,15 @@ is_live s = s.mark.live
 
 -- the slot as it is in the first state
 abbrev pub at_first : Slot → Slot
-at_first s = record { list = s.list; end = s.end; mark = s.first; first = s.first }
+at_first s = record s { mark = s.first }
 
 -- the slot with the present mark as that of the first state
 abbrev pub kept : Slot → Slot
-kept s = record { list = s.list; end = s.end; mark = s.mark; first = s.mark }
+kept s = record s { first = s.mark }
 
 -- the slot with its mark turned
 abbrev pub flipped : Slot → Slot
-flipped s =
-    record {
-      list = s.list;
-      end = s.end;
-      mark = record { live = not s.mark.live; pair = s.mark.pair };
-      first = s.first;
-    }
+flipped s = record s { mark = record s.mark { live = not s.mark.live } }
 
 abbrev pub turn : List Slot → ℕ → List Slot
 turn c i = slice_set c i (flipped (slot_at c i))
@@ -51,13 +45,7 @@ abbrev pub other_pair : ℕ → ℕ → ℕ → ℕ
 other_pair old new at = if at == old then new else if at == new then old else at
 
 abbrev pub with_other : Swap → Slot → Slot
-with_other w s =
-    record {
-      list = s.list;
-      end = s.end;
-      mark = record { live = s.mark.live; pair = other_pair w.old w.new s.mark.pair };
-      first = s.first;
-    }
+with_other w s = record s { mark = record s.mark { pair = other_pair w.old w.new s.mark.pair } }
 
 abbrev pub swap_at : Option Swap → List Slot → List Slot
 swap_at None c = c

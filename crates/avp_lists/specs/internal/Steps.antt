@@ -11,11 +11,12 @@ use Rattle.avp_lists.specs.internal.Slots.{at_first, forward, NamesWithin, SwapW
 use Rattle.avp_lists.specs.internal.Shown.{shown_state}
 use Rattle.avp_lists.specs.States.{empty_state, IsLimited}
 
--- the slots of the state after a change, by those of the states before it, and by those of the first state where there
--- are none
+-- the slots of the last state so far, or those of the first state where there is none
 abbrev pub last_or : List Slot → List (List Slot) → List Slot
 last_or d done = slice_index_or done (length done - 1) d
 
+-- the slots of the state after a change, by those of the states before it, and by those of the first state where there
+-- are none
 abbrev pub after : List Slot → List (List Slot) → Change → List Slot
 after first done (Turned names by) = forward names.items by (last_or first done)
 after first done (Back to) = slice_index_or done to first
