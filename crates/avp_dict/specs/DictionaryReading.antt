@@ -17,7 +17,7 @@ abbrev pub unless_open : {A : Type 0} → Option Reading → A → Result A Dict
 unless_open None x = Ok x
 unless_open (Some r) x = Err (record { file = r.file; line = r.line; kind = Unmatched })
 
--- so many lines are read
+-- the most lines that are read
 abbrev pub max_lines : ℕ
 max_lines = 200000
 

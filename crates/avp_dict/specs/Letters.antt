@@ -3,7 +3,7 @@ use Rattle.std.specs.Prelude.{codes, ℕ, ◌-◌, Bool, ◌&&◌, ◌||◌, ◌
 use Rattle.std.specs.List.{before_first}
 use Rattle.avp_dict.specs.Words.{lower, same_name}
 
--- a name has so many octets at most
+-- the most octets of a name
 abbrev pub max_name : ℕ
 max_name = 128
 

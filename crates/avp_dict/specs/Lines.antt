@@ -74,7 +74,7 @@ expanded below file depth number (text ∷ texts) =
     record { file = file; number = number; depth = depth; text = text }
     ∷ (below text ++ expanded below file depth (number + 1) texts)
 
--- includes go so many files deep
+-- the most includes that may lead to a file
 abbrev pub max_depth : ℕ
 max_depth = 8
 

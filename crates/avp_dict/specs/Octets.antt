@@ -80,7 +80,7 @@ is_nul o = o == 0
 abbrev pub ends_in_nul : List ℕ → Bool
 ends_in_nul os = option_map_or is_nul (slice_get os (length os - 1)) false
 
--- hidden octets are so many at most (RFC 2865, section 5.2)
+-- the most octets of a hidden value (RFC 2865, section 5.2)
 abbrev pub max_hidden_octets : ℕ
 max_hidden_octets = 128
 

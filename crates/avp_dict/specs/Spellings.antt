@@ -92,8 +92,8 @@ ether_spelled text = in_parts 6 digit_pair (slice_split is_colon text)
 
 -- ---- values
 
--- a text under a name of an ATTRIBUTE line, by the type; by_text says whether the line's own type word is string or
--- octets
+-- a text under a name of an ATTRIBUTE line, by the type; by_text says whether a text without `0x` is taken as its own
+-- octets, where the type is octets
 abbrev pub spelled_as : Kind → Bool → AttrId → List ℕ → Dictionary → Option Value
 spelled_as kinds.Text by_text id text dictionary = Some (values.Text text)
 spelled_as kinds.Bytes by_text id text dictionary =

@@ -63,7 +63,7 @@ fn unless_three(format: VendorFormat) -> Option<Format>
     }
 }
 
-/// What the files define; so many lines are read.
+/// What the files define, where they have at most `limit` lines.
 pub(crate) fn read_up_to(
     alloc: Global,
     files: &[NamedFile],

@@ -23,7 +23,8 @@ pub fn store_of(
     dictionary: &Dictionary,
     request: &[u8],
 ) -> Result<SnapshotStore, Fail>
-    ensures { IfOk result (λ store. StateFits dictionary.now (present (⟦<SnapshotStore as Store>⟧.history store))) }
+    ensures { IfOk result (λ store.
+        StateFits dictionary.now (present (⟦<SnapshotStore as Store>⟧.history store))) }
 {
     let pairs = dictionary.read_request(alloc, request)?;
     match SnapshotStore::new(alloc, pairs, Vec::new(alloc), Vec::new(alloc)) {

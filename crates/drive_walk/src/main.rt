@@ -94,7 +94,8 @@ fn walk<S: Store>(
 
 // A store of whole states whose request list the text spells.
 fn snapshots(alloc: Global, dictionary: &Dictionary, text: &str) -> io::Result<SnapshotStore>
-    ensures { IfOk result (λ store. StateFits dictionary.now (present (⟦<SnapshotStore as Store>⟧.history store))) }
+    ensures { IfOk result (λ store.
+        StateFits dictionary.now (present (⟦<SnapshotStore as Store>⟧.history store))) }
 {
     let Ok(request) = dictionary.read_request(alloc, text.as_bytes()) else {
         return Err(io::ErrorKind::InvalidData.into());
@@ -107,7 +108,8 @@ fn snapshots(alloc: Global, dictionary: &Dictionary, text: &str) -> io::Result<S
 
 // A store of slots, in the same way.
 fn slots(alloc: Global, dictionary: &Dictionary, text: &str) -> io::Result<SlotStore>
-    ensures { IfOk result (λ store. StateFits dictionary.now (present (⟦<SlotStore as Store>⟧.history store))) }
+    ensures { IfOk result (λ store.
+        StateFits dictionary.now (present (⟦<SlotStore as Store>⟧.history store))) }
 {
     let Ok(request) = dictionary.read_request(alloc, text.as_bytes()) else {
         return Err(io::ErrorKind::InvalidData.into());

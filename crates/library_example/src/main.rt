@@ -32,8 +32,10 @@ fn added(pair: Pair) -> Edit {
 
 // Makes both edits, or none.
 fn edit_twice<S: Store>(store: &mut S, first: Edit, second: Edit) -> Result<(), EditFault>
-    ensures ok { OnOk result (present (S.history store.new) ≡ edited second (edited first (present (S.history store.old)))) }
-    ensures err { OnErr result (present (S.history store.new) ≡ present (S.history store.old)) }
+    ensures ok { OnOk result (present (S.history store.new)
+        ≡ edited second (edited first (present (S.history store.old)))) }
+    ensures err { OnErr result (present (S.history store.new)
+        ≡ present (S.history store.old)) }
 {
     store.edit(first)?;
     match store.edit(second) {

@@ -10,9 +10,9 @@ use crate::file::files::{NamedFile, last_component};
 use crate::file::keywords::{DOLLAR_INCLUDE, DOLLAR_INCLUDE_IF_THERE};
 use crate::file::words::same_name;
 
-/// How many lines are read, counted as often as they are read.
+/// The most lines that are read in all; a file that is included twice counts twice.
 pub const MAX_LINES: usize = 200_000;
-/// Includes go so many files deep.
+/// The most includes that may lead to a file.
 pub const MAX_DEPTH: usize = 8;
 /// How many files may be open at once: the main one, and one for each include in it.
 pub const MAX_LEVELS: usize = MAX_DEPTH + 1;

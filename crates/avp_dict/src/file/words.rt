@@ -7,7 +7,7 @@ ghost use Rattle.avp_dict.specs.internal.Views.{views};
 
 use std::alloc::{AllocError, Global};
 
-/// A name has so many octets at most.
+/// The most octets of a name.
 pub const MAX_NAME: usize = 128;
 
 fn comment_start(text: &[u8]) -> Option<usize>

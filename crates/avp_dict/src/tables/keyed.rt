@@ -109,7 +109,7 @@ impl<L: Keyed> KeyedLines<L> {
         self.lines.as_slice()
     }
 
-    /// One more line. For want of memory no line is left.
+    /// Adds a line. If memory runs out, all are dropped.
     pub fn push(&mut self, line: L) -> Result<(), AllocError>
         requires { length (L.spelled line) ≤ max_name }
         ensures { OnOk result (self.new ≡ self.old ++ line ∷ []) }

@@ -60,7 +60,7 @@ impl<'a> NameSet<'a> {
         }
     }
 
-    /// One more name. For want of memory no name is left.
+    /// Adds a name. If memory runs out, all are dropped.
     pub fn push(&mut self, alloc: Global, name: &'a [u8]) -> Result<(), AllocError>
         ensures { OnOk result (self.new ≡ self.old ++ name.now ∷ []) }
     {
