@@ -33,7 +33,8 @@ pub record ReadsBack (pair : Pair) (dictionary : Dictionary) : Type 0 where
   pub named : named (printed_name pair.id pair.value dictionary) dictionary ≡ Some name
   pub same : name.id ≡ pair.id
   pub spelled :
-      value_spelled name (unquoted pair.value (printed_text pair.id pair.value dictionary)) dictionary
+      value_spelled name
+      (unquoted pair.value (printed_text pair.id pair.value dictionary)) dictionary
       ≡ Ok pair.value
 
 -- the pair of a known id and a value that a text stands for is clean: its own octets stand for it, and it holds no

@@ -19,6 +19,10 @@ use Rattle.avp_dict.specs.Values.{max_of}
 
 -- ---- lengths
 
+-- the most octets of one value: in 16 fragments they fill a packet (RFC 6929, section 2.2)
+abbrev pub max_long_octets : ℕ
+max_long_octets = 4012
+
 -- what one attribute of 255 octets holds: less a Vendor-Id and the vendor's own type and length (RFC 2865, section
 -- 5.26)
 abbrev pub vendor_room : Format → ℕ
@@ -28,11 +32,12 @@ vendor_room f = 249 - f.t - f.l
 -- 2.2)
 abbrev pub extended_room : ℕ → ℕ
 extended_room t =
-    if nat_le 241 t && nat_le t 244 then 252 else if nat_le 245 t && nat_le t 246 then 4012 else 0
+    if nat_le 241 t && nat_le t 244 then 252
+    else if nat_le 245 t && nat_le t 246 then max_long_octets else 0
 
 -- the most octets of an id's attribute; 0 where the vendor has no format of two parts
 unfoldable pub max_octets : AttrId → Dictionary → ℕ
-max_octets (ids.Plain n) dictionary = if nat_le n max_plain then 253 else 4012
+max_octets (ids.Plain n) dictionary = if nat_le n max_plain then 253 else max_long_octets
 max_octets (ids.Vendor vendor n) dictionary =
     option_map_or vendor_room (vendor_format vendor dictionary) 0
 max_octets (ids.Extended t n) dictionary = extended_room t

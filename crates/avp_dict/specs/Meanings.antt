@@ -33,24 +33,13 @@ pub record Context : Type 0 where
   pub opened : List Reading
 
 abbrev pub with_attribute : Context → AttributeLine → Context
-with_attribute context a =
-    record {
-      attributes = context.attributes ++ a ∷ [];
-      vendors = context.vendors;
-      opened = context.opened;
-    }
+with_attribute context a = record context { attributes = context.attributes ++ a ∷ [] }
 
 abbrev pub with_vendor : Context → VendorLine → Context
-with_vendor context v =
-    record {
-      attributes = context.attributes;
-      vendors = context.vendors ++ v ∷ [];
-      opened = context.opened;
-    }
+with_vendor context v = record context { vendors = context.vendors ++ v ∷ [] }
 
 abbrev pub with_opened : Context → List Reading → Context
-with_opened context opened =
-    record { attributes = context.attributes; vendors = context.vendors; opened = opened }
+with_opened context opened = record context { opened = opened }
 
 -- a BEGIN line opens a block, and an END line closes the last open one
 abbrev pub after_reading : Context → Reading → Context

@@ -96,22 +96,12 @@ note_of r = record { file = r.file; line = r.line }
 -- ---- the lines, one after the other
 
 abbrev pub with_note : Dictionary → Reading → Dictionary
-with_note dictionary r = record {
-  attributes = dictionary.attributes;
-  values = dictionary.values;
-  vendors = dictionary.vendors;
-  notes = dictionary.notes ++ note_of r ∷ [];
-}
+with_note dictionary r = record dictionary { notes = dictionary.notes ++ note_of r ∷ [] }
 
 -- the name of a number that a line gives, or a note
 abbrev pub with_value : Dictionary → Reading → Option ValueLine → Dictionary
 with_value dictionary r None = with_note dictionary r
-with_value dictionary r (Some v) = record {
-  attributes = dictionary.attributes;
-  values = dictionary.values ++ v ∷ [];
-  vendors = dictionary.vendors;
-  notes = dictionary.notes;
-}
+with_value dictionary r (Some v) = record dictionary { values = dictionary.values ++ v ∷ [] }
 
 -- the dictionary with what a line adds; skipped are the names on skipped ATTRIBUTE lines
 unfoldable pub with_line : List (List ℕ) → Dictionary → Reading → Result Dictionary DictFault

@@ -1,126 +1,87 @@
-//! A line of a file set.
+//! The lines of a file set.
 
-ghost use Rattle.std.specs.Prelude.{◌≡◌};
-ghost use Rattle.avp_dict.specs.Readings.{plain_line, read_head, read_words, skipped_line, value, value_words};
-ghost use Rattle.avp_dict.specs.internal.Meanings.{context_view, meaning_view};
-ghost use Rattle.avp_dict.specs.internal.Outcomes.{Means};
+ghost use Rattle.std.specs.Prelude.{◌≡◌, ◌<◌, length, IfSome};
+ghost use Rattle.std.specs.Option.{option_and_then, option_copied};
+ghost use Rattle.std.specs.List.{before_first, after_first, position};
+ghost use Rattle.avp_dict.specs.Lines.{file_named, included_by, is_include, is_line_end, octets_at};
 ghost use Rattle.avp_dict.specs.internal.Views.{views};
 
-use crate::faults::{DictKind, LineError};
-use crate::file::attributes::read_attribute;
-use crate::file::blocks::{begin_tlv, begin_vendor, end_tlv, end_vendor, include};
-use crate::file::context::{Context, block_vendor, is_skipping};
-use crate::file::gather::is_include;
-use crate::file::keywords::{
-    ATTRIBUTE, BEGIN_TLV, BEGIN_VENDOR, END_TLV, END_VENDOR, VALUE, VENDOR,
-};
-use crate::file::meanings::Meaning;
-use crate::file::numbers::{MAX_VALUE, bounded};
-use crate::file::vendors::read_vendor;
+use crate::file::files::{NamedFile, last_component};
+use crate::file::keywords::{DOLLAR_INCLUDE, DOLLAR_INCLUDE_IF_THERE};
 use crate::file::words::same_name;
-use std::alloc::Global;
 
-fn value_words<'a>(
-    attribute: &'a [u8],
-    name: &'a [u8],
-    number: &[u8],
-) -> Result<Meaning<'a>, LineError>
-    ensures { Means result (value_words attribute.now name.now number.now) }
-{
-    let number = bounded(MAX_VALUE, number)?;
-    Ok(Meaning::Value(attribute, name, number))
+/// The most lines that are read in all; a file that is included twice counts twice.
+pub const MAX_LINES: usize = 200_000;
+/// The most includes that may lead to a file.
+pub const MAX_DEPTH: usize = 8;
+/// How many files may be open at once: the main one, and one for each include in it.
+pub const MAX_LEVELS: usize = MAX_DEPTH + 1;
+
+/// A line, where it is, and how many includes led to it.
+#[derive(Clone, Copy)]
+pub struct Line<'a> {
+    pub file: usize,
+    pub number: usize,
+    pub depth: usize,
+    pub text: &'a [u8],
 }
 
-#[tactic(auto, unfolding(crate::specs::Readings::value))]
-fn read_value<'a>(words: &[&'a [u8]]) -> Result<Meaning<'a>, LineError>
-    ensures { Means result (value (views words.now)) }
+fn line_end(text: &[u8]) -> Option<usize>
+    ensures { result ≡ position is_line_end text.now }
+{
+    text.iter().position(|octet| *octet == b'\n')
+}
+
+/// The first line of a text, and what follows it.
+pub(crate) fn split_line(text: &[u8]) -> (&[u8], &[u8])
+    ensures line { result.0.now ≡ before_first is_line_end text.now }
+    ensures rest { result.1.now ≡ after_first is_line_end text.now }
+{
+    match line_end(text) {
+        Some(end) => (&text[..end], &text[end + 1..]),
+        None => (text, &text[text.len()..]),
+    }
+}
+
+fn file_named(files: &[NamedFile], name: &[u8]) -> Option<usize>
+    ensures place { result ≡ file_named name.now files.now }
+    ensures within { IfSome result (λ place. place < length files.now) }
+{
+    files.iter().position(|file| file.name.as_slice() == name)
+}
+
+pub(crate) fn is_include(word: &[u8]) -> bool
+    ensures { result ≡ is_include word.now }
+{
+    same_name(word, DOLLAR_INCLUDE) || same_name(word, DOLLAR_INCLUDE_IF_THERE)
+}
+
+fn included<'a>(words: &[&'a [u8]]) -> Option<&'a [u8]>
+    ensures { option_copied result ≡ included_by (views words.now) }
 {
     match words {
-        [attribute, name, number] => value_words(attribute, name, number),
-        _ => Err(LineError::Refused(DictKind::Unreadable)),
+        [head, path] if is_include(head) => Some(last_component(path)),
+        _ => None,
     }
 }
 
-fn skip_line<'a>(head: &[u8], words: &[&'a [u8]]) -> Meaning<'a>
-    ensures { meaning_view result ≡ skipped_line head.now (views words.now) }
+/// The place of the file that a line of these words includes.
+pub(crate) fn place_included(files: &[NamedFile], words: &[&[u8]]) -> Option<usize>
+    ensures { result ≡ option_and_then (λ name. file_named name files.now)
+        (included_by (views words.now)) }
 {
-    match words {
-        [] => Meaning::Skipped,
-        [name, ..] => {
-            if same_name(head, ATTRIBUTE) {
-                Meaning::SkippedAttribute(name)
-            } else {
-                Meaning::Skipped
-            }
-        }
+    match included(words) {
+        Some(name) => file_named(files, name),
+        None => None,
     }
 }
 
-#[tactic(auto, unfolding(crate::specs::Readings::plain_line))]
-fn plain_line<'a>(
-    alloc: Global,
-    before: &Context<'_>,
-    block: Option<u32>,
-    head: &[u8],
-    words: &[&'a [u8]],
-) -> Result<Meaning<'a>, LineError>
-    ensures { Means result (plain_line (context_view before.now) block head.now (views words.now)) }
+/// What a file of the set holds.
+pub(crate) fn octets_at(files: &[NamedFile], place: usize) -> &[u8]
+    ensures { result.now ≡ octets_at files.now place }
 {
-    if same_name(head, ATTRIBUTE) {
-        read_attribute(alloc, before, block, words)
-    } else if same_name(head, VALUE) {
-        read_value(words)
-    } else if same_name(head, VENDOR) {
-        read_vendor(alloc, &before.vendors, words)
-    } else {
-        Err(LineError::Refused(DictKind::Unreadable))
-    }
-}
-
-// The words of a line after the first.
-#[tactic(auto, unfolding(crate::specs::Readings::read_head))]
-fn read_head<'a>(
-    alloc: Global,
-    before: &Context<'_>,
-    found: Option<usize>,
-    depth: usize,
-    head: &[u8],
-    words: &[&'a [u8]],
-) -> Result<Meaning<'a>, LineError>
-    ensures { Means result (read_head (context_view before.now) found depth head.now
-        (views words.now)) }
-{
-    let opened = before.opened.as_slice();
-    if is_include(head) {
-        include(found, depth, head, words)
-    } else if same_name(head, BEGIN_VENDOR) {
-        begin_vendor(&before.vendors, opened, words)
-    } else if same_name(head, END_VENDOR) {
-        end_vendor(opened, words)
-    } else if same_name(head, BEGIN_TLV) {
-        begin_tlv(words)
-    } else if same_name(head, END_TLV) {
-        end_tlv(opened, words)
-    } else if is_skipping(opened) {
-        Ok(skip_line(head, words))
-    } else {
-        plain_line(alloc, before, block_vendor(opened), head, words)
-    }
-}
-
-/// What the words of a line are read as, by what the lines before it leave.
-#[tactic(auto, unfolding(crate::specs::Readings::read_words))]
-pub(crate) fn read_words<'a>(
-    alloc: Global,
-    before: &Context<'_>,
-    found: Option<usize>,
-    depth: usize,
-    words: &[&'a [u8]],
-) -> Result<Meaning<'a>, LineError>
-    ensures { Means result (read_words (context_view before.now) found depth (views words.now)) }
-{
-    match words {
-        [] => Ok(Meaning::Nothing),
-        [head, rest @ ..] => read_head(alloc, before, found, depth, head, rest),
+    match files.get(place) {
+        Some(file) => file.octets.as_slice(),
+        None => &[],
     }
 }

@@ -1,0 +1,126 @@
+//! A line of a file set.
+
+ghost use Rattle.std.specs.Prelude.{◌≡◌};
+ghost use Rattle.avp_dict.specs.Readings.{plain_line, read_head, read_words, skipped_line, value, value_words};
+ghost use Rattle.avp_dict.specs.internal.Meanings.{context_view, meaning_view};
+ghost use Rattle.avp_dict.specs.internal.Outcomes.{Means};
+ghost use Rattle.avp_dict.specs.internal.Views.{views};
+
+use crate::faults::{DictKind, LineError};
+use crate::file::attributes::read_attribute;
+use crate::file::blocks::{begin_tlv, begin_vendor, end_tlv, end_vendor, include};
+use crate::file::context::{Context, block_vendor, is_skipping};
+use crate::file::gather::is_include;
+use crate::file::keywords::{
+    ATTRIBUTE, BEGIN_TLV, BEGIN_VENDOR, END_TLV, END_VENDOR, VALUE, VENDOR,
+};
+use crate::file::meanings::Meaning;
+use crate::file::numbers::{MAX_VALUE, bounded};
+use crate::file::vendors::read_vendor;
+use crate::file::words::same_name;
+use std::alloc::Global;
+
+fn value_words<'a>(
+    attribute: &'a [u8],
+    name: &'a [u8],
+    number: &[u8],
+) -> Result<Meaning<'a>, LineError>
+    ensures { Means result (value_words attribute.now name.now number.now) }
+{
+    let number = bounded(MAX_VALUE, number)?;
+    Ok(Meaning::Value(attribute, name, number))
+}
+
+#[tactic(auto, unfolding(crate::specs::Readings::value))]
+fn read_value<'a>(words: &[&'a [u8]]) -> Result<Meaning<'a>, LineError>
+    ensures { Means result (value (views words.now)) }
+{
+    match words {
+        [attribute, name, number] => value_words(attribute, name, number),
+        _ => Err(LineError::Refused(DictKind::Unreadable)),
+    }
+}
+
+fn skip_line<'a>(head: &[u8], words: &[&'a [u8]]) -> Meaning<'a>
+    ensures { meaning_view result ≡ skipped_line head.now (views words.now) }
+{
+    match words {
+        [] => Meaning::Skipped,
+        [name, ..] => {
+            if same_name(head, ATTRIBUTE) {
+                Meaning::SkippedAttribute(name)
+            } else {
+                Meaning::Skipped
+            }
+        }
+    }
+}
+
+#[tactic(auto, unfolding(crate::specs::Readings::plain_line))]
+fn plain_line<'a>(
+    alloc: Global,
+    before: &Context<'_>,
+    block: Option<u32>,
+    head: &[u8],
+    words: &[&'a [u8]],
+) -> Result<Meaning<'a>, LineError>
+    ensures { Means result (plain_line (context_view before.now) block head.now (views words.now)) }
+{
+    if same_name(head, ATTRIBUTE) {
+        read_attribute(alloc, before, block, words)
+    } else if same_name(head, VALUE) {
+        read_value(words)
+    } else if same_name(head, VENDOR) {
+        read_vendor(alloc, &before.vendors, words)
+    } else {
+        Err(LineError::Refused(DictKind::Unreadable))
+    }
+}
+
+// The words of a line after the first.
+#[tactic(auto, unfolding(crate::specs::Readings::read_head))]
+fn read_head<'a>(
+    alloc: Global,
+    before: &Context<'_>,
+    found: Option<usize>,
+    depth: usize,
+    head: &[u8],
+    words: &[&'a [u8]],
+) -> Result<Meaning<'a>, LineError>
+    ensures { Means result (read_head (context_view before.now) found depth head.now
+        (views words.now)) }
+{
+    let opened = before.opened.as_slice();
+    if is_include(head) {
+        include(found, depth, head, words)
+    } else if same_name(head, BEGIN_VENDOR) {
+        begin_vendor(&before.vendors, opened, words)
+    } else if same_name(head, END_VENDOR) {
+        end_vendor(opened, words)
+    } else if same_name(head, BEGIN_TLV) {
+        begin_tlv(words)
+    } else if same_name(head, END_TLV) {
+        end_tlv(opened, words)
+    } else if is_skipping(opened) {
+        Ok(skip_line(head, words))
+    } else {
+        plain_line(alloc, before, block_vendor(opened), head, words)
+    }
+}
+
+/// What the words of a line are read as, by what the lines before it leave.
+#[tactic(auto, unfolding(crate::specs::Readings::read_words))]
+pub(crate) fn read_words<'a>(
+    alloc: Global,
+    before: &Context<'_>,
+    found: Option<usize>,
+    depth: usize,
+    words: &[&'a [u8]],
+) -> Result<Meaning<'a>, LineError>
+    ensures { Means result (read_words (context_view before.now) found depth (views words.now)) }
+{
+    match words {
+        [] => Ok(Meaning::Nothing),
+        [head, rest @ ..] => read_head(alloc, before, found, depth, head, rest),
+    }
+}
