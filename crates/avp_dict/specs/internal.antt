@@ -1,7 +1,7 @@
 pub mod Contents
 pub mod Entries
-pub mod Gathered
 pub mod LineReading
+pub mod LineViews
 pub mod Meanings
 pub mod Numbers
 pub mod Outcomes

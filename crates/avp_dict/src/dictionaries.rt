@@ -16,10 +16,9 @@ use crate::entries::{Counts, Entry, Format, Named, Note, Typing, VendorFormat};
 use crate::faults::DictFault;
 use crate::file::attributes::begins_as_attr;
 use crate::file::files::{FileSet, NamedFile};
-use crate::file::gather::MAX_LINES;
+use crate::file::lines::MAX_LINES;
 use crate::file::reader::{ReadLines, read_set};
-use crate::file::settling::is_in_format;
-use crate::file::values::settle;
+use crate::file::settling::{is_in_format, settle};
 use crate::names::id_by_numbers;
 use avp_lists::AttrId;
 use std::alloc::Global;
@@ -126,15 +125,11 @@ impl Dictionary {
         ensures { result ≡ named name.now self.now }
     {
         if begins_as_attr(name) {
-            match id_by_numbers(&self.contents.vendors, &name[5..]) {
-                Some(id) => Some(Named { id, raw: true }),
-                None => None,
-            }
+            let id = id_by_numbers(&self.contents.vendors, &name[5..])?;
+            Some(Named { id, raw: true })
         } else {
-            match self.contents.attributes.id_named(name) {
-                Some(id) => Some(Named { id, raw: false }),
-                None => None,
-            }
+            let id = self.contents.attributes.id_named(name)?;
+            Some(Named { id, raw: false })
         }
     }
 
@@ -171,10 +166,8 @@ impl Dictionary {
     pub fn vendor(&self, number: u32) -> Option<Format>
         ensures { result ≡ vendor_format number self.now }
     {
-        match self.contents.vendors.format_of(number) {
-            Some(format) => unless_three(format),
-            None => None,
-        }
+        let format = self.contents.vendors.format_of(number)?;
+        unless_three(format)
     }
 
     /// Where the skipped lines are, in their order.

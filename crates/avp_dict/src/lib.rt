@@ -22,7 +22,7 @@ pub use dictionaries::Dictionary;
 pub use entries::{Counts, Entry, Format, Kind, Named, Note};
 pub use faults::{DictFault, DictKind};
 pub use file::files::{FileSet, NamedFile, last_component};
-pub use file::gather::MAX_LINES;
+pub use file::lines::MAX_LINES;
 pub use file::words::words_between_blanks;
 pub use request::faults::{LineFault, LineKind};
 pub use request::lines::next_line;

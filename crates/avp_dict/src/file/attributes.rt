@@ -102,24 +102,12 @@ pub(crate) fn extended_id(least: u64, t: u64, x: u64) -> Option<AttrId>
 fn id_of_dotted(block: Option<u32>, t: Number, x: Number) -> Result<Option<AttrId>, LineError>
     ensures { (m n : Option ℕ) → Reads t m → Reads x n → Gives result (id_of_dotted block m n) }
 {
-    match t {
-        Number::Unreadable => Err(LineError::Refused(DictKind::Unreadable)),
-        Number::TooGreat => match x {
-            Number::Unreadable => Err(LineError::Refused(DictKind::Unreadable)),
-            Number::TooGreat => Ok(None),
-            Number::Is(_) => Ok(None),
-        },
-        Number::Is(t) => match x {
-            Number::Unreadable => Err(LineError::Refused(DictKind::Unreadable)),
-            Number::TooGreat => Ok(None),
-            Number::Is(x) => {
-                if block.is_none() {
-                    Ok(extended_id(1, t, x))
-                } else {
-                    Ok(None)
-                }
-            }
-        },
+    match (t, x) {
+        (Number::Unreadable, _) | (_, Number::Unreadable) => {
+            Err(LineError::Refused(DictKind::Unreadable))
+        }
+        (Number::Is(t), Number::Is(x)) if block.is_none() => Ok(extended_id(1, t, x)),
+        _ => Ok(None),
     }
 }
 
@@ -129,7 +117,7 @@ fn is_number(word: &[u8]) -> bool
     number_of(word).is_read()
 }
 
-fn are_readable(parts: &[&[u8]]) -> bool
+fn are_numbers(parts: &[&[u8]]) -> bool
     ensures { result ≡ list_all is_number (views parts.now) }
 {
     let mut rest = parts;
@@ -145,7 +133,7 @@ fn are_readable(parts: &[&[u8]]) -> bool
 fn id_of_more(parts: &[&[u8]]) -> Result<Option<AttrId>, LineError>
     ensures { Gives result (id_of_more (views parts.now)) }
 {
-    if are_readable(parts) {
+    if are_numbers(parts) {
         Ok(None)
     } else {
         Err(LineError::Refused(DictKind::Unreadable))

@@ -104,8 +104,6 @@ fn opened_vendor(reading: Reading<'_>) -> Option<u32>
 pub(crate) fn block_vendor(opened: &[Reading<'_>]) -> Option<u32>
     ensures { result ≡ block_vendor (reading_views opened.now) }
 {
-    match innermost(opened) {
-        Some(reading) => opened_vendor(reading),
-        None => None,
-    }
+    let reading = innermost(opened)?;
+    opened_vendor(reading)
 }

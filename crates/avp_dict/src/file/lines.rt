@@ -70,10 +70,8 @@ pub(crate) fn place_included(files: &[NamedFile], words: &[&[u8]]) -> Option<usi
     ensures { result ≡ option_and_then (λ name. file_named name files.now)
         (included_by (views words.now)) }
 {
-    match included(words) {
-        Some(name) => file_named(files, name),
-        None => None,
-    }
+    let name = included(words)?;
+    file_named(files, name)
 }
 
 /// What a file of the set holds.

@@ -20,10 +20,8 @@ pub(crate) fn first_between(separator: u8, text: &[u8]) -> Option<(&[u8], &[u8])
     ensures shorter { IfSome result (λ x. length x.1.now < length text.now) }
     ensures whole { IfNone result (slice_split (λ o. o == separator) text.now ≡ text.now ∷ []) }
 {
-    match separator_at(separator, text) {
-        Some(end) => Some((&text[..end], &text[end + 1..])),
-        None => None,
-    }
+    let end = separator_at(separator, text)?;
+    Some((&text[..end], &text[end + 1..]))
 }
 
 /// The parts of a word between separators.

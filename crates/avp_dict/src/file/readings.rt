@@ -10,10 +10,10 @@ use crate::faults::{DictKind, LineError};
 use crate::file::attributes::read_attribute;
 use crate::file::blocks::{begin_tlv, begin_vendor, end_tlv, end_vendor, include};
 use crate::file::context::{Context, block_vendor, is_skipping};
-use crate::file::gather::is_include;
 use crate::file::keywords::{
     ATTRIBUTE, BEGIN_TLV, BEGIN_VENDOR, END_TLV, END_VENDOR, VALUE, VENDOR,
 };
+use crate::file::lines::is_include;
 use crate::file::meanings::Meaning;
 use crate::file::numbers::{MAX_VALUE, bounded};
 use crate::file::vendors::read_vendor;

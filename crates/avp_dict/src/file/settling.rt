@@ -1,13 +1,25 @@
-//! Which ATTRIBUTE lines are used, by the vendors' last formats.
+//! What lines define after the last of them: which ATTRIBUTE lines are used, by the vendors' last formats, and the
+//! dictionary.
 
-ghost use Rattle.std.specs.Prelude.{◌≡◌, ◌≤◌, [], IfOk, OnOk, IsTrue};
+ghost use Rattle.std.specs.Prelude.{◌≡◌, ◌≤◌, [], Ok, IfErr, IfOk, OnOk, IsTrue};
 ghost use Rattle.std.specs.List.{list_all};
-ghost use Rattle.avp_dict.specs.Settled.{holds, is_in_format, is_kept, is_kept_line, used};
+ghost use Rattle.std.specs.Option.{option_copied};
+ghost use Rattle.avp_dict.specs.DictionaryReading.{settled_dictionary};
+ghost use Rattle.avp_dict.specs.Meanings.{context_of};
+ghost use Rattle.avp_dict.specs.Outcomes.{Answers, Refuses};
+ghost use Rattle.avp_dict.specs.Settled.{holds, is_in_format, is_kept, is_kept_line, skipped_names, used};
+ghost use Rattle.avp_dict.specs.Values.{resolve};
+ghost use Rattle.avp_dict.specs.internal.Contents.{contents_view};
+ghost use Rattle.avp_dict.specs.internal.Meanings.{context_view, meaning_view, name_if, reading_views, skipped_name_of};
 
+use crate::contents::Contents;
 use crate::entries::{AttributeLine, VendorFormat};
+use crate::faults::DictFault;
 use crate::file::attributes::is_held;
+use crate::file::context::Context;
+use crate::file::meanings::{Meaning, Reading};
 use crate::file::numbers::MAX_NUMBER;
-use crate::tables::{Attributes, Vendors};
+use crate::tables::{Attributes, NameSet, Values, Vendors};
 use avp_lists::AttrId;
 use std::alloc::{AllocError, Global};
 
@@ -83,4 +95,84 @@ pub(crate) fn used(
     let mut kept = Attributes::new(alloc);
     only_kept(alloc, vendors, &attributes, &mut kept)?;
     Ok(kept)
+}
+
+// The name on a skipped ATTRIBUTE line.
+fn skipped_name<'a>(vendors: &Vendors, meaning: Meaning<'a>) -> Option<&'a [u8]>
+    ensures { name_if (option_copied result)
+        ≡ skipped_name_of vendors.now (meaning_view meaning.entry) }
+{
+    match meaning {
+        Meaning::SkippedAttribute(name) => Some(name),
+        Meaning::Attribute(name, id, _) => {
+            if is_kept(vendors, id) {
+                None
+            } else {
+                Some(name)
+            }
+        }
+        _ => None,
+    }
+}
+
+// The names on the skipped ATTRIBUTE lines.
+#[tactic(auto, unfolding(crate::specs::Settled::skipped_names))]
+fn add_skipped<'a>(
+    alloc: Global,
+    vendors: &Vendors,
+    readings: &[Reading<'a>],
+    skipped: &mut NameSet<'a>,
+) -> Result<(), AllocError>
+    requires { skipped.old ≡ [] }
+    ensures { OnOk result (skipped.new ≡ skipped_names vendors.now (reading_views readings.now)) }
+{
+    for reading in readings {
+        if let Some(name) = skipped_name(vendors, reading.meaning) {
+            skipped.push(alloc, name)?;
+        }
+    }
+    Ok(())
+}
+
+fn add_all(
+    alloc: Global,
+    readings: &[Reading<'_>],
+    contents: &mut Contents,
+) -> Result<(), DictFault>
+    ensures ok { OnOk result (resolve (skipped_names contents.old.vendors
+        (reading_views readings.now)) (contents_view contents.old) (reading_views readings.now)
+        ≡ Ok (contents_view contents.new)) }
+    ensures refused { IfErr result (λ fault.
+        Refuses fault (resolve (skipped_names contents.old.vendors (reading_views readings.now))
+        (contents_view contents.old) (reading_views readings.now))) }
+{
+    let mut skipped = NameSet::new(alloc);
+    add_skipped(alloc, &contents.vendors, readings, &mut skipped)?;
+    contents.add_lines(alloc, &skipped, readings)
+}
+
+/// The dictionary of lines that were read.
+#[tactic(auto, unfolding(crate::specs::DictionaryReading::settled_dictionary))]
+pub(crate) fn settle(
+    alloc: Global,
+    readings: &[Reading<'_>],
+    context: Context<'_>,
+) -> Result<Contents, DictFault>
+    requires { context_view context ≡ context_of (reading_views readings.now) }
+    ensures { Answers contents_view result (settled_dictionary (reading_views readings.now)) }
+{
+    let Context {
+        attributes,
+        vendors,
+        opened: _,
+    } = context;
+    let attributes = used(alloc, &vendors, attributes)?;
+    let mut contents = Contents {
+        attributes,
+        values: Values::new(alloc),
+        vendors,
+        notes: Vec::new(alloc),
+    };
+    add_all(alloc, readings, &mut contents)?;
+    Ok(contents)
 }

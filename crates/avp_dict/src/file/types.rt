@@ -56,7 +56,7 @@ fn is_hiding(flag: &[u8]) -> bool
     same_name(flag, ENCRYPT_1)
 }
 
-fn any_makes_octets(flags: &[&[u8]]) -> bool
+fn any_is_opaque(flags: &[&[u8]]) -> bool
     ensures { result ≡ list_any is_opaque (views flags.now) }
 {
     let mut rest = flags;
@@ -69,7 +69,7 @@ fn any_makes_octets(flags: &[&[u8]]) -> bool
     false
 }
 
-fn any_hides(flags: &[&[u8]]) -> bool
+fn any_is_hiding(flags: &[&[u8]]) -> bool
     ensures { result ≡ list_any is_hiding (views flags.now) }
 {
     let mut rest = flags;
@@ -188,8 +188,8 @@ pub(crate) fn typing_of(id: AttrId, kind: &[u8], flags: &[&[u8]]) -> Typing
     } else {
         typing_by(
             kind_word(word_before_bracket(kind)),
-            any_makes_octets(flags),
-            any_hides(flags),
+            any_is_opaque(flags),
+            any_is_hiding(flags),
         )
     }
 }

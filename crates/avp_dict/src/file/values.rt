@@ -1,27 +1,23 @@
 //! VALUE lines and notes, after the last line.
 
-ghost use Rattle.std.specs.Prelude.{◌≡◌, [], Ok, ◌≤◌, length, OnOk, IfErr, IfOk, IfSome, IsTrue};
-ghost use Rattle.std.specs.Option.{option_and_then, option_copied};
+ghost use Rattle.std.specs.Prelude.{◌≡◌, Ok, ◌≤◌, length, OnOk, IfErr, IfOk, IfSome, IsTrue};
+ghost use Rattle.std.specs.Option.{option_and_then};
 ghost use Rattle.std.specs.List.{list_all};
-ghost use Rattle.avp_dict.specs.DictionaryReading.{settled_dictionary};
 ghost use Rattle.avp_dict.specs.Letters.{is_value_name_octet, max_name};
-ghost use Rattle.avp_dict.specs.Meanings.{context_of};
-ghost use Rattle.avp_dict.specs.Outcomes.{Answers, Refuses};
-ghost use Rattle.avp_dict.specs.Settled.{skipped_names};
+ghost use Rattle.avp_dict.specs.Outcomes.{Refuses};
 ghost use Rattle.avp_dict.specs.Values.{is_noted, is_of_other_number, is_value_name, max_of, max_of_typing, reads_as_number, resolve, value_of, value_up_to, with_line, with_note, with_value};
 ghost use Rattle.avp_dict.specs.Dictionary.{typing_of_id};
 ghost use Rattle.avp_dict.specs.internal.Contents.{contents_view};
-ghost use Rattle.avp_dict.specs.internal.Meanings.{context_view, meaning_view, name_if, reading_view, reading_views, skipped_name_of};
+ghost use Rattle.avp_dict.specs.internal.Meanings.{meaning_view, reading_view, reading_views};
 ghost use Rattle.avp_dict.specs.internal.Outcomes.{Gives};
 
 use crate::contents::Contents;
 use crate::entries::{Kind, Note, ValueLine};
 use crate::faults::{DictFault, DictKind, LineError};
 use crate::file::attributes::is_name_octet;
-use crate::file::context::Context;
 use crate::file::meanings::{Meaning, Reading};
 use crate::file::numbers::digits;
-use crate::file::settling::{is_kept, used};
+use crate::file::settling::is_kept;
 use crate::file::words::MAX_NAME;
 use crate::tables::{Attributes, NameSet, Values, Vendors};
 use avp_lists::{AttrId, Octets};
@@ -33,7 +29,7 @@ fn is_value_name_octet(octet: u8) -> bool
     is_name_octet(octet) || octet == b':' || octet == b'@'
 }
 
-fn are_octets_of_word(name: &[u8]) -> bool
+fn are_octets_of_value_name(name: &[u8]) -> bool
     ensures { result ≡ list_all is_value_name_octet name.now }
 {
     name.iter().all(|octet| is_value_name_octet(*octet))
@@ -54,7 +50,7 @@ fn is_value_name(name: &[u8]) -> bool
     ensures test { result ≡ is_value_name name.now }
     ensures short { IsTrue result → length name.now ≤ max_name }
 {
-    are_octets_of_word(name) && name.len() <= MAX_NAME && !reads_as_number(name)
+    are_octets_of_value_name(name) && name.len() <= MAX_NAME && !reads_as_number(name)
 }
 
 pub(crate) fn max_of(kind: Kind) -> Option<u64>
@@ -72,10 +68,8 @@ pub(crate) fn max_of(kind: Kind) -> Option<u64>
 fn max_of_id(attributes: &Attributes, id: AttrId) -> Option<u64>
     ensures { result ≡ option_and_then max_of_typing (typing_of_id id attributes.now) }
 {
-    match attributes.typing_of_id(id) {
-        Some(typing) => max_of(typing.kind),
-        None => None,
-    }
+    let typing = attributes.typing_of_id(id)?;
+    max_of(typing.kind)
 }
 
 fn is_of_other_number(number: u64, found: Option<u64>) -> bool
@@ -215,8 +209,8 @@ impl Contents {
         Ok(())
     }
 
-    // What the lines add, one after the other.
-    fn add_lines(
+    /// What the lines add, one after the other.
+    pub(crate) fn add_lines(
         &mut self,
         alloc: Global,
         skipped: &NameSet<'_>,
@@ -233,84 +227,4 @@ impl Contents {
         }
         Ok(())
     }
-}
-
-// The name on a skipped ATTRIBUTE line.
-fn skipped_name<'a>(vendors: &Vendors, meaning: Meaning<'a>) -> Option<&'a [u8]>
-    ensures { name_if (option_copied result)
-        ≡ skipped_name_of vendors.now (meaning_view meaning.entry) }
-{
-    match meaning {
-        Meaning::SkippedAttribute(name) => Some(name),
-        Meaning::Attribute(name, id, _) => {
-            if is_kept(vendors, id) {
-                None
-            } else {
-                Some(name)
-            }
-        }
-        _ => None,
-    }
-}
-
-// The names on the skipped ATTRIBUTE lines.
-#[tactic(auto, unfolding(crate::specs::Settled::skipped_names))]
-fn add_skipped<'a>(
-    alloc: Global,
-    vendors: &Vendors,
-    readings: &[Reading<'a>],
-    skipped: &mut NameSet<'a>,
-) -> Result<(), AllocError>
-    requires { skipped.old ≡ [] }
-    ensures { OnOk result (skipped.new ≡ skipped_names vendors.now (reading_views readings.now)) }
-{
-    for reading in readings {
-        if let Some(name) = skipped_name(vendors, reading.meaning) {
-            skipped.push(alloc, name)?;
-        }
-    }
-    Ok(())
-}
-
-fn add_all(
-    alloc: Global,
-    readings: &[Reading<'_>],
-    contents: &mut Contents,
-) -> Result<(), DictFault>
-    ensures ok { OnOk result (resolve (skipped_names contents.old.vendors
-        (reading_views readings.now)) (contents_view contents.old) (reading_views readings.now)
-        ≡ Ok (contents_view contents.new)) }
-    ensures refused { IfErr result (λ fault.
-        Refuses fault (resolve (skipped_names contents.old.vendors (reading_views readings.now))
-        (contents_view contents.old) (reading_views readings.now))) }
-{
-    let mut skipped = NameSet::new(alloc);
-    add_skipped(alloc, &contents.vendors, readings, &mut skipped)?;
-    contents.add_lines(alloc, &skipped, readings)
-}
-
-/// The dictionary of lines that were read.
-#[tactic(auto, unfolding(crate::specs::DictionaryReading::settled_dictionary))]
-pub(crate) fn settle(
-    alloc: Global,
-    readings: &[Reading<'_>],
-    context: Context<'_>,
-) -> Result<Contents, DictFault>
-    requires { context_view context ≡ context_of (reading_views readings.now) }
-    ensures { Answers contents_view result (settled_dictionary (reading_views readings.now)) }
-{
-    let Context {
-        attributes,
-        vendors,
-        opened: _,
-    } = context;
-    let attributes = used(alloc, &vendors, attributes)?;
-    let mut contents = Contents {
-        attributes,
-        values: Values::new(alloc),
-        vendors,
-        notes: Vec::new(alloc),
-    };
-    add_all(alloc, readings, &mut contents)?;
-    Ok(contents)
 }

@@ -131,10 +131,10 @@ fn format_after_key(alloc: Global, rest: &[u8]) -> Result<Option<VendorFormat>, 
 fn format_word(alloc: Global, word: &[u8]) -> Result<Option<VendorFormat>, AllocError>
     ensures { IfOk result (λ format. format ≡ format_word word.now) }
 {
-    if word.len() < 7 {
+    if word.len() < FORMAT_KEY.len() {
         return Ok(None);
     }
-    let (key, rest) = word.split_at(7);
+    let (key, rest) = word.split_at(FORMAT_KEY.len());
     if !same_name(key, FORMAT_KEY) {
         return Ok(None);
     }

@@ -39,10 +39,8 @@ fn first_part(text: &[u8]) -> Option<(&[u8], &[u8])>
     ensures shorter { IfSome result (λ x. length x.1.now < length text.now) }
     ensures whole { IfNone result (slice_split is_blank text.now ≡ text.now ∷ []) }
 {
-    match blank_at(text) {
-        Some(end) => Some((&text[..end], &text[end + 1..])),
-        None => None,
-    }
+    let end = blank_at(text)?;
+    Some((&text[..end], &text[end + 1..]))
 }
 
 // Adds a part, if it is a word.

@@ -14,7 +14,7 @@ ghost use Rattle.avp_dict.specs.internal.RequestTokens.{side_after, token_view};
 
 use crate::dictionaries::Dictionary;
 use crate::entries::Named;
-use crate::file::gather::split_line;
+use crate::file::lines::split_line;
 use crate::file::words::without_comment;
 use crate::request::faults::{LineFault, LineKind};
 use crate::request::tokens::{Side, Token, is_blank, next_token};

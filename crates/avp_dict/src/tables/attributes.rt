@@ -53,10 +53,8 @@ impl KeyedLines<AttributeLine> {
     pub fn id_named(&self, name: &[u8]) -> Option<AttrId>
         ensures { result ≡ id_named name.now self.now }
     {
-        match self.by_name(name) {
-            Some(line) => Some(line.id),
-            None => None,
-        }
+        let line = self.by_name(name)?;
+        Some(line.id)
     }
 
     /// How the values of an id are read.
@@ -64,10 +62,8 @@ impl KeyedLines<AttributeLine> {
     pub fn typing_of_id(&self, id: AttrId) -> Option<Typing>
         ensures { result ≡ typing_of_id id self.now }
     {
-        match self.by_id(id) {
-            Some(line) => Some(line.typing),
-            None => None,
-        }
+        let line = self.by_id(id)?;
+        Some(line.typing)
     }
 
     /// A name in lower case, by its place among the names in the order of their first lines.
@@ -75,9 +71,7 @@ impl KeyedLines<AttributeLine> {
     pub fn name(&self, at: usize) -> Option<&[u8]>
         ensures { option_copied result ≡ slice_get (first_names self.now) at }
     {
-        match self.name_at(at) {
-            Some(name) => Some(name.as_slice()),
-            None => None,
-        }
+        let name = self.name_at(at)?;
+        Some(name.as_slice())
     }
 }

@@ -34,10 +34,8 @@ impl<K: Eq + Hash> Model for Places<K> {
 fn line_at<T>(lines: &[T], place: Option<usize>) -> Option<&T>
     ensures { option_copied result ≡ option_and_then (slice_get lines.now) place }
 {
-    match place {
-        Some(place) => lines.get(place),
-        None => None,
-    }
+    let place = place?;
+    lines.get(place)
 }
 
 impl<K: Eq + Hash> Places<K> {

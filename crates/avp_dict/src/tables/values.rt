@@ -55,10 +55,8 @@ impl KeyedLines<ValueLine> {
     pub fn number_named(&self, id: AttrId, name: &[u8]) -> Option<u64>
         ensures { result ≡ number_named id name.now self.now }
     {
-        match self.by_name(id, name) {
-            Some(line) => Some(line.number),
-            None => None,
-        }
+        let line = self.by_name(id, name)?;
+        Some(line.number)
     }
 
     /// The printed name of a number: the last one.
@@ -66,9 +64,7 @@ impl KeyedLines<ValueLine> {
     pub fn name_numbered(&self, id: AttrId, number: u64) -> Option<&[u8]>
         ensures { option_copied result ≡ name_numbered id number self.now }
     {
-        match self.by_number(id, number) {
-            Some(line) => Some(line.name.as_slice()),
-            None => None,
-        }
+        let line = self.by_number(id, number)?;
+        Some(line.name.as_slice())
     }
 }

@@ -51,10 +51,8 @@ impl KeyedLines<VendorLine> {
     pub fn vendor_named(&self, name: &[u8]) -> Option<u32>
         ensures { result ≡ vendor_named name.now self.now }
     {
-        match self.by_name(name) {
-            Some(line) => Some(line.number),
-            None => None,
-        }
+        let line = self.by_name(name)?;
+        Some(line.number)
     }
 
     /// The format of a vendor: that of its last line.
@@ -62,9 +60,7 @@ impl KeyedLines<VendorLine> {
     pub fn format_of(&self, number: u32) -> Option<VendorFormat>
         ensures { result ≡ format_of number self.now }
     {
-        match self.by_number(number) {
-            Some(line) => Some(line.format),
-            None => None,
-        }
+        let line = self.by_number(number)?;
+        Some(line.format)
     }
 }

@@ -93,7 +93,7 @@ fn count_of_octets(kind: Option<Kind>, value: &Value) -> usize
 
 // Whether a value's last octet is NUL.
 #[tactic(auto, using(crate::proofs::NumberOctets::number_ends_in_nul))]
-fn ends_with_nul(kind: Option<Kind>, value: &Value) -> bool
+fn value_ends_in_nul(kind: Option<Kind>, value: &Value) -> bool
     ensures { result ≡ ends_in_nul (octets_of kind value.now) }
 {
     match value {
@@ -182,7 +182,7 @@ impl Dictionary {
     {
         let kind = self.kind(id);
         count_of_octets(kind, value) <= self.greatest_length(id)
-            && !(self.is_hidden(id) && ends_with_nul(kind, value))
+            && !(self.is_hidden(id) && value_ends_in_nul(kind, value))
     }
 
     /// Whether a value is as long as its id allows.

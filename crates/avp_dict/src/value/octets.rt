@@ -171,10 +171,8 @@ impl Dictionary {
     pub(crate) fn kind(&self, id: AttrId) -> Option<Kind>
         ensures { result ≡ kind_of id self.now }
     {
-        match self.by_id(id) {
-            Some(entry) => Some(entry.kind),
-            None => None,
-        }
+        let entry = self.by_id(id)?;
+        Some(entry.kind)
     }
 
     /// Whether an id's values are hidden.

@@ -1,6 +1,6 @@
 //! Texts of values.
 
-ghost use Rattle.std.specs.Prelude.{◌≡◌, ◌+◌, ◌∷◌, [], IfOk, ℕ, Option, Result, Ok, Err, pos};
+ghost use Rattle.std.specs.Prelude.{◌≡◌, ◌+◌, ◌∷◌, [], IfOk, ℕ, Option, pos};
 ghost use Rattle.std.specs.Option.{option_map};
 ghost use Rattle.avp_dict.specs.AttributeNumbers.{greatest_signed};
 ghost use Rattle.avp_dict.specs.Sent.{is_container};
@@ -76,19 +76,15 @@ impl Number {
 fn positive(text: &[u8]) -> Option<i32>
     ensures { result ≡ option_map pos (up_to greatest_signed (digits 10 text.now)) }
 {
-    match digits(10, text).up_to(i32::MAX as u64) {
-        Some(number) => Some(number as i32),
-        None => None,
-    }
+    let number = digits(10, text).up_to(i32::MAX as u64)?;
+    Some(number as i32)
 }
 
 fn negative(text: &[u8]) -> Option<i32>
     ensures { result ≡ option_map negated (up_to (greatest_signed + 1) (digits 10 text.now)) }
 {
-    match digits(10, text).up_to(i32::MAX as u64 + 1) {
-        Some(number) => Some(-(number as i64) as i32),
-        None => None,
-    }
+    let number = digits(10, text).up_to(i32::MAX as u64 + 1)?;
+    Some(-(number as i64) as i32)
 }
 
 #[tactic(auto, unfolding(crate::specs::Spellings::signed_spelled))]
@@ -108,10 +104,8 @@ fn decimal_octet(part: &[u8]) -> Option<u8>
     if part.len() > 3 {
         return None;
     }
-    match digits(10, part).up_to(255) {
-        Some(number) => Some(number as u8),
-        None => None,
-    }
+    let number = digits(10, part).up_to(255)?;
+    Some(number as u8)
 }
 
 #[tactic(auto, using(crate::proofs::Misspellings::two_digits), unfolding(crate::specs::Spellings::digit_pair))]
@@ -121,10 +115,8 @@ fn digit_pair(part: &[u8]) -> Option<u8>
     if part.len() != 2 {
         return None;
     }
-    match digits(16, part).up_to(255) {
-        Some(number) => Some(number as u8),
-        None => None,
-    }
+    let number = digits(16, part).up_to(255)?;
+    Some(number as u8)
 }
 
 #[tactic(auto, unfolding(crate::specs::Spellings::each_number))]
@@ -198,10 +190,8 @@ impl Dictionary {
     fn number_value(&self, most: u64, id: AttrId, text: &[u8]) -> Option<Value>
         ensures { result ≡ option_map Value.Int (number_spelled most id text.now self.now) }
     {
-        match self.number_spelled(most, id, text) {
-            Some(number) => Some(Value::Int(number)),
-            None => None,
-        }
+        let number = self.number_spelled(most, id, text)?;
+        Some(Value::Int(number))
     }
 
     fn spelled_by(

@@ -1,7 +1,7 @@
 use Rattle.std.proofs.lemmas.Result.{err_from_is_err_and}
 use Rattle.avp_dict.specs.internal.Meanings.{context_view, reading_views}
 use Rattle.avp_dict.proofs.Passes.{settled_by}
-use Rattle.avp_dict.proofs.file.values.settle.Goals as goal
+use Rattle.avp_dict.proofs.file.settling.settle.Goals as goal
 
 pub returns-in_err-add_all : goal.returns-in_err-add_all
 returns-in_err-add_all c =

@@ -1,6 +1,6 @@
 use Rattle.std.proofs.Common.{◌≡◌, length}
 use Rattle.std.specs.List.{list_any}
-use Rattle.avp_dict.proofs.file.types.any_hides.Given as goal
+use Rattle.avp_dict.proofs.file.types.any_is_hiding.Given as goal
 use Rattle.avp_dict.specs.Types.{is_hiding}
 use Rattle.avp_dict.specs.internal.Views.{views}
 

@@ -1,6 +1,6 @@
 use Rattle.std.proofs.Common.{◌≡◌, length}
 use Rattle.std.specs.List.{list_any}
-use Rattle.avp_dict.proofs.file.types.any_makes_octets.Given as goal
+use Rattle.avp_dict.proofs.file.types.any_is_opaque.Given as goal
 use Rattle.avp_dict.specs.Types.{is_opaque}
 use Rattle.avp_dict.specs.internal.Views.{views}
 

@@ -1,5 +1,5 @@
 use Rattle.std.proofs.Common.{◌≡◌, ◌+◌, ◌-◌, ◌≤◌, ◌++◌, List, length}
-use Rattle.avp_dict.specs.declared.file.gather.TheConstants.{MAX_LEVELS}
+use Rattle.avp_dict.specs.declared.file.lines.TheConstants.{MAX_LEVELS}
 use Rattle.avp_dict.specs.Lines.{Line, expanded, lines_below, lines_in, texts_of}
 use Rattle.avp_dict.specs.Meanings.{context_of}
 use Rattle.avp_dict.specs.Readings.{read_lines}

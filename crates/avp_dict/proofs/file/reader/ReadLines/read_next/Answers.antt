@@ -2,7 +2,7 @@ use Rattle.std.proofs.Common.{◌∙◌, sym, ap, subst}
 use Rattle.std.proofs.lemmas.List.{map_push}
 use Rattle.avp_dict.specs.Meanings.{context_of}
 use Rattle.avp_dict.specs.Readings.{read_line, read_lines, within}
-use Rattle.avp_dict.specs.internal.Gathered.{line_view}
+use Rattle.avp_dict.specs.internal.LineViews.{line_view}
 use Rattle.avp_dict.specs.internal.Meanings.{context_view, meaning_view, reading_view, reading_views}
 use Rattle.avp_dict.specs.internal.Outcomes.{Fails}
 use Rattle.avp_dict.proofs.LinesRead.{context_after, read_lines_fails, read_lines_ok, read_within, refused_by}
