@@ -11,7 +11,7 @@ use Rattle.avp_lists.specs.declared.pairs.Value.TheVariants as values
 use Rattle.avp_dict.specs.declared.entries.Named.{Named}
 use Rattle.avp_dict.specs.declared.entries.Kind.{Kind}
 use Rattle.avp_dict.specs.declared.entries.Kind.TheVariants as kinds
-use Rattle.avp_dict.specs.AttributeNumbers.{greatest_number, greatest_signed, greatest_value}
+use Rattle.avp_dict.specs.AttributeNumbers.{greatest_number, greatest_signed}
 use Rattle.avp_dict.specs.Dictionary.{Dictionary, number_named, typing_of_id}
 use Rattle.avp_dict.specs.declared.entries.Typing.{Typing}
 use Rattle.avp_dict.specs.declared.value.faults.ValueFault.{ValueFault}
@@ -20,6 +20,7 @@ use Rattle.avp_dict.specs.Letters.{is_dot}
 use Rattle.avp_dict.specs.Limits.{is_within}
 use Rattle.avp_dict.specs.Octets.{is_hidden, value_of_octets}
 use Rattle.avp_dict.specs.Sent.{is_container}
+use Rattle.avp_dict.specs.Values.{max_of}
 use Rattle.avp_dict.specs.Words.{digits, is_hexadecimal, number_of}
 
 -- ---- octets
@@ -92,6 +93,10 @@ ether_spelled text = in_parts 6 digit_pair (slice_split is_colon text)
 
 -- ---- values
 
+-- a number up to the greatest of its type, or the number that a VALUE name stands for
+abbrev pub number_up_to : AttrId → List ℕ → Dictionary → ℕ → Option Value
+number_up_to id text dictionary most = option_map Int (number_spelled most id text dictionary)
+
 -- a text under a name of an ATTRIBUTE line, by the type; by_text says whether a text without `0x` is taken as its own
 -- octets, where the type is octets
 abbrev pub spelled_as : Kind → Bool → AttrId → List ℕ → Dictionary → Option Value
@@ -100,17 +105,11 @@ spelled_as kinds.Bytes by_text id text dictionary =
     option_map values.Bytes (bytes_spelled by_text text)
 spelled_as kinds.Addr by_text id text dictionary = option_map Addr (address_spelled text)
 spelled_as kinds.Ether by_text id text dictionary = option_map Ether (ether_spelled text)
-spelled_as kinds.Byte by_text id text dictionary =
-    option_map Int (number_spelled 255 id text dictionary)
-spelled_as kinds.Short by_text id text dictionary =
-    option_map Int (number_spelled 65535 id text dictionary)
-spelled_as kinds.Integer by_text id text dictionary =
-    option_map Int (number_spelled greatest_number id text dictionary)
-spelled_as kinds.Integer64 by_text id text dictionary =
-    option_map Int (number_spelled greatest_value id text dictionary)
 spelled_as kinds.Date by_text id text dictionary =
     option_map Int (up_to greatest_number (number_of text))
 spelled_as kinds.Signed by_text id text dictionary = option_map Signed (signed_spelled text)
+spelled_as kind by_text id text dictionary =
+    option_and_then (number_up_to id text dictionary) (max_of kind)
 
 abbrev pub spelled_by : AttrId → List ℕ → Dictionary → Typing → Option Value
 spelled_by id text dictionary typing = spelled_as typing.kind typing.by_text id text dictionary

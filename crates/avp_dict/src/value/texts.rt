@@ -1,10 +1,11 @@
 //! Texts of values.
 
 ghost use Rattle.std.specs.Prelude.{◌≡◌, ◌+◌, ◌∷◌, [], IfOk, ℕ, Option, pos};
-ghost use Rattle.std.specs.Option.{option_map};
+ghost use Rattle.std.specs.Option.{option_and_then, option_map};
 ghost use Rattle.avp_dict.specs.AttributeNumbers.{greatest_signed};
 ghost use Rattle.avp_dict.specs.Sent.{is_container};
-ghost use Rattle.avp_dict.specs.Spellings.{address_spelled, bytes_spelled, decimal_octet, digit_pair, each_number, ether_spelled, is_barred, AnswersValue, negated, number_spelled, octets_spelled, signed_spelled, spelled, spelled_by, up_to, value_spelled};
+ghost use Rattle.avp_dict.specs.Spellings.{address_spelled, bytes_spelled, decimal_octet, digit_pair, each_number, ether_spelled, is_barred, AnswersValue, negated, number_spelled, number_up_to, octets_spelled, signed_spelled, spelled, spelled_by, up_to, value_spelled};
+ghost use Rattle.avp_dict.specs.Values.{max_of};
 ghost use Rattle.avp_dict.specs.Words.{digits};
 ghost use Rattle.avp_dict.specs.internal.Numbers.{Reads};
 
@@ -13,6 +14,7 @@ use crate::dictionaries::Dictionary;
 use crate::entries::{Kind, Named, Typing};
 use crate::file::numbers::{Number, digits, number_of};
 use crate::file::parts::first_between;
+use crate::file::values::max_of;
 use crate::value::faults::ValueFault;
 use avp_lists::{AttrId, Octets, Value};
 use hex::FromHexError;
@@ -186,10 +188,11 @@ impl Dictionary {
         }
     }
 
-    // The number that a text stands for, as a value.
-    fn number_value(&self, most: u64, id: AttrId, text: &[u8]) -> Option<Value>
-        ensures { result ≡ option_map Value.Int (number_spelled most id text.now self.now) }
+    // The value of a number up to the greatest of its type, or of a VALUE name.
+    fn number_value(&self, kind: Kind, id: AttrId, text: &[u8]) -> Option<Value>
+        ensures { result ≡ option_and_then (number_up_to id text.now self.now) (max_of kind) }
     {
+        let most = max_of(kind)?;
         let number = self.number_spelled(most, id, text)?;
         Some(Value::Int(number))
     }
@@ -208,10 +211,9 @@ impl Dictionary {
             Kind::Bytes => Ok(bytes_spelled(alloc, typing.by_text, text)?.map(Value::Bytes)),
             Kind::Addr => Ok(address_spelled(text).map(Value::Addr)),
             Kind::Ether => Ok(ether_spelled(text).map(Value::Ether)),
-            Kind::Byte => Ok(self.number_value(255, id, text)),
-            Kind::Short => Ok(self.number_value(u16::MAX as u64, id, text)),
-            Kind::Integer => Ok(self.number_value(u32::MAX as u64, id, text)),
-            Kind::Integer64 => Ok(self.number_value(u64::MAX, id, text)),
+            kind @ (Kind::Byte | Kind::Short | Kind::Integer | Kind::Integer64) => {
+                Ok(self.number_value(kind, id, text))
+            }
             Kind::Date => Ok(number_of(text).up_to(u32::MAX as u64).map(Value::Int)),
             Kind::Signed => Ok(signed_spelled(text).map(Value::Signed)),
         }
