@@ -1,6 +1,6 @@
 -- Which octets names are made of, and how long they may be.
-use Rattle.std.specs.Prelude.{codes, ℕ, ◌-◌, Bool, ◌&&◌, ◌||◌, ◌==◌, nat_le, if◌then◌else◌, List, take, length, slice_index}
-use Rattle.std.specs.List.{before_first}
+use Rattle.std.specs.Prelude.{codes, ℕ, ◌-◌, Bool, ◌&&◌, ◌||◌, ◌==◌, nat_eq, nat_le, if◌then◌else◌, List, take, length, slice_index}
+use Rattle.std.specs.List.{before_first, list_any}
 use Rattle.avp_dict.specs.Words.{lower, same_name}
 
 -- the most octets of a name
@@ -22,13 +22,13 @@ is_decimal o = nat_le 48 o && nat_le o 57
 abbrev pub is_letter : ℕ → Bool
 is_letter o = nat_le 97 (lower o) && nat_le (lower o) 122
 
--- letters, digits, '-', '_', '.', '/'
+-- an octet of an attribute's name
 abbrev pub is_name_octet : ℕ → Bool
-is_name_octet o = is_letter o || is_decimal o || (o == 45) || (o == 95) || (o == 46) || (o == 47)
+is_name_octet o = is_letter o || is_decimal o || list_any (nat_eq o) (codes "-_./")
 
--- and ':', '@'
+-- an octet of a VALUE name
 abbrev pub is_value_name_octet : ℕ → Bool
-is_value_name_octet o = is_name_octet o || (o == 58) || (o == 64)
+is_value_name_octet o = is_name_octet o || list_any (nat_eq o) (codes ":@")
 
 -- attr- and a digit
 abbrev pub begins_as_attr : List ℕ → Bool
