@@ -1,6 +1,7 @@
 -- Which octets names are made of, and how long they may be.
 use Rattle.std.specs.Prelude.{codes, ℕ, ◌-◌, Bool, ◌&&◌, ◌||◌, ◌==◌, nat_eq, nat_le, if◌then◌else◌, List, take, length, slice_index}
 use Rattle.std.specs.List.{before_first, list_any}
+use Rattle.avp_dict.specs.Ascii.{comma, full_stop, left_bracket, right_bracket}
 use Rattle.avp_dict.specs.Words.{lower, same_name}
 
 -- the most octets of a name
@@ -8,10 +9,10 @@ abbrev pub max_name : ℕ
 max_name = 128
 
 abbrev pub is_dot : ℕ → Bool
-is_dot o = o == 46
+is_dot o = o == full_stop
 
 abbrev pub is_comma : ℕ → Bool
-is_comma o = o == 44
+is_comma o = o == comma
 
 abbrev pub is_visible : ℕ → Bool
 is_visible o = nat_le 33 o && nat_le o 126
@@ -37,4 +38,5 @@ begins_as_attr name = same_name (take 5 name) (codes "attr-") && is_decimal (sli
 -- a type word without a part in square brackets at its end
 abbrev pub word_before_bracket : List ℕ → List ℕ
 word_before_bracket word =
-    if slice_index word (length word - 1) == 93 then before_first (λ o. o == 91) word else word
+    if slice_index word (length word - 1) == right_bracket
+    then before_first (λ o. o == left_bracket) word else word

@@ -1,3 +1,4 @@
+pub mod Ascii
 pub mod AttributeNumbers
 pub mod Attributes
 pub mod Blocks

@@ -3,6 +3,7 @@ use Rattle.std.specs.Prelude.{codes, IsTrue, ℕ, zero, suc, ◌+◌, ◌-◌, B
 use Rattle.std.specs.Option.{option_and_then, option_map_or}
 use Rattle.std.specs.List.{onto_first, position, list_any}
 use Rattle.std.specs.Str.{bytes_eq}
+use Rattle.avp_dict.specs.Ascii.{line_feed, slash}
 use Rattle.avp_dict.specs.declared.file.files.NamedFile.{NamedFile}
 use Rattle.avp_dict.specs.Words.{words_of, same_name}
 
@@ -14,17 +15,17 @@ pub record Line : Type 0 where
   pub text : List ℕ
 
 abbrev pub is_line_end : ℕ → Bool
-is_line_end o = o == 10
+is_line_end o = o == line_feed
 
 -- a line ends at LF, and an empty rest is no line
 abbrev pub texts_of : List ℕ → List (List ℕ)
 texts_of [] = []
-texts_of (o ∷ os) = if o == 10 then [] ∷ texts_of os else onto_first o (texts_of os)
+texts_of (o ∷ os) = if o == line_feed then [] ∷ texts_of os else onto_first o (texts_of os)
 
 -- what follows the last slash of the octets, or else the last part so far
 abbrev pub last_part : List ℕ → List ℕ → List ℕ
 last_part last [] = last
-last_part last (o ∷ os) = if o == 47 then last_part os os else last_part last os
+last_part last (o ∷ os) = if o == slash then last_part os os else last_part last os
 
 -- the last component of a path
 abbrev pub last_component : List ℕ → List ℕ

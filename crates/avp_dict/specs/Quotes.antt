@@ -4,6 +4,7 @@ use Rattle.std.specs.List.{find, flat_map, zip}
 use Rattle.avp_dict.specs.declared.value.quotes.Escape.{Escape}
 use Rattle.avp_dict.specs.declared.value.quotes.QuoteMark.{QuoteMark}
 use Rattle.avp_dict.specs.declared.value.quotes.QuoteMark.TheVariants.{Double, Single}
+use Rattle.avp_dict.specs.Ascii.{backslash, digit_zero, double_quote, single_quote}
 
 -- the letters after a `\` and the octets that they stand for, for writing and for reading
 abbrev pub escapes : List (ℕ × ℕ)
@@ -13,18 +14,19 @@ escapes = zip (codes "\"\\nrt") (codes "\"\\\n\r\t")
 
 -- `\` and three octal digits
 abbrev pub octal_escape : ℕ → List ℕ
-octal_escape o = 92 ∷ (48 + o / 64) ∷ (48 + o / 8 % 8) ∷ (48 + o % 8) ∷ []
+octal_escape o =
+    backslash ∷ (digit_zero + o / 64) ∷ (digit_zero + o / 8 % 8) ∷ (digit_zero + o % 8) ∷ []
 
 -- an octet between double quotes: `\` and its letter, itself from 0x20 to 0x7e, else in octal digits
 abbrev pub quoted_octet : ℕ → List ℕ
 quoted_octet o = elim (find (λ e. e.1 == o) escapes) [
-  | Some e ↦ 92 ∷ e.0 ∷ []
+  | Some e ↦ backslash ∷ e.0 ∷ []
   | None ↦ (if nat_le 32 o && nat_le o 126 then o ∷ [] else octal_escape o)
 ]
 
 -- octets between double quotes, with these
 unfoldable pub quoted : List ℕ → List ℕ
-quoted octets = 34 ∷ flat_map quoted_octet octets ++ 34 ∷ []
+quoted octets = double_quote ∷ flat_map quoted_octet octets ++ double_quote ∷ []
 
 -- what is between the quotes of a quoted text
 abbrev pub between_quotes : List ℕ → List ℕ
@@ -32,6 +34,7 @@ between_quotes text = take (length text - 2) (drop 1 text)
 
 -- ---- reading
 
+-- from `0` to `7`
 abbrev pub is_octal : ℕ → Bool
 is_octal o = nat_le 48 o && nat_le o 55
 
@@ -42,7 +45,7 @@ begins_octal text =
     && is_octal (slice_index text 2)
 
 abbrev pub octal_value : ℕ → ℕ → ℕ → ℕ
-octal_value a b c = (a - 48) * 64 + (b - 48) * 8 + (c - 48)
+octal_value a b c = (a - digit_zero) * 64 + (b - digit_zero) * 8 + (c - digit_zero)
 
 -- the octet of `\` and a letter: itself where no octet has it
 abbrev pub escaped_letter : ℕ → ℕ
@@ -54,15 +57,16 @@ escape_by octet taken = record { octet = octet; taken = taken }
 
 -- what follows a `\` between double quotes
 abbrev pub double_escape : List ℕ → Escape
-double_escape [] = escape_by 92 0
+double_escape [] = escape_by backslash 0
 double_escape (c ∷ cs) =
     if begins_octal (c ∷ cs) then escape_by (octal_value c (slice_index cs 0) (slice_index cs 1)) 3
     else escape_by (escaped_letter c) 1
 
 -- what follows a `\` between single quotes: `\\` and `\'` alone are escapes
 abbrev pub single_escape : List ℕ → Escape
-single_escape [] = escape_by 92 0
-single_escape (c ∷ cs) = if (c == 92) || (c == 39) then escape_by c 1 else escape_by 92 0
+single_escape [] = escape_by backslash 0
+single_escape (c ∷ cs) =
+    if c == backslash || c == single_quote then escape_by c 1 else escape_by backslash 0
 
 abbrev pub escape_in : QuoteMark → List ℕ → Escape
 escape_in Double text = double_escape text
@@ -73,7 +77,8 @@ abbrev pub unescaped : QuoteMark → ℕ → List ℕ → List ℕ
 unescaped quote taken [] = []
 unescaped quote (suc taken) (o ∷ os) = unescaped quote taken os
 unescaped quote zero (o ∷ os) =
-    if o == 92 then (escape_in quote os).octet ∷ unescaped quote (escape_in quote os).taken os
+    if o == backslash
+    then (escape_in quote os).octet ∷ unescaped quote (escape_in quote os).taken os
     else o ∷ unescaped quote 0 os
 
 -- the octets that a text between quotes stands for

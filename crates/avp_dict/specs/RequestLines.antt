@@ -2,6 +2,7 @@
 use Rattle.std.specs.Prelude.{ℕ, Bool, true, false, ◌==◌, if◌then◌else◌, List, [], ◌∷◌, ◌++◌, filter, slice_index, Option, Some, None}
 use Rattle.std.specs.List.{before_first, list_all}
 use Rattle.std.specs.Option.{option_map}
+use Rattle.avp_dict.specs.Ascii.{backslash, double_quote, equals, single_quote}
 use Rattle.avp_dict.specs.declared.value.quotes.QuoteMark.{QuoteMark}
 use Rattle.avp_dict.specs.declared.value.quotes.QuoteMark.TheVariants.{Double, Single}
 use Rattle.avp_dict.specs.declared.request.tokens.Side.{Side}
@@ -30,11 +31,11 @@ pub data Place : Type 0 where
   Escaped : QuoteMark → Place
 
 abbrev pub quote_octet : QuoteMark → ℕ
-quote_octet Double = 34
-quote_octet Single = 39
+quote_octet Double = double_quote
+quote_octet Single = single_quote
 
 abbrev pub is_equals : ℕ → Bool
-is_equals o = o == 61
+is_equals o = o == equals
 
 -- the `=` of a pair is the first one after a line's start or a comma, with no quote before it
 abbrev pub is_sign : Side → ℕ → Bool
@@ -43,7 +44,7 @@ is_sign Value o = false
 
 -- between quotes a `\` keeps the next octet from ending the text
 abbrev pub place_between : QuoteMark → ℕ → Place
-place_between mark o = if o == 92 then Escaped mark else Between mark
+place_between mark o = if o == backslash then Escaped mark else Between mark
 
 -- one octet more at the front of a run
 abbrev pub onto_run : ℕ → List Token → List Token

@@ -11,6 +11,7 @@ use Rattle.avp_lists.specs.declared.pairs.Value.TheVariants as values
 use Rattle.avp_dict.specs.declared.entries.Named.{Named}
 use Rattle.avp_dict.specs.declared.entries.Kind.{Kind}
 use Rattle.avp_dict.specs.declared.entries.Kind.TheVariants as kinds
+use Rattle.avp_dict.specs.Ascii.{colon, hyphen}
 use Rattle.avp_dict.specs.AttributeNumbers.{greatest_number, greatest_signed}
 use Rattle.avp_dict.specs.Dictionary.{Dictionary, number_named, typing_of_id}
 use Rattle.avp_dict.specs.declared.entries.Typing.{Typing}
@@ -51,7 +52,7 @@ negated n = neg_ℤ (pos n)
 
 -- '-'
 abbrev pub is_negative : List ℕ → Bool
-is_negative text = slice_index text 0 == 45
+is_negative text = slice_index text 0 == hyphen
 
 -- decimal digits, or '-' and decimal digits, of a number of 32 bits
 unfoldable pub signed_spelled : List ℕ → Option ℤ
@@ -81,7 +82,7 @@ unfoldable pub digit_pair : List ℕ → Option ℕ
 digit_pair part = if length part == 2 then digits 16 part else None
 
 abbrev pub is_colon : ℕ → Bool
-is_colon o = o == 58
+is_colon o = o == colon
 
 -- four decimal octets, with dots between
 abbrev pub address_spelled : List ℕ → Option (List ℕ)

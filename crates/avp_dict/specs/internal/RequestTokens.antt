@@ -1,5 +1,6 @@
 -- What the code's tokens stand for.
 use Rattle.std.specs.Prelude.{ℕ, Bool, false, ◌||◌, ◌==◌, List, [], ◌∷◌}
+use Rattle.avp_dict.specs.Ascii.{double_quote, single_quote}
 use Rattle.avp_dict.specs.declared.request.tokens.Side.{Side}
 use Rattle.avp_dict.specs.declared.request.tokens.Side.TheVariants.{Name, Value}
 use Rattle.avp_dict.specs.declared.request.tokens.Token.{Token as CodeToken}
@@ -28,4 +29,5 @@ begins_blank (o ∷ os) = is_blank o
 
 -- what ends a run
 abbrev pub ends_run : Side → ℕ → Bool
-ends_run side o = is_hash o || is_blank o || is_comma o || (o == 34) || (o == 39) || is_sign side o
+ends_run side o = is_hash o || is_blank o || is_comma o || o == double_quote || o == single_quote
+    || is_sign side o
