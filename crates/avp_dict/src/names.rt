@@ -18,8 +18,7 @@ fn plain_numbered(n: Number) -> Option<AttrId>
     ensures { (number : Option ℕ) → Reads n number → result ≡ plain_numbered number }
 {
     match n {
-        Number::Unreadable => None,
-        Number::TooGreat => None,
+        Number::Unreadable | Number::TooGreat => None,
         Number::Is(n) => {
             if n <= u64::from(MAX_PLAIN) {
                 Some(AttrId::Plain(n as u32))
@@ -46,8 +45,7 @@ fn id_of_vendor(vendors: &Vendors, v: u64, n: Number) -> Option<AttrId>
         ≡ vendor_id_numbered vendors.now (Some v) number }
 {
     match n {
-        Number::Unreadable => None,
-        Number::TooGreat => None,
+        Number::Unreadable | Number::TooGreat => None,
         Number::Is(n) => {
             if v <= MAX_NUMBER && is_in_format(vendors, v as u32, n) {
                 Some(AttrId::Vendor(v as u32, n as u32))
@@ -64,8 +62,7 @@ fn vendor_id_numbered(vendors: &Vendors, v: Number, n: Number) -> Option<AttrId>
         ≡ vendor_id_numbered vendors.now vendor number }
 {
     match v {
-        Number::Unreadable => None,
-        Number::TooGreat => None,
+        Number::Unreadable | Number::TooGreat => None,
         Number::Is(v) => id_of_vendor(vendors, v, n),
     }
 }
@@ -74,9 +71,8 @@ fn is_vendor_specific(t: Number) -> bool
     ensures { (number : Option ℕ) → Reads t number → result ≡ is_vendor_specific number }
 {
     match t {
-        Number::Unreadable => false,
-        Number::TooGreat => false,
         Number::Is(t) => t == u64::from(VENDOR_SPECIFIC),
+        Number::Unreadable | Number::TooGreat => false,
     }
 }
 

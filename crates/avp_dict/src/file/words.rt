@@ -25,11 +25,17 @@ pub(crate) fn without_comment(text: &[u8]) -> &[u8]
     }
 }
 
+pub fn is_blank(octet: u8) -> bool
+    ensures { result ≡ is_blank octet }
+{
+    matches!(octet, b' ' | b'\t' | b'\r')
+}
+
 fn blank_at(text: &[u8]) -> Option<usize>
     ensures place { result ≡ position is_blank text.now }
     ensures within { IfSome result (λ end. end < length text.now) }
 {
-    text.iter().position(|octet| *octet == b' ' || *octet == b'\t' || *octet == b'\r')
+    text.iter().position(|octet| is_blank(*octet))
 }
 
 // What is before the first blank, and after it.

@@ -3,9 +3,9 @@
 ghost use Rattle.std.specs.Prelude.{◌≡◌, ◌∷◌, [], ◌<◌, ◌≤◌, ◌+◌, MatchOption, IfSome, length, take, drop, false};
 ghost use Rattle.std.specs.List.{position, position_or_len};
 ghost use Rattle.avp_dict.specs.RequestLines.{Between, Outside, Quoted, Run, Unended, quote_octet, tokens_at, tokens_from};
-ghost use Rattle.avp_dict.specs.Words.{is_blank};
 ghost use Rattle.avp_dict.specs.internal.RequestTokens.{begins_blank, ends_run, side_after, token_view};
 
+use crate::file::words::is_blank;
 use crate::value::quotes::QuoteMark;
 
 /// A side of the `=` of a pair.
@@ -27,12 +27,6 @@ pub enum Token<'a> {
     Quoted(QuoteMark, &'a [u8]),
     /// A quote that nothing ends on its line.
     Unended,
-}
-
-pub fn is_blank(octet: u8) -> bool
-    ensures { result ≡ is_blank octet }
-{
-    matches!(octet, b' ' | b'\t' | b'\r')
 }
 
 fn first_octet(octets: &[u8]) -> Option<(u8, &[u8])>

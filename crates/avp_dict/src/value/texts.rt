@@ -68,9 +68,8 @@ impl Number {
         ensures { (number : Option ℕ) → Reads self number → result ≡ up_to most number }
     {
         match self {
-            Number::Unreadable => None,
-            Number::TooGreat => None,
-            Number::Is(number) => { if number <= most { Some(number) } else { None } }
+            Number::Is(number) if number <= most => Some(number),
+            _ => None,
         }
     }
 }
