@@ -3,4 +3,6 @@ pub mod Plans
 pub mod Shown
 pub mod SlotLaws
 pub mod Slots
+pub mod SnapshotLaws
+pub mod Snapshots
 pub mod Steps

@@ -1,7 +1,7 @@
 ghost use Rattle.std.specs.Prelude.{◌≡◌, ◌+◌, ◌-◌, ◌≤◌, ◌<◌, ◌∷◌, ◌++◌, [], OnOk, OnErr, IfOk, IfErr, IsOk, true, length, take, slice_index_or, vec_capacity};
 ghost use Rattle.avp_lists.specs.History.{starting};
 ghost use Rattle.avp_lists.specs.States.{empty_state, IsLimited};
-ghost use Rattle.avp_lists.specs.Snapshots.{snapshot_at, state_of, states_of, own_state, is_whole, NamesEarlier, NamesBelow, AllLimited};
+ghost use Rattle.avp_lists.specs.internal.Snapshots.{snapshot_at, state_of, states_of, own_state, is_whole, NamesEarlier, NamesBelow, AllLimited};
 
 use crate::edits::{Edit, EditFault};
 use crate::lists::{List, MAX_PAIRS, Pairs, State, copies};
@@ -145,13 +145,13 @@ impl SnapshotStore {
 
 impl Store for SnapshotStore {
     ghost use Rattle.std.specs.Prelude.{◌+◌, ◌-◌, vec_capacity};
-    ghost use Rattle.avp_lists.specs.Snapshots.{states_of};
+    ghost use Rattle.avp_lists.specs.internal.Snapshots.{states_of};
 
     ghost history = { λ s. record { states = states_of s.snapshots.items; place = s.place } };
 
     ghost room = { λ s. vec_capacity s.snapshots - (s.place + 1) };
 
-    ghost use Rattle.avp_lists.specs.SnapshotLaws.{states_limited, placed_among, roomy_among};
+    ghost use Rattle.avp_lists.specs.internal.SnapshotLaws.{states_limited, placed_among, roomy_among};
 
     ghost placed = { λ s. placed_among s.snapshots.items s.place s.placed };
 
