@@ -9,7 +9,7 @@ ghost use Rattle.avp_step.specs.internal.Skips.{skips, skips_of};
 
 use avp_unlang::{Block, Branch, Code, Line, Statement};
 
-/// The most frames of a policy: 64 braces may be open in it, and each adds two at most.
+/// The most frames of a policy: one for its statements, and two for each of the 64 braces that may be open.
 pub const MAX_FRAMES: usize = 129;
 
 /// A part of the policy that is still to run.
@@ -19,7 +19,7 @@ pub enum Frame<'a> {
     Statements(&'a [Statement]),
     /// The lines of an update, and the position at its entry.
     Lines(&'a [Line], usize),
-    /// The branches of an `if` that were not tested, and its last block.
+    /// The branches of an `if` that are not yet tested, and its last block.
     Branches(&'a [Branch], &'a Option<Block>),
     /// The end of a transaction: its line, and the position at its entry.
     End(usize, usize),

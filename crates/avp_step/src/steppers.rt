@@ -27,7 +27,7 @@ pub struct Stepper<'a, S: Store> {
     statements: &'a [Statement],
     // It has one state for each mark.
     store: S,
-    // One for each step that was made so far.
+    // The start's, and one for each step that was made so far.
     marks: Vec<Mark>,
     position: usize,
     // What follows the last mark.
@@ -246,7 +246,7 @@ impl<'a, S: Store> Stepper<'a, S> {
         }
     }
 
-    /// One move.
+    /// One move. A refused step of an update line is not reported; the stepper is then before that step.
     pub fn make(&mut self, step: Move)
         ensures { MoveMay self.old step self.new }
     {

@@ -22,7 +22,7 @@ pub type Parts = Items<Part>;
 pub enum Source {
     /// A value that is written out, by the type of the line's attribute.
     Literal(Value),
-    /// A text with values put in, and whether the line's attribute stood under a name by number, as `Attr-26.9.1`.
+    /// A text with values put in, and whether the line's attribute is named by number, as `Attr-26.9.1`.
     Text(bool, Parts),
     /// `&list:name`: the first instance of the attribute.
     Instance(List, AttrId),

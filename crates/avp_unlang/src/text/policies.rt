@@ -55,7 +55,8 @@ impl Policy {
     }
 }
 
-/// One for each update line, each condition of an `if` or `elsif` and each word, and two for each transaction.
+/// The size of a policy: one for each update line, each condition of an `if` or `elsif` and each word, and two for each
+/// transaction.
 ///
 /// ```rust
 /// let text = b"if (&User-Name) { update reply { Session-Timeout := 600 } }\nreject";
