@@ -1,6 +1,6 @@
 //! One step of a run over a store.
 
-ghost use Rattle.std.specs.Prelude.{◌≡◌, ◌+◌, ◌<◌, ◌≤◌, ◌&&◌, [], false, true, length, max, vec_capacity, vec_len, IfOk, IfSome, IsTrue, OnErr, List, Some, None, Ok};
+ghost use Rattle.std.specs.Prelude.{◌≡◌, ◌+◌, ◌<◌, ◌≤◌, ◌&&◌, [], false, length, max, vec_capacity, vec_len, IfOk, IfSome, IsTrue, OnErr, List, Some, None, Ok};
 ghost use Rattle.std.specs.List.{list_all};
 ghost use Rattle.avp_lists.specs.History.{continued, present, state_at};
 ghost use Rattle.avp_dict.specs.Dictionary.{Dictionary};

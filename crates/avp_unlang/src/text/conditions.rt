@@ -1,6 +1,6 @@
 //! Conditions, read from a text.
 
-ghost use Rattle.std.specs.Prelude.{◌≡◌, ◌≢◌, ◌≤◌, ◌<◌, ◌∷◌, [], suc, length, Some, None, false, IfOk, IfErr};
+ghost use Rattle.std.specs.Prelude.{◌≡◌, ◌≢◌, ◌≤◌, ◌∷◌, [], suc, length, Some, None, false, IfOk, IfErr};
 ghost use Rattle.avp_unlang.specs.Conditions.{Both, Closed, ComparandOf, ComparedIs, Either, Negated, ReferredIs, Within, WordFrom, all_of, any_of, has_expansion, plain_literal, relation_of};
 ghost use Rattle.avp_unlang.specs.Forms.{Reads, ReadsAll};
 ghost use Rattle.avp_unlang.specs.Words.{code_named};
