@@ -41,10 +41,7 @@ pub fn put<'a>(frames: &mut Vec<Frame<'a>>, frame: Frame<'a>)
     ensures items { frames.new.items ≡ frames.old.items ++ frame.entry ∷ [] }
     ensures capacity { vec_capacity frames.old ≤ vec_capacity frames.new }
 {
-    match frames.push(frame) {
-        Ok(()) => (),
-        Err(_) => unreachable!(),
-    }
+    frames.push(frame).unwrap();
 }
 
 // Opens a statement: an update or an `if` is put on the frames, any other statement comes next.

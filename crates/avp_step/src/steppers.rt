@@ -55,10 +55,7 @@ fn put_mark(marks: &mut Vec<Mark>, mark: Mark)
     ensures items { marks.new.items ≡ marks.old.items ++ mark ∷ [] }
     ensures capacity { vec_capacity marks.old ≤ vec_capacity marks.new }
 {
-    match marks.push(mark) {
-        Ok(()) => (),
-        Err(_) => unreachable!(),
-    }
+    marks.push(mark).unwrap();
 }
 
 impl<'a, S: Store> Stepper<'a, S> {

@@ -41,10 +41,7 @@ fn go_back<S: Store>(store: &mut S, to: usize)
     ensures kept { (S.history store.old).place + S.room store.old
         ≤ (S.history store.new).place + S.room store.new }
 {
-    match store.rollback(to) {
-        Ok(()) => (),
-        Err(_) => unreachable!(),
-    }
+    store.rollback(to).unwrap();
 }
 
 // One more state, which equals the present one.
