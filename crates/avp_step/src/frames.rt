@@ -162,13 +162,9 @@ fn open_frame<'a>(
         + frame_skips frame.entry) }
     ensures capacity { MAX_FRAMES ≤ vec_capacity frames.new }
 {
-    if let Frame::End(line, entry) = frame {
-        return Some(Next::Close(line, entry));
-    }
-    if stopped {
-        return None;
-    }
     match frame {
+        Frame::End(line, entry) => Some(Next::Close(line, entry)),
+        _ if stopped => None,
         Frame::Statements(statements) => open_block(frames, statements, place),
         Frame::Lines(lines, entry) => {
             if lines.is_empty() {
@@ -178,7 +174,6 @@ fn open_frame<'a>(
             }
         }
         Frame::Branches(branches, otherwise) => open_branches(frames, branches, otherwise, place),
-        Frame::End(..) => None,
     }
 }
 
