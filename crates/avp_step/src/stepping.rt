@@ -86,17 +86,14 @@ fn step_close<S: Store>(store: &mut S, last: Mark, line: usize, to: usize) -> Ma
     ensures kept { (S.history store.old).place + S.room store.old
         ≤ (S.history store.new).place + S.room store.new }
 {
-    if last.stopped {
-        go_back(store, to);
-        return Mark {
-            label: Label::Rollback(line),
-            code: last.code,
-            stopped: false,
-        };
-    }
-    stay(store);
+    let (label, place) = if last.stopped {
+        (Label::Rollback(line), to)
+    } else {
+        (Label::Commit(line), store.place())
+    };
+    go_back(store, place);
     Mark {
-        label: Label::Commit(line),
+        label,
         code: last.code,
         stopped: false,
     }
@@ -213,19 +210,16 @@ fn step_test<'a, S: Store>(
     let Some((branch, others)) = branches.split_first() else {
         unreachable!()
     };
-    if holds(&branch.cond, store, last.code) {
-        put(frames, Frame::Statements(branch.block.as_slice()));
-        stay(store);
-        return Mark {
-            label: Label::If(branch.line, true),
-            code: last.code,
-            stopped: false,
-        };
-    }
-    put(frames, Frame::Branches(others, otherwise));
+    let is_met = holds(&branch.cond, store, last.code);
+    let frame = if is_met {
+        Frame::Statements(branch.block.as_slice())
+    } else {
+        Frame::Branches(others, otherwise)
+    };
+    put(frames, frame);
     stay(store);
     Mark {
-        label: Label::If(branch.line, false),
+        label: Label::If(branch.line, is_met),
         code: last.code,
         stopped: false,
     }
