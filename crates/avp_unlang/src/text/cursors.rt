@@ -39,7 +39,7 @@ impl<'a> Model for Cursor<'a> {
 pub(crate) type Read<'a, T> = Result<(T, Cursor<'a>), PolicyFault>;
 
 #[tactic(auto, unfolding(crate::specs::Tokens::passed))]
-fn pass(line: usize, comment: bool, octet: u8) -> Option<(usize, bool)>
+fn passed(line: usize, comment: bool, octet: u8) -> Option<(usize, bool)>
     requires { line + 1 < 2 ^ 64 }
     ensures passed { result ≡ passed line comment octet }
     ensures counted { IfSome result (λ p. p.0 ≤ line + 1) }
@@ -54,7 +54,7 @@ fn pass(line: usize, comment: bool, octet: u8) -> Option<(usize, bool)>
 }
 
 // The line and the text where the next token begins.
-fn skip(line: usize, text: &[u8]) -> (usize, &[u8])
+fn skipped(line: usize, text: &[u8]) -> (usize, &[u8])
     requires { line + length text.now < 2 ^ 64 }
     ensures skipped { (result.0, result.1.now) ≡ skipped line false text.now }
     ensures counted { result.0 + length result.1.now ≤ line + length text.now }
@@ -64,7 +64,7 @@ fn skip(line: usize, text: &[u8]) -> (usize, &[u8])
     let mut comment = false;
     let mut rest = text;
     while let Some((octet, after)) = front(rest) {
-        match pass(place, comment, octet) {
+        match passed(place, comment, octet) {
             None => return (place, rest),
             Some((next, goes_on)) => {
                 place = next;
@@ -85,7 +85,7 @@ impl<'a> Cursor<'a> {
         requires { line + length text.now < 2 ^ 64 }
         ensures { result ≡ record { text = text.now; line = line; room = room } }
     {
-        let (token_line, start) = skip(line, text);
+        let (token_line, start) = skipped(line, text);
         let (token, rest) = token_at(start);
         Cursor {
             text,

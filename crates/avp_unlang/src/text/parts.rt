@@ -16,7 +16,7 @@ use std::alloc::{AllocError, Global};
 
 // The octet that a text begins with, and the text after it; none at the end and at a `%` that is not followed by another.
 #[tactic(auto, unfolding(crate::specs::Parts::octet_at))]
-fn octet<'a>(text: &Excerpt<'a>) -> Option<(u8, Excerpt<'a>)>
+fn octet_at<'a>(text: &Excerpt<'a>) -> Option<(u8, Excerpt<'a>)>
     ensures same { result ≡ octet_at text.now }
     ensures shorter { IfSome result (λ x. length x.1 < length text.now) }
 {
@@ -35,7 +35,7 @@ fn octet<'a>(text: &Excerpt<'a>) -> Option<(u8, Excerpt<'a>)>
 fn begins_octet(text: &Excerpt) -> bool
     ensures { result ≡ begins_octet text.now }
 {
-    octet(text).is_some()
+    octet_at(text).is_some()
 }
 
 // The octets that a text begins with, up to an expansion, and the text after them.
@@ -46,7 +46,7 @@ fn octets<'a>(alloc: Global, text: Excerpt<'a>) -> Result<(Octets, Excerpt<'a>),
 {
     let mut octets = Vec::new(alloc);
     let mut rest = text;
-    'octets: while let Some((found, after)) = octet(&rest) {
+    'octets: while let Some((found, after)) = octet_at(&rest) {
         octets.push(found)?;
         rest = after;
     }

@@ -226,7 +226,7 @@ fn operator_at(text: &[u8]) -> Option<(Sign, &[u8])>
     Some((sign, rest))
 }
 
-fn quoted<'a>(mark: QuoteMark, closing: u8, text: &'a [u8]) -> (Token<'a>, &'a [u8])
+fn quoted_at<'a>(mark: QuoteMark, closing: u8, text: &'a [u8]) -> (Token<'a>, &'a [u8])
     ensures same { (result.0, result.1.now) ≡ quoted_at mark text.now
         (quoted_length closing false text.now) }
     ensures shorter { length result.1.now ≤ length text.now }
@@ -240,7 +240,7 @@ fn quoted<'a>(mark: QuoteMark, closing: u8, text: &'a [u8]) -> (Token<'a>, &'a [
     }
 }
 
-fn word<'a>(text: &'a [u8]) -> (Token<'a>, &'a [u8])
+fn word_at<'a>(text: &'a [u8]) -> (Token<'a>, &'a [u8])
     requires { 0 < length text.now }
     ensures same { (result.0, result.1.now) ≡ word_at text.now (word_length text.now) }
     ensures shorter { length result.1.now < length text.now }
@@ -278,8 +278,8 @@ pub(crate) fn token_at<'a>(text: &'a [u8]) -> (Token<'a>, &'a [u8])
     match front(text) {
         None => (Token::End, text),
         Some((octet, rest)) => match quote_of(octet) {
-            None => word(text),
-            Some(found) => quoted(found, octet, rest),
+            None => word_at(text),
+            Some(found) => quoted_at(found, octet, rest),
         },
     }
 }
