@@ -92,10 +92,8 @@ pub(crate) fn relates(kind: Kind, relation: Relation, value: &Value, other: &Val
 fn first_value<S: Store>(store: &S, list: List, id: AttrId) -> Option<&Value>
     ensures { option_copied result ≡ first_value list id (present (S.history store.now)) }
 {
-    match store.first(list, id) {
-        Some(pair) => Some(&pair.value),
-        None => None,
-    }
+    let pair = store.first(list, id)?;
+    Some(&pair.value)
 }
 
 fn compared_with<'a, S: Store>(comparand: &'a Comparand, store: &'a S) -> Option<&'a Value>

@@ -161,11 +161,10 @@ fn worded_operand<'a>(
 }
 
 // The only condition of a list, else all of them.
-fn only_of(conds: Vec<Cond>) -> Result<Cond, Vec<Cond>>
+fn only_of(mut conds: Vec<Cond>) -> Result<Cond, Vec<Cond>>
     ensures ok { IfOk result (λ only. conds.items ≡ only ∷ []) }
     ensures err { IfErr result (λ others. (others ≡ conds) × (length conds.items ≢ 1)) }
 {
-    let mut conds = conds;
     if conds.len() == 1 {
         if let Some(only) = conds.pop() {
             return Ok(only);

@@ -92,10 +92,8 @@ fn instance<'a>(
     let Some((word, rest)) = braced(&inner) else {
         return Err(PolicyKind::Unreadable);
     };
-    match readable(dictionary, word.as_slice()) {
-        Ok(found) => Ok((found, rest)),
-        Err(kind) => Err(kind),
-    }
+    let found = readable(dictionary, word.as_slice())?;
+    Ok((found, rest))
 }
 
 // The part that a text begins with, and the text after it.

@@ -54,10 +54,8 @@ pub(crate) fn reference_in(dictionary: &Dictionary, own: List, word: &[u8]) -> O
     ensures { result ≡ reference_in dictionary.now own word.now }
 {
     let (list, name) = target_in(own, word);
-    match dictionary.by_name(name) {
-        None => None,
-        Some(named) => Some(Reference { list, named }),
-    }
+    let named = dictionary.by_name(name)?;
+    Some(Reference { list, named })
 }
 
 /// What a word refers to, where its values may be looked at; a name alone is of the request.

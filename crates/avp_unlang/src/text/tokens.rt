@@ -129,10 +129,7 @@ fn is_in_word(octet: u8, after: &[u8]) -> bool
 {
     let is_word_octet = octet.is_ascii_alphanumeric()
         || matches!(octet, b'-' | b'_' | b'.' | b'/' | b':' | b'@');
-    let is_before_equal = match after.first() {
-        None => false,
-        Some(next) => *next == b'=',
-    };
+    let is_before_equal = after.first() == Some(&b'=');
     is_word_octet && !((octet == b':' || octet == b'-') && is_before_equal)
 }
 
