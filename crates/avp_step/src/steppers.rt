@@ -234,13 +234,8 @@ impl<'a, S: Store> Stepper<'a, S> {
         ensures refused { OnErr result (IsHeldUp self.old self.new) }
     {
         let _within = self.position();
-        'steps: loop {
-            match self.forward() {
-                Ok(Moved::To(_)) => {}
-                Ok(Moved::AtEnd) => return Ok(()),
-                Err(refused) => return Err(refused),
-            }
-        }
+        'steps: while let Moved::To(_) = self.forward()? {}
+        Ok(())
     }
 
     /// One move. A refused step of an update line is not reported; the stepper is then before that step.
