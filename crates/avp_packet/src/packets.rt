@@ -1,14 +1,18 @@
 use avp_lists::Pairs;
 
-/// Codes of packets (RFC 2865, section 3; RFC 2866, section 3).
+/// The code of an Access-Request (RFC 2865, section 4.1).
 pub const ACCESS_REQUEST: u8 = 1;
 
+/// The code of an Access-Accept (RFC 2865, section 4.2).
 pub const ACCESS_ACCEPT: u8 = 2;
 
+/// The code of an Access-Reject (RFC 2865, section 4.3).
 pub const ACCESS_REJECT: u8 = 3;
 
+/// The code of an Accounting-Request (RFC 2866, section 4.1).
 pub const ACCOUNTING_REQUEST: u8 = 4;
 
+/// The code of an Accounting-Response (RFC 2866, section 4.2).
 pub const ACCOUNTING_RESPONSE: u8 = 5;
 
 /// A request as it was read.
@@ -16,6 +20,7 @@ pub const ACCOUNTING_RESPONSE: u8 = 5;
 pub struct Packet {
     /// [`ACCESS_REQUEST`] or [`ACCOUNTING_REQUEST`].
     pub code: u8,
+    /// The Identifier (RFC 2865, section 3).
     pub id: u8,
     pub authenticator: [u8; 16],
     pub list: Pairs,

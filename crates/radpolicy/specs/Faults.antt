@@ -114,7 +114,7 @@ name_at files i = name_of (slice_get files i)
     name_of (Some file) = file.name
     name_of None = []
 
--- where a fault is, after a blank
+-- where a fault is, after a space
 abbrev pub place_of : List NamedFile → Fault → List ℕ
 place_of files (fault.Dictionary f) =
     codes " " ++ name_at files f.file ++ codes ":" ++ decimal f.line

@@ -31,7 +31,7 @@ access_reply code.Fail = Some access_reject
 access_reply code.Reject = Some access_reject
 access_reply _ = Some access_accept
 
--- the code of an Accounting-Request's reply, which a refused one does not have
+-- the code of an Accounting-Request's reply; none after `fail` or `reject`
 abbrev pub accounting_reply : Code → Option ℕ
 accounting_reply code.Fail = None
 accounting_reply code.Reject = None

@@ -4,7 +4,7 @@ use Rattle.std.specs.List.{before_first, list_all}
 use Rattle.avp_dict.specs.Lines.{is_line_end}
 use Rattle.radpolicy.specs.declared.jobs.Job.{Job}
 
--- an octet below a blank
+-- an octet below a space
 abbrev pub is_control : ℕ → Bool
 is_control o = nat_lt o 32
 

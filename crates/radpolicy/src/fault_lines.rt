@@ -59,7 +59,7 @@ fn put_place_of<O: Output>(
     }
 }
 
-// Where a fault is, after a blank; want of memory is nowhere.
+// Where a fault is, after a space; want of memory is nowhere.
 fn put_place<O: Output>(fault: Fault, files: &[NamedFile], out: &mut O) -> Result<(), OutputError>
     requires { NamesFileOf files.now fault }
     ensures takes { OnOk result

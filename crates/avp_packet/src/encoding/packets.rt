@@ -176,8 +176,8 @@ pub fn encode_request(
     Ok(octets)
 }
 
-/// The authenticator of the packet that [`encode_request`] makes of the same, without the packet: of an
-/// Accounting-Request its digest.
+/// The authenticator of the packet that [`encode_request`] would make of these arguments, without making it: for an
+/// Accounting-Request its digest, else the one given.
 pub fn encoded_authenticator(
     alloc: Global,
     dictionary: &Dictionary,
