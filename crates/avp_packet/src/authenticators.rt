@@ -99,7 +99,8 @@ fn has_digest(octets: &[u8], end: usize, authenticator: &[u8; 16], secret: &[u8]
     requires head { PACKET_HEAD_OCTETS ≤ end }
     requires whole { end ≤ length octets.now }
     ensures { result ≡ bytes_eq (authenticator_of octets.now)
-        (md5 (take 4 octets.now ++ authenticator.now ++ drop 20 (take end octets.now) ++ secret.now)) }
+        (md5 (take 4 octets.now ++ authenticator.now
+        ++ drop 20 (take end octets.now) ++ secret.now)) }
 {
     let digest = digest_of_four(
         &octets[..AUTHENTICATOR_PLACE],

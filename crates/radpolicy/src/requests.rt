@@ -94,7 +94,8 @@ fn packet_of_lines(
     ensures fit { IfOk result (λ packet. AllFit dictionary.now packet.list) }
     ensures proxies { IfOk result (λ packet. is_clean (proxy_states packet) dictionary.now ≡ true) }
     ensures refused { IfErr result (λ f. (f ≡ fault.Memory)
-        ⊎ IsUnreadRequest f (lines_for code job.now (request_spelled job.now.request dictionary.now))) }
+        ⊎ IsUnreadRequest f
+        (lines_for code job.now (request_spelled job.now.request dictionary.now))) }
     ensures printed { IfErr result (IsPrintedWith job.now.files) }
 {
     let pairs = dictionary.read_request(alloc, job.request.as_slice())?;

@@ -44,7 +44,8 @@ impl<T: Drop> From<AllocFailed<T>> for Unread<'_> {
 // What was read under a name. More than an input file may have is not readable.
 fn octets_of(name: &str, read: io::Result<Option<Octets>>) -> Result<Octets, Unread<'_>>
     ensures read { IfOk result (λ octets. read ≡ Ok (Some octets)) }
-    ensures named { IfErr result (λ unread. (unread ≡ Unread.Memory) ⊎ (unread ≡ Unread.File name.entry)) }
+    ensures named { IfErr result (λ unread.
+        (unread ≡ Unread.Memory) ⊎ (unread ≡ Unread.File name.entry)) }
 {
     match read {
         Ok(Some(octets)) => Ok(octets),
@@ -57,7 +58,8 @@ fn octets_of(name: &str, read: io::Result<Option<Octets>>) -> Result<Octets, Unr
 }
 
 fn read_file<'a>(rt: &HostRuntime, path: &'a str) -> Result<Octets, Unread<'a>>
-    ensures { IfErr result (λ unread. (unread ≡ Unread.Memory) ⊎ (unread ≡ Unread.File path.entry)) }
+    ensures { IfErr result (λ unread.
+        (unread ≡ Unread.Memory) ⊎ (unread ≡ Unread.File path.entry)) }
 {
     match File::open(rt, path) {
         Ok(file) => octets_of(path, read_input(rt.alloc(), file)),
@@ -67,7 +69,8 @@ fn read_file<'a>(rt: &HostRuntime, path: &'a str) -> Result<Octets, Unread<'a>>
 
 fn read_optional<'a>(rt: &HostRuntime, path: Option<&'a str>) -> Result<Option<Octets>, Unread<'a>>
     ensures given { IfOk result (λ octets. is_some octets ≡ is_some path.entry) }
-    ensures named { IfErr result (λ unread. (unread ≡ Unread.Memory) ⊎ IfSome path.entry (λ p. unread ≡ Unread.File p)) }
+    ensures named { IfErr result (λ unread.
+        (unread ≡ Unread.Memory) ⊎ IfSome path.entry (λ p. unread ≡ Unread.File p)) }
 {
     match path {
         Some(path) => Ok(Some(read_file(rt, path)?)),

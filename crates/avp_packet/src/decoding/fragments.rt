@@ -46,7 +46,8 @@ fn piece_in_attribute<'a>(t: u8, number: u8, front: &Front<'a>) -> Option<Piece<
 
 fn next_piece(t: u8, number: u8, octets: &[u8]) -> Option<Piece<'_>>
     ensures run { IfSome result (λ piece. run t number (parts octets.now)
-        ≡ run_with (piece_view piece) (parts piece.rest.now) (run t number (parts piece.rest.now))) }
+        ≡ run_with (piece_view piece) (parts piece.rest.now)
+        (run t number (parts piece.rest.now))) }
     ensures shorter { IfSome result (λ piece. length piece.rest.now < length octets.now) }
     ensures none { IfNone result (run t number (parts octets.now) ≡ None) }
 {

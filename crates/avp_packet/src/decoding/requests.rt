@@ -52,7 +52,8 @@ fn read_packet(
     ensures own { IfOk result (λ packet. All (IsCanonicalOrContainer dictionary.now) packet.list) }
     ensures means { IfOk result (λ packet. packet.list
         ≡ attribute_pairs dictionary.now secret.now
-        (hiding_authenticator packet.code packet.authenticator) (parts (attributes_of octets.now))) }
+        (hiding_authenticator packet.code packet.authenticator)
+        (parts (attributes_of octets.now))) }
     ensures packet { IfOk result (λ packet. packet
         ≡ packet_read dictionary.now secret.now octets.now) }
     ensures few { IfOk result (λ packet. length packet.list ≤ length_of octets.now) }

@@ -68,7 +68,8 @@ fn push_reply(
     requires usable { IsUsable dictionary.now head.now }
     requires reply { AllFit dictionary.now reply.now }
     requires clean { is_clean reply.now dictionary.now ≡ true }
-    ensures line { AddsLine result (answer_line (answered_by dictionary.now head.now last reply.now))
+    ensures line { AddsLine result
+        (answer_line (answered_by dictionary.now head.now last reply.now))
         text.old.items text.new.items }
     ensures read { OnOk result (AnswerIsRead dictionary.now head.now last reply.now) }
 {
@@ -145,7 +146,11 @@ fn run_over(
     requires few { length request.list ≤ max_pairs }
     requires fit { AllFit dictionary.now request.list }
     ensures ended { IfOk result (λ ended. run_of dictionary.now policy.now request
-        ≡ record { state = (run_of dictionary.now policy.now request).state; code = ended.code; stopped = ended.stopped }) }
+        ≡ record {
+          state = (run_of dictionary.now policy.now request).state;
+          code = ended.code;
+          stopped = ended.stopped;
+        }) }
     ensures text { IfOk result (λ ended. ended.text.items
         ≡ state_text dictionary.now (run_of dictionary.now policy.now request).state
         ++ result_line ended.code ended.stopped) }
@@ -187,9 +192,11 @@ pub(crate) fn report_of_run(
     requires fit { AllFit dictionary.now request.list }
     requires proxies { is_clean (proxy_states request) dictionary.now ≡ true }
     ensures ok { IfOk result (λ report.
-        report_of_run form (opened dictionary.now (option_copied secret.entry)) policy.now request ≡ Some report) }
+        report_of_run form (opened dictionary.now (option_copied secret.entry)) policy.now request
+        ≡ Some report) }
     ensures refused { IfErr result (MemoryOr (λ f. (f ≡ fault.PacketTooLong)
-        × (report_of_run form (opened dictionary.now (option_copied secret.entry)) policy.now request ≡ None))) }
+        × (report_of_run form (opened dictionary.now (option_copied secret.entry)) policy.now request
+        ≡ None))) }
     ensures read { OnOk result
         (RunIsRead form (opened dictionary.now (option_copied secret.entry)) policy.now request) }
 {
