@@ -122,17 +122,11 @@ pub(crate) fn entry_store(alloc: Global, request: Packet) -> Result<SlotStore, A
 }
 
 // A copy of the reply list at a stepper's position.
-fn reply_at<S: Store>(
-    dictionary: &Dictionary,
-    stepper: &Stepper<'_, S>,
-) -> Result<Vec<Pair>, AllocError>
-    requires { stepper.now.dictionary ≡ dictionary.now }
+fn reply_at<S: Store>(stepper: &Stepper<'_, S>) -> Result<Vec<Pair>, AllocError>
     ensures reply { IfOk result (λ reply. reply.items ≡ (entry stepper.now).outcome.state.reply) }
-    ensures fit { IfOk result (λ reply. AllFit dictionary.now reply.items) }
+    ensures fit { IfOk result (λ reply. AllFit stepper.now.dictionary reply.items) }
 {
-    let _ = dictionary;
-    let reply = stepper.store().list(List::Reply)?;
-    Ok(reply)
+    stepper.store().list(List::Reply)
 }
 
 // Runs the policy to its end.
@@ -168,7 +162,7 @@ fn run_over(
     let code = stepper.code();
     let stopped = stepper.stopped();
     let text = text_of_run(alloc, dictionary, stepper.store(), code, stopped)?;
-    let reply = reply_at(dictionary, &stepper)?;
+    let reply = reply_at(&stepper)?;
     Ok(Ended {
         code,
         stopped,
