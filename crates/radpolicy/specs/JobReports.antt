@@ -18,8 +18,7 @@ use Rattle.avp_unlang.specs.declared.tree.Statement.{Statement}
 use Rattle.avp_unlang.specs.Policies.{SpellsPolicy}
 use Rattle.avp_unlang.specs.Meaning.{Outcome as End, meaning_of}
 use Rattle.avp_unlang.specs.declared.codes.Code.TheVariants as Code
-use Rattle.avp_step.specs.Trace.{trace_of}
-use Rattle.avp_step.specs.Walk.{Walk, entry}
+use Rattle.avp_step.specs.Walk.{Walk, entry, walk_from}
 use Rattle.avp_unlang.specs.Sizes.{size_of}
 use Rattle.radpolicy.specs.Received.{IsUnreadRequest, request_for}
 use Rattle.radpolicy.specs.Replies.{answer_of, request_packet}
@@ -109,11 +108,7 @@ IsScript job script = script_spelled (script_of job) ≡ Ok script
 -- the walk over the policy's trace, at its start
 abbrev pub request_walk : Dictionary → List Statement → Packet → Walk
 request_walk dictionary statements request =
-    record {
-      dictionary = dictionary;
-      trace = trace_of dictionary statements (entry_state request.list);
-      position = 0;
-    }
+    walk_from dictionary statements (entry_state request.list)
 
 -- the report of a walk by a script
 abbrev pub step_report : List ScriptWord → Walk → Report
