@@ -2,9 +2,8 @@
 use Rattle.std.proofs.Common.{◌≡◌, ◌∙◌, ℕ, Bool, true, false, nat_le, cond, List, [], length, Option, Some, None, refl, sym, ap, subst}
 use Rattle.avp_lists.specs.declared.pairs.Pair.{Pair}
 use Rattle.avp_dict.specs.Dictionary.{Dictionary}
-use Rattle.avp_packet.specs.declared.authenticators.TheConstants.{MAX_PACKET_OCTETS}
 use Rattle.avp_packet.specs.Means.{Means}
-use Rattle.avp_packet.specs.Packets.{attributes_of, code_of, hiding_authenticator, is_reply, packet, pairs_meant, reply, reply_content}
+use Rattle.avp_packet.specs.Packets.{attributes_of, code_of, hiding_authenticator, is_reply, max_packet_octets, packet, pairs_meant, reply, reply_content}
 use Rattle.avp_packet.specs.Sending.{Content}
 use Rattle.avp_packet.specs.Signed.{is_signed}
 use Rattle.avp_packet.specs.Splitting.{left, parts}
@@ -47,7 +46,7 @@ module _ (dictionary : Dictionary) (head : ReplyHead) (last : Code) (pairs : Lis
     sent_read is accepted whole means signed = λ a octets e sends.
         let same_authenticator : authenticator ≡ a = cc in
         let within : sent_or_too_long (within_packet made) ≡ Sent octets = rw (coded, known) at sends in
-        let same : os ≡ octets = is ∙ within_by (nat_le (length made) MAX_PACKET_OCTETS) made octets (sent_inverts (within_packet made) octets within) in
+        let same : os ≡ octets = is ∙ within_by (nat_le (length made) max_packet_octets) made octets (sent_inverts (within_packet made) octets within) in
         let own : code_of os ≡ code = ap code_of is ∙ code_of_reply dictionary head.secret.now code head.id authenticator head.signed (reply_pairs last pairs) head.proxy_states.items in
         let read : IsRead dictionary head.secret.now head.id authenticator os content = record {
           accepted = accepted;

@@ -7,8 +7,7 @@ use Rattle.avp_lists.specs.Instances.{has_instance, instances}
 use Rattle.avp_dict.specs.AttributeNumbers.{proxy_state}
 use Rattle.avp_dict.specs.Dictionary.{Dictionary}
 use Rattle.avp_packet.specs.declared.packets.Packet.{Packet}
-use Rattle.avp_packet.specs.declared.authenticators.TheConstants.{MAX_PACKET_OCTETS}
-use Rattle.avp_packet.specs.Packets.{access_accept, access_reject, access_request, accounting_request, accounting_response, authenticator_of, reply, request}
+use Rattle.avp_packet.specs.Packets.{access_accept, access_reject, access_request, accounting_request, accounting_response, authenticator_of, max_packet_octets, reply, request}
 use Rattle.avp_packet.specs.Sending.{message_authenticator_id}
 use Rattle.avp_unlang.specs.declared.codes.Code.{Code}
 use Rattle.avp_unlang.specs.declared.codes.Code.TheVariants as code
@@ -18,7 +17,7 @@ use Rattle.avp_unlang.specs.Meaning.{Outcome as End}
 
 -- a packet that is not too long
 abbrev pub within_packet : List ℕ → Option (List ℕ)
-within_packet octets = if nat_le (length octets) MAX_PACKET_OCTETS then Some octets else None
+within_packet octets = if nat_le (length octets) max_packet_octets then Some octets else None
 
 -- the packet of a request
 abbrev pub request_packet : Dictionary → List ℕ → Packet → Option (List ℕ)
