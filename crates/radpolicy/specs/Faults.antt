@@ -22,77 +22,77 @@ pub record FaultRow : Type 0 where
   pub number : ℕ
   pub text : List ℕ
 
-abbrev pub row : ℕ → List ℕ → FaultRow
-row number text = record { number = number; text = text }
+abbrev pub numbered : ℕ → List ℕ → FaultRow
+numbered number text = record { number = number; text = text }
 
 -- want of memory, in whatever part of a job
 abbrev pub out_of_memory : FaultRow
-out_of_memory = row 9 (codes "out of memory")
+out_of_memory = numbered 9 (codes "out of memory")
 
 -- the faults of dictionaries
 abbrev pub dict_fault_row : DictKind → FaultRow
-dict_fault_row dict.Unreadable = row 10 (codes "unreadable line")
-dict_fault_row dict.OutOfRange = row 11 (codes "number out of range")
-dict_fault_row dict.OtherNumber = row 12 (codes "name has another number")
-dict_fault_row dict.UnknownVendor = row 13 (codes "unknown vendor")
-dict_fault_row dict.Unmatched = row 14 (codes "BEGIN and END differ")
-dict_fault_row dict.NoFile = row 15 (codes "file not handed in")
-dict_fault_row dict.TooDeep = row 16 (codes "includes too deep")
-dict_fault_row dict.TooLong = row 17 (codes "too many lines")
-dict_fault_row dict.NoAttribute = row 18 (codes "VALUE of no ATTRIBUTE")
-dict_fault_row dict.OtherValue = row 19 (codes "VALUE has another number")
+dict_fault_row dict.Unreadable = numbered 10 (codes "unreadable line")
+dict_fault_row dict.OutOfRange = numbered 11 (codes "number out of range")
+dict_fault_row dict.OtherNumber = numbered 12 (codes "name has another number")
+dict_fault_row dict.UnknownVendor = numbered 13 (codes "unknown vendor")
+dict_fault_row dict.Unmatched = numbered 14 (codes "BEGIN and END differ")
+dict_fault_row dict.NoFile = numbered 15 (codes "file not handed in")
+dict_fault_row dict.TooDeep = numbered 16 (codes "includes too deep")
+dict_fault_row dict.TooLong = numbered 17 (codes "too many lines")
+dict_fault_row dict.NoAttribute = numbered 18 (codes "VALUE of no ATTRIBUTE")
+dict_fault_row dict.OtherValue = numbered 19 (codes "VALUE has another number")
 dict_fault_row dict.Memory = out_of_memory
 
 -- the faults of request lines
 abbrev pub line_fault_row : LineKind → FaultRow
-line_fault_row line.NotValue = row 30 (codes "not a value")
-line_fault_row line.TooLong = row 31 (codes "too long")
-line_fault_row line.Unknown = row 32 (codes "unknown attribute")
-line_fault_row line.NotWritable = row 33 (codes "not writable")
-line_fault_row line.SecondPacket = row 34 (codes "second packet")
-line_fault_row line.TooMany = row 35 (codes "too many pairs")
-line_fault_row line.Unreadable = row 36 (codes "unreadable line")
+line_fault_row line.NotValue = numbered 30 (codes "not a value")
+line_fault_row line.TooLong = numbered 31 (codes "too long")
+line_fault_row line.Unknown = numbered 32 (codes "unknown attribute")
+line_fault_row line.NotWritable = numbered 33 (codes "not writable")
+line_fault_row line.SecondPacket = numbered 34 (codes "second packet")
+line_fault_row line.TooMany = numbered 35 (codes "too many pairs")
+line_fault_row line.Unreadable = numbered 36 (codes "unreadable line")
 line_fault_row line.Memory = out_of_memory
 
 -- the faults of packets
 abbrev pub packet_fault_row : PacketFault → FaultRow
-packet_fault_row packet.TooShort = row 40 (codes "fewer than 20 octets")
-packet_fault_row packet.LengthOutOfRange = row 41 (codes "bad packet length")
-packet_fault_row packet.CutShort = row 42 (codes "packet cut short")
-packet_fault_row (packet.BadAttribute offset) = row 43 (codes "bad attribute length")
-packet_fault_row packet.CodeNotTaken = row 44 (codes "code not taken")
-packet_fault_row packet.WrongAuthenticator = row 45 (codes "wrong authenticator")
-packet_fault_row packet.WrongMessageAuthenticator = row 47 (codes "wrong Message-Authenticator")
+packet_fault_row packet.TooShort = numbered 40 (codes "fewer than 20 octets")
+packet_fault_row packet.LengthOutOfRange = numbered 41 (codes "bad packet length")
+packet_fault_row packet.CutShort = numbered 42 (codes "packet cut short")
+packet_fault_row (packet.BadAttribute offset) = numbered 43 (codes "bad attribute length")
+packet_fault_row packet.CodeNotTaken = numbered 44 (codes "code not taken")
+packet_fault_row packet.WrongAuthenticator = numbered 45 (codes "wrong authenticator")
+packet_fault_row packet.WrongMessageAuthenticator = numbered 47 (codes "wrong Message-Authenticator")
 packet_fault_row packet.Memory = out_of_memory
 
 -- the faults of policies
 abbrev pub policy_fault_row : PolicyKind → FaultRow
-policy_fault_row policy.NotValue = row 30 (codes "not a value")
-policy_fault_row policy.TooLong = row 31 (codes "too long")
-policy_fault_row policy.Unknown = row 32 (codes "unknown attribute")
-policy_fault_row policy.NotWritable = row 33 (codes "not writable")
-policy_fault_row policy.Unreadable = row 50 (codes "unreadable token")
-policy_fault_row policy.Misplaced = row 51 (codes "token does not fit")
-policy_fault_row policy.TooDeep = row 53 (codes "nested too deep")
-policy_fault_row policy.TooLarge = row 54 (codes "policy too large")
-policy_fault_row policy.OtherType = row 55 (codes "types differ")
+policy_fault_row policy.NotValue = numbered 30 (codes "not a value")
+policy_fault_row policy.TooLong = numbered 31 (codes "too long")
+policy_fault_row policy.Unknown = numbered 32 (codes "unknown attribute")
+policy_fault_row policy.NotWritable = numbered 33 (codes "not writable")
+policy_fault_row policy.Unreadable = numbered 50 (codes "unreadable token")
+policy_fault_row policy.Misplaced = numbered 51 (codes "token does not fit")
+policy_fault_row policy.TooDeep = numbered 53 (codes "nested too deep")
+policy_fault_row policy.TooLarge = numbered 54 (codes "policy too large")
+policy_fault_row policy.OtherType = numbered 55 (codes "types differ")
 policy_fault_row policy.Memory = out_of_memory
 
 -- all faults
 abbrev pub fault_row : Fault → FaultRow
-fault_row fault.Help = row 0 (codes "help")
-fault_row fault.Usage = row 1 (codes "usage")
-fault_row fault.OptionValue = row 2 (codes "option value")
-fault_row fault.EmptySecret = row 3 (codes "empty secret")
-fault_row fault.FileNotReadable = row 4 (codes "file not readable")
-fault_row fault.NotHex = row 5 (codes "not hex")
-fault_row (fault.ScriptWord line) = row 6 (codes "unknown script word")
-fault_row fault.Write = row 7 (codes "write fault")
+fault_row fault.Help = numbered 0 (codes "help")
+fault_row fault.Usage = numbered 1 (codes "usage")
+fault_row fault.OptionValue = numbered 2 (codes "option value")
+fault_row fault.EmptySecret = numbered 3 (codes "empty secret")
+fault_row fault.FileNotReadable = numbered 4 (codes "file not readable")
+fault_row fault.NotHex = numbered 5 (codes "not hex")
+fault_row (fault.ScriptWord line) = numbered 6 (codes "unknown script word")
+fault_row fault.Write = numbered 7 (codes "write fault")
 fault_row fault.Memory = out_of_memory
 fault_row (fault.Dictionary f) = dict_fault_row f.kind
 fault_row (fault.Request f) = line_fault_row f.kind
 fault_row (fault.Packet f) = packet_fault_row f
-fault_row fault.PacketTooLong = row 46 (codes "packet too long")
+fault_row fault.PacketTooLong = numbered 46 (codes "packet too long")
 fault_row (fault.Policy f) = policy_fault_row f.kind
 
 -- the number of a fault; that of the help is not shown

@@ -2,7 +2,7 @@
 
 ghost use Rattle.std.specs.Prelude.{◌≡◌};
 ghost use Rattle.radpolicy.specs.declared.faults.Fault.TheVariants.{Memory};
-ghost use Rattle.radpolicy.specs.Faults.{dict_fault_row, fault_number, fault_of_dict, fault_of_encode, fault_of_line, fault_of_packet, fault_of_policy, fault_row, fault_text, is_memory, line_fault_row, out_of_memory, packet_fault_row, policy_fault_row, row, status_of};
+ghost use Rattle.radpolicy.specs.Faults.{dict_fault_row, fault_number, fault_of_dict, fault_of_encode, fault_of_line, fault_of_packet, fault_of_policy, fault_row, fault_text, is_memory, line_fault_row, numbered, out_of_memory, packet_fault_row, policy_fault_row, status_of};
 
 use avp_dict::{DictFault, DictKind, LineFault, LineKind};
 use avp_packet::{EncodeFault, PacketFault};
@@ -117,8 +117,8 @@ impl Model for FaultRow {
     ghost view = { λ s. record { number = s.number; text = s.text.now } };
 }
 
-fn row(number: u8, text: &'static str) -> FaultRow
-    ensures { result ≡ row number text.now }
+fn numbered(number: u8, text: &'static str) -> FaultRow
+    ensures { result ≡ numbered number text.now }
 {
     FaultRow { number, text }
 }
@@ -127,7 +127,7 @@ fn row(number: u8, text: &'static str) -> FaultRow
 fn out_of_memory() -> FaultRow
     ensures { result ≡ out_of_memory }
 {
-    row(9, "out of memory")
+    numbered(9, "out of memory")
 }
 
 // The faults of dictionaries.
@@ -135,16 +135,16 @@ fn dict_fault_row(kind: DictKind) -> FaultRow
     ensures { result ≡ dict_fault_row kind }
 {
     match kind {
-        DictKind::Unreadable => row(10, "unreadable line"),
-        DictKind::OutOfRange => row(11, "number out of range"),
-        DictKind::OtherNumber => row(12, "name has another number"),
-        DictKind::UnknownVendor => row(13, "unknown vendor"),
-        DictKind::Unmatched => row(14, "BEGIN and END differ"),
-        DictKind::NoFile => row(15, "file not handed in"),
-        DictKind::TooDeep => row(16, "includes too deep"),
-        DictKind::TooLong => row(17, "too many lines"),
-        DictKind::NoAttribute => row(18, "VALUE of no ATTRIBUTE"),
-        DictKind::OtherValue => row(19, "VALUE has another number"),
+        DictKind::Unreadable => numbered(10, "unreadable line"),
+        DictKind::OutOfRange => numbered(11, "number out of range"),
+        DictKind::OtherNumber => numbered(12, "name has another number"),
+        DictKind::UnknownVendor => numbered(13, "unknown vendor"),
+        DictKind::Unmatched => numbered(14, "BEGIN and END differ"),
+        DictKind::NoFile => numbered(15, "file not handed in"),
+        DictKind::TooDeep => numbered(16, "includes too deep"),
+        DictKind::TooLong => numbered(17, "too many lines"),
+        DictKind::NoAttribute => numbered(18, "VALUE of no ATTRIBUTE"),
+        DictKind::OtherValue => numbered(19, "VALUE has another number"),
         DictKind::Memory => out_of_memory(),
     }
 }
@@ -154,13 +154,13 @@ fn line_fault_row(kind: LineKind) -> FaultRow
     ensures { result ≡ line_fault_row kind }
 {
     match kind {
-        LineKind::NotValue => row(30, "not a value"),
-        LineKind::TooLong => row(31, "too long"),
-        LineKind::Unknown => row(32, "unknown attribute"),
-        LineKind::NotWritable => row(33, "not writable"),
-        LineKind::SecondPacket => row(34, "second packet"),
-        LineKind::TooMany => row(35, "too many pairs"),
-        LineKind::Unreadable => row(36, "unreadable line"),
+        LineKind::NotValue => numbered(30, "not a value"),
+        LineKind::TooLong => numbered(31, "too long"),
+        LineKind::Unknown => numbered(32, "unknown attribute"),
+        LineKind::NotWritable => numbered(33, "not writable"),
+        LineKind::SecondPacket => numbered(34, "second packet"),
+        LineKind::TooMany => numbered(35, "too many pairs"),
+        LineKind::Unreadable => numbered(36, "unreadable line"),
         LineKind::Memory => out_of_memory(),
     }
 }
@@ -170,13 +170,13 @@ fn packet_fault_row(fault: PacketFault) -> FaultRow
     ensures { result ≡ packet_fault_row fault }
 {
     match fault {
-        PacketFault::TooShort => row(40, "fewer than 20 octets"),
-        PacketFault::LengthOutOfRange => row(41, "bad packet length"),
-        PacketFault::CutShort => row(42, "packet cut short"),
-        PacketFault::BadAttribute(_) => row(43, "bad attribute length"),
-        PacketFault::CodeNotTaken => row(44, "code not taken"),
-        PacketFault::WrongAuthenticator => row(45, "wrong authenticator"),
-        PacketFault::WrongMessageAuthenticator => row(47, "wrong Message-Authenticator"),
+        PacketFault::TooShort => numbered(40, "fewer than 20 octets"),
+        PacketFault::LengthOutOfRange => numbered(41, "bad packet length"),
+        PacketFault::CutShort => numbered(42, "packet cut short"),
+        PacketFault::BadAttribute(_) => numbered(43, "bad attribute length"),
+        PacketFault::CodeNotTaken => numbered(44, "code not taken"),
+        PacketFault::WrongAuthenticator => numbered(45, "wrong authenticator"),
+        PacketFault::WrongMessageAuthenticator => numbered(47, "wrong Message-Authenticator"),
         PacketFault::Memory => out_of_memory(),
     }
 }
@@ -186,15 +186,15 @@ fn policy_fault_row(kind: PolicyKind) -> FaultRow
     ensures { result ≡ policy_fault_row kind }
 {
     match kind {
-        PolicyKind::NotValue => row(30, "not a value"),
-        PolicyKind::TooLong => row(31, "too long"),
-        PolicyKind::Unknown => row(32, "unknown attribute"),
-        PolicyKind::NotWritable => row(33, "not writable"),
-        PolicyKind::Unreadable => row(50, "unreadable token"),
-        PolicyKind::Misplaced => row(51, "token does not fit"),
-        PolicyKind::TooDeep => row(53, "nested too deep"),
-        PolicyKind::TooLarge => row(54, "policy too large"),
-        PolicyKind::OtherType => row(55, "types differ"),
+        PolicyKind::NotValue => numbered(30, "not a value"),
+        PolicyKind::TooLong => numbered(31, "too long"),
+        PolicyKind::Unknown => numbered(32, "unknown attribute"),
+        PolicyKind::NotWritable => numbered(33, "not writable"),
+        PolicyKind::Unreadable => numbered(50, "unreadable token"),
+        PolicyKind::Misplaced => numbered(51, "token does not fit"),
+        PolicyKind::TooDeep => numbered(53, "nested too deep"),
+        PolicyKind::TooLarge => numbered(54, "policy too large"),
+        PolicyKind::OtherType => numbered(55, "types differ"),
         PolicyKind::Memory => out_of_memory(),
     }
 }
@@ -205,19 +205,19 @@ impl Fault {
         ensures { result ≡ fault_row self }
     {
         match self {
-            Fault::Help => row(0, "help"),
-            Fault::Usage => row(1, "usage"),
-            Fault::OptionValue => row(2, "option value"),
-            Fault::EmptySecret => row(3, "empty secret"),
-            Fault::FileNotReadable => row(4, "file not readable"),
-            Fault::NotHex => row(5, "not hex"),
-            Fault::ScriptWord { .. } => row(6, "unknown script word"),
-            Fault::Write => row(7, "write fault"),
+            Fault::Help => numbered(0, "help"),
+            Fault::Usage => numbered(1, "usage"),
+            Fault::OptionValue => numbered(2, "option value"),
+            Fault::EmptySecret => numbered(3, "empty secret"),
+            Fault::FileNotReadable => numbered(4, "file not readable"),
+            Fault::NotHex => numbered(5, "not hex"),
+            Fault::ScriptWord { .. } => numbered(6, "unknown script word"),
+            Fault::Write => numbered(7, "write fault"),
             Fault::Memory => out_of_memory(),
             Fault::Dictionary(fault) => dict_fault_row(fault.kind),
             Fault::Request(fault) => line_fault_row(fault.kind),
             Fault::Packet(fault) => packet_fault_row(fault),
-            Fault::PacketTooLong => row(46, "packet too long"),
+            Fault::PacketTooLong => numbered(46, "packet too long"),
             Fault::Policy(fault) => policy_fault_row(fault.kind),
         }
     }
