@@ -9,7 +9,7 @@ use Rattle.avp_packet.specs.declared.faults.PacketFault.{PacketFault}
 use Rattle.avp_packet.specs.declared.faults.PacketFault.TheVariants.{TooShort, LengthOutOfRange, CutShort, BadAttribute, CodeNotTaken, WrongAuthenticator, WrongMessageAuthenticator}
 use Rattle.avp_packet.specs.declared.packets.Packet.{Packet}
 use Rattle.avp_packet.specs.Meanings.{attribute_pairs}
-use Rattle.avp_packet.specs.Packets.{access_request, accounting_request, attributes_of, authenticator_of, code_of, hiding_authenticator, id_of, is_packet_length, length_of, zeros}
+use Rattle.avp_packet.specs.Packets.{access_request, accounting_request, attributes_of, authenticator_of, code_of, hiding_authenticator, id_of, is_packet_length, length_of, packet_head_octets, zeros}
 use Rattle.avp_packet.specs.Signed.{is_signature, is_signed}
 use Rattle.avp_packet.specs.Splitting.{left, parts}
 
@@ -31,7 +31,7 @@ unless_left end (o ∷ os) read = Err (BadAttribute (end - length (o ∷ os)))
 
 -- the first attribute that is not whole, by its offset in the packet
 abbrev pub unless_bad : List ℕ → Result Packet PacketFault → Result Packet PacketFault
-unless_bad attributes read = unless_left (20 + length attributes) (left attributes) read
+unless_bad attributes read = unless_left (packet_head_octets + length attributes) (left attributes) read
 
 module _ (dictionary : Dictionary) (secret os : List ℕ) where
   abbrev pub packet_read : Packet
@@ -58,7 +58,7 @@ module _ (dictionary : Dictionary) (secret os : List ℕ) where
   -- what octets are read as, or the first refusal
   unfoldable pub decoded : Result Packet PacketFault
   decoded =
-      if nat_lt (length os) 20 then Err TooShort
+      if nat_lt (length os) packet_head_octets then Err TooShort
       else if not (is_packet_length (length_of os)) then Err LengthOutOfRange
       else if nat_lt (length os) (length_of os) then Err CutShort
       else unless_bad (attributes_of os) request_read

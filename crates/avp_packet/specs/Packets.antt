@@ -39,10 +39,15 @@ IsReplyCode code = (code ≡ access_accept) ⊎ ((code ≡ access_reject) ⊎ (c
 
 -- ---- octets
 
+-- the octets before the attributes: Code, Identifier, Length and Authenticator
+abbrev pub packet_head_octets : ℕ
+packet_head_octets = 20
+
 -- Code, Identifier, Length, which counts all, Authenticator and attributes
 unfoldable pub packet : ℕ → ℕ → List ℕ → List ℕ → List ℕ
 packet code id authenticator attributes =
-    code ∷ id ∷ to_be_bytes w16 (20 + length attributes) ++ authenticator ++ attributes
+    code ∷ id ∷ to_be_bytes w16 (packet_head_octets + length attributes) ++ authenticator
+    ++ attributes
 
 abbrev pub zeros : List ℕ
 zeros = replicate 16 0
@@ -138,14 +143,14 @@ authenticator_of os = take 16 (drop 4 os)
 
 -- what is behind the authenticator, up to Length
 abbrev pub attributes_of : List ℕ → List ℕ
-attributes_of os = drop 20 (take (length_of os) os)
+attributes_of os = drop packet_head_octets (take (length_of os) os)
 
 -- the most octets of a packet, of every code
 abbrev pub max_packet_octets : ℕ
 max_packet_octets = 4096
 
 abbrev pub is_packet_length : ℕ → Bool
-is_packet_length n = nat_le 20 n && nat_le n max_packet_octets
+is_packet_length n = nat_le packet_head_octets n && nat_le n max_packet_octets
 
 -- no longer than a packet may be
 abbrev pub IsShort : List ℕ → Type 0
@@ -157,7 +162,8 @@ IsTooLong os = max_packet_octets < length os
 -- octets begin with a packet: its head, and a Length in range that they reach
 abbrev pub begins_packet : List ℕ → Bool
 begins_packet os =
-    nat_le 20 (length os) && is_packet_length (length_of os) && nat_le (length_of os) (length os)
+    nat_le packet_head_octets (length os) && is_packet_length (length_of os)
+    && nat_le (length_of os) (length os)
 
 -- a reply by its Response Authenticator, to a request with this authenticator; octets past Length are not looked at
 unfoldable pub is_reply : List ℕ → List ℕ → List ℕ → Bool

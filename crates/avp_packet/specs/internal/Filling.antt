@@ -58,13 +58,18 @@ module _ (dictionary : Dictionary) (secret : List ℕ) where
       let octets = divided_octets (hiding_authenticator code authenticator) division proxy_states in
       octets (hmac secret (packet code id authenticator (octets zeros)))
 
+-- the octets of a Message-Authenticator: Type, Length and 16 of Value
+abbrev pub signature_octets : ℕ
+signature_octets = 18
+
 -- attributes, with these octets as the Message-Authenticator at its place
 abbrev pub filled : List ℕ → Option ℕ → List ℕ → List ℕ
 filled os None signature = os
 filled os (Some place) signature =
-    take place os ++ part_octets (part message_authenticator signature) ++ drop (place + 18) os
+    take place os ++ part_octets (part message_authenticator signature)
+    ++ drop (place + signature_octets) os
 
 -- the place is one of a Message-Authenticator in so many octets
 abbrev pub IsPlace : ℕ → Option ℕ → Type 0
 IsPlace n None = Unit {0}
-IsPlace n (Some place) = place + 18 ≤ n
+IsPlace n (Some place) = place + signature_octets ≤ n
