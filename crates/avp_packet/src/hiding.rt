@@ -137,8 +137,7 @@ pub(crate) fn hidden(
         ≡ hidden secret.now authenticator.now password.now) }
 {
     let padded = padded(alloc, password)?;
-    let octets = hidden_blocks(alloc, secret, authenticator, &padded)?;
-    Ok(octets)
+    hidden_blocks(alloc, secret, authenticator, &padded)
 }
 
 /// A password's octets hidden, in whole blocks of 16 octets (RFC 2865, section 5.2).

@@ -1,4 +1,5 @@
 use Rattle.std.proofs.Common.{◌≡◌, ◌/◌, length}
+use Rattle.std.proofs.lemmas.Result.{IfOk-weaker}
 use Rattle.avp_packet.specs.Hiding.{hidden_blocks}
 use Rattle.avp_packet.proofs.Nuls.{hidden_by}
 use Rattle.avp_packet.proofs.hiding.hidden.Goals as goal
@@ -6,6 +7,8 @@ use Rattle.avp_packet.proofs.hiding.hidden.Goals as goal
 pub returns : goal.returns
 returns c =
     let os = c.in_ok-padded.padded.items in
-    let made = c.in_ok-octets.octets.items in
-    let h : made ≡ hidden_blocks (length os / 16) c.args.secret.now c.args.authenticator.now os = cc (c.deref.ensures.value, c.in_ok-octets.ensures) in
-    hidden_by c.args.secret.now c.args.authenticator.now c.args.password.now os made c.in_ok-padded.ensures h
+    IfOk-weaker c.hidden_blocks.result _ _
+    (λ octets e.
+    let h : octets.items ≡ hidden_blocks (length os / 16) c.args.secret.now c.args.authenticator.now os = cc (c.deref.ensures.value, e) in
+    hidden_by c.args.secret.now c.args.authenticator.now c.args.password.now os octets.items c.in_ok-padded.ensures h)
+    c.hidden_blocks.ensures
