@@ -7,7 +7,6 @@ ghost use Rattle.md5.specs.Md5.{md5};
 ghost use Rattle.avp_packet.specs.Decoded.{is_accounting_request};
 ghost use Rattle.avp_packet.specs.Packets.{authenticator_of, begins_packet, digest_over, is_packet_length, is_reply, length_of};
 
-use crate::hiding::BLOCK_OCTETS;
 use md5::{Digest, Md5};
 
 /// Octets before the attributes: Code, Identifier, Length and Authenticator (RFC 2865, section 3).
@@ -17,13 +16,16 @@ pub const PACKET_HEAD_OCTETS: usize = 20;
 pub const MAX_PACKET_OCTETS: usize = 4096;
 
 /// The most octets of a packet's attributes.
-pub(crate) const MAX_ATTRIBUTE_OCTETS: usize = MAX_PACKET_OCTETS - PACKET_HEAD_OCTETS;
+pub(crate) const MAX_ATTRIBUTES_OCTETS: usize = MAX_PACKET_OCTETS - PACKET_HEAD_OCTETS;
+
+/// The octets of a digest, and of an authenticator.
+pub(crate) const DIGEST_OCTETS: usize = 16;
 
 /// Where the authenticator begins.
 pub(crate) const AUTHENTICATOR_PLACE: usize = 4;
 
 /// Octets of zero, in an authenticator's place.
-pub(crate) const ZEROS: [u8; BLOCK_OCTETS] = [0; BLOCK_OCTETS];
+pub(crate) const ZEROS: [u8; DIGEST_OCTETS] = [0; DIGEST_OCTETS];
 
 pub(crate) fn is_packet_length(length: usize) -> bool
     ensures { result ≡ is_packet_length length }
@@ -81,7 +83,7 @@ pub(crate) fn authenticator_of(octets: &[u8]) -> &[u8]
 pub(crate) fn attributes_in(octets: &[u8], end: usize) -> &[u8]
     requires head { PACKET_HEAD_OCTETS ≤ end }
     requires whole { end ≤ length octets.now }
-    ensures { result.now ≡ drop 20 (take end octets.now) }
+    ensures { result.now ≡ drop PACKET_HEAD_OCTETS (take end octets.now) }
 {
     let whole = &octets[..end];
     &whole[PACKET_HEAD_OCTETS..]
@@ -100,7 +102,7 @@ fn has_digest(octets: &[u8], end: usize, authenticator: &[u8; 16], secret: &[u8]
     requires whole { end ≤ length octets.now }
     ensures { result ≡ bytes_eq (authenticator_of octets.now)
         (md5 (take 4 octets.now ++ authenticator.now
-        ++ drop 20 (take end octets.now) ++ secret.now)) }
+        ++ drop PACKET_HEAD_OCTETS (take end octets.now) ++ secret.now)) }
 {
     let digest = digest_of_four(
         &octets[..AUTHENTICATOR_PLACE],
@@ -140,9 +142,9 @@ pub fn check_reply(reply: &[u8], request_authenticator: &[u8; 16], secret: &[u8]
 }
 
 /// Code, Identifier and Length of a packet with so many octets of attributes.
-pub(crate) fn head_of(code: u8, id: u8, attributes: usize) -> [u8; 4]
+pub(crate) fn code_id_length(code: u8, id: u8, attributes: usize) -> [u8; 4]
     requires { attributes ≤ MAX_PACKET_OCTETS }
-    ensures { result ≡ code ∷ id ∷ to_be_bytes w16 (20 + attributes) }
+    ensures { result ≡ code ∷ id ∷ to_be_bytes w16 (PACKET_HEAD_OCTETS + attributes) }
 {
     let length = ((PACKET_HEAD_OCTETS + attributes) as u16).to_be_bytes();
     [code, id, length[0], length[1]]
@@ -160,6 +162,6 @@ pub(crate) fn digest_over(
     requires { length attributes.now ≤ MAX_PACKET_OCTETS }
     ensures { result ≡ digest_over code id authenticator.now attributes.now secret.now }
 {
-    let head = head_of(code, id, attributes.len());
+    let head = code_id_length(code, id, attributes.len());
     digest_of_four(&head, authenticator, attributes, secret)
 }

@@ -11,8 +11,8 @@ use crate::faults::HideFault;
 use md5::{Digest, Md5};
 use std::alloc::{AllocError, Global};
 
-/// The octets of an authenticator, of a digest and of a block.
-pub const BLOCK_OCTETS: usize = 16;
+/// The octets of a block that is hidden by a digest.
+const BLOCK_OCTETS: usize = 16;
 
 /// The most octets of a password.
 pub const MAX_PASSWORD_OCTETS: usize = 128;
@@ -66,7 +66,7 @@ fn hidden_blocks(
     let mut octets = Vec::with_capacity(alloc, padded.len())?;
     let mut before = *authenticator;
     let mut rest = padded;
-    while let Some((block, after)) = rest.split_first_chunk::<16>() {
+    while let Some((block, after)) = rest.split_first_chunk::<BLOCK_OCTETS>() {
         before = masked(&mask_of(secret, &before), block);
         octets.extend_from_slice(&before)?;
         rest = after;
@@ -86,7 +86,7 @@ fn shown_blocks(
     let mut octets = Vec::with_capacity(alloc, hidden.len())?;
     let mut before = *authenticator;
     let mut rest = hidden;
-    while let Some((block, after)) = rest.split_first_chunk::<16>() {
+    while let Some((block, after)) = rest.split_first_chunk::<BLOCK_OCTETS>() {
         octets.extend_from_slice(&masked(&mask_of(secret, &before), block))?;
         before = *block;
         rest = after;

@@ -10,29 +10,29 @@ ghost use Rattle.avp_packet.specs.Splitting.{part_octets};
 
 use crate::attribute::numbers::MESSAGE_AUTHENTICATOR;
 use crate::attribute::splitting::ATTRIBUTE_HEAD_OCTETS;
-use crate::authenticators::ZEROS;
-use crate::hiding::{BLOCK_OCTETS, masked};
+use crate::authenticators::{DIGEST_OCTETS, ZEROS};
+use crate::hiding::masked;
 use md5::{Digest, Md5};
 
 /// The octets of a block of MD5.
-const KEY_OCTETS: usize = 64;
+const MD5_BLOCK_OCTETS: usize = 64;
 
-const INNER_PAD: [u8; KEY_OCTETS] = [0x36; KEY_OCTETS];
+const INNER_PAD: [u8; MD5_BLOCK_OCTETS] = [0x36; MD5_BLOCK_OCTETS];
 
-const OUTER_PAD: [u8; KEY_OCTETS] = [0x5c; KEY_OCTETS];
+const OUTER_PAD: [u8; MD5_BLOCK_OCTETS] = [0x5c; MD5_BLOCK_OCTETS];
 
 /// The octets of a Message-Authenticator: Type, Length and 16 of Value.
-pub(crate) const SIGNATURE_OCTETS: usize = ATTRIBUTE_HEAD_OCTETS + BLOCK_OCTETS;
+pub(crate) const SIGNATURE_OCTETS: usize = ATTRIBUTE_HEAD_OCTETS + DIGEST_OCTETS;
 
 // The Type and Length of a Message-Authenticator.
 const SIGNATURE_HEAD: [u8; ATTRIBUTE_HEAD_OCTETS] = [MESSAGE_AUTHENTICATOR, SIGNATURE_OCTETS as u8];
 
 // The key, or the digest of a long one, with zeros up to a block.
-fn key_block(key: &[u8]) -> [u8; KEY_OCTETS]
+fn key_block(key: &[u8]) -> [u8; MD5_BLOCK_OCTETS]
     ensures { result ≡ key_block key.now }
 {
-    let mut block = [0; KEY_OCTETS];
-    if key.len() <= KEY_OCTETS {
+    let mut block = [0; MD5_BLOCK_OCTETS];
+    if key.len() <= MD5_BLOCK_OCTETS {
         block[..key.len()].copy_from_slice(key);
     } else {
         let digest = Md5::digest(key);
@@ -42,7 +42,7 @@ fn key_block(key: &[u8]) -> [u8; KEY_OCTETS]
 }
 
 // A hasher of the key under a pad.
-fn keyed_hasher(pad: &[u8; KEY_OCTETS], key: &[u8; KEY_OCTETS]) -> Md5
+fn keyed_hasher(pad: &[u8; MD5_BLOCK_OCTETS], key: &[u8; MD5_BLOCK_OCTETS]) -> Md5
     ensures { Holds result (masked pad.now key.now) }
 {
     let mut hasher = Md5::new();
@@ -55,17 +55,17 @@ fn keyed_hasher(pad: &[u8; KEY_OCTETS], key: &[u8; KEY_OCTETS]) -> Md5
 #[tactic(auto, unfolding(crate::specs::Hmac::hmac))]
 pub(crate) fn signature_between(
     secret: &[u8],
-    head: &[u8],
+    code_id_length: &[u8],
     authenticator: &[u8; 16],
     before: &[u8],
     after: &[u8],
 ) -> [u8; 16]
-    ensures { result ≡ hmac secret.now (head.now ++ authenticator.now ++ before.now
+    ensures { result ≡ hmac secret.now (code_id_length.now ++ authenticator.now ++ before.now
         ++ part_octets (part MESSAGE_AUTHENTICATOR zeros) ++ after.now) }
 {
     let key = key_block(secret);
     let mut inner = keyed_hasher(&INNER_PAD, &key);
-    inner.update(head);
+    inner.update(code_id_length);
     inner.update(authenticator);
     inner.update(before);
     inner.update(&SIGNATURE_HEAD);

@@ -51,9 +51,14 @@ pub(crate) fn has_signature(attributes: &[u8]) -> bool
 }
 
 // Whether there is one Message-Authenticator among whole attributes, and it is the digest of the packet.
-fn is_signed_among(head: &[u8], authenticator: &[u8; 16], attributes: &[u8], secret: &[u8]) -> bool
+fn is_signed_among(
+    code_id_length: &[u8],
+    authenticator: &[u8; 16],
+    attributes: &[u8],
+    secret: &[u8],
+) -> bool
     requires { left attributes.now ≡ [] }
-    ensures { result ≡ is_only (hmac secret.now (head.now ++ authenticator.now
+    ensures { result ≡ is_only (hmac secret.now (code_id_length.now ++ authenticator.now
         ++ flat_map part_octets (map blanked (parts attributes.now))))
         (signatures (parts attributes.now)) }
 {
@@ -63,7 +68,13 @@ fn is_signed_among(head: &[u8], authenticator: &[u8; 16], attributes: &[u8], sec
     if has_signature(found.behind) {
         return false;
     }
-    let digest = signature_between(secret, head, authenticator, found.before, found.behind);
+    let digest = signature_between(
+        secret,
+        code_id_length,
+        authenticator,
+        found.before,
+        found.behind,
+    );
     are_equal(found.value, &digest)
 }
 

@@ -12,7 +12,7 @@ use crate::attribute::numbers::{
 };
 use crate::attribute::splitting::{Front, first_attribute};
 use crate::attribute::subattributes::push_vendor_pairs;
-use crate::authenticators::MAX_ATTRIBUTE_OCTETS;
+use crate::authenticators::MAX_ATTRIBUTES_OCTETS;
 use crate::decoding::fragments::join_run;
 use crate::decoding::values::{push_extended, push_joined, push_raw, push_read};
 use crate::keys::Keys;
@@ -99,7 +99,7 @@ pub(crate) fn attribute_pairs(
     octets: &[u8],
     count: usize,
 ) -> Result<Vec<Pair>, AllocError>
-    requires { length octets.now ≤ MAX_ATTRIBUTE_OCTETS }
+    requires { length octets.now ≤ MAX_ATTRIBUTES_OCTETS }
     ensures pairs { IfOk result (λ pairs. pairs.items
         ≡ under keys.now attribute_pairs (parts octets.now)) }
     ensures fits { IfOk result (λ pairs.

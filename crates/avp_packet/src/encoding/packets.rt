@@ -15,7 +15,8 @@ ghost use Rattle.avp_packet.specs.internal.Filling.{AreVendorsInRange, IsPlace, 
 
 use crate::attribute::splitting::ATTRIBUTE_HEAD_OCTETS;
 use crate::authenticators::{
-    MAX_ATTRIBUTE_OCTETS, MAX_PACKET_OCTETS, PACKET_HEAD_OCTETS, ZEROS, digest_over, head_of,
+    MAX_ATTRIBUTES_OCTETS, MAX_PACKET_OCTETS, PACKET_HEAD_OCTETS, ZEROS, code_id_length,
+    digest_over,
 };
 use crate::encoding::dividing::{Division, divide_reply, divide_request};
 use crate::encoding::pairs::write_attributes;
@@ -35,7 +36,7 @@ fn request_authenticator(
     attributes: &[u8],
     secret: &[u8],
 ) -> [u8; 16]
-    requires { length attributes.now ≤ MAX_ATTRIBUTE_OCTETS }
+    requires { length attributes.now ≤ MAX_ATTRIBUTES_OCTETS }
     ensures { result ≡ request_authenticator code id authenticator.now attributes.now secret.now }
 {
     if code == ACCOUNTING_REQUEST {
@@ -57,7 +58,7 @@ fn fill_signature(octets: &mut Vec<u8>, place: usize, signature: &[u8; 16])
 // Signs the packet of attributes, where there is a blank Message-Authenticator among them.
 #[tactic(auto, unfolding(crate::specs::Packets::packet))]
 fn sign(octets: &mut Vec<u8>, place: Option<usize>, keys: &Keys<'_>, code: u8, id: u8)
-    requires short { length octets.old.items ≤ MAX_ATTRIBUTE_OCTETS }
+    requires short { length octets.old.items ≤ MAX_ATTRIBUTES_OCTETS }
     requires place { IsPlace (length octets.old.items) place }
     requires blank { filled octets.old.items place zeros ≡ octets.old.items }
     ensures { octets.new.items ≡ filled octets.old.items place
@@ -66,7 +67,7 @@ fn sign(octets: &mut Vec<u8>, place: Option<usize>, keys: &Keys<'_>, code: u8, i
     let Some(place) = place else {
         return;
     };
-    let head = head_of(code, id, octets.len());
+    let head = code_id_length(code, id, octets.len());
     let before = &octets[..place];
     let behind = &octets[place + SIGNATURE_OCTETS..];
     let signature = signature_between(keys.secret, &head, keys.authenticator, before, behind);
@@ -87,9 +88,9 @@ fn signed_attributes(
     ensures octets { IfOk result (λ octets. octets.items
         ≡ divided_signed keys.now.dictionary.now keys.now.secret.now code id
         keys.now.authenticator.now division.now proxy_states.now) }
-    ensures short { IfOk result (λ octets. length octets.items ≤ MAX_ATTRIBUTE_OCTETS) }
+    ensures short { IfOk result (λ octets. length octets.items ≤ MAX_ATTRIBUTES_OCTETS) }
     ensures ranged { OnOk result (AreVendorsInRange division.now proxy_states.now) }
-    ensures too_long { result ≡ Err EncodeFault.TooLong → MAX_ATTRIBUTE_OCTETS
+    ensures too_long { result ≡ Err EncodeFault.TooLong → MAX_ATTRIBUTES_OCTETS
         < length (divided_octets keys.now.dictionary.now keys.now.secret.now
         (hiding_authenticator code keys.now.authenticator.now)
         division.now proxy_states.now zeros) }
@@ -112,12 +113,12 @@ fn packet(
     authenticator: &[u8; 16],
     attributes: &[u8],
 ) -> Result<Vec<u8>, AllocError>
-    requires { length attributes.now ≤ MAX_ATTRIBUTE_OCTETS }
+    requires { length attributes.now ≤ MAX_ATTRIBUTES_OCTETS }
     ensures { IfOk result (λ octets. octets.items
         ≡ packet code id authenticator.now attributes.now) }
 {
     let mut octets = Vec::with_capacity(alloc, PACKET_HEAD_OCTETS + attributes.len())?;
-    octets.extend_from_slice(&head_of(code, id, attributes.len()))?;
+    octets.extend_from_slice(&code_id_length(code, id, attributes.len()))?;
     octets.extend_from_slice(authenticator)?;
     octets.extend_from_slice(attributes)?;
     Ok(octets)

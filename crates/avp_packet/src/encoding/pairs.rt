@@ -13,7 +13,7 @@ ghost use Rattle.avp_packet.specs.internal.Ranges.{IsVendorInRange};
 ghost use Rattle.avp_packet.specs.internal.Views.{under};
 
 use crate::attribute::numbers::MESSAGE_AUTHENTICATOR;
-use crate::authenticators::{MAX_ATTRIBUTE_OCTETS, ZEROS};
+use crate::authenticators::{MAX_ATTRIBUTES_OCTETS, ZEROS};
 use crate::encoding::attributes::{push_attribute, push_holding};
 use crate::encoding::dividing::{Division, MESSAGE_AUTHENTICATOR_ID};
 use crate::faults::EncodeFault;
@@ -116,20 +116,20 @@ fn push_kept(
     all: bool,
 ) -> Result<(), EncodeFault>
     requires fits { fits pair.now keys.now.dictionary.now ≡ true }
-    requires short { length octets.old.items ≤ MAX_ATTRIBUTE_OCTETS }
+    requires short { length octets.old.items ≤ MAX_ATTRIBUTES_OCTETS }
     ensures ok { OnOk result (octets.new.items ≡ octets.old.items
         ++ under keys.now attribute_octets (kept_pairs all (pair.now ∷ []))) }
     ensures ranged { OnOk result (IsVendorInRange pair.now.id) }
-    ensures short { OnOk result (length octets.new.items ≤ MAX_ATTRIBUTE_OCTETS) }
+    ensures short { OnOk result (length octets.new.items ≤ MAX_ATTRIBUTES_OCTETS) }
     ensures too_long { result ≡ Err EncodeFault.TooLong
-        → MAX_ATTRIBUTE_OCTETS < length octets.old.items
+        → MAX_ATTRIBUTES_OCTETS < length octets.old.items
         + length (under keys.now attribute_octets (kept_pairs all (pair.now ∷ []))) }
 {
     if !is_kept(pair, all) {
         return Ok(());
     }
     push_pair(octets, keys, pair)?;
-    if octets.len() > MAX_ATTRIBUTE_OCTETS {
+    if octets.len() > MAX_ATTRIBUTES_OCTETS {
         return Err(EncodeFault::TooLong);
     }
     Ok(())
@@ -144,13 +144,13 @@ fn push_list(
     all: bool,
 ) -> Result<(), EncodeFault>
     requires fits { All (λ pair. fits pair keys.now.dictionary.now ≡ true) list.now }
-    requires short { length octets.old.items ≤ MAX_ATTRIBUTE_OCTETS }
+    requires short { length octets.old.items ≤ MAX_ATTRIBUTES_OCTETS }
     ensures ok { OnOk result (octets.new.items ≡ octets.old.items
         ++ under keys.now attribute_octets (kept_pairs all list.now)) }
     ensures ranged { OnOk result (All (λ pair. IsVendorInRange pair.id) list.now) }
-    ensures short { OnOk result (length octets.new.items ≤ MAX_ATTRIBUTE_OCTETS) }
+    ensures short { OnOk result (length octets.new.items ≤ MAX_ATTRIBUTES_OCTETS) }
     ensures too_long { result ≡ Err EncodeFault.TooLong
-        → MAX_ATTRIBUTE_OCTETS < length octets.old.items
+        → MAX_ATTRIBUTES_OCTETS < length octets.old.items
         + length (under keys.now attribute_octets (kept_pairs all list.now)) }
 {
     for pair in list {
@@ -161,19 +161,19 @@ fn push_list(
 
 // Adds a blank Message-Authenticator where there is to be one, and says where it is.
 fn push_blank(octets: &mut Vec<u8>, signed: bool) -> Result<Option<usize>, EncodeFault>
-    requires short { length octets.old.items ≤ MAX_ATTRIBUTE_OCTETS }
+    requires short { length octets.old.items ≤ MAX_ATTRIBUTES_OCTETS }
     ensures ok { OnOk result (octets.new.items ≡ octets.old.items ++ signature_if signed zeros) }
     ensures place { IfOk result (λ place. place ≡ place_if signed (length octets.old.items)) }
-    ensures short { OnOk result (length octets.new.items ≤ MAX_ATTRIBUTE_OCTETS) }
+    ensures short { OnOk result (length octets.new.items ≤ MAX_ATTRIBUTES_OCTETS) }
     ensures too_long { result ≡ Err EncodeFault.TooLong
-        → MAX_ATTRIBUTE_OCTETS < length octets.old.items + length (signature_if signed zeros) }
+        → MAX_ATTRIBUTES_OCTETS < length octets.old.items + length (signature_if signed zeros) }
 {
     if !signed {
         return Ok(None);
     }
     let place = octets.len();
     push_attribute(octets, MESSAGE_AUTHENTICATOR, &ZEROS, &[])?;
-    if octets.len() > MAX_ATTRIBUTE_OCTETS {
+    if octets.len() > MAX_ATTRIBUTES_OCTETS {
         return Err(EncodeFault::TooLong);
     }
     Ok(Some(place))
@@ -202,12 +202,12 @@ pub(crate) fn write_attributes(
         → filled w.octets.items w.place signature
         ≡ under keys.now divided_octets division.now proxy_states.now signature) }
     ensures place { IfOk result (λ w. IsPlace (length w.octets.items) w.place) }
-    ensures short { IfOk result (λ w. length w.octets.items ≤ MAX_ATTRIBUTE_OCTETS) }
+    ensures short { IfOk result (λ w. length w.octets.items ≤ MAX_ATTRIBUTES_OCTETS) }
     ensures ranged { OnOk result (AreVendorsInRange division.now proxy_states.now) }
-    ensures too_long { result ≡ Err EncodeFault.TooLong → MAX_ATTRIBUTE_OCTETS
+    ensures too_long { result ≡ Err EncodeFault.TooLong → MAX_ATTRIBUTES_OCTETS
         < length (under keys.now divided_octets division.now proxy_states.now zeros) }
 {
-    let mut octets = Vec::with_capacity(alloc, MAX_ATTRIBUTE_OCTETS)?;
+    let mut octets = Vec::with_capacity(alloc, MAX_ATTRIBUTES_OCTETS)?;
     push_list(&mut octets, keys, division.before, true)?;
     let place = push_blank(&mut octets, division.signed)?;
     push_list(&mut octets, keys, division.behind, false)?;

@@ -17,7 +17,7 @@ returns c =
     let block = key_block c.args.secret.now in
     let inner = c.finalize.ensures _ (c.update-6.ensures _ (c.update-5.ensures _ (c.update-4.ensures _ (c.update-3.ensures _ (c.update-2.ensures _ (c.update.ensures _ c.keyed_hasher-inner.ensures)))))) in
     let outer = c.finalize-2.ensures _ (c.update-7.ensures _ c.keyed_hasher-outer.ensures) in
-    let text : c.finalize.result ≡ md5 (masked inner_pad block ++ (c.args.head.now ++ c.args.authenticator.now ++ c.args.before.now ++ part_octets (part message_authenticator zeros) ++ c.args.after.now)) =
-    inner ∙ rw c.key_block-key.ensures (ap md5 (regrouped (masked inner_pad block) c.args.head.now c.args.authenticator.now c.args.before.now (message_authenticator ∷ 18 ∷ []) zeros c.args.after.now)) in
+    let text : c.finalize.result ≡ md5 (masked inner_pad block ++ (c.args.code_id_length.now ++ c.args.authenticator.now ++ c.args.before.now ++ part_octets (part message_authenticator zeros) ++ c.args.after.now)) =
+    inner ∙ rw c.key_block-key.ensures (ap md5 (regrouped (masked inner_pad block) c.args.code_id_length.now c.args.authenticator.now c.args.before.now (message_authenticator ∷ 18 ∷ []) zeros c.args.after.now)) in
     outer ∙ ap (λ (k : List ℕ). md5 (masked outer_pad k ++ c.finalize.result)) c.key_block-key.ensures
     ∙ ap (λ (os : List ℕ). md5 (masked outer_pad block ++ os)) text

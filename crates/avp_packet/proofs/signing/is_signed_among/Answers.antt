@@ -23,6 +23,6 @@ returns c =
     let none : signatures (parts f.behind.now) ≡ [] = no_more (parts f.behind.now) (sym c.has_signature.ensures ∙ c.if-has_signature.false) in
     let first = found_first c.args.attributes.now f.before.now f.value.now f.behind.now c.in-Some.ensures.octets c.in-Some.ensures.whole c.in-Some.ensures.first in
     let text = blanked_text c.args.attributes.now f.before.now f.value.now f.behind.now c.in-Some.ensures.octets c.in-Some.ensures.whole c.in-Some.ensures.first c.requires none in
-    let head : List ℕ = c.args.head.now ++ c.args.authenticator.now in
+    let head : List ℕ = c.args.code_id_length.now ++ c.args.authenticator.now in
     c.are_equal.ensures ∙ ap (bytes_eq f.value.now) (c.signature_between-digest.ensures ∙ ap (hmac c.args.secret.now) (regrouped head f.before.now (part_octets (part message_authenticator zeros)) f.behind.now))
     ∙ rw (first, none, text) refl
