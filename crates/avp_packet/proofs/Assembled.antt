@@ -42,15 +42,15 @@ module _ (code id : ℕ) (authenticator attributes : List ℕ) (long : length au
   unfolding packet
   authenticator_of-packet = take_at authenticator attributes 16 long
 
-  behind_head : drop 20 (packet code id authenticator attributes) ≡ attributes
+  after_head : drop 20 (packet code id authenticator attributes) ≡ attributes
   unfolding packet
-  behind_head = drop_at authenticator attributes 16 long
+  after_head = drop_at authenticator attributes 16 long
 
   pub attributes_of-packet : attributes_of (packet code id authenticator attributes) ≡ attributes
   attributes_of-packet =
       let os : List ℕ = packet code id authenticator attributes in
       let all : take (length_of os) os ≡ os = take_all (length_of os) os (omega (arith, length_of-packet, length-packet code id authenticator attributes long)) in
-      ap (drop 20) all ∙ behind_head
+      ap (drop 20) all ∙ after_head
 
   pub head-packet : take 4 (packet code id authenticator attributes) ≡ code ∷ id ∷ to_be_bytes w16 (20 + length attributes)
   unfolding packet

@@ -31,7 +31,7 @@ module _ (os : List ℕ) (place : ℕ) (within : place + 18 ≤ length os) (blan
       let rest : List ℕ = drop 16 (drop (place + 2) os) in
       let made : List ℕ = take (place + 2) os ++ (signature ++ rest) in
       let front = length-take-le (place + 2) os (omega arith) in
-      let behind = length-drop (place + 2) os in
+      let after = length-drop (place + 2) os in
       let more = length-drop 16 (drop (place + 2) os) in
       let both = length-append signature rest in
       let all = length-append (take (place + 2) os) (signature ++ rest) in

@@ -22,8 +22,8 @@ use Rattle.avp_dict.specs.Sent.{is_container}
 use Rattle.avp_dict.specs.Settled.{holds, is_in_format}
 use Rattle.avp_dict.specs.Vendors.{is_format}
 use Rattle.avp_dict.specs.AttributeNumbers.{vendor_specific}
-use Rattle.avp_packet.specs.Meanings.{Piece, Run, Sub, are_subs, begins_sub, extended_pair, extended_type, first_pairs, first_run, first_sub, joined, long_pair, attribute_pairs, meaning_behind, others, pair_meant, piece_in, piece_of, raw_pair, run, run_with, sub_length, sub_pair, subs, subs_behind, subs_by, vendor_of, vendor_pairs, vendor_subs}
-use Rattle.avp_packet.specs.Splitting.{Part, is_whole_attribute, parts, parts_behind}
+use Rattle.avp_packet.specs.Meanings.{Piece, Run, Sub, are_subs, begins_sub, extended_pair, extended_type, first_pairs, first_run, first_sub, joined, long_pair, attribute_pairs, meaning_after, others, pair_meant, piece_in, piece_of, raw_pair, run, run_with, sub_length, sub_pair, subs, subs_after, subs_by, vendor_of, vendor_pairs, vendor_subs}
+use Rattle.avp_packet.specs.Splitting.{Part, is_whole_attribute, parts, parts_after}
 use Rattle.avp_packet.specs.VendorFormats.{known_format, usable_format}
 use Rattle.avp_packet.specs.ExtendedTypes.{extended_type_1, extended_type_4, long_extended_type_1, long_extended_type_2, piece_octets, more_flag, holds_one, holds_long}
 use Rattle.avp_packet.proofs.FittingPairs.{pair_fits}
@@ -46,26 +46,26 @@ abbrev pub size : List Part → ℕ
 size [] = 0
 size (p ∷ ps) = 2 + length p.value + size ps
 
-pub good_behind : (k : ℕ) (os : List ℕ) → AreBytes os → AreGood (parts_behind k os)
-unfolding parts_behind
-good_behind zero [] h = tt
-good_behind (suc k) [] h = tt
-good_behind (suc k) (o ∷ os) h = good_behind k os h.1
-good_behind zero (t ∷ []) h = tt
-good_behind zero (t ∷ n ∷ os) h =
-    by_test (AreGood (cond (is_whole_attribute n os) (record { number = t; value = take (n - 2) os } ∷ parts_behind (n - 2) os) [])) (is_whole_attribute n os)
-    (λ e. rw e (record { number = h.0; short = let few = length-take (n - 2) os in let low : n < 256 = h.1.0 in omega arith; bytes = bytes-take (n - 2) os h.1.1 }, good_behind (n - 2) os h.1.1))
+pub good_after : (k : ℕ) (os : List ℕ) → AreBytes os → AreGood (parts_after k os)
+unfolding parts_after
+good_after zero [] h = tt
+good_after (suc k) [] h = tt
+good_after (suc k) (o ∷ os) h = good_after k os h.1
+good_after zero (t ∷ []) h = tt
+good_after zero (t ∷ n ∷ os) h =
+    by_test (AreGood (cond (is_whole_attribute n os) (record { number = t; value = take (n - 2) os } ∷ parts_after (n - 2) os) [])) (is_whole_attribute n os)
+    (λ e. rw e (record { number = h.0; short = let few = length-take (n - 2) os in let low : n < 256 = h.1.0 in omega arith; bytes = bytes-take (n - 2) os h.1.1 }, good_after (n - 2) os h.1.1))
     (λ e. rw e tt)
 
-pub size_behind : (k : ℕ) (os : List ℕ) → size (parts_behind k os) ≤ length (drop k os)
-unfolding parts_behind
-size_behind zero [] = omega arith
-size_behind (suc k) [] = omega arith
-size_behind (suc k) (o ∷ os) = size_behind k os
-size_behind zero (t ∷ []) = omega arith
-size_behind zero (t ∷ n ∷ os) =
-    by_test (size (cond (is_whole_attribute n os) (record { number = t; value = take (n - 2) os } ∷ parts_behind (n - 2) os) []) ≤ length (t ∷ n ∷ os)) (is_whole_attribute n os)
-    (λ e. let others = size_behind (n - 2) os in
+pub size_after : (k : ℕ) (os : List ℕ) → size (parts_after k os) ≤ length (drop k os)
+unfolding parts_after
+size_after zero [] = omega arith
+size_after (suc k) [] = omega arith
+size_after (suc k) (o ∷ os) = size_after k os
+size_after zero (t ∷ []) = omega arith
+size_after zero (t ∷ n ∷ os) =
+    by_test (size (cond (is_whole_attribute n os) (record { number = t; value = take (n - 2) os } ∷ parts_after (n - 2) os) []) ≤ length (t ∷ n ∷ os)) (is_whole_attribute n os)
+    (λ e. let others = size_after (n - 2) os in
     let long : n - 2 ≤ length os = grind (arith, common_steps) in
     let few = length-take-le (n - 2) os long in
     let rest = length-drop (n - 2) os in
@@ -196,12 +196,12 @@ first_good f os most bytes few b =
     le_of : (x y : ℕ) → nat_le x y ≡ true → x ≤ y
     le_of x y e = grind (arith, common_steps)
 
-subs_good : (f : Format) (most k : ℕ) (os : List ℕ) → AreBytes os → length os ≤ most → AllByRecursion (IsSub f most) (subs_behind f k os)
-unfolding subs_behind
+subs_good : (f : Format) (most k : ℕ) (os : List ℕ) → AreBytes os → length os ≤ most → AllByRecursion (IsSub f most) (subs_after f k os)
+unfolding subs_after
 subs_good f most k [] bytes few = tt
 subs_good f most (suc k) (o ∷ os) bytes few = subs_good f most k os bytes.1 (omega arith)
 subs_good f most zero (o ∷ os) bytes few =
-    by_test (AllByRecursion (IsSub f most) (cond (begins_sub f (o ∷ os)) (first_sub f (o ∷ os) ∷ subs_behind f (sub_length f (o ∷ os) - 1) os) [])) (begins_sub f (o ∷ os))
+    by_test (AllByRecursion (IsSub f most) (cond (begins_sub f (o ∷ os)) (first_sub f (o ∷ os) ∷ subs_after f (sub_length f (o ∷ os) - 1) os) [])) (begins_sub f (o ∷ os))
     (λ e. rw e (first_good f (o ∷ os) most bytes few e, subs_good f most (sub_length f (o ∷ os) - 1) os bytes.1 (omega arith)))
     (λ e. rw e tt)
 
@@ -313,18 +313,18 @@ module _ (dictionary : Dictionary) (secret authenticator : List ℕ) (P : Pair �
       rw (e, f, g) (long_good p ps good few low high, tt))
       (λ g. rw (e, f, g) (plain_good p good.0, tt))))
 
-  meaning_holds : (k : ℕ) (ps : List Part) → AreGood ps → size ps ≤ 4076 → AllHold (meaning_behind dictionary secret authenticator k ps)
-  unfolding meaning_behind
+  meaning_holds : (k : ℕ) (ps : List Part) → AreGood ps → size ps ≤ 4076 → AllHold (meaning_after dictionary secret authenticator k ps)
+  unfolding meaning_after
   meaning_holds k [] good few = tt
   meaning_holds (suc k) (p ∷ ps) good few = meaning_holds k ps good.1 (omega arith)
   meaning_holds zero (p ∷ ps) good few =
-      holds-append (first_pairs dictionary secret authenticator p ps) (meaning_behind dictionary secret authenticator (others p ps) ps) (first_good_pairs p ps good few) (meaning_holds (others p ps) ps good.1 (omega arith))
+      holds-append (first_pairs dictionary secret authenticator p ps) (meaning_after dictionary secret authenticator (others p ps) ps) (first_good_pairs p ps good few) (meaning_holds (others p ps) ps good.1 (omega arith))
 
   -- it holds of the pairs of a packet's attributes
   pub octets_hold : (os : List ℕ) → AreBytes os → length os ≤ 4076 → All P (attribute_pairs dictionary secret authenticator (parts os))
   octets_hold os bytes short =
-      let few = size_behind 0 os in
-      All-from_recursion P (attribute_pairs dictionary secret authenticator (parts os)) (meaning_holds 0 (parts os) (good_behind 0 os bytes) (omega arith))
+      let few = size_after 0 os in
+      All-from_recursion P (attribute_pairs dictionary secret authenticator (parts os)) (meaning_holds 0 (parts os) (good_after 0 os bytes) (omega arith))
 
 -- ---- pairs that fit
 

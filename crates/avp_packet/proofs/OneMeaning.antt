@@ -75,8 +75,8 @@ module _ (dictionary : Dictionary) (secret authenticator : List ℕ) where
   only_meaning ps pairs (cases.of_run p qs run others_ e f rest) =
       let h = only_meaning run.rest others_ rest in
       let x = long_tested p.number e in
-      let behind = run_rest p.number (extended_type p) p qs run f in
-      sym (attribute_pairs-cons dictionary secret authenticator p qs ∙ rw (x.is_vendor, x.is_extended, x.is_long, f, ← behind, h))
+      let dropped = run_rest p.number (extended_type p) p qs run f in
+      sym (attribute_pairs-cons dictionary secret authenticator p qs ∙ rw (x.is_vendor, x.is_extended, x.is_long, f, ← dropped, h))
   only_meaning ps pairs (cases.as_raw p qs others_ e rest) = raw_only p qs others_ e (only_meaning qs others_ rest)
   only_meaning ps pairs (cases.as_plain p qs others_ e rest) =
       let h = only_meaning qs others_ rest in
@@ -113,8 +113,8 @@ module _ (dictionary : Dictionary) (secret authenticator : List ℕ) where
   first_long : (p : Part) (ps : List Part) → IsLong p.number → ((k : ℕ) → IsMeant (drop k ps)) → (o : Option Run) → first_run p ps ≡ o → IsMeant (p ∷ ps)
   first_long p ps e rest None f = first_raw p ps (inr (inr (e, f))) (rest 0)
   first_long p ps e rest (Some run) f =
-      let behind = run_rest p.number (extended_type p) p ps run f in
-      let after : IsMeant run.rest = subst (λ (qs : List Part). IsMeant qs) (sym behind) (rest (length ps - length run.rest)) in
+      let dropped = run_rest p.number (extended_type p) p ps run f in
+      let after : IsMeant run.rest = subst (λ (qs : List Part). IsMeant qs) (sym dropped) (rest (length ps - length run.rest)) in
       let all : List Pair = pair_meant dictionary secret authenticator (Extended p.number (extended_type p)) run.os ∷ means run.rest in
       let h : Meant (p ∷ ps) all = cases.of_run p ps run (means run.rest) e f after in
       read_to (p ∷ ps) all (only_meaning (p ∷ ps) all h) h

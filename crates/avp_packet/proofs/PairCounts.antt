@@ -9,7 +9,7 @@ use Rattle.avp_lists.specs.declared.pairs.Pair.{Pair}
 use Rattle.avp_dict.specs.declared.entries.Format.{Format}
 use Rattle.avp_dict.specs.Dictionary.{Dictionary}
 use Rattle.avp_dict.specs.AttributeNumbers.{vendor_specific}
-use Rattle.avp_packet.specs.Meanings.{Sub, are_subs, begins_sub, extended_pair, first_pairs, first_run, first_sub, long_pair, attribute_pairs, meaning_behind, others, pair_meant, sub_length, sub_pair, subs, subs_behind, subs_by, vendor_of, vendor_pairs, vendor_subs}
+use Rattle.avp_packet.specs.Meanings.{Sub, are_subs, begins_sub, extended_pair, first_pairs, first_run, first_sub, long_pair, attribute_pairs, meaning_after, others, pair_meant, sub_length, sub_pair, subs, subs_after, subs_by, vendor_of, vendor_pairs, vendor_subs}
 use Rattle.avp_packet.specs.Splitting.{Part, left, part_octets, parts}
 use Rattle.avp_packet.specs.VendorFormats.{known_format}
 use Rattle.avp_packet.specs.ExtendedTypes.{holds_one, holds_long}
@@ -19,13 +19,13 @@ kept_short : (b : Bool) (ss : List Sub) (n : ℕ) → length ss ≤ n → length
 kept_short true ss n h = h
 kept_short false ss n h = omega arith
 
-subs_short : (f : Format) (k : ℕ) (os : List ℕ) → length (subs_behind f k os) ≤ length os
-unfolding subs_behind
+subs_short : (f : Format) (k : ℕ) (os : List ℕ) → length (subs_after f k os) ≤ length os
+unfolding subs_after
 subs_short f k [] = omega arith
 subs_short f (suc k) (o ∷ os) = let rest = subs_short f k os in omega (arith, rest)
 subs_short f zero (o ∷ os) =
     let rest = subs_short f (sub_length f (o ∷ os) - 1) os in
-    kept_short (begins_sub f (o ∷ os)) (first_sub f (o ∷ os) ∷ subs_behind f (sub_length f (o ∷ os) - 1) os) (suc (length os)) (omega (arith, rest))
+    kept_short (begins_sub f (o ∷ os)) (first_sub f (o ∷ os) ∷ subs_after f (sub_length f (o ∷ os) - 1) os) (suc (length os)) (omega (arith, rest))
 
 module _ (dictionary : Dictionary) (secret authenticator : List ℕ) where
   vendor_short : (part : Part) → length (vendor_pairs dictionary secret authenticator part (vendor_subs dictionary part.value)) ≤ 2 + length part.value
@@ -63,8 +63,8 @@ module _ (dictionary : Dictionary) (secret authenticator : List ℕ) where
       (chosen _ _ (holds_one part.number) n (one (extended_pair dictionary secret authenticator part))
       (chosen _ _ (holds_long part.number) n (one (long_pair dictionary secret authenticator part (first_run part ps))) (one (pair_meant dictionary secret authenticator (Plain part.number) part.value))))
 
-  meaning_short : (k : ℕ) (ps : List Part) → length (meaning_behind dictionary secret authenticator k ps) ≤ length (flat_map part_octets ps)
-  unfolding meaning_behind
+  meaning_short : (k : ℕ) (ps : List Part) → length (meaning_after dictionary secret authenticator k ps) ≤ length (flat_map part_octets ps)
+  unfolding meaning_after
   meaning_short k [] = omega arith
   meaning_short (suc k) (part ∷ ps) =
       let rest = meaning_short k ps in
@@ -73,7 +73,7 @@ module _ (dictionary : Dictionary) (secret authenticator : List ℕ) where
   meaning_short zero (part ∷ ps) =
       let first = first_short part ps in
       let rest = meaning_short (others part ps) ps in
-      let here = length-append (first_pairs dictionary secret authenticator part ps) (meaning_behind dictionary secret authenticator (others part ps) ps) in
+      let here = length-append (first_pairs dictionary secret authenticator part ps) (meaning_after dictionary secret authenticator (others part ps) ps) in
       let all = length-append (part_octets part) (flat_map part_octets ps) in
       omega (arith, first, rest, here, all)
 

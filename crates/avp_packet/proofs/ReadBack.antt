@@ -25,7 +25,7 @@ use Rattle.avp_dict.specs.Soundness.{HasKnownFormats, IsSound}
 use Rattle.avp_dict.specs.Vendors.{is_format}
 use Rattle.avp_dict.specs.AttributeNumbers.{vendor_specific}
 use Rattle.avp_packet.specs.AttributeOctets.{attribute_octets, fragments, is_long, part, parts_holding, parts_of, parts_of_pair, sent_octets, vendor_value}
-use Rattle.avp_packet.specs.Meanings.{Run, are_subs, are_subs_behind, begins_sub, extended_type, first_run, first_sub, attribute_pairs, others, pair_meant, piece_of, run, sub_length, subs, subs_behind, vendor_of, vendor_subs}
+use Rattle.avp_packet.specs.Meanings.{Run, are_subs, are_subs_after, begins_sub, extended_type, first_run, first_sub, attribute_pairs, others, pair_meant, piece_of, run, sub_length, subs, subs_after, vendor_of, vendor_subs}
 use Rattle.avp_packet.specs.Splitting.{Part, left, part_octets, parts}
 use Rattle.avp_packet.specs.VendorFormats.{known_format, usable_format}
 use Rattle.avp_packet.specs.internal.Holding.{CanHold, FitsFormat}
@@ -90,11 +90,11 @@ module _ (f : Format) (good : is_format f.t f.l ≡ true) (number : ℕ) (os : L
   type_first : take f.t sub_octets ≡ bytes_high_first f.t number
   type_first = rw append_assoc (take_at (bytes_high_first f.t number) (bytes_high_first f.l size ++ os) f.t (length-bytes_high_first f.t number))
 
-  length_behind : drop f.t sub_octets ≡ bytes_high_first f.l size ++ os
-  length_behind = rw append_assoc (drop_at (bytes_high_first f.t number) (bytes_high_first f.l size ++ os) f.t (length-bytes_high_first f.t number))
+  length_after : drop f.t sub_octets ≡ bytes_high_first f.l size ++ os
+  length_after = rw append_assoc (drop_at (bytes_high_first f.t number) (bytes_high_first f.l size ++ os) f.t (length-bytes_high_first f.t number))
 
-  value_behind : drop (f.t + f.l) sub_octets ≡ os
-  value_behind =
+  value_after : drop (f.t + f.l) sub_octets ≡ os
+  value_after =
       let a = length-append (bytes_high_first f.t number) (bytes_high_first f.l size) in
       let d = length-bytes_high_first f.t number in
       let e = length-bytes_high_first f.l size in
@@ -106,7 +106,7 @@ module _ (f : Format) (good : is_format f.t f.l ≡ true) (number : ℕ) (os : L
       (λ e. rw e length-sub_octets)
       (λ e. let some : 1 ≤ f.l = grind (arith, common_steps) in
       let small = format_small f good in
-      rw (e, length_behind, take_at (bytes_high_first f.l size) os f.l (length-bytes_high_first f.l size)) (number_back f.l size (omega (arith, small.2)) (size_fits some)))
+      rw (e, length_after, take_at (bytes_high_first f.l size) os f.l (length-bytes_high_first f.l size)) (number_back f.l size (omega (arith, small.2)) (size_fits some)))
 
   begins : begins_sub f sub_octets ≡ true
   begins =
@@ -123,24 +123,24 @@ module _ (f : Format) (good : is_format f.t f.l ≡ true) (number : ℕ) (os : L
       let n : number_from_digits 256 (take f.t sub_octets) ≡ number = rw type_first (number_back f.t number (omega (arith, small.1)) held.0) in
       let told = sub_length_is in
       let rest : sub_length f sub_octets - (f.t + f.l) ≡ length os = omega arith in
-      rw (n, rest, value_behind, take_all (length os) os (omega arith))
+      rw (n, rest, value_after, take_all (length os) os (omega arith))
 
-  none_behind : drop (sub_length f sub_octets) sub_octets ≡ []
-  none_behind = drop_all (sub_length f sub_octets) sub_octets (omega (arith, sub_length_is, length-sub_octets))
+  none_after : drop (sub_length f sub_octets) sub_octets ≡ []
+  none_after = drop_all (sub_length f sub_octets) sub_octets (omega (arith, sub_length_is, length-sub_octets))
 
   some_octets : 0 < length sub_octets
   some_octets = let small = format_small f good in omega (arith, length-sub_octets, small.0)
 
   subs_is : subs f sub_octets ≡ record { number = number; value = os } ∷ []
-  unfolding subs_behind
-  subs_is = subs_more f sub_octets good some_octets begins ∙ rw (first_is, none_behind)
+  unfolding subs_after
+  subs_is = subs_more f sub_octets good some_octets begins ∙ rw (first_is, none_after)
 
   are_subs_is : are_subs f sub_octets ≡ true
-  unfolding are_subs_behind
+  unfolding are_subs_after
   are_subs_is =
       let some = some_octets in
       let there : (length sub_octets == 0) ≡ false = grind (arith, common_steps) in
-      rw there (are_subs_more f sub_octets good some_octets begins ∙ rw none_behind)
+      rw there (are_subs_more f sub_octets good some_octets begins ∙ rw none_after)
 
 -- ---- the format of a known vendor
 
@@ -293,7 +293,7 @@ module _ (dictionary : Dictionary) (sound : IsSound dictionary) (formats : HasKn
 
   -- ---- octets
 
-  -- no octets are left behind the attributes
+  -- no octets are left after the attributes
   pub written_whole : (pairs : List Pair) → left (attribute_octets dictionary secret authenticator pairs) ≡ []
   written_whole pairs =
       let ps : List Part = parts_of dictionary secret authenticator pairs in

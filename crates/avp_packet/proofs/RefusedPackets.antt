@@ -23,7 +23,7 @@ decoded_bad dictionary secret os offset a b d some e =
     let same : 20 + length attributes - length (left attributes) ≡ 20 + offset = omega arith in
     rw (a, b, d) (bad_by (20 + length attributes) (left attributes) (request_read dictionary secret os) some ∙ ap (λ n. Err (BadAttribute n)) same)
 
--- behind a whole attribute
+-- after a whole attribute
 pub left_more : (octets rest : List ℕ) (p : Part) → octets ≡ part_octets p ++ rest → left octets ≡ left rest
 left_more octets rest p e = ap left e ∙ left-octets p rest
 

@@ -102,11 +102,11 @@ module _ (dictionary : Dictionary) (pairs : List Pair) (division : Division) (cl
   unfolding is_clean
   before_clean = let q : Pair → Bool = is_clean_pair dictionary in pass_all q division.before.now (kept q (all_pass q pairs clean)).before
 
-  pub behind_clean : is_clean (without_signatures division.behind.now) dictionary ≡ true
+  pub after_clean : is_clean (without_signatures division.after.now) dictionary ≡ true
   unfolding is_clean
-  behind_clean =
+  after_clean =
       let q : Pair → Bool = is_clean_pair dictionary in
-      pass_all q (without_signatures division.behind.now) (All-filter (is_other message_authenticator_id) (λ (p : Pair). q p ≡ true) division.behind.now (kept q (all_pass q pairs clean)).behind)
+      pass_all q (without_signatures division.after.now) (All-filter (is_other message_authenticator_id) (λ (p : Pair). q p ≡ true) division.after.now (kept q (all_pass q pairs clean)).after)
 
 -- Proxy-States are no Message-Authenticators
 pub proxies_unsigned : (pairs : List Pair) → All (λ p. p.id ≡ Plain proxy_state) pairs → without_signatures pairs ≡ pairs
@@ -118,16 +118,16 @@ proxies_unsigned pairs h = go pairs (recursion_from_All (λ (p : Pair). p.id ≡
 
 -- ---- attributes laid out
 
--- attributes before the one that signs, that one, those behind it, and the Proxy-States'
+-- attributes before the one that signs, that one, those after it, and the Proxy-States'
 abbrev laid : {A : Type 0} → List A → Bool → A → List A → List A → List A
-laid before signed one behind last = before ++ (if signed then one ∷ [] else []) ++ behind ++ last
+laid before signed one after last = before ++ (if signed then one ∷ [] else []) ++ after ++ last
 
-flat_laid : {A B : Type 0} (f : A → List B) (before : List A) (signed : Bool) (one : A) (behind last : List A) → flat_map f (laid before signed one behind last) ≡ flat_map f before ++ (if signed then f one else []) ++ flat_map f behind ++ flat_map f last
-flat_laid {B = B} f before signed one behind last =
-    let a = flat_map-append f (before ++ (if signed then one ∷ [] else []) ++ behind) last in
-    let b = flat_map-append f (before ++ (if signed then one ∷ [] else [])) behind in
+flat_laid : {A B : Type 0} (f : A → List B) (before : List A) (signed : Bool) (one : A) (after last : List A) → flat_map f (laid before signed one after last) ≡ flat_map f before ++ (if signed then f one else []) ++ flat_map f after ++ flat_map f last
+flat_laid {B = B} f before signed one after last =
+    let a = flat_map-append f (before ++ (if signed then one ∷ [] else []) ++ after) last in
+    let b = flat_map-append f (before ++ (if signed then one ∷ [] else [])) after in
     let d = flat_map-append f before (if signed then one ∷ [] else []) in
-    rw (a, b, d) (ap (λ (os : List B). flat_map f before ++ os ++ flat_map f behind ++ flat_map f last) (alone signed))
+    rw (a, b, d) (ap (λ (os : List B). flat_map f before ++ os ++ flat_map f after ++ flat_map f last) (alone signed))
   where
     alone : (t : Bool) → flat_map f (if t then one ∷ [] else []) ≡ (if t then f one else [])
     alone true = append-nil (f one)
@@ -146,29 +146,29 @@ module _ (dictionary : Dictionary) (secret : List ℕ) (code id : ℕ) (authenti
   abbrev before : List Pair
   before = division.before.now
 
-  abbrev behind : List Pair
-  behind = without_signatures division.behind.now
+  abbrev after : List Pair
+  after = without_signatures division.after.now
 
   abbrev laid_pairs : Pair → List Pair
-  laid_pairs pair = laid (sent before dictionary) division.signed pair (sent behind dictionary) (sent content.proxy_states dictionary)
+  laid_pairs pair = laid (sent before dictionary) division.signed pair (sent after dictionary) (sent content.proxy_states dictionary)
 
   abbrev laid_parts : List ℕ → List Part
-  laid_parts os = laid (parts_of dictionary secret hide_by before) division.signed (part message_authenticator os) (parts_of dictionary secret hide_by behind) (parts_of dictionary secret hide_by content.proxy_states)
+  laid_parts os = laid (parts_of dictionary secret hide_by before) division.signed (part message_authenticator os) (parts_of dictionary secret hide_by after) (parts_of dictionary secret hide_by content.proxy_states)
 
   abbrev laid_octets : List ℕ → List ℕ
   laid_octets os = divided_octets dictionary secret hide_by division content.proxy_states os
 
   pairs_are : (pair : Pair) → pairs_sent dictionary content pair ≡ laid_pairs pair
   unfolding pairs_sent
-  pairs_are pair = rw (divided.before, divided.signed, divided.behind) refl
+  pairs_are pair = rw (divided.before, divided.signed, divided.after) refl
 
   octets_laid : (os : List ℕ) → laid_octets os ≡ flat_map part_octets (laid_parts os)
-  octets_laid os = sym (flat_laid part_octets (parts_of dictionary secret hide_by before) division.signed (part message_authenticator os) (parts_of dictionary secret hide_by behind) (parts_of dictionary secret hide_by content.proxy_states))
+  octets_laid os = sym (flat_laid part_octets (parts_of dictionary secret hide_by before) division.signed (part message_authenticator os) (parts_of dictionary secret hide_by after) (parts_of dictionary secret hide_by content.proxy_states))
 
   parts_laid : (os : List ℕ) → flat_map (parts_of_pair dictionary secret hide_by) (laid_pairs (raw_pair (part message_authenticator os))) ≡ laid_parts os
   unfolding parts_of
   parts_laid os =
-      flat_laid (parts_of_pair dictionary secret hide_by) (sent before dictionary) division.signed (raw_pair (part message_authenticator os)) (sent behind dictionary) (sent content.proxy_states dictionary)
+      flat_laid (parts_of_pair dictionary secret hide_by) (sent before dictionary) division.signed (raw_pair (part message_authenticator os)) (sent after dictionary) (sent content.proxy_states dictionary)
       ∙ rw (signature_part dictionary secret hide_by os) refl
 
   octets_are : (os : List ℕ) → attributes_with dictionary secret code authenticator content os ≡ laid_octets os
@@ -191,7 +191,7 @@ module _ (dictionary : Dictionary) (secret : List ℕ) (code id : ℕ) (authenti
       first = attribute_octets dictionary secret hide_by before
 
       middle : List ℕ
-      middle = attribute_octets dictionary secret hide_by behind
+      middle = attribute_octets dictionary secret hide_by after
 
       last : List ℕ
       last = attribute_octets dictionary secret hide_by content.proxy_states
@@ -215,12 +215,12 @@ module _ (dictionary : Dictionary) (secret : List ℕ) (code id : ℕ) (authenti
 
   -- ---- signed
 
-  module _ (signed : division.signed ≡ true) (unsigned : without_signatures before ≡ before) (proxies : without_signatures content.proxy_states ≡ content.proxy_states) (before_fit : All (λ p. fits p dictionary ≡ true) before) (behind_fit : All (λ p. fits p dictionary ≡ true) division.behind.now) (proxies_fit : All (λ p. fits p dictionary ≡ true) content.proxy_states) where
+  module _ (signed : division.signed ≡ true) (unsigned : without_signatures before ≡ before) (proxies : without_signatures content.proxy_states ≡ content.proxy_states) (before_fit : All (λ p. fits p dictionary ≡ true) before) (after_fit : All (λ p. fits p dictionary ≡ true) division.after.now) (proxies_fit : All (λ p. fits p dictionary ≡ true) content.proxy_states) where
     none_first : signatures (parts_of dictionary secret hide_by before) ≡ []
     none_first = ap (λ (ps : List Pair). signatures (parts_of dictionary secret hide_by ps)) (sym unsigned) ∙ unsigned_parts dictionary secret hide_by before before_fit
 
-    none_middle : signatures (parts_of dictionary secret hide_by behind) ≡ []
-    none_middle = unsigned_parts dictionary secret hide_by division.behind.now behind_fit
+    none_middle : signatures (parts_of dictionary secret hide_by after) ≡ []
+    none_middle = unsigned_parts dictionary secret hide_by division.after.now after_fit
 
     none_last : signatures (parts_of dictionary secret hide_by content.proxy_states) ≡ []
     none_last = ap (λ (ps : List Pair). signatures (parts_of dictionary secret hide_by ps)) (sym proxies) ∙ unsigned_parts dictionary secret hide_by content.proxy_states proxies_fit
@@ -228,7 +228,7 @@ module _ (dictionary : Dictionary) (secret : List ℕ) (code id : ℕ) (authenti
     pub one_signature : (os : List ℕ) → signatures (parts (laid_octets os)) ≡ part message_authenticator os ∷ []
     one_signature os =
         let first : List Part = parts_of dictionary secret hide_by before in
-        let middle : List Part = parts_of dictionary secret hide_by behind in
+        let middle : List Part = parts_of dictionary secret hide_by after in
         let last : List Part = parts_of dictionary secret hide_by content.proxy_states in
         ap (λ (ps : List ℕ). signatures (parts ps)) (octets_laid os) ∙ ap signatures (parts_whole (laid_parts os))
         ∙ rw signed
@@ -238,7 +238,7 @@ module _ (dictionary : Dictionary) (secret : List ℕ) (code id : ℕ) (authenti
     pub blank_text : (os : List ℕ) → flat_map part_octets (map blanked (parts (laid_octets os))) ≡ laid_octets zeros
     blank_text os =
         let first : List Part = parts_of dictionary secret hide_by before in
-        let middle : List Part = parts_of dictionary secret hide_by behind in
+        let middle : List Part = parts_of dictionary secret hide_by after in
         let last : List Part = parts_of dictionary secret hide_by content.proxy_states in
         ap (λ (ps : List ℕ). flat_map part_octets (map blanked (parts ps))) (octets_laid os)
         ∙ ap (λ (ps : List Part). flat_map part_octets (map blanked ps)) (parts_whole (laid_parts os))
@@ -249,7 +249,7 @@ module _ (dictionary : Dictionary) (secret : List ℕ) (code id : ℕ) (authenti
 
   -- ---- what it means
 
-  module _ (sound : IsSound dictionary) (formats : HasKnownFormats dictionary) (before_clean : is_clean before dictionary ≡ true) (behind_clean : is_clean behind dictionary ≡ true) (proxies_clean : is_clean content.proxy_states dictionary ≡ true) (before_ranged : All (λ p. IsVendorInRange p.id) before) (behind_ranged : All (λ p. IsVendorInRange p.id) division.behind.now) (proxies_ranged : All (λ p. IsVendorInRange p.id) content.proxy_states) where
+  module _ (sound : IsSound dictionary) (formats : HasKnownFormats dictionary) (before_clean : is_clean before dictionary ≡ true) (after_clean : is_clean after dictionary ≡ true) (proxies_clean : is_clean content.proxy_states dictionary ≡ true) (before_ranged : All (λ p. IsVendorInRange p.id) before) (after_ranged : All (λ p. IsVendorInRange p.id) division.after.now) (proxies_ranged : All (λ p. IsVendorInRange p.id) content.proxy_states) where
     abbrev means : List Part → List Pair
     means ps = attribute_pairs dictionary secret hide_by ps
 
@@ -259,14 +259,14 @@ module _ (dictionary : Dictionary) (secret : List ℕ) (code id : ℕ) (authenti
         ∙ clean_read dictionary sound formats secret hide_by content.proxy_states [] proxies_clean proxies_ranged
         ∙ rw (nothing_read dictionary sound formats secret hide_by) (append-nil (sent content.proxy_states dictionary))
 
-    behind_means : means (parts_of dictionary secret hide_by behind ++ parts_of dictionary secret hide_by content.proxy_states) ≡ sent behind dictionary ++ sent content.proxy_states dictionary
-    behind_means =
-        clean_read dictionary sound formats secret hide_by behind (parts_of dictionary secret hide_by content.proxy_states) behind_clean (All-filter (is_other message_authenticator_id) (λ (p : Pair). IsVendorInRange p.id) division.behind.now behind_ranged)
+    after_means : means (parts_of dictionary secret hide_by after ++ parts_of dictionary secret hide_by content.proxy_states) ≡ sent after dictionary ++ sent content.proxy_states dictionary
+    after_means =
+        clean_read dictionary sound formats secret hide_by after (parts_of dictionary secret hide_by content.proxy_states) after_clean (All-filter (is_other message_authenticator_id) (λ (p : Pair). IsVendorInRange p.id) division.after.now after_ranged)
         ∙ rw last_means refl
 
-    rest_means : (t : Bool) (os : List ℕ) → means ((if t then part message_authenticator os ∷ [] else []) ++ (parts_of dictionary secret hide_by behind ++ parts_of dictionary secret hide_by content.proxy_states)) ≡ (if t then pair_meant dictionary secret hide_by message_authenticator_id os ∷ [] else []) ++ (sent behind dictionary ++ sent content.proxy_states dictionary)
-    rest_means true os = plain_read dictionary sound formats secret hide_by message_authenticator os (parts_of dictionary secret hide_by behind ++ parts_of dictionary secret hide_by content.proxy_states) refl ∙ ap (λ (ps : List Pair). pair_meant dictionary secret hide_by message_authenticator_id os ∷ ps) behind_means
-    rest_means false os = behind_means
+    rest_means : (t : Bool) (os : List ℕ) → means ((if t then part message_authenticator os ∷ [] else []) ++ (parts_of dictionary secret hide_by after ++ parts_of dictionary secret hide_by content.proxy_states)) ≡ (if t then pair_meant dictionary secret hide_by message_authenticator_id os ∷ [] else []) ++ (sent after dictionary ++ sent content.proxy_states dictionary)
+    rest_means true os = plain_read dictionary sound formats secret hide_by message_authenticator os (parts_of dictionary secret hide_by after ++ parts_of dictionary secret hide_by content.proxy_states) refl ∙ ap (λ (ps : List Pair). pair_meant dictionary secret hide_by message_authenticator_id os ∷ ps) after_means
+    rest_means false os = after_means
 
     regrouped : {A : Type 0} (a b d e : List A) → a ++ b ++ d ++ e ≡ a ++ (b ++ (d ++ e))
     regrouped a b d e = simp append_assoc
@@ -274,14 +274,14 @@ module _ (dictionary : Dictionary) (secret : List ℕ) (code id : ℕ) (authenti
     laid_means : (os : List ℕ) → means (laid_parts os) ≡ laid_pairs (pair_meant dictionary secret hide_by message_authenticator_id os)
     laid_means os =
         let first : List Part = parts_of dictionary secret hide_by before in
-        let middle : List Part = parts_of dictionary secret hide_by behind in
+        let middle : List Part = parts_of dictionary secret hide_by after in
         let last : List Part = parts_of dictionary secret hide_by content.proxy_states in
         let one : List Part = if division.signed then part message_authenticator os ∷ [] else [] in
         let own : List Pair = if division.signed then pair_meant dictionary secret hide_by message_authenticator_id os ∷ [] else [] in
         ap means (regrouped first one middle last)
         ∙ clean_read dictionary sound formats secret hide_by before (one ++ (middle ++ last)) before_clean before_ranged
         ∙ ap (λ (ps : List Pair). sent before dictionary ++ ps) (rest_means division.signed os)
-        ∙ sym (regrouped (sent before dictionary) own (sent behind dictionary) (sent content.proxy_states dictionary))
+        ∙ sym (regrouped (sent before dictionary) own (sent after dictionary) (sent content.proxy_states dictionary))
 
     pub signed_means : means (parts (attributes_signed dictionary secret code id authenticator content)) ≡ pairs_meant dictionary secret code id authenticator content
     signed_means =

@@ -18,7 +18,7 @@ use Rattle.avp_packet.specs.internal.Filling.{AreVendorsInRange, IsDivided, Keep
 use Rattle.avp_packet.proofs.Assembled.{attributes_of-packet, is_signed-packet, length-packet}
 use Rattle.avp_packet.proofs.Filled.{length-hmac}
 use Rattle.avp_packet.proofs.OneMeaning.{meant_by}
-use Rattle.avp_packet.proofs.SentLists.{before_clean, behind_clean, blank_text, laid_whole, left_whole, length-laid, length-signed, one_signature, signed_means, signed_octets}
+use Rattle.avp_packet.proofs.SentLists.{before_clean, after_clean, blank_text, laid_whole, left_whole, length-laid, length-signed, one_signature, signed_means, signed_octets}
 
 module _ (dictionary : Dictionary) (secret : List ℕ) (code id : ℕ) (authenticator : List ℕ) (content : Content) where
   abbrev sent_attributes : List ℕ
@@ -53,7 +53,7 @@ module _ (dictionary : Dictionary) (secret : List ℕ) (code id : ℕ) (authenti
           let hide_by : List ℕ = hiding_authenticator code authenticator in
           meant_by dictionary secret hide_by (parts (attributes_of octets)) _
           (ap (λ (os : List ℕ). attribute_pairs dictionary secret hide_by (parts os)) attributes_again
-          ∙ signed_means dictionary secret code id authenticator content division divided sound formats (before_clean dictionary content.pairs division clean kept) (behind_clean dictionary content.pairs division clean kept) proxies_clean ranged.before ranged.behind ranged.proxies)
+          ∙ signed_means dictionary secret code id authenticator content division divided sound formats (before_clean dictionary content.pairs division clean kept) (after_clean dictionary content.pairs division clean kept) proxies_clean ranged.before ranged.after ranged.proxies)
 
       pub packet_signed : division.signed ≡ true → without_signatures division.before.now ≡ division.before.now → without_signatures content.proxy_states ≡ content.proxy_states
           → All (λ p. fits p dictionary ≡ true) content.pairs → All (λ p. fits p dictionary ≡ true) content.proxy_states
@@ -67,6 +67,6 @@ module _ (dictionary : Dictionary) (secret : List ℕ) (code id : ℕ) (authenti
           rw (made ∙ ap (packet code id own) same)
           (is_signed-packet code id own authenticator (laid signature) (laid zeros) signature secret long (omega (arith, ap length same, short_attributes)) (sym size)
           (laid_whole dictionary secret code id authenticator content division divided signature)
-          (one_signature dictionary secret code id authenticator content division divided signed unsigned proxies_unsigned fit.before fit.behind proxies_fit signature)
-          (blank_text dictionary secret code id authenticator content division divided signed unsigned proxies_unsigned fit.before fit.behind proxies_fit signature)
+          (one_signature dictionary secret code id authenticator content division divided signed unsigned proxies_unsigned fit.before fit.after proxies_fit signature)
+          (blank_text dictionary secret code id authenticator content division divided signed unsigned proxies_unsigned fit.before fit.after proxies_fit signature)
           refl)

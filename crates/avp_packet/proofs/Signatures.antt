@@ -17,9 +17,9 @@ use Rattle.avp_packet.proofs.Tests.{by_test}
 pub whole_octets : (os : List ℕ) → left os ≡ [] → os ≡ flat_map part_octets (parts os)
 whole_octets os h = let split = is_split os in split.whole ∙ ap (λ (xs : List ℕ). flat_map part_octets (parts os) ++ xs) h ∙ append-nil (flat_map part_octets (parts os))
 
--- attributes behind whole ones
-pub parts_behind_whole : (os rest : List ℕ) → left os ≡ [] → parts (os ++ rest) ≡ parts os ++ parts rest
-parts_behind_whole os rest h = ap (λ (xs : List ℕ). parts (xs ++ rest)) (whole_octets os h) ∙ parts-all (parts os) rest
+-- attributes after whole ones
+pub parts_after_whole : (os rest : List ℕ) → left os ≡ [] → parts (os ++ rest) ≡ parts os ++ parts rest
+parts_after_whole os rest h = ap (λ (xs : List ℕ). parts (xs ++ rest)) (whole_octets os h) ∙ parts-all (parts os) rest
 
 pub parts_one : (p : Part) → parts (part_octets p) ≡ p ∷ []
 parts_one p = ap parts (sym (append-nil (part_octets p))) ∙ parts-octets p [] ∙ ap (λ (ps : List Part). p ∷ ps) (parts-none [] refl)
@@ -64,7 +64,7 @@ passed_more octets rest next p h e other =
     let before : List ℕ = passed octets rest in
     let split : octets ≡ (before ++ part_octets p) ++ next = h.split ∙ ap (λ (xs : List ℕ). before ++ xs) e ∙ sym (append_assoc before (part_octets p) next) in
     let same = passed_by octets (before ++ part_octets p) next split in
-    let listed : parts (before ++ part_octets p) ≡ parts before ++ p ∷ [] = parts_behind_whole before (part_octets p) h.whole ∙ ap (λ (ps : List Part). parts before ++ ps) (parts_one p) in
+    let listed : parts (before ++ part_octets p) ≡ parts before ++ p ∷ [] = parts_after_whole before (part_octets p) h.whole ∙ ap (λ (ps : List Part). parts before ++ ps) (parts_one p) in
     let long = ap length split ∙ length-append (before ++ part_octets p) next in
     record {
       within = omega arith;
@@ -80,38 +80,38 @@ passed_more octets rest next p h e other =
 
 -- ---- the first Message-Authenticator
 
-module _ (octets before value behind : List ℕ) (e : octets ≡ before ++ part_octets (part message_authenticator value) ++ behind) (whole : left before ≡ []) (first : signatures (parts before) ≡ []) where
-  listed : parts octets ≡ parts before ++ part message_authenticator value ∷ parts behind
+module _ (octets before value after : List ℕ) (e : octets ≡ before ++ part_octets (part message_authenticator value) ++ after) (whole : left before ≡ []) (first : signatures (parts before) ≡ []) where
+  listed : parts octets ≡ parts before ++ part message_authenticator value ∷ parts after
   listed =
-      ap parts (e ∙ append_assoc before (part_octets (part message_authenticator value)) behind)
-      ∙ parts_behind_whole before (part_octets (part message_authenticator value) ++ behind) whole
-      ∙ ap (λ (ps : List Part). parts before ++ ps) (parts-octets (part message_authenticator value) behind)
+      ap parts (e ∙ append_assoc before (part_octets (part message_authenticator value)) after)
+      ∙ parts_after_whole before (part_octets (part message_authenticator value) ++ after) whole
+      ∙ ap (λ (ps : List Part). parts before ++ ps) (parts-octets (part message_authenticator value) after)
 
-  pub found_first : signatures (parts octets) ≡ part message_authenticator value ∷ signatures (parts behind)
-  found_first = ap signatures listed ∙ filter-append is_signature (parts before) (part message_authenticator value ∷ parts behind) ∙ rw first refl
+  pub found_first : signatures (parts octets) ≡ part message_authenticator value ∷ signatures (parts after)
+  found_first = ap signatures listed ∙ filter-append is_signature (parts before) (part message_authenticator value ∷ parts after) ∙ rw first refl
 
   -- the only one
-  pub blanked_text : left octets ≡ [] → signatures (parts behind) ≡ [] → flat_map part_octets (map blanked (parts octets)) ≡ before ++ part_octets (part message_authenticator zeros) ++ behind
+  pub blanked_text : left octets ≡ [] → signatures (parts after) ≡ [] → flat_map part_octets (map blanked (parts octets)) ≡ before ++ part_octets (part message_authenticator zeros) ++ after
   blanked_text all none =
-      let left_behind : left behind ≡ [] = sym (left_all_of) ∙ all in
+      let none_left : left after ≡ [] = sym (left_all_of) ∙ all in
       ap (λ (ps : List Part). flat_map part_octets (map blanked ps)) listed
-      ∙ ap (flat_map part_octets) (map-append blanked (parts before) (part message_authenticator value ∷ parts behind))
-      ∙ flat_map-append part_octets (map blanked (parts before)) (map blanked (part message_authenticator value ∷ parts behind))
-      ∙ rw (unblanked (parts before) first, unblanked (parts behind) none, ← whole_octets before whole, ← whole_octets behind left_behind)
-      (sym (append_assoc before (part_octets (part message_authenticator zeros)) behind))
+      ∙ ap (flat_map part_octets) (map-append blanked (parts before) (part message_authenticator value ∷ parts after))
+      ∙ flat_map-append part_octets (map blanked (parts before)) (map blanked (part message_authenticator value ∷ parts after))
+      ∙ rw (unblanked (parts before) first, unblanked (parts after) none, ← whole_octets before whole, ← whole_octets after none_left)
+      (sym (append_assoc before (part_octets (part message_authenticator zeros)) after))
     where
-      left_all_of : left octets ≡ left behind
+      left_all_of : left octets ≡ left after
       left_all_of =
-          ap left (e ∙ append_assoc before (part_octets (part message_authenticator value)) behind)
-          ∙ ap (λ (xs : List ℕ). left (xs ++ (part_octets (part message_authenticator value) ++ behind))) (whole_octets before whole)
-          ∙ left-all (parts before) (part_octets (part message_authenticator value) ++ behind) ∙ left-octets (part message_authenticator value) behind
+          ap left (e ∙ append_assoc before (part_octets (part message_authenticator value)) after)
+          ∙ ap (λ (xs : List ℕ). left (xs ++ (part_octets (part message_authenticator value) ++ after))) (whole_octets before whole)
+          ∙ left-all (parts before) (part_octets (part message_authenticator value) ++ after) ∙ left-octets (part message_authenticator value) after
 
 -- ---- how many there are
 
 -- none where attributes end
 pub none_found : (octets rest : List ℕ) → IsPassed octets rest → parts rest ≡ [] → signatures (parts octets) ≡ []
 none_found octets rest h none =
-    let all : parts octets ≡ parts (passed octets rest) ++ parts rest = ap parts h.split ∙ parts_behind_whole (passed octets rest) rest h.whole in
+    let all : parts octets ≡ parts (passed octets rest) ++ parts rest = ap parts h.split ∙ parts_after_whole (passed octets rest) rest h.whole in
     ap signatures (all ∙ ap (λ (ps : List Part). parts (passed octets rest) ++ ps) none ∙ append-nil (parts (passed octets rest))) ∙ h.none
 
 abbrev are_some : List Part → Bool

@@ -3,33 +3,33 @@ use Rattle.std.proofs.Common.{◌≡◌, ◌∙◌, ℕ, zero, suc, ◌+◌, ◌
 use Rattle.std.specs.List.{flat_map}
 use Rattle.std.proofs.lemmas.Grind.{common_steps}
 use Rattle.std.proofs.lemmas.List.{length-append, length-drop, take_at, drop_at, take-append-drop, length-take-le, drop-drop, drop_all}
-use Rattle.avp_packet.specs.Splitting.{IsSplit, Part, begins_whole, is_whole_attribute, items_from, left, left_behind, part_octets, parts, parts_behind, placed, placed_from}
+use Rattle.avp_packet.specs.Splitting.{IsSplit, Part, begins_whole, is_whole_attribute, items_from, left, left_after, part_octets, parts, parts_after, placed, placed_from}
 use Rattle.avp_packet.proofs.Tests.{by_test}
 
--- ---- the octets behind the first so many
+-- ---- the octets after the first so many
 
-pub parts_behind-drop : (k : ℕ) (os : List ℕ) → parts_behind k os ≡ parts (drop k os)
-unfolding parts_behind
-parts_behind-drop zero os = refl
-parts_behind-drop (suc k) [] = refl
-parts_behind-drop (suc k) (o ∷ os) = parts_behind-drop k os
+pub parts_after-drop : (k : ℕ) (os : List ℕ) → parts_after k os ≡ parts (drop k os)
+unfolding parts_after
+parts_after-drop zero os = refl
+parts_after-drop (suc k) [] = refl
+parts_after-drop (suc k) (o ∷ os) = parts_after-drop k os
 
-pub left_behind-drop : (k : ℕ) (os : List ℕ) → left_behind k os ≡ left (drop k os)
-unfolding left_behind
-left_behind-drop zero os = refl
-left_behind-drop (suc k) [] = refl
-left_behind-drop (suc k) (o ∷ os) = left_behind-drop k os
+pub left_after-drop : (k : ℕ) (os : List ℕ) → left_after k os ≡ left (drop k os)
+unfolding left_after
+left_after-drop zero os = refl
+left_after-drop (suc k) [] = refl
+left_after-drop (suc k) (o ∷ os) = left_after-drop k os
 
 -- ---- a whole attribute stands first
 
 module _ (t n : ℕ) (os : List ℕ) where
   pub parts-first : is_whole_attribute n os ≡ true → parts (t ∷ n ∷ os) ≡ record { number = t; value = take (n - 2) os } ∷ parts (drop (n - 2) os)
-  unfolding parts_behind
-  parts-first h = rw h (ap (λ (ps : List Part). record { number = t; value = take (n - 2) os } ∷ ps) (parts_behind-drop (n - 2) os))
+  unfolding parts_after
+  parts-first h = rw h (ap (λ (ps : List Part). record { number = t; value = take (n - 2) os } ∷ ps) (parts_after-drop (n - 2) os))
 
   pub left-first : is_whole_attribute n os ≡ true → left (t ∷ n ∷ os) ≡ left (drop (n - 2) os)
-  unfolding left_behind
-  left-first h = rw h (left_behind-drop (n - 2) os)
+  unfolding left_after
+  left-first h = rw h (left_after-drop (n - 2) os)
 
   whole_length : is_whole_attribute n os ≡ true → (2 ≤ n) × (n ≤ 2 + length os)
   whole_length h = (grind (arith, common_steps), grind (arith, common_steps))
@@ -45,46 +45,46 @@ module _ (t n : ℕ) (os : List ℕ) where
 -- ---- none stands first
 
 pub parts-none : (os : List ℕ) → begins_whole os ≡ false → parts os ≡ []
-unfolding parts_behind
+unfolding parts_after
 parts-none [] h = refl
 parts-none (t ∷ []) h = refl
 parts-none (t ∷ n ∷ os) h = rw h
 
 pub left-none : (os : List ℕ) → begins_whole os ≡ false → left os ≡ os
-unfolding left_behind
+unfolding left_after
 left-none [] h = refl
 left-none (t ∷ []) h = refl
 left-none (t ∷ n ∷ os) h = rw h
 
 -- ---- octets are their attributes and what is left
 
-split_behind : (k : ℕ) (os : List ℕ) → drop k os ≡ flat_map part_octets (parts_behind k os) ++ left_behind k os
-unfolding parts_behind left_behind
-split_behind zero [] = refl
-split_behind (suc k) [] = refl
-split_behind (suc k) (o ∷ os) = split_behind k os
-split_behind zero (t ∷ []) = refl
-split_behind zero (t ∷ n ∷ os) =
+split_after : (k : ℕ) (os : List ℕ) → drop k os ≡ flat_map part_octets (parts_after k os) ++ left_after k os
+unfolding parts_after left_after
+split_after zero [] = refl
+split_after (suc k) [] = refl
+split_after (suc k) (o ∷ os) = split_after k os
+split_after zero (t ∷ []) = refl
+split_after zero (t ∷ n ∷ os) =
     by_test _ (is_whole_attribute n os)
-    (λ h. let e = split_behind (n - 2) os in
+    (λ h. let e = split_after (n - 2) os in
     let p : Part = record { number = t; value = take (n - 2) os } in
-    rw h (octets-first t n os h ∙ ap (λ (xs : List ℕ). part_octets p ++ xs) e ∙ sym (append_assoc (part_octets p) (flat_map part_octets (parts_behind (n - 2) os)) (left_behind (n - 2) os))))
+    rw h (octets-first t n os h ∙ ap (λ (xs : List ℕ). part_octets p ++ xs) e ∙ sym (append_assoc (part_octets p) (flat_map part_octets (parts_after (n - 2) os)) (left_after (n - 2) os))))
     (λ h. rw h)
 
-ends_behind : (k : ℕ) (os : List ℕ) → begins_whole (left_behind k os) ≡ false
-unfolding left_behind
-ends_behind zero [] = refl
-ends_behind (suc k) [] = refl
-ends_behind (suc k) (o ∷ os) = ends_behind k os
-ends_behind zero (t ∷ []) = refl
-ends_behind zero (t ∷ n ∷ os) = by_test _ (is_whole_attribute n os) (λ h. rw h (ends_behind (n - 2) os)) (λ h. rw h h)
+ends_after : (k : ℕ) (os : List ℕ) → begins_whole (left_after k os) ≡ false
+unfolding left_after
+ends_after zero [] = refl
+ends_after (suc k) [] = refl
+ends_after (suc k) (o ∷ os) = ends_after k os
+ends_after zero (t ∷ []) = refl
+ends_after zero (t ∷ n ∷ os) = by_test _ (is_whole_attribute n os) (λ h. rw h (ends_after (n - 2) os)) (λ h. rw h h)
 
 pub is_split : (os : List ℕ) → IsSplit os (parts os) (left os)
-is_split os = record { whole = split_behind 0 os; ends = ends_behind 0 os }
+is_split os = record { whole = split_after 0 os; ends = ends_after 0 os }
 
 pub left_short : (os : List ℕ) → length (left os) ≤ length os
 left_short os =
-    let e = ap length (split_behind 0 os) in
+    let e = ap length (split_after 0 os) in
     let f = length-append (flat_map part_octets (parts os)) (left os) in
     omega arith
 
@@ -141,7 +141,7 @@ items-last offset (o ∷ os) some h =
     rw (parts-none (o ∷ os) h, left-none (o ∷ os) h, same)
 
 pub items-none : (offset : ℕ) → items_from offset [] ≡ []
-unfolding items_from placed_from parts_behind left_behind
+unfolding items_from placed_from parts_after left_after
 items-none offset = refl
 
 -- ---- items from an offset on
@@ -150,7 +150,7 @@ drop_first : (offset : ℕ) (octets rest : List ℕ) (p : Part) → drop offset 
 drop_first offset octets rest p e =
     sym (drop-drop (2 + length p.value) offset octets) ∙ ap (drop (2 + length p.value)) e ∙ drop_at (part_octets p) rest (2 + length p.value) (omega arith)
 
--- behind the first attribute
+-- after the first attribute
 pub items-more : (offset next : ℕ) (octets rest : List ℕ) (p : Part) → offset ≤ length octets → drop offset octets ≡ part_octets p ++ rest → next ≡ length octets - length rest
     → items_from offset (drop offset octets) ≡ Ok (placed p offset) ∷ items_from next (drop next octets)
 items-more offset next octets rest p within e n =
@@ -160,7 +160,7 @@ items-more offset next octets rest p within e n =
     items-first offset (drop offset octets) rest p e
     ∙ rw (same, drop_first offset octets rest p e)
 
--- behind the fault
+-- after the fault
 pub items-end : (offset next : ℕ) (octets : List ℕ) → 0 < length (drop offset octets) → begins_whole (drop offset octets) ≡ false → next ≡ length octets
     → items_from offset (drop offset octets) ≡ Err (record { offset = offset }) ∷ items_from next (drop next octets)
 items-end offset next octets some h n =

@@ -3,22 +3,22 @@ use Rattle.std.proofs.Common.{◌≡◌, ◌∙◌, ℕ, zero, suc, ◌+◌, ◌
 use Rattle.std.proofs.lemmas.Grind.{common_steps}
 use Rattle.avp_dict.specs.declared.entries.Format.{Format}
 use Rattle.avp_dict.specs.Vendors.{is_format}
-use Rattle.avp_packet.specs.Meanings.{Sub, are_subs_behind, begins_sub, first_sub, sub_length, subs, subs_behind}
+use Rattle.avp_packet.specs.Meanings.{Sub, are_subs_after, begins_sub, first_sub, sub_length, subs, subs_after}
 use Rattle.avp_packet.proofs.AttributeRoom.{format_of_size}
 use Rattle.std.proofs.Common.{◌⊎◌, inl, inr}
 use Rattle.std.proofs.lemmas.Bool.{and_parts}
 
-subs_behind-drop : (f : Format) (k : ℕ) (os : List ℕ) → subs_behind f k os ≡ subs f (drop k os)
-unfolding subs_behind
-subs_behind-drop f zero os = refl
-subs_behind-drop f (suc k) [] = refl
-subs_behind-drop f (suc k) (o ∷ os) = subs_behind-drop f k os
+subs_after-drop : (f : Format) (k : ℕ) (os : List ℕ) → subs_after f k os ≡ subs f (drop k os)
+unfolding subs_after
+subs_after-drop f zero os = refl
+subs_after-drop f (suc k) [] = refl
+subs_after-drop f (suc k) (o ∷ os) = subs_after-drop f k os
 
-are_subs_behind-drop : (f : Format) (k : ℕ) (os : List ℕ) → are_subs_behind f k os ≡ are_subs_behind f 0 (drop k os)
-unfolding are_subs_behind
-are_subs_behind-drop f zero os = refl
-are_subs_behind-drop f (suc k) [] = refl
-are_subs_behind-drop f (suc k) (o ∷ os) = are_subs_behind-drop f k os
+are_subs_after-drop : (f : Format) (k : ℕ) (os : List ℕ) → are_subs_after f k os ≡ are_subs_after f 0 (drop k os)
+unfolding are_subs_after
+are_subs_after-drop f zero os = refl
+are_subs_after-drop f (suc k) [] = refl
+are_subs_after-drop f (suc k) (o ∷ os) = are_subs_after-drop f k os
 
 some_type : (f : Format) → is_format f.t f.l ≡ true → 1 ≤ f.t
 some_type f h = go (format_of_size f.t f.l h).0
@@ -46,27 +46,27 @@ drop_one (suc n) o os h = ap (λ k. drop k os) (omega arith)
 
 -- the first one, and the others
 pub subs_more : (f : Format) (os : List ℕ) → is_format f.t f.l ≡ true → 0 < length os → begins_sub f os ≡ true → subs f os ≡ first_sub f os ∷ subs f (drop (sub_length f os) os)
-unfolding subs_behind
+unfolding subs_after
 subs_more f [] h some b = absurd (omega arith)
 subs_more f (o ∷ os) h some b =
     let n : ℕ = sub_length f (o ∷ os) in
-    rw b (ap (λ (ss : List Sub). first_sub f (o ∷ os) ∷ ss) (subs_behind-drop f (n - 1) os ∙ ap (subs_behind f 0) (drop_one n o os (sub_size f (o ∷ os) h b).0)))
+    rw b (ap (λ (ss : List Sub). first_sub f (o ∷ os) ∷ ss) (subs_after-drop f (n - 1) os ∙ ap (subs_after f 0) (drop_one n o os (sub_size f (o ∷ os) h b).0)))
 
-pub are_subs_more : (f : Format) (os : List ℕ) → is_format f.t f.l ≡ true → 0 < length os → begins_sub f os ≡ true → are_subs_behind f 0 os ≡ are_subs_behind f 0 (drop (sub_length f os) os)
-unfolding are_subs_behind
+pub are_subs_more : (f : Format) (os : List ℕ) → is_format f.t f.l ≡ true → 0 < length os → begins_sub f os ≡ true → are_subs_after f 0 os ≡ are_subs_after f 0 (drop (sub_length f os) os)
+unfolding are_subs_after
 are_subs_more f [] h some b = absurd (omega arith)
 are_subs_more f (o ∷ os) h some b =
     let n : ℕ = sub_length f (o ∷ os) in
-    rw b (are_subs_behind-drop f (n - 1) os ∙ ap (are_subs_behind f 0) (drop_one n o os (sub_size f (o ∷ os) h b).0))
+    rw b (are_subs_after-drop f (n - 1) os ∙ ap (are_subs_after f 0) (drop_one n o os (sub_size f (o ∷ os) h b).0))
 
 -- no more
 pub subs_none : (f : Format) (os : List ℕ) → begins_sub f os ≡ false → subs f os ≡ []
-unfolding subs_behind
+unfolding subs_after
 subs_none f [] b = refl
 subs_none f (o ∷ os) b = rw b
 
-pub are_subs_none : (f : Format) (os : List ℕ) → begins_sub f os ≡ false → are_subs_behind f 0 os ≡ (length os == 0)
-unfolding are_subs_behind
+pub are_subs_none : (f : Format) (os : List ℕ) → begins_sub f os ≡ false → are_subs_after f 0 os ≡ (length os == 0)
+unfolding are_subs_after
 are_subs_none f [] b = refl
 are_subs_none f (o ∷ os) b = let some : (length (o ∷ os) == 0) ≡ false = grind (arith, common_steps) in rw (b, some)
 

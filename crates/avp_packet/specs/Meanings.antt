@@ -39,28 +39,28 @@ first_sub f os = record {
   value = take (sub_length f os - (f.t + f.l)) (drop (f.t + f.l) os);
 }
 
--- the vendor's attributes in the octets behind the first so many
-unfoldable pub subs_behind : Format → ℕ → List ℕ → List Sub
-subs_behind f k [] = []
-subs_behind f (suc k) (o ∷ os) = subs_behind f k os
-subs_behind f zero (o ∷ os) =
+-- the vendor's attributes in the octets after the first so many
+unfoldable pub subs_after : Format → ℕ → List ℕ → List Sub
+subs_after f k [] = []
+subs_after f (suc k) (o ∷ os) = subs_after f k os
+subs_after f zero (o ∷ os) =
     if begins_sub f (o ∷ os)
-    then (first_sub f (o ∷ os) ∷ subs_behind f (sub_length f (o ∷ os) - 1) os)
+    then (first_sub f (o ∷ os) ∷ subs_after f (sub_length f (o ∷ os) - 1) os)
     else []
 
--- the octets behind the first so many are whole attributes of the vendor
-unfoldable pub are_subs_behind : Format → ℕ → List ℕ → Bool
-are_subs_behind f k [] = true
-are_subs_behind f (suc k) (o ∷ os) = are_subs_behind f k os
-are_subs_behind f zero (o ∷ os) =
-    begins_sub f (o ∷ os) && are_subs_behind f (sub_length f (o ∷ os) - 1) os
+-- the octets after the first so many are whole attributes of the vendor
+unfoldable pub are_subs_after : Format → ℕ → List ℕ → Bool
+are_subs_after f k [] = true
+are_subs_after f (suc k) (o ∷ os) = are_subs_after f k os
+are_subs_after f zero (o ∷ os) =
+    begins_sub f (o ∷ os) && are_subs_after f (sub_length f (o ∷ os) - 1) os
 
 abbrev pub subs : Format → List ℕ → List Sub
-subs f os = subs_behind f 0 os
+subs f os = subs_after f 0 os
 
 -- one or more whole attributes of the vendor
 abbrev pub are_subs : Format → List ℕ → Bool
-are_subs f os = not (length os == 0) && are_subs_behind f 0 os
+are_subs f os = not (length os == 0) && are_subs_after f 0 os
 
 abbrev pub vendor_of : List ℕ → ℕ
 vendor_of os = number_from_digits 256 (take 4 os)
@@ -84,7 +84,7 @@ piece_in number _ = None
 abbrev pub piece_of : ℕ → ℕ → Part → Option Piece
 piece_of t number part = if part.number == t then piece_in number part.value else None
 
--- pieces joined, and the attributes behind them
+-- pieces joined, and the attributes after them
 pub record Run : Type 0 where
   pub os : List ℕ
   pub rest : List Part
@@ -112,7 +112,7 @@ extended_type part = slice_index part.value 0
 abbrev pub first_run : Part → List Part → Option Run
 first_run part parts = run part.number (extended_type part) (part ∷ parts)
 
--- how many of the attributes behind the first its value goes on in
+-- how many of the attributes after the first its value goes on in
 abbrev pub others_in : List Part → Option Run → ℕ
 others_in parts (Some run) = length parts - length run.rest
 others_in parts None = 0
@@ -131,7 +131,7 @@ module _ (dictionary : Dictionary) where
   value_shown id os (Some password) = value_of_octets id password dictionary
   value_shown id os None = Raw os
 
-  -- what is behind the Vendor-Id, by the format of the vendor
+  -- what is after the Vendor-Id, by the format of the vendor
   unfoldable pub vendor_subs : List ℕ → Option (List Sub)
   vendor_subs os =
       if nat_le 4 (length os)
@@ -179,13 +179,13 @@ module _ (dictionary : Dictionary) where
         then long_pair part (first_run part parts) ∷ []
         else (pair_meant (Plain part.number) part.value ∷ [])
 
-    -- the pairs of the attributes behind the first so many
-    unfoldable pub meaning_behind : ℕ → List Part → List Pair
-    meaning_behind k [] = []
-    meaning_behind (suc k) (part ∷ parts) = meaning_behind k parts
-    meaning_behind zero (part ∷ parts) =
-        first_pairs part parts ++ meaning_behind (others part parts) parts
+    -- the pairs of the attributes after the first so many
+    unfoldable pub meaning_after : ℕ → List Part → List Pair
+    meaning_after k [] = []
+    meaning_after (suc k) (part ∷ parts) = meaning_after k parts
+    meaning_after zero (part ∷ parts) =
+        first_pairs part parts ++ meaning_after (others part parts) parts
 
     -- the pairs that attributes mean
     abbrev pub attribute_pairs : List Part → List Pair
-    attribute_pairs attributes = meaning_behind 0 attributes
+    attribute_pairs attributes = meaning_after 0 attributes

@@ -141,7 +141,7 @@ length_of os = number_from_digits 256 (take 2 (drop 2 os))
 abbrev pub authenticator_of : List ℕ → List ℕ
 authenticator_of os = take 16 (drop 4 os)
 
--- what is behind the authenticator, up to Length
+-- what is after the authenticator, up to Length
 abbrev pub attributes_of : List ℕ → List ℕ
 attributes_of os = drop packet_head_octets (take (length_of os) os)
 

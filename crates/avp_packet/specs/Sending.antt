@@ -36,14 +36,14 @@ before_signature Access pairs = before_first (has_id message_authenticator_id) p
 before_signature Accounting pairs = pairs
 before_signature (Reply signed) pairs = []
 
--- those behind it, among which no other one is sent
-abbrev pub behind_signature : Kind → List Pair → List Pair
-behind_signature Access pairs =
+-- those after it, among which no other one is sent
+abbrev pub after_signature : Kind → List Pair → List Pair
+after_signature Access pairs =
     without_signatures (after_first (has_id message_authenticator_id) pairs)
-behind_signature Accounting pairs = []
-behind_signature (Reply signed) pairs = without_signatures pairs
+after_signature Accounting pairs = []
+after_signature (Reply signed) pairs = without_signatures pairs
 
--- a list, what it is sent in, and the Proxy-States behind it
+-- a list, what it is sent in, and the Proxy-States after it
 pub record Content : Type 0 where
   pub kind : Kind
   pub pairs : List Pair
@@ -58,5 +58,5 @@ unfoldable pub pairs_sent : Dictionary → Content → Pair → List Pair
 pairs_sent dictionary content pair =
     sent (before_signature content.kind content.pairs) dictionary
     ++ signing content pair
-    ++ sent (behind_signature content.kind content.pairs) dictionary
+    ++ sent (after_signature content.kind content.pairs) dictionary
     ++ sent content.proxy_states dictionary

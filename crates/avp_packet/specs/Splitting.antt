@@ -28,30 +28,30 @@ pub record IsSplit (os : List ℕ) (attributes : List Part) (rest : List ℕ) : 
 
 -- ---- the attributes and the rest
 
--- the whole attributes of the octets behind the first so many
-unfoldable pub parts_behind : ℕ → List ℕ → List Part
-parts_behind (suc k) (o ∷ os) = parts_behind k os
-parts_behind zero (t ∷ n ∷ os) =
+-- the whole attributes of the octets after the first so many
+unfoldable pub parts_after : ℕ → List ℕ → List Part
+parts_after (suc k) (o ∷ os) = parts_after k os
+parts_after zero (t ∷ n ∷ os) =
     if is_whole_attribute n os
-    then (record { number = t; value = take (n - 2) os } ∷ parts_behind (n - 2) os)
+    then (record { number = t; value = take (n - 2) os } ∷ parts_after (n - 2) os)
     else []
-parts_behind _ _ = []
+parts_after _ _ = []
 
--- what no whole attribute begins with, of the octets behind the first so many
-unfoldable pub left_behind : ℕ → List ℕ → List ℕ
-left_behind (suc k) (o ∷ os) = left_behind k os
-left_behind zero (t ∷ n ∷ os) =
-    if is_whole_attribute n os then left_behind (n - 2) os else (t ∷ n ∷ os)
-left_behind zero (t ∷ []) = t ∷ []
-left_behind _ [] = []
+-- what no whole attribute begins with, of the octets after the first so many
+unfoldable pub left_after : ℕ → List ℕ → List ℕ
+left_after (suc k) (o ∷ os) = left_after k os
+left_after zero (t ∷ n ∷ os) =
+    if is_whole_attribute n os then left_after (n - 2) os else (t ∷ n ∷ os)
+left_after zero (t ∷ []) = t ∷ []
+left_after _ [] = []
 
 -- the whole attributes that octets begin with
 abbrev pub parts : List ℕ → List Part
-parts os = parts_behind 0 os
+parts os = parts_after 0 os
 
--- what is behind them
+-- what is after them
 abbrev pub left : List ℕ → List ℕ
-left os = left_behind 0 os
+left os = left_after 0 os
 
 -- ---- attributes where they are
 
@@ -67,9 +67,9 @@ placed part offset = record { number = part.number; value = part.value; offset =
 -- attributes one after the other, the first of them at this offset, and then what follows
 unfoldable pub placed_from : ℕ → List Part → List (Result Placed BadLength)
     → List (Result Placed BadLength)
-placed_from offset [] behind = behind
-placed_from offset (part ∷ parts) behind =
-    Ok (placed part offset) ∷ placed_from (offset + (2 + length part.value)) parts behind
+placed_from offset [] after = after
+placed_from offset (part ∷ parts) after =
+    Ok (placed part offset) ∷ placed_from (offset + (2 + length part.value)) parts after
 
 -- octets that are no whole attribute are a fault where they begin
 abbrev pub fault_in : ℕ → List ℕ → List (Result Placed BadLength)

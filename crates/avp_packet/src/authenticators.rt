@@ -79,7 +79,7 @@ pub(crate) fn authenticator_of(octets: &[u8]) -> &[u8]
     &octets[AUTHENTICATOR_PLACE..PACKET_HEAD_OCTETS]
 }
 
-/// What is behind the authenticator, up to the end.
+/// What is after the authenticator, up to the end.
 pub(crate) fn attributes_in(octets: &[u8], end: usize) -> &[u8]
     requires head { PACKET_HEAD_OCTETS ≤ end }
     requires whole { end ≤ length octets.now }

@@ -13,18 +13,18 @@ use crate::attribute::walking::count_attributes;
 use crate::authenticators::{AUTHENTICATOR_PLACE, are_equal, attributes_in, packet_length};
 use crate::hmac::signature_between;
 
-// A Message-Authenticator's value, and the octets before and behind the attribute.
+// A Message-Authenticator's value, and the octets before and after the attribute.
 #[derive(Clone, Copy)]
 struct Found<'a> {
     before: &'a [u8],
     value: &'a [u8],
-    behind: &'a [u8],
+    after: &'a [u8],
 }
 
 // The first Message-Authenticator among attributes.
 fn find_signature(octets: &[u8]) -> Option<Found<'_>>
     ensures octets { IfSome result (λ f. octets.now
-        ≡ f.before.now ++ part_octets (part MESSAGE_AUTHENTICATOR f.value.now) ++ f.behind.now) }
+        ≡ f.before.now ++ part_octets (part MESSAGE_AUTHENTICATOR f.value.now) ++ f.after.now) }
     ensures whole { IfSome result (λ f. left f.before.now ≡ []) }
     ensures first { IfSome result (λ f. signatures (parts f.before.now) ≡ []) }
     ensures none { IfNone result (signatures (parts octets.now) ≡ []) }
@@ -35,7 +35,7 @@ fn find_signature(octets: &[u8]) -> Option<Found<'_>>
             return Some(Found {
                 before: &octets[..octets.len() - rest.len()],
                 value: front.value,
-                behind: front.rest,
+                after: front.rest,
             });
         }
         rest = front.rest;
@@ -65,7 +65,7 @@ fn is_signed_among(
     let Some(found) = find_signature(attributes) else {
         return false;
     };
-    if has_signature(found.behind) {
+    if has_signature(found.after) {
         return false;
     }
     let digest = signature_between(
@@ -73,7 +73,7 @@ fn is_signed_among(
         code_id_length,
         authenticator,
         found.before,
-        found.behind,
+        found.after,
     );
     are_equal(found.value, &digest)
 }

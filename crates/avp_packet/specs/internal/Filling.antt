@@ -8,7 +8,7 @@ use Rattle.avp_packet.specs.declared.encoding.dividing.Division.{Division}
 use Rattle.avp_packet.specs.AttributeOctets.{attribute_octets, part}
 use Rattle.avp_packet.specs.Hmac.{hmac}
 use Rattle.avp_packet.specs.Packets.{hiding_authenticator, packet, zeros}
-use Rattle.avp_packet.specs.Sending.{Kind, before_signature, behind_signature, is_to_sign, without_signatures}
+use Rattle.avp_packet.specs.Sending.{Kind, before_signature, after_signature, is_to_sign, without_signatures}
 use Rattle.avp_packet.specs.Splitting.{part_octets}
 use Rattle.avp_packet.specs.internal.Ranges.{IsVendorInRange}
 
@@ -17,21 +17,21 @@ abbrev pub kept_pairs : Bool → List Pair → List Pair
 kept_pairs true pairs = pairs
 kept_pairs false pairs = without_signatures pairs
 
--- what is before and behind the Message-Authenticator, if there is one
+-- what is before and after the Message-Authenticator, if there is one
 pub record IsDivided (kind : Kind) (pairs : List Pair) (division : Division) : Type 0 where
   pub before : division.before.now ≡ before_signature kind pairs
   pub signed : division.signed ≡ is_to_sign kind pairs
-  pub behind : without_signatures division.behind.now ≡ behind_signature kind pairs
+  pub after : without_signatures division.after.now ≡ after_signature kind pairs
 
 -- the pairs of a divided list pass this test
 pub record KeepsAll (q : Pair → Bool) (division : Division) : Type 0 where
   pub before : All (λ p. q p ≡ true) division.before.now
-  pub behind : All (λ p. q p ≡ true) division.behind.now
+  pub after : All (λ p. q p ≡ true) division.after.now
 
--- the vendors of its pairs, and of the Proxy-States behind it, are in range
+-- the vendors of its pairs, and of the Proxy-States after it, are in range
 pub record AreVendorsInRange (division : Division) (proxy_states : List Pair) : Type 0 where
   pub before : All (λ p. IsVendorInRange p.id) division.before.now
-  pub behind : All (λ p. IsVendorInRange p.id) division.behind.now
+  pub after : All (λ p. IsVendorInRange p.id) division.after.now
   pub proxies : All (λ p. IsVendorInRange p.id) proxy_states
 
 -- a Message-Authenticator of these octets, where there is one
@@ -49,7 +49,7 @@ module _ (dictionary : Dictionary) (secret : List ℕ) where
       let octets : List Pair → List ℕ = attribute_octets dictionary secret hide_by in
       octets division.before.now
       ++ signature_if division.signed signature
-      ++ octets (without_signatures division.behind.now)
+      ++ octets (without_signatures division.after.now)
       ++ octets proxy_states
 
   -- and with those that sign the packet

@@ -34,7 +34,7 @@ pub struct Attributes<'a> {
     ghost within: { offset ≤ length octets.now },
 }
 
-// The first attribute, and what is behind it.
+// The first attribute, and what is after it.
 #[derive(Clone, Copy)]
 pub(crate) struct Front<'a> {
     pub number: u8,

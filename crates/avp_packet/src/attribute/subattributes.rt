@@ -4,7 +4,7 @@ ghost use Rattle.std.specs.Prelude.{◌≡◌, ◌≤◌, ◌+◌, ◌++◌, tru
 ghost use Rattle.std.specs.Int.Digits.{number_from_digits};
 ghost use Rattle.avp_dict.specs.Vendors.{is_format};
 ghost use Rattle.avp_packet.specs.AttributeOctets.{part};
-ghost use Rattle.avp_packet.specs.Meanings.{are_subs_behind, begins_sub, first_sub, sub_length, sub_pair, subs, vendor_pairs, vendor_subs};
+ghost use Rattle.avp_packet.specs.Meanings.{are_subs_after, begins_sub, first_sub, sub_length, sub_pair, subs, vendor_pairs, vendor_subs};
 ghost use Rattle.avp_packet.specs.VendorFormats.{known_format};
 ghost use Rattle.avp_packet.specs.internal.Views.{sub_view, under};
 
@@ -18,7 +18,7 @@ use std::alloc::AllocError;
 /// The octets of a Vendor-Id.
 pub(crate) const VENDOR_ID_OCTETS: usize = 4;
 
-// One of a vendor's attributes, and what is behind it.
+// One of a vendor's attributes, and what is after it.
 #[derive(Clone, Copy)]
 struct Sub<'a> {
     number: u32,
@@ -60,8 +60,8 @@ fn sub_length(format: Format, octets: &[u8]) -> usize
         return octets.len();
     }
     let start = usize::from(format.t);
-    let behind = &octets[start..];
-    number_in(&behind[..usize::from(format.l)]) as usize
+    let after = &octets[start..];
+    number_in(&after[..usize::from(format.l)]) as usize
 }
 
 fn first_sub(format: Format, octets: &[u8]) -> Option<Sub<'_>>
@@ -80,10 +80,10 @@ fn first_sub(format: Format, octets: &[u8]) -> Option<Sub<'_>>
     if length < head || length > octets.len() {
         return None;
     }
-    let behind = &octets[head..];
+    let after = &octets[head..];
     Some(Sub {
         number: number_in(&octets[..usize::from(format.t)]),
-        value: &behind[..length - head],
+        value: &after[..length - head],
         rest: &octets[length..],
     })
 }
@@ -91,7 +91,7 @@ fn first_sub(format: Format, octets: &[u8]) -> Option<Sub<'_>>
 // Whether the octets are whole attributes of the vendor, and none but these.
 fn are_whole(format: Format, octets: &[u8]) -> bool
     requires { is_format format.t format.l ≡ true }
-    ensures { result ≡ are_subs_behind format 0 octets.now }
+    ensures { result ≡ are_subs_after format 0 octets.now }
 {
     let mut rest = octets;
     while let Some(sub) = first_sub(format, rest) {
@@ -120,9 +120,9 @@ fn push_subs(
     Ok(())
 }
 
-// The format of a vendor whose attributes are behind the Vendor-Id.
+// The format of a vendor whose attributes are after the Vendor-Id.
 #[tactic(auto, unfolding(crate::specs::Meanings::vendor_subs))]
-fn format_behind(dictionary: &Dictionary, value: &[u8]) -> Option<Format>
+fn format_after(dictionary: &Dictionary, value: &[u8]) -> Option<Format>
     ensures known { IfSome result (λ f. vendor_subs dictionary.now value.now
         ≡ Some (subs f (drop 4 value.now))) }
     ensures format { IfSome result (λ f. is_format f.t f.l ≡ true) }
@@ -152,7 +152,7 @@ pub(crate) fn push_vendor_pairs(
         ++ under keys.now vendor_pairs (part VENDOR_SPECIFIC value.now)
         (vendor_subs keys.now.dictionary.now value.now)) }
 {
-    match format_behind(keys.dictionary, value) {
+    match format_after(keys.dictionary, value) {
         Some(format) => push_subs(
             pairs,
             keys,

@@ -11,7 +11,7 @@ use crate::attribute::numbers::{MORE_FLAG, PIECE_OCTETS};
 use crate::attribute::splitting::{Front, first_attribute};
 use std::alloc::{AllocError, Global};
 
-// A piece of a long value, and the octets behind its attribute.
+// A piece of a long value, and the octets after its attribute.
 #[derive(Clone, Copy)]
 struct Piece<'a> {
     more: bool,
@@ -19,7 +19,7 @@ struct Piece<'a> {
     rest: &'a [u8],
 }
 
-/// A long value, and the octets behind its last attribute.
+/// A long value, and the octets after its last attribute.
 #[derive(Drop)]
 pub(crate) struct Joined<'a> {
     pub octets: Vec<u8>,

@@ -29,7 +29,7 @@ fn extended_type_of(value: &[u8]) -> u8
     }
 }
 
-// Adds the pair of an attribute that holds a long value, with those that its value goes on in, and gives what is behind
+// Adds the pair of an attribute that holds a long value, with those that its value goes on in, and gives what is after
 // them.
 fn push_long<'a>(
     pairs: &mut Vec<Pair>,
@@ -61,7 +61,7 @@ fn push_long<'a>(
     }
 }
 
-// Adds the pairs of the first attribute, with those that its value goes on in, and gives what is behind them.
+// Adds the pairs of the first attribute, with those that its value goes on in, and gives what is after them.
 fn push_first<'a>(
     pairs: &mut Vec<Pair>,
     keys: &Keys<'_>,

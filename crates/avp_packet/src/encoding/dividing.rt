@@ -15,13 +15,13 @@ use avp_lists::{AttrId, Pair};
 /// The attribute that signs a packet.
 pub(crate) const MESSAGE_AUTHENTICATOR_ID: AttrId = AttrId::Plain(MESSAGE_AUTHENTICATOR as u32);
 
-/// What is sent before and behind the Message-Authenticator, and whether there is one. Of those behind it no other one
+/// What is sent before and after the Message-Authenticator, and whether there is one. Of those after it no other one
 /// is sent.
 #[derive(Clone, Copy)]
 pub(crate) struct Division<'a> {
     pub before: &'a [Pair],
     pub signed: bool,
-    pub behind: &'a [Pair],
+    pub after: &'a [Pair],
 }
 
 // Where a list has its first Message-Authenticator, or its length.
@@ -45,15 +45,15 @@ fn divide_access(list: &[Pair]) -> Division<'_>
 {
     let (before, rest) = list.split_at(signature_place(list));
     match rest {
-        [_, behind @ ..] => Division {
+        [_, after @ ..] => Division {
             before,
             signed: true,
-            behind,
+            after,
         },
         _ => Division {
             before,
             signed: false,
-            behind: &[],
+            after: &[],
         },
     }
 }
@@ -69,14 +69,14 @@ pub(crate) fn divide_request(code: u8, list: &[Pair]) -> Division<'_>
         Division {
             before: list,
             signed: false,
-            behind: &[],
+            after: &[],
         }
     } else {
         divide_access(list)
     }
 }
 
-/// A reply's list, which is behind the Message-Authenticator.
+/// A reply's list, which comes after the Message-Authenticator.
 pub(crate) fn divide_reply(signed: bool, list: &[Pair]) -> Division<'_>
     ensures divided { IsDivided (Reply signed) list.now result }
     ensures kept { (q : Pair → Bool) → All (λ p. q p ≡ true) list.now → KeepsAll q result }
@@ -85,6 +85,6 @@ pub(crate) fn divide_reply(signed: bool, list: &[Pair]) -> Division<'_>
     Division {
         before: &[],
         signed,
-        behind: list,
+        after: list,
     }
 }

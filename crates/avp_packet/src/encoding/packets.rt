@@ -69,8 +69,8 @@ fn sign(octets: &mut Vec<u8>, place: Option<usize>, keys: &Keys<'_>, code: u8, i
     };
     let head = code_id_length(code, id, octets.len());
     let before = &octets[..place];
-    let behind = &octets[place + SIGNATURE_OCTETS..];
-    let signature = signature_between(keys.secret, &head, keys.authenticator, before, behind);
+    let after = &octets[place + SIGNATURE_OCTETS..];
+    let signature = signature_between(keys.secret, &head, keys.authenticator, before, after);
     fill_signature(octets, place, &signature);
 }
 

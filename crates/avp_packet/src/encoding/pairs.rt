@@ -210,7 +210,7 @@ pub(crate) fn write_attributes(
     let mut octets = Vec::with_capacity(alloc, MAX_ATTRIBUTES_OCTETS)?;
     push_list(&mut octets, keys, division.before, true)?;
     let place = push_blank(&mut octets, division.signed)?;
-    push_list(&mut octets, keys, division.behind, false)?;
+    push_list(&mut octets, keys, division.after, false)?;
     push_list(&mut octets, keys, proxy_states, true)?;
     Ok(Written { octets, place })
 }

@@ -12,10 +12,10 @@ use Rattle.avp_packet.proofs.decoding.fragments.next_piece.Goals as goal
 -- the run of octets whose first attribute is p, by the piece in it
 module _ (t number : ℕ) (octets rest : List ℕ) (p : Part) (split : parts octets ≡ p ∷ parts rest) where
   run_by : (o : Option Piece) → option_map piece_view o ≡ piece_of t number p → IfSome o (λ piece. piece.rest.now ≡ rest) → IfSome o (λ piece. run t number (parts octets) ≡ run_with (piece_view piece) (parts piece.rest.now) (run t number (parts piece.rest.now)))
-  run_by None is behind = tt
-  run_by (Some piece) is behind =
+  run_by None is after = tt
+  run_by (Some piece) is after =
       ap (run t number) split ∙ run-some t number p (parts rest) (piece_view piece) (sym is)
-      ∙ ap (λ (ps : List Part). run_with (piece_view piece) ps (run t number ps)) (ap parts (sym behind))
+      ∙ ap (λ (ps : List Part). run_with (piece_view piece) ps (run t number ps)) (ap parts (sym after))
 
   none_by : (o : Option Piece) → option_map piece_view o ≡ piece_of t number p → IfNone o (run t number (parts octets) ≡ None)
   none_by None is = ap (run t number) split ∙ run-none t number p (parts rest) (sym is)
