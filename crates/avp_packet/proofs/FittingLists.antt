@@ -22,7 +22,7 @@ use Rattle.avp_dict.specs.Sent.{is_container}
 use Rattle.avp_dict.specs.Settled.{holds, is_in_format}
 use Rattle.avp_dict.specs.Vendors.{is_format}
 use Rattle.avp_dict.specs.AttributeNumbers.{vendor_specific}
-use Rattle.avp_packet.specs.Meanings.{Piece, Run, Sub, are_subs, begins_sub, extended_pair, extended_type, first_pairs, first_run, first_sub, joined, long_pair, attribute_pairs, meaning_after, others, pair_meant, piece_in, piece_of, raw_pair, run, run_with, sub_length, sub_pair, subs, subs_after, subs_by, vendor_of, vendor_pairs, vendor_subs}
+use Rattle.avp_packet.specs.Meanings.{Piece, Run, Subattribute, are_subattributes, begins_subattribute, extended_pair, extended_type, first_pairs, first_run, first_subattribute, joined, long_pair, attribute_pairs, meaning_after, others, pair_meant, piece_in, piece_of, raw_pair, run, run_with, subattribute_length, subattribute_pair, subattributes, subattributes_after, subattributes_by, vendor_of, vendor_pairs, vendor_subattributes}
 use Rattle.avp_packet.specs.Splitting.{Part, is_whole_attribute, parts, parts_after}
 use Rattle.avp_packet.specs.VendorFormats.{known_format, usable_format}
 use Rattle.avp_packet.specs.ExtendedTypes.{extended_type_1, extended_type_4, long_extended_type_1, long_extended_type_2, piece_octets, more_flag, holds_one, holds_long}
@@ -170,14 +170,14 @@ known_of n f (Some v) e =
     (λ bad. let none : None ≡ Some f = rw bad at some in absurd (cc)))
 
 -- a vendor's attribute with no more octets, and its type and length, than these
-pub record IsSub (f : Format) (most : ℕ) (s : Sub) : Type 0 where
+pub record IsSub (f : Format) (most : ℕ) (s : Subattribute) : Type 0 where
   pub number : s.number < 256 ^ f.t
   pub short : length s.value + (f.t + f.l) ≤ most
   pub bytes : AreBytes s.value
 
-first_good : (f : Format) (os : List ℕ) (most : ℕ) → AreBytes os → length os ≤ most → begins_sub f os ≡ true → IsSub f most (first_sub f os)
+first_good : (f : Format) (os : List ℕ) (most : ℕ) → AreBytes os → length os ≤ most → begins_subattribute f os ≡ true → IsSub f most (first_subattribute f os)
 first_good f os most bytes few b =
-    let n : ℕ = sub_length f os in
+    let n : ℕ = subattribute_length f os in
     let h : ℕ = f.t + f.l in
     let whole = and_parts (nat_le h (length os) && nat_le h n) (nat_le n (length os)) b in
     let counts = and_parts (nat_le h (length os)) (nat_le h n) whole.0 in
@@ -196,13 +196,13 @@ first_good f os most bytes few b =
     le_of : (x y : ℕ) → nat_le x y ≡ true → x ≤ y
     le_of x y e = grind (arith, common_steps)
 
-subs_good : (f : Format) (most k : ℕ) (os : List ℕ) → AreBytes os → length os ≤ most → AllByRecursion (IsSub f most) (subs_after f k os)
-unfolding subs_after
-subs_good f most k [] bytes few = tt
-subs_good f most (suc k) (o ∷ os) bytes few = subs_good f most k os bytes.1 (omega arith)
-subs_good f most zero (o ∷ os) bytes few =
-    by_test (AllByRecursion (IsSub f most) (cond (begins_sub f (o ∷ os)) (first_sub f (o ∷ os) ∷ subs_after f (sub_length f (o ∷ os) - 1) os) [])) (begins_sub f (o ∷ os))
-    (λ e. rw e (first_good f (o ∷ os) most bytes few e, subs_good f most (sub_length f (o ∷ os) - 1) os bytes.1 (omega arith)))
+subattributes_good : (f : Format) (most k : ℕ) (os : List ℕ) → AreBytes os → length os ≤ most → AllByRecursion (IsSub f most) (subattributes_after f k os)
+unfolding subattributes_after
+subattributes_good f most k [] bytes few = tt
+subattributes_good f most (suc k) (o ∷ os) bytes few = subattributes_good f most k os bytes.1 (omega arith)
+subattributes_good f most zero (o ∷ os) bytes few =
+    by_test (AllByRecursion (IsSub f most) (cond (begins_subattribute f (o ∷ os)) (first_subattribute f (o ∷ os) ∷ subattributes_after f (subattribute_length f (o ∷ os) - 1) os) [])) (begins_subattribute f (o ∷ os))
+    (λ e. rw e (first_good f (o ∷ os) most bytes few e, subattributes_good f most (subattribute_length f (o ∷ os) - 1) os bytes.1 (omega arith)))
     (λ e. rw e tt)
 
 -- ---- pairs
@@ -271,32 +271,32 @@ module _ (dictionary : Dictionary) (secret authenticator : List ℕ) (P : Pair �
           made (Extended p.number (extended_type p)) r.os (rw (a, b)) h.bytes (rw (a, d, e, b) short)
 
   -- the pairs of a vendor's attributes
-  sub_good : (v : ℕ) (f : Format) (s : Sub) → known_format v dictionary ≡ Some f → IsSub f 249 s → P (sub_pair dictionary secret authenticator v s)
+  subattribute_good : (v : ℕ) (f : Format) (s : Subattribute) → known_format v dictionary ≡ Some f → IsSub f 249 s → P (subattribute_pair dictionary secret authenticator v s)
   unfolding is_known max_octets known_format vendor_format is_in_format
-  sub_good v f s known is =
+  subattribute_good v f s known is =
       let x = known_of s.number f (format_of v dictionary.vendors) known in
       let few = is.short in
       made (Vendor v s.number) s.value (x.holds is.number) is.bytes (rw x.room (omega arith))
 
-  subs_hold : (v : ℕ) (f : Format) (ss : List Sub) → known_format v dictionary ≡ Some f → AllByRecursion (IsSub f 249) ss → AllHold (map (sub_pair dictionary secret authenticator v) ss)
-  subs_hold v f [] known h = tt
-  subs_hold v f (s ∷ ss) known h = (sub_good v f s known h.0, subs_hold v f ss known h.1)
+  subattributes_hold : (v : ℕ) (f : Format) (ss : List Subattribute) → known_format v dictionary ≡ Some f → AllByRecursion (IsSub f 249) ss → AllHold (map (subattribute_pair dictionary secret authenticator v) ss)
+  subattributes_hold v f [] known h = tt
+  subattributes_hold v f (s ∷ ss) known h = (subattribute_good v f s known h.0, subattributes_hold v f ss known h.1)
 
-  vendor_good : (p : Part) → IsGood p → is_container (Plain p.number) ≡ true → AllHold (vendor_pairs dictionary secret authenticator p (vendor_subs dictionary p.value))
-  unfolding vendor_subs
+  vendor_good : (p : Part) → IsGood p → is_container (Plain p.number) ≡ true → AllHold (vendor_pairs dictionary secret authenticator p (vendor_subattributes dictionary p.value))
+  unfolding vendor_subattributes
   vendor_good p good held =
-      by_test (AllHold (vendor_pairs dictionary secret authenticator p (cond (nat_le 4 (length p.value)) (option_and_then (subs_by p.value) (known_format (vendor_of p.value) dictionary)) None))) (nat_le 4 (length p.value))
+      by_test (AllHold (vendor_pairs dictionary secret authenticator p (cond (nat_le 4 (length p.value)) (option_and_then (subattributes_by p.value) (known_format (vendor_of p.value) dictionary)) None))) (nat_le 4 (length p.value))
       (λ e. let long : 4 ≤ length p.value = grind (arith, common_steps) in rw e (go (known_format (vendor_of p.value) dictionary) refl long))
       (λ e. rw e (kept p good held, tt))
     where
-      go : (o : Option Format) → known_format (vendor_of p.value) dictionary ≡ o → 4 ≤ length p.value → AllHold (vendor_pairs dictionary secret authenticator p (option_and_then (subs_by p.value) o))
+      go : (o : Option Format) → known_format (vendor_of p.value) dictionary ≡ o → 4 ≤ length p.value → AllHold (vendor_pairs dictionary secret authenticator p (option_and_then (subattributes_by p.value) o))
       go None known long = (kept p good held, tt)
       go (Some f) known long =
           let rest = length-drop 4 p.value in
           let few = good.short in
           let short : length (drop 4 p.value) ≤ 249 = omega arith in
-          by_test (AllHold (vendor_pairs dictionary secret authenticator p (subs_by p.value f))) (are_subs f (drop 4 p.value))
-          (λ e. rw e (subs_hold (vendor_of p.value) f (subs f (drop 4 p.value)) known (subs_good f 249 0 (drop 4 p.value) (bytes-drop 4 p.value good.bytes) short)))
+          by_test (AllHold (vendor_pairs dictionary secret authenticator p (subattributes_by p.value f))) (are_subattributes f (drop 4 p.value))
+          (λ e. rw e (subattributes_hold (vendor_of p.value) f (subattributes f (drop 4 p.value)) known (subattributes_good f 249 0 (drop 4 p.value) (bytes-drop 4 p.value good.bytes) short)))
           (λ e. rw e (kept p good held, tt))
 
   first_good_pairs : (p : Part) (ps : List Part) → AreGood (p ∷ ps) → size (p ∷ ps) ≤ 4076 → AllHold (first_pairs dictionary secret authenticator p ps)

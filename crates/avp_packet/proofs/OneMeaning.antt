@@ -6,7 +6,7 @@ use Rattle.avp_lists.specs.declared.pairs.Pair.{Pair}
 use Rattle.avp_dict.specs.Dictionary.{Dictionary}
 use Rattle.avp_dict.specs.Sent.{is_container}
 use Rattle.avp_dict.specs.AttributeNumbers.{vendor_specific}
-use Rattle.avp_packet.specs.Meanings.{Run, Sub, extended_pair, extended_type, first_run, attribute_pairs, pair_meant, raw_pair, sub_pair, vendor_of, vendor_subs}
+use Rattle.avp_packet.specs.Meanings.{Run, Subattribute, extended_pair, extended_type, first_run, attribute_pairs, pair_meant, raw_pair, subattribute_pair, vendor_of, vendor_subattributes}
 use Rattle.avp_packet.specs.Means.{IsExtended, IsLong, IsUnread, Means}
 use Rattle.avp_packet.specs.Means as cases
 use Rattle.avp_packet.specs.Splitting.{Part}
@@ -64,7 +64,7 @@ module _ (dictionary : Dictionary) (secret authenticator : List ℕ) where
 
   pub only_meaning : (ps : List Part) (pairs : List Pair) → Meant ps pairs → pairs ≡ means ps
   only_meaning ps pairs cases.nothing = sym (attribute_pairs-nil dictionary secret authenticator)
-  only_meaning ps pairs (cases.of_vendor p qs subs others_ e f rest) =
+  only_meaning ps pairs (cases.of_vendor p qs subattributes others_ e f rest) =
       let h = only_meaning qs others_ rest in
       let x = vendor_tested p.number e in
       sym (attribute_pairs-cons dictionary secret authenticator p qs ∙ rw (x.is_vendor, x.is_long, f, h))
@@ -94,11 +94,11 @@ module _ (dictionary : Dictionary) (secret authenticator : List ℕ) where
   first_raw : (p : Part) (ps : List Part) → IsUnread dictionary p ps → IsMeant ps → IsMeant (p ∷ ps)
   first_raw p ps e rest = read_to (p ∷ ps) (raw_pair p ∷ means ps) (raw_only p ps (means ps) e refl) (cases.as_raw p ps (means ps) e rest)
 
-  first_vendor : (p : Part) (ps : List Part) → p.number ≡ vendor_specific → IsMeant ps → (o : Option (List Sub)) → vendor_subs dictionary p.value ≡ o → IsMeant (p ∷ ps)
+  first_vendor : (p : Part) (ps : List Part) → p.number ≡ vendor_specific → IsMeant ps → (o : Option (List Subattribute)) → vendor_subattributes dictionary p.value ≡ o → IsMeant (p ∷ ps)
   first_vendor p ps e rest None f = first_raw p ps (inl (e, f)) rest
-  first_vendor p ps e rest (Some subs) f =
-      let all : List Pair = map (sub_pair dictionary secret authenticator (vendor_of p.value)) subs ++ means ps in
-      let h : Meant (p ∷ ps) all = cases.of_vendor p ps subs (means ps) e f rest in
+  first_vendor p ps e rest (Some subattributes) f =
+      let all : List Pair = map (subattribute_pair dictionary secret authenticator (vendor_of p.value)) subattributes ++ means ps in
+      let h : Meant (p ∷ ps) all = cases.of_vendor p ps subattributes (means ps) e f rest in
       read_to (p ∷ ps) all (only_meaning (p ∷ ps) all h) h
 
   first_extended : (t : ℕ) (value : List ℕ) (ps : List Part) → IsExtended t → IsMeant ps → IsMeant (record { number = t; value = value } ∷ ps)
@@ -128,7 +128,7 @@ module _ (dictionary : Dictionary) (secret authenticator : List ℕ) where
   first_meant : (p : Part) (ps : List Part) → ((k : ℕ) → IsMeant (drop k ps)) → IsMeant (p ∷ ps)
   first_meant p ps rest =
       by_test (IsMeant (p ∷ ps)) (p.number == vendor_specific)
-      (λ e. first_vendor p ps (grind (arith, common_steps)) (rest 0) (vendor_subs dictionary p.value) refl)
+      (λ e. first_vendor p ps (grind (arith, common_steps)) (rest 0) (vendor_subattributes dictionary p.value) refl)
       (λ e. by_test (IsMeant (p ∷ ps)) (holds_one p.number)
       (λ f. first_extended p.number p.value ps (grind (arith, common_steps), grind (arith, common_steps)) (rest 0))
       (λ f. by_test (IsMeant (p ∷ ps)) (p.number == long_extended_type_1)

@@ -9,46 +9,46 @@ use Rattle.avp_lists.specs.declared.pairs.Pair.{Pair}
 use Rattle.avp_dict.specs.declared.entries.Format.{Format}
 use Rattle.avp_dict.specs.Dictionary.{Dictionary}
 use Rattle.avp_dict.specs.AttributeNumbers.{vendor_specific}
-use Rattle.avp_packet.specs.Meanings.{Sub, are_subs, begins_sub, extended_pair, first_pairs, first_run, first_sub, long_pair, attribute_pairs, meaning_after, others, pair_meant, sub_length, sub_pair, subs, subs_after, subs_by, vendor_of, vendor_pairs, vendor_subs}
+use Rattle.avp_packet.specs.Meanings.{Subattribute, are_subattributes, begins_subattribute, extended_pair, first_pairs, first_run, first_subattribute, long_pair, attribute_pairs, meaning_after, others, pair_meant, subattribute_length, subattribute_pair, subattributes, subattributes_after, subattributes_by, vendor_of, vendor_pairs, vendor_subattributes}
 use Rattle.avp_packet.specs.Splitting.{Part, left, part_octets, parts}
 use Rattle.avp_packet.specs.VendorFormats.{known_format}
 use Rattle.avp_packet.specs.ExtendedTypes.{holds_one, holds_long}
 use Rattle.avp_packet.proofs.Splits.{is_split}
 
-kept_short : (b : Bool) (ss : List Sub) (n : ℕ) → length ss ≤ n → length (cond b ss []) ≤ n
+kept_short : (b : Bool) (ss : List Subattribute) (n : ℕ) → length ss ≤ n → length (cond b ss []) ≤ n
 kept_short true ss n h = h
 kept_short false ss n h = omega arith
 
-subs_short : (f : Format) (k : ℕ) (os : List ℕ) → length (subs_after f k os) ≤ length os
-unfolding subs_after
-subs_short f k [] = omega arith
-subs_short f (suc k) (o ∷ os) = let rest = subs_short f k os in omega (arith, rest)
-subs_short f zero (o ∷ os) =
-    let rest = subs_short f (sub_length f (o ∷ os) - 1) os in
-    kept_short (begins_sub f (o ∷ os)) (first_sub f (o ∷ os) ∷ subs_after f (sub_length f (o ∷ os) - 1) os) (suc (length os)) (omega (arith, rest))
+subattributes_short : (f : Format) (k : ℕ) (os : List ℕ) → length (subattributes_after f k os) ≤ length os
+unfolding subattributes_after
+subattributes_short f k [] = omega arith
+subattributes_short f (suc k) (o ∷ os) = let rest = subattributes_short f k os in omega (arith, rest)
+subattributes_short f zero (o ∷ os) =
+    let rest = subattributes_short f (subattribute_length f (o ∷ os) - 1) os in
+    kept_short (begins_subattribute f (o ∷ os)) (first_subattribute f (o ∷ os) ∷ subattributes_after f (subattribute_length f (o ∷ os) - 1) os) (suc (length os)) (omega (arith, rest))
 
 module _ (dictionary : Dictionary) (secret authenticator : List ℕ) where
-  vendor_short : (part : Part) → length (vendor_pairs dictionary secret authenticator part (vendor_subs dictionary part.value)) ≤ 2 + length part.value
-  unfolding vendor_subs
+  vendor_short : (part : Part) → length (vendor_pairs dictionary secret authenticator part (vendor_subattributes dictionary part.value)) ≤ 2 + length part.value
+  unfolding vendor_subattributes
   vendor_short part = by_room (nat_le 4 (length part.value))
     where
-      of_subs : (o : Option (List Sub)) → IfSome o (λ ss. length ss ≤ length part.value) → length (vendor_pairs dictionary secret authenticator part o) ≤ 2 + length part.value
-      of_subs None h = omega arith
-      of_subs (Some ss) h = let same = length-map ss (sub_pair dictionary secret authenticator (vendor_of part.value)) in omega (arith, same, h)
+      of_subattributes : (o : Option (List Subattribute)) → IfSome o (λ ss. length ss ≤ length part.value) → length (vendor_pairs dictionary secret authenticator part o) ≤ 2 + length part.value
+      of_subattributes None h = omega arith
+      of_subattributes (Some ss) h = let same = length-map ss (subattribute_pair dictionary secret authenticator (vendor_of part.value)) in omega (arith, same, h)
 
-      kept : (b : Bool) (ss : List Sub) → length ss ≤ length part.value → IfSome (cond b (Some ss) None) (λ found. length found ≤ length part.value)
+      kept : (b : Bool) (ss : List Subattribute) → length ss ≤ length part.value → IfSome (cond b (Some ss) None) (λ found. length found ≤ length part.value)
       kept true ss h = h
       kept false ss h = tt
 
-      by_format : (o : Option Format) → IfSome (option_and_then (subs_by part.value) o) (λ ss. length ss ≤ length part.value)
+      by_format : (o : Option Format) → IfSome (option_and_then (subattributes_by part.value) o) (λ ss. length ss ≤ length part.value)
       by_format None = tt
       by_format (Some f) =
           let same = length-drop 4 part.value in
-          let short = subs_short f 0 (drop 4 part.value) in
-          kept (are_subs f (drop 4 part.value)) (subs f (drop 4 part.value)) (omega (arith, same, short))
+          let short = subattributes_short f 0 (drop 4 part.value) in
+          kept (are_subattributes f (drop 4 part.value)) (subattributes f (drop 4 part.value)) (omega (arith, same, short))
 
-      by_room : (b : Bool) → length (vendor_pairs dictionary secret authenticator part (cond b (option_and_then (subs_by part.value) (known_format (vendor_of part.value) dictionary)) None)) ≤ 2 + length part.value
-      by_room true = of_subs (option_and_then (subs_by part.value) (known_format (vendor_of part.value) dictionary)) (by_format (known_format (vendor_of part.value) dictionary))
+      by_room : (b : Bool) → length (vendor_pairs dictionary secret authenticator part (cond b (option_and_then (subattributes_by part.value) (known_format (vendor_of part.value) dictionary)) None)) ≤ 2 + length part.value
+      by_room true = of_subattributes (option_and_then (subattributes_by part.value) (known_format (vendor_of part.value) dictionary)) (by_format (known_format (vendor_of part.value) dictionary))
       by_room false = omega arith
 
   chosen : (a b : List Pair) (test : Bool) (n : ℕ) → length a ≤ n → length b ≤ n → length (cond test a b) ≤ n

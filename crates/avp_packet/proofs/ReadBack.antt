@@ -25,7 +25,7 @@ use Rattle.avp_dict.specs.Soundness.{HasKnownFormats, IsSound}
 use Rattle.avp_dict.specs.Vendors.{is_format}
 use Rattle.avp_dict.specs.AttributeNumbers.{vendor_specific}
 use Rattle.avp_packet.specs.AttributeOctets.{attribute_octets, fragments, is_long, part, parts_holding, parts_of, parts_of_pair, sent_octets, vendor_value}
-use Rattle.avp_packet.specs.Meanings.{Run, are_subs, are_subs_after, begins_sub, extended_type, first_run, first_sub, attribute_pairs, others, pair_meant, piece_of, run, sub_length, subs, subs_after, vendor_of, vendor_subs}
+use Rattle.avp_packet.specs.Meanings.{Run, are_subattributes, are_subattributes_after, begins_subattribute, extended_type, first_run, first_subattribute, attribute_pairs, others, pair_meant, piece_of, run, subattribute_length, subattributes, subattributes_after, vendor_of, vendor_subattributes}
 use Rattle.avp_packet.specs.Splitting.{Part, left, part_octets, parts}
 use Rattle.avp_packet.specs.VendorFormats.{known_format, usable_format}
 use Rattle.avp_packet.specs.internal.Holding.{CanHold, FitsFormat}
@@ -35,7 +35,7 @@ use Rattle.avp_packet.proofs.Means.{attribute_pairs-cons, attribute_pairs-nil}
 use Rattle.avp_packet.proofs.AttributeRoom.{fits_known, format_of_size, sent_by, sent_held}
 use Rattle.avp_packet.proofs.PieceRuns.{run-some, run_rest}
 use Rattle.avp_packet.proofs.Splits.{left-all, left-none, parts-all, parts-none}
-use Rattle.avp_packet.proofs.VendorAttributes.{are_subs_more, subs_more}
+use Rattle.avp_packet.proofs.VendorAttributes.{are_subattributes_more, subattributes_more}
 use Rattle.avp_packet.proofs.ValuesReadBack.{value_back}
 use Rattle.avp_packet.proofs.Written.{length-bytes_high_first, length-vendor_value}
 use Rattle.avp_packet.proofs.Tests.{by_test}
@@ -67,11 +67,11 @@ module _ (f : Format) (good : is_format f.t f.l ≡ true) (number : ℕ) (os : L
   abbrev size : ℕ
   size = f.t + f.l + length os
 
-  abbrev sub_octets : List ℕ
-  sub_octets = bytes_high_first f.t number ++ bytes_high_first f.l size ++ os
+  abbrev subattribute_octets : List ℕ
+  subattribute_octets = bytes_high_first f.t number ++ bytes_high_first f.l size ++ os
 
-  length-sub_octets : length sub_octets ≡ size
-  length-sub_octets =
+  length-subattribute_octets : length subattribute_octets ≡ size
+  length-subattribute_octets =
       let a = length-append (bytes_high_first f.t number ++ bytes_high_first f.l size) os in
       let b = length-append (bytes_high_first f.t number) (bytes_high_first f.l size) in
       let d = length-bytes_high_first f.t number in
@@ -87,60 +87,60 @@ module _ (f : Format) (good : is_format f.t f.l ≡ true) (number : ℕ) (os : L
       go (suc (suc zero)) e h = omega (arith, held.1)
       go (suc (suc (suc l))) e h = absurd (omega arith)
 
-  type_first : take f.t sub_octets ≡ bytes_high_first f.t number
+  type_first : take f.t subattribute_octets ≡ bytes_high_first f.t number
   type_first = rw append_assoc (take_at (bytes_high_first f.t number) (bytes_high_first f.l size ++ os) f.t (length-bytes_high_first f.t number))
 
-  length_after : drop f.t sub_octets ≡ bytes_high_first f.l size ++ os
+  length_after : drop f.t subattribute_octets ≡ bytes_high_first f.l size ++ os
   length_after = rw append_assoc (drop_at (bytes_high_first f.t number) (bytes_high_first f.l size ++ os) f.t (length-bytes_high_first f.t number))
 
-  value_after : drop (f.t + f.l) sub_octets ≡ os
+  value_after : drop (f.t + f.l) subattribute_octets ≡ os
   value_after =
       let a = length-append (bytes_high_first f.t number) (bytes_high_first f.l size) in
       let d = length-bytes_high_first f.t number in
       let e = length-bytes_high_first f.l size in
       drop_at (bytes_high_first f.t number ++ bytes_high_first f.l size) os (f.t + f.l) (omega arith)
 
-  sub_length_is : sub_length f sub_octets ≡ size
-  sub_length_is =
-      by_test (sub_length f sub_octets ≡ size) (f.l == 0)
-      (λ e. rw e length-sub_octets)
+  subattribute_length_is : subattribute_length f subattribute_octets ≡ size
+  subattribute_length_is =
+      by_test (subattribute_length f subattribute_octets ≡ size) (f.l == 0)
+      (λ e. rw e length-subattribute_octets)
       (λ e. let some : 1 ≤ f.l = grind (arith, common_steps) in
       let small = format_small f good in
       rw (e, length_after, take_at (bytes_high_first f.l size) os f.l (length-bytes_high_first f.l size)) (number_back f.l size (omega (arith, small.2)) (size_fits some)))
 
-  begins : begins_sub f sub_octets ≡ true
+  begins : begins_subattribute f subattribute_octets ≡ true
   begins =
-      let long = length-sub_octets in
-      let told = sub_length_is in
-      let a : nat_le (f.t + f.l) (length sub_octets) ≡ true = grind (arith, common_steps) in
-      let b : nat_le (f.t + f.l) (sub_length f sub_octets) ≡ true = grind (arith, common_steps) in
-      let d : nat_le (sub_length f sub_octets) (length sub_octets) ≡ true = grind (arith, common_steps) in
+      let long = length-subattribute_octets in
+      let told = subattribute_length_is in
+      let a : nat_le (f.t + f.l) (length subattribute_octets) ≡ true = grind (arith, common_steps) in
+      let b : nat_le (f.t + f.l) (subattribute_length f subattribute_octets) ≡ true = grind (arith, common_steps) in
+      let d : nat_le (subattribute_length f subattribute_octets) (length subattribute_octets) ≡ true = grind (arith, common_steps) in
       rw (a, b, d)
 
-  first_is : first_sub f sub_octets ≡ record { number = number; value = os }
+  first_is : first_subattribute f subattribute_octets ≡ record { number = number; value = os }
   first_is =
       let small = format_small f good in
-      let n : number_from_digits 256 (take f.t sub_octets) ≡ number = rw type_first (number_back f.t number (omega (arith, small.1)) held.0) in
-      let told = sub_length_is in
-      let rest : sub_length f sub_octets - (f.t + f.l) ≡ length os = omega arith in
+      let n : number_from_digits 256 (take f.t subattribute_octets) ≡ number = rw type_first (number_back f.t number (omega (arith, small.1)) held.0) in
+      let told = subattribute_length_is in
+      let rest : subattribute_length f subattribute_octets - (f.t + f.l) ≡ length os = omega arith in
       rw (n, rest, value_after, take_all (length os) os (omega arith))
 
-  none_after : drop (sub_length f sub_octets) sub_octets ≡ []
-  none_after = drop_all (sub_length f sub_octets) sub_octets (omega (arith, sub_length_is, length-sub_octets))
+  none_after : drop (subattribute_length f subattribute_octets) subattribute_octets ≡ []
+  none_after = drop_all (subattribute_length f subattribute_octets) subattribute_octets (omega (arith, subattribute_length_is, length-subattribute_octets))
 
-  some_octets : 0 < length sub_octets
-  some_octets = let small = format_small f good in omega (arith, length-sub_octets, small.0)
+  some_octets : 0 < length subattribute_octets
+  some_octets = let small = format_small f good in omega (arith, length-subattribute_octets, small.0)
 
-  subs_is : subs f sub_octets ≡ record { number = number; value = os } ∷ []
-  unfolding subs_after
-  subs_is = subs_more f sub_octets good some_octets begins ∙ rw (first_is, none_after)
+  subattributes_is : subattributes f subattribute_octets ≡ record { number = number; value = os } ∷ []
+  unfolding subattributes_after
+  subattributes_is = subattributes_more f subattribute_octets good some_octets begins ∙ rw (first_is, none_after)
 
-  are_subs_is : are_subs f sub_octets ≡ true
-  unfolding are_subs_after
-  are_subs_is =
+  are_subattributes_is : are_subattributes f subattribute_octets ≡ true
+  unfolding are_subattributes_after
+  are_subattributes_is =
       let some = some_octets in
-      let there : (length sub_octets == 0) ≡ false = grind (arith, common_steps) in
-      rw there (are_subs_more f sub_octets good some_octets begins ∙ rw none_after)
+      let there : (length subattribute_octets == 0) ≡ false = grind (arith, common_steps) in
+      rw there (are_subattributes_more f subattribute_octets good some_octets begins ∙ rw none_after)
 
 -- ---- the format of a known vendor
 
@@ -191,18 +191,18 @@ module _ (dictionary : Dictionary) (sound : IsSound dictionary) (formats : HasKn
       attribute_pairs-cons dictionary secret authenticator p ps ∙ rw (a, b, d, h) (ap (λ (qs : List Part). pair_from (Extended p.number (extended_type p)) r.os ∷ means qs) (sym rest))
 
   -- a vendor's
-  vendor_subs_is : (v n : ℕ) (os : List ℕ) (f : Format) → v < 2 ^ 32 → known_format v dictionary ≡ Some f → is_format f.t f.l ≡ true → FitsFormat n os f → vendor_subs dictionary (vendor_value v n os f) ≡ Some (record { number = n; value = os } ∷ [])
-  unfolding vendor_subs
-  vendor_subs_is v n os f small known good held =
+  vendor_subattributes_is : (v n : ℕ) (os : List ℕ) (f : Format) → v < 2 ^ 32 → known_format v dictionary ≡ Some f → is_format f.t f.l ≡ true → FitsFormat n os f → vendor_subattributes dictionary (vendor_value v n os f) ≡ Some (record { number = n; value = os } ∷ [])
+  unfolding vendor_subattributes
+  vendor_subattributes_is v n os f small known good held =
       let long = length-vendor_value v n os f in
       let four : nat_le 4 (length (vendor_value v n os f)) ≡ true = grind (arith, common_steps) in
       let vendor : vendor_of (vendor_value v n os f) ≡ v = number_back 4 v (omega arith) (omega arith) in
-      rw (four, vendor, known, are_subs_is f good n os held, subs_is f good n os held)
+      rw (four, vendor, known, are_subattributes_is f good n os held, subattributes_is f good n os held)
 
   vendor_read : (v n : ℕ) (os : List ℕ) (f : Format) (rest : List Part) → v < 2 ^ 32 → known_format v dictionary ≡ Some f → is_format f.t f.l ≡ true → FitsFormat n os f → means (part vendor_specific (vendor_value v n os f) ∷ rest) ≡ pair_from (Vendor v n) os ∷ means rest
   vendor_read v n os f rest small known good held =
       let vendor : vendor_of (vendor_value v n os f) ≡ v = number_back 4 v (omega arith) (omega arith) in
-      attribute_pairs-cons dictionary secret authenticator (part vendor_specific (vendor_value v n os f)) rest ∙ rw (vendor_subs_is v n os f small known good held, vendor)
+      attribute_pairs-cons dictionary secret authenticator (part vendor_specific (vendor_value v n os f)) rest ∙ rw (vendor_subattributes_is v n os f small known good held, vendor)
 
   -- ---- pieces
 

@@ -18,55 +18,59 @@ use Rattle.avp_packet.specs.VendorFormats.{known_format}
 
 -- ---- a vendor's own attributes (RFC 2865, section 5.26)
 
--- one of a vendor's own attributes
-pub record Sub : Type 0 where
+-- a sub-attribute: one of a vendor's own attributes
+pub record Subattribute : Type 0 where
   pub number : ℕ
   pub value : List ℕ
 
 -- what the vendor's length counts: the octets themselves where the format has no octets of length
-abbrev pub sub_length : Format → List ℕ → ℕ
-sub_length f os = if f.l == 0 then length os else number_from_digits 256 (take f.l (drop f.t os))
+abbrev pub subattribute_length : Format → List ℕ → ℕ
+subattribute_length f os =
+    if f.l == 0 then length os else number_from_digits 256 (take f.l (drop f.t os))
 
 -- a vendor's attribute comes first: its length counts type and length, and does not run past the end
-abbrev pub begins_sub : Format → List ℕ → Bool
-begins_sub f os =
-    nat_le (f.t + f.l) (length os) && nat_le (f.t + f.l) (sub_length f os)
-    && nat_le (sub_length f os) (length os)
+abbrev pub begins_subattribute : Format → List ℕ → Bool
+begins_subattribute f os =
+    nat_le (f.t + f.l) (length os) && nat_le (f.t + f.l) (subattribute_length f os)
+    && nat_le (subattribute_length f os) (length os)
 
-abbrev pub first_sub : Format → List ℕ → Sub
-first_sub f os = record {
+abbrev pub first_subattribute : Format → List ℕ → Subattribute
+first_subattribute f os = record {
   number = number_from_digits 256 (take f.t os);
-  value = take (sub_length f os - (f.t + f.l)) (drop (f.t + f.l) os);
+  value = take (subattribute_length f os - (f.t + f.l)) (drop (f.t + f.l) os);
 }
 
 -- the vendor's attributes in the octets after the first so many
-unfoldable pub subs_after : Format → ℕ → List ℕ → List Sub
-subs_after f k [] = []
-subs_after f (suc k) (o ∷ os) = subs_after f k os
-subs_after f zero (o ∷ os) =
-    if begins_sub f (o ∷ os)
-    then (first_sub f (o ∷ os) ∷ subs_after f (sub_length f (o ∷ os) - 1) os)
+unfoldable pub subattributes_after : Format → ℕ → List ℕ → List Subattribute
+subattributes_after f k [] = []
+subattributes_after f (suc k) (o ∷ os) = subattributes_after f k os
+subattributes_after f zero (o ∷ os) =
+    if begins_subattribute f (o ∷ os)
+    then (first_subattribute f (o ∷ os)
+    ∷ subattributes_after f (subattribute_length f (o ∷ os) - 1) os)
     else []
 
 -- the octets after the first so many are whole attributes of the vendor
-unfoldable pub are_subs_after : Format → ℕ → List ℕ → Bool
-are_subs_after f k [] = true
-are_subs_after f (suc k) (o ∷ os) = are_subs_after f k os
-are_subs_after f zero (o ∷ os) =
-    begins_sub f (o ∷ os) && are_subs_after f (sub_length f (o ∷ os) - 1) os
+unfoldable pub are_subattributes_after : Format → ℕ → List ℕ → Bool
+are_subattributes_after f k [] = true
+are_subattributes_after f (suc k) (o ∷ os) = are_subattributes_after f k os
+are_subattributes_after f zero (o ∷ os) =
+    begins_subattribute f (o ∷ os)
+    && are_subattributes_after f (subattribute_length f (o ∷ os) - 1) os
 
-abbrev pub subs : Format → List ℕ → List Sub
-subs f os = subs_after f 0 os
+abbrev pub subattributes : Format → List ℕ → List Subattribute
+subattributes f os = subattributes_after f 0 os
 
 -- one or more whole attributes of the vendor
-abbrev pub are_subs : Format → List ℕ → Bool
-are_subs f os = not (length os == 0) && are_subs_after f 0 os
+abbrev pub are_subattributes : Format → List ℕ → Bool
+are_subattributes f os = not (length os == 0) && are_subattributes_after f 0 os
 
 abbrev pub vendor_of : List ℕ → ℕ
 vendor_of os = number_from_digits 256 (take 4 os)
 
-abbrev pub subs_by : List ℕ → Format → Option (List Sub)
-subs_by os f = if are_subs f (drop 4 os) then Some (subs f (drop 4 os)) else None
+abbrev pub subattributes_by : List ℕ → Format → Option (List Subattribute)
+subattributes_by os f =
+    if are_subattributes f (drop 4 os) then Some (subattributes f (drop 4 os)) else None
 
 -- ---- long values (RFC 6929, section 2.2)
 
@@ -132,10 +136,10 @@ module _ (dictionary : Dictionary) where
   value_shown id os None = Raw os
 
   -- what is after the Vendor-Id, by the format of the vendor
-  unfoldable pub vendor_subs : List ℕ → Option (List Sub)
-  vendor_subs os =
+  unfoldable pub vendor_subattributes : List ℕ → Option (List Subattribute)
+  vendor_subattributes os =
       if nat_le 4 (length os)
-      then option_and_then (subs_by os) (known_format (vendor_of os) dictionary)
+      then option_and_then (subattributes_by os) (known_format (vendor_of os) dictionary)
       else None
 
   module _ (secret authenticator : List ℕ) where
@@ -149,12 +153,14 @@ module _ (dictionary : Dictionary) where
     abbrev pub pair_meant : AttrId → List ℕ → Pair
     pair_meant id os = record { id = id; value = value_meant id os }
 
-    abbrev pub sub_pair : ℕ → Sub → Pair
-    sub_pair vendor sub = pair_meant (Vendor vendor sub.number) sub.value
+    abbrev pub subattribute_pair : ℕ → Subattribute → Pair
+    subattribute_pair vendor subattribute =
+        pair_meant (Vendor vendor subattribute.number) subattribute.value
 
     -- a pair for each of the vendor's attributes, else the attribute as it is
-    abbrev pub vendor_pairs : Part → Option (List Sub) → List Pair
-    vendor_pairs part (Some subs) = map (sub_pair (vendor_of part.value)) subs
+    abbrev pub vendor_pairs : Part → Option (List Subattribute) → List Pair
+    vendor_pairs part (Some subattributes) =
+        map (subattribute_pair (vendor_of part.value)) subattributes
     vendor_pairs part None = raw_pair part ∷ []
 
     -- an extended attribute (RFC 6929, section 2.1)
@@ -172,7 +178,7 @@ module _ (dictionary : Dictionary) where
     abbrev pub first_pairs : Part → List Part → List Pair
     first_pairs part parts =
         if part.number == vendor_specific
-        then vendor_pairs part (vendor_subs part.value)
+        then vendor_pairs part (vendor_subattributes part.value)
         else if holds_one part.number
         then extended_pair part ∷ []
         else if holds_long part.number

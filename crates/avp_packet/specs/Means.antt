@@ -6,7 +6,7 @@ use Rattle.avp_dict.specs.AttributeNumbers.{vendor_specific}
 use Rattle.avp_dict.specs.Dictionary.{Dictionary}
 use Rattle.avp_dict.specs.Sent.{is_container}
 use Rattle.avp_packet.specs.ExtendedTypes.{extended_type_1, extended_type_4, long_extended_type_1, long_extended_type_2}
-use Rattle.avp_packet.specs.Meanings.{Run, Sub, extended_type, first_run, pair_meant, raw_pair, sub_pair, vendor_of, vendor_subs}
+use Rattle.avp_packet.specs.Meanings.{Run, Subattribute, extended_type, first_run, pair_meant, raw_pair, subattribute_pair, vendor_of, vendor_subattributes}
 use Rattle.avp_packet.specs.Splitting.{Part}
 
 -- the types that hold one attribute, and those that hold long values
@@ -20,18 +20,21 @@ module _ (dictionary : Dictionary) where
   -- the first attribute holds others, and none of them is there to be read
   abbrev pub IsUnread : Part → List Part → Type 0
   IsUnread part parts =
-      ((part.number ≡ vendor_specific) × (vendor_subs dictionary part.value ≡ None))
+      ((part.number ≡ vendor_specific) × (vendor_subattributes dictionary part.value ≡ None))
       ⊎ ((IsExtended part.number × (length part.value < 2))
       ⊎ (IsLong part.number × (first_run part parts ≡ None)))
 
   module _ (secret authenticator : List ℕ) where
     pub data Means : List Part → List Pair → Type 0 where
       nothing : Means [] []
-      of_vendor : (part : Part) (parts : List Part) (subs : List Sub) (pairs : List Pair)
-          → part.number ≡ vendor_specific → vendor_subs dictionary part.value ≡ Some subs
+      of_vendor : (part : Part) (parts : List Part) (subattributes : List Subattribute)
+          (pairs : List Pair)
+          → part.number ≡ vendor_specific
+          → vendor_subattributes dictionary part.value ≡ Some subattributes
           → Means parts pairs
           → Means (part ∷ parts)
-          (map (sub_pair dictionary secret authenticator (vendor_of part.value)) subs ++ pairs)
+          (map (subattribute_pair dictionary secret authenticator (vendor_of part.value))
+          subattributes ++ pairs)
       of_extended : (t n o : ℕ) (os : List ℕ) (parts : List Part) (pairs : List Pair)
           → IsExtended t
           → Means parts pairs

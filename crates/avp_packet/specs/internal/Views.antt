@@ -7,7 +7,7 @@ use Rattle.avp_packet.specs.declared.attribute.splitting.BadLength.{BadLength}
 use Rattle.avp_packet.specs.declared.attribute.splitting.Front.{Front}
 use Rattle.avp_packet.specs.declared.decoding.fragments.Joined.{Joined}
 use Rattle.avp_packet.specs.declared.decoding.fragments.Piece.{Piece}
-use Rattle.avp_packet.specs.declared.attribute.subattributes.Sub.{Sub}
+use Rattle.avp_packet.specs.declared.attribute.subattributes.Subattribute.{Subattribute}
 use Rattle.avp_packet.specs.declared.keys.Keys.{Keys}
 use Rattle.avp_packet.specs.AttributeOctets.{part}
 use Rattle.avp_packet.specs.Meanings as meanings
@@ -23,8 +23,9 @@ item_view (Err bad) = Err bad
 abbrev pub items_left : Attributes → List (Result Placed BadLength)
 items_left s = items_from s.offset (drop s.offset s.octets.now)
 
-abbrev pub sub_view : Sub → meanings.Sub
-sub_view sub = record { number = sub.number; value = sub.value.now }
+abbrev pub subattribute_view : Subattribute → meanings.Subattribute
+subattribute_view subattribute =
+    record { number = subattribute.number; value = subattribute.value.now }
 
 abbrev pub piece_view : Piece → meanings.Piece
 piece_view piece = record { more = piece.more; os = piece.octets.now }

@@ -4,9 +4,9 @@ ghost use Rattle.std.specs.Prelude.{◌≡◌, ◌≤◌, ◌+◌, ◌++◌, tru
 ghost use Rattle.std.specs.Int.Digits.{number_from_digits};
 ghost use Rattle.avp_dict.specs.Vendors.{is_format};
 ghost use Rattle.avp_packet.specs.AttributeOctets.{part};
-ghost use Rattle.avp_packet.specs.Meanings.{are_subs_after, begins_sub, first_sub, sub_length, sub_pair, subs, vendor_pairs, vendor_subs};
+ghost use Rattle.avp_packet.specs.Meanings.{are_subattributes_after, begins_subattribute, first_subattribute, subattribute_length, subattribute_pair, subattributes, vendor_pairs, vendor_subattributes};
 ghost use Rattle.avp_packet.specs.VendorFormats.{known_format};
-ghost use Rattle.avp_packet.specs.internal.Views.{sub_view, under};
+ghost use Rattle.avp_packet.specs.internal.Views.{subattribute_view, under};
 
 use crate::attribute::numbers::VENDOR_SPECIFIC;
 use crate::decoding::values::{push_raw, push_read};
@@ -18,9 +18,9 @@ use std::alloc::AllocError;
 /// The octets of a Vendor-Id.
 pub(crate) const VENDOR_ID_OCTETS: usize = 4;
 
-// One of a vendor's attributes, and what is after it.
+// A sub-attribute, which is one of a vendor's own, and what is after it.
 #[derive(Clone, Copy)]
-struct Sub<'a> {
+struct Subattribute<'a> {
     number: u32,
     value: &'a [u8],
     rest: &'a [u8],
@@ -51,10 +51,10 @@ fn number_in(octets: &[u8]) -> u32
 }
 
 // What the first attribute's length counts.
-fn sub_length(format: Format, octets: &[u8]) -> usize
+fn subattribute_length(format: Format, octets: &[u8]) -> usize
     requires format { is_format format.t format.l ≡ true }
     requires room { format.t + format.l ≤ length octets.now }
-    ensures { result ≡ sub_length format octets.now }
+    ensures { result ≡ subattribute_length format octets.now }
 {
     if format.l == 0 {
         return octets.len();
@@ -64,24 +64,25 @@ fn sub_length(format: Format, octets: &[u8]) -> usize
     number_in(&after[..usize::from(format.l)]) as usize
 }
 
-fn first_sub(format: Format, octets: &[u8]) -> Option<Sub<'_>>
+fn first_subattribute(format: Format, octets: &[u8]) -> Option<Subattribute<'_>>
     requires { is_format format.t format.l ≡ true }
-    ensures begins { IfSome result (λ sub. begins_sub format octets.now ≡ true) }
-    ensures sub { IfSome result (λ sub. sub_view sub ≡ first_sub format octets.now) }
-    ensures rest { IfSome result (λ sub. sub.rest.now
-        ≡ drop (sub_length format octets.now) octets.now) }
-    ensures none { IfNone result (begins_sub format octets.now ≡ false) }
+    ensures begins { IfSome result (λ subattribute. begins_subattribute format octets.now ≡ true) }
+    ensures subattribute { IfSome result (λ subattribute.
+        subattribute_view subattribute ≡ first_subattribute format octets.now) }
+    ensures rest { IfSome result (λ subattribute. subattribute.rest.now
+        ≡ drop (subattribute_length format octets.now) octets.now) }
+    ensures none { IfNone result (begins_subattribute format octets.now ≡ false) }
 {
     let head = usize::from(format.t) + usize::from(format.l);
     if octets.len() < head {
         return None;
     }
-    let length = sub_length(format, octets);
+    let length = subattribute_length(format, octets);
     if length < head || length > octets.len() {
         return None;
     }
     let after = &octets[head..];
-    Some(Sub {
+    Some(Subattribute {
         number: number_in(&octets[..usize::from(format.t)]),
         value: &after[..length - head],
         rest: &octets[length..],
@@ -91,17 +92,17 @@ fn first_sub(format: Format, octets: &[u8]) -> Option<Sub<'_>>
 // Whether the octets are whole attributes of the vendor, and none but these.
 fn are_whole(format: Format, octets: &[u8]) -> bool
     requires { is_format format.t format.l ≡ true }
-    ensures { result ≡ are_subs_after format 0 octets.now }
+    ensures { result ≡ are_subattributes_after format 0 octets.now }
 {
     let mut rest = octets;
-    while let Some(sub) = first_sub(format, rest) {
-        rest = sub.rest;
+    while let Some(subattribute) = first_subattribute(format, rest) {
+        rest = subattribute.rest;
     }
     rest.is_empty()
 }
 
 // Adds a pair for each of the vendor's attributes.
-fn push_subs(
+fn push_subattributes(
     pairs: &mut Vec<Pair>,
     keys: &Keys<'_>,
     vendor: u32,
@@ -110,24 +111,29 @@ fn push_subs(
 ) -> Result<(), AllocError>
     requires { is_format format.t format.l ≡ true }
     ensures { OnOk result (pairs.new.items ≡ pairs.old.items
-        ++ map (under keys.now sub_pair vendor) (subs format octets.now)) }
+        ++ map (under keys.now subattribute_pair vendor) (subattributes format octets.now)) }
 {
     let mut rest = octets;
-    while let Some(sub) = first_sub(format, rest) {
-        push_read(pairs, keys, AttrId::Vendor(vendor, sub.number), sub.value)?;
-        rest = sub.rest;
+    while let Some(subattribute) = first_subattribute(format, rest) {
+        push_read(
+            pairs,
+            keys,
+            AttrId::Vendor(vendor, subattribute.number),
+            subattribute.value,
+        )?;
+        rest = subattribute.rest;
     }
     Ok(())
 }
 
 // The format of a vendor whose attributes are after the Vendor-Id.
-#[tactic(auto, unfolding(crate::specs::Meanings::vendor_subs))]
+#[tactic(auto, unfolding(crate::specs::Meanings::vendor_subattributes))]
 fn format_after(dictionary: &Dictionary, value: &[u8]) -> Option<Format>
-    ensures known { IfSome result (λ f. vendor_subs dictionary.now value.now
-        ≡ Some (subs f (drop 4 value.now))) }
+    ensures known { IfSome result (λ f. vendor_subattributes dictionary.now value.now
+        ≡ Some (subattributes f (drop 4 value.now))) }
     ensures format { IfSome result (λ f. is_format f.t f.l ≡ true) }
     ensures long { IfSome result (λ f. 4 ≤ length value.now) }
-    ensures none { IfNone result (vendor_subs dictionary.now value.now ≡ None) }
+    ensures none { IfNone result (vendor_subattributes dictionary.now value.now ≡ None) }
 {
     if value.len() < VENDOR_ID_OCTETS {
         return None;
@@ -150,10 +156,10 @@ pub(crate) fn push_vendor_pairs(
 ) -> Result<(), AllocError>
     ensures { OnOk result (pairs.new.items ≡ pairs.old.items
         ++ under keys.now vendor_pairs (part VENDOR_SPECIFIC value.now)
-        (vendor_subs keys.now.dictionary.now value.now)) }
+        (vendor_subattributes keys.now.dictionary.now value.now)) }
 {
     match format_after(keys.dictionary, value) {
-        Some(format) => push_subs(
+        Some(format) => push_subattributes(
             pairs,
             keys,
             number_in(&value[..VENDOR_ID_OCTETS]),
