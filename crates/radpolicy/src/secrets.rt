@@ -1,10 +1,11 @@
 //! The secret that a job's file holds.
 
 ghost use Rattle.std.specs.Prelude.{◌≡◌, ◌<◌, [], length, MatchOption};
-ghost use Rattle.std.specs.List.{before_first, position};
+ghost use Rattle.std.specs.List.{before_first};
 ghost use Rattle.avp_dict.specs.Lines.{is_line_end};
 ghost use Rattle.radpolicy.specs.Secrets.{secret_in, without_last_controls};
 
+use avp_dict::next_line;
 use std::marker::Model;
 
 // Octets without the controls at their end.
@@ -24,18 +25,12 @@ fn without_last_controls(octets: &[u8]) -> &[u8]
     }
 }
 
-fn line_end(text: &[u8]) -> Option<usize>
-    ensures { result ≡ position is_line_end text.now }
-{
-    text.iter().position(|octet| *octet == b'\n')
-}
-
 // A text's first line, without its end.
 fn first_line(text: &[u8]) -> &[u8]
     ensures { result.now ≡ before_first is_line_end text.now }
 {
-    match line_end(text) {
-        Some(end) => &text[..end],
+    match next_line(text) {
+        Some((line, _)) => line,
         None => text,
     }
 }
