@@ -25,15 +25,15 @@ pub data Unread : Type 0 where
   BadLines : Unread
 
 -- a space, a tab, a CR or an LF
-abbrev pub is_space : ℕ → Bool
-is_space o = (o == 32) || (o == 9) || (o == 13) || (o == 10)
+abbrev pub is_white_space : ℕ → Bool
+is_white_space o = (o == 32) || (o == 9) || (o == 13) || (o == 10)
 
-abbrev pub is_no_space : ℕ → Bool
-is_no_space o = not (is_space o)
+abbrev pub is_no_white_space : ℕ → Bool
+is_no_white_space o = not (is_white_space o)
 
--- the octets that hexadecimal digits stand for, spaces among them left out
+-- the octets that hexadecimal digits stand for, white space among them left out
 unfoldable pub hex_octets : List ℕ → Option (List ℕ)
-hex_octets text = result_ok (decode_of (filter is_no_space text))
+hex_octets text = result_ok (decode_of (filter is_no_white_space text))
 
 abbrev pub unread_packet : Result Packet PacketFault → Result Packet Unread
 unread_packet (Ok packet) = Ok packet

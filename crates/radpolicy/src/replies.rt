@@ -25,10 +25,10 @@ use avp_unlang::Code;
 use std::alloc::{AllocError, Global};
 
 /// The attribute that is sent back as it came (RFC 2865, section 5.33).
-const PROXY_STATE: AttrId = AttrId::Plain(33);
+const PROXY_STATE_ID: AttrId = AttrId::Plain(33);
 
 /// The attribute by which a request asks for a signed reply.
-const MESSAGE_AUTHENTICATOR: AttrId = AttrId::Plain(80);
+const MESSAGE_AUTHENTICATOR_ID: AttrId = AttrId::Plain(80);
 
 /// What a reply takes of its request, and the secret.
 #[derive(Debug, Drop)]
@@ -49,7 +49,7 @@ fn proxy_states_of(alloc: Global, pairs: &[Pair]) -> Result<Vec<Pair>, AllocErro
 {
     let mut found = Vec::new(alloc);
     for pair in pairs {
-        if pair.id.equals(PROXY_STATE) {
+        if pair.id.equals(PROXY_STATE_ID) {
             found.push(copy_pair(alloc, pair)?)?;
         }
     }
@@ -62,7 +62,7 @@ fn has_message_authenticator(pairs: &[Pair]) -> bool
 {
     pairs
         .iter()
-        .any(|pair| pair.id.equals(MESSAGE_AUTHENTICATOR))
+        .any(|pair| pair.id.equals(MESSAGE_AUTHENTICATOR_ID))
 }
 
 // Whether the reply to a request is signed.

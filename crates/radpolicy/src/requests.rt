@@ -10,7 +10,7 @@ ghost use Rattle.radpolicy.specs.Fitting.{AllFit};
 ghost use Rattle.avp_dict.specs.Requests.{request_spelled};
 ghost use Rattle.avp_dict.specs.Sent.{is_clean};
 ghost use Rattle.radpolicy.specs.Replies.{proxy_states};
-ghost use Rattle.radpolicy.specs.Received.{IsUnreadRequest, hex_octets, is_no_space, lines_for, packet_for, request_for};
+ghost use Rattle.radpolicy.specs.Received.{IsUnreadRequest, hex_octets, is_no_white_space, lines_for, packet_for, request_for};
 ghost use Rattle.radpolicy.specs.declared.faults.Fault.TheVariants as fault;
 ghost use Rattle.radpolicy.specs.declared.jobs.Form.TheVariants.{Hex as InHex};
 
@@ -23,18 +23,18 @@ use avp_packet::{ACCESS_REQUEST, ACCOUNTING_REQUEST, Packet, decode};
 use hex::FromHexError;
 use std::alloc::{AllocError, Global};
 
-fn is_no_space(octet: u8) -> bool
-    ensures { result ≡ is_no_space octet }
+fn is_no_white_space(octet: u8) -> bool
+    ensures { result ≡ is_no_white_space octet }
 {
     octet != b' ' && octet != b'\t' && octet != b'\r' && octet != b'\n'
 }
 
-fn without_spaces(alloc: Global, text: &[u8]) -> Result<Vec<u8>, AllocError>
-    ensures { IfOk result (λ digits. digits.items ≡ filter is_no_space text.now) }
+fn without_white_space(alloc: Global, text: &[u8]) -> Result<Vec<u8>, AllocError>
+    ensures { IfOk result (λ digits. digits.items ≡ filter is_no_white_space text.now) }
 {
     let mut digits = Vec::new(alloc);
     for octet in text {
-        if is_no_space(*octet) {
+        if is_no_white_space(*octet) {
             digits.push(*octet)?;
         }
     }
@@ -48,7 +48,7 @@ fn hex_octets(alloc: Global, text: &[u8]) -> Result<Option<Vec<u8>>, AllocError>
     ensures some { IfOk result (λ octets.
         IfSome octets (λ os. hex_octets text.now ≡ Some os.items)) }
 {
-    let digits = without_spaces(alloc, text)?;
+    let digits = without_white_space(alloc, text)?;
     match hex::decode(alloc, digits) {
         Ok(octets) => Ok(Some(octets)),
         Err(FromHexError::OutOfMemory) => Err(AllocError),
@@ -57,7 +57,7 @@ fn hex_octets(alloc: Global, text: &[u8]) -> Result<Option<Vec<u8>>, AllocError>
 }
 
 // A packet in hexadecimal digits.
-fn packet_of_hex(
+fn packet_for(
     alloc: Global,
     dictionary: &Dictionary,
     secret: &Secret<'_>,
@@ -81,12 +81,7 @@ fn packet_of_hex(
 }
 
 // The lines of a request, as the list of a packet of this code.
-fn packet_of_lines(
-    alloc: Global,
-    dictionary: &Dictionary,
-    code: u8,
-    job: &Job,
-) -> Result<Packet, Fault>
+fn lines_for(alloc: Global, dictionary: &Dictionary, code: u8, job: &Job) -> Result<Packet, Fault>
     ensures ok { IfOk result (λ packet.
         lines_for code job.now (request_spelled job.now.request dictionary.now) ≡ Ok packet) }
     ensures code { IfOk result (λ packet. packet.code ≡ code) }
@@ -126,9 +121,9 @@ pub(crate) fn request_for(
     ensures printed { IfErr result (IsPrintedWith job.now.files) }
 {
     match (job.form, secret) {
-        (Form::Hex, Some(secret)) => packet_of_hex(alloc, dictionary, secret, job),
+        (Form::Hex, Some(secret)) => packet_for(alloc, dictionary, secret, job),
         (Form::Hex, None) => unreachable!(),
-        (Form::Access, _) => packet_of_lines(alloc, dictionary, ACCESS_REQUEST, job),
-        (Form::Accounting, _) => packet_of_lines(alloc, dictionary, ACCOUNTING_REQUEST, job),
+        (Form::Access, _) => lines_for(alloc, dictionary, ACCESS_REQUEST, job),
+        (Form::Accounting, _) => lines_for(alloc, dictionary, ACCOUNTING_REQUEST, job),
     }
 }

@@ -4,7 +4,7 @@ use Rattle.avp_lists.specs.Instances.{instances}
 use Rattle.avp_lists.specs.declared.pairs.AttrId.TheVariants.{Plain}
 use Rattle.avp_dict.specs.Sent.{is_clean}
 use Rattle.radpolicy.proofs.Replying.{instances_clean}
-use Rattle.radpolicy.proofs.requests.packet_of_lines.Goals as goal
+use Rattle.radpolicy.proofs.requests.lines_for.Goals as goal
 
 pub returns-clause-proxies : goal.returns-clause-proxies
 returns-clause-proxies c =

@@ -1,7 +1,0 @@
-use Rattle.std.proofs.Common.{◌≡◌, take}
-use Rattle.std.specs.List.{filter}
-use Rattle.radpolicy.specs.Received.{is_no_space}
-use Rattle.radpolicy.proofs.requests.without_spaces.Given as goal
-
-abbrev pub invariant-loop-octet : goal.invariant-loop-octet
-invariant-loop-octet l = l.digits.items ≡ filter is_no_space (take l.octet-index l.text)
