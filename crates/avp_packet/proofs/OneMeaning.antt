@@ -7,10 +7,10 @@ use Rattle.avp_dict.specs.Dictionary.{Dictionary}
 use Rattle.avp_dict.specs.Sent.{is_container}
 use Rattle.avp_dict.specs.AttributeNumbers.{vendor_specific}
 use Rattle.avp_packet.specs.Meanings.{Run, Subattribute, extended_pair, extended_type, first_run, attribute_pairs, pair_meant, raw_pair, subattribute_pair, vendor_of, vendor_subattributes}
-use Rattle.avp_packet.specs.Means.{IsExtended, IsLong, IsUnread, Means}
+use Rattle.avp_packet.specs.Means.{IsUnread, Means}
 use Rattle.avp_packet.specs.Means as cases
 use Rattle.avp_packet.specs.Splitting.{Part}
-use Rattle.avp_packet.specs.ExtendedTypes.{long_extended_type_1, long_extended_type_2, holds_one, holds_long}
+use Rattle.avp_packet.specs.ExtendedTypes.{holds_long, holds_one}
 use Rattle.avp_packet.proofs.Means.{attribute_pairs-cons, attribute_pairs-nil}
 use Rattle.avp_packet.proofs.PieceRuns.{run_rest}
 use Rattle.avp_packet.proofs.Tests.{by_test}
@@ -24,15 +24,11 @@ record IsTested (t : ℕ) (vendor extended long : Bool) : Type 0 where
 vendor_tested : (t : ℕ) → t ≡ vendor_specific → IsTested t true false false
 vendor_tested t e = record { is_vendor = grind (arith, common_steps); is_extended = grind (arith, common_steps); is_long = grind (arith, common_steps) }
 
-extended_tested : (t : ℕ) → IsExtended t → IsTested t false true false
-extended_tested t e =
-    let low = e.0 in
-    let high = e.1 in
-    record { is_vendor = grind (arith, common_steps); is_extended = grind (arith, common_steps); is_long = grind (arith, common_steps) }
+extended_tested : (t : ℕ) → holds_one t ≡ true → IsTested t false true false
+extended_tested t e = record { is_vendor = grind (arith, common_steps); is_extended = e; is_long = grind (arith, common_steps) }
 
-long_tested : (t : ℕ) → IsLong t → IsTested t false false true
-long_tested t (inl e) = record { is_vendor = grind (arith, common_steps); is_extended = grind (arith, common_steps); is_long = grind (arith, common_steps) }
-long_tested t (inr e) = record { is_vendor = grind (arith, common_steps); is_extended = grind (arith, common_steps); is_long = grind (arith, common_steps) }
+long_tested : (t : ℕ) → holds_long t ≡ true → IsTested t false false true
+long_tested t e = record { is_vendor = grind (arith, common_steps); is_extended = grind (arith, common_steps); is_long = e }
 
 plain_tested : (t : ℕ) → is_container (Plain t) ≡ false → IsTested t false false false
 plain_tested t e = record { is_vendor = grind (arith, common_steps); is_extended = grind (arith, common_steps); is_long = grind (arith, common_steps) }
@@ -101,7 +97,7 @@ module _ (dictionary : Dictionary) (secret authenticator : List ℕ) where
       let h : Meant (p ∷ ps) all = cases.of_vendor p ps subattributes (means ps) e f rest in
       read_to (p ∷ ps) all (only_meaning (p ∷ ps) all h) h
 
-  first_extended : (t : ℕ) (value : List ℕ) (ps : List Part) → IsExtended t → IsMeant ps → IsMeant (record { number = t; value = value } ∷ ps)
+  first_extended : (t : ℕ) (value : List ℕ) (ps : List Part) → holds_one t ≡ true → IsMeant ps → IsMeant (record { number = t; value = value } ∷ ps)
   first_extended t [] ps e rest = first_raw (record { number = t; value = [] }) ps (inr (inl (e, omega arith))) rest
   first_extended t (n ∷ []) ps e rest = first_raw (record { number = t; value = n ∷ [] }) ps (inr (inl (e, omega arith))) rest
   first_extended t (n ∷ o ∷ os) ps e rest =
@@ -110,7 +106,7 @@ module _ (dictionary : Dictionary) (secret authenticator : List ℕ) where
       let h : Meant (p ∷ ps) all = cases.of_extended t n o os ps (means ps) e rest in
       read_to (p ∷ ps) all (only_meaning (p ∷ ps) all h) h
 
-  first_long : (p : Part) (ps : List Part) → IsLong p.number → ((k : ℕ) → IsMeant (drop k ps)) → (o : Option Run) → first_run p ps ≡ o → IsMeant (p ∷ ps)
+  first_long : (p : Part) (ps : List Part) → holds_long p.number ≡ true → ((k : ℕ) → IsMeant (drop k ps)) → (o : Option Run) → first_run p ps ≡ o → IsMeant (p ∷ ps)
   first_long p ps e rest None f = first_raw p ps (inr (inr (e, f))) (rest 0)
   first_long p ps e rest (Some run) f =
       let dropped = run_rest p.number (extended_type p) p ps run f in
@@ -130,12 +126,10 @@ module _ (dictionary : Dictionary) (secret authenticator : List ℕ) where
       by_test (IsMeant (p ∷ ps)) (p.number == vendor_specific)
       (λ e. first_vendor p ps (grind (arith, common_steps)) (rest 0) (vendor_subattributes dictionary p.value) refl)
       (λ e. by_test (IsMeant (p ∷ ps)) (holds_one p.number)
-      (λ f. first_extended p.number p.value ps (grind (arith, common_steps), grind (arith, common_steps)) (rest 0))
-      (λ f. by_test (IsMeant (p ∷ ps)) (p.number == long_extended_type_1)
-      (λ g. first_long p ps (inl (grind (arith, common_steps))) rest (first_run p ps) refl)
-      (λ g. by_test (IsMeant (p ∷ ps)) (p.number == long_extended_type_2)
-      (λ h. first_long p ps (inr (grind (arith, common_steps))) rest (first_run p ps) refl)
-      (λ h. let plain : is_container (Plain p.number) ≡ false = grind (arith, common_steps) in first_plain p ps plain (rest 0)))))
+      (λ f. first_extended p.number p.value ps f (rest 0))
+      (λ f. by_test (IsMeant (p ∷ ps)) (holds_long p.number)
+      (λ g. first_long p ps g rest (first_run p ps) refl)
+      (λ g. let plain : is_container (Plain p.number) ≡ false = grind (arith, common_steps) in first_plain p ps plain (rest 0))))
 
   all_meant : (ps : List Part) (k : ℕ) → IsMeant (drop k ps)
   all_meant [] zero = read_to [] [] (sym (attribute_pairs-nil dictionary secret authenticator)) cases.nothing
