@@ -90,7 +90,7 @@ fn read_dictionaries<'a>(rt: &HostRuntime, paths: &[&'a str]) -> Result<FileSet,
 }
 
 // The request; a check has none, and standard input is left alone.
-fn read_request<'a>(rt: &HostRuntime, plan: &Plan<'a>) -> Result<Octets, Unread<'a>> {
+fn request_octets<'a>(rt: &HostRuntime, plan: &Plan<'a>) -> Result<Octets, Unread<'a>> {
     match (plan.command, plan.request) {
         (Command::Check, _) => Ok(Octets::from_vec(Vec::new(rt.alloc()))),
         (_, Some(path)) => read_file(rt, path),
@@ -106,7 +106,7 @@ fn job_of<'a>(rt: &HostRuntime, plan: &Plan<'a>) -> Result<Job, Unread<'a>>
     Ok(Job {
         command: plan.command,
         files: read_dictionaries(rt, plan.dictionaries.as_slice())?,
-        request: read_request(rt, plan)?,
+        request: request_octets(rt, plan)?,
         form: plan.form,
         identifier: plan.identifier,
         authenticator: plan.authenticator,
@@ -139,8 +139,9 @@ fn refuse_unread(rt: &HostRuntime, unread: Unread<'_>) -> u8 {
     match unread {
         Unread::Memory => refuse_early(rt, &Fault::Memory),
         Unread::File(path) => {
-            let _ = eprintln!(rt; "radpolicy: E04 {path}: file not readable");
-            status(&Fault::FileNotReadable)
+            let fault = Fault::FileNotReadable;
+            let _ = eprintln!(rt; "radpolicy: E04 {path}: {fault}");
+            status(&fault)
         }
     }
 }
