@@ -20,7 +20,7 @@ use Rattle.avp_unlang.specs.declared.tree.Cond.TheVariants.{Any, All, Not, Last,
 use Rattle.avp_unlang.specs.declared.tree.Relation.{Relation}
 use Rattle.avp_unlang.specs.declared.tree.Relation.TheVariants as relation
 use Rattle.avp_unlang.specs.Forms.{Form, Chain, Gives, ◌>>◌, ◌>>=◌}
-use Rattle.avp_unlang.specs.Octets.{backslash, left_brace, percent}
+use Rattle.avp_dict.specs.Ascii.{backslash, left_brace, percent}
 use Rattle.avp_unlang.specs.Places.{Place}
 use Rattle.avp_unlang.specs.References.{ReadableIs, readable, type_of}
 use Rattle.avp_unlang.specs.Between.{Follows}

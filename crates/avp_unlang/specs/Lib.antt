@@ -4,7 +4,6 @@ pub mod Conditions
 pub mod Forms
 pub mod Lines
 pub mod Meaning
-pub mod Octets
 pub mod Parts
 pub mod Places
 pub mod Policies

@@ -6,7 +6,7 @@ use Rattle.avp_unlang.specs.declared.text.references.Reference.{Reference}
 use Rattle.avp_unlang.specs.declared.tree.Part.{Part}
 use Rattle.avp_unlang.specs.declared.tree.Part.TheVariants.{Text, Instance}
 use Rattle.avp_unlang.specs.Forms.{Form, While}
-use Rattle.avp_unlang.specs.Octets.{backslash, left_brace, percent, right_brace}
+use Rattle.avp_dict.specs.Ascii.{backslash, left_brace, percent, right_brace}
 use Rattle.avp_unlang.specs.References.{readable}
 use Rattle.avp_unlang.specs.Tokens.{word_length}
 

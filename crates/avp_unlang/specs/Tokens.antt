@@ -3,7 +3,7 @@
 use Rattle.std.specs.Prelude.{ℕ, zero, suc, ◌+◌, Bool, true, false, not, ◌&&◌, ◌||◌, ◌==◌, List, [], ◌∷◌, take, drop, Option, Some, None, bytes_eq, nat_eq, codes, if◌then◌else◌, option_map}
 use Rattle.std.specs.Char.{is_ascii_alphanumeric}
 use Rattle.std.specs.List.{list_any}
-use Rattle.avp_unlang.specs.Octets.{backslash, carriage_return, colon, double_quote, equals, hyphen, line_feed, number_sign, single_quote, space, tab}
+use Rattle.avp_dict.specs.Ascii.{backslash, carriage_return, colon, double_quote, equals, hyphen, line_feed, number_sign, single_quote, space, tab}
 use Rattle.avp_unlang.specs.Places.{Place}
 use Rattle.avp_unlang.specs.declared.text.tokens.Token.{Token}
 use Rattle.avp_unlang.specs.declared.text.tokens.Token.TheVariants.{Operator, Word, Quoted, Unreadable, End}
