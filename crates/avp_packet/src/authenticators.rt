@@ -162,6 +162,6 @@ pub(crate) fn digest_over(
     requires { length attributes.now ≤ MAX_PACKET_OCTETS }
     ensures { result ≡ digest_over code id authenticator.now attributes.now secret.now }
 {
-    let head = code_id_length(code, id, attributes.len());
-    digest_of_four(&head, authenticator, attributes, secret)
+    let code_id_length = code_id_length(code, id, attributes.len());
+    digest_of_four(&code_id_length, authenticator, attributes, secret)
 }

@@ -67,10 +67,16 @@ fn sign(octets: &mut Vec<u8>, place: Option<usize>, keys: &Keys<'_>, code: u8, i
     let Some(place) = place else {
         return;
     };
-    let head = code_id_length(code, id, octets.len());
+    let code_id_length = code_id_length(code, id, octets.len());
     let before = &octets[..place];
     let after = &octets[place + SIGNATURE_OCTETS..];
-    let signature = signature_between(keys.secret, &head, keys.authenticator, before, after);
+    let signature = signature_between(
+        keys.secret,
+        &code_id_length,
+        keys.authenticator,
+        before,
+        after,
+    );
     fill_signature(octets, place, &signature);
 }
 
