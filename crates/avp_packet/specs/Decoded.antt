@@ -31,7 +31,8 @@ unless_left end (o ∷ os) read = Err (BadAttribute (end - length (o ∷ os)))
 
 -- the first attribute that is not whole, by its offset in the packet
 abbrev pub unless_bad : List ℕ → Result Packet PacketFault → Result Packet PacketFault
-unless_bad attributes read = unless_left (packet_head_octets + length attributes) (left attributes) read
+unless_bad attributes read =
+    unless_left (packet_head_octets + length attributes) (left attributes) read
 
 module _ (dictionary : Dictionary) (secret os : List ℕ) where
   abbrev pub packet_read : Packet

@@ -10,8 +10,8 @@ use avp_dict::Dictionary;
 use avp_lists::AttrId;
 
 /// What a packet's values are read and written by: the dictionary of its attributes, the secret, and an authenticator.
-/// `authenticator` is what hides passwords where values are read or written, and the Request Authenticator where a packet
-/// is signed.
+/// `authenticator` is what hides passwords where values are read or written, and the Request Authenticator where a
+/// packet is signed.
 #[derive(Clone, Copy)]
 pub(crate) struct Keys<'a> {
     pub dictionary: &'a Dictionary,

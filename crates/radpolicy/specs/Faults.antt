@@ -62,7 +62,8 @@ packet_fault_row packet.CutShort = numbered 42 (codes "packet cut short")
 packet_fault_row (packet.BadAttribute offset) = numbered 43 (codes "bad attribute length")
 packet_fault_row packet.CodeNotTaken = numbered 44 (codes "code not taken")
 packet_fault_row packet.WrongAuthenticator = numbered 45 (codes "wrong authenticator")
-packet_fault_row packet.WrongMessageAuthenticator = numbered 47 (codes "wrong Message-Authenticator")
+packet_fault_row packet.WrongMessageAuthenticator =
+    numbered 47 (codes "wrong Message-Authenticator")
 packet_fault_row packet.Memory = out_of_memory
 
 -- the faults of policies

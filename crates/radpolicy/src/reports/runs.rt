@@ -189,8 +189,8 @@ pub(crate) fn report_of_run(
         report_of_run form (opened dictionary.now (option_copied secret.entry)) policy.now request
         ≡ Some report) }
     ensures refused { IfErr result (MemoryOr (λ f. (f ≡ fault.PacketTooLong)
-        × (report_of_run form (opened dictionary.now (option_copied secret.entry)) policy.now request
-        ≡ None))) }
+        × (report_of_run form (opened dictionary.now (option_copied secret.entry))
+        policy.now request ≡ None))) }
     ensures read { OnOk result
         (RunIsRead form (opened dictionary.now (option_copied secret.entry)) policy.now request) }
 {
