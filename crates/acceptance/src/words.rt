@@ -7,7 +7,7 @@ use std::test::Fail;
 
 const AUTHENTICATOR: &str = "0F403f9473978057bd83d5cb98f4227a";
 
-// Tables of command lines: on each line what becomes of the words behind the bar, after those that all
+// Tables of command lines: on each line what becomes of the words after the bar, after those that all
 // of a table share. It is `plan`, or a fault: `help`, `usage` or `value`. `''` is an empty word, and
 // `HEX` an authenticator.
 
@@ -136,12 +136,12 @@ fn word(written: &str) -> &str {
 // Each line of the table says what becomes of its words after those in front.
 fn expect_table(rt: &impl Abort, alloc: Global, front: &str, table: &str) -> Result<(), Fail> {
     for line in table.lines() {
-        let (wanted, behind) = line.split_once(" |").ok_or("a bar")?;
+        let (wanted, after) = line.split_once(" |").ok_or("a bar")?;
         let mut words: Vec<&str> = Vec::new(alloc);
         for written in front.split_whitespace() {
             words.push(word(written))?;
         }
-        for written in behind.split_whitespace() {
+        for written in after.split_whitespace() {
             words.push(word(written))?;
         }
         assert_eq!(rt; outcome(read_words(alloc, &words)), wanted, "{line}");

@@ -136,7 +136,7 @@ fn reads_attributes_of_other_forms(rt: HostRuntime) -> Result<(), Fail> {
     Ok(())
 }
 
-// 251 octets in one attribute, and one more in two: the flags of the first, what is behind it, and the pairs.
+// 251 octets in one attribute, and one more in two: the flags of the first, what is after it, and the pairs.
 const PIECES: [(u8, &[u8], &[Row]); 2] = [
     (0, b"", &[(LONG, Given::Bytes(&[0xaa; 251]))]),
     (
@@ -146,17 +146,17 @@ const PIECES: [(u8, &[u8], &[Row]); 2] = [
     ),
 ];
 
-// 251 octets of a long attribute in one piece, and what is behind it.
-fn piece(alloc: Global, flags: u8, behind: &[u8]) -> Result<Vec<u8>, Fail> {
+// 251 octets of a long attribute in one piece, and what is after it.
+fn piece(alloc: Global, flags: u8, after: &[u8]) -> Result<Vec<u8>, Fail> {
     let mut octets = Vec::from_slice(alloc, &[0xf5, 0xff, 1, flags])?;
     octets.resize(255, 0xaa)?;
-    octets.extend_from_slice(behind)?;
+    octets.extend_from_slice(after)?;
     Ok(octets)
 }
 
 fn expect_pieces(rt: &impl Abort, alloc: Global, dictionary: &Dictionary) -> Result<(), Fail> {
-    for (flags, behind, rows) in PIECES {
-        let attributes = piece(alloc, flags, behind)?;
+    for (flags, after, rows) in PIECES {
+        let attributes = piece(alloc, flags, after)?;
         let list = pairs_of(alloc, rows)?;
         expect_both(rt, alloc, dictionary, &attributes, &list)?;
     }

@@ -194,7 +194,7 @@ fn checks_a_reply(rt: HostRuntime) {
     assert!(rt; !check_reply(&longer, &AUTHENTICATOR, SECRET));
 }
 
-// The first four octets of packets with an authenticator of zeros, what is behind it, and why they are refused.
+// The first four octets of packets with an authenticator of zeros, what is after it, and why they are refused.
 const REFUSED: [([u8; 4], &[u8], PacketFault); 7] = [
     ([1, 0, 0, 0x13], b"", PacketFault::LengthOutOfRange),
     ([1, 0, 0x10, 1], b"", PacketFault::LengthOutOfRange),
@@ -234,7 +234,7 @@ fn refuses_requests(rt: HostRuntime) -> Result<(), Fail> {
 }
 
 #[test]
-fn looks_at_no_octets_behind_the_length(rt: HostRuntime) -> Result<(), Fail> {
+fn looks_at_no_octets_after_the_length(rt: HostRuntime) -> Result<(), Fail> {
     let dictionary = read_dictionary(rt.alloc(), b"")?;
     let octets = packet_with_head(rt.alloc(), [1, 0, 0, 0x14], &[0xff])?;
     let packet = decode(rt.alloc(), &dictionary, b"s", &octets)?;

@@ -20,7 +20,7 @@ use Rattle.radpolicy.specs.ReplyMeaning.{IsRead, ReplyIsRead}
 use Rattle.avp_packet.specs.declared.packets.Packet.{Packet}
 use Rattle.radpolicy.specs.declared.jobs.Form.{Form}
 use Rattle.radpolicy.specs.declared.replies.ReplyHead.{ReplyHead}
-use Rattle.radpolicy.specs.Fitting.{AllFit}
+use Rattle.radpolicy.specs.internal.Fitting.{AllFit}
 use Rattle.radpolicy.specs.Replies.{Sent, answer_of, answered_authenticator, proxy_states, reply_code, reply_pairs, reply_with, signs_reply}
 use Rattle.avp_unlang.specs.Meaning.{Outcome as End}
 use Rattle.radpolicy.specs.internal.ReplyHeads.{AnswerIsRead, IsHeadOf, IsLineHead, LineIsRead, answered_by}

@@ -1,5 +1,4 @@
 pub mod Faults
-pub mod Fitting
 pub mod JobReports
 pub mod Plans
 pub mod Received

@@ -4,7 +4,7 @@ ghost use Rattle.std.specs.Prelude.{◌≡◌, ◌<◌, true, false, IfOk, OnOk,
 ghost use Rattle.std.specs.Option.{option_map};
 ghost use Rattle.avp_lists.specs.Instances.{has_instance, instances};
 ghost use Rattle.avp_lists.specs.declared.pairs.AttrId.TheVariants.{Plain};
-ghost use Rattle.radpolicy.specs.Fitting.{AllFit};
+ghost use Rattle.radpolicy.specs.internal.Fitting.{AllFit};
 ghost use Rattle.avp_dict.specs.AttributeNumbers.{proxy_state};
 ghost use Rattle.avp_packet.specs.Packets.{IsReplyCode, IsRequestCode, accounting_request, accounting_response, authenticator_of};
 ghost use Rattle.avp_packet.specs.Sending.{message_authenticator_id};

@@ -6,7 +6,7 @@ ghost use Rattle.std.specs.Option.{option_copied};
 ghost use Rattle.avp_lists.specs.States.{max_pairs};
 ghost use Rattle.avp_packet.specs.Packets.{IsRequestCode};
 ghost use Rattle.radpolicy.specs.Faults.{IsPrintedWith};
-ghost use Rattle.radpolicy.specs.Fitting.{AllFit};
+ghost use Rattle.radpolicy.specs.internal.Fitting.{AllFit};
 ghost use Rattle.avp_dict.specs.Requests.{request_spelled};
 ghost use Rattle.avp_dict.specs.Sent.{is_clean};
 ghost use Rattle.radpolicy.specs.Replies.{proxy_states};

@@ -4,7 +4,7 @@ use Rattle.std.specs.declared.alloc.Global.{Global}
 use Rattle.std.specs.declared.vec.Vec.{Vec}
 use Rattle.avp_lists.specs.declared.pairs.AttrId.TheVariants.{Plain}
 use Rattle.avp_lists.specs.declared.pairs.Pair.{Pair}
-use Rattle.radpolicy.specs.Fitting.{AllFit}
+use Rattle.radpolicy.specs.internal.Fitting.{AllFit}
 use Rattle.radpolicy.specs.Reports.{answer_line}
 use Rattle.avp_dict.specs.AttributeNumbers.{proxy_state}
 use Rattle.avp_dict.specs.Dictionary.{Dictionary}

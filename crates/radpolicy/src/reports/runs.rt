@@ -5,7 +5,7 @@ ghost use Rattle.std.specs.Option.{option_copied};
 ghost use Rattle.avp_lists.specs.States.{max_pairs};
 ghost use Rattle.avp_packet.specs.Packets.{IsRequestCode};
 ghost use Rattle.radpolicy.specs.Faults.{MemoryOr};
-ghost use Rattle.radpolicy.specs.Fitting.{AllFit};
+ghost use Rattle.radpolicy.specs.internal.Fitting.{AllFit};
 ghost use Rattle.avp_lists.specs.History.{present};
 ghost use Rattle.radpolicy.specs.JobReports.{opened, report_of_run, sent_line};
 ghost use Rattle.avp_unlang.specs.Meaning.{Outcome as End};

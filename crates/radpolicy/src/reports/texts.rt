@@ -5,7 +5,7 @@ ghost use Rattle.avp_lists.specs.History.{present};
 ghost use Rattle.avp_lists.specs.States.{list_of};
 ghost use Rattle.avp_dict.specs.Limits.{fits};
 ghost use Rattle.avp_unlang.specs.Resolutions.{StateFits};
-ghost use Rattle.radpolicy.specs.Fitting.{AllFit};
+ghost use Rattle.radpolicy.specs.internal.Fitting.{AllFit};
 ghost use Rattle.radpolicy.specs.Reports.{code_text, list_text, packet_line, packet_text, pair_line, result_line, state_text};
 
 use crate::reports::checks::push_count;

@@ -3,7 +3,7 @@
 ghost use Rattle.std.specs.Prelude.{◌≡◌, ◌++◌, ◌≤◌, IfOk, OnOk, codes, decimal, length};
 ghost use Rattle.avp_lists.specs.States.{max_pairs};
 ghost use Rattle.avp_unlang.specs.Suiting.{IsSpelled};
-ghost use Rattle.radpolicy.specs.Fitting.{AllFit};
+ghost use Rattle.radpolicy.specs.internal.Fitting.{AllFit};
 ghost use Rattle.radpolicy.specs.JobReports.{step_report, request_walk};
 ghost use Rattle.radpolicy.specs.Scripts.{after_script, after_script_word, label_text, move_line, moved, script_text, stays_text, truth_text, word_text};
 

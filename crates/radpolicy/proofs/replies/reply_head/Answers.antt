@@ -5,7 +5,7 @@ use Rattle.avp_lists.specs.declared.pairs.AttrId.TheVariants.{Plain}
 use Rattle.avp_lists.specs.declared.pairs.Pair.{Pair}
 use Rattle.avp_lists.specs.Instances.{instances}
 use Rattle.avp_dict.specs.Sent.{is_clean}
-use Rattle.radpolicy.specs.Fitting.{AllFit}
+use Rattle.radpolicy.specs.internal.Fitting.{AllFit}
 use Rattle.radpolicy.proofs.Replying.{head_answers, instances_are, instances_fit}
 use Rattle.radpolicy.proofs.replies.reply_head.Goals as goal
 

@@ -3,7 +3,7 @@ use Rattle.avp_lists.specs.declared.pairs.Pair.{Pair}
 use Rattle.avp_dict.specs.Dictionary.{Dictionary}
 use Rattle.avp_dict.specs.Sent.{is_clean}
 use Rattle.avp_unlang.specs.declared.codes.Code.TheVariants as codes
-use Rattle.radpolicy.specs.Fitting.{AllFit}
+use Rattle.radpolicy.specs.internal.Fitting.{AllFit}
 use Rattle.radpolicy.specs.JobReports.{entry_state, run_of}
 use Rattle.radpolicy.proofs.Replying.{none_clean}
 use Rattle.radpolicy.proofs.reports.runs.run_over.Goals as goal
