@@ -1,4 +1,4 @@
-use Rattle.std.proofs.Common.{rules}
+use Rattle.std.proofs.Common.{ap, Err}
 use Rattle.avp_unlang.specs.Meaning.{edit_of}
 use Rattle.avp_unlang.specs.declared.meaning.resolving.Unresolved.TheVariants.{Absent, NotValue, TooLong}
 use Rattle.avp_step.proofs.Fitting.{edit_fits, line_edited, line_full, line_unresolved}
@@ -14,7 +14,7 @@ returns-in-Ok-edit-clause-fit g c =
 
 pub returns-in-Err-Full-clause-done : goal.returns-in-Err-Full-clause-done
 returns-in-Err-Full-clause-done g c =
-    line_full c.args.dictionary.now c.args.line.now (g.S.Store.history c.args.store.now) (g.S.Store.history c.edit.new.self) c.in-Ok.pair c.in-Ok.ensures.resolves (search rules) c.in-Err-Full.ensures.err
+    line_full c.args.dictionary.now c.args.line.now (g.S.Store.history c.args.store.now) (g.S.Store.history c.edit.new.self) c.in-Ok.pair c.in-Ok.ensures.resolves (c.in-Err-Full.ensures.full.0 (ap Err c.in-Err-Full.field-0-is)) c.in-Err-Full.ensures.err
 
 pub returns-in-Err-Absent-clause-done : goal.returns-in-Err-Absent-clause-done
 returns-in-Err-Absent-clause-done g c =
