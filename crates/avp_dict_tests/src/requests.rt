@@ -300,7 +300,7 @@ fn refuses_what_follows_the_packet(rt: HostRuntime) -> Result<(), Fail> {
     Ok(())
 }
 
-// A text, and another one behind it so many times.
+// A text, and another one after it so many times.
 fn repeated(alloc: Global, front: &[u8], part: &[u8], times: usize) -> Result<Vec<u8>, Fail> {
     let mut text = Vec::from_slice(alloc, front)?;
     for _ in 0..times {

@@ -23,8 +23,10 @@ piece_octets = 251
 abbrev pub more_flag : ℕ
 more_flag = 128
 
+-- a type of attributes that hold one attribute each
 abbrev pub holds_one : ℕ → Bool
 holds_one t = nat_le extended_type_1 t && nat_le t extended_type_4
 
+-- a type of attributes that hold pieces of long values
 abbrev pub holds_long : ℕ → Bool
 holds_long t = (t == long_extended_type_1) || (t == long_extended_type_2)

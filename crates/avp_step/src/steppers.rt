@@ -233,7 +233,7 @@ impl<'a, S: Store> Stepper<'a, S> {
         ensures end { OnOk result (self.new ≡ moved_to_end self.old) }
         ensures refused { OnErr result (IsHeldUp self.old self.new) }
     {
-        // Its contract says that the position is one of the trace's, which the proof needs.
+        // `position` ensures that the position is one of the trace's, which the proof needs.
         let _within = self.position();
         'steps: while let Moved::To(_) = self.forward()? {}
         Ok(())

@@ -1,4 +1,4 @@
-//! What lines define after the last of them: which ATTRIBUTE lines are used, by the vendors' last formats, and the
+//! What is settled after the last line: which ATTRIBUTE lines are used, by the vendors' last formats, and the
 //! dictionary.
 
 ghost use Rattle.std.specs.Prelude.{◌≡◌, ◌≤◌, [], Ok, IfErr, IfOk, OnOk, IsTrue};

@@ -85,7 +85,7 @@ fn ether_text(alloc: Global, address: &[u8]) -> Result<Vec<u8>, AllocError>
     Ok(text)
 }
 
-// Two numbers with a dot between, behind the front of a name.
+// Two numbers with a dot between, after the front of a name.
 fn dotted_name(alloc: Global, front: &[u8], t: u64, n: u64) -> Result<Vec<u8>, AllocError>
     ensures { IfOk result (λ name. name.items ≡ front.now ++ decimal t ++ codes "." ++ decimal n) }
 {

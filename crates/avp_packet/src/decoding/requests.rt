@@ -111,7 +111,7 @@ fn refusal(octets: &[u8], secret: &[u8]) -> Option<PacketFault>
 
 /// Reads an Access-Request, or an Accounting-Request whose authenticator is right; octets past Length are not looked at.
 /// An Access-Request that has a Message-Authenticator must be signed by it. The faults are tried in the order in which
-/// [`PacketFault`] has them; memory, the last, is wanted only where no other is found.
+/// [`PacketFault`] has them; the contract lets memory run out before any of them.
 ///
 /// ```rust
 /// // The octets of `User-Name = "bob", NAS-Port = 3`, with the identifier 7.

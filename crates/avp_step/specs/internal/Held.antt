@@ -40,8 +40,8 @@ walk_states w k = (entry_at w k).outcome.state
 abbrev pub nowhere : Outcome
 nowhere = running empty_state code.Ok
 
--- the store has a state for each mark, and a mark for the start and for each step made; the frames have the steps that
--- were never made
+-- the store has a state for each mark; there is a mark for the start and one for each step that was made; the frames
+-- have the steps that were never made
 pub record IsHeld (dictionary : Dictionary) (statements : List Statement) (h : History) (left : ℕ)
     (marks : List Mark) (position : ℕ) (frames : List Frame) (marks_room frames_room : ℕ)
     : Type 0 where
