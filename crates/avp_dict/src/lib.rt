@@ -27,5 +27,6 @@ pub use file::words::words_between_blanks;
 pub use request::faults::{LineFault, LineKind};
 pub use request::lines::next_line;
 pub use value::faults::ValueFault;
+pub use value::octets::{MAX_HIDDEN_OCTETS, ends_in_nul, is_hideable};
 pub use value::quotes::{Escape, QuoteMark, double_escape, octets_between, quote};
 pub use value::texts::is_container;

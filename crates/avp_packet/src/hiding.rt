@@ -1,21 +1,19 @@
 //! Hiding of passwords (RFC 2865, section 5.2).
 
-ghost use Rattle.std.specs.Prelude.{◌≡◌, ◌++◌, ◌/◌, ◌<◌, ◌≤◌, ◌↔◌, true, false, length, IfOk, OnOk, IsTrue, Some, Err};
+ghost use Rattle.std.specs.Prelude.{◌≡◌, ◌++◌, ◌/◌, ◌<◌, ◌≤◌, ◌↔◌, true, false, length, IfOk, OnOk, Some, Err};
 ghost use Rattle.std.specs.Option.{option_map};
 ghost use Rattle.md5.specs.Md5.{md5};
-ghost use Rattle.avp_dict.specs.Octets.{ends_in_nul, is_hideable};
+ghost use Rattle.avp_dict.specs.Octets.{is_hideable};
 ghost use Rattle.avp_dict.specs.Sent.{is_block_length};
 ghost use Rattle.avp_packet.specs.Hiding.{block_count, hidden, hidden_blocks, masked, padded, shown, shown_blocks, without_last_nuls};
 
 use crate::faults::HideFault;
+use avp_dict::{MAX_HIDDEN_OCTETS, ends_in_nul, is_hideable};
 use md5::{Digest, Md5};
 use std::alloc::{AllocError, Global};
 
 /// The octets of a block that is hidden by a digest.
 const BLOCK_OCTETS: usize = 16;
-
-/// The most octets of a password.
-pub const MAX_PASSWORD_OCTETS: usize = 128;
 
 fn mask_of(secret: &[u8], before: &[u8; 16]) -> [u8; 16]
     ensures { result ≡ md5 (secret.now ++ before.now) }
@@ -38,7 +36,7 @@ pub(crate) fn masked<const N: usize>(mask: &[u8; N], block: &[u8; N]) -> [u8; N]
 }
 
 fn block_count(length: usize) -> usize
-    requires { length ≤ MAX_PASSWORD_OCTETS }
+    requires { length ≤ MAX_HIDDEN_OCTETS }
     ensures { result ≡ block_count length }
 {
     1 + length.saturating_sub(1) / BLOCK_OCTETS
@@ -46,7 +44,7 @@ fn block_count(length: usize) -> usize
 
 // The password, with NULs up to whole blocks.
 fn padded(alloc: Global, password: &[u8]) -> Result<Vec<u8>, AllocError>
-    requires { length password.now ≤ MAX_PASSWORD_OCTETS }
+    requires { length password.now ≤ MAX_HIDDEN_OCTETS }
     ensures { IfOk result (λ octets. octets.items ≡ padded password.now) }
 {
     let mut octets = Vec::from_slice(alloc, password)?;
@@ -94,15 +92,6 @@ fn shown_blocks(
     Ok(octets)
 }
 
-fn ends_in_nul(octets: &[u8]) -> bool
-    ensures { result ≡ ends_in_nul octets.now }
-{
-    match octets.last() {
-        Some(octet) => *octet == 0,
-        None => false,
-    }
-}
-
 fn drop_last_nuls(octets: &mut Vec<u8>)
     ensures { octets.new.items ≡ without_last_nuls octets.old.items }
 {
@@ -111,17 +100,10 @@ fn drop_last_nuls(octets: &mut Vec<u8>)
     }
 }
 
-fn is_hideable(password: &[u8]) -> bool
-    ensures test { result ≡ is_hideable password.now }
-    ensures short { IsTrue result → length password.now ≤ MAX_PASSWORD_OCTETS }
-{
-    password.len() <= MAX_PASSWORD_OCTETS && !ends_in_nul(password)
-}
-
 fn is_block_length(length: usize) -> bool
     ensures { result ≡ is_block_length length }
 {
-    length % BLOCK_OCTETS == 0 && length >= BLOCK_OCTETS && length <= MAX_PASSWORD_OCTETS
+    length % BLOCK_OCTETS == 0 && length >= BLOCK_OCTETS && length <= MAX_HIDDEN_OCTETS
 }
 
 /// A short password's octets hidden.
@@ -132,7 +114,7 @@ pub(crate) fn hidden(
     authenticator: &[u8; 16],
     password: &[u8],
 ) -> Result<Vec<u8>, AllocError>
-    requires { length password.now ≤ MAX_PASSWORD_OCTETS }
+    requires { length password.now ≤ MAX_HIDDEN_OCTETS }
     ensures { IfOk result (λ octets. octets.items
         ≡ hidden secret.now authenticator.now password.now) }
 {

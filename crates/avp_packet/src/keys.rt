@@ -24,10 +24,7 @@ impl Keys<'_> {
     pub fn is_hidden(&self, id: AttrId) -> bool
         ensures { result ≡ is_hidden id self.now.dictionary.now }
     {
-        match self.dictionary.by_id(id) {
-            Some(entry) => entry.hidden,
-            None => false,
-        }
+        self.dictionary.is_hidden(id)
     }
 }
 

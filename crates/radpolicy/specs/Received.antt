@@ -5,6 +5,7 @@ use Rattle.std.specs.Option.{unwrap_or}
 use Rattle.std.specs.Result.{result_ok}
 use Rattle.hex.specs.Hex.{decode_of}
 use Rattle.avp_lists.specs.declared.pairs.Pair.{Pair}
+use Rattle.avp_dict.specs.Ascii.{carriage_return, line_feed, space, tab}
 use Rattle.avp_dict.specs.declared.request.faults.LineKind.TheVariants as line
 use Rattle.avp_dict.specs.Dictionary.{Dictionary}
 use Rattle.avp_dict.specs.Requests.{request_spelled}
@@ -26,7 +27,7 @@ pub data Unread : Type 0 where
 
 -- a space, a tab, a CR or an LF
 abbrev pub is_white_space : ℕ → Bool
-is_white_space o = (o == 32) || (o == 9) || (o == 13) || (o == 10)
+is_white_space o = o == space || o == tab || o == carriage_return || o == line_feed
 
 abbrev pub is_no_white_space : ℕ → Bool
 is_no_white_space o = not (is_white_space o)

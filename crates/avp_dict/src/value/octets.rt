@@ -1,6 +1,6 @@
 //! Octets of values.
 
-ghost use Rattle.std.specs.Prelude.{◌≡◌, false, Some, IfOk, IsTrue};
+ghost use Rattle.std.specs.Prelude.{◌≡◌, ◌≤◌, length, false, Some, IfOk, IsTrue};
 ghost use Rattle.std.specs.Option.{unwrap_or};
 ghost use Rattle.avp_lists.specs.declared.pairs.Value.TheVariants.{Raw};
 ghost use Rattle.avp_dict.specs.Limits.{fits};
@@ -13,7 +13,7 @@ use avp_lists::{AttrId, Octets, Value};
 use std::alloc::{AllocError, Global};
 
 /// The most octets of a hidden value (RFC 2865, section 5.2).
-pub(crate) const MAX_HIDDEN_OCTETS: usize = 128;
+pub const MAX_HIDDEN_OCTETS: usize = 128;
 
 // A number's octets, the highest first: those of 64 bits without the first ones.
 fn number_octets(alloc: Global, kind: Option<Kind>, number: u64) -> Result<Vec<u8>, AllocError>
@@ -151,7 +151,8 @@ fn keep_by_kind(kind: Kind, octets: Vec<u8>) -> Value
     }
 }
 
-pub(crate) fn ends_in_nul(octets: &[u8]) -> bool
+/// Whether the last octet is NUL.
+pub fn ends_in_nul(octets: &[u8]) -> bool
     ensures { result ≡ ends_in_nul octets.now }
 {
     match octets.last() {
@@ -160,8 +161,11 @@ pub(crate) fn ends_in_nul(octets: &[u8]) -> bool
     }
 }
 
-fn is_hideable(octets: &[u8]) -> bool
-    ensures { result ≡ is_hideable octets.now }
+/// Whether octets can be hidden as a password is: at most 128, and no NUL at the end, since the NULs there are padding
+/// (RFC 2865, section 5.2).
+pub fn is_hideable(octets: &[u8]) -> bool
+    ensures test { result ≡ is_hideable octets.now }
+    ensures short { IsTrue result → length octets.now ≤ MAX_HIDDEN_OCTETS }
 {
     octets.len() <= MAX_HIDDEN_OCTETS && !ends_in_nul(octets)
 }
@@ -175,8 +179,8 @@ impl Dictionary {
         Some(entry.kind)
     }
 
-    /// Whether an id's values are hidden.
-    pub(crate) fn is_hidden(&self, id: AttrId) -> bool
+    /// Whether an id's values are hidden (RFC 2865, section 5.2), by its last used ATTRIBUTE line.
+    pub fn is_hidden(&self, id: AttrId) -> bool
         ensures { result ≡ is_hidden id self.now }
     {
         match self.by_id(id) {

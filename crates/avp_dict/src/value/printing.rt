@@ -5,7 +5,6 @@ ghost use Rattle.std.specs.Fmt.{signed_decimal};
 ghost use Rattle.avp_dict.specs.Limits.{fits};
 ghost use Rattle.avp_dict.specs.Octets.{octets};
 ghost use Rattle.avp_dict.specs.Printing.{address_text, attr_name, digit_pair_text, ether_text, hexadecimal, is_by_number, number_text, printed_name, printed_text, typed_text};
-ghost use Rattle.avp_dict.specs.Sent.{is_raw};
 
 use crate::dictionaries::Dictionary;
 use crate::entries::Kind;
@@ -116,19 +115,10 @@ fn attr_name(alloc: Global, id: AttrId) -> Result<Vec<u8>, AllocError>
     }
 }
 
-fn is_raw(value: &Value) -> bool
-    ensures { result ≡ is_raw value.now }
-{
-    match value {
-        Value::Raw(_) => true,
-        _ => false,
-    }
-}
-
 fn is_by_number(id: AttrId, value: &Value) -> bool
     ensures { result ≡ is_by_number id value.now }
 {
-    is_container(id) || is_raw(value)
+    is_container(id) || matches!(value, Value::Raw(_))
 }
 
 impl Dictionary {

@@ -5,7 +5,7 @@ ghost use Rattle.avp_dict.specs.Limits.{fits};
 ghost use Rattle.std.specs.Cow.{cow_slice_items};
 ghost use Rattle.avp_dict.specs.declared.entries.Kind.{Kind};
 ghost use Rattle.avp_dict.specs.Octets.{octets_of};
-ghost use Rattle.avp_dict.specs.Sent.{is_internal, is_raw};
+ghost use Rattle.avp_dict.specs.Sent.{is_internal};
 ghost use Rattle.avp_packet.specs.AttributeOctets.{attribute_octets, sent_octets};
 ghost use Rattle.avp_packet.specs.Packets.{zeros};
 ghost use Rattle.avp_packet.specs.internal.Filling.{AreVendorsInRange, IsPlace, KeepsAll, divided_octets, filled, kept_pairs, place_if, signature_if};
@@ -22,15 +22,6 @@ use crate::keys::Keys;
 use avp_lists::{AttrId, Pair, Value};
 use std::alloc::{AllocError, Global};
 use std::borrow::CowSlice;
-
-fn is_raw(value: &Value) -> bool
-    ensures { result ≡ is_raw value.now }
-{
-    match value {
-        Value::Raw(_) => true,
-        _ => false,
-    }
-}
 
 // Whether an attribute is never sent.
 fn is_internal(id: AttrId) -> bool
@@ -68,7 +59,7 @@ fn sent_octets<'a>(
     ensures { IfOk result (λ octets. cow_slice_items octets
         ≡ under keys.now sent_octets pair.now) }
 {
-    if keys.is_hidden(pair.id) && !is_raw(&pair.value) {
+    if keys.is_hidden(pair.id) && !matches!(pair.value, Value::Raw(_)) {
         let plain = keys.dictionary.bytes_of_value(alloc, pair.id, &pair.value)?;
         let hidden = hidden(alloc, keys.secret, keys.authenticator, &plain)?;
         return Ok(CowSlice::Owned(hidden));
