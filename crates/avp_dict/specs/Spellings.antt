@@ -94,7 +94,7 @@ ether_spelled text = in_parts 6 digit_pair (slice_split is_colon text)
 
 -- ---- values
 
--- a number up to the greatest of its type, or the number that a VALUE name stands for
+-- the value of a number that is not above the greatest one, or of a VALUE name
 abbrev pub number_up_to : AttrId → List ℕ → Dictionary → ℕ → Option Value
 number_up_to id text dictionary most = option_map Int (number_spelled most id text dictionary)
 

@@ -44,8 +44,8 @@ pub struct Typing {
     pub kind: Kind,
     /// Whether the octets are hidden (RFC 2865, section 5.2).
     pub hidden: bool,
-    /// Whether a text without `0x` is taken as its own octets: the line's type word is string or octets, or the attribute
-    /// is 26, 33, 80 or 241 to 246.
+    /// Whether a text without `0x` is taken as its own octets: the line's type word is string or octets, or the
+    /// attribute is 26, 33, 80 or 241 to 246.
     pub by_text: bool,
 }
 

@@ -110,8 +110,8 @@ fn go_ahead(slots: &mut [Slot], steps: &[Step], at: usize)
     }
 }
 
-// From the state at one place to that at another: back to a state that both come from, then ahead along the next places,
-// which are written first, from the far state back.
+// From the state at one place to that at another: back to a state that both come from, then ahead along the next
+// places, which are written first, from the far state back.
 fn travel(slots: &mut [Slot], steps: &[Step], nexts: &mut [usize], from: usize, to: usize)
     requires within { StepsWithin (length slots.old) steps.now }
     requires below { BacksBelow steps.now }

@@ -18,7 +18,7 @@ use Rattle.avp_packet.specs.VendorFormats.{known_format}
 
 -- ---- a vendor's own attributes (RFC 2865, section 5.26)
 
--- a sub-attribute: one of a vendor's own attributes
+-- a subattribute (RFC 2865, section 5.26): one of a vendor's own attributes
 pub record Subattribute : Type 0 where
   pub number : ℕ
   pub value : List ℕ

@@ -1,4 +1,4 @@
-//! A line of a file set.
+//! What a line of a file set is read as, by the lines before it.
 
 ghost use Rattle.std.specs.Prelude.{◌≡◌};
 ghost use Rattle.avp_dict.specs.Readings.{plain_line, read_head, read_words, skipped_line, value, value_words};

@@ -193,8 +193,8 @@ impl Dictionary {
     }
 
     /// The request that the lines of a text spell: pairs `Name = value` with commas or line ends between them. The first
-    /// blank line after a pair ends the request; only blanks and comments may follow. The first refused place of the text
-    /// is reported.
+    /// blank line after a pair ends the request; only blanks and comments may follow. The first refused place of the
+    /// text is reported.
     ///
     /// ```rust
     /// let request = dictionary.read_request(alloc, b"User-Name = \"bob\", NAS-Port = 3")?;

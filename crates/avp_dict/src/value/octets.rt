@@ -250,8 +250,8 @@ impl Dictionary {
         }
     }
 
-    /// As [`value_of_bytes`](Dictionary::value_of_bytes), but the value may keep the given octets, so none are copied and
-    /// no memory is taken.
+    /// As [`value_of_bytes`](Dictionary::value_of_bytes), but the value may keep the given octets, so none are copied
+    /// and no memory is taken.
     #[tactic(auto, unfolding(crate::specs::Octets::value_of_octets, crate::specs::Octets::read_value))]
     pub fn value_of_vec(&self, id: AttrId, octets: Vec<u8>) -> Value
         ensures { result ≡ value_of_octets id octets.items self.now }

@@ -18,7 +18,7 @@ use std::alloc::AllocError;
 /// The octets of a Vendor-Id.
 pub(crate) const VENDOR_ID_OCTETS: usize = 4;
 
-// A sub-attribute, which is one of a vendor's own, and what is after it.
+// A subattribute, which is one of a vendor's own, and what is after it.
 #[derive(Clone, Copy)]
 struct Subattribute<'a> {
     number: u32,
