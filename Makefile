@@ -1,4 +1,4 @@
-# make run        builds the program and shows examples/access-request
+# make run        shows examples/hello by the proved program; if that is still to be built, first without a proof
 # make test       the gate, then the examples, the documents and the tests of tests/ through the built programs
 # make trials     the tests of tests/ alone
 # make bench      measures the program and packets, beside FreeRADIUS where it is installed (docs/SPEED.md)
@@ -11,23 +11,24 @@
 RT ?= $(shell command -v rt || echo /opt/rattle/bin/rt)
 PREFIX ?= /usr/local
 PROGRAM = crates/radpolicy_cli/out/radpolicy_cli
+EXAMPLE = examples/hello
 
 .PHONY: run build test trials bench fuzz documents install uninstall
 
-run: build
-	@scripts/show-example $(PROGRAM) examples/access-request
+run:
+	@RT="$(RT)" scripts/run $(EXAMPLE)
 
 build:
-	@RT=$(RT) scripts/build radpolicy_cli
+	@RT="$(RT)" scripts/build radpolicy_cli
 
 test:
-	@RT=$(RT) scripts/test $(PROGRAM)
+	@RT="$(RT)" scripts/test $(PROGRAM)
 
 trials:
 	@tests/run $(PROGRAM)
 
 bench: build
-	@RT=$(RT) scripts/build bench_packets
+	@RT="$(RT)" scripts/build bench_packets
 	@bench/run $(PROGRAM) crates/bench_packets/out/bench_packets
 
 SECONDS = 60
