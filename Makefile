@@ -5,21 +5,23 @@
 # make fuzz       changed cases through the built program, for so many SECONDS
 # make documents  the documents' links and commands, the examples in doc comments, the completions and the manual
 #                 pages, with the built program
-# make install    puts the program, the manual pages and the completions below PREFIX
+# make install    puts the programs of programs.txt, their manual pages and completions, the dictionaries, the examples
+#                 and the documents below PREFIX
 # make uninstall  removes them
+# make package    makes a Debian package and a tarball of the same files in out/
 
 RT ?= $(shell command -v rt || echo /opt/rattle/bin/rt)
 PREFIX ?= /usr/local
 PROGRAM = crates/radpolicy_cli/out/radpolicy_cli
 EXAMPLE = examples/hello
 
-.PHONY: run build test trials bench fuzz documents install uninstall
+.PHONY: run build test trials bench fuzz documents install uninstall package
 
 run:
 	@RT="$(RT)" scripts/run $(EXAMPLE)
 
 build:
-	@RT="$(RT)" scripts/build radpolicy_cli
+	@RT="$(RT)" scripts/build $$(scripts/list-installed crates)
 
 test:
 	@RT="$(RT)" scripts/test $(PROGRAM)
@@ -39,21 +41,13 @@ fuzz:
 documents:
 	@scripts/check-documents $(PROGRAM)
 
-# Where each file goes, by the conventions of man and of the three shells.
-AT = $(DESTDIR)$(PREFIX)
-INSTALLED = $(AT)/bin/radpolicy $(AT)/share/man/man1/radpolicy.1 $(AT)/share/man/man5/radpolicy.5 \
-	$(AT)/share/bash-completion/completions/radpolicy $(AT)/share/zsh/site-functions/_radpolicy \
-	$(AT)/share/fish/vendor_completions.d/radpolicy.fish
-
 install: build
-	@install -D $(PROGRAM) $(AT)/bin/radpolicy
-	@install -D -m 644 man/radpolicy.1 $(AT)/share/man/man1/radpolicy.1
-	@install -D -m 644 man/radpolicy.5 $(AT)/share/man/man5/radpolicy.5
-	@install -D -m 644 completions/radpolicy.bash $(AT)/share/bash-completion/completions/radpolicy
-	@install -D -m 644 completions/_radpolicy $(AT)/share/zsh/site-functions/_radpolicy
-	@install -D -m 644 completions/radpolicy.fish $(AT)/share/fish/vendor_completions.d/radpolicy.fish
-	@echo "The program is $(AT)/bin/radpolicy; 'man radpolicy' and 'radpolicy --help' tell how to use it."
+	@scripts/install "$(DESTDIR)$(PREFIX)"
+	@echo "The program is $(DESTDIR)$(PREFIX)/bin/radpolicy; 'man radpolicy' and 'radpolicy --help' tell how to use it."
 
 uninstall:
-	@rm -f $(INSTALLED)
-	@echo "Removed from $(AT): the program, its manual pages and completions."
+	@scripts/uninstall "$(DESTDIR)$(PREFIX)"
+	@echo "Removed from $(DESTDIR)$(PREFIX): the programs and what was installed with them."
+
+package: build
+	@scripts/package out
