@@ -84,16 +84,19 @@ def check_stopped(copy: Copy, report: Report) -> None:
 
 
 def check_guesses(copy: Copy, report: Report) -> None:
-    """The minutes left: by the last times here, and the mean for a crate that is new."""
-    crates = copy.crates(CRATE)
-    (copy.root / "out").mkdir()
-    (copy.root / "out/build-seconds").write_text("".join(f"{crate} 60\n" for crate in crates))
+    """The minutes left: by the last times here, and the mean for a crate that is new. Then there are new times."""
+    crates, kept = copy.crates(CRATE), copy.root / "out/build-seconds"
+    kept.parent.mkdir()
+    kept.write_text("".join(f"{crate} 60\n" for crate in crates))
     (copy.root / "crates/another/src").mkdir(parents=True)
     listed = copy.root / "crates.txt"
     listed.write_text(listed.read_text().replace(f"\n{CRATE}:", f"\nanother: avp_lists\n{CRATE}: another"))
     said = copy.make("run").stdout
     wanted = f"\n1 of {len(crates) + 1}: avp_lists, about {len(crates) + 1} min left .."
-    report.check("make run: the minutes left", [] if wanted in said else [f"it says {said!r}"])
+    wrong = [] if wanted in said else [f"it says {said!r}"]
+    times = dict(line.split() for line in kept.read_text().splitlines())
+    wrong += [] if set(times) == {*crates, "another"} and "60" not in times.values() else [f"it keeps {times}"]
+    report.check("make run: the minutes left", wrong)
 
 
 def check(subject: Subject, report: Report) -> None:
