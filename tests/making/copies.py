@@ -2,6 +2,7 @@
 import os
 import resource
 import shutil
+import signal
 import subprocess
 import tempfile
 from contextlib import contextmanager
@@ -43,6 +44,8 @@ class Copy:
 
         def begin() -> None:
             os.umask(umask)
+            # The tests may run where an interrupt is ignored, as behind a shell's `&`; a person's `make` does not.
+            signal.signal(signal.SIGINT, signal.SIG_DFL)
             hard = resource.getrlimit(resource.RLIMIT_AS)[1]
             resource.setrlimit(resource.RLIMIT_AS, (hard, hard))
 
