@@ -1,10 +1,9 @@
 -- Where octets are refused as a packet.
 use Rattle.std.proofs.Common.{◌≡◌, ◌∙◌, ℕ, ◌+◌, ◌-◌, ◌<◌, ◌≤◌, true, false, nat_lt, List, [], ◌∷◌, ◌++◌, length, Result, Err, refl, ap, arith}
-use Rattle.avp_dict.specs.Dictionary.{Dictionary}
 use Rattle.avp_packet.specs.declared.faults.PacketFault.{PacketFault}
 use Rattle.avp_packet.specs.declared.faults.PacketFault.TheVariants.{BadAttribute}
 use Rattle.avp_packet.specs.declared.packets.Packet.{Packet}
-use Rattle.avp_packet.specs.Decoded.{decoded, request_read, unless_left}
+use Rattle.avp_packet.specs.Decoded.{unless_broken, unless_left}
 use Rattle.avp_packet.specs.Packets.{attributes_of, is_packet_length, length_of}
 use Rattle.avp_packet.specs.Splitting.{Part, begins_whole, left, part_octets}
 use Rattle.avp_packet.proofs.Splits.{left-none, left-octets, left_short}
@@ -14,14 +13,13 @@ bad_by end [] read some = absurd (omega arith)
 bad_by end (o ∷ os) read some = refl
 
 -- the first attribute that is not whole
-pub decoded_bad : (dictionary : Dictionary) (secret os : List ℕ) (offset : ℕ) → nat_lt (length os) 20 ≡ false → is_packet_length (length_of os) ≡ true → nat_lt (length os) (length_of os) ≡ false
-    → 0 < length (left (attributes_of os)) → offset ≡ length (attributes_of os) - length (left (attributes_of os)) → decoded dictionary secret os ≡ Err (BadAttribute (20 + offset))
-unfolding decoded
-decoded_bad dictionary secret os offset a b d some e =
+pub broken_bad : (os : List ℕ) (offset : ℕ) (read : Result Packet PacketFault) → nat_lt (length os) 20 ≡ false → is_packet_length (length_of os) ≡ true → nat_lt (length os) (length_of os) ≡ false
+    → 0 < length (left (attributes_of os)) → offset ≡ length (attributes_of os) - length (left (attributes_of os)) → unless_broken os read ≡ Err (BadAttribute (20 + offset))
+broken_bad os offset read a b d some e =
     let attributes : List ℕ = attributes_of os in
     let within : length (left attributes) ≤ length attributes = left_short attributes in
     let same : 20 + length attributes - length (left attributes) ≡ 20 + offset = omega arith in
-    rw (a, b, d) (bad_by (20 + length attributes) (left attributes) (request_read dictionary secret os) some ∙ ap (λ n. Err (BadAttribute n)) same)
+    rw (a, b, d) (bad_by (20 + length attributes) (left attributes) read some ∙ ap (λ n. Err (BadAttribute n)) same)
 
 -- after a whole attribute
 pub left_more : (octets rest : List ℕ) (p : Part) → octets ≡ part_octets p ++ rest → left octets ≡ left rest

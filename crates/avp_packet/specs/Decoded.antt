@@ -18,11 +18,15 @@ abbrev pub is_accounting_request : List ℕ → List ℕ → Bool
 is_accounting_request os secret =
     bytes_eq (authenticator_of os) (md5 (take 4 os ++ zeros ++ attributes_of os ++ secret))
 
+-- a packet with a Message-Authenticator that does not sign it under this authenticator
+abbrev pub has_wrong_signature : List ℕ → List ℕ → List ℕ → Bool
+has_wrong_signature os authenticator secret =
+    list_any is_signature (parts (attributes_of os)) && not (is_signed os authenticator secret)
+
 -- an Access-Request with a Message-Authenticator that does not sign it
 abbrev pub is_wrongly_signed : List ℕ → List ℕ → Bool
-is_wrongly_signed os secret = (code_of os == access_request)
-    && list_any is_signature (parts (attributes_of os))
-    && not (is_signed os (authenticator_of os) secret)
+is_wrongly_signed os secret =
+    (code_of os == access_request) && has_wrong_signature os (authenticator_of os) secret
 
 -- what is left of attributes that end here begins with the first that is not whole
 abbrev pub unless_left : ℕ → List ℕ → Result Packet PacketFault → Result Packet PacketFault
@@ -34,17 +38,24 @@ abbrev pub unless_bad : List ℕ → Result Packet PacketFault → Result Packet
 unless_bad attributes read =
     unless_left (packet_head_octets + length attributes) (left attributes) read
 
-module _ (dictionary : Dictionary) (secret os : List ℕ) where
-  abbrev pub packet_read : Packet
-  packet_read = record {
-    code = code_of os;
-    id = id_of os;
-    authenticator = authenticator_of os;
-    list =
-        attribute_pairs dictionary secret (hiding_authenticator (code_of os) (authenticator_of os))
-        (parts (attributes_of os));
-  }
+-- what is read of octets, unless they are no whole packet of whole attributes
+abbrev pub unless_broken : List ℕ → Result Packet PacketFault → Result Packet PacketFault
+unless_broken os read =
+    if nat_lt (length os) packet_head_octets then Err TooShort
+    else if not (is_packet_length (length_of os)) then Err LengthOutOfRange
+    else if nat_lt (length os) (length_of os) then Err CutShort
+    else unless_bad (attributes_of os) read
 
+-- the packet of octets, with what these 16 octets hide
+abbrev pub packet_read : Dictionary → List ℕ → List ℕ → List ℕ → Packet
+packet_read dictionary secret hide_by os = record {
+  code = code_of os;
+  id = id_of os;
+  authenticator = authenticator_of os;
+  list = attribute_pairs dictionary secret hide_by (parts (attributes_of os));
+}
+
+module _ (dictionary : Dictionary) (secret os : List ℕ) where
   -- an Access-Request that is signed where it has a Message-Authenticator, or an Accounting-Request with its
   -- authenticator
   abbrev pub request_read : Result Packet PacketFault
@@ -54,12 +65,10 @@ module _ (dictionary : Dictionary) (secret os : List ℕ) where
       else if (code_of os == accounting_request) && not (is_accounting_request os secret)
       then Err WrongAuthenticator
       else if is_wrongly_signed os secret then Err WrongMessageAuthenticator
-      else Ok packet_read
+      else Ok (packet_read dictionary secret
+      (hiding_authenticator (code_of os) (authenticator_of os))
+      os)
 
   -- what octets are read as, or the first refusal
   unfoldable pub decoded : Result Packet PacketFault
-  decoded =
-      if nat_lt (length os) packet_head_octets then Err TooShort
-      else if not (is_packet_length (length_of os)) then Err LengthOutOfRange
-      else if nat_lt (length os) (length_of os) then Err CutShort
-      else unless_bad (attributes_of os) request_read
+  decoded = unless_broken os request_read

@@ -1,6 +1,7 @@
 pub mod AttributeOctets
 pub mod CanonicalOrContainer
 pub mod Decoded
+pub mod DecodedReply
 pub mod ExtendedTypes
 pub mod Hiding
 pub mod Hmac

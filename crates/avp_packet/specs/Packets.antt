@@ -31,11 +31,19 @@ accounting_request = 4
 abbrev pub accounting_response : ℕ
 accounting_response = 5
 
+-- read only (RFC 2865, section 4.4)
+abbrev pub access_challenge : ℕ
+access_challenge = 11
+
 abbrev pub IsRequestCode : ℕ → Type 0
 IsRequestCode code = (code ≡ access_request) ⊎ (code ≡ accounting_request)
 
 abbrev pub IsReplyCode : ℕ → Type 0
 IsReplyCode code = (code ≡ access_accept) ⊎ ((code ≡ access_reject) ⊎ (code ≡ accounting_response))
+
+-- the codes of replies that are read: those that are written, and Access-Challenge
+abbrev pub IsTakenReplyCode : ℕ → Type 0
+IsTakenReplyCode code = IsReplyCode code ⊎ (code ≡ access_challenge)
 
 -- ---- octets
 

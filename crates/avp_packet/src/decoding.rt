@@ -1,6 +1,8 @@
-//! Requests read: their packet, their attributes, and the pairs that these mean.
+//! Packets read: their heads, their attributes, and the pairs that these mean.
 
 pub mod fragments;
+pub mod packets;
 pub mod pairs;
+pub mod replies;
 pub mod requests;
 pub mod values;

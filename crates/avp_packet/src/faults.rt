@@ -26,7 +26,7 @@ pub enum EncodeFault {
     Memory,
 }
 
-/// Why octets are not read as a request.
+/// Why octets are not read as a request or as a reply.
 #[derive(Clone, Copy, Debug, PartialEq, Eq, Error)]
 pub enum PacketFault {
     /// Fewer than 20 octets.
@@ -41,14 +41,16 @@ pub enum PacketFault {
     /// An attribute whose Length is below 2 or runs past the packet's, with the attribute's offset in the packet.
     #[error("bad attribute length")]
     BadAttribute(usize),
-    /// Neither Access-Request nor Accounting-Request.
+    /// A request's code other than Access-Request and Accounting-Request, or a reply's other than Access-Accept,
+    /// Access-Reject, Accounting-Response and Access-Challenge.
     #[error("code not taken")]
     CodeNotTaken,
-    /// An Accounting-Request whose authenticator is not the digest (RFC 2866, section 3).
+    /// An Accounting-Request whose authenticator is not the digest (RFC 2866, section 3), or a reply whose Response
+    /// Authenticator is not the digest over the request's (RFC 2865, section 3).
     #[error("wrong authenticator")]
     WrongAuthenticator,
-    /// An Access-Request with a Message-Authenticator that does not sign it, or with more than one (RFC 3579, section
-    /// 3.2).
+    /// An Access-Request, or a reply but for an Accounting-Response, with a Message-Authenticator that does not sign it,
+    /// or with more than one (RFC 3579, section 3.2).
     #[error("wrong Message-Authenticator")]
     WrongMessageAuthenticator,
     #[error("out of memory")]

@@ -1,7 +1,7 @@
 //! RADIUS packets: attribute lists read and written, hidden passwords, and authenticators.
 //!
-//! [`decode`] reads a request, [`encode_request`] and [`encode_reply`] write packets, and [`check_reply`] and
-//! [`check_message`] look at their digests, by RFC 2865, RFC 2866, RFC 3579 and RFC 6929.
+//! [`decode`] reads a request and [`decode_reply`] its reply, [`encode_request`] and [`encode_reply`] write packets, and
+//! [`check_reply`] and [`check_message`] look at their digests, by RFC 2865, RFC 2866, RFC 3579 and RFC 6929.
 #![tactic(auto)]
 
 mod attribute;
@@ -18,11 +18,13 @@ mod signing;
 pub use attribute::splitting::{Attribute, Attributes, BadLength};
 pub use attribute::walking::attributes;
 pub use authenticators::{MAX_PACKET_OCTETS, check_reply};
+pub use decoding::replies::decode_reply;
 pub use decoding::requests::decode;
 pub use encoding::packets::{encode_reply, encode_request, encoded_authenticator};
 pub use faults::{EncodeFault, HideFault, PacketFault};
 pub use hiding::{hide, unhide};
 pub use packets::{
-    ACCESS_ACCEPT, ACCESS_REJECT, ACCESS_REQUEST, ACCOUNTING_REQUEST, ACCOUNTING_RESPONSE, Packet,
+    ACCESS_ACCEPT, ACCESS_CHALLENGE, ACCESS_REJECT, ACCESS_REQUEST, ACCOUNTING_REQUEST,
+    ACCOUNTING_RESPONSE, Packet,
 };
 pub use signing::check_message;

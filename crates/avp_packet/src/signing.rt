@@ -1,16 +1,20 @@
 //! Packets that are signed by a Message-Authenticator (RFC 3579, section 3.2).
 
-ghost use Rattle.std.specs.Prelude.{◌≡◌, ◌<◌, ◌++◌, [], length, map, IfSome, IfNone};
+ghost use Rattle.std.specs.Prelude.{◌≡◌, ◌≤◌, ◌<◌, ◌++◌, [], length, map, IfSome, IfNone};
 ghost use Rattle.std.specs.List.{flat_map, list_any};
 ghost use Rattle.avp_packet.specs.AttributeOctets.{part};
+ghost use Rattle.avp_packet.specs.Decoded.{has_wrong_signature};
 ghost use Rattle.avp_packet.specs.Hmac.{hmac};
+ghost use Rattle.avp_packet.specs.Packets.{length_of};
 ghost use Rattle.avp_packet.specs.Signed.{blanked, is_only, is_signature, is_signed, signatures};
 ghost use Rattle.avp_packet.specs.Splitting.{left, part_octets, parts};
 
 use crate::attribute::numbers::MESSAGE_AUTHENTICATOR;
 use crate::attribute::splitting::first_attribute;
 use crate::attribute::walking::count_attributes;
-use crate::authenticators::{AUTHENTICATOR_PLACE, are_equal, attributes_in, packet_length};
+use crate::authenticators::{
+    AUTHENTICATOR_PLACE, PACKET_HEAD_OCTETS, are_equal, attributes_in, length_of, packet_length,
+};
 use crate::hmac::signature_between;
 
 // A Message-Authenticator's value, and the octets before and after the attribute.
@@ -43,8 +47,8 @@ fn find_signature(octets: &[u8]) -> Option<Found<'_>>
     None
 }
 
-/// Whether there is a Message-Authenticator among attributes.
-pub(crate) fn has_signature(attributes: &[u8]) -> bool
+// Whether there is a Message-Authenticator among attributes.
+fn has_signature(attributes: &[u8]) -> bool
     ensures { result ≡ list_any is_signature (parts attributes.now) }
 {
     find_signature(attributes).is_some()
@@ -78,9 +82,9 @@ fn is_signed_among(
     are_equal(found.value, &digest)
 }
 
-/// Whether a packet is signed, under this authenticator.
+// Whether a packet is signed, under this authenticator.
 #[tactic(auto, unfolding(crate::specs::Signed::is_signed))]
-pub(crate) fn is_signed(octets: &[u8], authenticator: &[u8; 16], secret: &[u8]) -> bool
+fn is_signed(octets: &[u8], authenticator: &[u8; 16], secret: &[u8]) -> bool
     ensures { result ≡ is_signed octets.now authenticator.now secret.now }
 {
     let Some(length) = packet_length(octets) else {
@@ -96,6 +100,16 @@ pub(crate) fn is_signed(octets: &[u8], authenticator: &[u8; 16], secret: &[u8]) 
         attributes,
         secret,
     )
+}
+
+/// Whether a packet has a Message-Authenticator that does not sign it under this authenticator.
+pub(crate) fn has_wrong_signature(octets: &[u8], authenticator: &[u8; 16], secret: &[u8]) -> bool
+    requires head { PACKET_HEAD_OCTETS ≤ length_of octets.now }
+    requires within { length_of octets.now ≤ length octets.now }
+    ensures { result ≡ has_wrong_signature octets.now authenticator.now secret.now }
+{
+    has_signature(attributes_in(octets, length_of(octets)))
+        && !is_signed(octets, authenticator, secret)
 }
 
 /// Whether a packet is signed by its only Message-Authenticator (RFC 3579, section 3.2). The authenticator to give is a

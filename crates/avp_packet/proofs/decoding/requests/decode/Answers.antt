@@ -1,26 +1,54 @@
-use Rattle.std.proofs.Common.{◌≡◌, ◌∙◌, ◌<◌, ◌-◌, ◌+◌, true, false, nat_lt, length, take, drop, sym, ap, arith}
-use Rattle.std.proofs.lemmas.Grind.{common_steps}
-use Rattle.avp_packet.specs.Packets.{attributes_of, is_packet_length, length_of}
-use Rattle.avp_packet.specs.Splitting.{left, parts}
+use Rattle.std.proofs.Common.{rules, ◌≡◌, ◌∙◌, ℕ, List, Err, Ok, sym, ap, subst}
+use Rattle.avp_packet.specs.declared.faults.PacketFault.TheVariants.{Memory}
+use Rattle.avp_packet.specs.declared.packets.Packet.{Packet}
+use Rattle.avp_packet.specs.Decoded.{decoded, packet_read, request_read}
+use Rattle.avp_packet.specs.Meanings.{attribute_pairs}
+use Rattle.avp_packet.specs.Outcomes.{Gives, Refuses}
+use Rattle.avp_packet.specs.Packets.{attributes_of, code_of, hiding_authenticator}
+use Rattle.avp_packet.specs.Splitting.{parts}
 use Rattle.avp_packet.proofs.OneMeaning.{meant_by, only_by}
-use Rattle.avp_packet.proofs.RefusedPackets.{decoded_bad}
 use Rattle.avp_packet.proofs.decoding.requests.decode.Goals as goal
 
-pub returns-in-Err-clause-read : goal.returns-in-Err-clause-read
-returns-in-Err-clause-read c =
-    let os = c.args.octets.now in
-    let long : nat_lt (length os) 20 ≡ false = grind (arith, common_steps) in
-    let ranged : is_packet_length (length_of os) ≡ true = cc (c.is_packet_length.ensures, c.if-not-is_packet_length.false, c.length_of-length.ensures) in
-    let same : c.length_of-length.result ≡ length_of os = c.length_of-length.ensures in
-    let here : length_of os < length os + 1 = omega arith in
-    let whole : nat_lt (length os) (length_of os) ≡ false = grind (arith, common_steps) in
-    let attributes : c.attributes_in.result.now ≡ attributes_of os = c.attributes_in.ensures ∙ ap (λ n. drop 20 (take n os)) same in
-    let some : 0 < length (left (attributes_of os)) = rw attributes at c.in-Err.ensures.some in
-    let bad : c.in-Err.bad.offset ≡ length (attributes_of os) - length (left (attributes_of os)) = rw attributes at c.in-Err.ensures.bad in
-    decoded_bad c.args.dictionary.now c.args.secret.now os c.in-Err.bad.offset long ranged whole some bad
+pub returns-in_err-count-clause-read : goal.returns-in_err-count-clause-read
+unfolding decoded
+returns-in_err-count-clause-read c =
+    let fault = c.in_err-count.field-0.0 in
+    let refused : c.from_residual.result ≡ Err fault = search rules in
+    subst (λ result. Gives result (decoded c.args.dictionary.now c.args.secret.now c.args.octets.now)) (sym refused) (c.in_err-count.ensures.broken (request_read c.args.dictionary.now c.args.secret.now c.args.octets.now))
+
+pub returns-in-Some-clause-read : goal.returns-in-Some-clause-read
+unfolding decoded
+returns-in-Some-clause-read c =
+    subst (Refuses c.in-Some.fault) (sym (c.in_ok-count.ensures.whole (request_read c.args.dictionary.now c.args.secret.now c.args.octets.now))) (c.in-Some.ensures.some c.args.dictionary.now)
+
+-- memory runs out only where a packet is read
+pub returns-in_err-read_packet-clause-read : goal.returns-in_err-read_packet-clause-read
+unfolding decoded
+returns-in_err-read_packet-clause-read c =
+    let refused : c.from_residual-in_err-read_packet.result ≡ Err Memory = search rules in
+    let read = c.in_ok-count.ensures.whole (request_read c.args.dictionary.now c.args.secret.now c.args.octets.now) ∙ c.in_default.ensures.none c.args.dictionary.now in
+    subst (λ result. Gives result (decoded c.args.dictionary.now c.args.secret.now c.args.octets.now)) (sym refused) (_, read)
+
+pub returns-clause-read : goal.returns-clause-read
+unfolding decoded
+returns-clause-read c =
+    let hide = c.hiding_authenticator.ensures ∙ ap (hiding_authenticator (code_of c.args.octets.now)) c.copy_authenticator.ensures in
+    c.in_ok-count.ensures.whole (request_read c.args.dictionary.now c.args.secret.now c.args.octets.now) ∙ c.in_default.ensures.none c.args.dictionary.now
+    ∙ ap (λ (authenticator : List ℕ). Ok (packet_read c.args.dictionary.now c.args.secret.now authenticator c.args.octets.now)) (sym hide)
+    ∙ ap Ok (sym c.in_ok-read_packet.ensures.packet)
 
 pub returns-clause-means : goal.returns-clause-means
-returns-clause-means c = meant_by c.args.dictionary.now c.args.secret.now _ (parts (attributes_of c.args.octets.now)) _ (sym c.in_ok-read_packet.ensures.means)
+returns-clause-means c =
+    let packet = c.in_ok-read_packet.ensures.packet in
+    let same = c.hiding_authenticator.ensures ∙ ap (hiding_authenticator (code_of c.args.octets.now)) c.copy_authenticator.ensures
+    ∙ ap (λ (p : Packet). hiding_authenticator p.code p.authenticator) (sym packet) in
+    let meant = c.in_ok-read_packet.ensures.means ∙ ap (λ (authenticator : List ℕ). attribute_pairs c.args.dictionary.now c.args.secret.now authenticator (parts (attributes_of c.args.octets.now))) same in
+    meant_by c.args.dictionary.now c.args.secret.now _ (parts (attributes_of c.args.octets.now)) _ (sym meant)
 
 pub returns-clause-only : goal.returns-clause-only
-returns-clause-only c = only_by c.args.dictionary.now c.args.secret.now _ (parts (attributes_of c.args.octets.now)) _ c.in_ok-read_packet.ensures.means
+returns-clause-only c =
+    let packet = c.in_ok-read_packet.ensures.packet in
+    let same = c.hiding_authenticator.ensures ∙ ap (hiding_authenticator (code_of c.args.octets.now)) c.copy_authenticator.ensures
+    ∙ ap (λ (p : Packet). hiding_authenticator p.code p.authenticator) (sym packet) in
+    let meant = c.in_ok-read_packet.ensures.means ∙ ap (λ (authenticator : List ℕ). attribute_pairs c.args.dictionary.now c.args.secret.now authenticator (parts (attributes_of c.args.octets.now))) same in
+    only_by c.args.dictionary.now c.args.secret.now _ (parts (attributes_of c.args.octets.now)) _ meant

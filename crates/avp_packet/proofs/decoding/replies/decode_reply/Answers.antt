@@ -1,0 +1,53 @@
+use Rattle.std.proofs.Common.{rules, ◌≡◌, ◌∙◌, ℕ, List, Err, Ok, sym, ap, subst}
+use Rattle.avp_packet.specs.declared.faults.PacketFault.TheVariants.{Memory}
+use Rattle.avp_packet.specs.declared.packets.Packet.{Packet}
+use Rattle.avp_packet.specs.Decoded.{packet_read}
+use Rattle.avp_packet.specs.DecodedReply.{decoded_reply, reply_read}
+use Rattle.avp_packet.specs.Meanings.{attribute_pairs}
+use Rattle.avp_packet.specs.Outcomes.{Gives, Refuses}
+use Rattle.avp_packet.specs.Packets.{attributes_of, hiding_authenticator}
+use Rattle.avp_packet.specs.Splitting.{parts}
+use Rattle.avp_packet.proofs.OneMeaning.{meant_by, only_by}
+use Rattle.avp_packet.proofs.decoding.replies.decode_reply.Goals as goal
+
+pub returns-in_err-count-clause-read : goal.returns-in_err-count-clause-read
+unfolding decoded_reply
+returns-in_err-count-clause-read c =
+    let fault = c.in_err-count.field-0.0 in
+    let refused : c.from_residual.result ≡ Err fault = search rules in
+    subst (λ result. Gives result (decoded_reply c.args.dictionary.now c.args.secret.now c.args.request_authenticator.now c.args.octets.now)) (sym refused) (c.in_err-count.ensures.broken (reply_read c.args.dictionary.now c.args.secret.now c.args.request_authenticator.now c.args.octets.now))
+
+pub returns-in-Some-clause-read : goal.returns-in-Some-clause-read
+unfolding decoded_reply
+returns-in-Some-clause-read c =
+    subst (Refuses c.in-Some.fault) (sym (c.in_ok-count.ensures.whole (reply_read c.args.dictionary.now c.args.secret.now c.args.request_authenticator.now c.args.octets.now))) (c.in-Some.ensures.some c.args.dictionary.now)
+
+-- memory runs out only where a packet is read
+pub returns-in_err-read_packet-clause-read : goal.returns-in_err-read_packet-clause-read
+unfolding decoded_reply
+returns-in_err-read_packet-clause-read c =
+    let refused : c.from_residual-in_err-read_packet.result ≡ Err Memory = search rules in
+    let read = c.in_ok-count.ensures.whole (reply_read c.args.dictionary.now c.args.secret.now c.args.request_authenticator.now c.args.octets.now) ∙ c.in_default.ensures.none c.args.dictionary.now in
+    subst (λ result. Gives result (decoded_reply c.args.dictionary.now c.args.secret.now c.args.request_authenticator.now c.args.octets.now)) (sym refused) (_, read)
+
+pub returns-clause-read : goal.returns-clause-read
+unfolding decoded_reply
+returns-clause-read c =
+    let hide = c.hiding_authenticator.ensures in
+    c.in_ok-count.ensures.whole (reply_read c.args.dictionary.now c.args.secret.now c.args.request_authenticator.now c.args.octets.now) ∙ c.in_default.ensures.none c.args.dictionary.now
+    ∙ ap (λ (authenticator : List ℕ). Ok (packet_read c.args.dictionary.now c.args.secret.now authenticator c.args.octets.now)) (sym hide)
+    ∙ ap Ok (sym c.in_ok-read_packet.ensures.packet)
+
+pub returns-clause-means : goal.returns-clause-means
+returns-clause-means c =
+    let packet = c.in_ok-read_packet.ensures.packet in
+    let same = c.hiding_authenticator.ensures ∙ ap (λ (code : ℕ). hiding_authenticator code c.args.request_authenticator.now) (sym (ap (λ (p : Packet). p.code) packet)) in
+    let meant = c.in_ok-read_packet.ensures.means ∙ ap (λ (authenticator : List ℕ). attribute_pairs c.args.dictionary.now c.args.secret.now authenticator (parts (attributes_of c.args.octets.now))) same in
+    meant_by c.args.dictionary.now c.args.secret.now _ (parts (attributes_of c.args.octets.now)) _ (sym meant)
+
+pub returns-clause-only : goal.returns-clause-only
+returns-clause-only c =
+    let packet = c.in_ok-read_packet.ensures.packet in
+    let same = c.hiding_authenticator.ensures ∙ ap (λ (code : ℕ). hiding_authenticator code c.args.request_authenticator.now) (sym (ap (λ (p : Packet). p.code) packet)) in
+    let meant = c.in_ok-read_packet.ensures.means ∙ ap (λ (authenticator : List ℕ). attribute_pairs c.args.dictionary.now c.args.secret.now authenticator (parts (attributes_of c.args.octets.now))) same in
+    only_by c.args.dictionary.now c.args.secret.now _ (parts (attributes_of c.args.octets.now)) _ meant

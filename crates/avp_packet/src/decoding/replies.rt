@@ -1,0 +1,123 @@
+//! Replies read (RFC 2865, sections 3 and 4.4; RFC 2866, section 3; RFC 3579, section 3.2).
+
+ghost use Rattle.std.specs.Prelude.{◌≡◌, ◌≤◌, ◌<◌, true, List, length, All, IfOk, IfSome, IfNone, Ok};
+ghost use Rattle.avp_lists.specs.declared.pairs.Pair.{Pair};
+ghost use Rattle.avp_lists.specs.States.{max_pairs};
+ghost use Rattle.avp_dict.specs.Dictionary.{Dictionary};
+ghost use Rattle.avp_dict.specs.Limits.{fits};
+ghost use Rattle.avp_packet.specs.CanonicalOrContainer.{IsCanonicalOrContainer};
+ghost use Rattle.avp_packet.specs.Decoded.{packet_read};
+ghost use Rattle.avp_packet.specs.DecodedReply.{decoded_reply, is_taken_reply_code, is_wrongly_signed_reply, reply_read};
+ghost use Rattle.avp_packet.specs.Outcomes.{Gives, Refuses};
+ghost use Rattle.avp_packet.specs.PacketMeaning.{OctetsMean};
+ghost use Rattle.avp_packet.specs.Packets.{IsTakenReplyCode, code_of, hiding_authenticator, is_reply, length_of};
+
+use crate::authenticators::{PACKET_HEAD_OCTETS, check_reply};
+use crate::decoding::packets::{count_whole, read_packet};
+use crate::faults::PacketFault;
+use crate::keys::{Keys, hiding_authenticator};
+use crate::packets::{ACCESS_ACCEPT, ACCESS_CHALLENGE, ACCESS_REJECT, ACCOUNTING_RESPONSE, Packet};
+use crate::signing::has_wrong_signature;
+use avp_dict::Dictionary;
+use std::alloc::Global;
+
+fn is_taken_reply_code(code: u8) -> bool
+    ensures { result ≡ is_taken_reply_code code }
+{
+    matches!(
+        code,
+        ACCESS_ACCEPT | ACCESS_REJECT | ACCOUNTING_RESPONSE | ACCESS_CHALLENGE
+    )
+}
+
+// Whether a reply but for an Accounting-Response has a Message-Authenticator that does not sign it.
+fn is_wrongly_signed_reply(octets: &[u8], request_authenticator: &[u8; 16], secret: &[u8]) -> bool
+    requires head { PACKET_HEAD_OCTETS ≤ length_of octets.now }
+    requires within { length_of octets.now ≤ length octets.now }
+    ensures { result ≡ is_wrongly_signed_reply octets.now request_authenticator.now secret.now }
+{
+    octets[0] != ACCOUNTING_RESPONSE && has_wrong_signature(octets, request_authenticator, secret)
+}
+
+// Why a whole packet is not taken as a reply to the request with this authenticator, if it is not.
+fn refusal(octets: &[u8], request_authenticator: &[u8; 16], secret: &[u8]) -> Option<PacketFault>
+    requires secret { 0 < length secret.now }
+    requires head { PACKET_HEAD_OCTETS ≤ length_of octets.now }
+    requires within { length_of octets.now ≤ length octets.now }
+    ensures some { IfSome result (λ fault. (dictionary : Dictionary)
+        → Refuses fault
+        (reply_read dictionary secret.now request_authenticator.now octets.now)) }
+    ensures none { IfNone result ((dictionary : Dictionary)
+        → reply_read dictionary secret.now request_authenticator.now octets.now
+        ≡ Ok (packet_read dictionary secret.now
+        (hiding_authenticator (code_of octets.now) request_authenticator.now)
+        octets.now)) }
+    ensures code { IfNone result (IsTakenReplyCode (code_of octets.now)) }
+    ensures accepted { IfNone result (is_reply octets.now request_authenticator.now secret.now
+        ≡ true) }
+{
+    if !is_taken_reply_code(octets[0]) {
+        Some(PacketFault::CodeNotTaken)
+    } else if !check_reply(octets, request_authenticator, secret) {
+        Some(PacketFault::WrongAuthenticator)
+    } else if is_wrongly_signed_reply(octets, request_authenticator, secret) {
+        Some(PacketFault::WrongMessageAuthenticator)
+    } else {
+        None
+    }
+}
+
+/// Reads the reply to the request with this authenticator: an Access-Accept, an Access-Reject, an Accounting-Response or
+/// an Access-Challenge whose Response Authenticator is right. Octets past Length are not looked at. A reply that has a
+/// Message-Authenticator must be signed by it, but for an Accounting-Response, where it is an attribute as any other.
+/// The faults are tried in the order in which [`PacketFault`] has them, all of them before any memory is taken.
+///
+/// The packet's `authenticator` is the Response Authenticator. What is hidden is hidden by the request's.
+///
+/// ```rust
+/// // The reply of a server that has the secret `testing123`, with the identifier 7.
+/// let packet = decode_reply(alloc, dictionary, b"testing123", authenticator, reply)?;
+/// assert_eq!(rt; (packet.code, packet.id), (ACCESS_ACCEPT, 7));
+/// let refused = decode_reply(alloc, dictionary, b"testing123", &[0; 16], reply).err();
+/// assert_eq!(rt; refused, Some(PacketFault::WrongAuthenticator));
+/// ```
+#[tactic(auto, unfolding(crate::specs::DecodedReply::decoded_reply))]
+pub fn decode_reply(
+    alloc: Global,
+    dictionary: &Dictionary,
+    secret: &[u8],
+    request_authenticator: &[u8; 16],
+    octets: &[u8],
+) -> Result<Packet, PacketFault>
+    requires { 0 < length secret.now }
+    ensures fits { IfOk result (λ packet.
+        All (λ pair. fits pair dictionary.now ≡ true) packet.list) }
+
+    // Each pair's own octets stand for its value, but for an attribute that holds others and is not looked into.
+    ensures own { IfOk result (λ packet. All (IsCanonicalOrContainer dictionary.now) packet.list) }
+
+    // The list is the one that the attributes mean; what was hidden was hidden by the request's authenticator.
+    ensures means { IfOk result (λ packet. OctetsMean dictionary.now secret.now
+        packet.code request_authenticator.now octets.now packet.list) }
+    ensures only { IfOk result (λ packet. (pairs : List Pair)
+        → OctetsMean dictionary.now secret.now
+        packet.code request_authenticator.now octets.now pairs
+        → pairs ≡ packet.list) }
+    ensures read { Gives result
+        (decoded_reply dictionary.now secret.now request_authenticator.now octets.now) }
+    ensures code { IfOk result (λ packet. IsTakenReplyCode packet.code) }
+    ensures accepted { IfOk result (λ packet.
+        is_reply octets.now request_authenticator.now secret.now ≡ true) }
+    ensures few { IfOk result (λ packet. length packet.list ≤ max_pairs) }
+{
+    let count = count_whole(octets)?;
+    if let Some(fault) = refusal(octets, request_authenticator, secret) {
+        return Err(fault);
+    }
+    let keys = Keys {
+        dictionary,
+        secret,
+        authenticator: &hiding_authenticator(octets[0], request_authenticator),
+    };
+    Ok(read_packet(alloc, &keys, octets, count)?)
+}
