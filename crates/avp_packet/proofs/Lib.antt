@@ -14,6 +14,7 @@ pub mod PairCounts
 pub mod PieceRuns
 pub mod ReadBack
 pub mod RefusedPackets
+pub mod RepliesReadBack
 pub mod SentLists
 pub mod SentPackets
 pub mod Signatures

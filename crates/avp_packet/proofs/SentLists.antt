@@ -213,9 +213,9 @@ module _ (dictionary : Dictionary) (secret : List ℕ) (code id : ℕ) (authenti
       let text : List ℕ = packet code id authenticator (laid_octets zeros) in
       ap length signed_octets ∙ length-laid (hmac secret text) (length-hmac secret text)
 
-  -- ---- signed
+  -- ---- signed, or not
 
-  module _ (signed : division.signed ≡ true) (unsigned : without_signatures before ≡ before) (proxies : without_signatures content.proxy_states ≡ content.proxy_states) (before_fit : All (λ p. fits p dictionary ≡ true) before) (after_fit : All (λ p. fits p dictionary ≡ true) division.after.now) (proxies_fit : All (λ p. fits p dictionary ≡ true) content.proxy_states) where
+  module _ (unsigned : without_signatures before ≡ before) (proxies : without_signatures content.proxy_states ≡ content.proxy_states) (before_fit : All (λ p. fits p dictionary ≡ true) before) (after_fit : All (λ p. fits p dictionary ≡ true) division.after.now) (proxies_fit : All (λ p. fits p dictionary ≡ true) content.proxy_states) where
     none_first : signatures (parts_of dictionary secret hide_by before) ≡ []
     none_first = ap (λ (ps : List Pair). signatures (parts_of dictionary secret hide_by ps)) (sym unsigned) ∙ unsigned_parts dictionary secret hide_by before before_fit
 
@@ -225,8 +225,18 @@ module _ (dictionary : Dictionary) (secret : List ℕ) (code id : ℕ) (authenti
     none_last : signatures (parts_of dictionary secret hide_by content.proxy_states) ≡ []
     none_last = ap (λ (ps : List Pair). signatures (parts_of dictionary secret hide_by ps)) (sym proxies) ∙ unsigned_parts dictionary secret hide_by content.proxy_states proxies_fit
 
-    pub one_signature : (os : List ℕ) → signatures (parts (laid_octets os)) ≡ part message_authenticator os ∷ []
-    one_signature os =
+    pub no_signature : division.signed ≡ false → (os : List ℕ) → signatures (parts (laid_octets os)) ≡ []
+    no_signature plain os =
+        let first : List Part = parts_of dictionary secret hide_by before in
+        let middle : List Part = parts_of dictionary secret hide_by after in
+        let last : List Part = parts_of dictionary secret hide_by content.proxy_states in
+        ap (λ (ps : List ℕ). signatures (parts ps)) (octets_laid os) ∙ ap signatures (parts_whole (laid_parts os))
+        ∙ rw plain
+        (filter-append is_signature (first ++ [] ++ middle) last
+        ∙ rw (filter-append is_signature (first ++ []) middle, filter-append is_signature first [], none_first, none_middle, none_last) refl)
+
+    pub one_signature : division.signed ≡ true → (os : List ℕ) → signatures (parts (laid_octets os)) ≡ part message_authenticator os ∷ []
+    one_signature signed os =
         let first : List Part = parts_of dictionary secret hide_by before in
         let middle : List Part = parts_of dictionary secret hide_by after in
         let last : List Part = parts_of dictionary secret hide_by content.proxy_states in
@@ -235,8 +245,8 @@ module _ (dictionary : Dictionary) (secret : List ℕ) (code id : ℕ) (authenti
         (filter-append is_signature (first ++ part message_authenticator os ∷ [] ++ middle) last
         ∙ rw (filter-append is_signature (first ++ part message_authenticator os ∷ []) middle, filter-append is_signature first (part message_authenticator os ∷ []), none_first, none_middle, none_last) refl)
 
-    pub blank_text : (os : List ℕ) → flat_map part_octets (map blanked (parts (laid_octets os))) ≡ laid_octets zeros
-    blank_text os =
+    pub blank_text : division.signed ≡ true → (os : List ℕ) → flat_map part_octets (map blanked (parts (laid_octets os))) ≡ laid_octets zeros
+    blank_text signed os =
         let first : List Part = parts_of dictionary secret hide_by before in
         let middle : List Part = parts_of dictionary secret hide_by after in
         let last : List Part = parts_of dictionary secret hide_by content.proxy_states in

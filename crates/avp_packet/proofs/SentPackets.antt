@@ -1,6 +1,6 @@
 -- A packet of signed attributes: what is read of it again.
-use Rattle.std.proofs.Common.{◌≡◌, ◌∙◌, ℕ, ◌≤◌, ◌<◌, Bool, true, List, [], length, refl, sym, ap, arith}
-use Rattle.std.specs.List.{All}
+use Rattle.std.proofs.Common.{◌≡◌, ◌∙◌, ℕ, ◌≤◌, ◌<◌, Bool, true, false, List, [], length, refl, sym, ap, arith}
+use Rattle.std.specs.List.{All, list_any}
 use Rattle.avp_lists.specs.declared.pairs.Pair.{Pair}
 use Rattle.avp_dict.specs.Dictionary.{Dictionary}
 use Rattle.avp_dict.specs.Limits.{fits}
@@ -12,13 +12,14 @@ use Rattle.avp_packet.specs.Meanings.{attribute_pairs}
 use Rattle.avp_packet.specs.Means.{Means}
 use Rattle.avp_packet.specs.Packets.{attributes_of, attributes_signed, hiding_authenticator, packet, pairs_meant, zeros, max_packet_octets}
 use Rattle.avp_packet.specs.Sending.{Content, without_signatures}
-use Rattle.avp_packet.specs.Signed.{is_signed}
+use Rattle.avp_packet.specs.Signed.{is_signature, is_signed, signatures}
 use Rattle.avp_packet.specs.Splitting.{left, parts}
 use Rattle.avp_packet.specs.internal.Filling.{AreVendorsInRange, IsDivided, KeepsAll, divided_octets, divided_signed}
 use Rattle.avp_packet.proofs.Assembled.{attributes_of-packet, is_signed-packet, length-packet}
 use Rattle.avp_packet.proofs.Filled.{length-hmac}
 use Rattle.avp_packet.proofs.OneMeaning.{meant_by}
-use Rattle.avp_packet.proofs.SentLists.{before_clean, after_clean, blank_text, laid_whole, left_whole, length-laid, length-signed, one_signature, signed_means, signed_octets}
+use Rattle.avp_packet.proofs.Signatures.{any_none}
+use Rattle.avp_packet.proofs.SentLists.{before_clean, after_clean, blank_text, laid_whole, left_whole, length-laid, length-signed, no_signature, one_signature, signed_means, signed_octets}
 
 module _ (dictionary : Dictionary) (secret : List ℕ) (code id : ℕ) (authenticator : List ℕ) (content : Content) where
   abbrev sent_attributes : List ℕ
@@ -67,6 +68,16 @@ module _ (dictionary : Dictionary) (secret : List ℕ) (code id : ℕ) (authenti
           rw (made ∙ ap (packet code id own) same)
           (is_signed-packet code id own authenticator (laid signature) (laid zeros) signature secret long (omega (arith, ap length same, short_attributes)) (sym size)
           (laid_whole dictionary secret code id authenticator content division divided signature)
-          (one_signature dictionary secret code id authenticator content division divided signed unsigned proxies_unsigned fit.before fit.after proxies_fit signature)
-          (blank_text dictionary secret code id authenticator content division divided signed unsigned proxies_unsigned fit.before fit.after proxies_fit signature)
+          (one_signature dictionary secret code id authenticator content division divided unsigned proxies_unsigned fit.before fit.after proxies_fit signed signature)
+          (blank_text dictionary secret code id authenticator content division divided unsigned proxies_unsigned fit.before fit.after proxies_fit signed signature)
           refl)
+
+      pub packet_unsigned : division.signed ≡ false → without_signatures division.before.now ≡ division.before.now → without_signatures content.proxy_states ≡ content.proxy_states
+          → All (λ p. fits p dictionary ≡ true) content.pairs → All (λ p. fits p dictionary ≡ true) content.proxy_states
+          → list_any is_signature (parts (attributes_of octets)) ≡ false
+      packet_unsigned plain unsigned proxies_unsigned pairs_fit proxies_fit =
+          let fit = kept (λ (p : Pair). fits p dictionary) pairs_fit in
+          let same = attributes_again ∙ signed_octets dictionary secret code id authenticator content division divided in
+          any_none (parts (attributes_of octets))
+          (ap (λ (os : List ℕ). signatures (parts os)) same
+          ∙ no_signature dictionary secret code id authenticator content division divided unsigned proxies_unsigned fit.before fit.after proxies_fit plain _)

@@ -1,12 +1,13 @@
 //! Packets written (RFC 2865, section 3; RFC 2866, section 3; RFC 3579, section 3.2).
 
-ghost use Rattle.std.specs.Prelude.{◌≡◌, ◌≤◌, ◌<◌, [], true, false, length, All, OnOk, IfOk, Err, Some};
+ghost use Rattle.std.specs.Prelude.{◌≡◌, ◌≤◌, ◌<◌, [], true, false, length, All, OnOk, IfOk, Ok, Err, Some};
 ghost use Rattle.avp_lists.specs.declared.pairs.AttrId.TheVariants.{Plain};
 ghost use Rattle.avp_dict.specs.AttributeNumbers.{proxy_state};
 ghost use Rattle.avp_dict.specs.Limits.{fits};
 ghost use Rattle.avp_dict.specs.Sent.{is_clean};
+ghost use Rattle.avp_packet.specs.DecodedReply.{decoded_reply};
 ghost use Rattle.avp_packet.specs.Hmac.{hmac};
-ghost use Rattle.avp_packet.specs.PacketMeaning.{OctetsMeanContent};
+ghost use Rattle.avp_packet.specs.PacketMeaning.{OctetsMeanContent, packet_meant};
 ghost use Rattle.avp_packet.specs.Packets.{IsReplyCode, IsRequestCode, IsShort, IsTooLong, attributes_of, authenticator_of, hiding_authenticator, is_reply, packet, reply, reply_content, request, request_authenticator, request_content, request_kind, zeros};
 ghost use Rattle.avp_packet.specs.Sending.{is_to_sign};
 ghost use Rattle.avp_packet.specs.Signed.{is_signed};
@@ -270,6 +271,13 @@ pub fn encode_reply(
         is_reply octets.items request_authenticator.now secret.now ≡ true) }
     ensures signed { IfOk result (λ octets. signed ≡ true
         → is_signed octets.items request_authenticator.now secret.now ≡ true) }
+
+    // `decode_reply` reads it as its code, its identifier and the pairs that are sent.
+    ensures decoded { IfOk result (λ octets.
+        is_clean list.now dictionary.now ≡ true → is_clean proxy_states.now dictionary.now ≡ true
+        → decoded_reply dictionary.now secret.now request_authenticator.now octets.items
+        ≡ Ok (packet_meant dictionary.now secret.now code id request_authenticator.now
+        (reply_content signed list.now proxy_states.now) octets.items)) }
     ensures too_long { result ≡ Err EncodeFault.TooLong → IsTooLong
         (reply dictionary.now secret.now code id
         request_authenticator.now signed list.now proxy_states.now) }

@@ -1,12 +1,14 @@
-use Rattle.std.proofs.Common.{rules, ◌≡◌, ◌∙◌, List, ℕ, Err, sym, ap, arith}
+use Rattle.std.proofs.Common.{rules, ◌≡◌, ◌∙◌, List, ℕ, false, Err, refl, sym, ap, subst, arith}
 use Rattle.avp_lists.specs.declared.pairs.Pair.{Pair}
 use Rattle.avp_dict.specs.Limits.{fits}
 use Rattle.avp_packet.specs.declared.faults.EncodeFault.TheVariants.{TooLong}
-use Rattle.avp_packet.specs.Packets.{attributes_signed, digest_over, packet, reply, reply_content}
+use Rattle.avp_packet.specs.PacketMeaning.{OctetsMean}
+use Rattle.avp_packet.specs.Packets.{IsReplyCode, attributes_signed, code_of, digest_over, id_of, packet, pairs_meant, reply, reply_content}
 use Rattle.avp_packet.specs.Sending.{Content}
 use Rattle.avp_packet.proofs.Assembled.{is_reply-packet, length-digest_over, length-packet}
+use Rattle.avp_packet.proofs.RepliesReadBack.{read_again, rightly_signed}
 use Rattle.avp_packet.proofs.SentLists.{proxies_unsigned, signed_octets}
-use Rattle.avp_packet.proofs.SentPackets.{packet_means, packet_short, packet_signed, packet_too_long, packet_whole}
+use Rattle.avp_packet.proofs.SentPackets.{packet_means, packet_short, packet_signed, packet_too_long, packet_unsigned, packet_whole}
 use Rattle.avp_packet.proofs.encoding.packets.encode_reply.Goals as goal
 
 pub signed_attributes-requires-clause-list_fits : goal.signed_attributes-requires-clause-list_fits
@@ -64,3 +66,20 @@ returns-clause-signed c = λ is.
     (returns-clause-octets c) (length-digest_over _ _ _ _ _) (returns-clause-short c)
     division.result division.ensures.divided division.ensures.kept
     (division.ensures.divided.signed ∙ is) division.ensures.unsigned (proxies_unsigned c.args.proxy_states.now c.requires.proxies) c.requires.fits c.requires.proxies_fit
+
+pub returns-clause-decoded : goal.returns-clause-decoded
+unfolding reply packet
+returns-clause-decoded c = λ clean proxies_clean.
+    let division = c.divide_reply-division in
+    let os = c.in_ok-octets.octets.items in
+    let content : Content = reply_content c.args.signed c.args.list.now c.args.proxy_states.now in
+    let own : code_of os ≡ c.args.code = ap code_of (returns-clause-octets c) in
+    let named : id_of os ≡ c.args.id = ap id_of (returns-clause-octets c) in
+    let unsigned = λ (plain : c.args.signed ≡ false). packet_unsigned c.args.dictionary.now c.args.secret.now c.args.code c.args.id c.args.request_authenticator.now content os _
+    (returns-clause-octets c) (length-digest_over _ _ _ _ _) (returns-clause-short c)
+    division.result division.ensures.divided division.ensures.kept
+    (division.ensures.divided.signed ∙ plain) division.ensures.unsigned (proxies_unsigned c.args.proxy_states.now c.requires.proxies) c.requires.fits c.requires.proxies_fit in
+    let signed = rightly_signed os c.args.request_authenticator.now c.args.secret.now c.args.signed (λ e. c.requires.signed (sym own ∙ e)) (returns-clause-signed c) unsigned in
+    let means = subst (λ code. OctetsMean c.args.dictionary.now c.args.secret.now code c.args.request_authenticator.now os (pairs_meant c.args.dictionary.now c.args.secret.now c.args.code c.args.id c.args.request_authenticator.now content)) (sym own) (returns-clause-means c clean proxies_clean) in
+    let read = read_again c.args.dictionary.now c.args.secret.now c.args.request_authenticator.now os _ (returns-clause-accepted c) (returns-clause-whole c) (subst IsReplyCode (sym own) c.requires.code) signed means in
+    read ∙ rw (own, named) refl
