@@ -6,6 +6,8 @@ mod attributes;
 #[cfg(test)]
 mod packets;
 #[cfg(test)]
+mod replies;
+#[cfg(test)]
 mod signing;
 #[cfg(test)]
 mod written;
