@@ -3,7 +3,7 @@
 use avp_dict::Dictionary;
 use avp_packet::{
     ACCESS_ACCEPT, ACCESS_REQUEST, BadLength, PacketFault, attributes, check_message, check_reply,
-    decode, encode_reply, encode_request, hide, unhide,
+    decode, decode_reply, encode_reply, encode_request, hide, unhide,
 };
 use samples::test_dictionary;
 use std::alloc::Global;
@@ -44,6 +44,22 @@ fn reads_a_request(
     assert_eq!(rt; request.list.as_slice().len(), 2);
     let refused = decode(alloc, dictionary, b"testing123", b"\x01\x07\x00\x14").err();
     assert_eq!(rt; refused, Some(PacketFault::TooShort));
+    Ok(())
+}
+
+// Example: decode_reply
+fn reads_a_reply(
+    rt: &impl Abort,
+    alloc: Global,
+    dictionary: &Dictionary,
+    authenticator: &[u8; 16],
+    reply: &[u8],
+) -> Result<(), Fail> {
+    // The reply of a server that has the secret `testing123`, with the identifier 7.
+    let packet = decode_reply(alloc, dictionary, b"testing123", authenticator, reply)?;
+    assert_eq!(rt; (packet.code, packet.id), (ACCESS_ACCEPT, 7));
+    let refused = decode_reply(alloc, dictionary, b"testing123", &[0; 16], reply).err();
+    assert_eq!(rt; refused, Some(PacketFault::WrongAuthenticator));
     Ok(())
 }
 
@@ -130,6 +146,7 @@ fn read_and_write(rt: &impl Abort, alloc: Global, dictionary: &Dictionary) -> Re
     writes_a_request(rt, alloc, dictionary, &AUTHENTICATOR)?;
     writes_a_reply(rt, alloc, dictionary, &AUTHENTICATOR)?;
     let reply = signed_reply(alloc, dictionary)?;
+    reads_a_reply(rt, alloc, dictionary, &AUTHENTICATOR, &reply)?;
     checks_a_reply(rt, &reply, &AUTHENTICATOR);
     checks_a_message(rt, &reply, &AUTHENTICATOR);
     Ok(())
