@@ -1,6 +1,6 @@
 //! The attributes that pairs are sent in (RFC 2865, sections 5 and 5.26; RFC 6929, sections 2.1 and 2.2).
 
-ghost use Rattle.std.specs.Prelude.{◌≡◌, ◌≤◌, ◌+◌, ◌-◌, ◌/◌, ◌++◌, true, length, OnOk};
+ghost use Rattle.std.specs.Prelude.{◌≡◌, ◌≤◌, ◌+◌, ◌-◌, ◌/◌, ◌∷◌, ◌++◌, [], true, length, OnOk};
 ghost use Rattle.std.specs.Int.{bytes_high_first};
 ghost use Rattle.std.specs.List.{flat_map};
 ghost use Rattle.avp_dict.specs.Vendors.{is_format};
@@ -15,8 +15,32 @@ use avp_dict::{Dictionary, Format};
 use avp_lists::AttrId;
 use std::alloc::AllocError;
 
-/// Adds an attribute whose value begins with the front.
+// Adds the Type and Length of an attribute with so many octets of Value.
+fn push_head(octets: &mut Vec<u8>, number: u8, length: usize) -> Result<(), AllocError>
+    requires { length ≤ 253 }
+    ensures { OnOk result (octets.new.items ≡ octets.old.items ++ number ∷ (2 + length) ∷ []) }
+{
+    octets.push(number)?;
+    octets.push((ATTRIBUTE_HEAD_OCTETS + length) as u8)?;
+    Ok(())
+}
+
+/// Adds an attribute.
 pub(crate) fn push_attribute(
+    octets: &mut Vec<u8>,
+    number: u8,
+    value: &[u8],
+) -> Result<(), AllocError>
+    requires { length value.now ≤ 253 }
+    ensures { OnOk result (octets.new.items ≡ octets.old.items
+        ++ part_octets (part number value.now)) }
+{
+    push_head(octets, number, value.len())?;
+    octets.extend_from_slice(value)
+}
+
+// Adds an attribute whose value begins with the front.
+fn push_two_parts(
     octets: &mut Vec<u8>,
     number: u8,
     front: &[u8],
@@ -26,8 +50,7 @@ pub(crate) fn push_attribute(
     ensures { OnOk result (octets.new.items ≡ octets.old.items
         ++ part_octets (part number (front.now ++ rest.now))) }
 {
-    octets.push(number)?;
-    octets.push((ATTRIBUTE_HEAD_OCTETS + front.len() + rest.len()) as u8)?;
+    push_head(octets, number, front.len() + rest.len())?;
     octets.extend_from_slice(front)?;
     octets.extend_from_slice(rest)
 }
@@ -40,10 +63,10 @@ fn push_fragments(octets: &mut Vec<u8>, t: u8, number: u8, value: &[u8]) -> Resu
     let mut rest = value;
     while rest.len() > PIECE_OCTETS {
         let (piece, after) = rest.split_at(PIECE_OCTETS);
-        push_attribute(octets, t, &[number, MORE_FLAG], piece)?;
+        push_two_parts(octets, t, &[number, MORE_FLAG], piece)?;
         rest = after;
     }
-    push_attribute(octets, t, &[number, 0], rest)?;
+    push_two_parts(octets, t, &[number, 0], rest)?;
     Ok(())
 }
 
@@ -112,7 +135,7 @@ pub(crate) fn push_holding(
         ++ flat_map part_octets (parts_holding dictionary.now id value.now)) }
 {
     match id {
-        AttrId::Plain(number) => push_attribute(octets, number as u8, &[], value),
+        AttrId::Plain(number) => push_attribute(octets, number as u8, value),
         AttrId::Vendor(vendor, number) => match known_format(dictionary, vendor) {
             Some(format) => push_vendor(octets, format, vendor, number, value),
             None => Ok(()),
@@ -121,7 +144,7 @@ pub(crate) fn push_holding(
             if t >= LONG_EXTENDED_TYPE_1 {
                 push_fragments(octets, t, number, value)
             } else {
-                push_attribute(octets, t, &[number], value)
+                push_two_parts(octets, t, &[number], value)
             }
         }
     }

@@ -163,7 +163,7 @@ fn push_blank(octets: &mut Vec<u8>, signed: bool) -> Result<Option<usize>, Encod
         return Ok(None);
     }
     let place = octets.len();
-    push_attribute(octets, MESSAGE_AUTHENTICATOR, &ZEROS, &[])?;
+    push_attribute(octets, MESSAGE_AUTHENTICATOR, &ZEROS)?;
     if octets.len() > MAX_ATTRIBUTES_OCTETS {
         return Err(EncodeFault::TooLong);
     }

@@ -12,7 +12,7 @@ loop-rest-preserved c =
     let after = c.split_at.result.1.now in
     cc (
       c.loop-rest.invariant,
-      c.in_ok-push_attribute.ensures,
+      c.in_ok-push_two_parts.ensures,
       c.split_at.ensures.front,
       c.split_at.ensures.back,
       pieces_more c.args.t c.args.number rest (omega arith),
@@ -20,4 +20,4 @@ loop-rest-preserved c =
     )
 
 pub returns : goal.returns
-returns c = cc (c.loop-rest.invariant, c.in_ok-push_attribute-2.ensures, pieces_last c.args.t c.args.number c.loop-rest.rest.now (omega arith))
+returns c = cc (c.loop-rest.invariant, c.in_ok-push_two_parts-2.ensures, pieces_last c.args.t c.args.number c.loop-rest.rest.now (omega arith))
