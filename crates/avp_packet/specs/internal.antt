@@ -1,4 +1,5 @@
 pub mod Filling
 pub mod Holding
 pub mod Ranges
+pub mod Signings
 pub mod Views

@@ -5,15 +5,17 @@ ghost use Rattle.std.specs.List.{flat_map, list_any};
 ghost use Rattle.avp_packet.specs.AttributeOctets.{part};
 ghost use Rattle.avp_packet.specs.Decoded.{has_wrong_signature};
 ghost use Rattle.avp_packet.specs.Hmac.{hmac};
-ghost use Rattle.avp_packet.specs.Packets.{length_of};
+ghost use Rattle.avp_packet.specs.Packets.{attributes_of, length_of};
 ghost use Rattle.avp_packet.specs.Signed.{blanked, is_only, is_signature, is_signed, signatures};
 ghost use Rattle.avp_packet.specs.Splitting.{left, part_octets, parts};
+ghost use Rattle.avp_packet.specs.internal.Signings.{has_some, is_right, is_wrong};
 
 use crate::attribute::numbers::MESSAGE_AUTHENTICATOR;
 use crate::attribute::splitting::first_attribute;
 use crate::attribute::walking::count_attributes;
 use crate::authenticators::{
-    AUTHENTICATOR_PLACE, PACKET_HEAD_OCTETS, are_equal, attributes_in, length_of, packet_length,
+    AUTHENTICATOR_PLACE, MAX_PACKET_OCTETS, PACKET_HEAD_OCTETS, are_equal, attributes_in,
+    length_of, packet_length,
 };
 use crate::hmac::signature_between;
 
@@ -54,23 +56,49 @@ fn has_signature(attributes: &[u8]) -> bool
     find_signature(attributes).is_some()
 }
 
-// Whether there is one Message-Authenticator among whole attributes, and it is the digest of the packet.
-fn is_signed_among(
+// What the Message-Authenticators among a packet's attributes say of it.
+#[derive(Clone, Copy, Debug)]
+enum Signing {
+    // There is none.
+    Unsigned,
+    // There is one, the digest of the packet.
+    Right,
+    // There is another one, or more than one.
+    Wrong,
+}
+
+impl Signing {
+    fn is_right(self) -> bool
+        ensures { result ≡ is_right self }
+    {
+        matches!(self, Signing::Right)
+    }
+
+    fn is_wrong(self) -> bool
+        ensures { result ≡ is_wrong self }
+    {
+        matches!(self, Signing::Wrong)
+    }
+}
+
+fn signing_among(
     code_id_length: &[u8],
     authenticator: &[u8; 16],
     attributes: &[u8],
     secret: &[u8],
-) -> bool
+) -> Signing
     requires { left attributes.now ≡ [] }
-    ensures { result ≡ is_only (hmac secret.now (code_id_length.now ++ authenticator.now
+    ensures right { is_right result ≡ is_only (hmac secret.now
+        (code_id_length.now ++ authenticator.now
         ++ flat_map part_octets (map blanked (parts attributes.now))))
         (signatures (parts attributes.now)) }
+    ensures some { has_some result ≡ list_any is_signature (parts attributes.now) }
 {
     let Some(found) = find_signature(attributes) else {
-        return false;
+        return Signing::Unsigned;
     };
     if has_signature(found.after) {
-        return false;
+        return Signing::Wrong;
     }
     let digest = signature_between(
         secret,
@@ -79,37 +107,29 @@ fn is_signed_among(
         found.before,
         found.after,
     );
-    are_equal(found.value, &digest)
-}
-
-// Whether a packet is signed, under this authenticator.
-#[tactic(auto, unfolding(crate::specs::Signed::is_signed))]
-fn is_signed(octets: &[u8], authenticator: &[u8; 16], secret: &[u8]) -> bool
-    ensures { result ≡ is_signed octets.now authenticator.now secret.now }
-{
-    let Some(length) = packet_length(octets) else {
-        return false;
-    };
-    let attributes = attributes_in(octets, length);
-    if count_attributes(attributes).is_err() {
-        return false;
+    if are_equal(found.value, &digest) {
+        Signing::Right
+    } else {
+        Signing::Wrong
     }
-    is_signed_among(
-        &octets[..AUTHENTICATOR_PLACE],
-        authenticator,
-        attributes,
-        secret,
-    )
 }
 
-/// Whether a packet has a Message-Authenticator that does not sign it under this authenticator.
+/// Whether a packet of whole attributes has a Message-Authenticator that does not sign it under this authenticator.
+#[tactic(auto, unfolding(crate::specs::Signed::is_signed))]
 pub(crate) fn has_wrong_signature(octets: &[u8], authenticator: &[u8; 16], secret: &[u8]) -> bool
     requires head { PACKET_HEAD_OCTETS ≤ length_of octets.now }
     requires within { length_of octets.now ≤ length octets.now }
+    requires short { length_of octets.now ≤ MAX_PACKET_OCTETS }
+    requires whole { left (attributes_of octets.now) ≡ [] }
     ensures { result ≡ has_wrong_signature octets.now authenticator.now secret.now }
 {
-    has_signature(attributes_in(octets, length_of(octets)))
-        && !is_signed(octets, authenticator, secret)
+    signing_among(
+        &octets[..AUTHENTICATOR_PLACE],
+        authenticator,
+        attributes_in(octets, length_of(octets)),
+        secret,
+    )
+    .is_wrong()
 }
 
 /// Whether a packet is signed by its only Message-Authenticator (RFC 3579, section 3.2). The authenticator to give is a
@@ -121,9 +141,23 @@ pub(crate) fn has_wrong_signature(octets: &[u8], authenticator: &[u8; 16], secre
 /// assert!(rt; check_message(reply, authenticator, b"testing123"));
 /// assert!(rt; !check_message(reply, authenticator, b"testing"));
 /// ```
+#[tactic(auto, unfolding(crate::specs::Signed::is_signed))]
 pub fn check_message(octets: &[u8], authenticator: &[u8; 16], secret: &[u8]) -> bool
     requires { 0 < length secret.now }
     ensures { result ≡ is_signed octets.now authenticator.now secret.now }
 {
-    is_signed(octets, authenticator, secret)
+    let Some(length) = packet_length(octets) else {
+        return false;
+    };
+    let attributes = attributes_in(octets, length);
+    if count_attributes(attributes).is_err() {
+        return false;
+    }
+    signing_among(
+        &octets[..AUTHENTICATOR_PLACE],
+        authenticator,
+        attributes,
+        secret,
+    )
+    .is_right()
 }

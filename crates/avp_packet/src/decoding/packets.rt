@@ -1,6 +1,6 @@
 //! What is read alike of requests and of replies (RFC 2865, section 3).
 
-ghost use Rattle.std.specs.Prelude.{◌≡◌, ◌≤◌, true, Result, length, All, OnOk, IfOk, IfErr};
+ghost use Rattle.std.specs.Prelude.{◌≡◌, ◌≤◌, [], true, Result, length, All, OnOk, IfOk, IfErr};
 ghost use Rattle.avp_dict.specs.Limits.{fits};
 ghost use Rattle.avp_packet.specs.declared.packets.Packet.{Packet};
 ghost use Rattle.avp_packet.specs.CanonicalOrContainer.{IsCanonicalOrContainer};
@@ -8,7 +8,7 @@ ghost use Rattle.avp_packet.specs.Decoded.{packet_read, unless_broken};
 ghost use Rattle.avp_packet.specs.Meanings.{attribute_pairs};
 ghost use Rattle.avp_packet.specs.Outcomes.{Refuses};
 ghost use Rattle.avp_packet.specs.Packets.{attributes_of, authenticator_of, length_of};
-ghost use Rattle.avp_packet.specs.Splitting.{parts};
+ghost use Rattle.avp_packet.specs.Splitting.{left, parts};
 ghost use Rattle.avp_packet.specs.internal.Views.{under};
 
 use crate::attribute::walking::count_attributes;
@@ -38,7 +38,8 @@ pub(crate) fn count_whole(octets: &[u8]) -> Result<usize, PacketFault>
     ensures head { OnOk result (PACKET_HEAD_OCTETS ≤ length_of octets.now) }
     ensures within { OnOk result (length_of octets.now ≤ length octets.now) }
     ensures short { OnOk result (length_of octets.now ≤ MAX_PACKET_OCTETS) }
-    ensures whole { OnOk result ((read : Result Packet PacketFault)
+    ensures whole { OnOk result (left (attributes_of octets.now) ≡ []) }
+    ensures unbroken { OnOk result ((read : Result Packet PacketFault)
         → unless_broken octets.now read ≡ read) }
     ensures broken { IfErr result (λ fault. (read : Result Packet PacketFault)
         → Refuses fault (unless_broken octets.now read)) }

@@ -1,6 +1,6 @@
 //! Replies read (RFC 2865, sections 3 and 4.4; RFC 2866, section 3; RFC 3579, section 3.2).
 
-ghost use Rattle.std.specs.Prelude.{◌≡◌, ◌≤◌, ◌<◌, true, List, length, All, IfOk, IfSome, IfNone, Ok};
+ghost use Rattle.std.specs.Prelude.{◌≡◌, ◌≤◌, ◌<◌, [], true, List, length, All, IfOk, IfSome, IfNone, Ok};
 ghost use Rattle.avp_lists.specs.declared.pairs.Pair.{Pair};
 ghost use Rattle.avp_lists.specs.States.{max_pairs};
 ghost use Rattle.avp_dict.specs.Dictionary.{Dictionary};
@@ -10,9 +10,10 @@ ghost use Rattle.avp_packet.specs.Decoded.{packet_read};
 ghost use Rattle.avp_packet.specs.DecodedReply.{decoded_reply, is_taken_reply_code, is_wrongly_signed_reply, reply_read};
 ghost use Rattle.avp_packet.specs.Outcomes.{Gives, Refuses};
 ghost use Rattle.avp_packet.specs.PacketMeaning.{OctetsMean};
-ghost use Rattle.avp_packet.specs.Packets.{IsTakenReplyCode, code_of, hiding_authenticator, is_reply, length_of};
+ghost use Rattle.avp_packet.specs.Packets.{IsTakenReplyCode, attributes_of, code_of, hiding_authenticator, is_reply, length_of};
+ghost use Rattle.avp_packet.specs.Splitting.{left};
 
-use crate::authenticators::{PACKET_HEAD_OCTETS, check_reply};
+use crate::authenticators::{MAX_PACKET_OCTETS, PACKET_HEAD_OCTETS, check_reply};
 use crate::decoding::packets::{count_whole, read_packet};
 use crate::faults::PacketFault;
 use crate::keys::{Keys, hiding_authenticator};
@@ -34,6 +35,8 @@ fn is_taken_reply_code(code: u8) -> bool
 fn is_wrongly_signed_reply(octets: &[u8], request_authenticator: &[u8; 16], secret: &[u8]) -> bool
     requires head { PACKET_HEAD_OCTETS ≤ length_of octets.now }
     requires within { length_of octets.now ≤ length octets.now }
+    requires short { length_of octets.now ≤ MAX_PACKET_OCTETS }
+    requires whole { left (attributes_of octets.now) ≡ [] }
     ensures { result ≡ is_wrongly_signed_reply octets.now request_authenticator.now secret.now }
 {
     octets[0] != ACCOUNTING_RESPONSE && has_wrong_signature(octets, request_authenticator, secret)
@@ -44,6 +47,8 @@ fn refusal(octets: &[u8], request_authenticator: &[u8; 16], secret: &[u8]) -> Op
     requires secret { 0 < length secret.now }
     requires head { PACKET_HEAD_OCTETS ≤ length_of octets.now }
     requires within { length_of octets.now ≤ length octets.now }
+    requires short { length_of octets.now ≤ MAX_PACKET_OCTETS }
+    requires whole { left (attributes_of octets.now) ≡ [] }
     ensures some { IfSome result (λ fault. (dictionary : Dictionary)
         → Refuses fault
         (reply_read dictionary secret.now request_authenticator.now octets.now)) }

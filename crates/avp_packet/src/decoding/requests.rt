@@ -1,6 +1,6 @@
 //! Requests read (RFC 2865, section 3; RFC 2866, section 3).
 
-ghost use Rattle.std.specs.Prelude.{◌≡◌, ◌≤◌, ◌<◌, true, List, length, All, IfOk, IfSome, IfNone, Ok};
+ghost use Rattle.std.specs.Prelude.{◌≡◌, ◌≤◌, ◌<◌, [], true, List, length, All, IfOk, IfSome, IfNone, Ok};
 ghost use Rattle.avp_lists.specs.declared.pairs.Pair.{Pair};
 ghost use Rattle.avp_lists.specs.States.{max_pairs};
 ghost use Rattle.avp_dict.specs.Dictionary.{Dictionary};
@@ -9,9 +9,10 @@ ghost use Rattle.avp_packet.specs.CanonicalOrContainer.{IsCanonicalOrContainer};
 ghost use Rattle.avp_packet.specs.Decoded.{decoded, is_wrongly_signed, packet_read, request_read};
 ghost use Rattle.avp_packet.specs.Outcomes.{Gives, Refuses};
 ghost use Rattle.avp_packet.specs.PacketMeaning.{OctetsMean};
-ghost use Rattle.avp_packet.specs.Packets.{IsRequestCode, authenticator_of, code_of, hiding_authenticator, length_of};
+ghost use Rattle.avp_packet.specs.Packets.{IsRequestCode, attributes_of, authenticator_of, code_of, hiding_authenticator, length_of};
+ghost use Rattle.avp_packet.specs.Splitting.{left};
 
-use crate::authenticators::{PACKET_HEAD_OCTETS, is_accounting_request};
+use crate::authenticators::{MAX_PACKET_OCTETS, PACKET_HEAD_OCTETS, is_accounting_request};
 use crate::decoding::packets::{copy_authenticator, count_whole, read_packet};
 use crate::faults::PacketFault;
 use crate::keys::{Keys, hiding_authenticator};
@@ -24,6 +25,8 @@ use std::alloc::Global;
 fn is_wrongly_signed(octets: &[u8], secret: &[u8]) -> bool
     requires head { PACKET_HEAD_OCTETS ≤ length_of octets.now }
     requires within { length_of octets.now ≤ length octets.now }
+    requires short { length_of octets.now ≤ MAX_PACKET_OCTETS }
+    requires whole { left (attributes_of octets.now) ≡ [] }
     ensures { result ≡ is_wrongly_signed octets.now secret.now }
 {
     octets[0] == ACCESS_REQUEST && has_wrong_signature(octets, &copy_authenticator(octets), secret)
@@ -33,6 +36,8 @@ fn is_wrongly_signed(octets: &[u8], secret: &[u8]) -> bool
 fn refusal(octets: &[u8], secret: &[u8]) -> Option<PacketFault>
     requires head { PACKET_HEAD_OCTETS ≤ length_of octets.now }
     requires within { length_of octets.now ≤ length octets.now }
+    requires short { length_of octets.now ≤ MAX_PACKET_OCTETS }
+    requires whole { left (attributes_of octets.now) ≡ [] }
     ensures some { IfSome result (λ fault. (dictionary : Dictionary)
         → Refuses fault (request_read dictionary secret.now octets.now)) }
     ensures none { IfNone result ((dictionary : Dictionary)

@@ -20,21 +20,21 @@ returns-in_err-count-clause-read c =
 pub returns-in-Some-clause-read : goal.returns-in-Some-clause-read
 unfolding decoded_reply
 returns-in-Some-clause-read c =
-    subst (Refuses c.in-Some.fault) (sym (c.in_ok-count.ensures.whole (reply_read c.args.dictionary.now c.args.secret.now c.args.request_authenticator.now c.args.octets.now))) (c.in-Some.ensures.some c.args.dictionary.now)
+    subst (Refuses c.in-Some.fault) (sym (c.in_ok-count.ensures.unbroken (reply_read c.args.dictionary.now c.args.secret.now c.args.request_authenticator.now c.args.octets.now))) (c.in-Some.ensures.some c.args.dictionary.now)
 
 -- memory runs out only where a packet is read
 pub returns-in_err-read_packet-clause-read : goal.returns-in_err-read_packet-clause-read
 unfolding decoded_reply
 returns-in_err-read_packet-clause-read c =
     let refused : c.from_residual-in_err-read_packet.result ≡ Err Memory = search rules in
-    let read = c.in_ok-count.ensures.whole (reply_read c.args.dictionary.now c.args.secret.now c.args.request_authenticator.now c.args.octets.now) ∙ c.in_default.ensures.none c.args.dictionary.now in
+    let read = c.in_ok-count.ensures.unbroken (reply_read c.args.dictionary.now c.args.secret.now c.args.request_authenticator.now c.args.octets.now) ∙ c.in_default.ensures.none c.args.dictionary.now in
     subst (λ result. Gives result (decoded_reply c.args.dictionary.now c.args.secret.now c.args.request_authenticator.now c.args.octets.now)) (sym refused) (_, read)
 
 pub returns-clause-read : goal.returns-clause-read
 unfolding decoded_reply
 returns-clause-read c =
     let hide = c.hiding_authenticator.ensures in
-    c.in_ok-count.ensures.whole (reply_read c.args.dictionary.now c.args.secret.now c.args.request_authenticator.now c.args.octets.now) ∙ c.in_default.ensures.none c.args.dictionary.now
+    c.in_ok-count.ensures.unbroken (reply_read c.args.dictionary.now c.args.secret.now c.args.request_authenticator.now c.args.octets.now) ∙ c.in_default.ensures.none c.args.dictionary.now
     ∙ ap (λ (authenticator : List ℕ). Ok (packet_read c.args.dictionary.now c.args.secret.now authenticator c.args.octets.now)) (sym hide)
     ∙ ap Ok (sym c.in_ok-read_packet.ensures.packet)
 
