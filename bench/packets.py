@@ -1,4 +1,6 @@
 """Packets decoded and encoded by a process that does nothing else, beside FreeRADIUS's library."""
+import hashlib
+import hmac
 from pathlib import Path
 from typing import Callable, Dict, List, Optional, Tuple
 
@@ -29,6 +31,12 @@ def request(attributes: List[bytes]) -> bytes:
     return b"\x01\x00" + (20 + len(octets)).to_bytes(2, "big") + PAP[4:20] + octets
 
 
+def signed(attributes: List[bytes]) -> bytes:
+    """The request with a Message-Authenticator at its end (RFC 3579, section 3.2)."""
+    blank = request([*attributes, attribute(80, bytes(16))])
+    return blank[:-16] + hmac.new(SECRET.encode(), blank, hashlib.md5).digest()
+
+
 PACKETS: Dict[str, bytes] = {
     "a login of 56 octets": PAP,
     "four vendor attributes": request(
@@ -36,6 +44,7 @@ PACKETS: Dict[str, bytes] = {
     ),
     "ten values of 253 octets": request([attribute(25, bytes([at]) * 253) for at in range(10)]),
     "300 attributes": request([attribute(25, at.to_bytes(2, "big")) for at in range(300)]),
+    "a signed login": signed([attribute(1, b"bob"), attribute(4, bytes([192, 168, 1, 16])), attribute(25, b"a class")]),
 }
 
 # The words of a command that does a work so many times.

@@ -25,10 +25,10 @@ static RADIUS_PACKET *packet_of(uint8_t const *octets, size_t length) {
     return packet;
 }
 
-// Whether the packet was decoded and, if that is wanted, encoded.
+// Whether the packet was right and decoded and, if that is wanted, encoded.
 static bool work_on(RADIUS_PACKET *packet, char const *secret, bool encodes) {
     decode_fail_t reason;
-    if (!rad_packet_ok(packet, 0, &reason) || rad_decode(packet, NULL, secret) < 0)
+    if (!rad_packet_ok(packet, 0, &reason) || rad_verify(packet, NULL, secret) < 0 || rad_decode(packet, NULL, secret) < 0)
         return false;
     if (!encodes)
         return true;
