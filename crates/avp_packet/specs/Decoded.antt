@@ -38,7 +38,7 @@ abbrev pub unless_bad : List ℕ → Result Packet PacketFault → Result Packet
 unless_bad attributes read =
     unless_left (packet_head_octets + length attributes) (left attributes) read
 
--- what is read of octets, unless they are no whole packet of whole attributes
+-- what octets are read as, unless they are no whole packet of whole attributes
 abbrev pub unless_broken : List ℕ → Result Packet PacketFault → Result Packet PacketFault
 unless_broken os read =
     if nat_lt (length os) packet_head_octets then Err TooShort
@@ -46,7 +46,7 @@ unless_broken os read =
     else if nat_lt (length os) (length_of os) then Err CutShort
     else unless_bad (attributes_of os) read
 
--- the packet of octets, with what these 16 octets hide
+-- the packet of octets whose passwords are hidden by this authenticator
 abbrev pub packet_read : Dictionary → List ℕ → List ℕ → List ℕ → Packet
 packet_read dictionary secret hide_by os = record {
   code = code_of os;

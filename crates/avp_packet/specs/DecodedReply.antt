@@ -1,5 +1,5 @@
--- What octets given as the reply to a request are read as, and what is refused of them (RFC 2865, sections 3 and 4.4; RFC
--- 2866, section 3; RFC 3579, section 3.2).
+-- What octets given as the reply to a request are read as, and what is refused of them (RFC 2865, sections 3 and 4.4;
+-- RFC 2866, section 3; RFC 3579, section 3.2).
 use Rattle.std.specs.Prelude.{ℕ, Bool, ◌&&◌, ◌||◌, not, ◌==◌, if◌then◌else◌, List, Result, Ok, Err}
 use Rattle.avp_dict.specs.Dictionary.{Dictionary}
 use Rattle.avp_packet.specs.declared.faults.PacketFault.{PacketFault}
@@ -13,7 +13,7 @@ is_taken_reply_code code = (code == access_accept) || (code == access_reject)
     || (code == accounting_response)
     || (code == access_challenge)
 
--- a reply but for an Accounting-Response, with a Message-Authenticator that does not sign it
+-- a reply other than an Accounting-Response, with a Message-Authenticator that does not sign it
 abbrev pub is_wrongly_signed_reply : List ℕ → List ℕ → List ℕ → Bool
 is_wrongly_signed_reply os request_authenticator secret =
     not (code_of os == accounting_response) && has_wrong_signature os request_authenticator secret

@@ -49,8 +49,8 @@ pub enum PacketFault {
     /// Authenticator is not the digest over the request's (RFC 2865, section 3).
     #[error("wrong authenticator")]
     WrongAuthenticator,
-    /// An Access-Request, or a reply but for an Accounting-Response, with a Message-Authenticator that does not sign it,
-    /// or with more than one (RFC 3579, section 3.2).
+    /// An Access-Request, or a reply other than an Accounting-Response, with a Message-Authenticator that does not sign
+    /// it, or with more than one (RFC 3579, section 3.2).
     #[error("wrong Message-Authenticator")]
     WrongMessageAuthenticator,
     #[error("out of memory")]

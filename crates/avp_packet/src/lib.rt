@@ -1,7 +1,7 @@
 //! RADIUS packets: attribute lists read and written, hidden passwords, and authenticators.
 //!
-//! [`decode`] reads a request and [`decode_reply`] its reply, [`encode_request`] and [`encode_reply`] write packets, and
-//! [`check_reply`] and [`check_message`] look at their digests, by RFC 2865, RFC 2866, RFC 3579 and RFC 6929.
+//! [`decode`] reads a request and [`decode_reply`] its reply, [`encode_request`] and [`encode_reply`] write packets,
+//! and [`check_reply`] and [`check_message`] look at their digests, by RFC 2865, RFC 2866, RFC 3579 and RFC 6929.
 #![tactic(auto)]
 
 mod attribute;

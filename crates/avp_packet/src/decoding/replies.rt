@@ -31,7 +31,7 @@ fn is_taken_reply_code(code: u8) -> bool
     )
 }
 
-// Whether a reply but for an Accounting-Response has a Message-Authenticator that does not sign it.
+// Whether a reply other than an Accounting-Response has a Message-Authenticator that does not sign it.
 fn is_wrongly_signed_reply(octets: &[u8], request_authenticator: &[u8; 16], secret: &[u8]) -> bool
     requires head { PACKET_HEAD_OCTETS ≤ length_of octets.now }
     requires within { length_of octets.now ≤ length octets.now }
@@ -72,12 +72,14 @@ fn refusal(octets: &[u8], request_authenticator: &[u8; 16], secret: &[u8]) -> Op
     }
 }
 
-/// Reads the reply to the request with this authenticator: an Access-Accept, an Access-Reject, an Accounting-Response or
-/// an Access-Challenge whose Response Authenticator is right. Octets past Length are not looked at. A reply that has a
-/// Message-Authenticator must be signed by it, but for an Accounting-Response, where it is an attribute as any other.
-/// The faults are tried in the order in which [`PacketFault`] has them, all of them before any memory is taken.
+/// Reads the reply to the request with this authenticator: an Access-Accept, an Access-Reject, an Accounting-Response
+/// or an Access-Challenge whose Response Authenticator is right. Octets past Length are not looked at. A reply that has
+/// a Message-Authenticator must be signed by it, except an Accounting-Response, where it is an attribute like any
+/// other. The faults are tried in the order in which [`PacketFault`] has them, and memory can run out only where none
+/// applies.
 ///
-/// The packet's `authenticator` is the Response Authenticator. What is hidden is hidden by the request's.
+/// The packet's `authenticator` is the Response Authenticator. Passwords are recovered by the request's authenticator,
+/// and in an Accounting-Response by zeros.
 ///
 /// ```rust
 /// // The reply of a server that has the secret `testing123`, with the identifier 7.

@@ -59,9 +59,10 @@ fn refusal(octets: &[u8], secret: &[u8]) -> Option<PacketFault>
     }
 }
 
-/// Reads an Access-Request, or an Accounting-Request whose authenticator is right; octets past Length are not looked at.
-/// An Access-Request that has a Message-Authenticator must be signed by it. The faults are tried in the order in which
-/// [`PacketFault`] has them, all of them before any memory is taken. [`decode_reply`](crate::decode_reply) reads replies.
+/// Reads an Access-Request, or an Accounting-Request whose authenticator is right; octets past Length are not looked
+/// at. An Access-Request that has a Message-Authenticator must be signed by it. The faults are tried in the order in
+/// which [`PacketFault`] has them, and memory can run out only where none applies.
+/// [`decode_reply`](crate::decode_reply) reads replies.
 ///
 /// ```rust
 /// // The octets of `User-Name = "bob", NAS-Port = 3`, with the identifier 7.
