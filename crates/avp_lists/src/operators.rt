@@ -6,6 +6,7 @@ ghost use Rattle.avp_lists.specs.States.{edited, IsFull, IsLimited};
 ghost use Rattle.avp_lists.specs.internal.Growth.{adds_one};
 ghost use Rattle.avp_lists.specs.Instances.{has_id, has_instance, is_other};
 ghost use Rattle.avp_lists.specs.Operators.{differs, agrees, replace, apply};
+ghost use Rattle.avp_lists.specs.declared.edits.Op.TheVariants.{AddNew, Append, Prepend};
 
 use crate::edits::{Edit, Op};
 use crate::lists::{List, MAX_PAIRS, Pairs, State, push_copies};
@@ -74,17 +75,52 @@ fn replace(made: &mut Vec<Pair>, pairs: &[Pair], pair: Pair) -> Result<(), Alloc
 {
     let id = pair.id;
     match first_place(pairs, id) {
-        None => {
-            push_copies(made, pairs)?;
-            made.push(pair)?;
-        }
+        None => append(made, pairs, pair),
         Some(first) => {
-            push_copies(made, &pairs[..first])?;
-            made.push(pair)?;
-            push_others(made, &pairs[first + 1..], id)?;
+            append(made, &pairs[..first], pair)?;
+            push_others(made, &pairs[first + 1..], id)
         }
     }
-    Ok(())
+}
+
+// The pair is added where its id has no instance.
+fn add_new(made: &mut Vec<Pair>, pairs: &[Pair], pair: Pair) -> Result<(), AllocError>
+    ensures { OnOk result (made.new.items ≡ made.old.items ++ apply AddNew pair pairs.now) }
+{
+    if has_instance(pairs, pair.id) {
+        push_copies(made, pairs)
+    } else {
+        append(made, pairs, pair)
+    }
+}
+
+fn append(made: &mut Vec<Pair>, pairs: &[Pair], pair: Pair) -> Result<(), AllocError>
+    ensures { OnOk result (made.new.items ≡ made.old.items ++ apply Append pair pairs.now) }
+{
+    push_copies(made, pairs)?;
+    Ok(made.push(pair)?)
+}
+
+fn prepend(made: &mut Vec<Pair>, pairs: &[Pair], pair: Pair) -> Result<(), AllocError>
+    ensures { OnOk result (made.new.items ≡ made.old.items ++ apply Prepend pair pairs.now) }
+{
+    made.push(pair)?;
+    push_copies(made, pairs)
+}
+
+// The pairs of the list that the operator makes.
+fn push_applied(made: &mut Vec<Pair>, op: Op, pair: Pair, pairs: &[Pair]) -> Result<(), AllocError>
+    ensures { OnOk result (made.new.items ≡ made.old.items ++ apply op pair pairs.now) }
+{
+    match op {
+        Op::AddNew => add_new(made, pairs, pair),
+        Op::Replace => replace(made, pairs, pair),
+        Op::Append => append(made, pairs, pair),
+        Op::Prepend => prepend(made, pairs, pair),
+        Op::RemoveEqual => push_unequal(made, pairs, &pair),
+        Op::KeepEqual => push_agreeing(made, pairs, &pair),
+        Op::RemoveAll => push_others(made, pairs, pair.id),
+    }
 }
 
 // The list that the operator makes.
@@ -92,26 +128,7 @@ fn apply(alloc: Global, op: Op, pair: Pair, pairs: &[Pair]) -> Result<Vec<Pair>,
     ensures { IfOk result (λ made. made.items ≡ apply op pair pairs.now) }
 {
     let mut made = Vec::new(alloc);
-    match op {
-        Op::AddNew => {
-            push_copies(&mut made, pairs)?;
-            if !has_instance(pairs, pair.id) {
-                made.push(pair)?;
-            }
-        }
-        Op::Replace => replace(&mut made, pairs, pair)?,
-        Op::Append => {
-            push_copies(&mut made, pairs)?;
-            made.push(pair)?;
-        }
-        Op::Prepend => {
-            made.push(pair)?;
-            push_copies(&mut made, pairs)?;
-        }
-        Op::RemoveEqual => push_unequal(&mut made, pairs, &pair)?,
-        Op::KeepEqual => push_agreeing(&mut made, pairs, &pair)?,
-        Op::RemoveAll => push_others(&mut made, pairs, pair.id)?,
-    }
+    push_applied(&mut made, op, pair, pairs)?;
     Ok(made)
 }
 

@@ -46,6 +46,14 @@ fn goes(op: Op, pair: &Pair, other: &Pair) -> bool
     }
 }
 
+// Whether an edit takes the pair of the slot away.
+fn taken(slot: &Slot, pool: &[Pair], edit: &Edit) -> bool
+    requires { slot.now.mark.live ≡ true → slot.now.mark.pair < length pool.now }
+    ensures { result ≡ taken edit.now pool.now slot.now }
+{
+    shows(slot, edit.list) && goes(edit.op, &edit.pair, &pool[slot.mark.pair])
+}
+
 // The slots from a place on whose pairs an edit takes away.
 fn push_going(
     names: &mut Vec<usize>,
@@ -60,8 +68,7 @@ fn push_going(
         ≡ names.old.items ++ names_in (taken edit.now pool.now) from (drop from slots.now)) }
 {
     for name in from..slots.len() {
-        let slot = &slots[name];
-        if shows(slot, edit.list) && goes(edit.op, &edit.pair, &pool[slot.mark.pair]) {
+        if taken(&slots[name], pool, edit) {
             names.push(name)?;
         }
     }
