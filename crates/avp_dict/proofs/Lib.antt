@@ -1,5 +1,6 @@
 pub mod AgreeingLines
 pub mod Agreement
+pub mod Appending
 pub mod CountedNames
 pub mod FaultPlaces
 pub mod Fitting

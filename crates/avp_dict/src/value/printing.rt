@@ -47,11 +47,27 @@ fn hexadecimal(alloc: Global, octets: &[u8]) -> Result<Vec<u8>, AllocError>
     Ok(text)
 }
 
+// A dot and a number after it.
+fn push_dotted(text: &mut Vec<u8>, number: u64) -> Result<(), AllocError>
+    ensures { OnOk result (text.new.items ≡ text.old.items ++ (codes "." ++ decimal number)) }
+{
+    text.push(b'.')?;
+    push_decimal(text, number)
+}
+
 fn push_digit_pair(text: &mut Vec<u8>, octet: u8) -> Result<(), AllocError>
     ensures { OnOk result (text.new.items ≡ text.old.items ++ digit_pair_text octet) }
 {
     let digits = hex::encode(*text.allocator(), &[octet][..])?;
     text.extend_from_slice(digits.as_str().as_bytes())
+}
+
+// A colon and a pair of digits after it.
+fn push_after_colon(text: &mut Vec<u8>, octet: u8) -> Result<(), AllocError>
+    ensures { OnOk result (text.new.items ≡ text.old.items ++ (codes ":" ++ digit_pair_text octet)) }
+{
+    text.push(b':')?;
+    push_digit_pair(text, octet)
 }
 
 fn address_text(alloc: Global, address: &[u8]) -> Result<Vec<u8>, AllocError>
@@ -63,8 +79,7 @@ fn address_text(alloc: Global, address: &[u8]) -> Result<Vec<u8>, AllocError>
     };
     push_decimal(&mut text, u64::from(*first))?;
     for octet in rest {
-        text.push(b'.')?;
-        push_decimal(&mut text, u64::from(*octet))?;
+        push_dotted(&mut text, u64::from(*octet))?;
     }
     Ok(text)
 }
@@ -78,8 +93,7 @@ fn ether_text(alloc: Global, address: &[u8]) -> Result<Vec<u8>, AllocError>
     };
     push_digit_pair(&mut text, *first)?;
     for octet in rest {
-        text.push(b':')?;
-        push_digit_pair(&mut text, *octet)?;
+        push_after_colon(&mut text, *octet)?;
     }
     Ok(text)
 }
@@ -90,8 +104,7 @@ fn dotted_name(alloc: Global, front: &[u8], t: u64, n: u64) -> Result<Vec<u8>, A
 {
     let mut name = Vec::from_slice(alloc, front)?;
     push_decimal(&mut name, t)?;
-    name.push(b'.')?;
-    push_decimal(&mut name, n)?;
+    push_dotted(&mut name, n)?;
     Ok(name)
 }
 
