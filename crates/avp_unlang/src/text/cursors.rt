@@ -13,7 +13,7 @@ use std::marker::Model;
 
 /// A place in a policy text: what is left of it, on which line that begins, and how much may still be added to the
 /// policy's size. The next token is found once, when the place is made.
-#[derive(Debug, Drop)]
+#[derive(Drop)]
 pub(crate) struct Cursor<'a> {
     text: &'a [u8],
     line: usize,

@@ -11,7 +11,7 @@ use avp_dict::{Dictionary, Kind, Named, is_container};
 use avp_lists::{AttrId, List};
 
 /// What a word refers to: a list, and what the name of an attribute stands for.
-#[derive(Clone, Copy, Debug)]
+#[derive(Clone, Copy)]
 pub(crate) struct Reference {
     pub list: List,
     pub named: Named,

@@ -20,7 +20,7 @@ use avp_lists::List;
 use std::alloc::Global;
 
 /// What a word begins where a statement may begin.
-#[derive(Clone, Copy, Debug)]
+#[derive(Clone, Copy)]
 pub(crate) enum Keyword {
     Update,
     If,

@@ -8,7 +8,7 @@ use avp_dict::QuoteMark;
 use std::marker::Model;
 
 /// A run of octets of the text, seen by contracts as their list.
-#[derive(Debug, Drop)]
+#[derive(Drop)]
 pub(crate) struct Excerpt<'a> {
     octets: &'a [u8],
 }
@@ -22,7 +22,7 @@ impl<'a> Model for Excerpt<'a> {
 }
 
 /// An operator or a bracket.
-#[derive(Clone, Copy, Debug, PartialEq, Eq)]
+#[derive(Clone, Copy, PartialEq, Eq)]
 pub(crate) enum Sign {
     /// `{`
     BlockStart,
@@ -67,7 +67,7 @@ pub(crate) enum Sign {
 }
 
 /// What a text begins with, after blanks and comments.
-#[derive(Debug, Drop)]
+#[derive(Drop)]
 pub(crate) enum Token<'a> {
     Operator(Sign),
     Word(Excerpt<'a>),

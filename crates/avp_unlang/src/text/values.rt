@@ -16,7 +16,7 @@ use avp_lists::{AttrId, List, Pair, Value};
 use std::alloc::{AllocError, Global};
 
 /// A value as it is written for an attribute.
-#[derive(Debug, Drop)]
+#[derive(Drop)]
 pub(crate) enum Written<'a> {
     /// A value that a text stands for under the attribute's name.
     Literal(Value),
@@ -28,7 +28,7 @@ pub(crate) enum Written<'a> {
 }
 
 /// The lines of a name and of the value that is written for it.
-#[derive(Clone, Copy, Debug)]
+#[derive(Clone, Copy)]
 pub(crate) struct ValueLines {
     pub name: usize,
     pub value: usize,
