@@ -4,7 +4,7 @@ use crate::labels::Label;
 use avp_unlang::Code;
 
 /// What a step did, the code after it, and whether it was a stop.
-#[derive(Clone, Copy, Debug)]
+#[derive(Clone, Copy)]
 pub struct Mark {
     pub label: Label,
     pub code: Code,
