@@ -1,0 +1,16 @@
+//! What programs beside `radpolicy` share: files and their faults, changes from one list to the next, words for what a
+//! run tells, JSON strings, secret values, and what may go to a terminal.
+#![tactic(auto)]
+
+mod alignments;
+mod change_lists;
+mod change_texts;
+mod json_strings;
+mod secret_attributes;
+mod terminals;
+
+pub use change_lists::{Change, changes};
+pub use change_texts::{SecretValues, change_lines};
+pub use json_strings::{Escaping, push_json_string};
+pub use secret_attributes::{SECRET_ENDINGS, SECRET_IDS, SECRET_NAMES, is_secret};
+pub use terminals::{LineBreaks, PLAIN_STYLE, Stream, Style, visible_text};
