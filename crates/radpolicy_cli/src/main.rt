@@ -1,100 +1,24 @@
 //! The program: its words, the files that they name, and what it prints.
 #![tactic(auto)]
 
-ghost use Rattle.std.specs.Prelude.{◌≡◌, ◌⊎◌, [], Ok, Some, IfOk, IfErr, IfSome, is_some};
-ghost use Rattle.radpolicy.specs.Faults.{IsPrintedWith, status_of};
-ghost use Rattle.radpolicy_cli.specs.declared.Unread.TheVariants as why;
-ghost use Rattle.radpolicy.specs.Plans.{IsSound, asked_by_job, asked_by_plan, names_of_files, names_of_paths};
+ghost use Rattle.std.specs.Prelude.{◌≡◌, IfOk};
+ghost use Rattle.radpolicy.specs.Plans.{IsSound, asked_by_job, asked_by_plan};
 
-use avp_dict::{FileSet, NamedFile};
 use avp_lists::Octets;
-use radpolicy::{
-    Command, Fault, Job, Plan, WriteOutput, answer, help_text, print_fault, read_input, read_words,
-    status,
+use radpolicy::{Command, Fault, Job, Plan, WriteOutput, answer, help_text, read_words, status};
+use radpolicy_common::{
+    Unread, read_dictionaries, read_file, read_optional, read_standard_input, refuse, refuse_early,
+    refuse_unread,
 };
-use std::alloc::{AllocError, AllocFailed};
-use std::fs::File;
 use std::io;
 use std::process::ExitCode;
-
-// Why the files of a plan were not all read.
-#[derive(Drop)]
-enum Unread<'a> {
-    Memory,
-    // The file's path as it was given, or `-` for standard input.
-    File(&'a str),
-}
-
-impl From<AllocError> for Unread<'_> {
-    ghost from_gives = { λ _ unread. unread ≡ why.Memory };
-
-    fn from(_error: AllocError) -> Self {
-        Unread::Memory
-    }
-}
-
-impl<T: Drop> From<AllocFailed<T>> for Unread<'_> {
-    ghost from_gives = { λ _ unread. unread ≡ why.Memory };
-
-    fn from(_error: AllocFailed<T>) -> Self {
-        Unread::Memory
-    }
-}
-
-// What was read under a name. More than an input file may have is not readable.
-fn octets_of(name: &str, read: io::Result<Option<Octets>>) -> Result<Octets, Unread<'_>>
-    ensures read { IfOk result (λ octets. read ≡ Ok (Some octets)) }
-    ensures named { IfErr result (λ unread.
-        (unread ≡ Unread.Memory) ⊎ (unread ≡ Unread.File name.entry)) }
-{
-    match read {
-        Ok(Some(octets)) => Ok(octets),
-        Ok(None) => Err(Unread::File(name)),
-        Err(error) => match error.kind() {
-            io::ErrorKind::OutOfMemory => Err(Unread::Memory),
-            _ => Err(Unread::File(name)),
-        },
-    }
-}
-
-fn read_file<'a>(rt: &HostRuntime, path: &'a str) -> Result<Octets, Unread<'a>>
-    ensures { IfErr result (λ unread.
-        (unread ≡ Unread.Memory) ⊎ (unread ≡ Unread.File path.entry)) }
-{
-    match File::open(rt, path) {
-        Ok(file) => octets_of(path, read_input(rt.alloc(), file)),
-        Err(error) => octets_of(path, Err(error)),
-    }
-}
-
-fn read_optional<'a>(rt: &HostRuntime, path: Option<&'a str>) -> Result<Option<Octets>, Unread<'a>>
-    ensures given { IfOk result (λ octets. is_some octets ≡ is_some path.entry) }
-    ensures named { IfErr result (λ unread.
-        (unread ≡ Unread.Memory) ⊎ IfSome path.entry (λ p. unread ≡ Unread.File p)) }
-{
-    match path {
-        Some(path) => Ok(Some(read_file(rt, path)?)),
-        None => Ok(None),
-    }
-}
-
-fn read_dictionaries<'a>(rt: &HostRuntime, paths: &[&'a str]) -> Result<FileSet, Unread<'a>>
-    ensures { IfOk result (λ files. names_of_files files ≡ names_of_paths paths.now) }
-{
-    let mut files = Vec::new(rt.alloc());
-    for path in paths {
-        let octets = read_file(rt, path)?;
-        files.push(NamedFile::at(rt.alloc(), path, octets)?)?;
-    }
-    Ok(FileSet::from_vec(files))
-}
 
 // The request; a check has none, and standard input is left alone.
 fn request_octets<'a>(rt: &HostRuntime, plan: &Plan<'a>) -> Result<Octets, Unread<'a>> {
     match (plan.command, plan.request) {
         (Command::Check, _) => Ok(Octets::from_vec(Vec::new(rt.alloc()))),
         (_, Some(path)) => read_file(rt, path),
-        (_, None) => octets_of("-", read_input(rt.alloc(), rt.stdin())),
+        (_, None) => read_standard_input(rt),
     }
 }
 
@@ -114,36 +38,6 @@ fn job_of<'a>(rt: &HostRuntime, plan: &Plan<'a>) -> Result<Job, Unread<'a>>
         secret: read_optional(rt, plan.secret)?,
         script: read_optional(rt, plan.script)?,
     })
-}
-
-// Prints a fault's line, and gives its status, which is that of the fault even if the line could not
-// be printed.
-fn refuse(rt: &HostRuntime, fault: &Fault, files: &FileSet) -> u8
-    requires { IsPrintedWith files.now fault.now }
-    ensures { result ≡ status_of fault.now }
-{
-    let mut out = WriteOutput::new(rt.stderr());
-    let _ = print_fault(fault, files, &mut out);
-    status(fault)
-}
-
-// The same before any file was read.
-fn refuse_early(rt: &HostRuntime, fault: &Fault) -> u8
-    requires { IsPrintedWith [] fault.now }
-    ensures { result ≡ status_of fault.now }
-{
-    refuse(rt, fault, &FileSet::from_vec(Vec::new(rt.alloc())))
-}
-
-fn refuse_unread(rt: &HostRuntime, unread: Unread<'_>) -> u8 {
-    match unread {
-        Unread::Memory => refuse_early(rt, &Fault::Memory),
-        Unread::File(path) => {
-            let fault = Fault::FileNotReadable;
-            let _ = eprintln!(rt; "radpolicy: E04 {path}: {fault}");
-            status(&fault)
-        }
-    }
 }
 
 fn show_help(rt: &HostRuntime, words: &[String]) -> u8 {

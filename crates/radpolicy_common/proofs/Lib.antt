@@ -1,3 +1,4 @@
 pub mod Changing
 pub mod Escapes
+pub mod FileNames
 pub mod Visibility

@@ -5,12 +5,20 @@
 mod alignments;
 mod change_lists;
 mod change_texts;
+mod files;
 mod json_strings;
+mod refusals;
 mod secret_attributes;
 mod terminals;
+mod words;
 
 pub use change_lists::{Change, changes};
 pub use change_texts::{SecretValues, change_lines};
+pub use files::{
+    Unread, read_dictionaries, read_dictionary_set, read_file, read_optional, read_standard_input,
+};
 pub use json_strings::{Escaping, push_json_string};
+pub use refusals::{refuse, refuse_early, refuse_unread};
 pub use secret_attributes::{SECRET_ENDINGS, SECRET_IDS, SECRET_NAMES, is_secret};
 pub use terminals::{LineBreaks, PLAIN_STYLE, Stream, Style, visible_text};
+pub use words::reason_text;

@@ -1,0 +1,146 @@
+//! Reading files and standard input.
+
+ghost use Rattle.std.specs.Prelude.{◌≡◌, ◌⊎◌, ◌<◌, Ok, Some, IfOk, IfErr, IfSome, is_some, length};
+ghost use Rattle.avp_dict.specs.Lines.{HasDistinctNames};
+ghost use Rattle.radpolicy.specs.Plans.{names_of_files, names_of_paths};
+ghost use Rattle.radpolicy_common.specs.Refusals.{fault_of_unread};
+ghost use Rattle.radpolicy_common.specs.declared.files.Unread.TheVariants as why;
+
+use avp_dict::{FileSet, NamedFile};
+use avp_lists::Octets;
+use radpolicy::{Fault, read_input};
+use std::alloc::{AllocError, AllocFailed, Global};
+use std::fs::File;
+use std::io;
+
+/// Why files were not all read.
+#[derive(Clone, Copy, Debug, Drop, PartialEq, Eq)]
+pub enum Unread<'a> {
+    Memory,
+    /// No dictionary file was named.
+    NoDictionary,
+    /// Two dictionary files have one last component.
+    SameNames,
+    /// The file's path as it was given, or `-` for standard input.
+    File(&'a str),
+}
+
+impl From<AllocError> for Unread<'_> {
+    ghost from_gives = { λ _ unread. unread ≡ why.Memory };
+
+    fn from(_error: AllocError) -> Self {
+        Unread::Memory
+    }
+}
+
+impl<T: Drop> From<AllocFailed<T>> for Unread<'_> {
+    ghost from_gives = { λ _ unread. unread ≡ why.Memory };
+
+    fn from(_error: AllocFailed<T>) -> Self {
+        Unread::Memory
+    }
+}
+
+impl Unread<'_> {
+    /// The fault for which a program ends.
+    pub fn fault(self) -> Fault
+        ensures { result ≡ fault_of_unread self.entry }
+    {
+        match self {
+            Unread::Memory => Fault::Memory,
+            Unread::NoDictionary => Fault::Usage,
+            Unread::SameNames => Fault::OptionValue,
+            Unread::File(_) => Fault::FileNotReadable,
+        }
+    }
+}
+
+// What was read under a name. More than an input file may have is not readable.
+fn octets_of(name: &str, read: io::Result<Option<Octets>>) -> Result<Octets, Unread<'_>>
+    ensures read { IfOk result (λ octets. read ≡ Ok (Some octets)) }
+    ensures named { IfErr result (λ unread.
+        (unread ≡ Unread.Memory) ⊎ (unread ≡ Unread.File name.entry)) }
+{
+    match read {
+        Ok(Some(octets)) => Ok(octets),
+        Ok(None) => Err(Unread::File(name)),
+        Err(error) => match error.kind() {
+            io::ErrorKind::OutOfMemory => Err(Unread::Memory),
+            _ => Err(Unread::File(name)),
+        },
+    }
+}
+
+/// What a file holds, at most 16,777,216 octets.
+pub fn read_file<'a>(rt: &HostRuntime, path: &'a str) -> Result<Octets, Unread<'a>>
+    ensures { IfErr result (λ unread.
+        (unread ≡ Unread.Memory) ⊎ (unread ≡ Unread.File path.entry)) }
+{
+    match File::open(rt, path) {
+        Ok(file) => octets_of(path, read_input(rt.alloc(), file)),
+        Err(error) => octets_of(path, Err(error)),
+    }
+}
+
+/// What a file holds, if one is named.
+pub fn read_optional<'a>(
+    rt: &HostRuntime,
+    path: Option<&'a str>,
+) -> Result<Option<Octets>, Unread<'a>>
+    ensures given { IfOk result (λ octets. is_some octets ≡ is_some path.entry) }
+    ensures named { IfErr result (λ unread.
+        (unread ≡ Unread.Memory) ⊎ IfSome path.entry (λ p. unread ≡ Unread.File p)) }
+{
+    match path {
+        Some(path) => Ok(Some(read_file(rt, path)?)),
+        None => Ok(None),
+    }
+}
+
+/// What standard input holds, at most 16,777,216 octets.
+pub fn read_standard_input(rt: &HostRuntime) -> Result<Octets, Unread<'static>> {
+    octets_of("-", read_input(rt.alloc(), rt.stdin()))
+}
+
+/// Dictionary files, the main one first, of a plan: [`radpolicy::read_words`] compared their names. For other paths
+/// there is [`read_dictionary_set`].
+pub fn read_dictionaries<'a>(rt: &HostRuntime, paths: &[&'a str]) -> Result<FileSet, Unread<'a>>
+    ensures { IfOk result (λ files. names_of_files files ≡ names_of_paths paths.now) }
+{
+    let mut files = Vec::new(rt.alloc());
+    for path in paths {
+        let octets = read_file(rt, path)?;
+        files.push(NamedFile::at(rt.alloc(), path, octets)?)?;
+    }
+    Ok(FileSet::from_vec(files))
+}
+
+// Files of these names, without what they hold.
+fn empty_files(alloc: Global, paths: &[&str]) -> Result<FileSet, AllocError>
+    ensures { IfOk result (λ files. names_of_files files ≡ names_of_paths paths.now) }
+{
+    let mut files = Vec::new(alloc);
+    for path in paths {
+        let octets = Octets::from_vec(Vec::new(alloc));
+        files.push(NamedFile::at(alloc, path, octets)?)?;
+    }
+    Ok(FileSet::from_vec(files))
+}
+
+/// Dictionary files, the main one first, that a dictionary can be read from. No file is read where none is named, or two
+/// have one last component.
+#[tactic(auto, using(crate::proofs::FileNames::distinct_by_names, crate::proofs::FileNames::some_by_names))]
+pub fn read_dictionary_set<'a>(rt: &HostRuntime, paths: &[&'a str]) -> Result<FileSet, Unread<'a>>
+    ensures named { IfOk result (λ files. names_of_files files ≡ names_of_paths paths.now) }
+    ensures first { IfOk result (λ files. 0 < length files) }
+    ensures distinct { IfOk result (λ files. HasDistinctNames files) }
+{
+    if paths.is_empty() {
+        return Err(Unread::NoDictionary);
+    }
+    if !empty_files(rt.alloc(), paths)?.has_distinct_names() {
+        return Err(Unread::SameNames);
+    }
+    let files = read_dictionaries(rt, paths)?;
+    Ok(files)
+}

@@ -1,0 +1,42 @@
+//! Refusals, as the program shows them: a line on standard error, and an exit status.
+
+ghost use Rattle.std.specs.Prelude.{◌≡◌, []};
+ghost use Rattle.radpolicy_common.specs.Refusals.{fault_of_unread};
+ghost use Rattle.radpolicy.specs.Faults.{IsPrintedWith, status_of};
+
+use crate::files::Unread;
+use avp_dict::FileSet;
+use radpolicy::{Fault, WriteOutput, print_fault, status};
+
+/// Prints a fault's line, and gives its status, which is that of the fault even if the line could not be printed.
+pub fn refuse(rt: &HostRuntime, fault: &Fault, files: &FileSet) -> u8
+    requires { IsPrintedWith files.now fault.now }
+    ensures { result ≡ status_of fault.now }
+{
+    let mut out = WriteOutput::new(rt.stderr());
+    let _ = print_fault(fault, files, &mut out);
+    status(fault)
+}
+
+/// The same before any file was read.
+pub fn refuse_early(rt: &HostRuntime, fault: &Fault) -> u8
+    requires { IsPrintedWith [] fault.now }
+    ensures { result ≡ status_of fault.now }
+{
+    refuse(rt, fault, &FileSet::from_vec(Vec::new(rt.alloc())))
+}
+
+/// Prints the line of files that were not all read, and gives its status: want of memory is E09, no dictionary file E01,
+/// two of one name E02, and a file that was not readable E04 with its path.
+pub fn refuse_unread(rt: &HostRuntime, unread: Unread<'_>) -> u8
+    ensures { result ≡ status_of (fault_of_unread unread.entry) }
+{
+    let fault = unread.fault();
+    match unread {
+        Unread::File(path) => {
+            let _ = eprintln!(rt; "radpolicy: E04 {path}: {fault}");
+            status(&fault)
+        }
+        _ => refuse_early(rt, &fault),
+    }
+}
