@@ -1,11 +1,11 @@
 -- Whether files have distinct names depends on their names alone, and so does how many there are.
-use Rattle.std.proofs.Common.{◌≡◌, ◌∙◌, ℕ, ◌<◌, Bool, true, not, ◌&&◌, ◌||◌, List, [], ◌∷◌, length, map, ap, sym, refl, subst, arith}
+use Rattle.std.proofs.Common.{◌≡◌, ◌∙◌, ℕ, ◌<◌, Bool, true, not, ◌&&◌, ◌||◌, List, [], ◌∷◌, length, ap, sym, refl, arith}
 use Rattle.std.specs.List.{list_any}
 use Rattle.std.specs.Borrow.{Bor}
 use Rattle.std.specs.Str.{bytes_eq}
 use Rattle.std.proofs.lemmas.List.{length-map}
 use Rattle.avp_dict.specs.declared.file.files.NamedFile.{NamedFile}
-use Rattle.avp_dict.specs.Lines.{HasDistinctNames, has_name, last_component, names_differ}
+use Rattle.avp_dict.specs.Lines.{HasDistinctNames, has_name, names_differ}
 use Rattle.radpolicy.specs.Plans.{names_of_files, names_of_paths}
 
 abbrev differ : List (List ℕ) → Bool

@@ -1,8 +1,10 @@
 //! What goes to a terminal: colours, and texts from requests and policies without control characters.
 
 ghost use Rattle.std.specs.Prelude.{◌≡◌, ◌≤◌, ◌++◌, true, length, IfOk, OnOk};
+ghost use Rattle.std.specs.Str.{IsUtf8};
 ghost use Rattle.avp_dict.specs.Quotes.{octal_escape};
-ghost use Rattle.radpolicy_common.specs.VisibleText.{all_visible, is_visible};
+ghost use Rattle.radpolicy_common.specs.declared.terminals.LineBreaks.{LineBreaks};
+ghost use Rattle.radpolicy_common.specs.VisibleText.{all_visible, begins_control, is_visible, octet_shown, text_shown};
 
 use std::alloc::{AllocError, Global};
 use std::env::VarError;
@@ -81,7 +83,9 @@ fn is_visible(octet: u8, breaks: LineBreaks) -> bool
 
 // `\` and three octal digits.
 fn push_octal(text: &mut Vec<u8>, octet: u8) -> Result<(), AllocError>
-    ensures { OnOk result (text.new.items ≡ text.old.items ++ octal_escape octet) }
+    ensures digits { OnOk result (text.new.items ≡ text.old.items ++ octal_escape octet) }
+    ensures visible { (breaks : LineBreaks)
+        → OnOk result (all_visible breaks (octal_escape octet) ≡ true) }
 {
     text.push(b'\\')?;
     text.push(b'0' + octet / 64)?;
@@ -90,11 +94,9 @@ fn push_octal(text: &mut Vec<u8>, octet: u8) -> Result<(), AllocError>
     Ok(())
 }
 
-// An octet of a text in UTF-8, as it is or as octal digits.
-#[tactic(auto, using(crate::proofs::Visibility::octal_is_visible, crate::proofs::Visibility::one_is_visible, crate::proofs::Visibility::joined_is_visible))]
+// An octet as it is, or in octal digits.
 fn push_octet(text: &mut Vec<u8>, octet: u8, breaks: LineBreaks) -> Result<(), AllocError>
-    requires { all_visible breaks text.old.items ≡ true }
-    ensures { OnOk result (all_visible breaks text.new.items ≡ true) }
+    ensures { OnOk result (text.new.items ≡ text.old.items ++ octet_shown breaks octet) }
 {
     if !is_visible(octet, breaks) {
         return push_octal(text, octet);
@@ -103,32 +105,39 @@ fn push_octet(text: &mut Vec<u8>, octet: u8, breaks: LineBreaks) -> Result<(), A
     Ok(())
 }
 
-// A text in UTF-8. The characters from U+0080 to U+009F are control characters too.
-#[tactic(auto, using(crate::proofs::Visibility::octal_is_visible, crate::proofs::Visibility::one_is_visible, crate::proofs::Visibility::joined_is_visible))]
+// Whether a control character from U+0080 to U+009F comes first.
+fn begins_control(octets: &[u8]) -> bool
+    ensures test { result ≡ begins_control octets.now }
+    ensures within { result ≡ true → 2 ≤ length octets.now }
+{
+    matches!(octets, [0xc2, 0x80..=0x9f, ..])
+}
+
+// A text in UTF-8.
+#[tactic(auto, using(crate::proofs::Visibility::taken_over))]
 fn push_text(text: &mut Vec<u8>, octets: &[u8], breaks: LineBreaks) -> Result<(), AllocError>
-    requires { all_visible breaks text.old.items ≡ true }
-    ensures { OnOk result (all_visible breaks text.new.items ≡ true) }
+    ensures shown { OnOk result
+        (text.new.items ≡ text.old.items ++ text_shown breaks 0 octets.now) }
+    ensures visible { OnOk result (all_visible breaks (text_shown breaks 0 octets.now) ≡ true) }
 {
     let mut rest = octets;
-    loop {
-        match rest {
-            [] => return Ok(()),
-            [0xc2, second @ 0x80..=0x9f, later @ ..] => {
-                push_octal(text, 0xc2)?;
-                push_octal(text, *second)?;
-                rest = later;
-            }
-            [octet, later @ ..] => {
-                push_octet(text, *octet, breaks)?;
-                rest = later;
-            }
+    while let [octet, later @ ..] = rest {
+        if begins_control(rest) {
+            push_octal(text, *octet)?;
+            push_octal(text, rest[1])?;
+            rest = &rest[2..];
+        } else {
+            push_octet(text, *octet, breaks)?;
+            rest = later;
         }
     }
+    Ok(())
 }
 
 // How many octets at the front are UTF-8.
 fn text_length(octets: &[u8]) -> usize
-    ensures { result ≤ length octets.now }
+    ensures within { result ≤ length octets.now }
+    ensures whole { IsUtf8 octets.now → result ≡ length octets.now }
 {
     match std::str::from_utf8(octets) {
         Ok(text) => text.len(),
@@ -138,9 +147,11 @@ fn text_length(octets: &[u8]) -> usize
 
 /// Octets as they may be shown on a terminal: control characters (below 0x20, 0x7f, and U+0080 to U+009F) and octets that
 /// are no UTF-8 as `\` and three octal digits each. LF and TAB are kept where that is asked for.
-#[tactic(auto, using(crate::proofs::Visibility::octal_is_visible, crate::proofs::Visibility::one_is_visible, crate::proofs::Visibility::joined_is_visible))]
+#[tactic(auto, using(crate::proofs::Visibility::joined_is_visible))]
 pub fn visible_text(alloc: Global, octets: &[u8], breaks: LineBreaks) -> Result<Vec<u8>, AllocError>
-    ensures { IfOk result (λ text. all_visible breaks text.items ≡ true) }
+    ensures visible { IfOk result (λ text. all_visible breaks text.items ≡ true) }
+    ensures text { IsUtf8 octets.now
+        → IfOk result (λ text. text.items ≡ text_shown breaks 0 octets.now) }
 {
     let mut text = Vec::new(alloc);
     let mut rest = octets;

@@ -5,10 +5,6 @@ ghost use Rattle.std.specs.Option.{option_copied};
 ghost use Rattle.radpolicy_common.specs.Words.{reason_text};
 
 /// Why an update line failed, by the number that its label has; none where no reason has the number.
-///
-/// ```rust
-/// assert_eq!(rt; reason_text(1), Some("the source is absent"));
-/// ```
 pub fn reason_text(number: u8) -> Option<&'static str>
     ensures { option_copied result ≡ reason_text number }
 {
