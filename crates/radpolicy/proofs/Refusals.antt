@@ -7,8 +7,9 @@ use Rattle.avp_unlang.specs.declared.faults.PolicyKind.TheVariants as kind
 use Rattle.avp_dict.specs.Dictionary.{Dictionary}
 use Rattle.avp_unlang.specs.declared.tree.Statement.{Statement}
 use Rattle.radpolicy.specs.declared.jobs.Job.{Job}
+use Rattle.avp_unlang.specs.Policies.{SpellsPolicy}
 use Rattle.radpolicy.specs.Faults.{fault_of_policy}
-use Rattle.radpolicy.specs.JobReports.{IsCheckedPolicyRefusal, IsOpened, IsPolicy, IsPolicyFault, IsPolicyRefusal, Opened, dictionary_for}
+use Rattle.radpolicy.specs.JobReports.{IsCheckedPolicyRefusal, IsPolicy, IsPolicyFault, IsUnspelled, dictionary_for}
 
 is_policy_fault : (line : ℕ) (k : PolicyKind) → let f : PolicyFault = record { line = line; kind = k } in (fault_of_policy f ≡ Memory) ⊎ (IsPolicyFault (fault_of_policy f) × (k ≢ kind.Memory))
 is_policy_fault line kind.NotValue = inr ((λ e. cc), (λ e. cc))
@@ -22,10 +23,11 @@ is_policy_fault line kind.TooLarge = inr ((λ e. cc), (λ e. cc))
 is_policy_fault line kind.OtherType = inr ((λ e. cc), (λ e. cc))
 is_policy_fault line kind.Memory = inl refl
 
-pub policy_refused : (job : Job) (f : PolicyFault) (o : Opened) → IsOpened job o → (f.kind ≢ kind.Memory → (statements : List Statement) → IsPolicy job o.dictionary statements → ⊥) → (fault_of_policy f ≡ Memory) ⊎ IsPolicyRefusal job (fault_of_policy f)
-policy_refused job f o opens none = elim (is_policy_fault f.line f.kind) [
+-- a policy's fault is want of memory, or the fault of a text that spells none
+pub unspelled : (dictionary : Dictionary) (text : List ℕ) (f : PolicyFault) → (f.kind ≢ kind.Memory → (statements : List Statement) → SpellsPolicy dictionary text statements → ⊥) → (fault_of_policy f ≡ Memory) ⊎ IsUnspelled dictionary text (fault_of_policy f)
+unspelled dictionary text f none = elim (is_policy_fault f.line f.kind) [
   | inl memory ↦ inl memory
-  | inr found ↦ inr (record { opened = o; opens = opens; none = none found.1; fault = found.0 })
+  | inr found ↦ inr (record { none = none found.1; fault = found.0 })
 ]
 
 pub checked_refused : (job : Job) (f : PolicyFault) (d : Dictionary) → dictionary_for job ≡ Ok d → job.policy ≢ None → (f.kind ≢ kind.Memory → (statements : List Statement) → IsPolicy job d statements → ⊥) → (fault_of_policy f ≡ Memory) ⊎ IsCheckedPolicyRefusal job (fault_of_policy f)

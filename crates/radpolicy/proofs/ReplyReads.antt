@@ -2,6 +2,7 @@
 use Rattle.std.proofs.Common.{◌≡◌, ◌∙◌, ℕ, Bool, true, false, nat_le, cond, List, [], length, Option, Some, None, refl, sym, ap, subst}
 use Rattle.avp_lists.specs.declared.pairs.Pair.{Pair}
 use Rattle.avp_dict.specs.Dictionary.{Dictionary}
+use Rattle.avp_dict.specs.Sent.{is_clean}
 use Rattle.avp_packet.specs.Means.{Means}
 use Rattle.avp_packet.specs.Packets.{attributes_of, code_of, hiding_authenticator, is_reply, max_packet_octets, packet, pairs_meant, reply, reply_content}
 use Rattle.avp_packet.specs.Sending.{Content}
@@ -29,7 +30,7 @@ module _ (dictionary : Dictionary) (head : ReplyHead) (last : Code) (pairs : Lis
   -- nothing is sent without a code
   pub nothing_read : reply_code head.code last ≡ None → AnswerIsRead dictionary head last pairs
   unfolding AnswerIsRead answered_by
-  nothing_read none = λ authenticator octets e sends. absurd (let nothing : Nothing ≡ Sent octets = rw none at sends in cc)
+  nothing_read none = λ clean proxies authenticator octets e sends. absurd (let nothing : Nothing ≡ Sent octets = rw none at sends in cc)
 
   module _ (code : ℕ) (authenticator os : List ℕ) (coded : reply_code head.code last ≡ Some code) (known : head.authenticator ≡ Some authenticator) where
     abbrev made : List ℕ
@@ -39,11 +40,12 @@ module _ (dictionary : Dictionary) (head : ReplyHead) (last : Code) (pairs : Lis
     content = reply_content head.signed (reply_pairs last pairs) head.proxy_states.items
 
     pub sent_read : os ≡ made → is_reply os authenticator head.secret.now ≡ true → left (attributes_of os) ≡ []
-        → Means dictionary head.secret.now (hiding_authenticator code authenticator) (parts (attributes_of os)) (pairs_meant dictionary head.secret.now code head.id authenticator content)
+        → (is_clean pairs dictionary ≡ true → is_clean head.proxy_states.items dictionary ≡ true
+        → Means dictionary head.secret.now (hiding_authenticator code authenticator) (parts (attributes_of os)) (pairs_meant dictionary head.secret.now code head.id authenticator content))
         → (head.signed ≡ true → is_signed os authenticator head.secret.now ≡ true)
         → AnswerIsRead dictionary head last pairs
     unfolding AnswerIsRead answered_by
-    sent_read is accepted whole means signed = λ a octets e sends.
+    sent_read is accepted whole means signed = λ clean proxies a octets e sends.
         let same_authenticator : authenticator ≡ a = cc in
         let within : sent_or_too_long (within_packet made) ≡ Sent octets = rw (coded, known) at sends in
         let same : os ≡ octets = is ∙ within_by (nat_le (length made) max_packet_octets) made octets (sent_inverts (within_packet made) octets within) in
@@ -52,7 +54,7 @@ module _ (dictionary : Dictionary) (head : ReplyHead) (last : Code) (pairs : Lis
           accepted = accepted;
           whole = whole;
           means =
-              subst (λ (c : ℕ). Means dictionary head.secret.now (hiding_authenticator c authenticator) (parts (attributes_of os)) (pairs_meant dictionary head.secret.now c head.id authenticator content)) (sym own) means;
+              subst (λ (c : ℕ). Means dictionary head.secret.now (hiding_authenticator c authenticator) (parts (attributes_of os)) (pairs_meant dictionary head.secret.now c head.id authenticator content)) (sym own) (means clean proxies);
           signed = signed;
         } in
         let by_octets = subst (λ (xs : List ℕ). IsRead dictionary head.secret.now head.id authenticator xs content) same read in

@@ -23,7 +23,7 @@ use Rattle.radpolicy.specs.declared.replies.ReplyHead.{ReplyHead}
 use Rattle.radpolicy.specs.internal.Fitting.{AllFit}
 use Rattle.radpolicy.specs.Replies.{Sent, answer_of, answered_authenticator, proxy_states, reply_code, reply_pairs, reply_with, signs_reply}
 use Rattle.avp_unlang.specs.Meaning.{Outcome as End}
-use Rattle.radpolicy.specs.internal.ReplyHeads.{AnswerIsRead, IsHeadOf, IsLineHead, LineIsRead, answered_by}
+use Rattle.radpolicy.specs.internal.ReplyHeads.{AnswerIsRead, IsHeadOf, IsHeadFor, SentIsRead, answered_by}
 
 module _ (dictionary : Dictionary) (signed : Bool) (pairs : List Pair) where
   same_reply : (key : List ℕ) (id : ℕ) (a b : Option (List ℕ)) (proxies others : List Pair) (code : Option ℕ) → a ≡ b → proxies ≡ others → reply_with dictionary key id a signed pairs proxies code ≡ reply_with dictionary key id b signed pairs others code
@@ -103,14 +103,16 @@ module _ (dictionary : Dictionary) where
 
   -- what a head's reply is read as is what the run's is
   pub read_by : (head : ReplyHead) (form : Form) (key : List ℕ) (r : Packet) (end : End) (last : Code) (pairs : List Pair) → IsHeadOf form dictionary key r head → end.code ≡ last → pairs ≡ end.state.reply
+      → is_clean pairs dictionary ≡ true → is_clean (proxy_states r) dictionary ≡ true
       → AnswerIsRead dictionary head last pairs → ReplyIsRead form dictionary key r end
   unfolding AnswerIsRead
-  read_by head form key r end last pairs is code reply read = λ authenticator octets answered sends.
+  read_by head form key r end last pairs is code reply clean proxies read = λ authenticator octets answered sends.
       let own : answered_by dictionary head end.code end.state.reply ≡ answer_of form dictionary head.secret.now r end =
       head_answers dictionary head form r is.code is.id (is.authenticator ∙ ap (λ k. answered_authenticator form dictionary k r) (sym is.secret)) is.proxies is.signed end in
       let sent_by : answered_by dictionary head last pairs ≡ Sent octets =
       ap (λ c. answered_by dictionary head c pairs) (sym code) ∙ ap (λ ps. answered_by dictionary head end.code ps) reply ∙ own ∙ ap (λ k. answer_of form dictionary k r end) is.secret ∙ sends in
-      let known = read authenticator octets (is.authenticator ∙ answered) sent_by in
+      let clean_own : is_clean head.proxy_states.items dictionary ≡ true = ap (λ (ps : List Pair). is_clean ps dictionary) is.proxies ∙ proxies in
+      let known = read clean clean_own authenticator octets (is.authenticator ∙ answered) sent_by in
       let by_id = subst (λ (n : ℕ). IsRead dictionary head.secret.now n authenticator octets (reply_content head.signed (reply_pairs last pairs) head.proxy_states.items)) is.id known in
       let by_key = subst (λ (k : List ℕ). IsRead dictionary k r.id authenticator octets (reply_content head.signed (reply_pairs last pairs) head.proxy_states.items)) is.secret by_id in
       let by_signed = subst (λ (t : Bool). IsRead dictionary key r.id authenticator octets (reply_content t (reply_pairs last pairs) head.proxy_states.items)) is.signed by_key in
@@ -119,25 +121,26 @@ module _ (dictionary : Dictionary) where
       subst (λ (ps : List Pair). IsRead dictionary key r.id authenticator octets (reply_content (signs_reply r) (reply_pairs end.code ps) (proxy_states r))) reply by_code
 
   -- the same where there may be no secret
-  pub line_read_by : (head : Option ReplyHead) (form : Form) (key : Option (List ℕ)) (r : Packet) (end : End) (last : Code) (pairs : List Pair) → IsLineHead form dictionary key r head → end.code ≡ last → pairs ≡ end.state.reply
-      → LineIsRead dictionary head last pairs → (secret : List ℕ) → key ≡ Some secret → ReplyIsRead form dictionary secret r end
-  unfolding LineIsRead
-  line_read_by head form None r end last pairs is code reply read secret e = absurd (cc)
-  line_read_by None form (Some k) r end last pairs is code reply read secret e = absurd is
-  line_read_by (Some head) form (Some k) r end last pairs is code reply read secret e =
+  pub sent_read_by : (head : Option ReplyHead) (form : Form) (key : Option (List ℕ)) (r : Packet) (end : End) (last : Code) (pairs : List Pair) → IsHeadFor form dictionary key r head → end.code ≡ last → pairs ≡ end.state.reply
+      → is_clean pairs dictionary ≡ true → is_clean (proxy_states r) dictionary ≡ true
+      → SentIsRead dictionary head last pairs → (secret : List ℕ) → key ≡ Some secret → ReplyIsRead form dictionary secret r end
+  unfolding SentIsRead
+  sent_read_by head form None r end last pairs is code reply clean proxies read secret e = absurd (cc)
+  sent_read_by None form (Some k) r end last pairs is code reply clean proxies read secret e = absurd is
+  sent_read_by (Some head) form (Some k) r end last pairs is code reply clean proxies read secret e =
       let same : k ≡ secret = cc in
-      subst (λ (s : List ℕ). ReplyIsRead form dictionary s r end) same (read_by head form k r end last pairs is code reply (read head refl))
+      subst (λ (s : List ℕ). ReplyIsRead form dictionary s r end) same (read_by head form k r end last pairs is code reply clean proxies (read head refl))
 
   pub none_clean : is_clean [] dictionary ≡ true
   unfolding is_clean
   none_clean = refl
 
-  pub head_read : (head : Option ReplyHead) (own : ReplyHead) (last : Code) (pairs : List Pair) → head ≡ Some own → AnswerIsRead dictionary own last pairs → LineIsRead dictionary head last pairs
-  unfolding LineIsRead
+  pub head_read : (head : Option ReplyHead) (own : ReplyHead) (last : Code) (pairs : List Pair) → head ≡ Some own → AnswerIsRead dictionary own last pairs → SentIsRead dictionary head last pairs
+  unfolding SentIsRead
   head_read head own last pairs is read = λ other e. let same : own ≡ other = cc in subst (λ (h : ReplyHead). AnswerIsRead dictionary h last pairs) same read
 
-  pub none_read : (head : Option ReplyHead) (last : Code) (pairs : List Pair) → head ≡ None → LineIsRead dictionary head last pairs
-  unfolding LineIsRead
+  pub none_read : (head : Option ReplyHead) (last : Code) (pairs : List Pair) → head ≡ None → SentIsRead dictionary head last pairs
+  unfolding SentIsRead
   none_read head last pairs is = λ other e. absurd (cc)
 
 pub ok_map : {A E : Type 0} (P Q : Type 0) (r : Result A E) → (P → Q) → OnOk r P → OnOk r Q

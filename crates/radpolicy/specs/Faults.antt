@@ -92,6 +92,8 @@ fault_row fault.Write = numbered 7 (codes "write fault")
 fault_row fault.Memory = out_of_memory
 fault_row (fault.Dictionary f) = dict_fault_row f.kind
 fault_row (fault.Request f) = line_fault_row f.kind
+fault_row (fault.Reply f) = line_fault_row f.kind
+fault_row (fault.Control f) = line_fault_row f.kind
 fault_row (fault.Packet f) = packet_fault_row f
 fault_row fault.PacketTooLong = numbered 46 (codes "packet too long")
 fault_row (fault.Policy f) = policy_fault_row f.kind
@@ -120,6 +122,8 @@ abbrev pub place_of : List NamedFile → Fault → List ℕ
 place_of files (fault.Dictionary f) =
     codes " " ++ name_at files f.file ++ codes ":" ++ decimal f.line
 place_of files (fault.Request f) = codes " request:" ++ decimal f.line
+place_of files (fault.Reply f) = codes " reply:" ++ decimal f.line
+place_of files (fault.Control f) = codes " control:" ++ decimal f.line
 place_of files (fault.Policy f) = codes " policy:" ++ decimal f.line
 place_of files (fault.ScriptWord line) = codes " script:" ++ decimal line
 place_of files (fault.Packet (packet.BadAttribute offset)) = codes " offset " ++ decimal offset
@@ -162,6 +166,22 @@ fault_of_line f = of_kind f.kind
     of_kind line.Memory = fault.Memory
     of_kind _ = fault.Request f
 
+-- the fault of a run whose initial reply list was refused
+abbrev pub fault_of_reply_line : LineFault → Fault
+fault_of_reply_line f = of_kind f.kind
+  where
+    of_kind : LineKind → Fault
+    of_kind line.Memory = fault.Memory
+    of_kind _ = fault.Reply f
+
+-- the fault of a run whose initial control list was refused
+abbrev pub fault_of_control_line : LineFault → Fault
+fault_of_control_line f = of_kind f.kind
+  where
+    of_kind : LineKind → Fault
+    of_kind line.Memory = fault.Memory
+    of_kind _ = fault.Control f
+
 -- the fault of a job whose packet was refused
 abbrev pub fault_of_packet : PacketFault → Fault
 fault_of_packet packet.Memory = fault.Memory
@@ -199,6 +219,10 @@ NamesFileOf files _ = Unit {0}
 -- the line of the fault can be printed with these files
 abbrev pub IsPrintedWith : List NamedFile → Fault → Type 0
 IsPrintedWith files f = IsPrinted f × NamesFileOf files f
+
+-- the line of the fault can be printed with any files, as it names none
+abbrev pub IsPrintedAnywhere : Fault → Type 0
+IsPrintedAnywhere f = (files : List NamedFile) → IsPrintedWith files f
 
 -- what the words of a command line are refused for
 abbrev pub IsWordFault : Fault → Type 0

@@ -202,6 +202,11 @@ abbrev pub IsPolicyFault : Fault → Type 0
 IsPolicyFault (fault.Policy f) = f.kind ≢ policy.Memory
 IsPolicyFault _ = ⊥
 
+-- A text spells no policy by a dictionary. Which fault of it comes, and its line, is left open.
+pub record IsUnspelled (dictionary : Dictionary) (text : List ℕ) (f : Fault) : Type 0 where
+  pub none : (statements : List Statement) → SpellsPolicy dictionary text statements → ⊥
+  pub fault : IsPolicyFault f
+
 -- The policy spells no statements. Which fault of it comes, and its line, is left open.
 pub record IsPolicyRefusal (job : Job) (f : Fault) : Type 0 where
   pub opened : Opened

@@ -5,7 +5,10 @@ pub mod Received
 pub mod Replies
 pub mod ReplyMeaning
 pub mod Reports
+pub mod RunOutcomes
 pub mod Scripts
 pub mod Secrets
+pub mod StartRefusals
+pub mod Starts
 pub mod Writing
 pub mod internal

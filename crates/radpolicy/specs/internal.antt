@@ -1,3 +1,4 @@
 pub mod Fitting
 pub mod ReplyHeads
 pub mod ScriptReading
+pub mod Starting

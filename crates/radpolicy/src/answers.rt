@@ -10,6 +10,10 @@ ghost use Rattle.radpolicy.specs.Plans.{IsSound, asked_by_job};
 ghost use Rattle.radpolicy.specs.ReplyMeaning.{IsRunRead};
 ghost use Rattle.radpolicy.specs.Reports.{Report};
 ghost use Rattle.radpolicy.specs.Secrets.{secret_for};
+ghost use Rattle.radpolicy.specs.Starts.{start_of};
+ghost use Rattle.radpolicy.specs.Received.{IsUnreadRequest, request_for};
+ghost use Rattle.radpolicy.specs.Replies.{proxy_states};
+ghost use Rattle.avp_dict.specs.Sent.{is_clean};
 ghost use Rattle.radpolicy.specs.Writing.{AppendsFrontOf};
 ghost use Rattle.radpolicy.specs.declared.faults.Fault.TheVariants as fault;
 ghost use Rattle.radpolicy.specs.declared.faults.Fault.{Fault};
@@ -19,6 +23,7 @@ ghost use Rattle.radpolicy.specs.declared.jobs.Form.TheVariants.{Hex as InHex};
 use crate::faults::Fault;
 use crate::jobs::{Command, Job, Outcome};
 use crate::outputs::{Output, put_all};
+use crate::prepared::PreparedPolicy;
 use crate::reports::checks::text_of_check;
 use crate::reports::runs::report_of_run;
 use crate::reports::texts::{packet_text, push_packet};
@@ -26,10 +31,11 @@ use crate::reports::walks::report_of_walk;
 use crate::reports::{Report, plain_report};
 use crate::requests::request_for;
 use crate::scripts::{ScriptWord, read_script};
-use crate::secrets::{Secret, secret_in};
+use crate::secrets::Secret;
+use crate::starts::Start;
 use avp_dict::Dictionary;
 use avp_packet::encode_request;
-use avp_unlang::{Policy, read_policy, size};
+use avp_unlang::{read_policy, size};
 use std::alloc::Global;
 
 // The policy's text.
@@ -62,10 +68,7 @@ fn secret_for(job: &Job) -> Result<Option<Secret<'_>>, Fault>
 {
     match &job.secret {
         None => Ok(None),
-        Some(file) => match secret_in(file.as_slice()) {
-            Some(secret) => Ok(Some(secret)),
-            None => Err(Fault::EmptySecret),
-        },
+        Some(file) => Ok(Some(Secret::in_file(file.as_slice())?)),
     }
 }
 
@@ -91,21 +94,41 @@ fn open<'a>(alloc: Global, job: &'a Job) -> Result<Opened<'a>, Fault>
 }
 
 // Reads the policy.
-fn policy_for(
+fn policy_for<'a>(
     alloc: Global,
-    dictionary: &Dictionary,
+    dictionary: &'a Dictionary,
     secret: Option<&Secret<'_>>,
     job: &Job,
-) -> Result<Policy, Fault>
+) -> Result<PreparedPolicy<'a>, Fault>
     requires opened { IsOpened job.now (opened dictionary.now (option_copied secret)) }
-    ensures ok { IfOk result (λ policy. IsPolicy job.now dictionary.now policy) }
+    ensures ok { IfOk result (λ policy. IsPolicy job.now dictionary.now policy.statements) }
+    ensures dictionary { IfOk result (λ policy. policy.dictionary ≡ dictionary.now) }
     ensures refused { IfErr result (MemoryOr (IsPolicyRefusal job.now)) }
     ensures printed { IfErr result (IsPrintedWith job.now.files) }
 {
-    match read_policy(alloc, dictionary, policy_of(job)) {
-        Ok(policy) => Ok(policy),
-        Err(fault) => Err(Fault::from(fault)),
-    }
+    PreparedPolicy::read(alloc, dictionary, policy_of(job))
+}
+
+// What the job's run begins with.
+fn start_for<'a>(
+    alloc: Global,
+    prepared: &'a PreparedPolicy<'a>,
+    secret: Option<&'a Secret<'a>>,
+    job: &Job,
+) -> Result<Start<'a>, Fault>
+    requires hex { job.now.form ≡ InHex → secret ≢ None }
+    ensures received { IfOk result (λ start. request_for prepared.entry.now.dictionary
+        (option_copied secret.entry) job.now ≡ Ok start.request) }
+    ensures start { IfOk result (λ start. start ≡ start_of prepared.entry.now
+        (option_copied secret.entry) job.now.form start.request) }
+    ensures proxies { IfOk result (λ start. is_clean (proxy_states start.request)
+        prepared.entry.now.dictionary ≡ true) }
+    ensures refused { IfErr result (λ f. (f ≡ fault.Memory) ⊎ IsUnreadRequest f
+        (request_for prepared.entry.now.dictionary (option_copied secret.entry) job.now)) }
+    ensures printed { IfErr result (IsPrintedWith job.now.files) }
+{
+    let request = request_for(alloc, prepared.dictionary(), secret, job)?;
+    Ok(Start::new(alloc, prepared, secret, job.form, request))
 }
 
 // The report of a run, in the order in which it is refused.
@@ -124,8 +147,8 @@ fn run_report_of(
     ensures printed { IfErr result (IsPrintedWith job.now.files) }
 {
     let policy = policy_for(alloc, dictionary, secret, job)?;
-    let request = request_for(alloc, dictionary, secret, job)?;
-    report_of_run(alloc, dictionary, job.form, secret, &policy, request)
+    let start = start_for(alloc, &policy, secret, job)?;
+    report_of_run(alloc, start)
 }
 
 // The script's text.
@@ -164,8 +187,8 @@ fn step_report_of(
 {
     let policy = policy_for(alloc, dictionary, secret, job)?;
     let script = script_for(alloc, job)?;
-    let request = request_for(alloc, dictionary, secret, job)?;
-    Ok(report_of_walk(alloc, dictionary, &policy, &script, request)?)
+    let start = start_for(alloc, &policy, secret, job)?;
+    Ok(report_of_walk(alloc, &script, start)?)
 }
 
 // The report of `encode`, in the order in which it is refused.

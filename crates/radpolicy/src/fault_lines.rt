@@ -46,6 +46,10 @@ fn put_place_of<O: Output>(
         Fault::Request(fault) => {
             put_parts(out, &[b" request:", digits.format(fault.line).as_bytes()])
         }
+        Fault::Reply(fault) => put_parts(out, &[b" reply:", digits.format(fault.line).as_bytes()]),
+        Fault::Control(fault) => {
+            put_parts(out, &[b" control:", digits.format(fault.line).as_bytes()])
+        }
         Fault::Policy(fault) => {
             put_parts(out, &[b" policy:", digits.format(fault.line).as_bytes()])
         }

@@ -2,7 +2,7 @@
 
 ghost use Rattle.std.specs.Prelude.{◌≡◌};
 ghost use Rattle.radpolicy.specs.declared.faults.Fault.TheVariants.{Memory};
-ghost use Rattle.radpolicy.specs.Faults.{dict_fault_row, fault_number, fault_of_dict, fault_of_encode, fault_of_line, fault_of_packet, fault_of_policy, fault_row, fault_text, is_memory, line_fault_row, numbered, out_of_memory, packet_fault_row, policy_fault_row, status_of};
+ghost use Rattle.radpolicy.specs.Faults.{dict_fault_row, fault_number, fault_of_control_line, fault_of_dict, fault_of_encode, fault_of_line, fault_of_packet, fault_of_policy, fault_of_reply_line, fault_row, fault_text, is_memory, line_fault_row, numbered, out_of_memory, packet_fault_row, policy_fault_row, status_of};
 
 use avp_dict::{DictFault, DictKind, LineFault, LineKind};
 use avp_packet::{EncodeFault, PacketFault};
@@ -26,6 +26,10 @@ pub enum Fault {
     Memory,
     Dictionary(DictFault),
     Request(LineFault),
+    /// A fault of the reply list with which a run is to begin.
+    Reply(LineFault),
+    /// A fault of the control list with which a run is to begin.
+    Control(LineFault),
     Packet(PacketFault),
     PacketTooLong,
     Policy(PolicyFault),
@@ -50,6 +54,26 @@ impl From<LineFault> for Fault {
             LineKind::Memory => Fault::Memory,
             _ => Fault::Request(fault),
         }
+    }
+}
+
+// The fault of the lines of an initial reply list.
+pub(crate) fn fault_of_reply_line(fault: LineFault) -> Fault
+    ensures { result ≡ fault_of_reply_line fault }
+{
+    match fault.kind {
+        LineKind::Memory => Fault::Memory,
+        _ => Fault::Reply(fault),
+    }
+}
+
+// The fault of the lines of an initial control list.
+pub(crate) fn fault_of_control_line(fault: LineFault) -> Fault
+    ensures { result ≡ fault_of_control_line fault }
+{
+    match fault.kind {
+        LineKind::Memory => Fault::Memory,
+        _ => Fault::Control(fault),
     }
 }
 
@@ -215,22 +239,24 @@ impl Fault {
             Fault::Write => numbered(7, "write fault"),
             Fault::Memory => out_of_memory(),
             Fault::Dictionary(fault) => dict_fault_row(fault.kind),
-            Fault::Request(fault) => line_fault_row(fault.kind),
+            Fault::Request(fault) | Fault::Reply(fault) | Fault::Control(fault) => {
+                line_fault_row(fault.kind)
+            }
             Fault::Packet(fault) => packet_fault_row(fault),
             Fault::PacketTooLong => numbered(46, "packet too long"),
             Fault::Policy(fault) => policy_fault_row(fault.kind),
         }
     }
 
-    // The number that its line shows after the letter E; 0 for the help.
-    pub(crate) fn number(self) -> u8
+    /// The number that its line shows after the letter E; 0 for the help.
+    pub fn number(self) -> u8
         ensures { result ≡ fault_number self }
     {
         self.row().number
     }
 
-    // What its line says.
-    pub(crate) fn text(self) -> &'static str
+    /// What its line says of its kind, without a place.
+    pub fn text(self) -> &'static str
         ensures { result.now ≡ fault_text self }
     {
         self.row().text

@@ -8,15 +8,18 @@ ghost use Rattle.radpolicy.specs.internal.Fitting.{AllFit};
 ghost use Rattle.avp_dict.specs.AttributeNumbers.{proxy_state};
 ghost use Rattle.avp_packet.specs.Packets.{IsReplyCode, IsRequestCode, accounting_request, accounting_response, authenticator_of};
 ghost use Rattle.avp_packet.specs.Sending.{message_authenticator_id};
-ghost use Rattle.radpolicy.specs.Replies.{answer_of, answered_authenticator, proxy_states, reply_code, reply_pairs, request_packet, signs_reply};
-ghost use Rattle.radpolicy.specs.internal.ReplyHeads.{AnswerIsRead, IsAnswer, IsHeadOf, IsUsable, answered_by};
-ghost use Rattle.avp_dict.specs.Sent.{is_clean};
+ghost use Rattle.radpolicy.specs.Replies.{answer_of, answered_authenticator, reply_code, reply_pairs, request_packet, signs_reply};
+ghost use Rattle.radpolicy.specs.internal.ReplyHeads.{AnswerIsRead, IsAnswer, IsHeadOf, IsSent, IsUsable, SentIsRead, answered_by, sent_by};
+ghost use Rattle.radpolicy.specs.RunOutcomes.{reply_of};
+ghost use Rattle.avp_lists.specs.History.{present};
+ghost use Rattle.avp_unlang.specs.Resolutions.{StateFits};
 ghost use Rattle.avp_unlang.specs.Meaning.{Outcome as End};
 
 use crate::jobs::Form;
+use crate::run_outcomes::Reply;
 use crate::secrets::Secret;
 use avp_dict::Dictionary;
-use avp_lists::{AttrId, Pair, copy_pair};
+use avp_lists::{AttrId, List, Octets, Pair, Store, copy_pair};
 use avp_packet::{
     ACCESS_ACCEPT, ACCESS_REJECT, ACCESS_REQUEST, ACCOUNTING_REQUEST, ACCOUNTING_RESPONSE,
     EncodeFault, Packet, encode_reply, encoded_authenticator,
@@ -131,7 +134,6 @@ pub(crate) fn reply_head<'a>(
 ) -> Result<ReplyHead<'a>, AllocError>
     requires code { IsRequestCode request.now.code }
     requires fit { AllFit dictionary.now request.now.list }
-    requires proxies { is_clean (proxy_states request.now) dictionary.now ≡ true }
     ensures made { IfOk result (λ head. IsHeadOf form dictionary.now secret.now request.now head) }
     ensures head { IfOk result (λ head. (end : End)
         → answered_by dictionary.now head end.code end.state.reply
@@ -173,9 +175,9 @@ fn reply_pairs(last: Code, reply: &[Pair]) -> &[Pair]
     }
 }
 
-/// The reply packet of a run that ended with this code and this reply list, if it sends one.
+// The reply packet of a run that ended with this code and this reply list, if it sends one.
 #[tactic(auto, unfolding(crate::specs::internal::ReplyHeads::answered_by), using(crate::proofs::PacketRoom::is_within, crate::proofs::PacketRoom::is_too_long))]
-pub(crate) fn answered_by(
+fn answered_by(
     alloc: Global,
     dictionary: &Dictionary,
     head: &ReplyHead<'_>,
@@ -184,7 +186,6 @@ pub(crate) fn answered_by(
 ) -> Result<Option<Vec<u8>>, EncodeFault>
     requires usable { IsUsable dictionary.now head.now }
     requires reply { AllFit dictionary.now reply.now }
-    requires clean { is_clean reply.now dictionary.now ≡ true }
     ensures answer { IsAnswer result (answered_by dictionary.now head.now last reply.now) }
     ensures read { OnOk result (AnswerIsRead dictionary.now head.now last reply.now) }
 {
@@ -206,4 +207,49 @@ pub(crate) fn answered_by(
         head.signed,
     )?;
     Ok(Some(octets))
+}
+
+// What a run sends that ended with this code and this reply list.
+fn reply_of(
+    alloc: Global,
+    dictionary: &Dictionary,
+    head: &ReplyHead<'_>,
+    last: Code,
+    reply: &[Pair],
+) -> Result<Reply, EncodeFault>
+    requires usable { IsUsable dictionary.now head.now }
+    requires reply { AllFit dictionary.now reply.now }
+    ensures sent { IsSent result (reply_of
+        (answered_by dictionary.now head.now last reply.now)) }
+    ensures read { OnOk result (AnswerIsRead dictionary.now head.now last reply.now) }
+{
+    match answered_by(alloc, dictionary, head, last, reply)? {
+        Some(octets) => Ok(Reply::Packet(Octets::from_vec(octets))),
+        None => Ok(Reply::Nothing),
+    }
+}
+
+/// What a run sends that ended with this code and the reply list of this store; without a head no packet is made.
+#[tactic(auto, unfolding(crate::specs::internal::ReplyHeads::sent_by))]
+pub(crate) fn sent_by<S: Store>(
+    alloc: Global,
+    dictionary: &Dictionary,
+    head: &Option<ReplyHead<'_>>,
+    last: Code,
+    store: &S,
+) -> Result<Reply, EncodeFault>
+    requires usable { IfSome head.now (λ h. IsUsable dictionary.now h) }
+    requires fits { StateFits dictionary.now (present (S.history store.now)) }
+    ensures sent { IsSent result
+        (sent_by dictionary.now head.now last (present (S.history store.now)).reply) }
+    ensures read { OnOk result
+        (SentIsRead dictionary.now head.now last (present (S.history store.now)).reply) }
+{
+    match head {
+        Some(head) => {
+            let pairs = store.list(List::Reply)?;
+            reply_of(alloc, dictionary, head, last, &pairs)
+        }
+        None => Ok(Reply::Unmade),
+    }
 }

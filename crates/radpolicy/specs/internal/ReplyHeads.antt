@@ -5,7 +5,9 @@ use Rattle.std.specs.declared.vec.Vec.{Vec}
 use Rattle.avp_lists.specs.declared.pairs.AttrId.TheVariants.{Plain}
 use Rattle.avp_lists.specs.declared.pairs.Pair.{Pair}
 use Rattle.radpolicy.specs.internal.Fitting.{AllFit}
-use Rattle.radpolicy.specs.Reports.{answer_line}
+use Rattle.radpolicy.specs.RunOutcomes.{reply_of}
+use Rattle.radpolicy.specs.declared.run_outcomes.Reply.{Reply}
+use Rattle.radpolicy.specs.declared.run_outcomes.Reply.TheVariants as reply
 use Rattle.avp_dict.specs.AttributeNumbers.{proxy_state}
 use Rattle.avp_dict.specs.Dictionary.{Dictionary}
 use Rattle.avp_packet.specs.declared.faults.EncodeFault.{EncodeFault}
@@ -26,16 +28,17 @@ answered_by dictionary head last pairs =
     (reply_pairs last pairs)
     head.proxy_states.items (reply_code head.code last)
 
--- a packet that is sent so is accepted and read as its pairs and Proxy-States
+-- a packet that is sent so is accepted, and read as its pairs and Proxy-States where these are clean
 unfoldable pub AnswerIsRead : Dictionary → ReplyHead → Code → List Pair → Type 0
-AnswerIsRead dictionary head last pairs = (authenticator octets : List ℕ)
-    → head.authenticator ≡ Some authenticator → answered_by dictionary head last pairs ≡ Sent octets
+AnswerIsRead dictionary head last pairs =
+    is_clean pairs dictionary ≡ true → is_clean head.proxy_states.items dictionary ≡ true
+    → (authenticator octets : List ℕ) → head.authenticator ≡ Some authenticator → answered_by dictionary head last pairs ≡ Sent octets
     → IsRead dictionary head.secret.now head.id authenticator octets
     (reply_content head.signed (reply_pairs last pairs) head.proxy_states.items)
 
 -- the same where there is a head
-unfoldable pub LineIsRead : Dictionary → Option ReplyHead → Code → List Pair → Type 0
-LineIsRead dictionary head last pairs =
+unfoldable pub SentIsRead : Dictionary → Option ReplyHead → Code → List Pair → Type 0
+SentIsRead dictionary head last pairs =
     (own : ReplyHead) → head ≡ Some own → AnswerIsRead dictionary own last pairs
 
 -- what a head takes of a request and the secret
@@ -49,10 +52,10 @@ pub record IsHeadOf (form : Form) (dictionary : Dictionary) (key : List ℕ) (re
   pub proxies : head.proxy_states.items ≡ proxy_states request
 
 -- the same where there is a secret, and no head where there is none
-abbrev pub IsLineHead : Form → Dictionary → Option (List ℕ) → Packet → Option ReplyHead → Type 0
-IsLineHead form dictionary None request head = head ≡ None
-IsLineHead form dictionary (Some key) request None = ⊥
-IsLineHead form dictionary (Some key) request (Some head) =
+abbrev pub IsHeadFor : Form → Dictionary → Option (List ℕ) → Packet → Option ReplyHead → Type 0
+IsHeadFor form dictionary None request head = head ≡ None
+IsHeadFor form dictionary (Some key) request None = ⊥
+IsHeadFor form dictionary (Some key) request (Some head) =
     IsHeadOf form dictionary key request head
 
 -- a call's result is this answer, unless memory ran out
@@ -62,21 +65,19 @@ IsAnswer (Ok (Some octets)) answer = answer ≡ Sent octets.items
 IsAnswer (Err encode.TooLong) answer = answer ≡ TooLong
 IsAnswer (Err encode.Memory) answer = Unit {0}
 
--- the line of what is sent: nothing is said of it without a secret, and so without a head
-unfoldable pub line_by : Dictionary → Option ReplyHead → Code → List Pair → Option (List ℕ)
-line_by dictionary None last pairs = Some []
-line_by dictionary (Some head) last pairs = answer_line (answered_by dictionary head last pairs)
+-- what is sent: no packet is made without a secret, and so without a head
+unfoldable pub sent_by : Dictionary → Option ReplyHead → Code → List Pair → Option Reply
+sent_by dictionary None last pairs = Some reply.Unmade
+sent_by dictionary (Some head) last pairs = reply_of (answered_by dictionary head last pairs)
 
--- a head is usable: its Proxy-States fit and are read back, and no reply to an Accounting-Request is signed
+-- a head is usable: its Proxy-States fit, and no reply to an Accounting-Request is signed
 pub record IsUsable (dictionary : Dictionary) (head : ReplyHead) : Type 0 where
   pub proxies : All (λ (pair : Pair). pair.id ≡ Plain proxy_state) head.proxy_states.items
   pub fit : AllFit dictionary head.proxy_states.items
-  pub clean : is_clean head.proxy_states.items dictionary ≡ true
   pub signed : head.code ≡ accounting_request → head.signed ≡ false
 
--- a line was added to a text, or there is none
-abbrev pub AddsLine : Result (Unit {0}) EncodeFault → Option (List ℕ) → List ℕ → List ℕ → Type 0
-AddsLine (Ok u) line before after =
-    (added : List ℕ) × (line ≡ Some added) × (after ≡ before ++ added)
-AddsLine (Err encode.TooLong) line before after = line ≡ None
-AddsLine (Err encode.Memory) line before after = Unit {0}
+-- a call's result is this reply, unless memory ran out
+abbrev pub IsSent : Result Reply EncodeFault → Option Reply → Type 0
+IsSent (Ok own) sent = sent ≡ Some own
+IsSent (Err encode.TooLong) sent = sent ≡ None
+IsSent (Err encode.Memory) sent = Unit {0}

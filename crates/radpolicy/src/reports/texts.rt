@@ -86,7 +86,8 @@ pub(crate) fn push_lists<S: Store>(
     Ok(())
 }
 
-pub(crate) fn code_text(code: Code) -> &'static str
+/// The word of a code, as policies and reports have it.
+pub fn code_text(code: Code) -> &'static str
     ensures { result.now ≡ code_text code }
 {
     match code {

@@ -1,22 +1,19 @@
 //! A walk by a script, and its report.
 
-ghost use Rattle.std.specs.Prelude.{◌≡◌, ◌++◌, ◌≤◌, IfOk, OnOk, codes, decimal, length};
-ghost use Rattle.avp_lists.specs.States.{max_pairs};
-ghost use Rattle.avp_unlang.specs.Suiting.{IsSpelled};
-ghost use Rattle.radpolicy.specs.internal.Fitting.{AllFit};
-ghost use Rattle.radpolicy.specs.JobReports.{step_report, request_walk};
+ghost use Rattle.std.specs.Prelude.{◌≡◌, ◌++◌, IfOk, OnOk, codes, decimal};
+ghost use Rattle.avp_step.specs.Walk.{walk_from};
+ghost use Rattle.radpolicy.specs.JobReports.{step_report};
+ghost use Rattle.radpolicy.specs.Starts.{entry_of};
 ghost use Rattle.radpolicy.specs.Scripts.{after_script, after_script_word, label_text, move_line, moved, script_text, stays_text, truth_text, word_text};
 
 use crate::jobs::Outcome;
 use crate::reports::Report;
-use crate::reports::runs::entry_store;
 use crate::reports::texts::{code_text, push_lists};
 use crate::scripts::ScriptWord;
+use crate::starts::Start;
 use avp_dict::Dictionary;
 use avp_lists::Store;
-use avp_packet::Packet;
 use avp_step::{Label, Move, Stepper};
-use avp_unlang::Policy;
 use itoa::Buffer;
 use std::alloc::{AllocError, Global};
 
@@ -45,8 +42,8 @@ fn truth_text(truth: bool) -> &'static str
     if truth { "true" } else { "false" }
 }
 
-// What a step did.
-fn push_label(text: &mut Vec<u8>, label: Label) -> Result<(), AllocError>
+/// Appends the words of a step's label, as the reports of `step` have them: `line 3 failed P1`.
+pub fn push_label(text: &mut Vec<u8>, label: Label) -> Result<(), AllocError>
     ensures { OnOk result (text.new.items ≡ text.old.items ++ label_text label) }
 {
     match label {
@@ -158,24 +155,18 @@ fn push_script<S: Store>(
     Ok(())
 }
 
-/// The report of a walk by a script over the policy's run on a request.
+/// The report of a walk by a script over a run.
 pub(crate) fn report_of_walk(
     alloc: Global,
-    dictionary: &Dictionary,
-    policy: &Policy,
     script: &[ScriptWord],
-    request: Packet,
+    start: Start<'_>,
 ) -> Result<Report, AllocError>
-    requires policy { IsSpelled dictionary.now policy.now }
-    requires few { length request.list ≤ max_pairs }
-    requires fit { AllFit dictionary.now request.list }
-    ensures { IfOk result (λ report.
-        step_report script.now (request_walk dictionary.now policy.now request) ≡ report) }
+    ensures { IfOk result (λ report. step_report script.now
+        (walk_from start.entry.prepared.dictionary start.entry.prepared.statements
+        (entry_of start.entry)) ≡ report) }
 {
-    let store = entry_store(alloc, request)?;
-    let Ok(mut stepper) = Stepper::new(alloc, dictionary, policy, store) else {
-        return Err(AllocError);
-    };
+    let dictionary = start.dictionary();
+    let mut stepper = start.stepper(alloc)?;
     let mut text = Vec::new(alloc);
     push_script(&mut text, dictionary, &mut stepper, script)?;
     let outcome = Outcome {

@@ -4,7 +4,6 @@ use Rattle.avp_dict.specs.AttributeNumbers.{proxy_state}
 use Rattle.avp_lists.specs.declared.pairs.AttrId.TheVariants.{Plain}
 use Rattle.avp_lists.specs.declared.pairs.Pair.{Pair}
 use Rattle.avp_lists.specs.Instances.{instances}
-use Rattle.avp_dict.specs.Sent.{is_clean}
 use Rattle.radpolicy.specs.internal.Fitting.{AllFit}
 use Rattle.radpolicy.proofs.Replying.{head_answers, instances_are, instances_fit}
 use Rattle.radpolicy.proofs.replies.reply_head.Goals as goal
@@ -30,6 +29,5 @@ returns-clause-usable c =
     record {
       proxies = subst (λ (pairs : List Pair). All (λ (p : Pair). p.id ≡ Plain proxy_state) pairs) (sym proxies) (instances_are (Plain proxy_state) c.args.request.now.list);
       fit = subst (λ (pairs : List Pair). AllFit c.args.dictionary.now pairs) (sym proxies) (instances_fit c.args.dictionary.now (Plain proxy_state) c.args.request.now.list c.requires.fit);
-      clean = ap (λ pairs. is_clean pairs c.args.dictionary.now) proxies ∙ c.requires.proxies;
       signed = c.signs_reply.ensures.accounting;
     }

@@ -1,0 +1,98 @@
+//! Runs a prepared policy on a packet, as often as it is told, and prints how many runs were refused, by the numbers of
+//! their faults, and the report of the last. The tests run it with growths refused, and the benchmark measures it. Its
+//! words: how often, the files of the packet's octets, of the secret, of the policy and of the lines of the initial
+//! reply and control lists, and the dictionary files.
+#![tactic(auto)]
+
+use avp_dict::{Dictionary, FileSet, NamedFile};
+use avp_lists::Octets;
+use radpolicy::{Fault, PreparedPolicy, RunOutcome, Secret, Start};
+use std::alloc::Global;
+use std::{env, fs, io};
+
+fn dictionary_of(rt: &HostRuntime, paths: &[String]) -> io::Result<Dictionary> {
+    let mut files = Vec::new(rt.alloc());
+    for path in paths {
+        let octets = Octets::from_vec(fs::read(rt, path.as_str())?);
+        files.push(NamedFile::at(rt.alloc(), path.as_str(), octets)?)?;
+    }
+    let set = FileSet::from_vec(files);
+    if set.is_empty() || !set.has_distinct_names() {
+        return Err(io::ErrorKind::InvalidInput.into());
+    }
+    Dictionary::read(rt.alloc(), &set).map_err(|_| io::ErrorKind::InvalidData.into())
+}
+
+// What each run begins with besides its policy.
+struct Given<'a> {
+    packet: &'a [u8],
+    reply: &'a [u8],
+    control: &'a [u8],
+}
+
+// One run.
+fn run_once<'a>(
+    alloc: Global,
+    prepared: &'a PreparedPolicy<'a>,
+    secret: &'a Secret<'a>,
+    given: &Given<'_>,
+) -> Result<RunOutcome<'a>, Fault> {
+    Start::of_packet(alloc, prepared, secret, given.packet)?
+        .with_reply_lines(alloc, given.reply)?
+        .with_control_lines(alloc, given.control)?
+        .run(alloc)
+}
+
+// The runs, each by itself: a refused one does not end the others.
+fn run_often(
+    rt: &HostRuntime,
+    prepared: &PreparedPolicy<'_>,
+    secret: &Secret<'_>,
+    given: &Given<'_>,
+    count: u32,
+) -> io::Result<()> {
+    let mut refused: u32 = 0;
+    let mut last = Vec::new(rt.alloc());
+    for number in 0..count {
+        match run_once(rt.alloc(), prepared, secret, given) {
+            Ok(outcome) if number + 1 == count => last = outcome.text(rt.alloc())?,
+            Ok(_) => {}
+            Err(fault) => {
+                println!(rt; "run {number} refused: {}", fault.number())?;
+                refused = refused.wrapping_add(1);
+            }
+        }
+    }
+    println!(rt; "{refused} of {count} refused")?;
+    rt.stdout().write_all(&last)
+}
+
+fn main(rt: HostRuntime) -> io::Result<()> {
+    let words: Vec<String> = env::args(&rt)?.collect(rt.alloc())?;
+    let [_, count, packet, secret, policy, reply, control, dictionaries @ ..] = words.as_slice()
+    else {
+        return println!(&rt;
+            "usage: drive_runs COUNT PACKET SECRET POLICY REPLY CONTROL DICTIONARY..");
+    };
+    let Ok(count) = count.parse() else {
+        return Err(io::ErrorKind::InvalidInput.into());
+    };
+    let dictionary = dictionary_of(&rt, dictionaries)?;
+    let policy = fs::read(&rt, policy.as_str())?;
+    let secret = fs::read(&rt, secret.as_str())?;
+    let packet = fs::read(&rt, packet.as_str())?;
+    let reply = fs::read(&rt, reply.as_str())?;
+    let control = fs::read(&rt, control.as_str())?;
+    let given = Given {
+        packet: &packet,
+        reply: &reply,
+        control: &control,
+    };
+    match (
+        PreparedPolicy::read(rt.alloc(), &dictionary, &policy),
+        Secret::in_file(&secret),
+    ) {
+        (Ok(prepared), Ok(secret)) => run_often(&rt, &prepared, &secret, &given, count),
+        (Err(fault), _) | (_, Err(fault)) => println!(&rt; "not prepared: {}", fault.number()),
+    }
+}

@@ -1,0 +1,145 @@
+//! A policy that is ready to run: read once with its dictionary, and run on any number of requests.
+
+ghost use Rattle.std.specs.Prelude.{◌≡◌, IfOk, IfErr, List};
+ghost use Rattle.avp_unlang.specs.Policies.{SpellsPolicy};
+ghost use Rattle.avp_unlang.specs.Suiting.{IsSpelled};
+ghost use Rattle.avp_unlang.specs.declared.tree.Statement.{Statement as Tree};
+ghost use Rattle.radpolicy.specs.Faults.{IsPrintedAnywhere, MemoryOr};
+ghost use Rattle.radpolicy.specs.JobReports.{IsUnspelled};
+ghost use Rattle.radpolicy.specs.internal.Starting.{statements_held};
+
+use crate::faults::Fault;
+use avp_dict::Dictionary;
+use avp_unlang::{Policy, read_policy};
+use std::alloc::Global;
+use std::marker::Model;
+
+// A policy, or one that its owner lends.
+#[derive(Drop)]
+pub(crate) enum HeldPolicy<'a> {
+    Own(Policy),
+    Lent(&'a Policy),
+}
+
+impl HeldPolicy<'_> {
+    fn policy(&self) -> &Policy
+        ensures { result.now ≡ statements_held self.now }
+    {
+        match self {
+            HeldPolicy::Own(policy) => policy,
+            HeldPolicy::Lent(policy) => policy,
+        }
+    }
+}
+
+/// A policy with the dictionary by which it was read. Any number of runs may begin from it, and none changes it.
+#[derive(Drop)]
+pub struct PreparedPolicy<'a> {
+    dictionary: &'a Dictionary,
+    policy: HeldPolicy<'a>,
+}
+
+impl<'a> Model for PreparedPolicy<'a> {
+    ghost use Rattle.std.specs.Coded.{codes};
+    ghost use Rattle.avp_unlang.specs.contracts.tree.Statement as e;
+    ghost use Rattle.avp_unlang.specs.Suiting.{IsSpelled};
+    ghost use Rattle.radpolicy.specs.Starts.{Prepared};
+    ghost use Rattle.radpolicy.specs.internal.Starting.{statements_held};
+
+    ghost Value = { Prepared };
+
+    ghost coded = { Prim.hlevel (codes, e.the_row.coded) };
+
+    ghost view = { λ p. record {
+        dictionary = p.dictionary.now;
+        statements = statements_held p.policy;
+    } };
+
+    ghost invariant = { λ p. IsSpelled p.dictionary.now (statements_held p.policy) };
+}
+
+impl<'a> PreparedPolicy<'a> {
+    /// The policy that a text spells by a dictionary. It is refused as a job's policy is, at the same line.
+    pub fn read(
+        alloc: Global,
+        dictionary: &'a Dictionary,
+        text: &[u8],
+    ) -> Result<PreparedPolicy<'a>, Fault>
+        ensures dictionary { IfOk result (λ prepared. prepared.dictionary ≡ dictionary.now) }
+        ensures spelled { IfOk result (λ prepared.
+            SpellsPolicy dictionary.now text.now prepared.statements) }
+        ensures refused { IfErr result (MemoryOr (IsUnspelled dictionary.now text.now)) }
+        ensures printed { IfErr result IsPrintedAnywhere }
+    {
+        match read_policy(alloc, dictionary, text) {
+            Ok(policy) => Ok(PreparedPolicy {
+                dictionary,
+                policy: HeldPolicy::Own(policy),
+            }),
+            Err(fault) => Err(Fault::from(fault)),
+        }
+    }
+
+    /// The dictionary by which the policy was read.
+    pub fn dictionary(&self) -> &Dictionary
+        ensures { result.now ≡ self.now.dictionary }
+    {
+        self.dictionary
+    }
+
+    /// The policy.
+    pub fn policy(&self) -> &Policy
+        ensures policy { result.now ≡ self.now.statements }
+        ensures spelled { IsSpelled self.now.dictionary self.now.statements }
+    {
+        self.policy.policy()
+    }
+}
+
+/// A policy that owns its dictionary, for those who run one policy alone.
+#[derive(Drop)]
+pub struct OwnedPolicy {
+    dictionary: Dictionary,
+    policy: Policy,
+}
+
+impl Model for OwnedPolicy {
+    ghost use Rattle.std.specs.Coded.{codes};
+    ghost use Rattle.avp_unlang.specs.contracts.tree.Statement as e;
+    ghost use Rattle.avp_unlang.specs.Suiting.{IsSpelled};
+    ghost use Rattle.radpolicy.specs.Starts.{Prepared};
+
+    ghost Value = { Prepared };
+
+    ghost coded = { Prim.hlevel (codes, e.the_row.coded) };
+
+    ghost view = { λ o. record { dictionary = o.dictionary; statements = o.policy } };
+
+    ghost invariant = { λ o. IsSpelled o.dictionary o.policy };
+}
+
+impl OwnedPolicy {
+    /// The policy that a text spells by a dictionary, refused as [`PreparedPolicy::read`] refuses it.
+    pub fn read(alloc: Global, dictionary: Dictionary, text: &[u8]) -> Result<OwnedPolicy, Fault>
+        ensures dictionary { IfOk result (λ owned. owned.dictionary ≡ dictionary) }
+        ensures spelled { IfOk result (λ owned.
+            SpellsPolicy dictionary text.now owned.statements) }
+        ensures refused { IfErr result (MemoryOr (IsUnspelled dictionary text.now)) }
+        ensures printed { IfErr result IsPrintedAnywhere }
+    {
+        match read_policy(alloc, &dictionary, text) {
+            Ok(policy) => Ok(OwnedPolicy { dictionary, policy }),
+            Err(fault) => Err(Fault::from(fault)),
+        }
+    }
+
+    /// The dictionary and the policy, lent to runs.
+    pub fn prepared(&self) -> PreparedPolicy<'_>
+        ensures { result ≡ self.now }
+    {
+        PreparedPolicy {
+            dictionary: &self.dictionary,
+            policy: HeldPolicy::Lent(&self.policy),
+        }
+    }
+}

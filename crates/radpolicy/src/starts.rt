@@ -1,0 +1,396 @@
+//! What a run begins with, and the run.
+
+ghost use Rattle.std.specs.Prelude.{◌≡◌, ◌≢◌, ◌<◌, ◌≤◌, true, length, IfErr, IfNone, IfOk, IfSome, None, Ok, OnOk, Some};
+ghost use Rattle.std.specs.Option.{option_copied, option_map};
+ghost use Rattle.avp_lists.specs.History.{present};
+ghost use Rattle.avp_lists.specs.States.{max_pairs};
+ghost use Rattle.avp_dict.specs.Requests.{request_spelled};
+ghost use Rattle.avp_dict.specs.Sent.{is_clean};
+ghost use Rattle.avp_packet.specs.Decoded.{decoded};
+ghost use Rattle.avp_packet.specs.Packets.{IsRequestCode};
+ghost use Rattle.avp_step.specs.Walk.{last_outcome, walk_from};
+ghost use Rattle.avp_unlang.specs.Cleanness.{KeepsReplyClean};
+ghost use Rattle.avp_unlang.specs.Meaning.{Outcome as End};
+ghost use Rattle.avp_unlang.specs.Resolutions.{StateFits};
+ghost use Rattle.radpolicy.specs.Faults.{IsPrintedAnywhere, MemoryOr};
+ghost use Rattle.radpolicy.specs.Replies.{proxy_states};
+ghost use Rattle.radpolicy.specs.RunOutcomes.{OutcomeIsRead, end_of, outcome_of, sent_reply};
+ghost use Rattle.radpolicy.specs.Starts.{entry_of, first_misfit, pairs_refusal, start_of, start_with};
+ghost use Rattle.radpolicy.specs.StartRefusals.{IsControlRefusal, IsPacketRefusal, IsReplyRefusal, IsRequestRefusal};
+ghost use Rattle.radpolicy.specs.declared.faults.Fault.TheVariants as fault;
+ghost use Rattle.radpolicy.specs.declared.jobs.Form.TheVariants.{Hex};
+ghost use Rattle.radpolicy.specs.internal.ReplyHeads.{IsHeadFor, IsUsable, sent_by};
+ghost use Rattle.radpolicy.specs.internal.Starting.{IsFittingList};
+ghost use Rattle.radpolicy.specs.internal.Fitting.{AllFit};
+
+use crate::faults::{Fault, fault_of_control_line, fault_of_reply_line};
+use crate::heads::RequestHead;
+use crate::jobs::Form;
+use crate::prepared::PreparedPolicy;
+use crate::replies::{ReplyHead, reply_head, sent_by};
+use crate::run_outcomes::RunOutcome;
+use crate::secrets::Secret;
+use avp_dict::{Dictionary, LineFault, LineKind};
+use avp_lists::{MAX_PAIRS, Pair, Pairs, SlotStore, State, Store};
+use avp_packet::{Packet, decode};
+use avp_step::Stepper;
+use avp_unlang::{Code, Policy, keeps_reply_clean};
+use std::alloc::{AllocError, Global};
+use std::marker::Model;
+
+/// What a run of a prepared policy begins with: a request, and reply and control lists, which are empty unless they are
+/// given. In a server's `post-auth` section both are filled when the policy begins.
+#[derive(Drop)]
+pub struct Start<'a> {
+    dictionary: &'a Dictionary,
+    policy: &'a Policy,
+    secret: Option<&'a Secret<'a>>,
+    form: Form,
+    request: Packet,
+    reply: Pairs,
+    control: Pairs,
+}
+
+impl<'a> Model for Start<'a> {
+    ghost use Rattle.std.specs.Coded.{codes};
+    ghost use Rattle.avp_unlang.specs.contracts.tree.Statement as e;
+    ghost use Rattle.std.specs.Option.{option_copied};
+    ghost use Rattle.radpolicy.specs.Starts.{Start as Shown};
+    ghost use Rattle.radpolicy.specs.internal.Starting.{IsReady, start_shown};
+
+    ghost Value = { Shown };
+
+    ghost coded = { Prim.hlevel (codes, e.the_row.coded) };
+
+    ghost view = { λ s. start_shown s.dictionary.now s.policy.now (option_copied s.secret) s.form
+        s.request s.reply s.control };
+
+    ghost invariant = { λ s. IsReady (start_shown s.dictionary.now s.policy.now
+        (option_copied s.secret) s.form s.request s.reply s.control) };
+}
+
+// A store of the lists with which a run begins.
+fn entry_store(alloc: Global, lists: State) -> Result<SlotStore, AllocError>
+    requires request { length lists.request ≤ max_pairs }
+    requires reply { length lists.reply ≤ max_pairs }
+    requires control { length lists.control ≤ max_pairs }
+    ensures { IfOk result (λ store. present (⟦<SlotStore as Store>⟧.history store) ≡ lists) }
+{
+    let State {
+        request,
+        reply,
+        control,
+    } = lists;
+    SlotStore::new(
+        alloc,
+        request.into_vec(),
+        reply.into_vec(),
+        control.into_vec(),
+    )
+    .map_err(|_| AllocError)
+}
+
+// The pairs of lines.
+fn read_lines(alloc: Global, dictionary: &Dictionary, text: &[u8]) -> Result<Pairs, LineFault>
+    ensures read { IfOk result (λ pairs. request_spelled text.now dictionary.now ≡ Some pairs) }
+    ensures list { IfOk result (IsFittingList dictionary.now) }
+    ensures refused { IfErr result (λ f. f.kind ≢ LineKind.Memory
+        → request_spelled text.now dictionary.now ≡ None) }
+{
+    Ok(Pairs::from_vec(dictionary.read_request(alloc, text)?))
+}
+
+// The place of the first pair that does not fit.
+fn first_misfit(dictionary: &Dictionary, pairs: &[Pair]) -> Option<usize>
+    ensures { result ≡ first_misfit dictionary.now pairs.now }
+{
+    pairs.iter().position(|pair| !dictionary.fits(pair))
+}
+
+// Why pairs can be no list of a run.
+fn pairs_refusal(dictionary: &Dictionary, pairs: &[Pair]) -> Option<LineFault>
+    ensures refusal { result ≡ pairs_refusal dictionary.now pairs.now }
+    ensures none { IfNone result (IsFittingList dictionary.now pairs.now) }
+{
+    match first_misfit(dictionary, pairs) {
+        Some(at) => Some(LineFault {
+            line: at + 1,
+            kind: LineKind::NotValue,
+        }),
+        None if pairs.len() > MAX_PAIRS => Some(LineFault {
+            line: MAX_PAIRS + 1,
+            kind: LineKind::TooMany,
+        }),
+        None => None,
+    }
+}
+
+// Pairs that can be a list of a run.
+fn fitting(dictionary: &Dictionary, pairs: Pairs) -> Result<Pairs, LineFault>
+    ensures ok { IfOk result (λ own. (own ≡ pairs) × (pairs_refusal dictionary.now pairs ≡ None)) }
+    ensures list { IfOk result (IsFittingList dictionary.now) }
+    ensures refused { IfErr result (λ f. pairs_refusal dictionary.now pairs ≡ Some f) }
+{
+    match pairs_refusal(dictionary, pairs.as_slice()) {
+        Some(fault) => Err(fault),
+        None => Ok(pairs),
+    }
+}
+
+// What a run leaves.
+#[derive(Drop)]
+struct Ended {
+    store: SlotStore,
+    code: Code,
+    stopped: bool,
+}
+
+impl<'a> Start<'a> {
+    /// A run over a request with empty reply and control lists.
+    pub(crate) fn new(
+        alloc: Global,
+        prepared: &'a PreparedPolicy<'a>,
+        secret: Option<&'a Secret<'a>>,
+        form: Form,
+        request: Packet,
+    ) -> Start<'a>
+        requires code { IsRequestCode request.code }
+        requires list { IsFittingList prepared.now.dictionary request.list }
+        ensures { result ≡ start_of prepared.entry.now (option_copied secret.entry) form request }
+    {
+        Start {
+            dictionary: prepared.dictionary(),
+            policy: prepared.policy(),
+            secret,
+            form,
+            request,
+            reply: Pairs::from_vec(Vec::new(alloc)),
+            control: Pairs::from_vec(Vec::new(alloc)),
+        }
+    }
+
+    /// A run over a request packet, which is refused as [`decode`] refuses it. The secret shows its hidden attributes,
+    /// and signs the reply.
+    pub fn of_packet(
+        alloc: Global,
+        prepared: &'a PreparedPolicy<'a>,
+        secret: &'a Secret<'a>,
+        octets: &[u8],
+    ) -> Result<Start<'a>, Fault>
+        ensures read { IfOk result (λ start.
+            decoded prepared.entry.now.dictionary secret.entry.now octets.now ≡ Ok start.request) }
+        ensures start { IfOk result (λ start. start
+            ≡ start_of prepared.entry.now (Some secret.entry.now) Hex start.request) }
+        ensures refused { IfErr result (MemoryOr (IsPacketRefusal
+            (decoded prepared.entry.now.dictionary secret.entry.now octets.now))) }
+        ensures printed { IfErr result IsPrintedAnywhere }
+    {
+        let request = decode(alloc, prepared.dictionary(), secret.as_slice(), octets)?;
+        Ok(Start::new(alloc, prepared, Some(secret), Form::Hex, request))
+    }
+
+    /// A run over a request of lines, refused as a job's lines are. Without a secret no reply is made.
+    pub fn of_lines(
+        alloc: Global,
+        prepared: &'a PreparedPolicy<'a>,
+        secret: Option<&'a Secret<'a>>,
+        head: RequestHead,
+        text: &[u8],
+    ) -> Result<Start<'a>, Fault>
+        ensures read { IfOk result (λ start.
+            request_spelled text.now prepared.entry.now.dictionary ≡ Some start.request.list) }
+        ensures start { IfOk result (λ start. start
+            ≡ start_with prepared.entry.now (option_copied secret.entry) head start.request.list) }
+        ensures refused { IfErr result (MemoryOr (IsRequestRefusal
+            (request_spelled text.now prepared.entry.now.dictionary))) }
+        ensures printed { IfErr result IsPrintedAnywhere }
+    {
+        let pairs = read_lines(alloc, prepared.dictionary(), text)?;
+        Ok(Start::new(alloc, prepared, secret, head.form_of(), head.packet_of(pairs)))
+    }
+
+    /// A run over a request of these pairs, the first of which that does not fit the dictionary is refused, and the one
+    /// after the most that a list may have. The line of the fault is the pair's number, from 1.
+    pub fn of_pairs(
+        alloc: Global,
+        prepared: &'a PreparedPolicy<'a>,
+        secret: Option<&'a Secret<'a>>,
+        head: RequestHead,
+        pairs: Pairs,
+    ) -> Result<Start<'a>, Fault>
+        ensures fits { OnOk result (pairs_refusal prepared.entry.now.dictionary pairs ≡ None) }
+        ensures start { IfOk result (λ start. start
+            ≡ start_with prepared.entry.now (option_copied secret.entry) head pairs) }
+        ensures refused { IfErr result (λ f. option_map fault.Request
+            (pairs_refusal prepared.entry.now.dictionary pairs) ≡ Some f) }
+        ensures printed { IfErr result IsPrintedAnywhere }
+    {
+        match fitting(prepared.dictionary(), pairs) {
+            Ok(pairs) => Ok(Start::new(alloc, prepared, secret, head.form_of(), head.packet_of(pairs))),
+            Err(fault) => Err(Fault::Request(fault)),
+        }
+    }
+
+    /// The same with the reply list of these lines, which are read as a request's.
+    pub fn with_reply_lines(self, alloc: Global, text: &[u8]) -> Result<Start<'a>, Fault>
+        ensures read { IfOk result (λ start.
+            request_spelled text.now self.entry.prepared.dictionary ≡ Some start.reply) }
+        ensures start { IfOk result (λ start. start
+            ≡ record self.entry { reply = start.reply }) }
+        ensures refused { IfErr result (MemoryOr (IsReplyRefusal
+            (request_spelled text.now self.entry.prepared.dictionary))) }
+        ensures printed { IfErr result IsPrintedAnywhere }
+    {
+        match read_lines(alloc, self.dictionary, text) {
+            Ok(reply) => Ok(Start { reply, ..self }),
+            Err(fault) => Err(fault_of_reply_line(fault)),
+        }
+    }
+
+    /// The same with the control list of these lines, which are read as a request's.
+    pub fn with_control_lines(self, alloc: Global, text: &[u8]) -> Result<Start<'a>, Fault>
+        ensures read { IfOk result (λ start.
+            request_spelled text.now self.entry.prepared.dictionary ≡ Some start.control) }
+        ensures start { IfOk result (λ start. start
+            ≡ record self.entry { control = start.control }) }
+        ensures refused { IfErr result (MemoryOr (IsControlRefusal
+            (request_spelled text.now self.entry.prepared.dictionary))) }
+        ensures printed { IfErr result IsPrintedAnywhere }
+    {
+        match read_lines(alloc, self.dictionary, text) {
+            Ok(control) => Ok(Start { control, ..self }),
+            Err(fault) => Err(fault_of_control_line(fault)),
+        }
+    }
+
+    /// The same with these pairs as its reply list, refused as those of a request.
+    pub fn with_reply(self, pairs: Pairs) -> Result<Start<'a>, Fault>
+        ensures fits { OnOk result (pairs_refusal self.entry.prepared.dictionary pairs ≡ None) }
+        ensures start { IfOk result (λ start. start ≡ record self.entry { reply = pairs }) }
+        ensures refused { IfErr result (λ f. option_map fault.Reply
+            (pairs_refusal self.entry.prepared.dictionary pairs) ≡ Some f) }
+        ensures printed { IfErr result IsPrintedAnywhere }
+    {
+        match fitting(self.dictionary, pairs) {
+            Ok(reply) => Ok(Start { reply, ..self }),
+            Err(fault) => Err(Fault::Reply(fault)),
+        }
+    }
+
+    /// The same with these pairs as its control list, refused as those of a request.
+    pub fn with_control(self, pairs: Pairs) -> Result<Start<'a>, Fault>
+        ensures fits { OnOk result (pairs_refusal self.entry.prepared.dictionary pairs ≡ None) }
+        ensures start { IfOk result (λ start. start ≡ record self.entry { control = pairs }) }
+        ensures refused { IfErr result (λ f. option_map fault.Control
+            (pairs_refusal self.entry.prepared.dictionary pairs) ≡ Some f) }
+        ensures printed { IfErr result IsPrintedAnywhere }
+    {
+        match fitting(self.dictionary, pairs) {
+            Ok(control) => Ok(Start { control, ..self }),
+            Err(fault) => Err(Fault::Control(fault)),
+        }
+    }
+
+    /// The dictionary of the policy that is run.
+    pub fn dictionary(&self) -> &'a Dictionary
+        ensures { result.now ≡ self.now.prepared.dictionary }
+    {
+        self.dictionary
+    }
+
+    // What the reply takes of the request, where there is a secret.
+    #[tactic(auto, unfolding(crate::specs::internal::ReplyHeads::sent_by))]
+    fn head(&self, alloc: Global) -> Result<Option<ReplyHead<'a>>, AllocError>
+        ensures made { IfOk result (λ head. IsHeadFor self.now.form self.now.prepared.dictionary
+            self.now.secret self.now.request head) }
+        ensures sent { IfOk result (λ head. (end : End)
+            → sent_by self.now.prepared.dictionary head end.code end.state.reply
+            ≡ sent_reply self.now end) }
+        ensures usable { IfOk result (λ head.
+            IfSome head (λ h. IsUsable self.now.prepared.dictionary h)) }
+    {
+        match self.secret {
+            Some(secret) => Ok(Some(reply_head(
+                alloc,
+                self.dictionary,
+                secret,
+                self.form,
+                &self.request,
+            )?)),
+            None => Ok(None),
+        }
+    }
+
+    /// A stepper at the start of the run, for those who walk.
+    pub fn stepper(self, alloc: Global) -> Result<Stepper<'a, SlotStore>, AllocError>
+        ensures start { IfOk result (λ stepper. stepper
+            ≡ walk_from self.entry.prepared.dictionary self.entry.prepared.statements
+            (entry_of self.entry)) }
+        ensures last { IfOk result (λ stepper. last_outcome stepper ≡ end_of self.entry) }
+    {
+        let lists = State {
+            request: self.request.list,
+            reply: self.reply,
+            control: self.control,
+        };
+        let store = entry_store(alloc, lists)?;
+        match Stepper::new(alloc, self.dictionary, self.policy, store) {
+            Ok(stepper) => Ok(stepper),
+            Err((_, refused)) => Err(refused),
+        }
+    }
+
+    // Where the run ends.
+    fn end_of(self, alloc: Global) -> Result<Ended, AllocError>
+        ensures end { IfOk result (λ ended. end_of self.entry ≡ record {
+            state = present (⟦<SlotStore as Store>⟧.history ended.store);
+            code = ended.code;
+            stopped = ended.stopped;
+        }) }
+        ensures fits { IfOk result (λ ended. StateFits self.entry.prepared.dictionary
+            (present (⟦<SlotStore as Store>⟧.history ended.store))) }
+    {
+        let mut stepper = self.stepper(alloc)?;
+        stepper.run_to_end()?;
+        Ok(Ended {
+            code: stepper.code(),
+            stopped: stepper.stopped(),
+            store: stepper.into_store(),
+        })
+    }
+
+    // What is written of clean reply lists is read back as they are, also of those that the policy makes.
+    fn keeps_reply_clean(&self)
+        ensures { KeepsReplyClean self.now.prepared.dictionary self.now.prepared.statements }
+    {
+        keeps_reply_clean(self.dictionary, self.policy);
+    }
+
+    /// Runs the policy to its end. The run needs no memory that it does not give back with its outcome, and changes
+    /// nothing that was prepared.
+    pub fn run(self, alloc: Global) -> Result<RunOutcome<'a>, Fault>
+        ensures ok { IfOk result (λ outcome. outcome_of self.entry ≡ Some outcome) }
+        ensures refused { IfErr result (MemoryOr (λ f. (f ≡ fault.PacketTooLong)
+            × (outcome_of self.entry ≡ None))) }
+        // What is sent is accepted as the reply to its request, and means the pairs that are sent, where the initial
+        // reply list and the request's Proxy-States are read back as they are written: as all are that were read from
+        // lines or from a packet.
+        ensures read { OnOk result
+            (is_clean self.entry.reply self.entry.prepared.dictionary ≡ true
+            → is_clean (proxy_states self.entry.request) self.entry.prepared.dictionary ≡ true
+            → OutcomeIsRead self.entry) }
+        ensures printed { IfErr result IsPrintedAnywhere }
+    {
+        self.keeps_reply_clean();
+        let dictionary = self.dictionary();
+        let head = self.head(alloc)?;
+        let ended = self.end_of(alloc)?;
+        let reply = sent_by(alloc, dictionary, &head, ended.code, &ended.store)?;
+        let Ended {
+            store,
+            code,
+            stopped,
+        } = ended;
+        Ok(RunOutcome::new(dictionary, store, code, stopped, reply))
+    }
+}
