@@ -30,8 +30,8 @@ trials:
 	@tests/run $(PROGRAM)
 
 bench: build
-	@RT="$(RT)" scripts/build bench_packets
-	@bench/run $(PROGRAM) crates/bench_packets/out/bench_packets
+	@RT="$(RT)" scripts/build bench_packets drive_runs
+	@bench/run $(PROGRAM) crates/bench_packets/out/bench_packets crates/drive_runs/out/drive_runs
 
 SECONDS = 60
 

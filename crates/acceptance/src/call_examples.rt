@@ -4,13 +4,14 @@ ghost use Rattle.radpolicy.specs.Plans.{IsSound, asked_by_job};
 
 use crate::commands::RUN;
 use crate::program::{Source, job_of};
-use avp_dict::FileSet;
-use avp_unlang::Code;
+use avp_dict::{Dictionary, FileSet};
+use avp_lists::{List, Store};
+use avp_unlang::{Code, PolicyFault, PolicyKind};
 use radpolicy::{
-    Command, Fault, Job, WriteOutput, answer, help_text, print_fault, read_input, read_words,
-    status,
+    Command, Fault, Job, OwnedPolicy, PreparedPolicy, RequestHead, RequestKind, Secret, Start,
+    WriteOutput, answer, help_text, print_fault, read_input, read_words, status,
 };
-use samples::TEST_DICTIONARY;
+use samples::{TEST_DICTIONARY, test_dictionary};
 use std::alloc::Global;
 use std::process::Abort;
 use std::test::Fail;
@@ -66,6 +67,71 @@ fn does_a_job(rt: &impl Abort, alloc: Global, job: &Job) -> Result<(), Fail>
     assert_eq!(rt; (outcome.code, outcome.stopped), (Some(Code::Reject), true));
     assert!(rt; report.ends_with(b"control\nresult reject stopped\n"));
     Ok(())
+}
+
+// Example: Secret::in_file
+fn takes_secrets(rt: &impl Abort) -> Result<(), Fail> {
+    let secret = Secret::in_file(b"testing123\r\n")?;
+    assert_eq!(rt; secret.as_slice(), b"testing123".as_slice());
+    assert_eq!(rt; Secret::in_file(b"\n").err(), Some(Fault::EmptySecret));
+    Ok(())
+}
+
+// Example: PreparedPolicy::read
+fn prepares(rt: &impl Abort, alloc: Global, dictionary: &Dictionary) -> Result<(), Fail> {
+    let prepared = PreparedPolicy::read(alloc, dictionary, b"update reply { Class := 0x01 }")?;
+    assert_eq!(rt; prepared.policy().statements().len(), 1);
+    let refused = PreparedPolicy::read(alloc, dictionary, b"rejected").err();
+    let (line, kind) = (1, PolicyKind::Misplaced);
+    assert_eq!(rt; refused, Some(Fault::Policy(PolicyFault { line, kind })));
+    Ok(())
+}
+
+// Example: OwnedPolicy::prepared
+fn lends(rt: &impl Abort, alloc: Global, owned: &OwnedPolicy) -> Result<(), Fail> {
+    // The policy is `reject`.
+    let prepared = owned.prepared();
+    let (kind, id, authenticator) = (RequestKind::Access, 7, None);
+    let head = RequestHead {
+        kind,
+        id,
+        authenticator,
+    };
+    let outcome = Start::of_lines(alloc, &prepared, None, head, b"NAS-Port = 3")?.run(alloc)?;
+    assert_eq!(rt; (outcome.code(), outcome.stopped()), (Code::Reject, true));
+    Ok(())
+}
+
+// Example: Start::run
+fn runs(rt: &impl Abort, alloc: Global, prepared: &PreparedPolicy<'_>) -> Result<(), Fail> {
+    // The policy is `update reply { Session-Timeout := 600 }`.
+    let (kind, id, authenticator) = (RequestKind::Access, 7, None);
+    let head = RequestHead {
+        kind,
+        id,
+        authenticator,
+    };
+    let start = Start::of_lines(alloc, prepared, None, head, b"NAS-Port = 3")?;
+    let outcome = start.with_reply_lines(alloc, b"Class = 0x01")?.run(alloc)?;
+    assert_eq!(rt; outcome.store().count(List::Reply), 2);
+    let report = outcome.text(alloc)?;
+    assert!(rt; report.ends_with(b"  Session-Timeout = 600\ncontrol\nresult ok\n"));
+    Ok(())
+}
+
+#[test]
+fn prepared_policies(rt: HostRuntime) -> Result<(), Fail> {
+    takes_secrets(&rt)?;
+    let alloc = rt.alloc();
+    let dictionary = test_dictionary(alloc)?;
+    prepares(&rt, alloc, &dictionary)?;
+    let text = b"update reply { Session-Timeout := 600 }";
+    runs(&rt, alloc, &PreparedPolicy::read(alloc, &dictionary, text)?)?;
+    lends(
+        &rt,
+        alloc,
+        &OwnedPolicy::read(alloc, dictionary, b"reject")?,
+    )
 }
 
 #[test]

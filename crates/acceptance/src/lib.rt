@@ -16,6 +16,8 @@ mod packets;
 #[cfg(test)]
 mod policies;
 #[cfg(test)]
+mod prepared;
+#[cfg(test)]
 mod program;
 #[cfg(test)]
 mod runs;

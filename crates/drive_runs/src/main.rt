@@ -69,10 +69,20 @@ fn run_often(
 
 fn main(rt: HostRuntime) -> io::Result<()> {
     let words: Vec<String> = env::args(&rt)?.collect(rt.alloc())?;
-    let [_, count, packet, secret, policy, reply, control, dictionaries @ ..] = words.as_slice()
+    let [
+        _,
+        count,
+        packet,
+        secret,
+        policy,
+        reply,
+        control,
+        dictionaries @ ..,
+    ] = words.as_slice()
     else {
         return println!(&rt;
-            "usage: drive_runs COUNT PACKET SECRET POLICY REPLY CONTROL DICTIONARY..");
+            "usage: drive_runs COUNT PACKET SECRET POLICY REPLY CONTROL DICTIONARY.."
+        );
     };
     let Ok(count) = count.parse() else {
         return Err(io::ErrorKind::InvalidInput.into());

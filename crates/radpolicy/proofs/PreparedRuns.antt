@@ -5,7 +5,9 @@ use Rattle.avp_dict.specs.Dictionary.{Dictionary}
 use Rattle.avp_packet.specs.declared.packets.Packet.{Packet}
 use Rattle.avp_unlang.specs.Meaning.{Outcome as End}
 use Rattle.avp_unlang.specs.declared.tree.Statement.{Statement}
-use Rattle.radpolicy.specs.JobReports.{opened, report_of_run, run_of}
+use Rattle.radpolicy.specs.JobReports.{IsRunReport, opened, report_of_run, run_of}
+use Rattle.radpolicy.specs.OutcomeReports.{IsOutcomeReport, start_for}
+use Rattle.radpolicy.specs.declared.jobs.Job.{Job}
 use Rattle.radpolicy.specs.Replies.{Answer, Nothing, Sent, TooLong, answer_of}
 use Rattle.radpolicy.specs.Reports.{Report, answer_line, run_report}
 use Rattle.radpolicy.specs.RunOutcomes.{end_of, outcome_of, outcome_report, outcome_with, reply_of, sent_reply}
@@ -31,6 +33,28 @@ report_of_outcome prepared None form request = refl
 report_of_outcome prepared (Some secret) form request =
     let end = run_of prepared.dictionary prepared.statements request in
     sym (by_answer prepared.dictionary end (answer_of form prepared.dictionary secret request end))
+
+mapped : {A B : Type 0} (f : A → B) (o : Option A) (y : B) → option_map f o ≡ Some y → (x : A) × (o ≡ Some x) × (y ≡ f x)
+mapped f None y e = absurd (cc)
+mapped f (Some x) y e = (x, refl, cc)
+
+-- the report of a job's run is the text of its outcome
+pub report_is_of_outcome : (job : Job) (report : Report) → IsRunReport job report → IsOutcomeReport job report
+report_is_of_outcome job report is =
+    let prepared : Prepared = record { dictionary = is.opened.dictionary; statements = is.statements } in
+    let same = report_of_outcome prepared is.opened.secret job.form is.request in
+    let found = mapped outcome_report (outcome_of (start_for job is.opened is.statements is.request)) report (sym same ∙ is.made) in
+    record {
+      opened = is.opened;
+      statements = is.statements;
+      request = is.request;
+      outcome = found.0;
+      opens = is.opens;
+      policy = is.policy;
+      received = is.received;
+      ran = found.1;
+      made = found.2;
+    }
 
 -- ---- what a run comes to, by where it ended and what is sent
 

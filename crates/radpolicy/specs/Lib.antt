@@ -1,5 +1,6 @@
 pub mod Faults
 pub mod JobReports
+pub mod OutcomeReports
 pub mod Plans
 pub mod Received
 pub mod Replies

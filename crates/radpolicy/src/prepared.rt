@@ -33,10 +33,19 @@ impl HeldPolicy<'_> {
 }
 
 /// A policy with the dictionary by which it was read. Any number of runs may begin from it, and none changes it.
-#[derive(Drop)]
 pub struct PreparedPolicy<'a> {
     dictionary: &'a Dictionary,
     policy: HeldPolicy<'a>,
+}
+
+// As a function, so that where a policy is dropped a proof sees one step and not those of its tree.
+impl<'a> Drop for PreparedPolicy<'a> {
+    fn drop(self) {
+        let PreparedPolicy {
+            dictionary: _,
+            policy: _,
+        } = self;
+    }
 }
 
 impl<'a> Model for PreparedPolicy<'a> {
@@ -51,8 +60,8 @@ impl<'a> Model for PreparedPolicy<'a> {
     ghost coded = { Prim.hlevel (codes, e.the_row.coded) };
 
     ghost view = { λ p. record {
-        dictionary = p.dictionary.now;
-        statements = statements_held p.policy;
+      dictionary = p.dictionary.now;
+      statements = statements_held p.policy;
     } };
 
     ghost invariant = { λ p. IsSpelled p.dictionary.now (statements_held p.policy) };
@@ -60,6 +69,14 @@ impl<'a> Model for PreparedPolicy<'a> {
 
 impl<'a> PreparedPolicy<'a> {
     /// The policy that a text spells by a dictionary. It is refused as a job's policy is, at the same line.
+    ///
+    /// ```rust
+    /// let prepared = PreparedPolicy::read(alloc, dictionary, b"update reply { Class := 0x01 }")?;
+    /// assert_eq!(rt; prepared.policy().statements().len(), 1);
+    /// let refused = PreparedPolicy::read(alloc, dictionary, b"rejected").err();
+    /// let (line, kind) = (1, PolicyKind::Misplaced);
+    /// assert_eq!(rt; refused, Some(Fault::Policy(PolicyFault { line, kind })));
+    /// ```
     pub fn read(
         alloc: Global,
         dictionary: &'a Dictionary,
@@ -134,6 +151,15 @@ impl OwnedPolicy {
     }
 
     /// The dictionary and the policy, lent to runs.
+    ///
+    /// ```rust
+    /// // The policy is `reject`.
+    /// let prepared = owned.prepared();
+    /// let (kind, id, authenticator) = (RequestKind::Access, 7, None);
+    /// let head = RequestHead { kind, id, authenticator };
+    /// let outcome = Start::of_lines(alloc, &prepared, None, head, b"NAS-Port = 3")?.run(alloc)?;
+    /// assert_eq!(rt; (outcome.code(), outcome.stopped()), (Code::Reject, true));
+    /// ```
     pub fn prepared(&self) -> PreparedPolicy<'_>
         ensures { result ≡ self.now }
     {

@@ -41,13 +41,13 @@ impl<'a> Model for RunOutcome<'a> {
     ghost Value = { Shown };
 
     ghost view = { λ o. record {
-        dictionary = o.dictionary.now;
-        end = record {
-          state = present (⟦<SlotStore as Store>⟧.history o.store);
-          code = o.code;
-          stopped = o.stopped;
-        };
-        reply = o.reply;
+      dictionary = o.dictionary.now;
+      end = record {
+        state = present (⟦<SlotStore as Store>⟧.history o.store);
+        code = o.code;
+        stopped = o.stopped;
+      };
+      reply = o.reply;
     } };
 
     ghost invariant = { λ o. StateFits o.dictionary.now
@@ -75,13 +75,13 @@ impl<'a> RunOutcome<'a> {
     ) -> RunOutcome<'a>
         requires { StateFits dictionary.now (present (⟦<SlotStore as Store>⟧.history store)) }
         ensures { result ≡ record {
-            dictionary = dictionary.entry.now;
-            end = record {
-              state = present (⟦<SlotStore as Store>⟧.history store);
-              code = code;
-              stopped = stopped;
-            };
-            reply = reply;
+          dictionary = dictionary.entry.now;
+          end = record {
+            state = present (⟦<SlotStore as Store>⟧.history store);
+            code = code;
+            stopped = stopped;
+          };
+          reply = reply;
         } }
     {
         RunOutcome {

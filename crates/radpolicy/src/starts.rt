@@ -206,7 +206,13 @@ impl<'a> Start<'a> {
         ensures printed { IfErr result IsPrintedAnywhere }
     {
         let pairs = read_lines(alloc, prepared.dictionary(), text)?;
-        Ok(Start::new(alloc, prepared, secret, head.form_of(), head.packet_of(pairs)))
+        Ok(Start::new(
+            alloc,
+            prepared,
+            secret,
+            head.form_of(),
+            head.packet_of(pairs),
+        ))
     }
 
     /// A run over a request of these pairs, the first of which that does not fit the dictionary is refused, and the one
@@ -226,7 +232,13 @@ impl<'a> Start<'a> {
         ensures printed { IfErr result IsPrintedAnywhere }
     {
         match fitting(prepared.dictionary(), pairs) {
-            Ok(pairs) => Ok(Start::new(alloc, prepared, secret, head.form_of(), head.packet_of(pairs))),
+            Ok(pairs) => Ok(Start::new(
+                alloc,
+                prepared,
+                secret,
+                head.form_of(),
+                head.packet_of(pairs),
+            )),
             Err(fault) => Err(Fault::Request(fault)),
         }
     }
@@ -343,9 +355,9 @@ impl<'a> Start<'a> {
     // Where the run ends.
     fn end_of(self, alloc: Global) -> Result<Ended, AllocError>
         ensures end { IfOk result (λ ended. end_of self.entry ≡ record {
-            state = present (⟦<SlotStore as Store>⟧.history ended.store);
-            code = ended.code;
-            stopped = ended.stopped;
+          state = present (⟦<SlotStore as Store>⟧.history ended.store);
+          code = ended.code;
+          stopped = ended.stopped;
         }) }
         ensures fits { IfOk result (λ ended. StateFits self.entry.prepared.dictionary
             (present (⟦<SlotStore as Store>⟧.history ended.store))) }
@@ -368,6 +380,17 @@ impl<'a> Start<'a> {
 
     /// Runs the policy to its end. The run needs no memory that it does not give back with its outcome, and changes
     /// nothing that was prepared.
+    ///
+    /// ```rust
+    /// // The policy is `update reply { Session-Timeout := 600 }`.
+    /// let (kind, id, authenticator) = (RequestKind::Access, 7, None);
+    /// let head = RequestHead { kind, id, authenticator };
+    /// let start = Start::of_lines(alloc, prepared, None, head, b"NAS-Port = 3")?;
+    /// let outcome = start.with_reply_lines(alloc, b"Class = 0x01")?.run(alloc)?;
+    /// assert_eq!(rt; outcome.store().count(List::Reply), 2);
+    /// let report = outcome.text(alloc)?;
+    /// assert!(rt; report.ends_with(b"  Session-Timeout = 600\ncontrol\nresult ok\n"));
+    /// ```
     pub fn run(self, alloc: Global) -> Result<RunOutcome<'a>, Fault>
         ensures ok { IfOk result (λ outcome. outcome_of self.entry ≡ Some outcome) }
         ensures refused { IfErr result (MemoryOr (λ f. (f ≡ fault.PacketTooLong)
