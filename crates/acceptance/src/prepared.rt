@@ -237,7 +237,7 @@ fn refuses_secrets_policies_and_packets(rt: HostRuntime) -> Result<(), Fail> {
         packet,
         b"radpolicy: E40: fewer than 20 octets\n",
     )?;
-    let owned = OwnedPolicy::read(alloc, dictionary, b"fails").err();
+    let owned = OwnedPolicy::read(alloc, test_dictionary(alloc)?, b"fails").err();
     expect_refused(
         &rt,
         alloc,

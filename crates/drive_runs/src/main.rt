@@ -24,6 +24,7 @@ fn dictionary_of(rt: &HostRuntime, paths: &[String]) -> io::Result<Dictionary> {
 }
 
 // What each run begins with besides its policy.
+#[derive(Drop)]
 struct Given<'a> {
     packet: &'a [u8],
     reply: &'a [u8],
