@@ -41,8 +41,8 @@ with_escapes escaping zero (o ∷ os) = if begins_separator escaping (o ∷ os)
 
 -- ---- strings
 
--- the string of a text in UTF-8: between quotes, with the shortest escapes of quotes, \ and what is below 0x20, and then
--- with these
+-- the string of a text in UTF-8: between quotes, with the shortest escapes of quotes, \ and what is below 0x20, and
+-- then with these
 unfoldable pub json_string : Escaping → List ℕ → List ℕ
 json_string escaping text = with_escapes escaping 0 (quoted text)
 

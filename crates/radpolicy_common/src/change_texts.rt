@@ -94,8 +94,8 @@ fn push_changes(
     Ok(())
 }
 
-/// The lines `- Name = value` of what is removed and `+ Name = value` of what is added, in the order of the changes, each
-/// with a line feed. Names and values are printed as in reports. What is kept has no line.
+/// The lines `- Name = value` of what is removed and `+ Name = value` of what is added, in the order of the changes,
+/// each with a line feed. Names and values are printed as in reports. What is kept has no line.
 pub fn change_lines(
     alloc: Global,
     dictionary: &Dictionary,

@@ -127,8 +127,8 @@ fn empty_files(alloc: Global, paths: &[&str]) -> Result<FileSet, AllocError>
     Ok(FileSet::from_vec(files))
 }
 
-/// Dictionary files, the main one first, that a dictionary can be read from. No file is read where none is named, or two
-/// have one last component.
+/// Dictionary files, the main one first, that a dictionary can be read from. No file is read where none is named, or
+/// two have one last component.
 #[tactic(auto, using(crate::proofs::FileNames::distinct_by_names, crate::proofs::FileNames::some_by_names))]
 pub fn read_dictionary_set<'a>(rt: &HostRuntime, paths: &[&'a str]) -> Result<FileSet, Unread<'a>>
     ensures named { IfOk result (λ files. names_of_files files ≡ names_of_paths paths.now) }

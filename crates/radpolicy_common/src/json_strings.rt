@@ -101,8 +101,8 @@ fn push_string(text: &mut Vec<u8>, string: &str, escaping: Escaping) -> Result<(
 
 /// Adds octets as JSON: UTF-8 as a string, other octets as the object `{"octets":"00ff"}` of their hexadecimal digits.
 ///
-/// In a string `"`, `\`, what is below 0x20 and 0x7f are escaped, and what the escaping says; other characters are as they
-/// are.
+/// In a string `"`, `\`, what is below 0x20 and 0x7f are escaped, and what the escaping says; other characters are as
+/// they are.
 pub fn push_json_string(
     text: &mut Vec<u8>,
     octets: &[u8],

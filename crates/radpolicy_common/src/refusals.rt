@@ -26,8 +26,8 @@ pub fn refuse_early(rt: &HostRuntime, fault: &Fault) -> u8
     refuse(rt, fault, &FileSet::from_vec(Vec::new(rt.alloc())))
 }
 
-/// Prints the line of files that were not all read, and gives its status: want of memory is E09, no dictionary file E01,
-/// two of one name E02, and a file that was not readable E04 with its path.
+/// Prints the line of files that were not all read, and gives its status: want of memory is E09, no dictionary file
+/// E01, two of one name E02, and a file that was not readable E04 with its path.
 pub fn refuse_unread(rt: &HostRuntime, unread: Unread<'_>) -> u8
     ensures { result ≡ status_of (fault_of_unread unread.entry) }
 {

@@ -14,8 +14,8 @@ pub const SECRET_ENDINGS: [&str; 3] = ["Passphrase", "Password", "Secret"];
 
 /// Other names of attributes that are secret.
 ///
-/// What answers or asks for a proof of a password (CHAP, MS-CHAP, Digest, ARAP), from which it can be guessed; keys; and what
-/// FreeRADIUS's dictionaries mark with `encrypt=2`, `encrypt=3` or `secret`.
+/// What answers or asks for a proof of a password (CHAP, MS-CHAP, Digest, ARAP), from which it can be guessed; keys;
+/// and what FreeRADIUS's dictionaries mark with `encrypt=2`, `encrypt=3` or `secret`.
 pub const SECRET_NAMES: [&str; 62] = [
     "3GPP2-MN-HA-Shared-Key",
     "ALU-AAA-Key-0",
@@ -185,9 +185,9 @@ fn is_named_secret(dictionary: &Dictionary, id: AttrId) -> bool
     }
 }
 
-/// Whether an attribute's value is not to be shown: by the dictionary (`encrypt=1`), by its name, in either case, or by
-/// its number. It is by name that attributes which the dictionary marks with `encrypt=2` or `encrypt=3` are known, since
-/// a [`Dictionary`] does not keep these marks.
+/// Whether an attribute's value is not to be shown: by the dictionary (`encrypt=1`), by its name, in either case, or
+/// by its number. It is by name that attributes which the dictionary marks with `encrypt=2` or `encrypt=3` are known,
+/// since a [`Dictionary`] does not keep these marks.
 #[tactic(auto, unfolding(crate::specs::SecretAttributes::is_secret))]
 pub fn is_secret(dictionary: &Dictionary, id: AttrId, value: &Value) -> bool
     ensures { result ≡ is_secret id value.now dictionary.now }

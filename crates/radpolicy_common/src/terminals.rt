@@ -145,8 +145,8 @@ fn text_length(octets: &[u8]) -> usize
     }
 }
 
-/// Octets as they may be shown on a terminal: control characters (below 0x20, 0x7f, and U+0080 to U+009F) and octets that
-/// are no UTF-8 as `\` and three octal digits each. LF and TAB are kept where that is asked for.
+/// Octets as they may be shown on a terminal: control characters (below 0x20, 0x7f, and U+0080 to U+009F) and octets
+/// that are no UTF-8 as `\` and three octal digits each. LF and TAB are kept where that is asked for.
 #[tactic(auto, using(crate::proofs::Visibility::joined_is_visible))]
 pub fn visible_text(alloc: Global, octets: &[u8], breaks: LineBreaks) -> Result<Vec<u8>, AllocError>
     ensures visible { IfOk result (λ text. all_visible breaks text.items ≡ true) }
