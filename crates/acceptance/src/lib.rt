@@ -16,8 +16,6 @@ mod packets;
 #[cfg(test)]
 mod policies;
 #[cfg(test)]
-mod prepared;
-#[cfg(test)]
 mod program;
 #[cfg(test)]
 mod runs;

@@ -96,8 +96,8 @@ pub fn job_of(alloc: Global, sources: &[Source], plan: &Plan) -> Result<Job, All
     })
 }
 
-/// The line of a fault.
-pub fn line_of(alloc: Global, fault: &Fault, files: &FileSet) -> Vec<u8>
+// The line of a fault.
+fn line_of(alloc: Global, fault: &Fault, files: &FileSet) -> Vec<u8>
     requires { IsPrintedWith files.now fault.now }
 {
     let mut line = Vec::new(alloc);

@@ -45,10 +45,10 @@ fn run_once<'a>(
 }
 
 // The runs, each by itself: a refused one does not end the others.
-fn run_often(
+fn run_often<'a>(
     rt: &HostRuntime,
-    prepared: &PreparedPolicy<'_>,
-    secret: &Secret<'_>,
+    prepared: &'a PreparedPolicy<'a>,
+    secret: &'a Secret<'a>,
     given: &Given<'_>,
     count: u32,
 ) -> io::Result<()> {
@@ -99,11 +99,11 @@ fn main(rt: HostRuntime) -> io::Result<()> {
         reply: &reply,
         control: &control,
     };
-    match (
-        PreparedPolicy::read(rt.alloc(), &dictionary, &policy),
-        Secret::in_file(&secret),
-    ) {
-        (Ok(prepared), Ok(secret)) => run_often(&rt, &prepared, &secret, &given, count),
-        (Err(fault), _) | (_, Err(fault)) => println!(&rt; "not prepared: {}", fault.number()),
-    }
+    let Ok(secret) = Secret::in_file(&secret) else {
+        return Err(io::ErrorKind::InvalidInput.into());
+    };
+    let Ok(prepared) = PreparedPolicy::read(rt.alloc(), &dictionary, &policy) else {
+        return Err(io::ErrorKind::InvalidInput.into());
+    };
+    run_often(&rt, &prepared, &secret, &given, count)
 }

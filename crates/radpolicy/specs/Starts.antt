@@ -64,14 +64,15 @@ packet_of head pairs = record {
   list = pairs;
 }
 
-abbrev pub form_of_kind : RequestKind → Form
-form_of_kind kind.Access = form.Access
-form_of_kind kind.Accounting = form.Accounting
+-- the authenticator of an Accounting-Request that came without one is made of its list, as it is for lines; every
+-- other is the request's own
+abbrev pub form_by : RequestKind → Option (List ℕ) → Form
+form_by kind.Access own = form.Access
+form_by kind.Accounting (Some own) = form.Hex
+form_by kind.Accounting None = form.Accounting
 
--- a request with an authenticator of its own is as a packet that came; one without is as lines, so that the
--- authenticator of an Accounting-Request is made of its list
 abbrev pub form_of : RequestHead → Form
-form_of head = elim head.authenticator [ Some own ↦ form.Hex | None ↦ form_of_kind head.kind ]
+form_of head = form_by head.kind head.authenticator
 
 -- a run over a request with this head and list
 abbrev pub start_with : Prepared → Option (List ℕ) → RequestHead → List Pair → Start

@@ -1,12 +1,12 @@
 //! A job, answered by its report.
 
-ghost use Rattle.std.specs.Prelude.{All, ◌≡◌, ◌≢◌, ◌⊎◌, ◌<◌, None, Ok, Some, true, false, length, IfOk, IfErr, IsErrOf, OnOk};
+ghost use Rattle.std.specs.Prelude.{All, ◌≡◌, ◌≢◌, ◌⊎◌, ◌<◌, ◌↔◌, None, Ok, Some, true, false, length, IfOk, IfErr, IsErrOf, OnOk};
 ghost use Rattle.std.specs.Io.KnownBytes.{Appends};
 ghost use Rattle.std.specs.Option.{option_copied};
 ghost use Rattle.radpolicy.specs.Faults.{IsPrintedWith, MemoryOr};
 ghost use Rattle.radpolicy.specs.JobReports.{IsCheckRefusal, IsCheckReport, IsCheckedPolicyRefusal, IsDictionaryRefusal, IsOpened, IsMakingRefusal, IsOpenRefusal, IsPacketReport, IsPolicy, IsPolicyRefusal, IsRefused, IsReport, IsRequestOrReplyRefusal, IsRunReport, IsScript, IsScriptOrRequestRefusal, IsSizeOf, IsStepReport, decode_report, dictionary_for, encode_report, opened, policy_of, script_of};
 ghost use Rattle.radpolicy.specs.Scripts.{IsUnknownWord, script_spelled};
-ghost use Rattle.radpolicy.specs.OutcomeReports.{IsOutcomeReport};
+ghost use Rattle.radpolicy.specs.OutcomeReports.{IsOutcomeRefusal, IsOutcomeReport};
 ghost use Rattle.radpolicy.specs.Plans.{IsSound, asked_by_job};
 ghost use Rattle.radpolicy.specs.ReplyMeaning.{IsRunRead};
 ghost use Rattle.radpolicy.specs.Reports.{Report};
@@ -330,8 +330,11 @@ pub fn answer<O: Output>(alloc: Global, job: &Job, out: &mut O) -> Result<Outcom
     ensures one { (a b : Report) → IsReport job.now a → IsReport job.now b → a ≡ b }
     ensures either { (report : Report) (fault : Fault) → IsReport job.now report
         → IsRefused job.now fault → ⊥ }
-    // The report of a run is the text of what the prepared policy comes to.
-    ensures ran { (report : Report) → IsRunReport job.now report → IsOutcomeReport job.now report }
+    // The report of a run is the text of what its start comes to, and the run is refused where that comes to nothing.
+    ensures ran { job.now.command ≡ TheRun → (report : Report)
+        → IsRunReport job.now report ↔ IsOutcomeReport job.now report }
+    ensures too_long { job.now.command ≡ TheRun → (fault : Fault)
+        → IsOutcomeRefusal job.now fault → IsRefused job.now fault }
     // The line of the fault can be printed.
     ensures printed { IfErr result (IsPrintedWith job.now.files) }
 {

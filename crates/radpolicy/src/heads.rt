@@ -1,8 +1,8 @@
 //! The head of a request whose pairs are given as a list.
 
-ghost use Rattle.std.specs.Prelude.{◌≡◌, None};
+ghost use Rattle.std.specs.Prelude.{◌≡◌};
 ghost use Rattle.avp_packet.specs.Packets.{IsRequestCode};
-ghost use Rattle.radpolicy.specs.Starts.{code_of, form_of, form_of_kind, packet_of};
+ghost use Rattle.radpolicy.specs.Starts.{code_of, form_of, packet_of};
 
 use crate::jobs::Form;
 use avp_lists::Pairs;
@@ -26,15 +26,6 @@ impl RequestKind {
         match self {
             RequestKind::Access => ACCESS_REQUEST,
             RequestKind::Accounting => ACCOUNTING_REQUEST,
-        }
-    }
-
-    fn form_of_kind(self) -> Form
-        ensures { result ≡ form_of_kind self }
-    {
-        match self {
-            RequestKind::Access => Form::Access,
-            RequestKind::Accounting => Form::Accounting,
         }
     }
 }
@@ -67,9 +58,10 @@ impl RequestHead {
     pub(crate) fn form_of(self) -> Form
         ensures { result ≡ form_of self }
     {
-        match self.authenticator {
-            Some(_) => Form::Hex,
-            None => self.kind.form_of_kind(),
+        match (self.kind, self.authenticator) {
+            (RequestKind::Access, _) => Form::Access,
+            (RequestKind::Accounting, Some(_)) => Form::Hex,
+            (RequestKind::Accounting, None) => Form::Accounting,
         }
     }
 }

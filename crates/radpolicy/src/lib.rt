@@ -1,5 +1,5 @@
-//! RADIUS attribute policy, applied to one request: a job, its report, and the faults for which it is
-//! refused; the command line that asks for a job.
+//! RADIUS attribute policy: a policy that is read once and run on requests ([`PreparedPolicy`], [`Start`]); a job over
+//! one request, its report, and the faults for which it is refused ([`answer`]); the command line that asks for a job.
 #![tactic(auto)]
 
 mod answers;

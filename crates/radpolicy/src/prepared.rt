@@ -68,7 +68,7 @@ impl<'a> Model for PreparedPolicy<'a> {
 }
 
 impl<'a> PreparedPolicy<'a> {
-    /// The policy that a text spells by a dictionary. It is refused as a job's policy is, at the same line.
+    /// The policy that a text spells by a dictionary. It is refused as a job's policy is.
     ///
     /// ```rust
     /// let prepared = PreparedPolicy::read(alloc, dictionary, b"update reply { Class := 0x01 }")?;
@@ -136,7 +136,8 @@ impl Model for OwnedPolicy {
 }
 
 impl OwnedPolicy {
-    /// The policy that a text spells by a dictionary, refused as [`PreparedPolicy::read`] refuses it.
+    /// The policy that a text spells by a dictionary, refused as [`PreparedPolicy::read`] refuses it. A refusal gives up
+    /// the dictionary.
     pub fn read(alloc: Global, dictionary: Dictionary, text: &[u8]) -> Result<OwnedPolicy, Fault>
         ensures dictionary { IfOk result (λ owned. owned.dictionary ≡ dictionary) }
         ensures spelled { IfOk result (λ owned.

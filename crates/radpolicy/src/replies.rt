@@ -34,7 +34,7 @@ const PROXY_STATE_ID: AttrId = AttrId::Plain(33);
 const MESSAGE_AUTHENTICATOR_ID: AttrId = AttrId::Plain(80);
 
 /// What a reply takes of its request, and the secret.
-#[derive(Debug, Drop)]
+#[derive(Drop)]
 pub(crate) struct ReplyHead<'a> {
     secret: &'a Secret<'a>,
     code: u8,

@@ -38,7 +38,8 @@ fn first_line(text: &[u8]) -> &[u8]
 }
 
 /// A shared secret, which has one octet at least.
-#[derive(Debug, Drop)]
+// It has no Debug, so that it is not printed by mistake.
+#[derive(Drop)]
 pub struct Secret<'a> {
     octets: &'a [u8],
 }

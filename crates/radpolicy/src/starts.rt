@@ -3,7 +3,10 @@
 ghost use Rattle.std.specs.Prelude.{◌≡◌, ◌≢◌, ◌<◌, ◌≤◌, true, length, IfErr, IfNone, IfOk, IfSome, None, Ok, OnOk, Some};
 ghost use Rattle.std.specs.Option.{option_copied, option_map};
 ghost use Rattle.avp_lists.specs.History.{present};
+ghost use Rattle.avp_lists.specs.Instances.{instances};
 ghost use Rattle.avp_lists.specs.States.{max_pairs};
+ghost use Rattle.avp_lists.specs.declared.pairs.AttrId.TheVariants.{Plain};
+ghost use Rattle.avp_dict.specs.AttributeNumbers.{proxy_state};
 ghost use Rattle.avp_dict.specs.Requests.{request_spelled};
 ghost use Rattle.avp_dict.specs.Sent.{is_clean};
 ghost use Rattle.avp_packet.specs.Decoded.{decoded};
@@ -16,7 +19,7 @@ ghost use Rattle.radpolicy.specs.Faults.{IsPrintedAnywhere, MemoryOr};
 ghost use Rattle.radpolicy.specs.Replies.{proxy_states};
 ghost use Rattle.radpolicy.specs.RunOutcomes.{OutcomeIsRead, end_of, outcome_of, sent_reply};
 ghost use Rattle.radpolicy.specs.Starts.{entry_of, first_misfit, pairs_refusal, start_of, start_with};
-ghost use Rattle.radpolicy.specs.StartRefusals.{IsControlRefusal, IsPacketRefusal, IsReplyRefusal, IsRequestRefusal};
+ghost use Rattle.radpolicy.specs.StartRefusals.{AreUnreadControlLines, AreUnreadReplyLines, AreUnreadRequestLines, IsUnreadPacket};
 ghost use Rattle.radpolicy.specs.declared.faults.Fault.TheVariants as fault;
 ghost use Rattle.radpolicy.specs.declared.jobs.Form.TheVariants.{Hex};
 ghost use Rattle.radpolicy.specs.internal.ReplyHeads.{IsHeadFor, IsUsable, sent_by};
@@ -94,6 +97,9 @@ fn entry_store(alloc: Global, lists: State) -> Result<SlotStore, AllocError>
 fn read_lines(alloc: Global, dictionary: &Dictionary, text: &[u8]) -> Result<Pairs, LineFault>
     ensures read { IfOk result (λ pairs. request_spelled text.now dictionary.now ≡ Some pairs) }
     ensures list { IfOk result (IsFittingList dictionary.now) }
+    ensures clean { IfOk result (λ pairs. is_clean pairs dictionary.now ≡ true) }
+    ensures proxies { IfOk result (λ pairs.
+        is_clean (instances (Plain proxy_state) pairs) dictionary.now ≡ true) }
     ensures refused { IfErr result (λ f. f.kind ≢ LineKind.Memory
         → request_spelled text.now dictionary.now ≡ None) }
 {
@@ -169,8 +175,8 @@ impl<'a> Start<'a> {
         }
     }
 
-    /// A run over a request packet, which is refused as [`decode`] refuses it. The secret shows its hidden attributes,
-    /// and signs the reply.
+    /// A run over a request packet, which is refused as [`decode`] refuses it. By the secret its hidden attributes are
+    /// read, its authenticators checked and the reply made.
     pub fn of_packet(
         alloc: Global,
         prepared: &'a PreparedPolicy<'a>,
@@ -181,15 +187,19 @@ impl<'a> Start<'a> {
             decoded prepared.entry.now.dictionary secret.entry.now octets.now ≡ Ok start.request) }
         ensures start { IfOk result (λ start. start
             ≡ start_of prepared.entry.now (Some secret.entry.now) Hex start.request) }
-        ensures refused { IfErr result (MemoryOr (IsPacketRefusal
-            (decoded prepared.entry.now.dictionary secret.entry.now octets.now))) }
+        ensures proxies { IfOk result (λ start. is_clean (proxy_states start.request)
+            prepared.entry.now.dictionary ≡ true) }
+        ensures refused { IfErr result (IsUnreadPacket
+            (decoded prepared.entry.now.dictionary secret.entry.now octets.now)) }
         ensures printed { IfErr result IsPrintedAnywhere }
     {
         let request = decode(alloc, prepared.dictionary(), secret.as_slice(), octets)?;
         Ok(Start::new(alloc, prepared, Some(secret), Form::Hex, request))
     }
 
-    /// A run over a request of lines, refused as a job's lines are. Without a secret no reply is made.
+    /// A run over a request of lines, which are refused as a job's lines are. Without a secret no reply is made. With one,
+    /// the reply to an Access-Request that `head` gives no authenticator is made over 16 zeros, and no digest of an
+    /// Accounting-Request is checked.
     pub fn of_lines(
         alloc: Global,
         prepared: &'a PreparedPolicy<'a>,
@@ -201,7 +211,9 @@ impl<'a> Start<'a> {
             request_spelled text.now prepared.entry.now.dictionary ≡ Some start.request.list) }
         ensures start { IfOk result (λ start. start
             ≡ start_with prepared.entry.now (option_copied secret.entry) head start.request.list) }
-        ensures refused { IfErr result (MemoryOr (IsRequestRefusal
+        ensures proxies { IfOk result (λ start. is_clean (proxy_states start.request)
+            prepared.entry.now.dictionary ≡ true) }
+        ensures refused { IfErr result (MemoryOr (AreUnreadRequestLines
             (request_spelled text.now prepared.entry.now.dictionary))) }
         ensures printed { IfErr result IsPrintedAnywhere }
     {
@@ -215,8 +227,9 @@ impl<'a> Start<'a> {
         ))
     }
 
-    /// A run over a request of these pairs, the first of which that does not fit the dictionary is refused, and the one
-    /// after the most that a list may have. The line of the fault is the pair's number, from 1.
+    /// A run over a request of these pairs. Refused are the first pair that does not fit the dictionary, as not a value,
+    /// and else pair 4097, as too many; the line of the fault is the pair's number, from 1. The reply is made as that of
+    /// lines.
     pub fn of_pairs(
         alloc: Global,
         prepared: &'a PreparedPolicy<'a>,
@@ -243,13 +256,15 @@ impl<'a> Start<'a> {
         }
     }
 
-    /// The same with the reply list of these lines, which are read as a request's.
+    /// The same with the reply list of these lines, which are read as a request's. A refusal gives up the start.
     pub fn with_reply_lines(self, alloc: Global, text: &[u8]) -> Result<Start<'a>, Fault>
         ensures read { IfOk result (λ start.
             request_spelled text.now self.entry.prepared.dictionary ≡ Some start.reply) }
         ensures start { IfOk result (λ start. start
             ≡ record self.entry { reply = start.reply }) }
-        ensures refused { IfErr result (MemoryOr (IsReplyRefusal
+        ensures clean { IfOk result (λ start.
+            is_clean start.reply self.entry.prepared.dictionary ≡ true) }
+        ensures refused { IfErr result (MemoryOr (AreUnreadReplyLines
             (request_spelled text.now self.entry.prepared.dictionary))) }
         ensures printed { IfErr result IsPrintedAnywhere }
     {
@@ -259,13 +274,13 @@ impl<'a> Start<'a> {
         }
     }
 
-    /// The same with the control list of these lines, which are read as a request's.
+    /// The same with the control list of these lines, which are read as a request's. A refusal gives up the start.
     pub fn with_control_lines(self, alloc: Global, text: &[u8]) -> Result<Start<'a>, Fault>
         ensures read { IfOk result (λ start.
             request_spelled text.now self.entry.prepared.dictionary ≡ Some start.control) }
         ensures start { IfOk result (λ start. start
             ≡ record self.entry { control = start.control }) }
-        ensures refused { IfErr result (MemoryOr (IsControlRefusal
+        ensures refused { IfErr result (MemoryOr (AreUnreadControlLines
             (request_spelled text.now self.entry.prepared.dictionary))) }
         ensures printed { IfErr result IsPrintedAnywhere }
     {
@@ -275,7 +290,7 @@ impl<'a> Start<'a> {
         }
     }
 
-    /// The same with these pairs as its reply list, refused as those of a request.
+    /// The same with these pairs as its reply list, refused as those of a request. A refusal gives up the start.
     pub fn with_reply(self, pairs: Pairs) -> Result<Start<'a>, Fault>
         ensures fits { OnOk result (pairs_refusal self.entry.prepared.dictionary pairs ≡ None) }
         ensures start { IfOk result (λ start. start ≡ record self.entry { reply = pairs }) }
@@ -289,7 +304,7 @@ impl<'a> Start<'a> {
         }
     }
 
-    /// The same with these pairs as its control list, refused as those of a request.
+    /// The same with these pairs as its control list, refused as those of a request. A refusal gives up the start.
     pub fn with_control(self, pairs: Pairs) -> Result<Start<'a>, Fault>
         ensures fits { OnOk result (pairs_refusal self.entry.prepared.dictionary pairs ≡ None) }
         ensures start { IfOk result (λ start. start ≡ record self.entry { control = pairs }) }

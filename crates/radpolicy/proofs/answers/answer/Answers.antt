@@ -1,5 +1,8 @@
+use Rattle.std.proofs.Common.{inr, subst, sym}
 use Rattle.radpolicy.proofs.OneReport.{not_both, one_report}
-use Rattle.radpolicy.proofs.PreparedRuns.{report_is_of_outcome}
+use Rattle.radpolicy.specs.JobReports.{RefusalOf}
+use Rattle.radpolicy.specs.declared.jobs.Command.{Command}
+use Rattle.radpolicy.proofs.PreparedRuns.{made_of_lines, outcome_is_refused, outcome_is_report, report_is_of_outcome}
 use Rattle.radpolicy.proofs.answers.answer.Goals as goal
 
 pub returns-in_err-report-clause-one : goal.returns-in_err-report-clause-one
@@ -20,11 +23,33 @@ returns-clause-one g c = one_report c.args.job.now
 pub returns-clause-either : goal.returns-clause-either
 returns-clause-either g c = not_both c.args.job.now
 
+
 pub returns-in_err-report-clause-ran : goal.returns-in_err-report-clause-ran
-returns-in_err-report-clause-ran g c = report_is_of_outcome c.args.job.now
+returns-in_err-report-clause-ran g c = λ is report.
+    let made = made_of_lines c.args.job.now c.requires.sound is in
+    (report_is_of_outcome c.args.job.now made report, outcome_is_report c.args.job.now made report)
+
+pub returns-in_err-report-clause-too_long : goal.returns-in_err-report-clause-too_long
+returns-in_err-report-clause-too_long g c = λ is f none.
+    let refused = outcome_is_refused c.args.job.now (made_of_lines c.args.job.now c.requires.sound is) f none in
+    subst (λ (own : Command). RefusalOf own c.args.job.now f) (sym is) (inr (inr refused))
 
 pub returns-in-Ok-clause-ran : goal.returns-in-Ok-clause-ran
-returns-in-Ok-clause-ran g c = report_is_of_outcome c.args.job.now
+returns-in-Ok-clause-ran g c = λ is report.
+    let made = made_of_lines c.args.job.now c.requires.sound is in
+    (report_is_of_outcome c.args.job.now made report, outcome_is_report c.args.job.now made report)
+
+pub returns-in-Ok-clause-too_long : goal.returns-in-Ok-clause-too_long
+returns-in-Ok-clause-too_long g c = λ is f none.
+    let refused = outcome_is_refused c.args.job.now (made_of_lines c.args.job.now c.requires.sound is) f none in
+    subst (λ (own : Command). RefusalOf own c.args.job.now f) (sym is) (inr (inr refused))
 
 pub returns-clause-ran : goal.returns-clause-ran
-returns-clause-ran g c = report_is_of_outcome c.args.job.now
+returns-clause-ran g c = λ is report.
+    let made = made_of_lines c.args.job.now c.requires.sound is in
+    (report_is_of_outcome c.args.job.now made report, outcome_is_report c.args.job.now made report)
+
+pub returns-clause-too_long : goal.returns-clause-too_long
+returns-clause-too_long g c = λ is f none.
+    let refused = outcome_is_refused c.args.job.now (made_of_lines c.args.job.now c.requires.sound is) f none in
+    subst (λ (own : Command). RefusalOf own c.args.job.now f) (sym is) (inr (inr refused))

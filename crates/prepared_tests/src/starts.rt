@@ -1,0 +1,54 @@
+//! What the tests share: heads of requests, pairs, and runs by lines.
+
+use avp_lists::{AttrId, Octets, Pair, Value};
+use radpolicy::{PreparedPolicy, RequestHead, RequestKind, Start};
+use std::alloc::{AllocError, Global};
+use std::test::Fail;
+
+pub const ACCESS: RequestHead = RequestHead {
+    kind: RequestKind::Access,
+    id: 7,
+    authenticator: None,
+};
+
+pub const ACCOUNTING: RequestHead = RequestHead {
+    kind: RequestKind::Accounting,
+    id: 7,
+    authenticator: None,
+};
+
+/// The authenticator of the request in RFC 2865, section 7.1.
+pub const AUTHENTICATOR: [u8; 16] = [
+    0x0f, 0x40, 0x3f, 0x94, 0x73, 0x97, 0x80, 0x57, 0xbd, 0x83, 0xd5, 0xcb, 0x98, 0xf4, 0x22, 0x7a,
+];
+
+/// A Class of one octet.
+pub fn class(alloc: Global, octet: u8) -> Result<Pair, AllocError> {
+    Ok(Pair {
+        id: AttrId::Plain(25),
+        value: Value::Bytes(Octets::from_slice(alloc, &[octet])?),
+    })
+}
+
+/// The start of a run over an Access-Request of these lines, without a secret.
+pub fn start<'a>(
+    alloc: Global,
+    prepared: &'a PreparedPolicy<'a>,
+    lines: &[u8],
+) -> Result<Start<'a>, Fail> {
+    Ok(Start::of_lines(alloc, prepared, None, ACCESS, lines)?)
+}
+
+/// The report of a run over these request, reply and control lines.
+pub fn run_of<'a>(
+    alloc: Global,
+    prepared: &'a PreparedPolicy<'a>,
+    lists: [&[u8]; 3],
+) -> Result<Vec<u8>, Fail> {
+    let [request, reply, control] = lists;
+    let outcome = start(alloc, prepared, request)?
+        .with_reply_lines(alloc, reply)?
+        .with_control_lines(alloc, control)?
+        .run(alloc)?;
+    Ok(outcome.text(alloc)?)
+}
