@@ -157,7 +157,11 @@ impl OwnedPolicy {
     /// // The policy is `reject`.
     /// let prepared = owned.prepared();
     /// let (kind, id, authenticator) = (RequestKind::Access, 7, None);
-    /// let head = RequestHead { kind, id, authenticator };
+    /// let head = RequestHead {
+    ///     kind,
+    ///     id,
+    ///     authenticator,
+    /// };
     /// let outcome = Start::of_lines(alloc, &prepared, None, head, b"NAS-Port = 3")?.run(alloc)?;
     /// assert_eq!(rt; (outcome.code(), outcome.stopped()), (Code::Reject, true));
     /// ```

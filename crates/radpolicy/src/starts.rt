@@ -399,7 +399,11 @@ impl<'a> Start<'a> {
     /// ```rust
     /// // The policy is `update reply { Session-Timeout := 600 }`.
     /// let (kind, id, authenticator) = (RequestKind::Access, 7, None);
-    /// let head = RequestHead { kind, id, authenticator };
+    /// let head = RequestHead {
+    ///     kind,
+    ///     id,
+    ///     authenticator,
+    /// };
     /// let start = Start::of_lines(alloc, prepared, None, head, b"NAS-Port = 3")?;
     /// let outcome = start.with_reply_lines(alloc, b"Class = 0x01")?.run(alloc)?;
     /// assert_eq!(rt; outcome.store().count(List::Reply), 2);

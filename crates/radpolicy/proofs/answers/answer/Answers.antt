@@ -23,7 +23,6 @@ returns-clause-one g c = one_report c.args.job.now
 pub returns-clause-either : goal.returns-clause-either
 returns-clause-either g c = not_both c.args.job.now
 
-
 pub returns-in_err-report-clause-ran : goal.returns-in_err-report-clause-ran
 returns-in_err-report-clause-ran g c = λ is report.
     let made = made_of_lines c.args.job.now c.requires.sound is in
