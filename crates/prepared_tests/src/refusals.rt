@@ -1,58 +1,34 @@
 //! What is refused when a policy is prepared or a run begins, by the line of the fault.
 
-ghost use Rattle.std.specs.Prelude.{IfErr};
-ghost use Rattle.radpolicy.specs.Faults.{IsPrintedAnywhere};
+ghost use Rattle.std.specs.Prelude.{IfErr, []};
+ghost use Rattle.radpolicy.specs.Faults.{IsPrintedWith};
 
 use crate::starts::{ACCESS, class, start};
-use avp_dict::{Dictionary, FileSet};
+use avp_dict::FileSet;
 use avp_lists::{AttrId, Pair, Pairs, Value, copy_pair};
 use radpolicy::{Fault, OwnedPolicy, PreparedPolicy, Secret, Start, WriteOutput, print_fault};
 use samples::test_dictionary;
 use std::alloc::Global;
-use std::process::Abort;
 use std::test::Fail;
 
-// The line of a refusal.
-fn line_of<T: Drop>(alloc: Global, made: Result<T, Fault>) -> Result<Vec<u8>, Fail>
-    requires { IfErr made IsPrintedAnywhere }
+// The line of a fault.
+fn line_of(alloc: Global, fault: &Fault) -> Vec<u8>
+    requires { IsPrintedWith [] fault.now }
 {
-    let Err(fault) = made else {
-        return Err(Fail::new("a refusal"));
-    };
     let files = FileSet::from_vec(Vec::new(alloc));
     let mut line = Vec::new(alloc);
-    let _ = print_fault(&fault, &files, &mut WriteOutput::new(&mut line));
-    Ok(line)
+    let _ = print_fault(fault, &files, &mut WriteOutput::new(&mut line));
+    line
 }
 
-fn request_line<'a>(
-    alloc: Global,
-    prepared: &'a PreparedPolicy<'a>,
-    lines: &[u8],
-) -> Result<Vec<u8>, Fail> {
-    line_of(alloc, Start::of_lines(alloc, prepared, None, ACCESS, lines))
-}
-
-fn reply_line<'a>(
-    alloc: Global,
-    prepared: &'a PreparedPolicy<'a>,
-    lines: &[u8],
-) -> Result<Vec<u8>, Fail> {
-    line_of(
-        alloc,
-        start(alloc, prepared, b"")?.with_reply_lines(alloc, lines),
-    )
-}
-
-fn control_line<'a>(
-    alloc: Global,
-    prepared: &'a PreparedPolicy<'a>,
-    lines: &[u8],
-) -> Result<Vec<u8>, Fail> {
-    line_of(
-        alloc,
-        start(alloc, prepared, b"")?.with_control_lines(alloc, lines),
-    )
+// The line of a start that is refused.
+fn refused(alloc: Global, made: Result<Start<'_>, Fault>) -> Result<Vec<u8>, Fail>
+    requires { IfErr made (IsPrintedWith []) }
+{
+    match made {
+        Ok(_) => Err(Fail::new("a refusal")),
+        Err(fault) => Ok(line_of(alloc, &fault)),
+    }
 }
 
 #[test]
@@ -60,11 +36,16 @@ fn refuses_lines(rt: HostRuntime) -> Result<(), Fail> {
     let alloc = rt.alloc();
     let dictionary = test_dictionary(alloc)?;
     let prepared = PreparedPolicy::read(alloc, &dictionary, b"")?;
-    let line = request_line(alloc, &prepared, b"\nNosuch = 1")?;
+    let line = refused(
+        alloc,
+        Start::of_lines(alloc, &prepared, None, ACCESS, b"\nNosuch = 1"),
+    )?;
     assert!(&rt; line.as_slice() == b"radpolicy: E32 request:2: unknown attribute\n".as_slice());
-    let line = reply_line(alloc, &prepared, b"\nNAS-Port = x")?;
+    let made = start(alloc, &prepared, b"")?.with_reply_lines(alloc, b"\nNAS-Port = x");
+    let line = refused(alloc, made)?;
     assert!(&rt; line.as_slice() == b"radpolicy: E30 reply:2: not a value\n".as_slice());
-    let line = control_line(alloc, &prepared, b"Attr-26 = 0x00")?;
+    let made = start(alloc, &prepared, b"")?.with_control_lines(alloc, b"Attr-26 = 0x00");
+    let line = refused(alloc, made)?;
     assert!(&rt; line.as_slice() == b"radpolicy: E33 control:1: not writable\n".as_slice());
     Ok(())
 }
@@ -90,22 +71,16 @@ fn with_a_misfit(alloc: Global) -> Result<Pairs, Fail> {
     Ok(Pairs::from_vec(pairs))
 }
 
-fn request_pairs<'a>(
-    alloc: Global,
-    prepared: &'a PreparedPolicy<'a>,
-    pairs: Pairs,
-) -> Result<Vec<u8>, Fail> {
-    line_of(alloc, Start::of_pairs(alloc, prepared, None, ACCESS, pairs))
-}
-
 #[test]
 fn refuses_pairs(rt: HostRuntime) -> Result<(), Fail> {
     let alloc = rt.alloc();
     let dictionary = test_dictionary(alloc)?;
     let prepared = PreparedPolicy::read(alloc, &dictionary, b"")?;
-    let line = request_pairs(alloc, &prepared, with_a_misfit(alloc)?)?;
+    let made = Start::of_pairs(alloc, &prepared, None, ACCESS, with_a_misfit(alloc)?);
+    let line = refused(alloc, made)?;
     assert!(&rt; line.as_slice() == b"radpolicy: E30 request:2: not a value\n".as_slice());
-    let line = request_pairs(alloc, &prepared, classes(alloc, 4097)?)?;
+    let made = Start::of_pairs(alloc, &prepared, None, ACCESS, classes(alloc, 4097)?);
+    let line = refused(alloc, made)?;
     assert!(&rt; line.as_slice() == b"radpolicy: E35 request:4097: too many pairs\n".as_slice());
     let full = Start::of_pairs(alloc, &prepared, None, ACCESS, classes(alloc, 4096)?);
     assert!(&rt; full.is_ok());
@@ -118,25 +93,33 @@ fn refuses_initial_pairs(rt: HostRuntime) -> Result<(), Fail> {
     let dictionary = test_dictionary(alloc)?;
     let prepared = PreparedPolicy::read(alloc, &dictionary, b"")?;
     let reply = start(alloc, &prepared, b"")?.with_reply(with_a_misfit(alloc)?);
-    let line = line_of(alloc, reply)?;
+    let line = refused(alloc, reply)?;
     assert!(&rt; line.as_slice() == b"radpolicy: E30 reply:2: not a value\n".as_slice());
     let control = start(alloc, &prepared, b"")?.with_control(classes(alloc, 4097)?);
-    let line = line_of(alloc, control)?;
+    let line = refused(alloc, control)?;
     assert!(&rt; line.as_slice() == b"radpolicy: E35 control:4097: too many pairs\n".as_slice());
     Ok(())
-}
-
-fn policy_line(alloc: Global, dictionary: &Dictionary, text: &[u8]) -> Result<Vec<u8>, Fail> {
-    line_of(alloc, PreparedPolicy::read(alloc, dictionary, text))
 }
 
 #[test]
 fn refuses_policies(rt: HostRuntime) -> Result<(), Fail> {
     let alloc = rt.alloc();
     let dictionary = test_dictionary(alloc)?;
-    let line = policy_line(alloc, &dictionary, b"\nokay")?;
+    let Err(fault) = PreparedPolicy::read(alloc, &dictionary, b"\nokay") else {
+        return Err(Fail::new("a refusal"));
+    };
+    let line = line_of(alloc, &fault);
     assert!(&rt; line.as_slice() == b"radpolicy: E51 policy:2: token does not fit\n".as_slice());
-    let line = line_of(alloc, OwnedPolicy::read(alloc, dictionary, b"fails"))?;
+    Ok(())
+}
+
+#[test]
+fn refuses_owned_policies(rt: HostRuntime) -> Result<(), Fail> {
+    let alloc = rt.alloc();
+    let Err(fault) = OwnedPolicy::read(alloc, test_dictionary(alloc)?, b"fails") else {
+        return Err(Fail::new("a refusal"));
+    };
+    let line = line_of(alloc, &fault);
     assert!(&rt; line.as_slice() == b"radpolicy: E51 policy:1: token does not fit\n".as_slice());
     Ok(())
 }
@@ -149,7 +132,7 @@ fn refuses_secrets_and_packets(rt: HostRuntime) -> Result<(), Fail> {
     let prepared = PreparedPolicy::read(alloc, &dictionary, b"")?;
     let secret = Secret::new(b"s")?;
     let packet = Start::of_packet(alloc, &prepared, &secret, b"\x01\x00\x00\x14");
-    let line = line_of(alloc, packet)?;
+    let line = refused(alloc, packet)?;
     assert!(&rt; line.as_slice() == b"radpolicy: E40: fewer than 20 octets\n".as_slice());
     Ok(())
 }
