@@ -136,8 +136,8 @@ impl Model for OwnedPolicy {
 }
 
 impl OwnedPolicy {
-    /// The policy that a text spells by a dictionary, refused as [`PreparedPolicy::read`] refuses it. A refusal gives up
-    /// the dictionary.
+    /// The policy that a text spells by a dictionary, refused as [`PreparedPolicy::read`] refuses it. A refusal gives
+    /// up the dictionary.
     pub fn read(alloc: Global, dictionary: Dictionary, text: &[u8]) -> Result<OwnedPolicy, Fault>
         ensures dictionary { IfOk result (λ owned. owned.dictionary ≡ dictionary) }
         ensures spelled { IfOk result (λ owned.

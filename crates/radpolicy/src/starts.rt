@@ -197,9 +197,9 @@ impl<'a> Start<'a> {
         Ok(Start::new(alloc, prepared, Some(secret), Form::Hex, request))
     }
 
-    /// A run over a request of lines, which are refused as a job's lines are. Without a secret no reply is made. With one,
-    /// the reply to an Access-Request that `head` gives no authenticator is made over 16 zeros, and no digest of an
-    /// Accounting-Request is checked.
+    /// A run over a request of lines, which are refused as a job's lines are. Without a secret no reply is made. With
+    /// one, the reply to an Access-Request that `head` gives no authenticator is made over 16 zeros, and no digest of
+    /// an Accounting-Request is checked.
     pub fn of_lines(
         alloc: Global,
         prepared: &'a PreparedPolicy<'a>,
@@ -227,9 +227,9 @@ impl<'a> Start<'a> {
         ))
     }
 
-    /// A run over a request of these pairs. Refused are the first pair that does not fit the dictionary, as not a value,
-    /// and else pair 4097, as too many; the line of the fault is the pair's number, from 1. The reply is made as that of
-    /// lines.
+    /// A run over a request of these pairs. Refused are the first pair that does not fit the dictionary, as not a
+    /// value, and else pair 4097, as too many; the line of the fault is the pair's number, from 1. The reply is made as
+    /// that of lines.
     pub fn of_pairs(
         alloc: Global,
         prepared: &'a PreparedPolicy<'a>,

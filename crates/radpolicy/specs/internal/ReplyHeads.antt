@@ -32,7 +32,8 @@ answered_by dictionary head last pairs =
 unfoldable pub AnswerIsRead : Dictionary → ReplyHead → Code → List Pair → Type 0
 AnswerIsRead dictionary head last pairs =
     is_clean pairs dictionary ≡ true → is_clean head.proxy_states.items dictionary ≡ true
-    → (authenticator octets : List ℕ) → head.authenticator ≡ Some authenticator → answered_by dictionary head last pairs ≡ Sent octets
+    → (authenticator octets : List ℕ) → head.authenticator ≡ Some authenticator
+    → answered_by dictionary head last pairs ≡ Sent octets
     → IsRead dictionary head.secret.now head.id authenticator octets
     (reply_content head.signed (reply_pairs last pairs) head.proxy_states.items)
 
