@@ -13,7 +13,7 @@ from common.program import Word
 from common.subject import Subject
 
 Finished = subprocess.CompletedProcess
-STAND_IN = Path(__file__).with_name("rt")
+STAND_IN = Path(__file__).with_name("kit") / "bin/rt"
 # Without the kit.
 SYSTEM_PATH = "/usr/local/sbin:/usr/local/bin:/usr/sbin:/usr/bin:/sbin:/bin"
 LEFT_OUT = shutil.ignore_patterns("out", "found", ".git", "__pycache__")

@@ -1,5 +1,6 @@
 """`make run`: an example before the proof and by the proved program, each time as the program prints it now."""
 import os
+import shutil
 import subprocess
 import time
 from typing import List
@@ -26,9 +27,9 @@ def give_policy(copy: Copy, seconds: int) -> str:
     return printed
 
 
-def faults_of_both(said: str, printed: str) -> List[str]:
-    """What is wrong where the example is to be shown twice, with the proof between."""
-    places = [said.find(printed), said.find(BEFORE), said.find(FIRST_CRATE), said.find(PROVED), said.rfind(printed)]
+def faults_of_both(said: str, printed: str, proof: str = FIRST_CRATE) -> List[str]:
+    """What is wrong where the example is to be shown twice, with the proof between, from this crate on."""
+    places = [said.find(printed), said.find(BEFORE), said.find(proof), said.find(PROVED), said.rfind(printed)]
     is_right = said.count(printed) == 2 and -1 not in places and places == sorted(places)
     return [] if is_right else [f"it says {said!r}"]
 
@@ -43,10 +44,9 @@ def faults_of_calls(copy: Copy, wanted: List[str]) -> List[str]:
     return [] if copy.calls() == wanted else [f"the kit was asked for {copy.calls()}"]
 
 
-def builds(copy: Copy) -> List[str]:
-    """The calls that prove and build, in their order."""
-    *libraries, program = copy.crates(CRATE)
-    return [*(f"lib {crate}" for crate in libraries), f"run {program}"]
+def builds(copy: Copy, first: str = "avp_lists") -> List[str]:
+    """The calls that prove a crate and those above it, in their order."""
+    return [f"build {crate}" for crate in copy.crates(CRATE) if first in copy.crates(crate)]
 
 
 def check_shown(copy: Copy, report: Report) -> None:
@@ -62,7 +62,9 @@ def check_shown(copy: Copy, report: Report) -> None:
     report.check("make run: with another policy", faults_of_proved(said, printed) + faults_of_calls(copy, []))
     os.utime(copy.root / "crates/avp_step/src/lib.rt")
     said = copy.make("run").stdout
-    report.check("make run: after a change of a source", faults_of_both(said, printed) + faults_of_calls(copy, both))
+    wanted = [f"try {CRATE}", *builds(copy, "avp_step")]
+    wrong = faults_of_both(said, printed, "\n5 of ") + faults_of_calls(copy, wanted)
+    report.check("make run: after a change of a source", wrong)
 
 
 def check_stopped(copy: Copy, report: Report) -> None:
@@ -73,14 +75,20 @@ def check_stopped(copy: Copy, report: Report) -> None:
     wrong += [f"its status is {ended.returncode}"] if ended.returncode else []
     report.check("make run: nothing to show before the proof", wrong)
     for name, how in (("a proof that failed", "RT_FAILS"), ("an interrupt", "RT_INTERRUPTED")):
-        for file in (copy.root / "crates").glob("*/out/*/stamp"):
-            file.unlink()
-        (copy.root / "crates" / CRATE / "out" / CRATE).unlink()
-        ended = copy.make("run", **{how: "lib avp_packet"})
+        for crate in copy.crates(CRATE):
+            shutil.rmtree(copy.root / "crates" / crate / "out")
+        ended = copy.make("run", **{how: "build avp_packet"})
         wrong = [] if ended.returncode and PROVED not in ended.stdout else [f"{ended.returncode}: {ended.stdout!r}"]
-        wrong += [] if copy.calls()[-1] == "lib avp_packet" else [f"it went on with {copy.calls()[-1]}"]
+        wrong += [] if copy.calls()[-1] == "build avp_packet" else [f"it went on with {copy.calls()[-1]}"]
         said = copy.make("run").stdout
-        report.check(f"make run: after {name}", wrong + faults_of_both(said, printed))
+        wanted = [f"try {CRATE}", *(call for call in builds(copy) if call not in ("build avp_lists", "build avp_dict"))]
+        wrong += faults_of_both(said, printed, "\n3 of ") + faults_of_calls(copy, wanted)
+        report.check(f"make run: after {name}", wrong)
+    os.utime(copy.root / "crates/radpolicy/src/lib.rt")
+    said = copy.make("run", RT_KILLED="build radpolicy").stdout
+    wrong = faults_of_both(said, printed, "\n6 of ")
+    wrong += [] if copy.calls().count("build radpolicy") == 2 else [f"the kit was asked for {copy.calls()}"]
+    report.check("make run: with too little memory for several jobs", wrong)
 
 
 def check_guesses(copy: Copy, report: Report) -> None:
@@ -89,6 +97,7 @@ def check_guesses(copy: Copy, report: Report) -> None:
     kept.parent.mkdir()
     kept.write_text("".join(f"{crate} 60\n" for crate in crates))
     (copy.root / "crates/another/src").mkdir(parents=True)
+    (copy.root / "crates/another/src/lib.rt").touch()
     listed = copy.root / "crates.txt"
     listed.write_text(listed.read_text().replace(f"\n{CRATE}:", f"\nanother: avp_lists\n{CRATE}: another"))
     said = copy.make("run").stdout
