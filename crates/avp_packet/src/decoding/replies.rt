@@ -81,6 +81,9 @@ fn refusal(octets: &[u8], request_authenticator: &[u8; 16], secret: &[u8]) -> Op
 /// The packet's `authenticator` is the Response Authenticator. Passwords are recovered by the request's authenticator,
 /// and in an Accounting-Response by zeros.
 ///
+/// Whether it answers the caller's request is for the caller to see: the Identifier is the request's, and the code one
+/// that answers the request's code (RFC 2865, section 4; RFC 2866, section 4).
+///
 /// ```rust
 /// // The reply of a server that has the secret `testing123`, with the identifier 7.
 /// let packet = decode_reply(alloc, dictionary, b"testing123", authenticator, reply)?;
