@@ -199,15 +199,15 @@ fn operand<'a>(
     alloc: Global,
     dictionary: &Dictionary,
     depth: usize,
-    at: &Cursor<'a>,
+    at: Cursor<'a>,
 ) -> Read<'a, Cond>
-    ensures read { Reads (Within dictionary.now (suc depth) at.now) result }
-    ensures shorter { IfOk result (λ x. length x.1.text ≤ length at.now.text) }
+    ensures read { Reads (Within dictionary.now (suc depth) at.entry) result }
+    ensures shorter { IfOk result (λ x. length x.1.text ≤ length at.entry.text) }
 {
     let (token, after) = at.next();
     match token {
-        Token::Operator(Sign::Not) => negated(alloc, dictionary, depth, &after),
-        Token::Operator(Sign::Open) => closed(alloc, dictionary, depth, &after),
+        Token::Operator(Sign::Not) => negated(alloc, dictionary, depth, after),
+        Token::Operator(Sign::Open) => closed(alloc, dictionary, depth, after),
         Token::Operator(Sign::Reference) => referred_operand(alloc, dictionary, &after),
         Token::Word(word) => worded_operand(alloc, dictionary, word.as_slice(), after),
         _ => Err(at.misplaced()),
@@ -220,10 +220,10 @@ fn negated<'a>(
     alloc: Global,
     dictionary: &Dictionary,
     depth: usize,
-    at: &Cursor<'a>,
+    at: Cursor<'a>,
 ) -> Read<'a, Cond>
-    ensures read { Reads (Negated (Within dictionary.now depth) at.now) result }
-    ensures shorter { IfOk result (λ x. length x.1.text ≤ length at.now.text) }
+    ensures read { Reads (Negated (Within dictionary.now depth) at.entry) result }
+    ensures shorter { IfOk result (λ x. length x.1.text ≤ length at.entry.text) }
 {
     if depth == 0 {
         return Err(at.fault(PolicyKind::TooDeep));
@@ -239,10 +239,10 @@ pub(crate) fn closed<'a>(
     alloc: Global,
     dictionary: &Dictionary,
     depth: usize,
-    at: &Cursor<'a>,
+    at: Cursor<'a>,
 ) -> Read<'a, Cond>
-    ensures read { Reads (Closed (Within dictionary.now depth) at.now) result }
-    ensures shorter { IfOk result (λ x. length x.1.text ≤ length at.now.text) }
+    ensures read { Reads (Closed (Within dictionary.now depth) at.entry) result }
+    ensures shorter { IfOk result (λ x. length x.1.text ≤ length at.entry.text) }
 {
     if depth == 0 {
         return Err(at.fault(PolicyKind::TooDeep));
@@ -254,15 +254,15 @@ pub(crate) fn closed<'a>(
 
 // Operands with `&&` between them.
 #[cycle(conditions)]
-fn both<'a>(alloc: Global, dictionary: &Dictionary, depth: usize, at: &Cursor<'a>) -> Read<'a, Cond>
-    ensures read { Reads (Both (Within dictionary.now (suc depth)) at.now) result }
-    ensures shorter { IfOk result (λ x. length x.1.text ≤ length at.now.text) }
+fn both<'a>(alloc: Global, dictionary: &Dictionary, depth: usize, at: Cursor<'a>) -> Read<'a, Cond>
+    ensures read { Reads (Both (Within dictionary.now (suc depth)) at.entry) result }
+    ensures shorter { IfOk result (λ x. length x.1.text ≤ length at.entry.text) }
 {
     let (first, mut rest) = operand(alloc, dictionary, depth, at)?;
     let mut conds = Vec::new(alloc);
     conds.push(first)?;
     'conds: while let Some(next) = rest.after_sign(Sign::And) {
-        let (cond, end) = operand(alloc, dictionary, depth, &next)?;
+        let (cond, end) = operand(alloc, dictionary, depth, next)?;
         conds.push(cond)?;
         rest = end;
     }
@@ -275,16 +275,16 @@ fn either<'a>(
     alloc: Global,
     dictionary: &Dictionary,
     depth: usize,
-    at: &Cursor<'a>,
+    at: Cursor<'a>,
 ) -> Read<'a, Cond>
-    ensures read { Reads (Either (Within dictionary.now (suc depth)) at.now) result }
-    ensures shorter { IfOk result (λ x. length x.1.text ≤ length at.now.text) }
+    ensures read { Reads (Either (Within dictionary.now (suc depth)) at.entry) result }
+    ensures shorter { IfOk result (λ x. length x.1.text ≤ length at.entry.text) }
 {
     let (first, mut rest) = both(alloc, dictionary, depth, at)?;
     let mut conds = Vec::new(alloc);
     conds.push(first)?;
     'conds: while let Some(next) = rest.after_sign(Sign::Or) {
-        let (cond, end) = both(alloc, dictionary, depth, &next)?;
+        let (cond, end) = both(alloc, dictionary, depth, next)?;
         conds.push(cond)?;
         rest = end;
     }

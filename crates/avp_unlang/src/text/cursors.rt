@@ -203,9 +203,9 @@ impl<'a> Cursor<'a> {
     }
 
     /// The place after this operator or bracket, which has to come next.
-    pub(crate) fn expect(&self, sign: Sign) -> Result<Cursor<'a>, PolicyFault>
-        ensures taken { Takes (Follows (Operator sign) self.now) result }
-        ensures shorter { IfOk result (λ rest. length rest.text < length self.now.text) }
+    pub(crate) fn expect(self, sign: Sign) -> Result<Cursor<'a>, PolicyFault>
+        ensures taken { Takes (Follows (Operator sign) self.entry) result }
+        ensures shorter { IfOk result (λ rest. length rest.text < length self.entry.text) }
     {
         match self.after_sign(sign) {
             Some(rest) => Ok(rest),

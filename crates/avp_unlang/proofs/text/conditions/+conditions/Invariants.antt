@@ -23,8 +23,8 @@ decreases-either l = 4 * l.depth + 3
 
 abbrev pub invariant-both-conds : goal.invariant-both-conds
 invariant-both-conds l = record {
-  front : IsFront (Follows (Operator And)) (Within l.dictionary (suc l.depth)) l.at l.conds.items l.rest;
-  within : length l.rest.text ≤ length l.at.text;
+  front : IsFront (Follows (Operator And)) (Within l.dictionary (suc l.depth)) l.fn.at l.conds.items l.rest;
+  within : length l.rest.text ≤ length l.fn.at.text;
 }
 
 abbrev pub decreases-both-conds : goal.decreases-both-conds
@@ -32,8 +32,8 @@ decreases-both-conds l = length l.rest.text
 
 abbrev pub invariant-either-conds : goal.invariant-either-conds
 invariant-either-conds l = record {
-  front : IsFront (Follows (Operator Or)) (Both (Within l.dictionary (suc l.depth))) l.at l.conds.items l.rest;
-  within : length l.rest.text ≤ length l.at.text;
+  front : IsFront (Follows (Operator Or)) (Both (Within l.dictionary (suc l.depth))) l.fn.at l.conds.items l.rest;
+  within : length l.rest.text ≤ length l.fn.at.text;
 }
 
 abbrev pub decreases-either-conds : goal.decreases-either-conds
