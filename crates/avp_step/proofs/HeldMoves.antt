@@ -1,5 +1,5 @@
 -- What a stepper keeps, over each of its moves.
-use Rattle.std.proofs.Common.{◌≡◌, ℕ, zero, suc, ◌+◌, ◌-◌, ◌≤◌, ◌<◌, Bool, true, false, List, [], ◌∷◌, ◌++◌, length, get_or, refl, sym, ap, ◌∙◌, subst, cond, arith, append_assoc, length-append, zero-le}
+use Rattle.std.proofs.Common.{◌≡◌, ℕ, zero, suc, ◌+◌, ◌-◌, ◌≤◌, ◌<◌, max, Bool, true, false, List, [], ◌∷◌, ◌++◌, length, get_or, refl, sym, ap, ◌∙◌, subst, cond, arith, append_assoc, length-append, zero-le}
 use Rattle.std.proofs.Math.Seq.{get_or-append_seam}
 use Rattle.std.proofs.Math.ListN.{get_or-append}
 use Rattle.std.proofs.lemmas.List.{take_all}
@@ -16,7 +16,7 @@ use Rattle.avp_unlang.specs.Meaning.{Outcome}
 use Rattle.avp_step.specs.Trace.{Entry, Steps, end_of, start, trace_of}
 use Rattle.avp_step.specs.internal.Frames.{States, frames_suit, rest, Sit}
 use Rattle.avp_step.specs.internal.Stepping.{standing, entry_of, Names, IsStep, IsOver, IsRefused, HasRoom, StatesFit}
-use Rattle.avp_step.specs.Walk.{IsLineLabel, Walk, entry, entry_at, moved_forward, answer_of_forward}
+use Rattle.avp_step.specs.Walk.{IsBeforeNewLine, IsLineLabel, IsWithin, Walk, entry, entry_at, moved_forward, reached, answer_of_forward}
 use Rattle.avp_step.specs.internal.Held.{trace_from, walk_of, made, walk_states, nowhere, IsHeld}
 use Rattle.avp_step.proofs.LastSteps.{end_of-append}
 use Rattle.avp_step.proofs.TraceSizes.{trace_size}
@@ -91,9 +91,11 @@ module _ (d : Dictionary) (ss : List Statement) (h : History) (left : ℕ) (ms :
   pub shown_fits : (w : Walk) → walk_of d ss h p ≡ w → StateFits w.dictionary (present h)
   shown_fits w is = subst (λ (w : Walk). StateFits w.dictionary (present h)) is held_fits
 
-  pub held_within : p < length (trace_from d ss h)
-  held_within =
-      omega (arith, held.within, length_made ms h.states held.each, ap length held.trace, length-append (made ms h.states) (rest d (walk_states (walk_of d ss h p)) fs (end_of nowhere (made ms h.states))))
+  pub held_within : IsWithin (walk_of d ss h p)
+  held_within = (
+    omega (arith, held.within, held.each),
+    omega (arith, held.within, held.each, length_made ms h.states held.each, ap length held.trace, length-append (made ms h.states) (rest d (walk_states (walk_of d ss h p)) fs (end_of nowhere (made ms h.states)))),
+  )
 
   pub held_names : Names (walk_states (walk_of d ss h p)) h
   held_names k le =
@@ -141,10 +143,12 @@ module _ (d : Dictionary) (ss : List Statement) (h : History) (left : ℕ) (ms :
     next_within e es is =
         omega (arith, length_made ms h.states held.each, ap length frontier, length-append before (rest d (walk_states walk) fs (standing last h)), ap length is)
 
-    pub refused_line : (t : States → Steps) (fs1 : List Frame) → t ≡ (λ at. rest d at fs) → IsRefused d t last h fs1 → IsLineLabel (entry_at walk (p + 1)).label
+    pub refused_line : (t : States → Steps) (fs1 : List Frame) → t ≡ (λ at. rest d at fs) → IsRefused d t last h fs1 → IsBeforeNewLine walk
     refused_line t fs1 same r =
-        let f = r.line (walk_states walk) held_names in
-        subst (λ (e : Entry). IsLineLabel e.label) (sym (next_at f.0 f.1 (start empty_state) (ap (λ (t : States → Steps). t (walk_states walk) (standing last h)) (sym same) ∙ f.2))) f.3
+        let f = r.line (walk_states walk) held_names in (
+          omega (arith, held.each, end'),
+          subst (λ (e : Entry). IsLineLabel e.label) (sym (next_at f.0 f.1 (start empty_state) (ap (λ (t : States → Steps). t (walk_states walk) (standing last h)) (sym same) ∙ f.2))) f.3,
+        )
 
     -- the run is over
     pub over_end : (t : States → Steps) → t ≡ (λ at. rest d at fs) → IsOver t last h → length (trace_from d ss h) ≡ p + 1
@@ -171,7 +175,7 @@ module _ (d : Dictionary) (ss : List Statement) (h : History) (left : ℕ) (ms :
     pub over_after : (t : States → Steps) (h1 : History) → t ≡ (λ at. rest d at fs) → IsOver t last h → h1 ≡ h → (walk_of d ss h1 p ≡ moved_forward walk) × (AtEnd ≡ answer_of_forward walk)
     over_after t h1 same over still =
         let all : length (trace_from d ss h) ≤ p + 1 = omega (arith, over_end t same over) in (
-          ap (λ k. walk_of d ss k p) still ∙ sym (ap (λ b. cond b (walk_of d ss h (p + 1)) walk) (le-ltb _ _ all)),
+          ap (λ k. walk_of d ss k p) still ∙ sym (ap (λ b. cond b (reached (p + 1) walk) walk) (le-ltb _ _ all)),
           sym (ap (λ b. cond b (To (entry_at walk (p + 1)).label) AtEnd) (le-ltb _ _ all)),
         )
 
@@ -215,8 +219,10 @@ module _ (d : Dictionary) (ss : List Statement) (h : History) (left : ℕ) (ms :
 
       pub made_walk : walk_of d ss h1 (p + 1) ≡ moved_forward walk
       made_walk =
-          ap (λ s. record { dictionary = d; trace = trace_of d ss s; position = p + 1 }) first_stays
-          ∙ sym (ap (λ b. cond b (walk_of d ss h (p + 1)) walk) (lt-ltb _ _ (next_within _ _ first_step)))
+          let most : length h1.states - 1 ≡ max (length h.states - 1) (p + 1) = omega (arith, ap length states_added, length-append h.states (present h1 ∷ []), held.each, end') in
+          ap (λ s. record walk { trace = trace_of d ss s; position = p + 1; made = length h1.states - 1 }) first_stays
+          ∙ ap (λ k. record walk { position = p + 1; made = k }) most
+          ∙ sym (ap (λ b. cond b (reached (p + 1) walk) walk) (lt-ltb _ _ (next_within _ _ first_step)))
 
       pub made_answer : To mark.label ≡ answer_of_forward walk
       made_answer =
@@ -238,7 +244,7 @@ module _ (d : Dictionary) (ss : List Statement) (h : History) (left : ℕ) (ms :
           let len : length ms' ≡ length ms + 1 = omega (arith, length-append ms (mark ∷ [])) in
           let same_length : length (trace_from d ss h1) ≡ length (trace_from d ss h) = ap (λ s. length (trace_of d ss s)) first_stays in
           subst (λ l. IsHeld d ss h1 left1 l (p + 1) fs1 r3 r4) (sym more) (record {
-            trace = subst (λ s. made ms' h1.states ++ rest d (walk_states (record { dictionary = d; trace = trace_of d ss s; position = p + 1 })) fs1 (end_of nowhere (made ms' h1.states)) ≡ trace_of d ss s) (sym first_stays) trace1;
+            trace = subst (λ s. made ms' h1.states ++ rest d (walk_states (record walk { trace = trace_of d ss s })) fs1 (end_of nowhere (made ms' h1.states)) ≡ trace_of d ss s) (sym first_stays) trace1;
             each = omega (arith, ap length states_added, length-append h.states (present h1 ∷ []), held.each, len);
             place = omega (arith, at, held.place);
             within = omega (arith, held.within, len);
@@ -265,8 +271,10 @@ module _ (d : Dictionary) (ss : List Statement) (h : History) (left : ℕ) (ms :
 
     pub redone_walk : walk_of d ss h1 (p + 1) ≡ moved_forward walk
     redone_walk =
-        ap (λ states. record { dictionary = d; trace = trace_of d ss (get_or states 0 empty_state); position = p + 1 }) moved
-        ∙ sym (ap (λ b. cond b (walk_of d ss h (p + 1)) walk) (lt-ltb _ _ known_within))
+        let most : length h.states - 1 ≡ max (length h.states - 1) (p + 1) = omega (arith, held.each, known) in
+        ap (λ states. record walk { trace = trace_of d ss (get_or states 0 empty_state); position = p + 1; made = length states - 1 }) moved
+        ∙ ap (λ k. record walk { position = p + 1; made = k }) most
+        ∙ sym (ap (λ b. cond b (reached (p + 1) walk) walk) (lt-ltb _ _ known_within))
 
     pub redone_answer : (m : Mark) → m ≡ get_or ms (p + 1) m → To m.label ≡ answer_of_forward walk
     redone_answer m is =

@@ -1,12 +1,12 @@
 //! A run that goes forward and back.
 
-ghost use Rattle.std.specs.Prelude.{◌≡◌, ◌+◌, ◌<◌, ◌≤◌, ◌↔◌, ◌∷◌, ◌++◌, [], vec_len, vec_capacity, IfOk, IfErr, OnOk, OnErr, IsTrue};
+ghost use Rattle.std.specs.Prelude.{◌≡◌, ◌+◌, ◌<◌, ◌≤◌, ◌↔◌, ◌⊎◌, ◌∷◌, ◌++◌, [], vec_len, vec_capacity, IfOk, IfErr, OnOk, OnErr, IsTrue};
 ghost use Rattle.avp_lists.specs.History.{present};
 ghost use Rattle.avp_unlang.specs.Meaning.{meaning_of};
 ghost use Rattle.avp_unlang.specs.Suiting.{IsSpelled};
 ghost use Rattle.avp_unlang.specs.Resolutions.{StateFits};
 ghost use Rattle.avp_unlang.specs.Sizes.{size_of};
-ghost use Rattle.avp_step.specs.Walk.{IsHeldUp, IsLineLabel, IsWithin, MoveMay, MovesMay, Walk, answer_of_forward, entry, entry_at, last_outcome, last_position, moved_back, moved_forward, moved_to_end, moved_to_start, walk_from};
+ghost use Rattle.avp_step.specs.Walk.{IsBeforeNewLine, IsHeldUp, IsHeldUpWith, IsWithin, MoveMay, MovesMay, Walk, answer_of_forward, entry, last_outcome, last_position, moved_back, moved_forward, moved_to_end, moved_to_start, walk_from};
 
 use crate::frames::{Frame, MAX_FRAMES, put};
 use crate::labels::{Label, Move, Moved};
@@ -176,7 +176,8 @@ impl<'a, S: Store> Stepper<'a, S> {
         true
     }
 
-    /// One step forward, if this is not the end. Only the step of an update line may be refused.
+    /// One step forward, if this is not the end. Only the step of an update line may be refused, and none that was made
+    /// before.
     ///
     /// ```rust
     /// // The policy is `update reply { Session-Timeout := 600 }`, and `reject` on the line after it.
@@ -188,8 +189,7 @@ impl<'a, S: Store> Stepper<'a, S> {
         ensures after { IfOk result (λ moved. (self.new ≡ moved_forward self.old)
             × (moved ≡ answer_of_forward self.old)) }
         ensures refused { OnErr result (self.new ≡ self.old) }
-        ensures line { OnErr result (IsLineLabel
-            (entry_at self.old (self.old.position + 1)).label) }
+        ensures line { OnErr result (IsBeforeNewLine self.old) }
     {
         if self.position + 1 < self.marks.len() {
             let _ = self.store.redo();
@@ -221,7 +221,8 @@ impl<'a, S: Store> Stepper<'a, S> {
         while self.back() {}
     }
 
-    /// Forward to the end. After a refusal it is where the refused step began.
+    /// Forward to the end. After a refusal it is where the refused step began, with each step made again that was made
+    /// before.
     ///
     /// ```rust
     /// // The policy is `update reply { Session-Timeout := 600 }`, and `reject` on the line after it.
@@ -290,7 +291,8 @@ impl<'a, S: Store> Stepper<'a, S> {
     }
 }
 
-/// Runs a policy to its end: the store's present lists, the code and the stop are those that the policy means.
+/// Runs a policy to its end: the store's present lists, the code and the stop are those that the policy means. After a
+/// refusal the store is as it was, or its present lists are those before the step of an update line.
 ///
 /// ```rust
 /// let policy = read_policy(
@@ -315,6 +317,9 @@ pub fn run<S: Store>(
         record { state = present (S.history r.0); code = r.1; stopped = r.2 }
         ≡ meaning_of dictionary.now policy.now (present (S.history store)) Code.Ok) }
     ensures fits { IfOk result (λ r. StateFits dictionary.now (present (S.history r.0))) }
+    ensures refused { IfErr result (λ e. (S.history e.0 ≡ S.history store)
+        ⊎ IsHeldUpWith (walk_from dictionary.now policy.now (present (S.history store)))
+        (present (S.history e.0))) }
 {
     let mut stepper = Stepper::new(alloc, dictionary, policy, store)?;
     match stepper.run_to_end() {

@@ -24,6 +24,7 @@ walk_of dictionary statements h position = record {
   dictionary = dictionary;
   trace = trace_from dictionary statements h;
   position = position;
+  made = length h.states - 1;
 }
 
 -- the steps that were made, by the marks and the store's states

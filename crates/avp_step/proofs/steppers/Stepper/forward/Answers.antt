@@ -1,6 +1,5 @@
 use Rattle.std.proofs.Common.{arith, ap, ◌∙◌, refl, Ok, ◌≡◌, ◌+◌, length, ◌<◌, subst}
-use Rattle.avp_step.specs.Walk.{Walk, entry_at, moved_forward, answer_of_forward}
-use Rattle.avp_step.specs.Walk.{IsLineLabel}
+use Rattle.avp_step.specs.Walk.{IsBeforeNewLine, moved_forward, answer_of_forward}
 use Rattle.avp_step.proofs.HeldMoves.{held_room, redone_states, redone_walk, redone_answer, over_held, over_after, mark_room, made_held, refused_held, made_walk, made_answer, refused_line}
 use Rattle.avp_step.proofs.steppers.Stepper.forward.Goals as goal
 
@@ -60,5 +59,5 @@ invariant_of-self-in-Err g c =
 pub returns-in-Err-clause-line : goal.returns-in-Err-clause-line
 returns-in-Err-clause-line g c =
     let end' : c.self.inside.position + 1 ≡ length c.self.inside.marks.items = omega (arith, c.self.invariant.within, c.self.inside.marks.ok.0) in
-    subst (λ (w : Walk). IsLineLabel (entry_at w (w.position + 1)).label) c.self.view_is
+    subst IsBeforeNewLine c.self.view_is
     (refused_line _ _ (g.S.Store.history c.self.inside.store) _ _ _ _ _ _ c.self.invariant _ c.index-last.ensures end' _ c.step.new.frames.items refl c.in-Err.ensures.refused)
