@@ -1,6 +1,5 @@
 -- Walks of several moves, and where they end.
 use Rattle.std.proofs.Common.{◌≡◌, ◌+◌, ◌-◌, List, [], ◌∷◌, ◌++◌, length, refl, sym, ap, ◌∙◌, subst, arith}
-use Rattle.avp_lists.specs.History.{History, present, settled, state_at}
 use Rattle.avp_lists.specs.States.{empty_state}
 use Rattle.avp_lists.specs.declared.lists.State.{State}
 use Rattle.avp_dict.specs.Dictionary.{Dictionary}
@@ -24,7 +23,3 @@ pub trace_last : (d : Dictionary) (ss : List Statement) (s : State) → (entry_a
 trace_last d ss s =
     let last : length (trace_of d ss s) - 1 + 1 ≡ length (trace_of d ss s) = omega arith in
     sym (end_of_last nowhere (trace_of d ss s) (length (trace_of d ss s) - 1) (start empty_state) last) ∙ trace_end d ss s nowhere
-
--- a store that made room and was settled has the same present state
-pub settled_first : (h0 h1 h2 : History) → h1 ≡ h0 → h2 ≡ settled h1 → state_at h2 0 ≡ present h0
-settled_first h0 h1 h2 kept is = ap (λ h. state_at h 0) is ∙ ap present kept
