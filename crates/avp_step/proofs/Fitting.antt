@@ -1,6 +1,7 @@
 -- The states of a store go on fitting the dictionary.
-use Rattle.std.proofs.Common.{◌≡◌, ℕ, zero, suc, ◌+◌, ◌<◌, ◌≤◌, Bool, true, cond, IsTrue, List, [], ◌∷◌, ◌++◌, Option, None, Some, Ok, Err, length, take, refl, sym, ap, ◌∙◌, subst, arith}
+use Rattle.std.proofs.Common.{◌≡◌, ℕ, zero, suc, ◌+◌, ◌<◌, ◌≤◌, Bool, true, cond, IsTrue, List, [], ◌∷◌, ◌++◌, Option, None, Some, Ok, Err, length, take, refl, sym, ap, ◌∙◌, subst, arith, get_or, length-take, zero-le, max}
 use Rattle.std.specs.List.{All, list_all}
+use Rattle.std.proofs.Math.Seq.{get_or-append_seam}
 use Rattle.std.proofs.lemmas.List.Elements.{All-append, All-take}
 use Rattle.avp_lists.specs.History.{History, continued, present, state_at}
 use Rattle.avp_lists.specs.States.{IsFull, edited, edited_list, empty_state, list_of, max_pairs, with_list}
@@ -17,22 +18,30 @@ use Rattle.avp_unlang.specs.declared.meaning.reasons.Reason.TheVariants.{Full}
 use Rattle.avp_unlang.specs.declared.meaning.resolving.Unresolved.{Unresolved}
 use Rattle.avp_unlang.specs.declared.tree.Line.{Line}
 use Rattle.std.proofs.lemmas.Bool.{le-leb, lt-leb}
-use Rattle.avp_step.proofs.Steppings.{added_present}
-use Rattle.avp_step.specs.internal.Stepping.{IsLineDone, StatesFit}
+use Rattle.avp_step.specs.internal.Courses.{IsLineDone, StatesFit}
 use Rattle.std.specs.Borrow.{Bor}
 use Rattle.std.specs.Prelude.{◌&&◌}
 use Rattle.avp_unlang.proofs.Comparing.{and_left, and_right, testable}
 use Rattle.avp_unlang.proofs.KeptReplies.{applied}
-use Rattle.avp_unlang.specs.Suiting.{branch_suits, branches_suit, cond_suits, else_suits, policy_suits}
+use Rattle.avp_unlang.specs.Suiting.{branch_suits, branches_suit, cond_suits, else_suits, policy_suits, statement_suits}
+use Rattle.avp_unlang.specs.internal.Depth.{depth, depth_of, depth_of_branch, depth_of_branches, else_depth, statement_depth, branch_depth}
+use Rattle.avp_unlang.specs.declared.tree.Statement.TheVariants.{Update, If, Transaction}
+use Rattle.avp_unlang.specs.declared.tree.Statement.TheFolds.{fold_out-Branch}
+use Rattle.avp_unlang.proofs.StatementDepths.{depth_Update, depth_If, depth_Transaction}
 use Rattle.avp_unlang.specs.Truth.{comparable}
 use Rattle.avp_unlang.specs.declared.tree.Branch.{Branch, out-Branch}
 use Rattle.avp_unlang.specs.declared.tree.Statement.{Statement}
-use Rattle.avp_unlang.proofs.SpelledSuits.{suits_Branch}
-use Rattle.avp_step.proofs.OpenedFrames.{put_stays}
-use Rattle.avp_step.proofs.StepLaws.{and_assoc, and_true, frames_suit_push}
-use Rattle.avp_step.specs.internal.Frames.{StaysSuited, frame_suits, frames_suit}
+use Rattle.avp_unlang.proofs.SpelledSuits.{suits_Branch, suits_Update, suits_If, suits_Transaction}
+use Rattle.avp_step.specs.internal.Frames.{Fits}
 use Rattle.avp_step.specs.declared.frames.Frame.{Frame}
-use Rattle.avp_step.specs.declared.frames.Frame.TheVariants.{Statements, Lines, End}
+use Rattle.avp_step.specs.declared.frames.Frame.TheVariants.{Statements, Lines, Branches, End}
+
+pub added_present : (old new : History) (s : State) → old.place < length old.states → new ≡ continued s old → present new ≡ s
+added_present old new s has a =
+    let at : length (take (old.place + 1) old.states) ≡ old.place + 1 = simp length-take (omega arith) in
+    ap present a
+    ∙ ap (λ k. get_or (take (old.place + 1) old.states ++ s ∷ []) k empty_state) (sym at)
+    ∙ get_or-append_seam (take (old.place + 1) old.states) s [] empty_state
 
 module _ (d : Dictionary) where
   pub one_fits : (s : State) → StateFits d s → All (StateFits d) (s ∷ [])
@@ -98,49 +107,84 @@ module _ (d : Dictionary) (line : Line) (old : History) where
 
 -- ---- frames
 
--- two frames are put
-pub entered_stays : (fs fs1 fs2 : List Frame) (n place : ℕ) (ss : Bor (List Statement)) → fs1 ≡ fs ++ End n place ∷ [] → fs2 ≡ fs1 ++ Statements ss ∷ [] → StaysSuited (λ d. frames_suit d fs && policy_suits d ss.now) None fs2
-entered_stays fs fs1 fs2 n place ss e1 e2 = put_stays _ fs1 fs2 (Statements ss) e2 (λ d. ap (λ b. b && policy_suits d ss.now) (sym (ap (frames_suit d) e1 ∙ frames_suit_push d fs (End n place) ∙ and_true (frames_suit d fs))))
+module _ (d : Dictionary) (end : ℕ) (fs : List Frame) where
+  module _ (ss : Bor (List Statement)) (s : Statement) (others : Bor (List Statement)) (split : ss.now ≡ s ∷ others.now) (fits : Fits d end fs (Statements ss)) where
+    deep : depth_of ss.now ≡ max (depth s) (depth_of others.now)
+    deep = ap depth_of split
 
--- the block of a branch fits, and so do the other branches
-pub tested_stays : (bs : List Branch) (b : Branch) (others : List Branch) (or : Option (List Statement)) (fs new : List Frame) (g : Frame) → bs ≡ b ∷ others → new ≡ fs ++ g ∷ [] → ((d : Dictionary) → (branch_suits d b && (branches_suit d others && else_suits d or)) ≡ true → frame_suits d g ≡ true) → StaysSuited (λ d. frames_suit d fs && (branches_suit d bs && else_suits d or)) None new
-tested_stays bs b others or fs new g split e h = record {
-  kept = λ d k.
-      let whole : (frames_suit d fs && ((branch_suits d b && branches_suit d others) && else_suits d or)) ≡ true = ap (λ l. frames_suit d fs && (branches_suit d l && else_suits d or)) (sym split) ∙ k in
-      let front = and_left (frames_suit d fs) ((branch_suits d b && branches_suit d others) && else_suits d or) whole in
-      let back = and_right (frames_suit d fs) ((branch_suits d b && branches_suit d others) && else_suits d or) whole in
-      let own = h d (sym (and_assoc (branch_suits d b) (branches_suit d others) (else_suits d or)) ∙ back) in
-      let all : frames_suit d new ≡ true = ap (frames_suit d) e ∙ frames_suit_push d fs g ∙ rw (front, own) in
-      rw all;
-}
+    both : (statement_suits d s && policy_suits d others.now) ≡ true
+    both = ap (policy_suits d) (sym split) ∙ fits.suits
 
-pub branch_block_fits : (b : Branch) (block : List Statement) → block ≡ (out-Branch b).block → (d : Dictionary) (x : Bool) → (branch_suits d b && x) ≡ true → policy_suits d block ≡ true
-branch_block_fits b block is d x h =
-    ap (policy_suits d) is ∙ and_right (cond_suits d (out-Branch b).cond) (policy_suits d (out-Branch b).block) (sym (suits_Branch d b) ∙ and_left (branch_suits d b) x h)
+    own : (x : Bool) → statement_suits d s ≡ x → x ≡ true
+    own x is = sym is ∙ and_left (statement_suits d s) (policy_suits d others.now) both
 
--- a branch's condition can be tested in the present state
-pub branch_testable : (d : Dictionary) (h : History) (bs : List Branch) (b : Branch) (others : List Branch) → h.place < length h.states → StatesFit d h → bs ≡ b ∷ others → branches_suit d bs ≡ true → comparable (out-Branch b).cond (present h) ≡ true
-branch_testable d h bs b others has all split fit =
-    let own = and_left (branch_suits d b) (branches_suit d others) (ap (branches_suit d) (sym split) ∙ fit) in
-    testable d (present h) (earlier_fits d h h.place has all) (out-Branch b).cond (and_left (cond_suits d (out-Branch b).cond) (policy_suits d (out-Branch b).block) (sym (suits_Branch d b) ∙ own))
+    pub others_fit : Fits d end fs (Statements others)
+    others_fit = record { room = omega (arith, fits.room, deep); entry = fits.entry; suits = and_right (statement_suits d s) (policy_suits d others.now) both }
 
--- the other lines
-pub lines_stay : (ls : List Line) (l : Line) (others : Bor (List Line)) (entry : ℕ) (fs new : List Frame) → ls ≡ l ∷ others.now → new ≡ fs ++ Lines others entry ∷ [] → StaysSuited (λ d. frames_suit d fs && list_all (line_suits d) ls) None new
-lines_stay ls l others entry fs new split e = record {
-  kept = λ d k.
-      let whole : (frames_suit d fs && (line_suits d l && list_all (line_suits d) others.now)) ≡ true = ap (λ x. frames_suit d fs && list_all (line_suits d) x) (sym split) ∙ k in
-      let front = and_left (frames_suit d fs) (line_suits d l && list_all (line_suits d) others.now) whole in
-      let back = and_right (line_suits d l) (list_all (line_suits d) others.now) (and_right (frames_suit d fs) (line_suits d l && list_all (line_suits d) others.now) whole) in
-      let all : frames_suit d new ≡ true = ap (frames_suit d) e ∙ frames_suit_push d fs (Lines others entry) ∙ rw (front, back) in
-      rw all;
-}
+    pub update_fits : (n place : ℕ) (lines : List Line) (ls : Bor (List Line)) → s ≡ Update n lines → ls.now ≡ lines → place < end → Fits d end (Statements others ∷ fs) (Lines ls place)
+    update_fits n place lines ls is same lt = record {
+      room = omega (arith, fits.room, deep, ap depth is, depth_Update n lines);
+      entry = lt;
+      suits = ap (list_all (line_suits d)) same ∙ own _ (ap (statement_suits d) is ∙ suits_Update d n lines);
+    }
 
-pub lines_fit_first : (d : Dictionary) (ls : List Line) (l : Line) (others : List Line) → ls ≡ l ∷ others → list_all (line_suits d) ls ≡ true → line_suits d l ≡ true
-lines_fit_first d ls l others split h = and_left (line_suits d l) (list_all (line_suits d) others) (ap (list_all (line_suits d)) (sym split) ∙ h)
+    pub if_fits : (branches : List Branch) (otherwise : Option (List Statement)) (bs : Bor (List Branch)) (or : Bor (Option (List Statement))) → s ≡ If branches otherwise → bs.now ≡ branches → or.now ≡ otherwise → Fits d end (Statements others ∷ fs) (Branches bs or)
+    if_fits branches otherwise bs or is same same_or = record {
+      room = omega (arith, fits.room, deep, ap depth is, depth_If branches otherwise, ap depth_of_branches same, ap else_depth same_or);
+      entry = fits.entry;
+      suits = ap (λ l. branches_suit d l && else_suits d or.now) same ∙ ap (λ l. branches_suit d branches && else_suits d l) same_or ∙ own _ (ap (statement_suits d) is ∙ suits_If d branches otherwise);
+    }
 
--- what fits without the rest
-pub fits_alone : (before : Dictionary → Bool) (fs : List Frame) → ((d : Dictionary) → before d ≡ true → frames_suit d fs ≡ true) → StaysSuited before None fs
-fits_alone before fs h = record { kept = λ d k. let all = h d k in rw all }
+    module _ (n place : ℕ) (block : List Statement) (is : s ≡ Transaction n block) where
+      pub end_fits : place < end → Fits d end (Statements others ∷ fs) (End n place)
+      end_fits lt = record { room = omega (arith, fits.room, deep, ap depth is, depth_Transaction n block); entry = lt; suits = refl }
 
-pub fits_left : (d : Dictionary) (fs : List Frame) (x : Bool) → (frames_suit d fs && x) ≡ true → frames_suit d fs ≡ true
-fits_left d fs x h = and_left (frames_suit d fs) x h
+      pub body_fits : (body : Bor (List Statement)) → body.now ≡ block → Fits d end (End n place ∷ Statements others ∷ fs) (Statements body)
+      body_fits body same = record {
+        room = omega (arith, fits.room, deep, ap depth is, depth_Transaction n block, ap depth_of same);
+        entry = fits.entry;
+        suits = ap (policy_suits d) same ∙ own _ (ap (statement_suits d) is ∙ suits_Transaction d n block);
+      }
+
+  module _ (ls : Bor (List Line)) (entry : ℕ) (l : Line) (others : Bor (List Line)) (split : ls.now ≡ l ∷ others.now) (fits : Fits d end fs (Lines ls entry)) where
+    all_lines : (line_suits d l && list_all (line_suits d) others.now) ≡ true
+    all_lines = ap (list_all (line_suits d)) (sym split) ∙ fits.suits
+
+    pub line_fits : line_suits d l ≡ true
+    line_fits = and_left (line_suits d l) (list_all (line_suits d) others.now) all_lines
+
+    pub lines_fit : Fits d end fs (Lines others entry)
+    lines_fit = record { room = fits.room; entry = fits.entry; suits = and_right (line_suits d l) (list_all (line_suits d) others.now) all_lines }
+
+  pub else_fits : (bs : Bor (List Branch)) (or : Bor (Option (List Statement))) (block : List Statement) (ss : Bor (List Statement)) → or.now ≡ Some block → ss.now ≡ block → Fits d end fs (Branches bs or) → Fits d end fs (Statements ss)
+  else_fits bs or block ss some same fits = record {
+    room = omega (arith, fits.room, ap else_depth some, ap depth_of same);
+    entry = fits.entry;
+    suits = ap (policy_suits d) same ∙ ap (else_suits d) (sym some) ∙ and_right (branches_suit d bs.now) (else_suits d or.now) fits.suits;
+  }
+
+  -- the first condition can be tested, and its block and the others fit
+  module _ (bs : Bor (List Branch)) (or : Bor (Option (List Statement))) (b : Branch) (others : Bor (List Branch)) (split : bs.now ≡ b ∷ others.now) (fits : Fits d end fs (Branches bs or)) where
+    pub all_branches : (branch_suits d b && branches_suit d others.now) ≡ true
+    all_branches = ap (branches_suit d) (sym split) ∙ and_left (branches_suit d bs.now) (else_suits d or.now) fits.suits
+
+    parts : (cond_suits d (out-Branch b).cond && policy_suits d (out-Branch b).block) ≡ true
+    parts = sym (suits_Branch d b) ∙ and_left (branch_suits d b) (branches_suit d others.now) all_branches
+
+    pub branch_testable : (s : State) → StateFits d s → comparable (out-Branch b).cond s ≡ true
+    branch_testable s state = testable d s state (out-Branch b).cond (and_left (cond_suits d (out-Branch b).cond) (policy_suits d (out-Branch b).block) parts)
+
+    pub block_fits : (block : Bor (List Statement)) → block.now ≡ (out-Branch b).block → Fits d end fs (Statements block)
+    block_fits block same =
+        let out : depth_of_branch b ≡ depth_of (out-Branch b).block = fold_out-Branch ℕ ℕ statement_depth branch_depth b in
+        record {
+          room = omega (arith, fits.room, ap depth_of_branches split, ap depth_of same, out);
+          entry = fits.entry;
+          suits = ap (policy_suits d) same ∙ and_right (cond_suits d (out-Branch b).cond) (policy_suits d (out-Branch b).block) parts;
+        }
+
+    pub branches_fit : Fits d end fs (Branches others or)
+    branches_fit =
+        let right = and_right (branch_suits d b) (branches_suit d others.now) all_branches in
+        let left = and_right (branches_suit d bs.now) (else_suits d or.now) fits.suits in
+        record { room = omega (arith, fits.room, ap depth_of_branches split); entry = fits.entry; suits = rw (right, left) }

@@ -2,7 +2,7 @@ pub mod Equations
 pub mod Fitting
 pub mod HeldMoves
 pub mod LastSteps
-pub mod OpenedFrames
+pub mod Courses
 pub mod StepLaws
 pub mod Steppings
 pub mod TraceSizes

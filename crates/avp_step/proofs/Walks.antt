@@ -1,6 +1,5 @@
 -- Walks of several moves, and where they end.
 use Rattle.std.proofs.Common.{◌≡◌, ◌+◌, ◌-◌, List, [], ◌∷◌, ◌++◌, length, refl, sym, ap, ◌∙◌, subst, arith}
-use Rattle.avp_lists.specs.History.{History, present, settled, state_at}
 use Rattle.avp_lists.specs.States.{empty_state}
 use Rattle.avp_lists.specs.declared.lists.State.{State}
 use Rattle.avp_dict.specs.Dictionary.{Dictionary}
@@ -20,11 +19,7 @@ moves_push w u v [] m h k = (v, subst (λ x. MoveMay x m v) h k, refl)
 moves_push w u v (n ∷ ms) m h k = (h.0, h.1, moves_push h.0 u v ms m h.2 k)
 
 -- the last entry of a policy's trace stands where the policy's meaning says
-pub trace_last : (d : Dictionary) (ss : List Statement) (s : State) → (entry_at (record { dictionary = d; trace = trace_of d ss s; position = 0 }) (length (trace_of d ss s) - 1)).outcome ≡ meaning_of d ss s code.Ok
+pub trace_last : (d : Dictionary) (ss : List Statement) (s : State) → (entry_at (record { dictionary = d; trace = trace_of d ss s; position = 0; made = 0 }) (length (trace_of d ss s) - 1)).outcome ≡ meaning_of d ss s code.Ok
 trace_last d ss s =
     let last : length (trace_of d ss s) - 1 + 1 ≡ length (trace_of d ss s) = omega arith in
     sym (end_of_last nowhere (trace_of d ss s) (length (trace_of d ss s) - 1) (start empty_state) last) ∙ trace_end d ss s nowhere
-
--- a store that made room and was settled has the same present state
-pub settled_first : (h0 h1 h2 : History) → h1 ≡ h0 → h2 ≡ settled h1 → state_at h2 0 ≡ present h0
-settled_first h0 h1 h2 kept is = ap (λ h. state_at h 0) is ∙ ap present kept

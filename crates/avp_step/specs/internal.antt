@@ -1,4 +1,4 @@
 pub mod Frames
 pub mod Held
+pub mod Courses
 pub mod Skips
-pub mod Stepping

@@ -3,9 +3,10 @@
 
 mod frames;
 mod labels;
+mod lines;
+mod machines;
 mod marks;
 mod steppers;
-mod stepping;
 
 pub use labels::{Label, Move, Moved};
 pub use steppers::{Stepper, run};

@@ -1,17 +1,16 @@
 //! A run that goes forward and back.
 
-ghost use Rattle.std.specs.Prelude.{◌≡◌, ◌+◌, ◌<◌, ◌≤◌, ◌↔◌, ◌∷◌, ◌++◌, [], vec_len, vec_capacity, IfOk, IfErr, OnOk, OnErr, IsTrue};
+ghost use Rattle.std.specs.Prelude.{◌≡◌, ◌+◌, ◌<◌, ◌≤◌, ◌↔◌, ◌⊎◌, ◌∷◌, ◌++◌, [], vec_len, vec_capacity, IfOk, IfErr, OnOk, OnErr, IsTrue};
 ghost use Rattle.avp_lists.specs.History.{present};
 ghost use Rattle.avp_unlang.specs.Meaning.{meaning_of};
 ghost use Rattle.avp_unlang.specs.Suiting.{IsSpelled};
 ghost use Rattle.avp_unlang.specs.Resolutions.{StateFits};
 ghost use Rattle.avp_unlang.specs.Sizes.{size_of};
-ghost use Rattle.avp_step.specs.Walk.{IsHeldUp, IsLineLabel, IsWithin, MoveMay, MovesMay, Walk, answer_of_forward, entry, entry_at, last_outcome, last_position, moved_back, moved_forward, moved_to_end, moved_to_start, walk_from};
+ghost use Rattle.avp_step.specs.Walk.{IsBeforeNewLine, IsHeldUp, IsHeldUpWith, IsWithin, MoveMay, MovesMay, Walk, answer_of_forward, entry, last_outcome, last_position, moved_back, moved_forward, moved_to_end, moved_to_start, walk_from};
 
-use crate::frames::{Frame, MAX_FRAMES, put};
 use crate::labels::{Label, Move, Moved};
+use crate::machines::Machine;
 use crate::marks::{Mark, START};
-use crate::stepping::step;
 use avp_dict::Dictionary;
 use avp_lists::Store;
 use avp_unlang::{Code, Policy, Statement, size};
@@ -22,16 +21,12 @@ use std::marker::Model;
 /// stepper is made, and the position.
 #[derive(Drop)]
 pub struct Stepper<'a, S: Store> {
-    alloc: Global,
-    dictionary: &'a Dictionary,
     statements: &'a [Statement],
-    // It has one state for each mark.
-    store: S,
+    // Its store has one state for each mark; it has to run what follows the last one.
+    machine: Machine<'a, S>,
     // The start's, and one for each step that was made so far.
     marks: Vec<Mark>,
     position: usize,
-    // What follows the last mark.
-    frames: Vec<Frame<'a>>,
 }
 
 impl<'a, S: Store> Model for Stepper<'a, S> {
@@ -42,11 +37,10 @@ impl<'a, S: Store> Model for Stepper<'a, S> {
 
     ghost use Rattle.avp_step.specs.internal.Held.{walk_of, IsHeld};
 
-    ghost view = { λ x. walk_of x.dictionary.now x.statements.now (S.history x.store) x.position };
+    ghost view = { λ x. walk_of x.statements.now x.machine x.position };
 
-    ghost invariant = { λ x. IsHeld x.dictionary.now x.statements.now (S.history x.store)
-        (S.room x.store) x.marks.items x.position x.frames.items
-        (vec_capacity x.marks) (vec_capacity x.frames) };
+    ghost invariant = { λ x. IsHeld x.statements.now x.machine x.marks.items x.position
+        (vec_capacity x.marks) };
 }
 
 // One more mark.
@@ -77,7 +71,7 @@ impl<'a, S: Store> Stepper<'a, S> {
         alloc: Global,
         dictionary: &'a Dictionary,
         policy: &'a Policy,
-        mut store: S,
+        store: S,
     ) -> Result<Stepper<'a, S>, (S, AllocError)>
         requires policy { IsSpelled dictionary.now policy.now }
         requires store { StateFits dictionary.now (present (S.history store)) }
@@ -95,26 +89,14 @@ impl<'a, S: Store> Stepper<'a, S> {
         let Ok(mut marks) = Vec::with_capacity(alloc, size + 1) else {
             return Err((store, AllocError));
         };
-        let Ok(mut frames) = Vec::with_capacity(alloc, MAX_FRAMES) else {
-            return Err((store, AllocError));
-        };
-        match store.reserve(size) {
-            Err(refused) => Err((store, refused)),
-            Ok(()) => {
-                store.settle();
-                put_mark(&mut marks, START);
-                put(&mut frames, Frame::Statements(statements));
-                Ok(Stepper {
-                    alloc,
-                    dictionary,
-                    statements,
-                    store,
-                    marks,
-                    position: 0,
-                    frames,
-                })
-            }
-        }
+        let machine = Machine::new(alloc, dictionary, statements, store, size)?;
+        put_mark(&mut marks, START);
+        Ok(Stepper {
+            statements,
+            machine,
+            marks,
+            position: 0,
+        })
     }
 
     /// The number of steps before this position.
@@ -152,7 +134,7 @@ impl<'a, S: Store> Stepper<'a, S> {
         ensures lists { present (S.history result.now) ≡ (entry self.now).outcome.state }
         ensures fits { StateFits self.now.dictionary (present (S.history result.now)) }
     {
-        &self.store
+        self.machine.store()
     }
 
     /// One step back, if this is not the start.
@@ -171,12 +153,13 @@ impl<'a, S: Store> Stepper<'a, S> {
         if self.position == 0 {
             return false;
         }
-        let _ = self.store.undo();
+        self.machine.back();
         self.position -= 1;
         true
     }
 
-    /// One step forward, if this is not the end. Only the step of an update line may be refused.
+    /// One step forward, if this is not the end. Only the step of an update line may be refused, and none that was made
+    /// before.
     ///
     /// ```rust
     /// // The policy is `update reply { Session-Timeout := 600 }`, and `reject` on the line after it.
@@ -188,22 +171,15 @@ impl<'a, S: Store> Stepper<'a, S> {
         ensures after { IfOk result (λ moved. (self.new ≡ moved_forward self.old)
             × (moved ≡ answer_of_forward self.old)) }
         ensures refused { OnErr result (self.new ≡ self.old) }
-        ensures line { OnErr result (IsLineLabel
-            (entry_at self.old (self.old.position + 1)).label) }
+        ensures line { OnErr result (IsBeforeNewLine self.old) }
     {
         if self.position + 1 < self.marks.len() {
-            let _ = self.store.redo();
+            self.machine.ahead();
             self.position += 1;
             return Ok(Moved::To(self.marks[self.position].label));
         }
         let last = self.marks[self.position];
-        match step(
-            self.alloc,
-            self.dictionary,
-            &mut self.frames,
-            &mut self.store,
-            last,
-        ) {
+        match self.machine.step(last) {
             Ok(None) => Ok(Moved::AtEnd),
             Ok(Some(mark)) => {
                 put_mark(&mut self.marks, mark);
@@ -221,7 +197,8 @@ impl<'a, S: Store> Stepper<'a, S> {
         while self.back() {}
     }
 
-    /// Forward to the end. After a refusal it is where the refused step began.
+    /// Forward to the end. After a refusal it is where the refused step began, with each step made again that was made
+    /// before.
     ///
     /// ```rust
     /// // The policy is `update reply { Session-Timeout := 600 }`, and `reject` on the line after it.
@@ -278,19 +255,17 @@ impl<'a, S: Store> Stepper<'a, S> {
         ensures fits { StateFits self.entry.dictionary (present (S.history result)) }
     {
         let Stepper {
-            alloc: _,
-            dictionary: _,
             statements: _,
-            store,
+            machine,
             marks: _,
             position: _,
-            frames: _,
         } = self;
-        store
+        machine.into_store()
     }
 }
 
-/// Runs a policy to its end: the store's present lists, the code and the stop are those that the policy means.
+/// Runs a policy to its end: the store's present lists, the code and the stop are those that the policy means. After a
+/// refusal the store is as it was, or its present lists are those before the step of an update line.
 ///
 /// ```rust
 /// let policy = read_policy(
@@ -315,6 +290,9 @@ pub fn run<S: Store>(
         record { state = present (S.history r.0); code = r.1; stopped = r.2 }
         ≡ meaning_of dictionary.now policy.now (present (S.history store)) Code.Ok) }
     ensures fits { IfOk result (λ r. StateFits dictionary.now (present (S.history r.0))) }
+    ensures refused { IfErr result (λ e. (S.history e.0 ≡ S.history store)
+        ⊎ IsHeldUpWith (walk_from dictionary.now policy.now (present (S.history store)))
+        (present (S.history e.0))) }
 {
     let mut stepper = Stepper::new(alloc, dictionary, policy, store)?;
     match stepper.run_to_end() {

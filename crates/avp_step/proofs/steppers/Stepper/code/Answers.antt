@@ -6,5 +6,5 @@ use Rattle.avp_step.proofs.steppers.Stepper.code.Goals as goal
 
 pub returns : goal.returns
 returns g c =
-    ap (λ (e : Entry). e.outcome.code) (held_mark _ _ (g.S.Store.history c.self.inside.store) _ _ _ _ _ _ c.self.invariant _ c.index.ensures)
+    ap (λ (e : Entry). e.outcome.code) (held_mark _ _ _ _ _ c.self.invariant _ c.index.ensures)
     ∙ ap (λ w. (entry w).outcome.code) c.self.view_is

@@ -6,5 +6,5 @@ use Rattle.avp_step.proofs.steppers.Stepper.label.Goals as goal
 
 pub returns : goal.returns
 returns g c =
-    ap (λ (e : Entry). e.label) (held_mark _ _ (g.S.Store.history c.self.inside.store) _ _ _ _ _ _ c.self.invariant _ c.index.ensures)
+    ap (λ (e : Entry). e.label) (held_mark _ _ _ _ _ c.self.invariant _ c.index.ensures)
     ∙ ap (λ w. (entry w).label) c.self.view_is

@@ -5,4 +5,4 @@ use Rattle.avp_step.proofs.steppers.Stepper.position.Goals as goal
 
 pub returns-clause-within : goal.returns-clause-within
 returns-clause-within g c =
-    subst IsWithin c.self.view_is (held_within _ _ (g.S.Store.history c.self.inside.store) _ _ _ _ _ _ c.self.invariant)
+    subst IsWithin c.self.view_is (held_within _ _ _ _ _ c.self.invariant)

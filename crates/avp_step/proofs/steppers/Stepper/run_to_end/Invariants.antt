@@ -6,7 +6,7 @@ abbrev pub invariant-steps : goal.invariant-steps
 invariant-steps g l = record {
   dictionary : l.self.dictionary ≡ l.initial.self.dictionary;
   trace : l.self.trace ≡ l.initial.self.trace;
-  onward : l.initial.self.position ≤ l.self.position;
+  onward : l.initial.self.made ≤ l.self.made;
   within : IsWithin l.self;
 }
 

@@ -2,7 +2,7 @@ use Rattle.std.proofs.Common.{ap, Err}
 use Rattle.avp_unlang.specs.Meaning.{edit_of}
 use Rattle.avp_unlang.specs.declared.meaning.resolving.Unresolved.TheVariants.{Absent, NotValue, TooLong}
 use Rattle.avp_step.proofs.Fitting.{edit_fits, line_edited, line_full, line_unresolved}
-use Rattle.avp_step.proofs.stepping.edit_by.Goals as goal
+use Rattle.avp_step.proofs.lines.edit_by.Goals as goal
 
 pub returns-in-Ok-edit-clause-done : goal.returns-in-Ok-edit-clause-done
 returns-in-Ok-edit-clause-done g c =

@@ -1,0 +1,123 @@
+-- What a machine keeps over a change of its store or its frames.
+use Rattle.std.proofs.Common.{◌≡◌, ℕ, ◌+◌, ◌≤◌, ◌<◌, IfOk, OnErr, List, [], ◌∷◌, ◌++◌, length, reverse, Option, Some, None, Result, Ok, Err, refl, sym, ap, ◌∙◌, subst, arith, length-append, get_or, drop, take, ◌-◌}
+use Rattle.std.proofs.lemmas.List.{get_or_append_left, reverse-append, take_all}
+use Rattle.std.specs.declared.alloc.AllocError.{AllocError}
+use Rattle.avp_lists.specs.History.{History, continued, present, state_at}
+use Rattle.avp_lists.specs.States.{empty_state}
+use Rattle.avp_lists.specs.declared.lists.State.{State}
+use Rattle.avp_dict.specs.Dictionary.{Dictionary}
+use Rattle.avp_unlang.specs.Meaning.{Outcome}
+use Rattle.avp_unlang.specs.Resolutions.{StateFits}
+use Rattle.avp_unlang.specs.declared.meaning.reasons.Reason.{Reason}
+use Rattle.avp_unlang.specs.declared.tree.Line.{Line}
+use Rattle.avp_step.specs.Trace.{closed, line_steps, unless_stopped}
+use Rattle.avp_step.specs.internal.Frames.{AllFit, Fits, States, frame_entry, frame_steps, rest}
+use Rattle.avp_step.specs.internal.Courses.{Course, FitsOn, IsContinued, IsEdited, IsLineDone, IsSound, StatesFit, course_of, with_frame}
+use Rattle.avp_step.specs.declared.frames.Frame.{Frame}
+use Rattle.avp_step.specs.declared.frames.Frame.TheVariants.{Statements, Lines, Branches, End}
+use Rattle.avp_step.proofs.Fitting.{continued_fits}
+use Rattle.avp_step.proofs.StepLaws.{then_cong, then_cong_right}
+
+-- ---- frames
+
+-- a frame has the same steps where the state is the same that it names
+frame_agrees : (d : Dictionary) (at at' : States) (f : Frame) (o : Outcome) → at (frame_entry f) ≡ at' (frame_entry f) → frame_steps d at f o ≡ frame_steps d at' f o
+frame_agrees d at at' (Statements ss) o h = refl
+frame_agrees d at at' (Lines ls entry) o h = ap (λ s. unless_stopped (line_steps d s ls.now) o) h
+frame_agrees d at at' (Branches bs otherwise) o h = refl
+frame_agrees d at at' (End n entry) o h = ap (λ s. closed n s o ∷ []) h
+
+rest_agrees : (d : Dictionary) (at at' : States) (end : ℕ) (fs : List Frame) (o : Outcome) → AllFit d end fs → ((k : ℕ) → k < end → at k ≡ at' k) → rest d at fs o ≡ rest d at' fs o
+rest_agrees d at at' end [] o fit h = refl
+rest_agrees d at at' end (f ∷ fs) o fit h =
+    then_cong (frame_steps d at f) (frame_steps d at' f) (rest d at fs) o (frame_agrees d at at' f o (h (frame_entry f) fit.0.entry))
+    ∙ then_cong_right (frame_steps d at' f) (rest d at fs) (rest d at' fs) o (λ r. rest_agrees d at at' end fs r fit.1 h)
+
+fit_later : (d : Dictionary) (end later : ℕ) (fs : List Frame) → end ≤ later → AllFit d end fs → AllFit d later fs
+fit_later d end later [] le h = tt
+fit_later d end later (f ∷ fs) le h =
+    (record { room = h.0.room; entry = omega (arith, h.0.entry); suits = h.0.suits }, fit_later d end later fs le h.1)
+
+-- the first of a list
+pub front : {A : Type 0} (xs : List A) (x : A) → 1 ≤ length xs → x ≡ get_or xs 0 x → xs ≡ x ∷ take (length xs - 1) (drop 1 xs)
+front [] x some is = absurd (omega arith)
+front (y ∷ ys) x some is = ap (λ z. z ∷ ys) (sym is) ∙ ap (λ l. x ∷ l) (sym (take_all (length (y ∷ ys) - 1) ys (omega arith)))
+
+-- the same of a machine that is equal
+pub fits_moved : (f : Frame) (m m1 : Course) → m1 ≡ m → FitsOn m f → FitsOn m1 f
+fits_moved f m m1 e fits = subst (λ x. FitsOn x f) (sym e) fits
+
+pub continued_moved : (to : ℕ) (m m1 new : Course) → m ≡ m1 → IsContinued (state_at m.history to) m new → IsContinued (state_at m1.history to) m1 new
+continued_moved to m m1 new e h = subst (λ (x : Course). IsContinued (state_at x.history to) x new) e h
+
+pub edited_moved : (line : Line) (m m1 new : Course) (r : Result (Option Reason) AllocError) → m ≡ m1 → IfOk r (λ failed. IsEdited line m new failed) → IfOk r (λ failed. IsEdited line m1 new failed)
+edited_moved line m m1 new r e h = subst (λ x. IfOk r (λ failed. IsEdited line x new failed)) e h
+
+-- ---- one more state
+
+pub states_added : (h h1 : History) (s : State) → h.place + 1 ≡ length h.states → h1 ≡ continued s h → h1.states ≡ h.states ++ s ∷ []
+states_added h h1 s last e =
+    ap (λ (k : History). k.states) e ∙ ap (λ l. l ++ s ∷ []) (take_all (h.place + 1) h.states (omega arith))
+
+pub state_stays : (h h1 : History) (s : State) (k : ℕ) → h.place + 1 ≡ length h.states → h1 ≡ continued s h → k < length h.states → state_at h1 k ≡ state_at h k
+state_stays h h1 s k last e lt =
+    ap (λ l. get_or l k empty_state) (states_added h h1 s last e) ∙ get_or_append_left h.states (s ∷ []) empty_state k lt
+
+module _ (d : Dictionary) (h : History) (room : ℕ) (fs : List Frame) (capacity : ℕ) (sound : IsSound (course_of d h room fs) capacity) where
+  abbrev old : Course
+  old = course_of d h room fs
+
+  -- one more frame
+  pub put_is : (fs1 : List Frame) (f : Frame) → fs1 ≡ fs ++ f ∷ [] → course_of d h room fs1 ≡ with_frame f old
+  put_is fs1 f e = ap (λ l. record old { frames = l }) (ap reverse e ∙ reverse-append fs (f ∷ []))
+
+  pub put_sound : (fs1 : List Frame) (f : Frame) (more : ℕ) → fs1 ≡ fs ++ f ∷ [] → Fits d (length h.states) (reverse fs) f → capacity ≤ more → IsSound (course_of d h room fs1) more
+  put_sound fs1 f more e fits le =
+      subst (λ m. IsSound m more) (sym (put_is fs1 f e))
+      (record { frames = (fits, sound.frames); states = sound.states; capacity = omega (arith, sound.capacity) })
+
+  -- one more state
+  module _ (h1 : History) (room1 : ℕ) (last : h.place + 1 ≡ length h.states) where
+    pub longer_sound : length h.states ≤ length h1.states → StatesFit d h1 → IsSound (course_of d h1 room1 fs) capacity
+    longer_sound le states = record {
+      frames = fit_later d (length h.states) (length h1.states) (reverse fs) le sound.frames;
+      states = states;
+      capacity = sound.capacity;
+    }
+
+    added_longer : (s : State) → h1 ≡ continued s h → length h.states ≤ length h1.states
+    added_longer s e = omega (arith, ap length (states_added h h1 s last e), length-append h.states (s ∷ []))
+
+    pub added_sound : (s : State) → h1 ≡ continued s h → StateFits d s → IsSound (course_of d h1 room1 fs) capacity
+    added_sound s e fits = longer_sound (added_longer s e) (continued_fits d h h1 s e fits sound.states)
+
+    pub added_is : (s : State) → h1 ≡ continued s h → h.place + room ≤ h1.place + room1 → IsContinued s old (course_of d h1 room1 fs)
+    added_is s e le = record {
+      dictionary = refl;
+      history = e;
+      reach = le;
+      frames = refl;
+      same = λ o. rest_agrees d (state_at h1) (state_at h) (length h.states) (reverse fs) o sound.frames (λ k lt. state_stays h h1 s k last e lt);
+    }
+
+    -- an edit by a line
+    pub edited_sound : (line : Line) (r : Result (Option Reason) AllocError) → IfOk r (λ failed. IsLineDone d line h h1 failed) → OnErr r (h1 ≡ h) → StatesFit d h1 → IsSound (course_of d h1 room1 fs) capacity
+    edited_sound line (Ok None) done refused states = longer_sound (added_longer (present h1) done.1) states
+    edited_sound line (Ok (Some why)) done refused states = longer_sound (omega (arith, ap (λ (k : History). length k.states) done.1)) states
+    edited_sound line (Err e) done refused states = longer_sound (omega (arith, ap (λ (k : History). length k.states) refused)) states
+
+    pub edited_is : (line : Line) (r : Result (Option Reason) AllocError) → IfOk r (λ failed. IsLineDone d line h h1 failed) → h.place + room ≤ h1.place + room1 → IfOk r (λ failed. IsEdited line old (course_of d h1 room1 fs) failed)
+    edited_is line (Ok None) done le = (done.0, added_is (present h1) done.1 le)
+    edited_is line (Ok (Some why)) done le = (done.0, record { dictionary = refl; history = done.1; reach = le }, refl)
+    edited_is line (Err e) done le = done
+
+  -- one frame less
+  module _ (fs1 : List Frame) (f : Frame) (more : ℕ) (e : fs ≡ fs1 ++ f ∷ []) (le : capacity ≤ more) where
+    both : Fits d (length h.states) (reverse fs1) f × AllFit d (length h.states) (reverse fs1)
+    both = subst (AllFit d (length h.states)) (ap reverse e ∙ reverse-append fs1 (f ∷ [])) sound.frames
+
+    pub taken_fits : Fits d (length h.states) (reverse fs1) f
+    taken_fits = both.0
+
+    pub taken_sound : IsSound (course_of d h room fs1) more
+    taken_sound = record { frames = both.1; states = sound.states; capacity = omega (arith, sound.capacity) }
