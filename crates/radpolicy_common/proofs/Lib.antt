@@ -1,4 +1,9 @@
+pub mod Apart
 pub mod Changing
+pub mod Chunks
 pub mod Escapes
 pub mod FileNames
+pub mod Middles
+pub mod TextsOf
 pub mod Visibility
+pub mod Wholes

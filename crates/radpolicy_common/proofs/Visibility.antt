@@ -1,52 +1,87 @@
--- What is shown of octets is visible.
-use Rattle.std.proofs.Common.{◌≡◌, ℕ, zero, suc, ◌+◌, ◌/◌, ◌%◌, ◌<◌, ◌≤◌, true, false, ◌&&◌, if◌then◌else◌, List, [], ◌∷◌, ◌++◌, drop, slice_index, All, refl, arith}
+-- What is shown of octets is UTF-8, and visible.
+use Rattle.std.proofs.Common.{◌≡◌, ◌∙◌, ℕ, zero, suc, ◌+◌, ◌/◌, ◌%◌, ◌<◌, ◌≤◌, true, false, if◌then◌else◌, List, [], ◌∷◌, ◌++◌, All, IsUtf8, sym, ap, refl, arith}
+use Rattle.std.proofs.lemmas.Bool.{and_parts}
 use Rattle.std.proofs.lemmas.Bool.Decides.{nat_tests}
-use Rattle.std.proofs.lemmas.List.Elements.{All-head, All-tail}
-use Rattle.std.proofs.lemmas.List.Folds.{list_all-append}
+use Rattle.std.proofs.lemmas.List.Elements.{All-cons, All-head, All-nil, All-tail}
+use Rattle.std.proofs.lemmas.Str.{IsUtf8-past_char, chars-nil, chars_past_char}
+use Rattle.std.proofs.lemmas.Str.Ascii.{IsAscii-cons, IsAscii-nil}
+use Rattle.std.specs.Char.{IsScalar, encode_utf8}
+use Rattle.std.specs.List.{flat_map, list_all}
+use Rattle.std.specs.Str.{IsAscii, StartsWithNoChar, all_scalars, encode_utf8_all}
 use Rattle.avp_dict.specs.Quotes.{octal_escape}
 use Rattle.radpolicy_common.specs.declared.terminals.LineBreaks.{LineBreaks}
 use Rattle.radpolicy_common.specs.declared.terminals.LineBreaks.TheVariants.{Escaped, Kept}
-use Rattle.radpolicy_common.specs.VisibleText.{all_visible, begins_control, is_visible, octet_shown, text_shown}
+use Rattle.radpolicy_common.specs.VisibleText.{IsVisibleText, char_shown, is_visible, octal_text, text_shown}
+use Rattle.radpolicy_common.specs.VisibleText.IsVisibleText.{nothing, character, octet}
+use Rattle.radpolicy_common.proofs.TextsOf.{IsTextOf, text-append, text-ascii, text-char, text-nil}
 
--- octets that a control character has taken are passed over
-pub taken_over : (breaks : LineBreaks) (n : ℕ) (os : List ℕ) → text_shown breaks n os ≡ text_shown breaks 0 (drop n os)
-taken_over breaks zero os = refl
-taken_over breaks (suc n) [] = refl
-taken_over breaks (suc n) (o ∷ os) = taken_over breaks n os
+abbrev pub Small : List ℕ → Type 0
+Small octets = All (λ (o : ℕ). o < 256) octets
 
-pub joined_is_visible : (breaks : LineBreaks) (xs ys : List ℕ) → all_visible breaks (xs ++ ys) ≡ (all_visible breaks xs && all_visible breaks ys)
-joined_is_visible breaks xs ys = list_all-append (is_visible breaks) xs ys
+small_front : (xs ys : List ℕ) → Small (xs ++ ys) → Small xs
+small_front [] ys small = All-nil (λ (o : ℕ). o < 256)
+small_front (x ∷ xs) ys small =
+    All-cons (λ (o : ℕ). o < 256) x xs (All-head (λ (o : ℕ). o < 256) x (xs ++ ys) small) (small_front xs ys (All-tail (λ (o : ℕ). o < 256) x (xs ++ ys) small))
+
+small_back : (xs ys : List ℕ) → Small (xs ++ ys) → Small ys
+small_back [] ys small = small
+small_back (x ∷ xs) ys small = small_back xs ys (All-tail (λ (o : ℕ). o < 256) x (xs ++ ys) small)
+
+-- ---- pieces
 
 -- a number within the printed octets
 within : (breaks : LineBreaks) (o : ℕ) → 32 ≤ o → o < 127 → is_visible breaks o ≡ true
 within Escaped o low high = grind (arith, nat_tests)
 within Kept o low high = grind (arith, nat_tests)
 
-pub octal_is_visible : (breaks : LineBreaks) (o : ℕ) → o < 256 → all_visible breaks (octal_escape o) ≡ true
+octal_is_visible : (breaks : LineBreaks) (o : ℕ) → o < 256 → list_all (is_visible breaks) (octal_escape o) ≡ true
 octal_is_visible breaks o small =
     rw (within breaks 92 (omega arith) (omega arith), within breaks (48 + o / 64) (omega arith) (omega arith), within breaks (48 + o / 8 % 8) (omega arith) (omega arith), within breaks (48 + o % 8) (omega arith) (omega arith))
 
-both : (breaks : LineBreaks) (xs ys : List ℕ) → all_visible breaks xs ≡ true → all_visible breaks ys ≡ true → all_visible breaks (xs ++ ys) ≡ true
-both breaks xs ys a b = rw (joined_is_visible breaks xs ys, a, b)
+octal_is_ascii : (o : ℕ) → o < 256 → IsAscii (octal_escape o)
+octal_is_ascii o small =
+    let digits : List ℕ = (48 + o / 64) ∷ (48 + o / 8 % 8) ∷ (48 + o % 8) ∷ [] in
+    let third = IsAscii-cons (48 + o % 8) [] (omega arith) IsAscii-nil in
+    let second = IsAscii-cons (48 + o / 8 % 8) ((48 + o % 8) ∷ []) (omega arith) third in
+    let first = IsAscii-cons (48 + o / 64) ((48 + o / 8 % 8) ∷ (48 + o % 8) ∷ []) (omega arith) second in
+    IsAscii-cons 92 digits (omega arith) first
 
-octet_is_visible : (breaks : LineBreaks) (o : ℕ) → o < 256 → all_visible breaks (octet_shown breaks o) ≡ true
-octet_is_visible breaks o small =
-    elim (is_visible breaks o) as (λ b. is_visible breaks o ≡ b → all_visible breaks (if b then o ∷ [] else octal_escape o) ≡ true) [
-      | true ↦ λ e. rw e
-      | false ↦ λ e. octal_is_visible breaks o small
+octal_is_text : (breaks : LineBreaks) (o : ℕ) → o < 256 → IsTextOf (is_visible breaks) (octal_escape o)
+octal_is_text breaks o small =
+    text-ascii (is_visible breaks) (octal_escape o) (octal_is_ascii o small) (octal_is_visible breaks o small)
+
+octals_are_text : (breaks : LineBreaks) (os : List ℕ) → Small os → IsTextOf (is_visible breaks) (octal_text os)
+octals_are_text breaks [] small = text-nil (is_visible breaks)
+octals_are_text breaks (o ∷ os) small =
+    text-append (is_visible breaks) (octal_escape o) (octal_text os) (octal_is_text breaks o (All-head (λ (o : ℕ). o < 256) o os small)) (octals_are_text breaks os (All-tail (λ (o : ℕ). o < 256) o os small))
+
+char_is_text : (breaks : LineBreaks) (c : ℕ) → IsScalar c → Small (encode_utf8 c) → IsTextOf (is_visible breaks) (char_shown breaks c)
+char_is_text breaks c scalar small =
+    elim (is_visible breaks c) as (λ b. is_visible breaks c ≡ b → IsTextOf (is_visible breaks) (if b then encode_utf8 c else octal_text (encode_utf8 c))) [
+      | true ↦ λ e. text-char (is_visible breaks) c scalar e
+      | false ↦ λ e. octals_are_text breaks (encode_utf8 c) small
     ] refl
 
-second_is_small : (os : List ℕ) → All (λ o. o < 256) os → slice_index os 0 < 256
-second_is_small [] small = omega arith
-second_is_small (o ∷ os) small = All-head (λ o. o < 256) o os small
+-- ---- laws
 
-pub text_is_visible : (breaks : LineBreaks) (n : ℕ) (os : List ℕ) → All (λ o. o < 256) os → all_visible breaks (text_shown breaks n os) ≡ true
-text_is_visible breaks n [] small = refl
-text_is_visible breaks (suc n) (o ∷ os) small = text_is_visible breaks n os (All-tail (λ o. o < 256) o os small)
-text_is_visible breaks zero (o ∷ os) small =
-    let first = All-head (λ (o : ℕ). o < 256) o os small in
-    let later = All-tail (λ (o : ℕ). o < 256) o os small in
-    elim (begins_control (o ∷ os)) as (λ b. all_visible breaks (if b then octal_escape o ++ octal_escape (slice_index os 0) ++ text_shown breaks 1 os else octet_shown breaks o ++ text_shown breaks 0 os) ≡ true) [
-      | true ↦ both breaks (octal_escape o ++ octal_escape (slice_index os 0)) (text_shown breaks 1 os) (both breaks (octal_escape o) (octal_escape (slice_index os 0)) (octal_is_visible breaks o first) (octal_is_visible breaks (slice_index os 0) (second_is_small os later))) (text_is_visible breaks 1 os later)
-      | false ↦ both breaks (octet_shown breaks o) (text_shown breaks 0 os) (octet_is_visible breaks o first) (text_is_visible breaks 0 os later)
-    ]
+pub shown_is_text : (breaks : LineBreaks) (octets text : List ℕ) → IsVisibleText breaks octets text → Small octets → IsTextOf (is_visible breaks) text
+shown_is_text breaks octets text nothing small = text-nil (is_visible breaks)
+shown_is_text breaks octets text (character c os shown scalar later) small =
+    text-append (is_visible breaks) (char_shown breaks c) shown (char_is_text breaks c scalar (small_front (encode_utf8 c) os small)) (shown_is_text breaks os shown later (small_back (encode_utf8 c) os small))
+shown_is_text breaks octets text (octet o os shown none later) small =
+    text-append (is_visible breaks) (octal_escape o) shown (octal_is_text breaks o (All-head (λ (o : ℕ). o < 256) o os small)) (shown_is_text breaks os shown later (All-tail (λ (o : ℕ). o < 256) o os small))
+
+-- a text that is not empty begins with a character
+begins : (cs : List ℕ) (o : ℕ) (os : List ℕ) → all_scalars cs ≡ true → encode_utf8_all cs ≡ o ∷ os → StartsWithNoChar (o ∷ os) → ⊥
+begins [] o os scalars same none = cc
+begins (c ∷ cs) o os scalars same none = none c (encode_utf8_all cs) (and_parts _ _ scalars).0 (sym same)
+
+-- of a text in UTF-8, each character is shown
+pub text_is_shown : (breaks : LineBreaks) (octets text : List ℕ) → IsVisibleText breaks octets text → IsUtf8 octets → text ≡ text_shown breaks octets
+text_is_shown breaks octets text nothing utf8 = rw chars-nil
+text_is_shown breaks octets text (character c os shown scalar later) utf8 =
+    let rest = IsUtf8-past_char (encode_utf8 c ++ os) os c utf8 refl in
+    ap (λ t. char_shown breaks c ++ t) (text_is_shown breaks os shown later rest)
+    ∙ sym (ap (λ cs. flat_map (char_shown breaks) cs) (chars_past_char (encode_utf8 c ++ os) os c utf8 refl))
+text_is_shown breaks octets text (octet o os shown none later) utf8 =
+    absurd (begins utf8.0 o os utf8.1.0 utf8.1.1 none)

@@ -5,3 +5,4 @@ pub mod Refusals
 pub mod SecretAttributes
 pub mod VisibleText
 pub mod Words
+pub mod internal

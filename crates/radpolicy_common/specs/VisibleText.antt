@@ -1,36 +1,49 @@
 -- What is shown of octets on a terminal.
-use Rattle.std.specs.Prelude.{ℕ, zero, suc, Bool, false, not, ◌&&◌, ◌||◌, ◌==◌, nat_le, if◌then◌else◌, List, [], ◌∷◌, ◌++◌, slice_index}
-use Rattle.std.specs.List.{list_all}
+use Rattle.std.specs.Prelude.{ℕ, Bool, false, not, ◌||◌, ◌==◌, if◌then◌else◌, List, [], ◌∷◌, ◌++◌}
+use Rattle.std.specs.List.{flat_map, list_all}
+use Rattle.std.specs.Char.{IsScalar, encode_utf8, is_control}
+use Rattle.std.specs.Str.{StartsWithNoChar, chars}
 use Rattle.avp_dict.specs.Quotes.{octal_escape}
 use Rattle.radpolicy_common.specs.declared.terminals.LineBreaks.{LineBreaks}
 use Rattle.radpolicy_common.specs.declared.terminals.LineBreaks.TheVariants.{Escaped, Kept}
 
+-- ---- characters
+
 -- LF and TAB, where they are kept
 abbrev pub is_kept_control : LineBreaks → ℕ → Bool
-is_kept_control Escaped o = false
-is_kept_control Kept o = (o == 10) || (o == 9)
+is_kept_control Escaped c = false
+is_kept_control Kept c = (c == 10) || (c == 9)
 
--- no octet below 0x20 but those kept, and no 0x7f
+-- no control character (up to U+001F, and from U+007F to U+009F) but those kept
 abbrev pub is_visible : LineBreaks → ℕ → Bool
-is_visible breaks o = is_kept_control breaks o || (nat_le 32 o && not (o == 127))
+is_visible breaks c = is_kept_control breaks c || not (is_control c)
 
--- each octet is visible
+-- each character of a text is visible
 abbrev pub all_visible : LineBreaks → List ℕ → Bool
-all_visible breaks octets = list_all (is_visible breaks) octets
+all_visible breaks text = list_all (is_visible breaks) (chars text)
 
--- an octet as it is, or in octal digits
-abbrev pub octet_shown : LineBreaks → ℕ → List ℕ
-octet_shown breaks o = if is_visible breaks o then o ∷ [] else octal_escape o
+-- ---- what is shown
 
--- a control character from U+0080 to U+009F comes first
-abbrev pub begins_control : List ℕ → Bool
-begins_control os =
-    (slice_index os 0 == 194) && nat_le 128 (slice_index os 1) && nat_le (slice_index os 1) 159
+-- each octet in octal digits
+abbrev pub octal_text : List ℕ → List ℕ
+octal_text octets = flat_map octal_escape octets
 
--- a text in UTF-8, but for so many octets at the front that a control character has taken
-abbrev pub text_shown : LineBreaks → ℕ → List ℕ → List ℕ
-text_shown breaks taken [] = []
-text_shown breaks (suc taken) (o ∷ os) = text_shown breaks taken os
-text_shown breaks zero (o ∷ os) = if begins_control (o ∷ os)
-    then octal_escape o ++ octal_escape (slice_index os 0) ++ text_shown breaks 1 os
-    else octet_shown breaks o ++ text_shown breaks 0 os
+-- a character as it is in UTF-8, or the octets of it in octal digits
+abbrev pub char_shown : LineBreaks → ℕ → List ℕ
+char_shown breaks c =
+    if is_visible breaks c then encode_utf8 c else octal_text (encode_utf8 c)
+
+-- a text in UTF-8, character by character
+abbrev pub text_shown : LineBreaks → List ℕ → List ℕ
+text_shown breaks text = flat_map (char_shown breaks) (chars text)
+
+-- what is shown of any octets: where a character comes first, that character, and then the rest; where none does, the
+-- first octet in octal digits, and then the rest
+pub data IsVisibleText (breaks : LineBreaks) : List ℕ → List ℕ → Type 0 where
+  nothing : IsVisibleText breaks [] []
+  character : (c : ℕ) (octets text : List ℕ) → IsScalar c
+      → IsVisibleText breaks octets text
+      → IsVisibleText breaks (encode_utf8 c ++ octets) (char_shown breaks c ++ text)
+  octet : (o : ℕ) (octets text : List ℕ) → StartsWithNoChar (o ∷ octets)
+      → IsVisibleText breaks octets text
+      → IsVisibleText breaks (o ∷ octets) (octal_escape o ++ text)

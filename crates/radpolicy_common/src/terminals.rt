@@ -1,10 +1,9 @@
 //! What goes to a terminal: colours, and texts from requests and policies without control characters.
 
-ghost use Rattle.std.specs.Prelude.{◌≡◌, ◌≤◌, ◌++◌, true, length, IfOk, OnOk};
+ghost use Rattle.std.specs.Prelude.{◌≡◌, ◌++◌, true, IfOk, OnOk};
 ghost use Rattle.std.specs.Str.{IsUtf8};
 ghost use Rattle.avp_dict.specs.Quotes.{octal_escape};
-ghost use Rattle.radpolicy_common.specs.declared.terminals.LineBreaks.{LineBreaks};
-ghost use Rattle.radpolicy_common.specs.VisibleText.{all_visible, begins_control, is_visible, octet_shown, text_shown};
+ghost use Rattle.radpolicy_common.specs.VisibleText.{IsVisibleText, all_visible, char_shown, is_visible, octal_text, text_shown};
 
 use std::alloc::{AllocError, Global};
 use std::env::VarError;
@@ -71,21 +70,18 @@ impl Style {
     }
 }
 
-fn is_visible(octet: u8, breaks: LineBreaks) -> bool
-    ensures { result ≡ is_visible breaks octet }
+fn is_visible(character: char, breaks: LineBreaks) -> bool
+    ensures { result ≡ is_visible breaks character }
 {
-    match (octet, breaks) {
-        (b'\n' | b'\t', LineBreaks::Kept) => true,
-        (0x7f, _) => false,
-        _ => octet >= b' ',
+    match (character, breaks) {
+        ('\n' | '\t', LineBreaks::Kept) => true,
+        _ => !character.is_control(),
     }
 }
 
 // `\` and three octal digits.
 fn push_octal(text: &mut Vec<u8>, octet: u8) -> Result<(), AllocError>
-    ensures digits { OnOk result (text.new.items ≡ text.old.items ++ octal_escape octet) }
-    ensures visible { (breaks : LineBreaks)
-        → OnOk result (all_visible breaks (octal_escape octet) ≡ true) }
+    ensures { OnOk result (text.new.items ≡ text.old.items ++ octal_escape octet) }
 {
     text.push(b'\\')?;
     text.push(b'0' + octet / 64)?;
@@ -94,74 +90,49 @@ fn push_octal(text: &mut Vec<u8>, octet: u8) -> Result<(), AllocError>
     Ok(())
 }
 
-// An octet as it is, or in octal digits.
-fn push_octet(text: &mut Vec<u8>, octet: u8, breaks: LineBreaks) -> Result<(), AllocError>
-    ensures { OnOk result (text.new.items ≡ text.old.items ++ octet_shown breaks octet) }
+fn push_octals(text: &mut Vec<u8>, octets: &[u8]) -> Result<(), AllocError>
+    ensures { OnOk result (text.new.items ≡ text.old.items ++ octal_text octets.now) }
 {
-    if !is_visible(octet, breaks) {
-        return push_octal(text, octet);
-    }
-    text.push(octet)?;
-    Ok(())
-}
-
-// Whether a control character from U+0080 to U+009F comes first.
-fn begins_control(octets: &[u8]) -> bool
-    ensures test { result ≡ begins_control octets.now }
-    ensures within { result ≡ true → 2 ≤ length octets.now }
-{
-    matches!(octets, [0xc2, 0x80..=0x9f, ..])
-}
-
-// A text in UTF-8.
-#[tactic(auto, using(crate::proofs::Visibility::taken_over))]
-fn push_text(text: &mut Vec<u8>, octets: &[u8], breaks: LineBreaks) -> Result<(), AllocError>
-    ensures shown { OnOk result
-        (text.new.items ≡ text.old.items ++ text_shown breaks 0 octets.now) }
-    ensures visible { OnOk result (all_visible breaks (text_shown breaks 0 octets.now) ≡ true) }
-{
-    let mut rest = octets;
-    while let [octet, later @ ..] = rest {
-        if begins_control(rest) {
-            push_octal(text, *octet)?;
-            push_octal(text, rest[1])?;
-            rest = &rest[2..];
-        } else {
-            push_octet(text, *octet, breaks)?;
-            rest = later;
-        }
+    for octet in octets {
+        push_octal(text, *octet)?;
     }
     Ok(())
 }
 
-// How many octets at the front are UTF-8.
-fn text_length(octets: &[u8]) -> usize
-    ensures within { result ≤ length octets.now }
-    ensures whole { IsUtf8 octets.now → result ≡ length octets.now }
+fn push_character(text: &mut Vec<u8>, character: char, breaks: LineBreaks) -> Result<(), AllocError>
+    ensures { OnOk result (text.new.items ≡ text.old.items ++ char_shown breaks character) }
 {
-    match std::str::from_utf8(octets) {
-        Ok(text) => text.len(),
-        Err(error) => error.valid_up_to(),
+    let mut buffer = [0; 4];
+    let octets = character.encode_utf8(&mut buffer).as_bytes();
+    if is_visible(character, breaks) {
+        text.extend_from_slice(octets)
+    } else {
+        push_octals(text, octets)
     }
+}
+
+fn push_text(text: &mut Vec<u8>, added: &str, breaks: LineBreaks) -> Result<(), AllocError>
+    ensures { OnOk result (text.new.items ≡ text.old.items ++ text_shown breaks added.now) }
+{
+    for character in added.chars() {
+        push_character(text, character, breaks)?;
+    }
+    Ok(())
 }
 
 /// Octets as they may be shown on a terminal: control characters (below 0x20, 0x7f, and U+0080 to U+009F) and octets
 /// that are no UTF-8 as `\` and three octal digits each. LF and TAB are kept where that is asked for.
-#[tactic(auto, using(crate::proofs::Visibility::joined_is_visible))]
 pub fn visible_text(alloc: Global, octets: &[u8], breaks: LineBreaks) -> Result<Vec<u8>, AllocError>
+    ensures shown { IfOk result (λ text. IsVisibleText breaks octets.now text.items) }
+    ensures utf8 { IfOk result (λ text. IsUtf8 text.items) }
     ensures visible { IfOk result (λ text. all_visible breaks text.items ≡ true) }
     ensures text { IsUtf8 octets.now
-        → IfOk result (λ text. text.items ≡ text_shown breaks 0 octets.now) }
+        → IfOk result (λ text. text.items ≡ text_shown breaks octets.now) }
 {
     let mut text = Vec::new(alloc);
-    let mut rest = octets;
-    loop {
-        let (valid, invalid) = rest.split_at(text_length(rest));
-        push_text(&mut text, valid, breaks)?;
-        let [octet, later @ ..] = invalid else {
-            return Ok(text);
-        };
-        push_octal(&mut text, *octet)?;
-        rest = later;
+    for chunk in octets.utf8_chunks() {
+        push_text(&mut text, chunk.valid(), breaks)?;
+        push_octals(&mut text, chunk.invalid())?;
     }
+    Ok(text)
 }

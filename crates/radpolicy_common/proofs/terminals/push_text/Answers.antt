@@ -1,8 +1,11 @@
-use Rattle.std.proofs.Common.{ℕ, ◌<◌, arith}
-use Rattle.std.proofs.lemmas.List.Elements.{All-from_get_or}
-use Rattle.radpolicy_common.proofs.Visibility.{text_is_visible}
+use Rattle.std.proofs.Common.{◌≡◌, ◌++◌, ◌∙◌, ap, chars, map-id, sym}
+use Rattle.std.proofs.lemmas.Iterator.{YieldsList-from_chars}
+use Rattle.std.proofs.lemmas.Iterator.Consumers.{YieldsList-end}
+use Rattle.std.specs.List.{flat_map}
+use Rattle.radpolicy_common.specs.VisibleText.{char_shown, text_shown}
 use Rattle.radpolicy_common.proofs.terminals.push_text.Goals as goal
 
-pub returns-clause-visible : goal.returns-clause-visible
-returns-clause-visible c =
-    text_is_visible c.args.breaks 0 c.args.octets.now (All-from_get_or (λ (o : ℕ). o < 256) c.args.octets.now 0 (λ k within. let f = c.type_inv.octets k in omega arith))
+pub returns : goal.returns
+returns c =
+    let done = YieldsList-end (YieldsList-from_chars c.args.added.now c.utf8.added cc) c.loop-character.yielded _ c.loop-character.yielded_by _ _ c.in-None.is c.next.ensures.steps in
+    c.loop-character.invariant ∙ ap (λ cs. c.args.text.now.items ++ flat_map (char_shown c.args.breaks) cs) (sym (map-id c.loop-character.yielded) ∙ done.0)

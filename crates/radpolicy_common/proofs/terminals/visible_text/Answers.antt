@@ -1,16 +1,47 @@
-use Rattle.std.proofs.Common.{◌≡◌, length, subst, sym, arith}
+use Rattle.std.proofs.Common.{◌≡◌, ◌∙◌, ℕ, ◌<◌, ◌++◌, List, [], ap, append-nil, append_assoc, arith, subst, sym}
+use Rattle.std.proofs.lemmas.List.{nil_from_length}
+use Rattle.std.proofs.lemmas.List.Elements.{All-from_get_or}
 use Rattle.std.specs.Str.{IsUtf8}
-use Rattle.std.proofs.lemmas.Grind.{common_steps}
-use Rattle.radpolicy_common.proofs.Visibility.{joined_is_visible}
+use Rattle.std.specs.Str.Chunks.{utf8_chunks_rest}
+use Rattle.radpolicy_common.specs.VisibleText.{IsVisibleText, octal_text, text_shown}
+use Rattle.radpolicy_common.specs.VisibleText.IsVisibleText.{nothing}
+use Rattle.radpolicy_common.specs.declared.terminals.LineBreaks.{LineBreaks}
+use Rattle.radpolicy_common.proofs.Chunks.{chunk_is_shown}
+use Rattle.radpolicy_common.proofs.Visibility.{Small, shown_is_text, text_is_shown}
 use Rattle.radpolicy_common.proofs.terminals.visible_text.Goals as goal
 
-pub loop-text-preserved : goal.loop-text-preserved
-loop-text-preserved c =
-    let no_text : IsUtf8 c.args.octets.now → ⊥ = λ utf8. (
-    let whole : c.text_length.result ≡ length c.loop-text.rest.now = c.text_length.ensures.whole (subst IsUtf8 (sym (c.loop-text.invariant.rest utf8)) utf8) in
-    omega (arith, whole, c.split_at.ensures.back_len, c.in-len1-up.len_at_least)) in
-    record {
-      visible = grind (arith, common_steps, joined_is_visible, c.push_octal.ensures.visible c.args.breaks, c.push_text.ensures.visible, c.loop-text.invariant.visible);
-      rest = λ utf8. absurd (no_text utf8);
-      none = λ utf8. absurd (no_text utf8);
-    }
+pub loop-chunk-preserved : goal.loop-chunk-preserved
+loop-chunk-preserved c = λ more later. (
+    let steps = c.in-Some.ensures.steps in
+    let utf8 : IsUtf8 c.in-Some.chunk.valid.now = subst IsUtf8 c.valid.ensures c.valid.utf8 in
+    let shown = chunk_is_shown c.args.breaks (utf8_chunks_rest c.loop-chunk.chunk-iterator) c.in-Some.chunk.valid.now c.in-Some.chunk.invalid.now (utf8_chunks_rest c.next.new.self) more steps.0 utf8 steps.3.0 steps.3.1 later in
+    let text = text_shown c.args.breaks c.in-Some.chunk.valid.now in
+    let octal = octal_text c.in-Some.chunk.invalid.now in
+    let pushed : c.push_octals.new.text.items ≡ c.loop-chunk.text.items ++ text ++ octal = rw (c.in_ok-push_octals.ensures, c.in_ok-push_text.ensures, c.valid.ensures, c.invalid.ensures) in
+    let joined : c.push_octals.new.text.items ++ more ≡ c.loop-chunk.text.items ++ (text ++ (octal ++ more)) = rw (pushed, append_assoc, append_assoc) in
+    subst (λ (xs : List ℕ). IsVisibleText c.args.breaks c.args.octets.now xs) (sym joined) (c.loop-chunk.invariant (text ++ (octal ++ more)) shown))
+
+whole : (breaks : LineBreaks) (octets text rest : List ℕ) → rest ≡ [] → ((more : List ℕ) → IsVisibleText breaks rest more → IsVisibleText breaks octets (text ++ more)) → IsVisibleText breaks octets text
+whole breaks octets text rest none shown =
+    subst (λ (xs : List ℕ). IsVisibleText breaks octets xs) (append-nil text) (shown [] (subst (λ (os : List ℕ). IsVisibleText breaks os []) (sym none) nothing))
+
+pub returns-clause-shown : goal.returns-clause-shown
+returns-clause-shown c =
+    whole c.args.breaks c.args.octets.now c.loop-chunk.text.items (utf8_chunks_rest c.loop-chunk.chunk-iterator) (nil_from_length _ c.in-None.ensures.steps.0) c.loop-chunk.invariant
+
+pub returns-clause-utf8 : goal.returns-clause-utf8
+returns-clause-utf8 c =
+    let shown = whole c.args.breaks c.args.octets.now c.loop-chunk.text.items (utf8_chunks_rest c.loop-chunk.chunk-iterator) (nil_from_length _ c.in-None.ensures.steps.0) c.loop-chunk.invariant in
+    let small : Small c.args.octets.now = All-from_get_or (λ (o : ℕ). o < 256) c.args.octets.now 0 (λ k within. let f = c.type_inv.octets k in omega arith) in
+    (shown_is_text c.args.breaks c.args.octets.now c.loop-chunk.text.items shown small).utf8
+
+pub returns-clause-visible : goal.returns-clause-visible
+returns-clause-visible c =
+    let shown = whole c.args.breaks c.args.octets.now c.loop-chunk.text.items (utf8_chunks_rest c.loop-chunk.chunk-iterator) (nil_from_length _ c.in-None.ensures.steps.0) c.loop-chunk.invariant in
+    let small : Small c.args.octets.now = All-from_get_or (λ (o : ℕ). o < 256) c.args.octets.now 0 (λ k within. let f = c.type_inv.octets k in omega arith) in
+    (shown_is_text c.args.breaks c.args.octets.now c.loop-chunk.text.items shown small).passes
+
+pub returns-clause-text : goal.returns-clause-text
+returns-clause-text c = λ utf8.
+    let shown = whole c.args.breaks c.args.octets.now c.loop-chunk.text.items (utf8_chunks_rest c.loop-chunk.chunk-iterator) (nil_from_length _ c.in-None.ensures.steps.0) c.loop-chunk.invariant in
+    text_is_shown c.args.breaks c.args.octets.now c.loop-chunk.text.items shown utf8
