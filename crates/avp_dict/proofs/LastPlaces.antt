@@ -17,7 +17,7 @@ module _ {X : Type 0} (test : X → Bool) where
   last_place_push [] x = refl
   last_place_push (y ∷ ys) x = ap (after y) (last_place_push ys x) ∙ moved (test x) y (length ys) (last_place test ys)
 
-  abbrev or_then : Option X → Option X → Option X
+  abbrev pub or_then : Option X → Option X → Option X
   or_then r other = elim r [ Some y ↦ Some y | None ↦ other ]
 
   found_first : (b : Bool) (y : X) (new old other : Option X) → new ≡ or_then old other → cond b (Some y) new ≡ or_then (cond b (Some y) old) other
@@ -40,7 +40,7 @@ module _ {X : Type 0} (test : X → Bool) where
   one_more None line x xs h = at_head (test x) x xs line h
   one_more (Some i) line x xs h = (h.0, h.1, ap (λ r. or_then r (cond (test x) (Some x) None)) h.2)
 
-  last_first : (x : X) (xs : List X) → last_where test (x ∷ xs) ≡ or_then (last_where test xs) (cond (test x) (Some x) None)
+  pub last_first : (x : X) (xs : List X) → last_where test (x ∷ xs) ≡ or_then (last_where test xs) (cond (test x) (Some x) None)
   last_first x xs = ap (find test) (reverse-append (x ∷ []) xs) ∙ find_push (reverse xs) x
 
   agreeing : (xs : List X) → Agree xs (last_place test xs) (last_where test xs)

@@ -1,6 +1,7 @@
 pub mod AgreeingLines
 pub mod Agreement
 pub mod Appending
+pub mod AttributeRows
 pub mod CountedNames
 pub mod FaultPlaces
 pub mod Fitting

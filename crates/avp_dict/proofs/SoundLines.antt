@@ -14,6 +14,7 @@ use Rattle.avp_dict.specs.declared.entries.Kind.TheVariants.{Text, Bytes}
 use Rattle.avp_dict.specs.declared.entries.Typing.{Typing}
 use Rattle.avp_dict.specs.declared.entries.VendorFormat.{VendorFormat}
 use Rattle.avp_dict.specs.declared.entries.VendorLine.{VendorLine}
+use Rattle.avp_dict.specs.declared.forms.Form.{Form}
 use Rattle.avp_dict.specs.declared.faults.DictKind.{DictKind}
 use Rattle.avp_dict.specs.declared.faults.DictKind.TheVariants.{UnknownVendor}
 use Rattle.avp_dict.specs.declared.faults.DictFault.{DictFault}
@@ -33,7 +34,7 @@ use Rattle.avp_dict.specs.Meanings.{Meaning, Vendor, Attribute, BeginVendor, Rea
 use Rattle.avp_dict.specs.Readings.{include, plain_line, read_head, read_line, read_lines, read_words, skipped_line, value, within}
 use Rattle.avp_dict.specs.Soundness.{IsSoundVendor, names_other_id}
 use Rattle.avp_dict.specs.Refusals.{refused_at, ◌>>=◌}
-use Rattle.avp_dict.specs.Types.{are_flags, is_fixed, is_hiding, is_opaque, is_text_kind, kind_word, typing_by, typing_of}
+use Rattle.avp_dict.specs.Types.{are_flags, form_by, is_fixed, is_hiding, is_marked, is_opaque, is_text_kind, kind_word, typing_by, typing_of}
 use Rattle.avp_dict.specs.Vendors.{bounded, format_parts, format_word, is_format, is_other_vendor, is_vendor_name, standard_format, two_parts, vendor, vendor_line, vendor_numbered}
 use Rattle.avp_dict.specs.Words.{number_of, same_name, words_of}
 use Rattle.avp_dict.specs.internal.Meanings.{IsShort, meaning_view}
@@ -128,17 +129,17 @@ short_vendor : (name : List ℕ) → is_vendor_name name ≡ true → length nam
 unfolding is_vendor_name
 short_vendor name h = leb-true (length name) max_name (and_parts (list_all is_visible name) (nat_le (length name) max_name) h).1
 
-hides_by : (own : Option Kind) (opaque hiding : Bool) → (typing_by own opaque hiding).hidden ≡ true → is_text_kind (Some (typing_by own opaque hiding).kind) ≡ true
-hides_by own true hiding h = refl
-hides_by own false false h = absurd (cc)
-hides_by (Some Text) false true h = refl
-hides_by (Some Bytes) false true h = refl
-hides_by _ false true h = absurd (cc)
+hides_by : (own : Option Kind) (opaque hiding : Bool) (form : Form) (secret : Bool) → (typing_by own opaque hiding form secret).hidden ≡ true → is_text_kind (Some (typing_by own opaque hiding form secret).kind) ≡ true
+hides_by own true hiding form secret h = refl
+hides_by own false false form secret h = absurd (cc)
+hides_by (Some Text) false true form secret h = refl
+hides_by (Some Bytes) false true form secret h = refl
+hides_by _ false true form secret h = absurd (cc)
 
 hides_text : (id : AttrId) (word : List ℕ) (flags : List (List ℕ)) → (typing_of id word flags).hidden ≡ true → is_text_kind (Some (typing_of id word flags).kind) ≡ true
 hides_text id word flags =
     cond_both (is_fixed id) _ _ (λ (t : Typing). t.hidden ≡ true → is_text_kind (Some t.kind) ≡ true) (λ fixed h. refl)
-    (λ other. hides_by (kind_word (word_before_bracket word)) (list_any is_opaque flags) (list_any is_hiding flags))
+    (λ other. hides_by (kind_word (word_before_bracket word)) (list_any is_opaque flags) (list_any is_hiding flags) (form_by (word_before_bracket word) flags) (is_marked flags))
 
 -- ---- what a line is read as, by its first word
 

@@ -48,6 +48,10 @@ id_of_line a = a.id
 abbrev pub typing_of_line : AttributeLine → Typing
 typing_of_line a = a.typing
 
+-- a line with the id that marks the values as secret
+abbrev pub is_secret_line_of : AttrId → AttributeLine → Bool
+is_secret_line_of id a = is_attribute_of id a && a.typing.secret
+
 -- the id that a name stands for: that of the last line with the name
 unfoldable pub id_named : List ℕ → List AttributeLine → Option AttrId
 id_named name attributes = option_map id_of_line (last_where (is_attribute_named name) attributes)

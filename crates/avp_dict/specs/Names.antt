@@ -1,18 +1,19 @@
 -- What names and ids mean in a dictionary.
 use Rattle.std.specs.Prelude.{ℕ, Bool, true, false, ◌&&◌, ◌==◌, nat_le, if◌then◌else◌, List, [], ◌∷◌, drop, Option, Some, None}
 use Rattle.std.specs.Option.{option_and_then, option_map}
-use Rattle.std.specs.List.{slice_split}
+use Rattle.std.specs.List.{list_any, slice_split}
 use Rattle.avp_lists.specs.declared.pairs.AttrId.{AttrId}
 use Rattle.avp_lists.specs.declared.pairs.AttrId.TheVariants as ids
 use Rattle.avp_dict.specs.declared.entries.AttributeLine.{AttributeLine}
 use Rattle.avp_dict.specs.declared.entries.Kind.{Kind}
+use Rattle.avp_dict.specs.declared.forms.Form.{Form}
 use Rattle.avp_dict.specs.declared.entries.Format.{Format}
 use Rattle.avp_dict.specs.declared.entries.VendorFormat.{VendorFormat}
 use Rattle.avp_dict.specs.declared.entries.VendorLine.{VendorLine}
 use Rattle.avp_dict.specs.declared.entries.Named.{Named}
 use Rattle.avp_dict.specs.Words.{digits}
 use Rattle.avp_dict.specs.Letters.{is_dot, begins_as_attr}
-use Rattle.avp_dict.specs.Dictionary.{Dictionary, last_where, is_attribute_of, id_named, format_of}
+use Rattle.avp_dict.specs.Dictionary.{Dictionary, last_where, is_attribute_of, is_secret_line_of, id_named, format_of}
 use Rattle.avp_dict.specs.AttributeNumbers.{greatest_number, max_plain, vendor_specific}
 use Rattle.avp_dict.specs.Attributes.{is_extended_id}
 use Rattle.avp_dict.specs.Settled.{is_in_format}
@@ -73,6 +74,18 @@ described_by a = record { name = a.name; kind = a.typing.kind; hidden = a.typing
 unfoldable pub described : AttrId → Dictionary → Option Described
 described id dictionary =
     option_map described_by (last_where (is_attribute_of id) dictionary.attributes)
+
+abbrev pub form_of_line : AttributeLine → Form
+form_of_line a = a.typing.form
+
+-- what the values of an id stand for: as its last used ATTRIBUTE line says
+unfoldable pub form_of : AttrId → Dictionary → Option Form
+form_of id dictionary =
+    option_map form_of_line (last_where (is_attribute_of id) dictionary.attributes)
+
+-- some used ATTRIBUTE line with the id marks the values as secret
+unfoldable pub is_marked_secret : AttrId → Dictionary → Bool
+is_marked_secret id dictionary = list_any (is_secret_line_of id) dictionary.attributes
 
 -- ---- vendors
 

@@ -1,4 +1,4 @@
--- Type words and flags, and how the values of an attribute with them are read.
+-- Type words and flags, how the values of an attribute with them are read, and what they stand for.
 use Rattle.std.specs.Prelude.{codes, ℕ, Bool, true, false, not, ◌&&◌, ◌||◌, ◌==◌, if◌then◌else◌, List, [], ◌∷◌, Option, Some}
 use Rattle.std.specs.Option.{unwrap_or}
 use Rattle.std.specs.List.{list_any, list_all}
@@ -8,6 +8,8 @@ use Rattle.avp_lists.specs.declared.pairs.AttrId.TheVariants as ids
 use Rattle.avp_dict.specs.declared.entries.Kind.{Kind}
 use Rattle.avp_dict.specs.declared.entries.Kind.TheVariants as kinds
 use Rattle.avp_dict.specs.declared.entries.Typing.{Typing}
+use Rattle.avp_dict.specs.declared.forms.Form.{Form}
+use Rattle.avp_dict.specs.declared.forms.Form.TheVariants as forms
 use Rattle.avp_dict.specs.AttributeNumbers.{is_extended_type, message_authenticator, proxy_state, vendor_specific}
 use Rattle.avp_dict.specs.Words.{same_name}
 use Rattle.avp_dict.specs.Letters.{word_before_bracket}
@@ -48,24 +50,75 @@ is_text_kind (Some kinds.Text) = true
 is_text_kind (Some kinds.Bytes) = true
 is_text_kind _ = false
 
--- Plain 26, 33, 80 and 241 to 246, whose line's type and flags are not looked at
+-- Plain 26, 33, 80 and 241 to 246, whose values are octets whatever the line's type and flags say
 abbrev pub is_fixed : AttrId → Bool
 is_fixed (ids.Plain n) =
     (n == vendor_specific) || (n == proxy_state) || (n == message_authenticator)
     || is_extended_type n
 is_fixed _ = false
 
-abbrev pub typing_by : Option Kind → Bool → Bool → Typing
-typing_by own opaque hiding = record {
+-- ---- what the values stand for
+
+-- the line has this flag
+abbrev pub has_flag : List ℕ → List (List ℕ) → Bool
+has_flag own flags = list_any (λ flag. same_name flag own) flags
+
+abbrev pub is_encrypted : List (List ℕ) → Bool
+is_encrypted flags = has_flag (codes "encrypt=1") flags || has_flag (codes "encrypt=2") flags
+    || has_flag (codes "encrypt=3") flags
+
+-- the line marks the values as secret
+abbrev pub is_marked : List (List ℕ) → Bool
+is_marked flags = is_encrypted flags || has_flag (codes "secret") flags
+
+-- the type words whose values stand for more than the type in which they are held: a number for a date, else octets
+abbrev pub form_words : List (List ℕ × Form)
+form_words =
+    (codes "date", forms.Date) ∷ (codes "ipv6addr", forms.Ipv6Address)
+    ∷ (codes "ipv6prefix", forms.Ipv6Prefix) ∷ (codes "ipv4prefix", forms.Ipv4Prefix)
+    ∷ (codes "ifid", forms.InterfaceId) ∷ []
+
+-- those whose values can have a tag before them (RFC 2868, section 3), and stand for this then
+abbrev pub tagged_words : List (List ℕ × Form)
+tagged_words = (codes "integer", forms.TaggedInteger) ∷ (codes "string", forms.TaggedString) ∷ []
+
+abbrev pub own_form : List ℕ → Option Form
+own_form w = lookup (same_name w) form_words
+
+abbrev pub tagged_form : List ℕ → Option Form
+tagged_form w = lookup (same_name w) tagged_words
+
+-- what the values of a line with this type word stand for: encrypted ones for no more than their octets
+abbrev pub form_by : List ℕ → List (List ℕ) → Form
+form_by w flags = if is_encrypted flags then forms.AsTyped
+    else if has_flag (codes "has_tag") flags then unwrap_or (tagged_form w) forms.AsTyped
+    else unwrap_or (own_form w) forms.AsTyped
+
+-- ---- together
+
+abbrev pub typing_by : Option Kind → Bool → Bool → Form → Bool → Typing
+typing_by own opaque hiding form secret = record {
   kind =
       if opaque || (hiding && not (is_text_kind own)) then kinds.Bytes
       else unwrap_or own kinds.Bytes;
   hidden = hiding && is_text_kind own;
   by_text = is_text_kind own;
+  form = form;
+  secret = secret;
+}
+
+-- of these ids, whose lines say no more than whether the values are secret
+abbrev pub fixed_typing : Bool → Typing
+fixed_typing secret = record {
+  kind = kinds.Bytes;
+  hidden = false;
+  by_text = true;
+  form = forms.AsTyped;
+  secret = secret;
 }
 
 abbrev pub typing_of : AttrId → List ℕ → List (List ℕ) → Typing
 typing_of id word flags =
-    if is_fixed id then record { kind = kinds.Bytes; hidden = false; by_text = true }
+    if is_fixed id then fixed_typing (is_marked flags)
     else typing_by (kind_word (word_before_bracket word)) (list_any is_opaque flags)
-    (list_any is_hiding flags)
+    (list_any is_hiding flags) (form_by (word_before_bracket word) flags) (is_marked flags)

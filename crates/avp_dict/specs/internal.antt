@@ -1,3 +1,4 @@
+pub mod AttributeRows
 pub mod Contents
 pub mod Entries
 pub mod LineReading

@@ -4,7 +4,7 @@ ghost use Rattle.avp_dict.specs.Counts.{counts_of};
 ghost use Rattle.avp_dict.specs.Dictionary.{first_names, name_numbered, number_named, typing_of_id};
 ghost use Rattle.avp_dict.specs.DictionaryReading.{dictionary_of, max_lines};
 ghost use Rattle.avp_dict.specs.Lines.{HasDistinctNames};
-ghost use Rattle.avp_dict.specs.Names.{described, named, unless_three, vendor_format};
+ghost use Rattle.avp_dict.specs.Names.{described, form_of, is_marked_secret, named, unless_three, vendor_format};
 ghost use Rattle.avp_dict.specs.Outcomes.{Answers};
 ghost use Rattle.avp_dict.specs.Settled.{is_in_format};
 ghost use Rattle.avp_dict.specs.Soundness.{IsSound};
@@ -19,6 +19,7 @@ use crate::file::files::{FileSet, NamedFile};
 use crate::file::lines::MAX_LINES;
 use crate::file::reader::{ReadLines, read_set};
 use crate::file::settling::{is_in_format, settle};
+use crate::forms::Form;
 use crate::names::id_by_numbers;
 use avp_lists::AttrId;
 use std::alloc::Global;
@@ -152,6 +153,37 @@ impl Dictionary {
             }),
             None => None,
         }
+    }
+
+    /// What the values of an id stand for beyond their type, by its last used ATTRIBUTE line.
+    ///
+    /// ```rust
+    /// // `ATTRIBUTE Tunnel-Type 64 integer has_tag`
+    /// let tunnel_type = AttrId::Plain(64);
+    /// assert_eq!(rt; dictionary.form(tunnel_type), Some(Form::TaggedInteger));
+    /// assert_eq!(rt; dictionary.form(AttrId::Plain(65)), None);
+    /// ```
+    #[tactic(auto, unfolding(crate::specs::Names::form_of))]
+    pub fn form(&self, id: AttrId) -> Option<Form>
+        ensures { result ≡ form_of id self.now }
+    {
+        let line = self.contents.attributes.by_id(id)?;
+        Some(line.typing.form)
+    }
+
+    /// Whether a used ATTRIBUTE line with the id has `encrypt=1`, `encrypt=2`, `encrypt=3` or `secret`: not its last
+    /// one alone, so that no alias takes the mark away.
+    ///
+    /// ```rust
+    /// // `ATTRIBUTE Tunnel-Password 69 string has_tag,encrypt=2`, and then `ATTRIBUTE Tunnel-Alias 69 string`
+    /// assert!(rt; dictionary.is_marked_secret(AttrId::Plain(69)));
+    /// assert!(rt; !dictionary.is_marked_secret(AttrId::Plain(64)));
+    /// ```
+    #[tactic(auto, unfolding(crate::specs::Names::is_marked_secret))]
+    pub fn is_marked_secret(&self, id: AttrId) -> bool
+        ensures { result ≡ is_marked_secret id self.now }
+    {
+        self.contents.attributes.is_marked_secret(id)
     }
 
     /// An attribute's name in lower case, by its place among the names in the order of their first used lines.

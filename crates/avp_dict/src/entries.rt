@@ -1,5 +1,6 @@
 //! What a dictionary has, and what is found in it.
 
+use crate::forms::Form;
 use avp_lists::{AttrId, Octets};
 
 /// The type of an attribute's values.
@@ -47,6 +48,9 @@ pub struct Typing {
     /// Whether a text without `0x` is taken as its own octets: the line's type word is string or octets, or the
     /// attribute is 26, 33, 80 or 241 to 246.
     pub by_text: bool,
+    pub form: Form,
+    /// Whether the line has `encrypt=1`, `encrypt=2`, `encrypt=3` or `secret`.
+    pub secret: bool,
 }
 
 /// What a used ATTRIBUTE line says.

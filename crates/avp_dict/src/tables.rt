@@ -8,7 +8,7 @@ mod places;
 mod values;
 mod vendors;
 
-pub use attributes::Attributes;
+pub use attributes::{AttributeRow, Attributes};
 pub use names::NameSet;
 pub use values::Values;
 pub use vendors::Vendors;

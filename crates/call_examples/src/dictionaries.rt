@@ -1,8 +1,8 @@
 //! Dictionaries, what is found in them, and texts.
 
-use avp_dict::{Dictionary, FileSet, Kind, LineFault, LineKind, NamedFile, quote};
+use avp_dict::{Dictionary, FileSet, Form, Kind, LineFault, LineKind, NamedFile, quote};
 use avp_lists::{AttrId, Octets};
-use samples::test_dictionary;
+use samples::{read_dictionary, test_dictionary};
 use std::alloc::Global;
 use std::process::Abort;
 use std::test::Fail;
@@ -35,6 +35,26 @@ fn finds_by_id(rt: &impl Abort, dictionary: &Dictionary) -> Result<(), Fail> {
     assert_eq!(rt; port.name, b"NAS-Port".as_slice());
     assert_eq!(rt; port.kind, Kind::Integer);
     Ok(())
+}
+
+const TUNNELS: &[u8] = b"ATTRIBUTE Tunnel-Type 64 integer has_tag
+ATTRIBUTE Tunnel-Password 69 string has_tag,encrypt=2
+ATTRIBUTE Tunnel-Alias 69 string
+";
+
+// Example: Dictionary::form
+fn finds_forms(rt: &impl Abort, dictionary: &Dictionary) {
+    // `ATTRIBUTE Tunnel-Type 64 integer has_tag`
+    let tunnel_type = AttrId::Plain(64);
+    assert_eq!(rt; dictionary.form(tunnel_type), Some(Form::TaggedInteger));
+    assert_eq!(rt; dictionary.form(AttrId::Plain(65)), None);
+}
+
+// Example: Dictionary::is_marked_secret
+fn finds_marks(rt: &impl Abort, dictionary: &Dictionary) {
+    // `ATTRIBUTE Tunnel-Password 69 string has_tag,encrypt=2`, and then `ATTRIBUTE Tunnel-Alias 69 string`
+    assert!(rt; dictionary.is_marked_secret(AttrId::Plain(69)));
+    assert!(rt; !dictionary.is_marked_secret(AttrId::Plain(64)));
 }
 
 // Example: Dictionary::value_number
@@ -85,6 +105,14 @@ fn look_up(rt: &impl Abort, alloc: Global, dictionary: &Dictionary) -> Result<()
     finds_numbers(rt, dictionary);
     finds_names(rt, dictionary)?;
     reads_a_request(rt, alloc, dictionary)
+}
+
+#[test]
+fn tunnels(rt: HostRuntime) -> Result<(), Fail> {
+    let dictionary = read_dictionary(rt.alloc(), TUNNELS)?;
+    finds_forms(&rt, &dictionary);
+    finds_marks(&rt, &dictionary);
+    Ok(())
 }
 
 #[test]

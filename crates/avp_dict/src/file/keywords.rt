@@ -40,6 +40,14 @@ pub const INTEGER64: &[u8] = b"integer64";
 
 pub const ETHER: &[u8] = b"ether";
 
+pub const IPV6ADDR: &[u8] = b"ipv6addr";
+
+pub const IPV6PREFIX: &[u8] = b"ipv6prefix";
+
+pub const IPV4PREFIX: &[u8] = b"ipv4prefix";
+
+pub const IFID: &[u8] = b"ifid";
+
 pub const HAS_TAG: &[u8] = b"has_tag";
 
 pub const ENCRYPT_1: &[u8] = b"encrypt=1";

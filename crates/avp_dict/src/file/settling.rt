@@ -7,7 +7,7 @@ ghost use Rattle.std.specs.Option.{option_copied};
 ghost use Rattle.avp_dict.specs.DictionaryReading.{settled_dictionary};
 ghost use Rattle.avp_dict.specs.Meanings.{context_of};
 ghost use Rattle.avp_dict.specs.Outcomes.{Answers, Refuses};
-ghost use Rattle.avp_dict.specs.Settled.{holds, is_in_format, is_kept, is_kept_line, skipped_names, used};
+ghost use Rattle.avp_dict.specs.Settled.{holds, is_in_format, is_kept, skipped_names, used};
 ghost use Rattle.avp_dict.specs.Values.{resolve};
 ghost use Rattle.avp_dict.specs.internal.Contents.{contents_view};
 ghost use Rattle.avp_dict.specs.internal.Meanings.{context_view, meaning_view, name_if, reading_views, skipped_name_of};
@@ -19,7 +19,7 @@ use crate::file::attributes::is_held;
 use crate::file::context::Context;
 use crate::file::meanings::{Meaning, Reading};
 use crate::file::numbers::MAX_NUMBER;
-use crate::tables::{Attributes, NameSet, Values, Vendors};
+use crate::tables::{AttributeRow, Attributes, NameSet, Values, Vendors};
 use avp_lists::AttrId;
 use std::alloc::{AllocError, Global};
 
@@ -52,10 +52,10 @@ pub(crate) fn is_kept(vendors: &Vendors, id: AttrId) -> bool
     }
 }
 
-fn are_kept(vendors: &Vendors, lines: &[AttributeLine]) -> bool
-    ensures { result ≡ list_all (is_kept_line vendors.now) lines.now }
+fn are_kept(vendors: &Vendors, rows: &[AttributeRow]) -> bool
+    ensures { result ≡ list_all (λ row. is_kept vendors.now row.id) rows.now }
 {
-    lines.iter().all(|line| is_kept(vendors, line.id))
+    rows.iter().all(|row| is_kept(vendors, row.id))
 }
 
 // The lines that are kept, with tables of their own.
@@ -69,12 +69,12 @@ fn only_kept(
     requires { kept.old ≡ [] }
     ensures { OnOk result (kept.new ≡ used vendors.now attributes.now) }
 {
-    let lines = attributes.as_slice();
-    for line in lines {
-        if is_kept(vendors, line.id) {
-            let name = line.name.copy(alloc)?;
-            let id = line.id;
-            let typing = line.typing;
+    let rows = attributes.rows();
+    for row in rows {
+        if is_kept(vendors, row.id) {
+            let name = row.name.copy(alloc)?;
+            let id = row.id;
+            let typing = row.typing;
             kept.push(AttributeLine { name, id, typing })?;
         }
     }
@@ -89,7 +89,7 @@ pub(crate) fn used(
 ) -> Result<Attributes, AllocError>
     ensures { IfOk result (λ kept. kept ≡ used vendors.now attributes) }
 {
-    if are_kept(vendors, attributes.as_slice()) {
+    if are_kept(vendors, attributes.rows()) {
         return Ok(attributes);
     }
     let mut kept = Attributes::new(alloc);

@@ -3,7 +3,7 @@
 ghost use Rattle.std.specs.Prelude.{◌≡◌, ◌==◌, ◌<◌, length, IfSome};
 ghost use Rattle.std.specs.List.{list_any, position, before_first};
 ghost use Rattle.avp_dict.specs.Letters.{word_before_bracket};
-ghost use Rattle.avp_dict.specs.Types.{are_flags, is_fixed, is_flag, is_hiding, is_opaque, is_text_kind, kind_word, typing_by, typing_of};
+ghost use Rattle.avp_dict.specs.Types.{are_flags, fixed_typing, form_by, has_flag, is_encrypted, is_fixed, is_flag, is_hiding, is_marked, is_opaque, is_text_kind, kind_word, own_form, tagged_form, typing_by, typing_of};
 ghost use Rattle.avp_dict.specs.internal.Views.{views};
 
 use crate::attribute_numbers::{
@@ -11,10 +11,12 @@ use crate::attribute_numbers::{
 };
 use crate::entries::{Kind, Typing};
 use crate::file::keywords::{
-    ARRAY, BYTE, CONCAT, DATE, ENCRYPT_1, ENCRYPT_2, ENCRYPT_3, ETHER, HAS_TAG, INTEGER, INTEGER64,
-    IPADDR, OCTETS, SECRET, SHORT, SIGNED, STRING, VIRTUAL,
+    ARRAY, BYTE, CONCAT, DATE, ENCRYPT_1, ENCRYPT_2, ENCRYPT_3, ETHER, HAS_TAG, IFID, INTEGER,
+    INTEGER64, IPADDR, IPV4PREFIX, IPV6ADDR, IPV6PREFIX, OCTETS, SECRET, SHORT, SIGNED, STRING,
+    VIRTUAL,
 };
 use crate::file::words::same_name;
+use crate::forms::Form;
 use avp_lists::AttrId;
 
 fn is_flag(flag: &[u8]) -> bool
@@ -159,8 +161,76 @@ fn is_text_kind(own: Option<Kind>) -> bool
     }
 }
 
-fn typing_by(own: Option<Kind>, opaque: bool, hiding: bool) -> Typing
-    ensures { result ≡ typing_by own opaque hiding }
+// Whether the line has this flag.
+fn has_flag(flags: &[&[u8]], own: &[u8]) -> bool
+    ensures { result ≡ has_flag own.now (views flags.now) }
+{
+    let mut rest = flags;
+    while let [flag, after @ ..] = rest {
+        if same_name(flag, own) {
+            return true;
+        }
+        rest = after;
+    }
+    false
+}
+
+fn is_encrypted(flags: &[&[u8]]) -> bool
+    ensures { result ≡ is_encrypted (views flags.now) }
+{
+    has_flag(flags, ENCRYPT_1) || has_flag(flags, ENCRYPT_2) || has_flag(flags, ENCRYPT_3)
+}
+
+fn is_marked(flags: &[&[u8]]) -> bool
+    ensures { result ≡ is_marked (views flags.now) }
+{
+    is_encrypted(flags) || has_flag(flags, SECRET)
+}
+
+fn own_form(word: &[u8]) -> Option<Form>
+    ensures { result ≡ own_form word.now }
+{
+    if same_name(word, DATE) {
+        Some(Form::Date)
+    } else if same_name(word, IPV6ADDR) {
+        Some(Form::Ipv6Address)
+    } else if same_name(word, IPV6PREFIX) {
+        Some(Form::Ipv6Prefix)
+    } else if same_name(word, IPV4PREFIX) {
+        Some(Form::Ipv4Prefix)
+    } else if same_name(word, IFID) {
+        Some(Form::InterfaceId)
+    } else {
+        None
+    }
+}
+
+fn tagged_form(word: &[u8]) -> Option<Form>
+    ensures { result ≡ tagged_form word.now }
+{
+    if same_name(word, INTEGER) {
+        Some(Form::TaggedInteger)
+    } else if same_name(word, STRING) {
+        Some(Form::TaggedString)
+    } else {
+        None
+    }
+}
+
+fn form_by(word: &[u8], flags: &[&[u8]]) -> Form
+    ensures { result ≡ form_by word.now (views flags.now) }
+{
+    if is_encrypted(flags) {
+        Form::AsTyped
+    } else if has_flag(flags, HAS_TAG) {
+        tagged_form(word).unwrap_or(Form::AsTyped)
+    } else {
+        own_form(word).unwrap_or(Form::AsTyped)
+    }
+}
+
+fn typing_by(own: Option<Kind>, opaque: bool, hiding: bool, form: Form, secret: bool) -> Typing
+    ensures { result ≡ typing_by own opaque hiding form secret }
 {
     let by_text = is_text_kind(own);
     let kind = if opaque || (hiding && !by_text) {
@@ -172,24 +242,38 @@ fn typing_by(own: Option<Kind>, opaque: bool, hiding: bool) -> Typing
         kind,
         hidden: hiding && by_text,
         by_text,
+        form,
+        secret,
     }
 }
 
-/// How the values of an ATTRIBUTE line are read, by its id, type word and flags.
+fn fixed_typing(secret: bool) -> Typing
+    ensures { result ≡ fixed_typing secret }
+{
+    Typing {
+        kind: Kind::Bytes,
+        hidden: false,
+        by_text: true,
+        form: Form::AsTyped,
+        secret,
+    }
+}
+
+/// How the values of an ATTRIBUTE line are read, and what they stand for, by its id, type word and flags.
 pub(crate) fn typing_of(id: AttrId, kind: &[u8], flags: &[&[u8]]) -> Typing
     ensures { result ≡ typing_of id kind.now (views flags.now) }
 {
+    let secret = is_marked(flags);
     if is_fixed(id) {
-        Typing {
-            kind: Kind::Bytes,
-            hidden: false,
-            by_text: true,
-        }
+        fixed_typing(secret)
     } else {
+        let word = word_before_bracket(kind);
         typing_by(
-            kind_word(word_before_bracket(kind)),
+            kind_word(word),
             any_is_opaque(flags),
             any_is_hiding(flags),
+            form_by(word, flags),
+            secret,
         )
     }
 }

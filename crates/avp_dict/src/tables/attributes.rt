@@ -1,25 +1,42 @@
-ghost use Rattle.std.specs.Prelude.{◌≡◌, slice_get};
-ghost use Rattle.std.specs.Option.{option_copied};
-ghost use Rattle.avp_dict.specs.Dictionary.{first_names, id_named, is_attribute_named, is_attribute_of, last_where, typing_of_id};
+ghost use Rattle.std.specs.Prelude.{◌≡◌, ◌≤◌, ◌++◌, ◌∷◌, [], false, length, map, slice_get, All, OnOk};
+ghost use Rattle.std.specs.List.{list_any};
+ghost use Rattle.std.specs.Option.{option_copied, option_map, option_map_or};
+ghost use Rattle.std.specs.Set.{distinct_count};
+ghost use Rattle.std.specs.Str.{bytes_eq};
+ghost use Rattle.avp_dict.specs.Dictionary.{attribute_key, first_names, id_named, is_attribute_named, is_attribute_of, is_secret_line_of, last_where, typing_of_id};
+ghost use Rattle.avp_dict.specs.Letters.{max_name};
+ghost use Rattle.avp_dict.specs.internal.AttributeRows.{line_of, lines_of, marked_by};
 
 use crate::entries::{AttributeLine, Typing};
 use crate::tables::keyed::{Keyed, KeyedLines};
 use crate::tables::keys::{FoldedName, IdKey, id_key};
-use avp_lists::AttrId;
+use avp_lists::{AttrId, Octets};
+use std::alloc::{AllocError, Global};
+use std::marker::Model;
 
-impl Keyed for AttributeLine {
-    ghost use Rattle.avp_dict.specs.Dictionary.{attribute_key};
+/// A line as the table keeps it.
+#[derive(Drop)]
+pub struct AttributeRow {
+    pub name: Octets,
+    pub id: AttrId,
+    pub typing: Typing,
+    /// Whether this line or an earlier one with its id is marked as secret.
+    pub marked: bool,
+}
+
+impl Keyed for AttributeRow {
+    ghost use Rattle.avp_dict.specs.internal.AttributeRows.{row_key};
     ghost use Rattle.avp_dict.specs.internal.Tables.{id_key};
 
     type NameKey = FoldedName;
 
     type NumberKey = IdKey;
 
-    ghost spelled = { λ a. a.name };
+    ghost spelled = { λ r. r.name };
 
-    ghost name_of = { attribute_key };
+    ghost name_of = { row_key };
 
-    ghost number_of = { λ a. id_key a.id };
+    ghost number_of = { λ r. id_key r.id };
 
     fn name_key(&self) -> FoldedName {
         FoldedName::of_short(self.name.as_slice())
@@ -31,21 +48,77 @@ impl Keyed for AttributeLine {
 }
 
 /// ATTRIBUTE lines in their order.
-pub type Attributes = KeyedLines<AttributeLine>;
+pub struct Attributes {
+    rows: KeyedLines<AttributeRow>,
+}
 
-impl KeyedLines<AttributeLine> {
-    /// The last line with this name, without regard to ASCII case.
-    pub fn by_name(&self, name: &[u8]) -> Option<&AttributeLine>
-        ensures { option_copied result ≡ last_where (is_attribute_named name.now) self.now }
+// As a function, so that a proof which drops the lines sees one step and not those of the table.
+impl Drop for Attributes {
+    fn drop(self) {
+        let Attributes { rows: _ } = self;
+    }
+}
+
+impl Model for Attributes {
+    ghost use Rattle.std.specs.Prelude.{List};
+    ghost use Rattle.avp_dict.specs.declared.entries.AttributeLine.{AttributeLine};
+    ghost use Rattle.avp_dict.specs.internal.AttributeRows.{KeepMarks, lines_of};
+
+    ghost Value = { List AttributeLine };
+
+    ghost view = { λ t. lines_of t.rows };
+
+    ghost invariant = { λ t. KeepMarks t.rows };
+}
+
+impl Attributes {
+    pub fn new(alloc: Global) -> Attributes
+        ensures { result ≡ [] }
     {
-        self.named(FoldedName::of(name))
+        Attributes {
+            rows: KeyedLines::new(alloc),
+        }
+    }
+
+    /// The lines in their order.
+    pub fn rows(&self) -> &[AttributeRow]
+        ensures lines { lines_of result.now ≡ self.now }
+        ensures short { All (λ row. length row.name ≤ max_name) result.now }
+    {
+        self.rows.as_slice()
+    }
+
+    /// Adds a line. If memory runs out, all are dropped.
+    pub fn push(&mut self, line: AttributeLine) -> Result<(), AllocError>
+        requires { length line.name ≤ max_name }
+        ensures { OnOk result (self.new ≡ self.old ++ line ∷ []) }
+    {
+        let AttributeLine { name, id, typing } = line;
+        let marked = typing.secret || self.is_marked_secret(id);
+        self.rows.push(AttributeRow {
+            name,
+            id,
+            typing,
+            marked,
+        })
+    }
+
+    /// The last line with this name, without regard to ASCII case.
+    pub fn by_name(&self, name: &[u8]) -> Option<&AttributeRow>
+        ensures { option_map line_of (option_copied result)
+            ≡ last_where (is_attribute_named name.now) self.now }
+    {
+        self.rows.named(FoldedName::of(name))
     }
 
     /// The last line with this id.
-    pub fn by_id(&self, id: AttrId) -> Option<&AttributeLine>
-        ensures { option_copied result ≡ last_where (is_attribute_of id) self.now }
+    pub fn by_id(&self, id: AttrId) -> Option<&AttributeRow>
+        ensures line { option_map line_of (option_copied result)
+            ≡ last_where (is_attribute_of id) self.now }
+        ensures marked { option_map_or marked_by (option_copied result) false
+            ≡ list_any (is_secret_line_of id) self.now }
     {
-        self.numbered(&id_key(id))
+        self.rows.numbered(&id_key(id))
     }
 
     /// The id that a name stands for.
@@ -66,12 +139,29 @@ impl KeyedLines<AttributeLine> {
         Some(line.typing)
     }
 
+    /// Whether a line with this id is marked as secret.
+    pub fn is_marked_secret(&self, id: AttrId) -> bool
+        ensures { result ≡ list_any (is_secret_line_of id) self.now }
+    {
+        match self.by_id(id) {
+            Some(last) => last.marked,
+            None => false,
+        }
+    }
+
+    /// How many names the lines have.
+    pub fn count(&self) -> usize
+        ensures { result ≡ distinct_count bytes_eq (map attribute_key self.now) }
+    {
+        self.rows.count()
+    }
+
     /// A name in lower case, by its place among the names in the order of their first lines.
     #[tactic(auto, unfolding(crate::specs::Dictionary::first_names))]
     pub fn name(&self, at: usize) -> Option<&[u8]>
         ensures { option_copied result ≡ slice_get (first_names self.now) at }
     {
-        let name = self.name_at(at)?;
+        let name = self.rows.name_at(at)?;
         Some(name.as_slice())
     }
 }

@@ -1,6 +1,6 @@
 //! Lines in their order, with a table of their names and one of their numbers.
 
-ghost use Rattle.std.specs.Prelude.{◌≡◌, ◌++◌, ◌∷◌, ◌≤◌, [], Bool, false, length, map, slice_get, All, MatchOption, OnOk};
+ghost use Rattle.std.specs.Prelude.{◌≡◌, ◌++◌, ◌∷◌, ◌≤◌, [], Bool, false, length, map, slice_get, All, IfErr, MatchOption, OnOk};
 ghost use Rattle.std.specs.Option.{option_copied};
 ghost use Rattle.std.specs.Set.{distinct_count};
 ghost use Rattle.avp_dict.specs.Dictionary.{first_keys, last_where};
@@ -112,7 +112,8 @@ impl<L: Keyed> KeyedLines<L> {
     /// Adds a line. If memory runs out, all are dropped.
     pub fn push(&mut self, line: L) -> Result<(), AllocError>
         requires { length (L.spelled line) ≤ max_name }
-        ensures { OnOk result (self.new ≡ self.old ++ line ∷ []) }
+        ensures ok { OnOk result (self.new ≡ self.old ++ line ∷ []) }
+        ensures dropped { IfErr result (λ error. self.new ≡ []) }
     {
         match add_line(&mut self.lines, &mut self.names, &mut self.numbers, line) {
             Ok(()) => Ok(()),
