@@ -50,6 +50,7 @@ impl<T: Drop> From<AllocFailed<T>> for ReplayFault {
 }
 
 /// What is asked of records: which policy answers them, by which secret, and what is shown.
+#[derive(Drop)]
 pub struct Replay<'a> {
     pub policy: &'a PreparedPolicy<'a>,
     pub secret: &'a Secret<'a>,
