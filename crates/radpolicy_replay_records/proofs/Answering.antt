@@ -1,0 +1,51 @@
+-- What a policy answers, by how its packet is read and what its run comes to.
+use Rattle.std.proofs.Common.{◌≡◌, ◌∙◌, ◌⊎◌, inl, inr, List, ℕ, Option, None, Some, Result, Ok, Err, refl, ap, sym}
+use Rattle.avp_packet.specs.Decoded.{decoded}
+use Rattle.avp_packet.specs.declared.faults.PacketFault.{PacketFault}
+use Rattle.avp_packet.specs.declared.packets.Packet.{Packet}
+use Rattle.radpolicy.specs.Faults.{MemoryOr}
+use Rattle.radpolicy.specs.RunOutcomes.{RunOutcome, outcome_of}
+use Rattle.radpolicy.specs.StartRefusals.{IsUnreadPacket}
+use Rattle.radpolicy.specs.Starts.{Prepared, Start, start_of}
+use Rattle.radpolicy.specs.declared.faults.Fault.{Fault}
+use Rattle.radpolicy.specs.declared.faults.Fault.TheVariants as fault
+use Rattle.radpolicy.specs.declared.jobs.Form.TheVariants.{Hex}
+use Rattle.radpolicy_replay_records.specs.Answers.{answer_to, answered, outcome_or_fault}
+
+-- a packet that is not read
+unread : (prepared : Prepared) (secret : List ℕ) (read : Result Packet PacketFault) (f : Fault) → IsUnreadPacket read f → MemoryOr (λ g. answer_to prepared secret read ≡ Err g) f
+unread prepared secret read fault.Memory is = inl refl
+unread prepared secret read (fault.Packet f) is = inr (ap (answer_to prepared secret) is)
+unread prepared secret read fault.Help is = absurd is
+unread prepared secret read fault.Usage is = absurd is
+unread prepared secret read fault.OptionValue is = absurd is
+unread prepared secret read fault.EmptySecret is = absurd is
+unread prepared secret read fault.FileNotReadable is = absurd is
+unread prepared secret read fault.NotHex is = absurd is
+unread prepared secret read (fault.ScriptWord line) is = absurd is
+unread prepared secret read fault.Write is = absurd is
+unread prepared secret read (fault.Dictionary f) is = absurd is
+unread prepared secret read (fault.Request f) is = absurd is
+unread prepared secret read (fault.Reply f) is = absurd is
+unread prepared secret read (fault.Control f) is = absurd is
+unread prepared secret read fault.PacketTooLong is = absurd is
+unread prepared secret read (fault.Policy f) is = absurd is
+
+pub packet_refused : (prepared : Prepared) (secret octets : List ℕ) (f : Fault) → IsUnreadPacket (decoded prepared.dictionary secret octets) f → MemoryOr (λ g. answered prepared secret octets ≡ Err g) f
+unfolding answered
+packet_refused prepared secret octets f is = unread prepared secret (decoded prepared.dictionary secret octets) f is
+
+-- a packet that is read is answered as its run comes to
+by_run : (prepared : Prepared) (secret octets : List ℕ) (start : Start) → decoded prepared.dictionary secret octets ≡ Ok start.request → start ≡ start_of prepared (Some secret) Hex start.request → answered prepared secret octets ≡ outcome_or_fault (outcome_of start)
+unfolding answered
+by_run prepared secret octets start read is =
+    ap (answer_to prepared secret) read ∙ ap (λ (s : Start). outcome_or_fault (outcome_of s)) (sym is)
+
+pub run_answered : (prepared : Prepared) (secret octets : List ℕ) (start : Start) → decoded prepared.dictionary secret octets ≡ Ok start.request → start ≡ start_of prepared (Some secret) Hex start.request → (outcome : RunOutcome) → outcome_of start ≡ Some outcome → answered prepared secret octets ≡ Ok outcome
+run_answered prepared secret octets start read is outcome ran =
+    by_run prepared secret octets start read is ∙ ap outcome_or_fault ran
+
+pub run_refused : (prepared : Prepared) (secret octets : List ℕ) (start : Start) → decoded prepared.dictionary secret octets ≡ Ok start.request → start ≡ start_of prepared (Some secret) Hex start.request → (f : Fault) → MemoryOr (λ g. (g ≡ fault.PacketTooLong) × (outcome_of start ≡ None)) f → MemoryOr (λ g. answered prepared secret octets ≡ Err g) f
+run_refused prepared secret octets start read is f (inl memory) = inl memory
+run_refused prepared secret octets start read is f (inr (too_long, none)) =
+    inr (by_run prepared secret octets start read is ∙ ap outcome_or_fault none ∙ ap (λ (g : Fault). Err g) (sym too_long))

@@ -1,0 +1,44 @@
+use Rattle.std.proofs.Common.{◌≡◌, ◌++◌, ◌∷◌, [], sym, subst, arith, rules}
+use Rattle.std.specs.List.{slice_split}
+use Rattle.std.specs.Io.KnownBytes.{Appends}
+use Rattle.std.proofs.lemmas.List.Elements.{All-nil}
+use Rattle.avp_dict.specs.Lines.{is_line_end}
+use Rattle.radpolicy_replay_records.specs.Lines.{cut}
+use Rattle.radpolicy_replay_records.specs.internal.Positions.{HasNoEnd, line_counted, line_text}
+use Rattle.radpolicy_replay_records.proofs.Cutting.{NoEnd, cut_is_short, first_clean}
+use Rattle.radpolicy_replay_records.proofs.Progress.{cut_is_clean, line_kept, next_line, start_of_writes}
+use Rattle.radpolicy_replay_records.proofs.replays.Replay.tell_block.Goals as goal
+
+pub loop-end-preserved : goal.loop-end-preserved
+loop-end-preserved g c =
+    let split : slice_split is_line_end c.loop-end.rest.now ≡ c.in-Some.end.now ∷ slice_split is_line_end c.in-Some.later.now = search rules in
+    let held : c.keep.new.line.items ≡ cut (c.loop-end.line.items ++ c.in-Some.end.now) = search rules in
+    let puts : Appends (g.W.Write.contents c.loop-end.out) (g.W.Write.contents c.tell.new.out) (line_text c.args.self.now c.loop-end.after c.keep.new.line.items) =
+    rw c.deref.ensures.value at c.in_ok-after.ensures.text in
+    let counts : c.in_ok-after.after ≡ line_counted c.args.self.now c.loop-end.after c.keep.new.line.items =
+    rw c.deref.ensures.value at c.in_ok-after.ensures.summary in
+    record {
+      no_end = subst HasNoEnd (sym c.clear.ensures.items) (All-nil NoEnd);
+      short = rw c.clear.ensures.items (omega arith);
+      told = next_line c.args.self.now c.args.summary c.loop-end.after c.in_ok-after.after (c.args.line.now.items ++ c.args.block.now) c.loop-end.line.items c.loop-end.rest.now c.in-Some.end.now c.in-Some.later.now c.keep.new.line.items c.clear.new.self.items
+          (g.W.Write.contents c.args.out.now) (g.W.Write.contents c.loop-end.out) (g.W.Write.contents c.tell.new.out)
+          c.loop-end.invariant.no_end split held puts counts c.clear.ensures.items c.loop-end.invariant.told;
+    }
+
+pub returns-clause-no_end : goal.returns-clause-no_end
+returns-clause-no_end g c =
+    let whole : slice_split is_line_end c.loop-end.rest.now ≡ c.loop-end.rest.now ∷ [] = search rules in
+    let held : c.keep-2.new.line.items ≡ cut (c.loop-end.line.items ++ c.loop-end.rest.now) = search rules in
+    cut_is_clean c.loop-end.line.items c.loop-end.rest.now c.keep-2.new.line.items c.loop-end.invariant.no_end (first_clean c.loop-end.rest.now c.loop-end.rest.now [] whole) held
+
+pub returns-clause-short : goal.returns-clause-short
+returns-clause-short g c =
+    let held : c.keep-2.new.line.items ≡ cut (c.loop-end.line.items ++ c.loop-end.rest.now) = search rules in
+    cut_is_short (c.loop-end.line.items ++ c.loop-end.rest.now) c.keep-2.new.line.items held
+
+pub returns-clause-told : goal.returns-clause-told
+returns-clause-told g c =
+    let whole : slice_split is_line_end c.loop-end.rest.now ≡ c.loop-end.rest.now ∷ [] = search rules in
+    let held : c.keep-2.new.line.items ≡ cut (c.loop-end.line.items ++ c.loop-end.rest.now) = search rules in
+    line_kept c.args.self.now c.args.summary c.loop-end.after (c.args.line.now.items ++ c.args.block.now) c.loop-end.line.items c.loop-end.rest.now c.keep-2.new.line.items
+    (g.W.Write.contents c.args.out.now) (g.W.Write.contents c.loop-end.out) c.loop-end.invariant.no_end whole held c.loop-end.invariant.told

@@ -1,0 +1,5 @@
+pub mod Answers
+pub mod Lines
+pub mod Records
+pub mod Replays
+pub mod internal

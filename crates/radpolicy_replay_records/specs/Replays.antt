@@ -1,0 +1,64 @@
+-- What a replay writes of a text of records, and how many there were.
+use Rattle.std.specs.Prelude.{ℕ, ◌+◌, List, [], ◌++◌, codes, Result, Ok, Err}
+use Rattle.std.specs.List.{enumerate_from, flat_map, fold}
+use Rattle.radpolicy.specs.RunOutcomes.{RunOutcome}
+use Rattle.radpolicy.specs.declared.faults.Fault.{Fault}
+use Rattle.radpolicy_replay_records.specs.Answers.{answer_shown, answered}
+use Rattle.radpolicy_replay_records.specs.Lines.{records_of}
+use Rattle.radpolicy_replay_records.specs.Records.{name_shown, request_octets}
+use Rattle.radpolicy_replay_records.specs.declared.replays.Replay.{Replay}
+use Rattle.radpolicy_replay_records.specs.declared.summaries.Summary.{Summary}
+use Rattle.radpolicy_replay_records.specs.declared.summaries.Verdict.{Verdict}
+use Rattle.radpolicy_replay_records.specs.declared.summaries.Verdict.TheVariants.{Answered, Refused}
+
+-- ---- one record
+
+-- what the policy answers to a request
+abbrev pub answer_by : Replay → Result (List ℕ) Fault → Result RunOutcome Fault
+answer_by replay (Ok octets) = answered replay.policy.now replay.secret.now octets
+answer_by replay (Err f) = Err f
+
+-- what the policy answers to a record
+abbrev pub record_answer : Replay → List ℕ → Result RunOutcome Fault
+record_answer replay line = answer_by replay (request_octets line)
+
+-- the line of a record with this number
+unfoldable pub record_text : Replay → ℕ → List ℕ → List ℕ
+record_text replay number line = name_shown number line
+    ++ answer_shown replay.policy.now.dictionary replay.secrets (record_answer replay line)
+    ++ codes "\n"
+
+abbrev pub verdict_by : Result RunOutcome Fault → Verdict
+verdict_by (Ok _) = Answered
+verdict_by (Err _) = Refused
+
+-- what became of a record
+unfoldable pub verdict_of : Replay → List ℕ → Verdict
+verdict_of replay line = verdict_by (record_answer replay line)
+
+-- ---- all records
+
+-- what is written for the records of a text: a text for each, by itself and its number alone
+abbrev pub text_from : Replay → ℕ → List ℕ → List ℕ
+text_from replay number text = flat_map (λ numbered. record_text replay numbered.0 numbered.1)
+    (enumerate_from number (records_of text))
+
+abbrev pub replayed_text : Replay → List ℕ → List ℕ
+replayed_text replay text = text_from replay 1 text
+
+-- one record more
+abbrev pub counted : Summary → Verdict → Summary
+counted summary Answered = record summary { read = summary.read + 1 }
+counted summary Refused =
+    record summary { read = summary.read + 1; refused = summary.refused + 1 }
+
+abbrev pub no_records : Summary
+no_records = record { read = 0; refused = 0 }
+
+-- the counts with those of the records of a text
+abbrev pub summary_from : Replay → Summary → List ℕ → Summary
+summary_from replay summary text =
+    fold (λ so_far line. counted so_far (verdict_of replay line)) summary (records_of text)
+
+abbrev pub summary_of : Replay → List ℕ → Summary
+summary_of replay text = summary_from replay no_records text

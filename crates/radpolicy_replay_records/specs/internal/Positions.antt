@@ -1,0 +1,43 @@
+-- How far a replay has come: the octets that are left, those that are kept of a line before them, and the counts.
+use Rattle.std.specs.Prelude.{◌≡◌, ℕ, ◌+◌, Bool, false, if◌then◌else◌, List, [], ◌++◌, Option, None, Some, All}
+use Rattle.std.specs.Io.KnownBytes.{Appends}
+use Rattle.avp_dict.specs.Lines.{is_line_end}
+use Rattle.radpolicy_replay_records.specs.Lines.{is_record}
+use Rattle.radpolicy_replay_records.specs.Replays.{counted, no_records, record_text, summary_from, text_from, verdict_of}
+use Rattle.radpolicy_replay_records.specs.declared.replays.Replay.{Replay}
+use Rattle.radpolicy_replay_records.specs.declared.summaries.Summary.{Summary}
+
+abbrev pub HasNoEnd : List ℕ → Type 0
+HasNoEnd octets = All (λ o. is_line_end o ≡ false) octets
+
+-- what is written for a line, which is nothing where it is blank
+abbrev pub line_text : Replay → Summary → List ℕ → List ℕ
+line_text replay summary line =
+    if is_record line then record_text replay (summary.read + 1) line else []
+
+abbrev pub line_counted : Replay → Summary → List ℕ → Summary
+line_counted replay summary line =
+    if is_record line then counted summary (verdict_of replay line) else summary
+
+-- Where `before` was left before, `after` is left now, and this was written: what is to be written for the one, whatever
+-- follows it, is what was written and what is to be written for the other.
+pub record Continues (replay : Replay) (summary : Summary) (before : List ℕ) (now : Summary)
+    (after written : List ℕ) : Type 0 where
+  pub text : (later : List ℕ) → text_from replay (summary.read + 1) (before ++ later)
+      ≡ written ++ text_from replay (now.read + 1) (after ++ later)
+  pub summary_same : (later : List ℕ) → summary_from replay summary (before ++ later)
+      ≡ summary_from replay now (after ++ later)
+
+-- the same, with what was written at the end of a writer's octets, where these are known
+abbrev pub Writes : Replay → Summary → List ℕ → Summary → List ℕ → Option (List ℕ)
+    → Option (List ℕ) → Type 0
+Writes replay summary before now after old new = (written : List ℕ) × Appends old new written
+    × Continues replay summary before now after written
+
+-- How far a replay has come whose input had these octets, where they are known: some are left after those that are kept
+-- of a line, and what is to be written for the others was written.
+abbrev pub HasCome : Replay → Option (List ℕ) → Option (List ℕ) → Summary → List ℕ
+    → Option (List ℕ) → Option (List ℕ) → Type 0
+HasCome replay None now summary line old new = Unit {0}
+HasCome replay (Some all) now summary line old new = (rest : List ℕ) × (now ≡ Some rest)
+    × Writes replay no_records all summary (line ++ rest) old new

@@ -1,0 +1,14 @@
+//! Replay of traffic: records of packets in hexadecimal digits, a line each, and what a policy answers to each.
+#![tactic(auto)]
+
+mod answers;
+mod lines;
+mod records;
+mod replays;
+mod summaries;
+
+pub use answers::answer;
+pub use lines::MAX_LINE_OCTETS;
+pub use records::request_octets;
+pub use replays::{Replay, ReplayFault};
+pub use summaries::{Summary, Verdict};

@@ -1,0 +1,216 @@
+//! What the line of a record says.
+
+ghost use Rattle.std.specs.Prelude.{◌≡◌, ◌==◌, ◌++◌, ◌+◌, ◌≤◌, Err, IfErr, IfOk, None, OnOk, Ok, Some, filter, find, length};
+ghost use Rattle.std.specs.List.{count_by, flat_map, list_all};
+ghost use Rattle.std.specs.Option.{option_copied};
+ghost use Rattle.hex.specs.Hex.{is_hex_digit};
+ghost use Rattle.avp_dict.specs.Quotes.{octal_escape};
+ghost use Rattle.avp_dict.specs.internal.Views.{views};
+ghost use Rattle.radpolicy.specs.Faults.{MemoryOr};
+ghost use Rattle.radpolicy_replay_records.specs.Records.{begins_source, has_double_colon, identifier_shown, is_address, is_address_octet, is_packet_word, is_source, line_words, name_shown, octet_shown, or_number, request_octets, word_shown};
+
+use crate::lines::MAX_LINE_OCTETS;
+use avp_dict::words_between_blanks;
+use hex::FromHexError;
+use itoa::Buffer;
+use radpolicy::Fault;
+use std::alloc::{AllocError, Global};
+
+fn is_hex_digit(octet: u8) -> bool
+    ensures { result ≡ is_hex_digit octet }
+{
+    matches!(octet, b'0'..=b'9' | b'a'..=b'f' | b'A'..=b'F')
+}
+
+fn has_hex_digits(word: &[u8]) -> bool
+    ensures { result ≡ list_all is_hex_digit word.now }
+{
+    word.iter().all(|octet| is_hex_digit(*octet))
+}
+
+#[tactic(auto, unfolding(crate::specs::Records::is_packet_word))]
+fn is_packet_word(word: &[u8]) -> bool
+    ensures { result ≡ is_packet_word word.now }
+{
+    word.len() >= 40 && has_hex_digits(word)
+}
+
+fn is_address_octet(octet: u8) -> bool
+    ensures { result ≡ is_address_octet octet }
+{
+    is_hex_digit(octet) || octet == b'.' || octet == b':'
+}
+
+fn count_of(sign: u8, word: &[u8]) -> usize
+    ensures { result ≡ count_by (λ o. o == sign) word.now }
+{
+    let mut count = 0;
+    for octet in word {
+        if *octet == sign {
+            count += 1;
+        }
+    }
+    count
+}
+
+fn has_double_colon(word: &[u8]) -> bool
+    ensures { result ≡ has_double_colon word.now }
+{
+    let mut rest = word;
+    while let [first, later @ ..] = rest {
+        if *first == b':' && matches!(later, [b':', ..]) {
+            return true;
+        }
+        rest = later;
+    }
+    false
+}
+
+fn has_address_octets(word: &[u8]) -> bool
+    ensures { result ≡ list_all is_address_octet word.now }
+{
+    word.iter().all(|octet| is_address_octet(*octet))
+}
+
+// Whether a word has the form of an IPv4 or IPv6 address.
+fn is_address(word: &[u8]) -> bool
+    ensures { result ≡ is_address word.now }
+{
+    has_address_octets(word)
+        && (count_of(b'.', word) == 3 || count_of(b':', word) == 7 || has_double_colon(word))
+}
+
+fn begins_source(word: &[u8]) -> bool
+    ensures { result ≡ begins_source word.now }
+{
+    matches!(word, [b's', b'r', b'c', b'=', ..])
+}
+
+#[tactic(auto, unfolding(crate::specs::Records::is_source))]
+fn is_source(word: &[u8]) -> bool
+    ensures { result ≡ is_source word.now }
+{
+    begins_source(word) || is_address(word)
+}
+
+fn line_words(alloc: Global, line: &[u8]) -> Result<Vec<&[u8]>, AllocError>
+    ensures { IfOk result (λ words. views words.items ≡ line_words line.now) }
+{
+    words_between_blanks(alloc, line)
+}
+
+// ---- the name of a record
+
+fn push_octet(text: &mut Vec<u8>, octet: u8) -> Result<(), AllocError>
+    ensures { OnOk result (text.new.items ≡ text.old.items ++ octet_shown octet) }
+{
+    if octet >= 33 && octet <= 126 {
+        text.push(octet)?;
+        return Ok(());
+    }
+    text.push(b'\\')?;
+    text.push(b'0' + octet / 64)?;
+    text.push(b'0' + octet / 8 % 8)?;
+    text.push(b'0' + octet % 8)?;
+    Ok(())
+}
+
+// A word, and a space.
+fn push_word(text: &mut Vec<u8>, word: &[u8]) -> Result<(), AllocError>
+    ensures { OnOk result (text.new.items ≡ text.old.items ++ word_shown word.now) }
+{
+    for octet in word {
+        push_octet(text, *octet)?;
+    }
+    text.push(b' ')?;
+    Ok(())
+}
+
+// The words before the first packet that are no source.
+fn identifier_shown(alloc: Global, words: &[&[u8]]) -> Result<Vec<u8>, AllocError>
+    ensures { IfOk result (λ text. text.items ≡ identifier_shown (views words.now)) }
+{
+    let mut text = Vec::new(alloc);
+    let mut rest = words;
+    while let [word, later @ ..] = rest {
+        if is_packet_word(word) {
+            return Ok(text);
+        }
+        if !is_source(word) {
+            push_word(&mut text, word)?;
+        }
+        rest = later;
+    }
+    Ok(text)
+}
+
+// A text, or where it is empty the number.
+fn push_or_number(text: &mut Vec<u8>, number: u64, name: &[u8]) -> Result<(), AllocError>
+    ensures { OnOk result (text.new.items ≡ text.old.items ++ or_number number name.now) }
+{
+    if let [] = name {
+        let mut digits = Buffer::new();
+        text.extend_from_slice(digits.format(number).as_bytes())?;
+        text.extend_from_slice(b" ")?;
+        return Ok(());
+    }
+    text.extend_from_slice(name)?;
+    Ok(())
+}
+
+/// What a record is called.
+#[tactic(auto, unfolding(crate::specs::Records::name_shown))]
+pub(crate) fn push_name(text: &mut Vec<u8>, number: u64, line: &[u8]) -> Result<(), AllocError>
+    ensures { OnOk result (text.new.items ≡ text.old.items ++ name_shown number line.now) }
+{
+    if line.len() > MAX_LINE_OCTETS {
+        return push_or_number(text, number, b"");
+    }
+    let alloc = *text.allocator();
+    let words = line_words(alloc, line)?;
+    let name = identifier_shown(alloc, &words)?;
+    push_or_number(text, number, &name)
+}
+
+// ---- the packet of a record
+
+// The first packet of the words.
+fn first_packet<'a>(words: &[&'a [u8]]) -> Option<&'a [u8]>
+    ensures { option_copied result ≡ find is_packet_word (views words.now) }
+{
+    let mut rest = words;
+    while let [word, later @ ..] = rest {
+        if is_packet_word(word) {
+            return Some(*word);
+        }
+        rest = later;
+    }
+    None
+}
+
+/// The octets of the request of a record's line: those of its first word of 40 hexadecimal digits or more. `NotHex`
+/// where there is none or its digits are an odd number, and `PacketTooLong` for a line of too many octets.
+///
+/// ```rust
+/// let octets = request_octets(alloc, b"7 10.0.0.1 0107002600112233445566778899aabbccddeeff 02")?;
+/// assert_eq!(rt; octets.len(), 20);
+/// assert_eq!(rt; request_octets(alloc, b"no packet").err(), Some(Fault::NotHex));
+/// ```
+#[tactic(auto, unfolding(crate::specs::Records::request_octets))]
+pub fn request_octets(alloc: Global, line: &[u8]) -> Result<Vec<u8>, Fault>
+    ensures ok { IfOk result (λ octets. request_octets line.now ≡ Ok octets.items) }
+    ensures refused { IfErr result (MemoryOr (λ f. request_octets line.now ≡ Err f)) }
+{
+    if line.len() > MAX_LINE_OCTETS {
+        return Err(Fault::PacketTooLong);
+    }
+    let words = line_words(alloc, line)?;
+    let Some(word) = first_packet(&words) else {
+        return Err(Fault::NotHex);
+    };
+    match hex::decode(alloc, word) {
+        Ok(octets) => Ok(octets),
+        Err(FromHexError::OutOfMemory) => Err(Fault::Memory),
+        Err(_) => Err(Fault::NotHex),
+    }
+}

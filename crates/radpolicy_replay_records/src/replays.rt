@@ -1,0 +1,237 @@
+//! The replay of an input.
+
+ghost use Rattle.std.specs.Prelude.{◌≡◌, ◌<◌, ◌≤◌, ◌+◌, ◌++◌, Err, IfErr, IfOk, IfSome, Ok, OnOk, length, take};
+ghost use Rattle.std.specs.Io.KnownBytes.{Appends, Consumes, IsAtEnd, Keeps};
+ghost use Rattle.radpolicy_replay_records.specs.Lines.{cut};
+ghost use Rattle.radpolicy.specs.Faults.{MemoryOr};
+ghost use Rattle.radpolicy_replay_records.specs.Answers.{answer_shown};
+ghost use Rattle.radpolicy_replay_records.specs.Replays.{record_answer, record_text, replayed_text, summary_of, verdict_by, verdict_of};
+ghost use Rattle.radpolicy_replay_records.specs.declared.replays.ReplayFault.TheVariants.{Memory as OutOfMemory};
+ghost use Rattle.radpolicy_replay_records.specs.internal.Positions.{HasNoEnd, Writes, line_counted, line_text};
+
+use crate::answers::{answer, push_fault, push_outcome};
+use crate::lines::{MAX_LINE_OCTETS, first_line_end, is_record, keep};
+use crate::records::{push_name, request_octets};
+use crate::summaries::{Summary, Verdict};
+use radpolicy::{Fault, PreparedPolicy, RunOutcome, Secret};
+use radpolicy_common::SecretValues;
+use std::alloc::{AllocError, AllocFailed, Global};
+use std::io::{Read, Write};
+
+// The octets that are asked for by one read.
+const BLOCK_OCTETS: usize = 65_536;
+
+/// Why a replay ended before its input did.
+#[derive(Clone, Copy, Debug, PartialEq, Eq)]
+pub enum ReplayFault {
+    Memory,
+    /// The input could not be read.
+    Input,
+    /// The output could not be written.
+    Output,
+    /// There are more records than can be counted.
+    TooManyRecords,
+}
+
+impl From<AllocError> for ReplayFault {
+    ghost from_gives = { λ _ fault. fault ≡ OutOfMemory };
+
+    fn from(_error: AllocError) -> Self {
+        ReplayFault::Memory
+    }
+}
+
+impl<T: Drop> From<AllocFailed<T>> for ReplayFault {
+    ghost from_gives = { λ _ fault. fault ≡ OutOfMemory };
+
+    fn from(_error: AllocFailed<T>) -> Self {
+        ReplayFault::Memory
+    }
+}
+
+/// What is asked of records: which policy answers them, by which secret, and what is shown.
+#[derive(Drop)]
+pub struct Replay<'a> {
+    pub policy: &'a PreparedPolicy<'a>,
+    pub secret: &'a Secret<'a>,
+    pub secrets: SecretValues,
+}
+
+fn new_block(alloc: Global) -> Result<Vec<u8>, AllocError>
+    ensures { IfOk result (λ block. 0 < length block.items) }
+{
+    vec![in alloc; 0; BLOCK_OCTETS]
+}
+
+// Reads the next octets of an input, none only at its end, and says how many.
+fn read_block<R: Read>(input: &mut R, block: &mut Vec<u8>) -> Result<usize, ReplayFault>
+    requires { 0 < length block.old.items }
+    ensures room { OnOk result (0 < length block.new.items) }
+    ensures within { IfOk result (λ count. count ≤ length block.new.items) }
+    ensures read { IfOk result (λ count.
+        Consumes (R.remaining input.old) (R.remaining input.new) (take count block.new.items)) }
+    ensures end { IfOk result (λ count. count ≡ 0 → IsAtEnd (R.remaining input.new)) }
+{
+    match input.read(block.as_mut_slice()) {
+        Ok(count) => Ok(count),
+        Err(_) => Err(ReplayFault::Input),
+    }
+}
+
+fn write_text<W: Write>(out: &mut W, text: &[u8]) -> Result<(), ReplayFault>
+    ensures { OnOk result (Appends (W.contents out.old) (W.contents out.new) text.now) }
+{
+    match out.write_all(text) {
+        Ok(()) => Ok(()),
+        Err(_) => Err(ReplayFault::Output),
+    }
+}
+
+fn flush<W: Write>(out: &mut W) -> Result<(), ReplayFault>
+    ensures { OnOk result (Keeps (W.contents out.old) (W.contents out.new)) }
+{
+    match out.flush() {
+        Ok(()) => Ok(()),
+        Err(_) => Err(ReplayFault::Output),
+    }
+}
+
+impl<'a> Replay<'a> {
+    // What the policy answers to a record.
+    fn answer(&self, alloc: Global, line: &[u8]) -> Result<RunOutcome<'a>, Fault>
+        ensures ok { IfOk result (λ outcome. record_answer self.now line.now ≡ Ok outcome) }
+        ensures refused { IfErr result (MemoryOr (λ f. record_answer self.now line.now ≡ Err f)) }
+    {
+        let octets = request_octets(alloc, line)?;
+        answer(alloc, self.policy, self.secret, &octets)
+    }
+
+    // What is said of the answer to a record.
+    fn push_answer(&self, text: &mut Vec<u8>, line: &[u8]) -> Result<Verdict, AllocError>
+        ensures text { OnOk result (text.new.items ≡ text.old.items
+            ++ answer_shown self.now.policy.now.dictionary self.now.secrets
+            (record_answer self.now line.now)) }
+        ensures verdict { IfOk result (λ verdict.
+            verdict ≡ verdict_by (record_answer self.now line.now)) }
+    {
+        let alloc = *text.allocator();
+        match self.answer(alloc, line) {
+            Ok(outcome) => {
+                push_outcome(text, self.policy.dictionary(), self.secrets, &outcome)?;
+                Ok(Verdict::Answered)
+            }
+            Err(Fault::Memory) => Err(AllocError),
+            Err(fault) => {
+                push_fault(text, fault)?;
+                Ok(Verdict::Refused)
+            }
+        }
+    }
+
+    // The line of a record.
+    #[tactic(auto, unfolding(crate::specs::Replays::record_text, crate::specs::Replays::verdict_of))]
+    fn push_record(
+        &self,
+        text: &mut Vec<u8>,
+        number: u64,
+        line: &[u8],
+    ) -> Result<Verdict, AllocError>
+        ensures text { OnOk result
+            (text.new.items ≡ text.old.items ++ record_text self.now number line.now) }
+        ensures verdict { IfOk result (λ verdict. verdict ≡ verdict_of self.now line.now) }
+    {
+        push_name(text, number, line)?;
+        let verdict = self.push_answer(text, line)?;
+        text.extend_from_slice(b"\n")?;
+        Ok(verdict)
+    }
+
+    // Writes what is to be said of a line.
+    fn tell<W: Write>(
+        &self,
+        alloc: Global,
+        line: &[u8],
+        summary: Summary,
+        out: &mut W,
+    ) -> Result<Summary, ReplayFault>
+        ensures text { OnOk result (Appends (W.contents out.old) (W.contents out.new)
+            (line_text self.now summary line.now)) }
+        ensures summary { IfOk result (λ after.
+            after ≡ line_counted self.now summary line.now) }
+    {
+        let mut text = Vec::new(alloc);
+        if !is_record(line) {
+            write_text(out, &text)?;
+            return Ok(summary);
+        }
+        let Some(number) = summary.read.checked_add(1) else {
+            return Err(ReplayFault::TooManyRecords);
+        };
+        let verdict = self.push_record(&mut text, number, line)?;
+        write_text(out, &text)?;
+        summary.counted(verdict).ok_or(ReplayFault::TooManyRecords)
+    }
+
+    // Writes what is to be said of each line that ends in the block, and keeps the line that does not.
+    fn tell_block<W: Write>(
+        &self,
+        line: &mut Vec<u8>,
+        block: &[u8],
+        summary: Summary,
+        out: &mut W,
+    ) -> Result<Summary, ReplayFault>
+        requires no_end { HasNoEnd line.old.items }
+        requires short { length line.old.items ≤ MAX_LINE_OCTETS + 1 }
+        ensures no_end { OnOk result (HasNoEnd line.new.items) }
+        ensures short { OnOk result (length line.new.items ≤ MAX_LINE_OCTETS + 1) }
+        ensures told { IfOk result (λ after.
+            Writes self.now summary (line.old.items ++ block.now) after line.new.items
+            (W.contents out.old) (W.contents out.new)) }
+    {
+        let alloc = *line.allocator();
+        let mut after = summary;
+        let mut rest = block;
+        while let Some((end, later)) = first_line_end(rest) {
+            keep(line, end)?;
+            after = self.tell(alloc, line, after, out)?;
+            line.clear();
+            rest = later;
+        }
+        keep(line, rest)?;
+        Ok(after)
+    }
+
+    /// Writes a line for each record of the input, in order, and says how many records there were. A record that is
+    /// refused has a line too, and does not end the replay. What was written is put out before more is read, so that
+    /// no answer waits for a further record.
+    ///
+    /// A record is a line of words with the packet of a request, in hexadecimal digits, after words that name the
+    /// record; lines of blanks are passed over. Of a line of more than [`MAX_LINE_OCTETS`] octets no more than these
+    /// are kept.
+    pub fn run<R: Read, W: Write>(
+        &self,
+        alloc: Global,
+        input: &mut R,
+        out: &mut W,
+    ) -> Result<Summary, ReplayFault>
+        ensures text { OnOk result (IfSome (R.remaining input.old) (λ octets.
+            Appends (W.contents out.old) (W.contents out.new) (replayed_text self.now octets))) }
+        ensures summary { IfOk result (λ summary. IfSome (R.remaining input.old) (λ octets.
+            summary ≡ summary_of self.now octets)) }
+    {
+        let mut block = new_block(alloc)?;
+        let mut line = Vec::new(alloc);
+        let mut summary = Summary::new();
+        for _ in 0..u64::MAX {
+            let count = read_block(input, &mut block)?;
+            if count == 0 {
+                summary = self.tell(alloc, &line, summary, out)?;
+                flush(out)?;
+                return Ok(summary);
+            }
+            summary = self.tell_block(&mut line, &block[..count], summary, out)?;
+            flush(out)?;
+        }
+        Err(ReplayFault::Input)
+    }
+}
