@@ -1,6 +1,6 @@
 -- What a machine keeps over a change of its store or its frames.
 use Rattle.std.proofs.Common.{◌≡◌, ℕ, ◌+◌, ◌≤◌, ◌<◌, IfOk, OnErr, List, [], ◌∷◌, ◌++◌, length, reverse, Option, Some, None, Result, Ok, Err, refl, sym, ap, ◌∙◌, subst, arith, length-append, get_or, drop, take, ◌-◌}
-use Rattle.std.proofs.lemmas.List.{get_or_append_left, reverse-append, take_all}
+use Rattle.std.proofs.lemmas.List.{get_or_append_left, take_all}
 use Rattle.std.specs.declared.alloc.AllocError.{AllocError}
 use Rattle.avp_lists.specs.History.{History, continued, present, state_at}
 use Rattle.avp_lists.specs.States.{empty_state}
@@ -11,8 +11,8 @@ use Rattle.avp_unlang.specs.Resolutions.{StateFits}
 use Rattle.avp_unlang.specs.declared.meaning.reasons.Reason.{Reason}
 use Rattle.avp_unlang.specs.declared.tree.Line.{Line}
 use Rattle.avp_step.specs.Trace.{closed, line_steps, unless_stopped}
-use Rattle.avp_step.specs.internal.Frames.{AllFit, Fits, States, frame_entry, frame_steps, rest}
-use Rattle.avp_step.specs.internal.Courses.{Course, FitsOn, IsContinued, IsEdited, IsLineDone, IsSound, StatesFit, course_of, with_frame}
+use Rattle.avp_step.specs.internal.Frames.{AllFit, States, frame_entry, frame_steps, rest}
+use Rattle.avp_step.specs.internal.Courses.{Course, FitsOn, IsContinued, IsEdited, IsLineDone, IsSound, StatesFit, course_of}
 use Rattle.avp_step.specs.declared.frames.Frame.{Frame}
 use Rattle.avp_step.specs.declared.frames.Frame.TheVariants.{Statements, Lines, Branches, End}
 use Rattle.avp_step.proofs.Fitting.{continued_fits}
@@ -67,15 +67,6 @@ module _ (d : Dictionary) (h : History) (room : ℕ) (fs : List Frame) (capacity
   abbrev old : Course
   old = course_of d h room fs
 
-  -- one more frame
-  pub put_is : (fs1 : List Frame) (f : Frame) → fs1 ≡ fs ++ f ∷ [] → course_of d h room fs1 ≡ with_frame f old
-  put_is fs1 f e = ap (λ l. record old { frames = l }) (ap reverse e ∙ reverse-append fs (f ∷ []))
-
-  pub put_sound : (fs1 : List Frame) (f : Frame) (more : ℕ) → fs1 ≡ fs ++ f ∷ [] → Fits d (length h.states) (reverse fs) f → capacity ≤ more → IsSound (course_of d h room fs1) more
-  put_sound fs1 f more e fits le =
-      subst (λ m. IsSound m more) (sym (put_is fs1 f e))
-      (record { frames = (fits, sound.frames); states = sound.states; capacity = omega (arith, sound.capacity) })
-
   -- one more state
   module _ (h1 : History) (room1 : ℕ) (last : h.place + 1 ≡ length h.states) where
     pub longer_sound : length h.states ≤ length h1.states → StatesFit d h1 → IsSound (course_of d h1 room1 fs) capacity
@@ -110,14 +101,3 @@ module _ (d : Dictionary) (h : History) (room : ℕ) (fs : List Frame) (capacity
     edited_is line (Ok None) done le = (done.0, added_is (present h1) done.1 le)
     edited_is line (Ok (Some why)) done le = (done.0, record { dictionary = refl; history = done.1; reach = le }, refl)
     edited_is line (Err e) done le = done
-
-  -- one frame less
-  module _ (fs1 : List Frame) (f : Frame) (more : ℕ) (e : fs ≡ fs1 ++ f ∷ []) (le : capacity ≤ more) where
-    both : Fits d (length h.states) (reverse fs1) f × AllFit d (length h.states) (reverse fs1)
-    both = subst (AllFit d (length h.states)) (ap reverse e ∙ reverse-append fs1 (f ∷ [])) sound.frames
-
-    pub taken_fits : Fits d (length h.states) (reverse fs1) f
-    taken_fits = both.0
-
-    pub taken_sound : IsSound (course_of d h room fs1) more
-    taken_sound = record { frames = both.1; states = sound.states; capacity = omega (arith, sound.capacity) }

@@ -1,6 +1,6 @@
 -- The states of a store go on fitting the dictionary.
-use Rattle.std.proofs.Common.{◌≡◌, ℕ, zero, suc, ◌+◌, ◌<◌, ◌≤◌, Bool, true, cond, IsTrue, List, [], ◌∷◌, ◌++◌, Option, None, Some, Ok, Err, length, take, refl, sym, ap, ◌∙◌, subst, arith, get_or, length-take, zero-le, max}
-use Rattle.std.specs.List.{All, list_all}
+use Rattle.std.proofs.Common.{◌≡◌, ℕ, zero, suc, ◌+◌, ◌<◌, ◌≤◌, Bool, true, cond, IsTrue, List, [], ◌∷◌, ◌++◌, Option, None, Some, Ok, Err, length, take, refl, sym, ap, ◌∙◌, subst, arith, get_or, length-take, max}
+use Rattle.std.specs.List.{All}
 use Rattle.std.proofs.Math.Seq.{get_or-append_seam}
 use Rattle.std.proofs.lemmas.List.Elements.{All-append, All-take}
 use Rattle.avp_lists.specs.History.{History, continued, present, state_at}
@@ -13,7 +13,7 @@ use Rattle.avp_lists.specs.declared.lists.State.{State}
 use Rattle.avp_dict.specs.Dictionary.{Dictionary}
 use Rattle.avp_dict.specs.Limits.{fits}
 use Rattle.avp_unlang.specs.Meaning.{Edited, Failed, edit_of, line_result, reason, result_from}
-use Rattle.avp_unlang.specs.Resolutions.{StateFits, line_suits, resolution}
+use Rattle.avp_unlang.specs.Resolutions.{StateFits, resolution}
 use Rattle.avp_unlang.specs.declared.meaning.reasons.Reason.TheVariants.{Full}
 use Rattle.avp_unlang.specs.declared.meaning.resolving.Unresolved.{Unresolved}
 use Rattle.avp_unlang.specs.declared.tree.Line.{Line}
@@ -25,16 +25,16 @@ use Rattle.avp_unlang.proofs.Comparing.{and_left, and_right, testable}
 use Rattle.avp_unlang.proofs.KeptReplies.{applied}
 use Rattle.avp_unlang.specs.Suiting.{branch_suits, branches_suit, cond_suits, else_suits, policy_suits, statement_suits}
 use Rattle.avp_unlang.specs.internal.Depth.{depth, depth_of, depth_of_branch, depth_of_branches, else_depth, statement_depth, branch_depth}
-use Rattle.avp_unlang.specs.declared.tree.Statement.TheVariants.{Update, If, Transaction}
+use Rattle.avp_unlang.specs.declared.tree.Statement.TheVariants.{If, Transaction}
 use Rattle.avp_unlang.specs.declared.tree.Statement.TheFolds.{fold_out-Branch}
-use Rattle.avp_unlang.proofs.StatementDepths.{depth_Update, depth_If, depth_Transaction}
+use Rattle.avp_unlang.proofs.StatementDepths.{depth_If, depth_Transaction}
 use Rattle.avp_unlang.specs.Truth.{comparable}
 use Rattle.avp_unlang.specs.declared.tree.Branch.{Branch, out-Branch}
 use Rattle.avp_unlang.specs.declared.tree.Statement.{Statement}
-use Rattle.avp_unlang.proofs.SpelledSuits.{suits_Branch, suits_Update, suits_If, suits_Transaction}
+use Rattle.avp_unlang.proofs.SpelledSuits.{suits_Branch, suits_If, suits_Transaction}
 use Rattle.avp_step.specs.internal.Frames.{Fits}
 use Rattle.avp_step.specs.declared.frames.Frame.{Frame}
-use Rattle.avp_step.specs.declared.frames.Frame.TheVariants.{Statements, Lines, Branches, End}
+use Rattle.avp_step.specs.declared.frames.Frame.TheVariants.{Statements, Branches, End}
 
 pub added_present : (old new : History) (s : State) → old.place < length old.states → new ≡ continued s old → present new ≡ s
 added_present old new s has a =
@@ -118,16 +118,6 @@ module _ (d : Dictionary) (end : ℕ) (fs : List Frame) where
     own : (x : Bool) → statement_suits d s ≡ x → x ≡ true
     own x is = sym is ∙ and_left (statement_suits d s) (policy_suits d others.now) both
 
-    pub others_fit : Fits d end fs (Statements others)
-    others_fit = record { room = omega (arith, fits.room, deep); entry = fits.entry; suits = and_right (statement_suits d s) (policy_suits d others.now) both }
-
-    pub update_fits : (n place : ℕ) (lines : List Line) (ls : Bor (List Line)) → s ≡ Update n lines → ls.now ≡ lines → place < end → Fits d end (Statements others ∷ fs) (Lines ls place)
-    update_fits n place lines ls is same lt = record {
-      room = omega (arith, fits.room, deep, ap depth is, depth_Update n lines);
-      entry = lt;
-      suits = ap (list_all (line_suits d)) same ∙ own _ (ap (statement_suits d) is ∙ suits_Update d n lines);
-    }
-
     pub if_fits : (branches : List Branch) (otherwise : Option (List Statement)) (bs : Bor (List Branch)) (or : Bor (Option (List Statement))) → s ≡ If branches otherwise → bs.now ≡ branches → or.now ≡ otherwise → Fits d end (Statements others ∷ fs) (Branches bs or)
     if_fits branches otherwise bs or is same same_or = record {
       room = omega (arith, fits.room, deep, ap depth is, depth_If branches otherwise, ap depth_of_branches same, ap else_depth same_or);
@@ -135,35 +125,14 @@ module _ (d : Dictionary) (end : ℕ) (fs : List Frame) where
       suits = ap (λ l. branches_suit d l && else_suits d or.now) same ∙ ap (λ l. branches_suit d branches && else_suits d l) same_or ∙ own _ (ap (statement_suits d) is ∙ suits_If d branches otherwise);
     }
 
-    module _ (n place : ℕ) (block : List Statement) (is : s ≡ Transaction n block) where
-      pub end_fits : place < end → Fits d end (Statements others ∷ fs) (End n place)
-      end_fits lt = record { room = omega (arith, fits.room, deep, ap depth is, depth_Transaction n block); entry = lt; suits = refl }
+    pub body_fits : (n place : ℕ) (block : List Statement) → s ≡ Transaction n block → (body : Bor (List Statement)) → body.now ≡ block → Fits d end (End n place ∷ Statements others ∷ fs) (Statements body)
+    body_fits n place block is body same = record {
+      room = omega (arith, fits.room, deep, ap depth is, depth_Transaction n block, ap depth_of same);
+      entry = fits.entry;
+      suits = ap (policy_suits d) same ∙ own _ (ap (statement_suits d) is ∙ suits_Transaction d n block);
+    }
 
-      pub body_fits : (body : Bor (List Statement)) → body.now ≡ block → Fits d end (End n place ∷ Statements others ∷ fs) (Statements body)
-      body_fits body same = record {
-        room = omega (arith, fits.room, deep, ap depth is, depth_Transaction n block, ap depth_of same);
-        entry = fits.entry;
-        suits = ap (policy_suits d) same ∙ own _ (ap (statement_suits d) is ∙ suits_Transaction d n block);
-      }
-
-  module _ (ls : Bor (List Line)) (entry : ℕ) (l : Line) (others : Bor (List Line)) (split : ls.now ≡ l ∷ others.now) (fits : Fits d end fs (Lines ls entry)) where
-    all_lines : (line_suits d l && list_all (line_suits d) others.now) ≡ true
-    all_lines = ap (list_all (line_suits d)) (sym split) ∙ fits.suits
-
-    pub line_fits : line_suits d l ≡ true
-    line_fits = and_left (line_suits d l) (list_all (line_suits d) others.now) all_lines
-
-    pub lines_fit : Fits d end fs (Lines others entry)
-    lines_fit = record { room = fits.room; entry = fits.entry; suits = and_right (line_suits d l) (list_all (line_suits d) others.now) all_lines }
-
-  pub else_fits : (bs : Bor (List Branch)) (or : Bor (Option (List Statement))) (block : List Statement) (ss : Bor (List Statement)) → or.now ≡ Some block → ss.now ≡ block → Fits d end fs (Branches bs or) → Fits d end fs (Statements ss)
-  else_fits bs or block ss some same fits = record {
-    room = omega (arith, fits.room, ap else_depth some, ap depth_of same);
-    entry = fits.entry;
-    suits = ap (policy_suits d) same ∙ ap (else_suits d) (sym some) ∙ and_right (branches_suit d bs.now) (else_suits d or.now) fits.suits;
-  }
-
-  -- the first condition can be tested, and its block and the others fit
+  -- the first condition can be tested, and its block fits
   module _ (bs : Bor (List Branch)) (or : Bor (Option (List Statement))) (b : Branch) (others : Bor (List Branch)) (split : bs.now ≡ b ∷ others.now) (fits : Fits d end fs (Branches bs or)) where
     pub all_branches : (branch_suits d b && branches_suit d others.now) ≡ true
     all_branches = ap (branches_suit d) (sym split) ∙ and_left (branches_suit d bs.now) (else_suits d or.now) fits.suits
@@ -182,9 +151,3 @@ module _ (d : Dictionary) (end : ℕ) (fs : List Frame) where
           entry = fits.entry;
           suits = ap (policy_suits d) same ∙ and_right (cond_suits d (out-Branch b).cond) (policy_suits d (out-Branch b).block) parts;
         }
-
-    pub branches_fit : Fits d end fs (Branches others or)
-    branches_fit =
-        let right = and_right (branch_suits d b) (branches_suit d others.now) all_branches in
-        let left = and_right (branches_suit d bs.now) (else_suits d or.now) fits.suits in
-        record { room = omega (arith, fits.room, ap depth_of_branches split); entry = fits.entry; suits = rw (right, left) }

@@ -1,26 +1,23 @@
 -- What a stepper keeps, over each of its moves.
-use Rattle.std.proofs.Common.{◌≡◌, ℕ, zero, suc, ◌+◌, ◌-◌, ◌≤◌, ◌<◌, max, Bool, true, false, List, [], ◌∷◌, ◌++◌, length, get_or, refl, sym, ap, ◌∙◌, subst, cond, arith, append_assoc, length-append, zero-le}
+use Rattle.std.proofs.Common.{◌≡◌, ℕ, zero, suc, ◌+◌, ◌-◌, ◌≤◌, ◌<◌, max, false, List, [], ◌∷◌, ◌++◌, length, get_or, refl, sym, ap, ◌∙◌, subst, cond, arith, append_assoc, length-append}
 use Rattle.std.proofs.Math.Seq.{get_or-append_seam}
 use Rattle.std.proofs.Math.ListN.{get_or-append}
 use Rattle.std.proofs.lemmas.List.{append-nil}
 use Rattle.std.proofs.lemmas.Bool.{lt-ltb, le-ltb}
-use Rattle.avp_lists.specs.History.{History, at_place, present, settled, starting, state_at}
+use Rattle.avp_lists.specs.History.{History, at_place, present, settled, state_at}
 use Rattle.avp_lists.specs.States.{empty_state}
 use Rattle.avp_lists.specs.declared.lists.State.{State}
 use Rattle.avp_unlang.specs.declared.tree.Statement.{Statement}
 use Rattle.avp_step.specs.declared.labels.Moved.TheVariants.{To, AtEnd}
-use Rattle.avp_step.specs.declared.frames.Frame.{Frame}
-use Rattle.avp_step.specs.declared.frames.TheConstants.{MAX_FRAMES}
 use Rattle.avp_step.specs.declared.marks.Mark.{Mark}
 use Rattle.avp_unlang.specs.Meaning.{Outcome}
 use Rattle.avp_step.specs.Trace.{Entry, block_steps, end_of, start, trace_of}
-use Rattle.avp_step.specs.internal.Courses.{Course, IsAtLast, IsBeforeLine, IsMade, IsPassed, IsReady, coming, entry_of, standing}
+use Rattle.avp_step.specs.internal.Courses.{Course, IsBeforeLine, IsMade, IsPassed, IsReady, coming, entry_of, standing}
 use Rattle.avp_step.specs.internal.Frames.{rest}
 use Rattle.avp_step.specs.Walk.{IsBeforeNewLine, IsLineLabel, IsWithin, Walk, entry, entry_at, moved_forward, reached, answer_of_forward}
 use Rattle.avp_step.specs.internal.Held.{trace_from, walk_of, made, nowhere, IsHeld}
 use Rattle.avp_step.proofs.LastSteps.{end_of-append}
 use Rattle.avp_step.proofs.TraceSizes.{trace_size}
-use Rattle.avp_unlang.specs.internal.Depth.{depth_of}
 use Rattle.avp_unlang.specs.Sizes.{size_of}
 use Rattle.std.specs.Borrow.{Bor}
 use Rattle.avp_step.specs.declared.frames.Frame.TheVariants.{Statements}

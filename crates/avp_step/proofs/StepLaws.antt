@@ -1,7 +1,7 @@
 -- Laws of steps one after another.
-use Rattle.std.proofs.Common.{◌≡◌, Bool, List, [], ◌∷◌, ◌++◌, true, false, sym, ap, ◌∙◌, cond, append_assoc}
+use Rattle.std.proofs.Common.{◌≡◌, [], ◌++◌, false, ap, ◌∙◌, cond, append_assoc}
 use Rattle.avp_unlang.specs.Meaning.{Outcome}
-use Rattle.avp_step.specs.Trace.{Entry, Steps, end_of, then_steps, unless_stopped}
+use Rattle.avp_step.specs.Trace.{Steps, end_of, then_steps, unless_stopped}
 use Rattle.avp_step.proofs.LastSteps.{end_of-append}
 
 pub then_cong : (t t' u : Steps) (o : Outcome) → t o ≡ t' o → then_steps t u o ≡ then_steps t' u o
@@ -18,6 +18,3 @@ then_assoc t u v o =
 
 pub goes_on : (t : Steps) (o : Outcome) → o.stopped ≡ false → unless_stopped t o ≡ t o
 goes_on t o h = ap (λ b. cond b [] (t o)) h
-
-pub stays : (t : Steps) (o : Outcome) → o.stopped ≡ true → unless_stopped t o ≡ []
-stays t o h = ap (λ b. cond b [] (t o)) h

@@ -1,5 +1,5 @@
 -- What a machine has, and what its steps leave.
-use Rattle.std.specs.Prelude.{◌≡◌, ◌≤◌, ℕ, ◌+◌, List, [], ◌∷◌, length, reverse, Option, Some, None, Result, Ok, Err}
+use Rattle.std.specs.Prelude.{◌≡◌, ◌≤◌, ℕ, ◌+◌, List, ◌∷◌, length, reverse, Option, Some, None, Result, Ok, Err}
 use Rattle.std.specs.List.{All}
 use Rattle.std.specs.declared.alloc.AllocError.{AllocError}
 use Rattle.avp_lists.specs.History.{History, continued, present, state_at}

@@ -1,4 +1,4 @@
-use Rattle.avp_step.specs.internal.Courses.{IsPassed, IsReady}
+use Rattle.avp_step.specs.internal.Courses.{IsPassed}
 use Rattle.avp_step.specs.internal.Frames.{all_skips}
 use Rattle.avp_step.proofs.machines.Machine.step.Given as goal
 
