@@ -1,5 +1,8 @@
 -- JSON strings (RFC 8259, section 7).
-use Rattle.std.specs.Prelude.{ℕ, zero, suc, Bool, false, not, ◌&&◌, ◌||◌, ◌==◌, if◌then◌else◌, List, [], ◌∷◌, ◌++◌, codes, slice_index}
+use Rattle.std.specs.Prelude.{ℕ, Bool, not, ◌||◌, ◌==◌, if◌then◌else◌, List, ◌++◌, codes}
+use Rattle.std.specs.Char.{encode_utf8}
+use Rattle.std.specs.List.{flat_map}
+use Rattle.std.specs.Str.{chars}
 use Rattle.json.specs.Print.{quoted}
 use Rattle.hex.specs.Hex.{encode_lower}
 use Rattle.radpolicy_common.specs.declared.json_strings.Escaping.{Escaping}
@@ -11,40 +14,31 @@ use Rattle.radpolicy_common.specs.declared.json_strings.Escaping.TheVariants.{Fo
 abbrev pub is_no_markup : ℕ → Bool
 is_no_markup o = not (o == 60 || o == 62 || o == 38)
 
--- an octet for markup: < > & as escapes
+-- a character is none of U+2028 and U+2029, which end a line in a script
+abbrev pub is_no_separator : ℕ → Bool
+is_no_separator c = not (c == 0x2028 || c == 0x2029)
+
+-- a character for markup: < > & and the two separators as escapes
 abbrev pub markup_text : ℕ → List ℕ
-markup_text o = if o == 60 then codes "\\u003c" else if o == 62 then codes "\\u003e"
-    else if o == 38 then codes "\\u0026" else o ∷ []
+markup_text c = if c == 60 then codes "\\u003c" else if c == 62 then codes "\\u003e"
+    else if c == 38 then codes "\\u0026" else if c == 0x2028 then codes "\\u2028"
+    else if c == 0x2029 then codes "\\u2029" else encode_utf8 c
 
--- an octet: DEL as an escape, and for markup < > &
-abbrev pub octet_text : Escaping → ℕ → List ℕ
-octet_text Plain o = if o == 127 then codes "\\u007f" else o ∷ []
-octet_text ForMarkup o = if o == 127 then codes "\\u007f" else markup_text o
+-- a character: DEL as an escape, and for markup those
+abbrev pub char_text : Escaping → ℕ → List ℕ
+char_text Plain c = if c == 127 then codes "\\u007f" else encode_utf8 c
+char_text ForMarkup c = if c == 127 then codes "\\u007f" else markup_text c
 
--- for markup, the octets begin with U+2028 or U+2029
-abbrev pub begins_separator : Escaping → List ℕ → Bool
-begins_separator Plain os = false
-begins_separator ForMarkup os = (slice_index os 0 == 226) && (slice_index os 1 == 128)
-    && (slice_index os 2 == 168 || slice_index os 2 == 169)
-
--- U+2028 or U+2029, by its last octet
-abbrev pub separator_text : ℕ → List ℕ
-separator_text last = if last == 168 then codes "\\u2028" else codes "\\u2029"
-
--- octets with these escapes, but for so many at the front that an escape has taken
-abbrev pub with_escapes : Escaping → ℕ → List ℕ → List ℕ
-with_escapes escaping taken [] = []
-with_escapes escaping (suc taken) (o ∷ os) = with_escapes escaping taken os
-with_escapes escaping zero (o ∷ os) = if begins_separator escaping (o ∷ os)
-    then separator_text (slice_index os 1) ++ with_escapes escaping 2 os
-    else octet_text escaping o ++ with_escapes escaping 0 os
+-- each character of a text with these escapes
+abbrev pub with_escapes : Escaping → List ℕ → List ℕ
+with_escapes escaping text = flat_map (char_text escaping) (chars text)
 
 -- ---- strings
 
--- the string of a text in UTF-8: between quotes, with the shortest escapes of quotes, \ and what is below 0x20, and
--- then with these
+-- the string of a text in UTF-8: between quotes, with the shortest escapes of quotes, \ and what is below 0x20; and of
+-- that, each character with these
 unfoldable pub json_string : Escaping → List ℕ → List ℕ
-json_string escaping text = with_escapes escaping 0 (quoted text)
+json_string escaping text = with_escapes escaping (quoted text)
 
 -- octets that are no UTF-8
 unfoldable pub json_octets : List ℕ → List ℕ

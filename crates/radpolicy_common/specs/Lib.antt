@@ -3,6 +3,7 @@ pub mod Changes
 pub mod JsonStrings
 pub mod Refusals
 pub mod SecretAttributes
+pub mod Unread
 pub mod VisibleText
 pub mod Words
 pub mod internal

@@ -1,9 +1,11 @@
-//! Reading files and standard input.
+//! Reading files and standard input. What a file holds, whether it can be read, and whether there is memory, no contract
+//! can say: a refusal for these names a path that was given.
 
-ghost use Rattle.std.specs.Prelude.{◌≡◌, ◌⊎◌, ◌<◌, Ok, Some, IfOk, IfErr, IfSome, is_some, length};
+ghost use Rattle.std.specs.Prelude.{◌≡◌, ◌⊎◌, ◌<◌, Ok, Some, IfOk, IfErr, IfSome, is_some, codes, length};
 ghost use Rattle.avp_dict.specs.Lines.{HasDistinctNames};
 ghost use Rattle.radpolicy.specs.Plans.{names_of_files, names_of_paths};
 ghost use Rattle.radpolicy_common.specs.Refusals.{fault_of_unread};
+ghost use Rattle.radpolicy_common.specs.Unread.{IsRefusalOf, IsRefusalOfFiles, IsRefusalOfSet};
 ghost use Rattle.radpolicy_common.specs.declared.files.Unread.TheVariants as why;
 
 use avp_dict::{FileSet, NamedFile};
@@ -98,14 +100,17 @@ pub fn read_optional<'a>(
 }
 
 /// What standard input holds, at most 16,777,216 octets.
-pub fn read_standard_input(rt: &HostRuntime) -> Result<Octets, Unread<'static>> {
+pub fn read_standard_input(rt: &HostRuntime) -> Result<Octets, Unread<'static>>
+    ensures { IfErr result (IsRefusalOf (codes "-")) }
+{
     octets_of("-", read_input(rt.alloc(), rt.stdin()))
 }
 
 /// Dictionary files, the main one first, of a plan: [`radpolicy::read_words`] compared their names. For other paths
 /// there is [`read_dictionary_set`].
 pub fn read_dictionaries<'a>(rt: &HostRuntime, paths: &[&'a str]) -> Result<FileSet, Unread<'a>>
-    ensures { IfOk result (λ files. names_of_files files ≡ names_of_paths paths.now) }
+    ensures named { IfOk result (λ files. names_of_files files ≡ names_of_paths paths.now) }
+    ensures refused { IfErr result (IsRefusalOfFiles paths.now) }
 {
     let mut files = Vec::new(rt.alloc());
     for path in paths {
@@ -134,6 +139,8 @@ pub fn read_dictionary_set<'a>(rt: &HostRuntime, paths: &[&'a str]) -> Result<Fi
     ensures named { IfOk result (λ files. names_of_files files ≡ names_of_paths paths.now) }
     ensures first { IfOk result (λ files. 0 < length files) }
     ensures distinct { IfOk result (λ files. HasDistinctNames files) }
+    ensures none { length paths.now ≡ 0 → result ≡ Err Unread.NoDictionary }
+    ensures refused { IfErr result (IsRefusalOfSet paths.now) }
 {
     if paths.is_empty() {
         return Err(Unread::NoDictionary);

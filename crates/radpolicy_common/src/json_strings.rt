@@ -1,12 +1,12 @@
 //! JSON strings (RFC 8259, section 7).
 
-ghost use Rattle.std.specs.Prelude.{◌≡◌, ◌++◌, ◌<◌, ◌≤◌, [], true, length, drop, IfOk, OnOk, codes};
+ghost use Rattle.std.specs.Prelude.{◌≡◌, ◌++◌, true, length, drop, IfOk, OnOk};
 ghost use Rattle.std.specs.List.{list_all};
-ghost use Rattle.std.specs.Str.{IsUtf8};
+ghost use Rattle.std.specs.Str.{IsUtf8, chars};
 ghost use Rattle.std.specs.String.{string_bytes};
 ghost use Rattle.json.specs.Print.{quoted};
 ghost use Rattle.radpolicy_common.specs.declared.json_strings.Escaping.TheVariants.{ForMarkup};
-ghost use Rattle.radpolicy_common.specs.JsonStrings.{begins_separator, is_no_markup, json_octets, json_string, octet_text, separator_text, with_escapes};
+ghost use Rattle.radpolicy_common.specs.JsonStrings.{char_text, is_no_markup, is_no_separator, json_octets, json_string, with_escapes};
 
 use serde_json::Value;
 use std::alloc::{AllocError, Global};
@@ -26,57 +26,29 @@ fn quoted(alloc: Global, text: &str) -> Result<String, AllocError>
     Value::String(String::from_str(alloc, text)?).to_string(alloc)
 }
 
-// Whether U+2028 or U+2029 comes first and is escaped.
-fn begins_separator(escaping: Escaping, octets: &[u8]) -> bool
-    ensures test { result ≡ begins_separator escaping octets.now }
-    ensures within { result ≡ true → 3 ≤ length octets.now }
+fn push_character(text: &mut Vec<u8>, character: char, escaping: Escaping) -> Result<(), AllocError>
+    ensures { OnOk result (text.new.items ≡ text.old.items ++ char_text escaping character) }
 {
-    match escaping {
-        Escaping::Plain => false,
-        Escaping::ForMarkup => matches!(octets, [0xe2, 0x80, 0xa8 | 0xa9, ..]),
-    }
-}
-
-fn push_separator(text: &mut Vec<u8>, last: u8) -> Result<(), AllocError>
-    ensures { OnOk result (text.new.items ≡ text.old.items ++ separator_text last) }
-{
-    text.extend_from_slice(if last == 0xa8 { b"\\u2028" } else { b"\\u2029" })
-}
-
-fn push_octet(text: &mut Vec<u8>, octet: u8, escaping: Escaping) -> Result<(), AllocError>
-    ensures { OnOk result (text.new.items ≡ text.old.items ++ octet_text escaping octet) }
-{
-    match (octet, escaping) {
-        (0x7f, _) => text.extend_from_slice(b"\\u007f"),
-        (b'<', Escaping::ForMarkup) => text.extend_from_slice(b"\\u003c"),
-        (b'>', Escaping::ForMarkup) => text.extend_from_slice(b"\\u003e"),
-        (b'&', Escaping::ForMarkup) => text.extend_from_slice(b"\\u0026"),
+    match (character, escaping) {
+        ('\u{7f}', _) => text.extend_from_slice(b"\\u007f"),
+        ('<', Escaping::ForMarkup) => text.extend_from_slice(b"\\u003c"),
+        ('>', Escaping::ForMarkup) => text.extend_from_slice(b"\\u003e"),
+        ('&', Escaping::ForMarkup) => text.extend_from_slice(b"\\u0026"),
+        ('\u{2028}', Escaping::ForMarkup) => text.extend_from_slice(b"\\u2028"),
+        ('\u{2029}', Escaping::ForMarkup) => text.extend_from_slice(b"\\u2029"),
         _ => {
-            text.push(octet)?;
-            Ok(())
+            let mut buffer = [0; 4];
+            text.extend_from_slice(character.encode_utf8(&mut buffer).as_bytes())
         }
     }
 }
 
-// The octets of a written string, with what is escaped besides.
-#[tactic(auto, using(crate::proofs::Escapes::taken_over))]
-fn push_with_escapes(
-    text: &mut Vec<u8>,
-    octets: &[u8],
-    escaping: Escaping,
-) -> Result<(), AllocError>
-    ensures { OnOk result
-        (text.new.items ≡ text.old.items ++ with_escapes escaping 0 octets.now) }
+// The characters of a written string, with what is escaped besides.
+fn push_with_escapes(text: &mut Vec<u8>, string: &str, escaping: Escaping) -> Result<(), AllocError>
+    ensures { OnOk result (text.new.items ≡ text.old.items ++ with_escapes escaping string.now) }
 {
-    let mut rest = octets;
-    while let [octet, later @ ..] = rest {
-        if begins_separator(escaping, rest) {
-            push_separator(text, rest[2])?;
-            rest = &rest[3..];
-        } else {
-            push_octet(text, *octet, escaping)?;
-            rest = later;
-        }
+    for character in string.chars() {
+        push_character(text, character, escaping)?;
     }
     Ok(())
 }
@@ -96,7 +68,7 @@ fn push_string(text: &mut Vec<u8>, string: &str, escaping: Escaping) -> Result<(
     ensures { OnOk result (text.new.items ≡ text.old.items ++ json_string escaping string.now) }
 {
     let quoted = quoted(*text.allocator(), string)?;
-    push_with_escapes(text, quoted.as_bytes(), escaping)
+    push_with_escapes(text, quoted.as_str(), escaping)
 }
 
 /// Adds octets as JSON: UTF-8 as a string, other octets as the object `{"octets":"00ff"}` of their hexadecimal digits.
@@ -115,6 +87,10 @@ pub fn push_json_string(
     // What is added for markup has no `<`, `>` or `&`.
     ensures no_markup { escaping ≡ ForMarkup → OnOk result
         (list_all is_no_markup (drop (length text.old.items) text.new.items) ≡ true) }
+    // And neither U+2028 nor U+2029.
+    ensures no_separator { escaping ≡ ForMarkup → OnOk result
+        (list_all is_no_separator (chars (drop (length text.old.items) text.new.items)) ≡ true) }
+    ensures utf8 { OnOk result (IsUtf8 (drop (length text.old.items) text.new.items)) }
 {
     match std::str::from_utf8(octets) {
         Ok(string) => push_string(text, string, escaping),

@@ -100,6 +100,9 @@ fn octets_that_are_no_text_are_shown_in_octal(rt: HostRuntime) -> Result<(), Fai
     let alloc = rt.alloc();
     assert!(rt; is_shown(alloc, b"a\xffb\xe2\x80", b"a\\377b\\342\\200")?);
     assert!(rt; is_shown(alloc, b"\xff\x1b\xc2", b"\\377\\033\\302")?);
+    let cut = b"\xc3\xa9\xf0\x9f\x98(\xc3\xa9\x9b";
+    let shown = b"\xc3\xa9\\360\\237\\230(\xc3\xa9\\233";
+    assert!(rt; is_shown(alloc, cut, shown)?);
     Ok(())
 }
 
