@@ -1,5 +1,6 @@
 -- Which values are secret.
-use Rattle.std.specs.Prelude.{ℕ, ◌-◌, Bool, false, ◌&&◌, ◌||◌, ◌==◌, List, drop, length, map, slice_index}
+use Rattle.std.specs.Prelude.{ℕ, ◌-◌, Bool, false, ◌&&◌, ◌||◌, ◌==◌, nat_le, List, drop, take, length, map}
+use Rattle.std.specs.Int.Digits.{number_from_digits}
 use Rattle.std.specs.List.{list_any}
 use Rattle.std.specs.Option.{option_map_or}
 use Rattle.std.specs.Str.{str_eq_ignore_ascii_case}
@@ -10,7 +11,7 @@ use Rattle.avp_lists.specs.declared.pairs.Value.TheVariants as values
 use Rattle.avp_lists.specs.Pairs.{id_eq}
 use Rattle.avp_dict.specs.AttributeNumbers.{vendor_specific}
 use Rattle.avp_dict.specs.Dictionary.{Dictionary}
-use Rattle.avp_dict.specs.Names.{Described, described}
+use Rattle.avp_dict.specs.Names.{Described, described, is_marked_secret}
 use Rattle.radpolicy_common.specs.declared.secret_attributes.TheConstants.{SECRET_ENDINGS, SECRET_IDS, SECRET_NAMES}
 
 -- ---- by name
@@ -37,36 +38,45 @@ secret_names = map (λ name. name.now) SECRET_NAMES
 unfoldable pub is_secret_name : List ℕ → Bool
 is_secret_name name = ends_in_one_of secret_endings name || is_one_of secret_names name
 
-abbrev pub is_described_secret : Described → Bool
-is_described_secret d = d.hidden || is_secret_name d.name
+abbrev pub has_secret_name : Described → Bool
+has_secret_name d = is_secret_name d.name
 
--- the dictionary hides the attribute, or gives it a secret name
+-- the dictionary gives the attribute a secret name
 abbrev pub is_named_secret : AttrId → Dictionary → Bool
-is_named_secret id dictionary = option_map_or is_described_secret (described id dictionary) false
+is_named_secret id dictionary = option_map_or has_secret_name (described id dictionary) false
 
 -- ---- by number
 
 unfoldable pub is_secret_id : AttrId → Bool
 is_secret_id id = list_any (id_eq id) SECRET_IDS
 
--- octets of an attribute 26 that begin with the number of Microsoft, 311
-abbrev pub is_microsofts : List ℕ → Bool
-is_microsofts os = (slice_index os 0 == 0) && (slice_index os 1 == 0)
-    && (slice_index os 2 == 1) && (slice_index os 3 == 55)
+abbrev pub is_of_vendor : ℕ → AttrId → Bool
+is_of_vendor vendor (ids.Vendor v n) = v == vendor
+is_of_vendor vendor _ = false
 
-abbrev pub holds_microsofts : Value → Bool
-holds_microsofts (values.Raw os) = is_microsofts os
-holds_microsofts (values.Bytes os) = is_microsofts os
-holds_microsofts _ = false
+-- a vendor of one of these attributes
+unfoldable pub is_secret_vendor : ℕ → Bool
+is_secret_vendor vendor = list_any (is_of_vendor vendor) SECRET_IDS
 
--- an attribute of Microsoft's that was not split into its parts
+-- octets of an attribute 26 that begin with the number of such a vendor (RFC 2865, section 5.26)
+abbrev pub begins_with_secret_vendor : List ℕ → Bool
+begins_with_secret_vendor os =
+    nat_le 4 (length os) && is_secret_vendor (number_from_digits 256 (take 4 os))
+
+abbrev pub holds_secret_vendor : Value → Bool
+holds_secret_vendor (values.Raw os) = begins_with_secret_vendor os
+holds_secret_vendor (values.Bytes os) = begins_with_secret_vendor os
+holds_secret_vendor _ = false
+
+-- an attribute of such a vendor that was not split into its parts
 abbrev pub is_unsplit_secret : AttrId → Value → Bool
-is_unsplit_secret (ids.Plain n) value = (n == vendor_specific) && holds_microsofts value
+is_unsplit_secret (ids.Plain n) value = (n == vendor_specific) && holds_secret_vendor value
 is_unsplit_secret _ value = false
 
 -- ---- together
 
--- the value is not to be shown
+-- the value is not to be shown: by the attribute's number, by a mark of the dictionary, or by its name
 unfoldable pub is_secret : AttrId → Value → Dictionary → Bool
 is_secret id value dictionary =
-    is_secret_id id || is_unsplit_secret id value || is_named_secret id dictionary
+    is_secret_id id || is_unsplit_secret id value || is_marked_secret id dictionary
+    || is_named_secret id dictionary

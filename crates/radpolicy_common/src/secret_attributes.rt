@@ -4,7 +4,7 @@ ghost use Rattle.std.specs.Prelude.{◌≡◌};
 ghost use Rattle.std.specs.List.{list_any};
 ghost use Rattle.std.specs.Str.{str_eq_ignore_ascii_case};
 ghost use Rattle.avp_lists.specs.Pairs.{id_eq};
-ghost use Rattle.radpolicy_common.specs.SecretAttributes.{ends_in, is_microsofts, is_named_secret, is_secret, is_secret_id, is_secret_name, is_unsplit_secret};
+ghost use Rattle.radpolicy_common.specs.SecretAttributes.{begins_with_secret_vendor, ends_in, holds_secret_vendor, is_named_secret, is_of_vendor, is_secret, is_secret_id, is_secret_name, is_secret_vendor, is_unsplit_secret};
 
 use avp_dict::Dictionary;
 use avp_lists::{AttrId, Value};
@@ -12,23 +12,12 @@ use avp_lists::{AttrId, Value};
 /// How names end whose attributes are secret.
 pub const SECRET_ENDINGS: [&str; 3] = ["Passphrase", "Password", "Secret"];
 
-/// Other names of attributes that are secret.
+/// Other names of attributes that are secret, of those that FreeRADIUS's dictionaries do not mark as secret.
 ///
-/// What answers or asks for a proof of a password (CHAP, MS-CHAP, Digest, ARAP), from which it can be guessed; keys;
-/// and what FreeRADIUS's dictionaries mark with `encrypt=2`, `encrypt=3` or `secret`.
-pub const SECRET_NAMES: [&str; 62] = [
-    "3GPP2-MN-HA-Shared-Key",
-    "ALU-AAA-Key-0",
-    "ALU-AAA-Key-1",
-    "ALU-AAA-Key-2",
-    "ALU-AAA-Key-3",
+/// What answers or asks for a proof of a password (CHAP, MS-CHAP, Digest, ARAP), from which it can be guessed; and
+/// keys.
+pub const SECRET_NAMES: [&str; 28] = [
     "ARAP-Challenge-Response",
-    "Alc-LI-Action",
-    "Alc-LI-Destination",
-    "Alc-LI-Direction",
-    "Alc-LI-FC",
-    "Alc-LI-Intercept-Id",
-    "Alc-LI-Session-Id",
     "Ascend-Session-Svr-Key",
     "Ascend-User-Acct-Key",
     "CHAP-Challenge",
@@ -43,42 +32,19 @@ pub const SECRET_NAMES: [&str; 62] = [
     "EAP-Sim-KC3",
     "EAP-Sim-KEY",
     "EAP-Sim-Ki",
-    "ERX-LI-Action",
-    "ERX-Med-Dev-Handle",
-    "ERX-Med-Ip-Address",
-    "ERX-Med-Port-Number",
-    "Extreme-Libsip-Patron-Info",
     "MS-CHAP-CPW-1",
     "MS-CHAP-CPW-2",
     "MS-CHAP-Challenge",
     "MS-CHAP-LM-Enc-PW",
-    "MS-CHAP-MPPE-Keys",
     "MS-CHAP-NT-Enc-PW",
     "MS-CHAP-Peer-Challenge",
     "MS-CHAP-Response",
     "MS-CHAP2-CPW",
     "MS-CHAP2-Response",
     "MS-CHAP2-Success",
-    "MS-MPPE-Recv-Key",
-    "MS-MPPE-Send-Key",
-    "Motorola-WiMAX-MIP-KEY",
     "PKM-Auth-Key",
     "Password-With-Header",
     "TOTP-Key",
-    "WiMAX-DHCP-RK",
-    "WiMAX-FA-RK-Key",
-    "WiMAX-HA-RK-Key",
-    "WiMAX-MN-hHA-MIP4-Key",
-    "WiMAX-MN-hHA-MIP6-Key",
-    "WiMAX-MN-vHA-MIP6-Key",
-    "WiMAX-MSK",
-    "WiMAX-PMIP6-RK-Key",
-    "WiMAX-RRQ-MN-HA-Key",
-    "WiMAX-hDHCP-DHCP-RK",
-    "WiMAX-vDHCP-DHCP-RK",
-    "WiMAX-vDHCP-RK",
-    "WiMAX-vHA-MIP4-Key",
-    "WiMAX-vHA-RK-Key",
 ];
 
 /// Attributes that are secret whatever the dictionary names them: User-Password, CHAP-Password, CHAP-Challenge,
@@ -158,20 +124,52 @@ fn is_secret_id(id: AttrId) -> bool
     has_id(&SECRET_IDS, id)
 }
 
-fn is_microsofts(octets: &[u8]) -> bool
-    ensures { result ≡ is_microsofts octets.now }
+fn is_of_vendor(vendor: u32, id: AttrId) -> bool
+    ensures { result ≡ is_of_vendor vendor id }
 {
-    matches!(octets, [0, 0, 1, 55, ..])
+    match id {
+        AttrId::Vendor(own, _) => own == vendor,
+        AttrId::Plain(_) | AttrId::Extended(_, _) => false,
+    }
 }
 
-// Whether it is a Vendor-Specific attribute of Microsoft's that was not split into its parts.
+fn has_vendor(ids: &[AttrId], vendor: u32) -> bool
+    ensures { result ≡ list_any (is_of_vendor vendor) ids.now }
+{
+    ids.iter().any(|id| is_of_vendor(vendor, *id))
+}
+
+#[tactic(auto, unfolding(crate::specs::SecretAttributes::is_secret_vendor))]
+fn is_secret_vendor(vendor: u32) -> bool
+    ensures { result ≡ is_secret_vendor vendor }
+{
+    has_vendor(&SECRET_IDS, vendor)
+}
+
+fn begins_with_secret_vendor(octets: &[u8]) -> bool
+    ensures { result ≡ begins_with_secret_vendor octets.now }
+{
+    match octets {
+        [a, b, c, d, ..] => is_secret_vendor(u32::from_be_bytes([*a, *b, *c, *d])),
+        _ => false,
+    }
+}
+
+fn holds_secret_vendor(value: &Value) -> bool
+    ensures { result ≡ holds_secret_vendor value.now }
+{
+    match value {
+        Value::Raw(octets) | Value::Bytes(octets) => begins_with_secret_vendor(octets.as_slice()),
+        _ => false,
+    }
+}
+
+// Whether it is a Vendor-Specific attribute, of a vendor with secret ones, that was not split into its parts.
 fn is_unsplit_secret(id: AttrId, value: &Value) -> bool
     ensures { result ≡ is_unsplit_secret id value.now }
 {
-    match (id, value) {
-        (AttrId::Plain(26), Value::Raw(octets) | Value::Bytes(octets)) => {
-            is_microsofts(octets.as_slice())
-        }
+    match id {
+        AttrId::Plain(26) => holds_secret_vendor(value),
         _ => false,
     }
 }
@@ -180,17 +178,21 @@ fn is_named_secret(dictionary: &Dictionary, id: AttrId) -> bool
     ensures { result ≡ is_named_secret id dictionary.now }
 {
     match dictionary.by_id(id) {
-        Some(entry) => entry.hidden || is_secret_name(entry.name),
+        Some(entry) => is_secret_name(entry.name),
         None => false,
     }
 }
 
-/// Whether an attribute's value is not to be shown: by the dictionary (`encrypt=1`), by its name, in either case, or
-/// by its number. It is by name that attributes which the dictionary marks with `encrypt=2` or `encrypt=3` are known,
-/// since a [`Dictionary`] does not keep these marks.
+/// Whether an attribute's value is not to be shown. By mark: a line of the dictionary has `encrypt=1`, `encrypt=2`,
+/// `encrypt=3` or `secret` ([`is_marked_secret`](Dictionary::is_marked_secret)). By name, in either case: one of the
+/// [`SECRET_ENDINGS`] or [`SECRET_NAMES`], marked or not. By number: one of the [`SECRET_IDS`], whatever its name, and
+/// an attribute 26 of a vendor of theirs that was not split.
 #[tactic(auto, unfolding(crate::specs::SecretAttributes::is_secret))]
 pub fn is_secret(dictionary: &Dictionary, id: AttrId, value: &Value) -> bool
     ensures { result ≡ is_secret id value.now dictionary.now }
 {
-    is_secret_id(id) || is_unsplit_secret(id, value) || is_named_secret(dictionary, id)
+    is_secret_id(id)
+        || is_unsplit_secret(id, value)
+        || dictionary.is_marked_secret(id)
+        || is_named_secret(dictionary, id)
 }

@@ -5,6 +5,7 @@ use avp_lists::{AttrId, Value};
 use radpolicy_common::is_secret;
 use samples::{octets, read_dictionary, test_dictionary};
 use std::alloc::Global;
+use std::process::Abort;
 use std::test::Fail;
 
 const SECRETS: &[u8] = b"ATTRIBUTE User-Name 1 string
@@ -19,8 +20,11 @@ ATTRIBUTE Secret 1201 string
 ATTRIBUTE Secrets 1202 string
 VENDOR Acme 9000
 BEGIN-VENDOR Acme
-ATTRIBUTE WiMAX-MSK 5 octets encrypt=2
+ATTRIBUTE Acme-Session-Key 5 octets encrypt=2
 ATTRIBUTE Acme-Key 6 octets
+ATTRIBUTE Acme-Intercept 7 octets secret
+ATTRIBUTE Acme-Tap 7 octets
+ATTRIBUTE Acme-Token 8 string encrypt=3
 END-VENDOR Acme
 ";
 
@@ -37,7 +41,15 @@ fn values_are_secret_by_name(rt: HostRuntime) -> Result<(), Fail> {
     for number in [1, 26, 75, 1000, 1202] {
         assert!(rt; !is_secret_number(&dictionary, AttrId::Plain(number)));
     }
-    assert!(rt; is_secret_number(&dictionary, AttrId::Vendor(9000, 5)));
+    Ok(())
+}
+
+#[test]
+fn values_are_secret_by_mark(rt: HostRuntime) -> Result<(), Fail> {
+    let dictionary = read_dictionary(rt.alloc(), SECRETS)?;
+    for number in [5, 7, 8] {
+        assert!(rt; is_secret_number(&dictionary, AttrId::Vendor(9000, number)));
+    }
     assert!(rt; !is_secret_number(&dictionary, AttrId::Vendor(9000, 6)));
     Ok(())
 }
@@ -61,16 +73,30 @@ fn raw(alloc: Global, bytes: &[u8]) -> Result<Value, Fail> {
     Ok(Value::Raw(octets(alloc, bytes)?))
 }
 
+fn expect_unsplit(rt: &impl Abort, dictionary: &Dictionary, value: &Value, secret: bool) {
+    assert_eq!(rt; is_secret(dictionary, AttrId::Plain(26), value), secret);
+    assert!(rt; !is_secret(dictionary, AttrId::Plain(27), value));
+}
+
 #[test]
 fn attributes_that_were_not_split_are_secret_by_vendor(rt: HostRuntime) -> Result<(), Fail> {
-    let dictionary = test_dictionary(rt.alloc())?;
-    let microsofts = raw(rt.alloc(), b"\0\0\x01\x37\x0b\xff")?;
-    let others = raw(rt.alloc(), b"\0\0\0\x09\x01\xff")?;
-    let short = raw(rt.alloc(), b"\0\0\x01")?;
-    let container = AttrId::Plain(26);
-    assert!(rt; is_secret(&dictionary, container, &microsofts));
-    assert!(rt; !is_secret(&dictionary, container, &others));
-    assert!(rt; !is_secret(&dictionary, container, &short));
-    assert!(rt; !is_secret(&dictionary, AttrId::Plain(25), &microsofts));
+    let alloc = rt.alloc();
+    let dictionary = test_dictionary(alloc)?;
+    expect_unsplit(
+        &rt,
+        &dictionary,
+        &raw(alloc, b"\0\0\x01\x37\x0b\xff")?,
+        true,
+    );
+    expect_unsplit(
+        &rt,
+        &dictionary,
+        &raw(alloc, b"\0\0\x02\x11\xd6\x03\xff")?,
+        true,
+    );
+    expect_unsplit(&rt, &dictionary, &raw(alloc, b"\0\0\x12\xee")?, true);
+    expect_unsplit(&rt, &dictionary, &raw(alloc, b"\0\0\0\x09\x01\xff")?, false);
+    expect_unsplit(&rt, &dictionary, &raw(alloc, b"\x01\0\x01\x37")?, false);
+    expect_unsplit(&rt, &dictionary, &raw(alloc, b"\0\0\x01")?, false);
     Ok(())
 }

@@ -1,0 +1,7 @@
+//! Tests of replays: what is written of records, and how many there were.
+#![tactic(auto)]
+
+#[cfg(test)]
+mod records;
+#[cfg(test)]
+mod replays;
