@@ -1,0 +1,117 @@
+"""What `radpolicy-replay` says of records: what `radpolicy run` says of each, whatever is before and after it."""
+import os
+import re
+import subprocess
+from typing import List
+
+from common.program import Ended, run
+from common.report import Report
+from common.subject import Subject, new_folder, on_all
+from replays.records import Place, records
+
+RECORDS = 400
+CUT = 3
+MANY = 200_000
+KILOBYTES = 40_000
+LONG_LINE = 100_000_000
+REFUSED = re.compile(rb" E\d\d ")
+
+
+def line_by_run(ended: Ended, name: bytes) -> bytes:
+    """The line that a record has to have, by what `run` says of its packet."""
+    if ended.status:
+        code, _, words = ended.errors.removeprefix(b"radpolicy: ").rstrip(b"\n").partition(b": ")
+        return b"%s %s %s\n" % (name, code.split()[0], words)
+    lines = ended.output.split(b"\n")
+    result = next(line for line in lines if line.startswith(b"result "))
+    return b"%s %s %s\n" % (name, result.removeprefix(b"result "), lines[-2].removeprefix(b"packet "))
+
+
+def faults_of_lines(place: Place, text: bytes, ended: Ended) -> List[str]:
+    """Each record's line beside `run` of its packet, those that have one."""
+    lines = [line for line in text.splitlines() if line.strip()]
+    said = ended.output.splitlines(keepends=True)
+    if len(said) != len(lines):
+        return [f"{len(said)} lines for {len(lines)} records: {ended.errors!r}"]
+    refused = sum(bool(REFUSED.search(line)) for line in said)
+    wanted = b"%d read, %d refused\n" % (len(lines), refused)
+    wrong = [] if (ended.status, ended.errors) == (0, wanted) else [f"{ended.status}: {ended.errors!r}, not {wanted!r}"]
+
+    def fault(at: int) -> List[str]:
+        packets = [word for word in lines[at].split() if len(word) >= 40]
+        if not packets or b"(secret)" in said[at]:
+            return []
+        line = line_by_run(place.run_one(packets[0]), lines[at].split()[0])
+        return [] if said[at] == line else [f"{said[at]!r}, not {line!r}"]
+
+    return wrong + [each for found in on_all(fault, range(0, len(lines), 5)) for each in found]
+
+
+def check_answers(place: Place, report: Report) -> None:
+    text = records(RECORDS)
+    whole = place.replay(text)
+    report.check("replay: each record as by run", faults_of_lines(place, text, whole))
+    backwards = b"".join(reversed(text.splitlines(keepends=True)))
+    said = place.replay(backwards).output.splitlines()
+    wrong = [] if said == whole.output.splitlines()[::-1] else ["another order gives other lines"]
+    report.check("replay: a line is that of its record", wrong)
+
+
+def check_cuts(place: Place, report: Report) -> None:
+    """Input that ends after each octet."""
+    text = records(CUT)
+    whole = place.replay(text).output.splitlines(keepends=True)
+
+    def fault(end: int) -> List[str]:
+        ended = place.replay(text[:end])
+        lines = sum(bool(line.strip()) for line in text[:end].splitlines())
+        said = ended.output.splitlines(keepends=True)
+        is_right = ended.status == 0 and len(said) == lines and said[:-1] == whole[: max(lines - 1, 0)]
+        return [] if is_right else [f"after {end} octets: {ended}"]
+
+    report.check("replay: cut at each octet", [each for found in on_all(fault, range(len(text))) for each in found])
+
+
+def check_hostile(place: Place, report: Report) -> None:
+    """A line of 100 MB, octets that are no text, and many records, in the memory of one."""
+    text = records(2)
+    ended = place.replay(b"frame " + b"a" * LONG_LINE + b"\n" + text)
+    is_right = ended.output == b"1 E46 packet too long\n" + place.replay(text).output
+    wrong = [] if is_right and ended.kilobytes < KILOBYTES else [f"{ended.kilobytes} kB: {ended.output!r}"]
+    report.check("replay: a line of 100 MB", wrong)
+    ended = place.replay(b"\0\xff\x1b[31m " + text)
+    is_right = ended.output.startswith(b"\\000\\377\\033[31mframe0") or b"\\033[31m" in ended.output
+    wrong = [] if is_right and not {*ended.output} & {0, 27, 255} else [f"{ended.output!r}"]
+    report.check("replay: octets that are no text", wrong)
+    few, many = place.replay(text * 10), place.replay(text * (MANY // 2))
+    wrong = [] if many.status == 0 and many.output.count(b"\n") == MANY else [f"{many.status}: {many.errors!r}"]
+    wrong += [] if many.kilobytes < few.kilobytes + 2000 else [f"{few.kilobytes} kB, then {many.kilobytes} kB"]
+    report.check(f"replay: {MANY} records in {many.kilobytes} kB and {many.seconds:.2f} s", wrong)
+
+
+def check_streams(place: Place, report: Report) -> None:
+    """As a coprocess; and with a reader that goes away."""
+    text = records(2).splitlines(keepends=True)
+    pipes = {"stdin": subprocess.PIPE, "stdout": subprocess.PIPE, "stderr": subprocess.DEVNULL}
+    with subprocess.Popen(place.command(), cwd=place.folder, **pipes) as process:
+        said = []
+        for line in filter(bytes.strip, text):
+            process.stdin.write(line)
+            process.stdin.flush()
+            said.append(process.stdout.readline())
+        process.stdin.close()
+    wrong = [] if b"".join(said) == place.replay(b"".join(text)).output else [f"{said}"]
+    report.check("replay: a record at a time", wrong)
+    reader, writer = os.pipe()
+    os.close(reader)
+    ended = run(place.command(), place.folder, b"".join(text), output=writer)
+    os.close(writer)
+    wrong = [] if (ended.status, ended.errors) == (3, b"radpolicy: E07: write fault\n") else [f"{ended}"]
+    report.check("replay: a reader that went away", wrong)
+
+
+def check(subject: Subject, report: Report) -> None:
+    with new_folder() as folder:
+        place = Place(subject, folder)
+        for part in (check_answers, check_cuts, check_hostile, check_streams):
+            part(place, report)

@@ -1,0 +1,63 @@
+"""Records of traffic at random, and the program that answers them."""
+from pathlib import Path
+from random import Random
+from typing import List, Sequence
+
+from common.program import Ended, run
+from common.subject import Subject
+from fuzz import packets
+from fuzz.vocabulary import DICTIONARY, values
+
+SECRET = b"testing123"
+POLICY = b"""if (&NAS-Port < 3) {
+    reject
+}
+update reply {
+    Session-Timeout := 600
+    Reply-Message := "Hello, %{User-Name}"
+}
+"""
+# Words that are no packet, and packets that are refused.
+BROKEN = (b"", b"no packet", b"00" * 20, b"0101" + b"0" * 37, b"05" + b"07" * 19, b"01" * 5000)
+
+
+def request(rng: Random) -> bytes:
+    """A request with pairs at random."""
+    pairs, identifier = values(rng, rng.choice([0, 1, 3, 8])), rng.randrange(256)
+    if rng.random() < 0.3:
+        return packets.accounting_request(SECRET, identifier, pairs)
+    authenticator = bytes(rng.randrange(256) for _ in range(16))
+    return packets.packet(1, identifier, authenticator, packets.list_octets(SECRET, authenticator, pairs))
+
+
+def record(number: int) -> bytes:
+    """The record of a number, with its line end; the same whenever it is made."""
+    rng = Random(f"record {number}")
+    digits = rng.choice(BROKEN) if rng.random() < 0.1 else request(rng).hex().encode()
+    source = rng.choice([b"", b"192.0.2.1 ", b"src=2001:db8::1 "])
+    return b"frame%d %s%s%s" % (number, source, digits, rng.choice([b"\n", b"\r\n", b" \n\n"]))
+
+
+def records(count: int) -> bytes:
+    return b"".join(map(record, range(count)))
+
+
+class Place:
+    """A folder with the files that the program needs."""
+
+    def __init__(self, subject: Subject, folder: Path) -> None:
+        self.subject, self.folder = subject, folder
+        (folder / "policy").write_bytes(POLICY)
+        (folder / "secret").write_bytes(SECRET + b"\n")
+
+    def command(self, *words: str) -> List[str]:
+        program = self.subject.driver("radpolicy_replay")
+        return [str(program), "--policy", "policy", "-S", "secret", *words, str(DICTIONARY)]
+
+    def replay(self, octets: bytes, *words: str) -> Ended:
+        return run(self.command(*words), self.folder, octets)
+
+    def run_one(self, digits: bytes) -> Ended:
+        """One packet by `radpolicy run`."""
+        words: Sequence[str] = ["run", "--hex", "-S", "secret", "--policy", "policy", str(DICTIONARY)]
+        return run([self.subject.program, *words], self.folder, digits)

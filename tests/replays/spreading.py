@@ -1,0 +1,95 @@
+"""Records over all processors by GNU parallel, and over a cluster by dask, where they are installed."""
+import shutil
+import socket
+import subprocess
+import time
+from contextlib import contextmanager
+from pathlib import Path
+from typing import Iterator, List
+
+from common.program import Ended
+from common.report import Report
+from common.subject import Subject, new_folder
+from replays.records import Place, records
+
+RECORDS = 20_000
+# Debian's Python has Debian's packages.
+PYTHON = "/usr/bin/python3"
+WORKERS = 3
+SECONDS = 120
+
+
+def has_dask() -> bool:
+    command = [PYTHON, "-c", "import distributed"]
+    try:
+        return subprocess.run(command, stderr=subprocess.DEVNULL).returncode == 0 and bool(shutil.which("dask-worker"))
+    except OSError:
+        return False
+
+
+def faults(said: "subprocess.CompletedProcess[bytes]", whole: Ended) -> List[str]:
+    is_right = said.returncode == 0 and said.stdout == whole.output
+    return [] if is_right else [f"{said.returncode}, {len(said.stdout)} octets of {len(whole.output)}: {said.stderr!r}"]
+
+
+def check_parallel(place: Place, whole: Ended, report: Report) -> None:
+    if not shutil.which("parallel"):
+        report.say("replay: not tried by GNU parallel, which is not installed")
+        return
+    command = ["parallel", "--no-notice", "--pipe", "--keep-order", "--block", "200k", *place.command()]
+    with open(place.folder / "records", "rb") as text:
+        said = subprocess.run(command, cwd=place.folder, stdin=text, capture_output=True, timeout=SECONDS)
+    report.check("replay: by GNU parallel", faults(said, whole))
+
+
+def free_port() -> int:
+    with socket.socket() as server:
+        server.bind(("127.0.0.1", 0))
+        return server.getsockname()[1]
+
+
+@contextmanager
+def started(*command: object) -> Iterator["subprocess.Popen[bytes]"]:
+    quiet = {"stdout": subprocess.DEVNULL, "stderr": subprocess.DEVNULL}
+    with subprocess.Popen(list(map(str, command)), **quiet) as process:
+        try:
+            yield process
+        finally:
+            process.kill()
+
+
+def spread(place: Place, scheduler: str, script: Path) -> "subprocess.Popen[bytes]":
+    command = [PYTHON, script, scheduler, place.folder / "records", "--", *place.command()]
+    pipes = {"stdout": subprocess.PIPE, "stderr": subprocess.PIPE}
+    return subprocess.Popen(list(map(str, command)), cwd=place.folder, **pipes)
+
+
+def check_dask(place: Place, whole: Ended, report: Report) -> None:
+    if not has_dask():
+        report.say("replay: not tried by dask, which is not installed")
+        return
+    script, port = place.subject.root / "examples/replay/spread.py", free_port()
+    scheduler = f"tcp://127.0.0.1:{port}"
+    worker = ["dask-worker", scheduler, "--nthreads", 1, "--no-dashboard", "--local-directory", place.folder / "work"]
+    with started("dask-scheduler", "--host", "127.0.0.1", "--port", port, "--no-dashboard"):
+        with started(*worker), started(*worker), started(*worker) as last:
+            with spread(place, scheduler, script) as process:
+                out, errors = process.communicate(timeout=SECONDS)
+            said = subprocess.CompletedProcess([], process.returncode, out, errors)
+            wrong = faults(said, whole) + ([] if errors == whole.errors else [f"{errors!r}, not {whole.errors!r}"])
+            report.check("replay: by dask", wrong)
+            with spread(place, scheduler, script) as process:
+                time.sleep(2)
+                last.kill()
+                out, errors = process.communicate(timeout=SECONDS)
+            said = subprocess.CompletedProcess([], process.returncode, out, errors)
+            report.check("replay: by dask, where a worker dies", faults(said, whole))
+
+
+def check(subject: Subject, report: Report) -> None:
+    with new_folder() as folder:
+        place = Place(subject, folder)
+        (folder / "records").write_bytes(records(RECORDS))
+        whole = place.replay((folder / "records").read_bytes())
+        check_parallel(place, whole, report)
+        check_dask(place, whole, report)
