@@ -1,9 +1,10 @@
 #!/usr/bin/python3
 """Answers records on a dask cluster.
 usage: spread.py SCHEDULER FILE.. -- COMMAND WORD..
-The files are cut into blocks of whole lines. A worker, which needs the same files, pipes a block through the command;
+The files are cut into blocks of whole lines. A worker, which needs the same folder, pipes a block through the command;
 when it dies, another takes the block. The answers are printed in order. Standard error has the sums of what the commands
 count there, and the exit status is the greatest of theirs."""
+import os
 import re
 import subprocess
 import sys
@@ -16,6 +17,7 @@ BLOCK = 1 << 20
 # Blocks that are under way or whose answers wait for those before them, for each worker.
 AHEAD = 4
 COUNT = re.compile(r"(\d+) ([a-z]+)")
+COUNTS = re.compile(r"\d+ [a-z]+(, \d+ [a-z]+)*\n")
 
 
 def blocks_of(path):
@@ -30,11 +32,11 @@ def blocks_of(path):
             start = file.tell()
 
 
-def answer(command, path, start, end):
+def answer(command, folder, path, start, end):
     """What the command says of a block: its status, and what it writes to standard output and standard error."""
     with open(path, "rb") as file:
         file.seek(start)
-        ended = subprocess.run(command, input=file.read(end - start), capture_output=True)
+        ended = subprocess.run(command, cwd=folder, input=file.read(end - start), capture_output=True)
     return ended.returncode, ended.stdout, ended.stderr.decode(errors="replace")
 
 
@@ -42,7 +44,7 @@ def answers(client, command, blocks):
     """The answers to the blocks, in their order."""
     waiting = deque()
     for block in blocks:
-        waiting.append(client.submit(answer, command, *block, pure=False, retries=3))
+        waiting.append(client.submit(answer, command, os.getcwd(), *block, pure=False, retries=3))
         if len(waiting) > AHEAD * max(1, len(client.ncores())):
             yield waiting.popleft().result()
     while waiting:
@@ -58,9 +60,9 @@ def main():
     with Client(scheduler) as client:
         for ended, said, complained in answers(client, command, blocks):
             sys.stdout.buffer.write(said)
-            found = COUNT.findall(complained)
-            counts.update({name: int(number) for number, name in found})
-            if not found:
+            if COUNTS.fullmatch(complained):
+                counts.update({name: int(number) for number, name in COUNT.findall(complained)})
+            else:
                 sys.stderr.write(complained)
             status = max(status, ended)
     print(", ".join(f"{number} {name}" for name, number in counts.items()), file=sys.stderr)

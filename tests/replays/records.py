@@ -1,7 +1,7 @@
 """Records of traffic at random, and the program that answers them."""
 from pathlib import Path
 from random import Random
-from typing import List, Sequence
+from typing import Callable, List, Optional, Sequence
 
 from common.program import Ended, run
 from common.subject import Subject
@@ -50,12 +50,12 @@ class Place:
         (folder / "policy").write_bytes(POLICY)
         (folder / "secret").write_bytes(SECRET + b"\n")
 
-    def command(self, *words: str) -> List[str]:
+    def command(self) -> List[str]:
         program = self.subject.driver("radpolicy_replay")
-        return [str(program), "--policy", "policy", "-S", "secret", *words, str(DICTIONARY)]
+        return [str(program), "--policy", "policy", "-S", "secret", str(DICTIONARY)]
 
-    def replay(self, octets: bytes, *words: str) -> Ended:
-        return run(self.command(*words), self.folder, octets)
+    def replay(self, octets: bytes, before: Optional[Callable[[], None]] = None) -> Ended:
+        return run(self.command(), self.folder, octets, before=before)
 
     def run_one(self, digits: bytes) -> Ended:
         """One packet by `radpolicy run`."""
