@@ -1,0 +1,124 @@
+//! The words of the command line.
+
+ghost use Rattle.std.specs.Prelude.{IfErr};
+ghost use Rattle.radpolicy.specs.Faults.{IsWordFault};
+
+use clap::error::ErrorKind;
+use clap::{Arg, ArgAction, ArgMatches};
+use radpolicy::Fault;
+use radpolicy_common::SecretValues;
+use std::alloc::{AllocError, Global};
+use std::convert::AsStr;
+
+const POLICY: &str = "policy";
+
+const SECRET: &str = "secret";
+
+const SHOW_SECRETS: &str = "show-secrets";
+
+const DICTIONARY: &str = "dictionary";
+
+/// What a command line asks for.
+#[derive(Drop)]
+pub struct Plan<'a> {
+    pub policy: &'a str,
+    pub secret: &'a str,
+    pub secrets: SecretValues,
+    pub dictionaries: Vec<&'a str>,
+}
+
+fn policy_option<'a>(alloc: Global) -> Arg<'a> {
+    Arg::new(alloc, POLICY)
+        .long(POLICY)
+        .value_name("POLICY")
+        .required(true)
+        .action(ArgAction::Set)
+        .help("The policy that answers the records")
+}
+
+fn secret_option<'a>(alloc: Global) -> Arg<'a> {
+    Arg::new(alloc, SECRET)
+        .short('S')
+        .value_name("SECRET-FILE")
+        .required(true)
+        .action(ArgAction::Set)
+        .help("The file whose first line is the shared secret")
+}
+
+fn show_secrets_option<'a>(alloc: Global) -> Arg<'a> {
+    Arg::new(alloc, SHOW_SECRETS)
+        .long(SHOW_SECRETS)
+        .action(ArgAction::SetTrue)
+        .help("Shows passwords, keys and the replies that hold them")
+}
+
+fn dictionary_files<'a>(alloc: Global) -> Arg<'a> {
+    Arg::new(alloc, DICTIONARY)
+        .required(true)
+        .value_name("DICTIONARY")
+        .num_args(1..)
+        .action(ArgAction::Append)
+        .help("Dictionary files, the main one first, as in /usr/share/freeradius/dictionary*")
+}
+
+fn program<'a>(alloc: Global) -> Result<clap::Command<'a>, AllocError> {
+    clap::Command::new(alloc, "radpolicy-replay")
+        .about("Answers recorded requests by a policy")
+        .after_help(
+            "Standard input has a record a line: words that name it, and the request's packet in \
+            hexadecimal digits.",
+        )
+        .arg(policy_option(alloc))?
+        .arg(secret_option(alloc))?
+        .arg(show_secrets_option(alloc))?
+        .arg(dictionary_files(alloc))
+}
+
+// The fault of a parse that failed.
+fn fault_of(error: &clap::Error) -> Fault
+    ensures { IsWordFault result }
+{
+    match error.kind() {
+        ErrorKind::DisplayHelp => Fault::Help,
+        ErrorKind::OutOfMemory => Fault::Memory,
+        _ => Fault::Usage,
+    }
+}
+
+fn shown_secrets(found: &ArgMatches<'_>) -> SecretValues {
+    if found.get_flag(SHOW_SECRETS) {
+        SecretValues::Shown
+    } else {
+        SecretValues::Hidden
+    }
+}
+
+fn plan_of<'a>(alloc: Global, found: &ArgMatches<'a>) -> Result<Plan<'a>, Fault>
+    ensures { IfErr result IsWordFault }
+{
+    let files = found.get_strs(DICTIONARY).ok_or(Fault::Usage)?;
+    Ok(Plan {
+        policy: found.get_str(POLICY).ok_or(Fault::Usage)?,
+        secret: found.get_str(SECRET).ok_or(Fault::Usage)?,
+        secrets: shown_secrets(found),
+        dictionaries: Vec::from_slice(alloc, files)?,
+    })
+}
+
+/// What the words of a command line ask for; the program's name is the first word.
+pub fn read_words<'a, S: AsStr>(alloc: Global, words: &'a [S]) -> Result<Plan<'a>, Fault>
+    ensures { IfErr result IsWordFault }
+{
+    let matches = program(alloc)?
+        .try_get_matches_from(words)
+        .map_err(|error| fault_of(&error))?;
+    plan_of(alloc, &matches)
+}
+
+/// The help that the words of a command line ask for, or what is wrong with them.
+pub fn help_text<'a, S: AsStr>(alloc: Global, words: &'a [S]) -> Result<String, AllocError> {
+    match program(alloc)?.try_get_matches_from(words) {
+        Ok(_) => String::from_str(alloc, ""),
+        Err(error) => error.to_string(alloc),
+    }
+}
