@@ -2,8 +2,8 @@
 """Answers records on a dask cluster.
 usage: spread.py SCHEDULER FILE.. -- COMMAND WORD..
 The files are cut into blocks of whole lines. A worker, which needs the same folder, pipes a block through the command;
-when it dies, another takes the block. The answers are printed in order. Standard error has the sums of what the commands
-count there, and the exit status is the greatest of theirs."""
+when it dies, another takes the block. The answers are printed in order. Standard error has the sums of what the
+commands count there, and the exit status is the greatest of theirs."""
 import os
 import re
 import subprocess
