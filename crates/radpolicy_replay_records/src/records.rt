@@ -190,12 +190,6 @@ fn first_packet<'a>(words: &[&'a [u8]]) -> Option<&'a [u8]>
 
 /// The octets of the request of a record's line: those of its first word of 40 hexadecimal digits or more. `NotHex`
 /// where there is none or its digits are an odd number, and `PacketTooLong` for a line of too many octets.
-///
-/// ```rust
-/// let octets = request_octets(alloc, b"7 10.0.0.1 0107002600112233445566778899aabbccddeeff 02")?;
-/// assert_eq!(rt; octets.len(), 20);
-/// assert_eq!(rt; request_octets(alloc, b"no packet").err(), Some(Fault::NotHex));
-/// ```
 #[tactic(auto, unfolding(crate::specs::Records::request_octets))]
 pub fn request_octets(alloc: Global, line: &[u8]) -> Result<Vec<u8>, Fault>
     ensures ok { IfOk result (λ octets. request_octets line.now ≡ Ok octets.items) }
