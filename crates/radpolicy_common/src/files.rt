@@ -1,5 +1,5 @@
-//! Reading files and standard input. What a file holds, whether it can be read, and whether there is memory, no contract
-//! can say: a refusal for these names a path that was given.
+//! Reading files and standard input. What a file holds, whether it can be read, and whether there is memory, no
+//! contract can say: a refusal for the first two names a path that was given.
 
 ghost use Rattle.std.specs.Prelude.{◌≡◌, ◌⊎◌, ◌<◌, Ok, Some, IfOk, IfErr, IfSome, is_some, codes, length};
 ghost use Rattle.avp_dict.specs.Lines.{HasDistinctNames};
