@@ -63,6 +63,7 @@ fn dictionary_files<'a>(alloc: Global) -> Arg<'a> {
 
 fn program<'a>(alloc: Global) -> Result<clap::Command<'a>, AllocError> {
     clap::Command::new(alloc, "radpolicy-replay")
+        .bin_name("radpolicy-replay")?
         .about("Answers recorded requests by a policy")
         .after_help(
             "Standard input has a record a line: words that name it, and the request's packet in \
