@@ -19,8 +19,8 @@ abbrev pub line_counted : Replay → Summary → List ℕ → Summary
 line_counted replay summary line =
     if is_record line then counted summary (verdict_of replay line) else summary
 
--- Where `before` was left before, `after` is left now, and this was written: what is to be written for the one, whatever
--- follows it, is what was written and what is to be written for the other.
+-- Where `before` was left before, `after` is left now, and this was written: what is to be written for the one,
+-- whatever follows it, is what was written and what is to be written for the other.
 pub record Continues (replay : Replay) (summary : Summary) (before : List ℕ) (now : Summary)
     (after written : List ℕ) : Type 0 where
   pub text : (later : List ℕ) → text_from replay (summary.read + 1) (before ++ later)
