@@ -78,7 +78,7 @@ module _ (e : Edit) (pool : List Pair) (slots : List Slot) (steps : List Step) (
   below-changed backs = subst BacksBelow (sym S) (below-new pool slots steps k placed counted counts grow housed standing (option_to_list p.added) firsts dark (entering p e.pair) p.turned p.swap step new_slots N T backs)
 
   pub counted-changed : AllCounted new_steps
-  counted-changed = subst AllCounted (sym S) (counted-new pool slots steps k placed counted counts grow housed standing (option_to_list p.added) firsts dark (entering p e.pair) p.turned p.swap step new_slots N T es pairs_is more_slots more_pairs plan.names plan.swap)
+  counted-changed = subst AllCounted (sym S) (counted-new pool slots steps k placed counted counts grow housed standing (option_to_list p.added) firsts dark (entering p e.pair) p.turned p.swap step new_slots N T es pairs_is more_slots more_pairs plan.places plan.swap)
 
   pub counts-changed : CountsWithin (length new_slots) (length new_pool) new_steps
   counts-changed =

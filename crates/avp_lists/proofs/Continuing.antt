@@ -10,7 +10,7 @@ use Rattle.avp_lists.specs.declared.steps.Change.TheVariants.{Back}
 use Rattle.avp_lists.specs.declared.steps.Step.{Step}
 use Rattle.avp_lists.specs.States.{empty_state, IsLimited}
 use Rattle.avp_lists.specs.internal.Slots.{at_first, slot_at, Housed}
-use Rattle.avp_lists.specs.internal.Steps.{after, every, slots_at, shown_states, no_step, step_at, change_at, turns, node, BacksBelow, NamesCounted, AllCounted, CountsWithin, CountsGrow, AllHoused}
+use Rattle.avp_lists.specs.internal.Steps.{after, every, slots_at, shown_states, no_step, step_at, change_at, turns, node, BacksBelow, PlacesCounted, AllCounted, CountsWithin, CountsGrow, AllHoused}
 use Rattle.avp_lists.specs.internal.Shown.{shown_state}
 use Rattle.avp_lists.specs.internal.SlotLaws.{length-every}
 use Rattle.avp_lists.proofs.Replay.{every-take, every-push, node_fits}
@@ -70,8 +70,8 @@ module _ (steps : List Step) (n : ℕ) (e : Step) (within : n ≤ length steps) 
   pub step-new : step_at (take n steps ++ e ∷ []) n ≡ e
   step-new = get_or_push (take n steps) e no_step n (length-take-le n steps within)
 
-  pub counted-more : AllCounted steps → NamesCounted e → AllCounted (take n steps ++ e ∷ [])
-  counted-more counted new = each-continued NamesCounted no_step steps n e within (λ i h. absurd (omega (arith, h)), omega arith) (λ k below. counted k) new
+  pub counted-more : AllCounted steps → PlacesCounted e → AllCounted (take n steps ++ e ∷ [])
+  counted-more counted new = each-continued PlacesCounted no_step steps n e within (λ i h. absurd (omega (arith, h)), omega arith) (λ k below. counted k) new
 
   pub counts-more : (a b : ℕ) → ((k : ℕ) → k < n → ((step_at steps k).slots ≤ a) × ((step_at steps k).pairs ≤ b)) → e.slots ≤ a → e.pairs ≤ b → CountsWithin a b (take n steps ++ e ∷ [])
   counts-more a b counts s p =

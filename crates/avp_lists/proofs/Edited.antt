@@ -15,7 +15,7 @@ use Rattle.avp_lists.specs.internal.Growth.{adds_one, removes}
 use Rattle.avp_lists.specs.Instances.{has_id, is_other}
 use Rattle.avp_lists.specs.Operators.{agrees, replace, apply}
 use Rattle.avp_lists.specs.Pairs.{pair_eq}
-use Rattle.avp_lists.specs.internal.Plans.{end_for, goes, taken, names_in}
+use Rattle.avp_lists.specs.internal.Plans.{end_for, goes, taken, places_in}
 use Rattle.avp_lists.specs.internal.Shown.{same_list, shows, shows_id, no_pair, slot_pair, shown_pairs, shown_state}
 use Rattle.avp_lists.specs.internal.Slots.{no_slot, slot_at, flipped, PairsWithin}
 use Rattle.avp_lists.specs.States.{with_list, edited, edited_list}
@@ -111,16 +111,16 @@ turned-within n p c off pooled i =
 pub taken-within : (e : Edit) (pool : List Pair) (n : ℕ) (c : List Slot) → PairsWithin n c → PairsWithin n (map (turned_if (taken e pool)) c)
 taken-within e pool n c pooled = turned-within n (taken e pool) c (λ s h. and_first s.mark.live (same_list e.list s.list) (and_first (shows e.list s) (goes e.op e.pair (slot_pair pool s)) h)) pooled
 
-pub names_in-within : (p : Slot → Bool) (n : ℕ) (c : List Slot) (i : ℕ) → i < length (names_in p n c) → get_or (names_in p n c) i 0 < n + length c
-names_in-within p n [] i h = absurd (omega (arith, h))
-names_in-within p n (s ∷ ss) i h =
-    let rest = names_in-within p (n + 1) ss in
-    elim (p s) as (λ b. i < length (cond b (n ∷ names_in p (n + 1) ss) (names_in p (n + 1) ss)) → get_or (cond b (n ∷ names_in p (n + 1) ss) (names_in p (n + 1) ss)) i 0 < n + length (s ∷ ss)) [
+pub places_in-within : (p : Slot → Bool) (n : ℕ) (c : List Slot) (i : ℕ) → i < length (places_in p n c) → get_or (places_in p n c) i 0 < n + length c
+places_in-within p n [] i h = absurd (omega (arith, h))
+places_in-within p n (s ∷ ss) i h =
+    let rest = places_in-within p (n + 1) ss in
+    elim (p s) as (λ b. i < length (cond b (n ∷ places_in p (n + 1) ss) (places_in p (n + 1) ss)) → get_or (cond b (n ∷ places_in p (n + 1) ss) (places_in p (n + 1) ss)) i 0 < n + length (s ∷ ss)) [
       | true ↦ λ lt. first_or_rest p n s ss rest i lt
       | false ↦ λ lt. omega (arith, rest i lt)
     ] h
   where
-    first_or_rest : (p : Slot → Bool) (n : ℕ) (s : Slot) (ss : List Slot) → ((i : ℕ) → i < length (names_in p (n + 1) ss) → get_or (names_in p (n + 1) ss) i 0 < (n + 1) + length ss) → (i : ℕ) → i < length (n ∷ names_in p (n + 1) ss) → get_or (n ∷ names_in p (n + 1) ss) i 0 < n + length (s ∷ ss)
+    first_or_rest : (p : Slot → Bool) (n : ℕ) (s : Slot) (ss : List Slot) → ((i : ℕ) → i < length (places_in p (n + 1) ss) → get_or (places_in p (n + 1) ss) i 0 < (n + 1) + length ss) → (i : ℕ) → i < length (n ∷ places_in p (n + 1) ss) → get_or (n ∷ places_in p (n + 1) ss) i 0 < n + length (s ∷ ss)
     first_or_rest p n s ss rest zero lt = omega arith
     first_or_rest p n s ss rest (suc i) lt = omega (arith, rest i (omega (arith, lt)))
 

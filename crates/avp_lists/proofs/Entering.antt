@@ -13,12 +13,12 @@ use Rattle.avp_lists.specs.declared.slots.Swap.{Swap}
 use Rattle.avp_lists.specs.internal.Growth.{adds_one}
 use Rattle.avp_lists.specs.Instances.{has_id, is_other}
 use Rattle.avp_lists.specs.Operators.{replace, apply}
-use Rattle.avp_lists.specs.internal.Plans.{end_for, goes, taken, names_in}
+use Rattle.avp_lists.specs.internal.Plans.{end_for, goes, taken, places_in}
 use Rattle.avp_lists.specs.internal.Shown.{same_list, shows, shows_id, no_pair, slot_pair, shown_pairs, ahead, shown_state}
 use Rattle.avp_lists.specs.internal.Slots.{no_slot, flipped, turn, turn_all, swap_at, forward, other_pair, with_other, PairsWithin}
 use Rattle.avp_lists.specs.States.{edited}
 use Rattle.avp_lists.proofs.Editing.{turned_if, turned_where, end-turned, shown_taken, turn_at}
-use Rattle.avp_lists.proofs.Edited.{state_edited, same_itself, hidden_elsewhere, and_first, and_second, shown_stay, names_in-within, taken-within, any_of_shown, added-applied, agree-more, within-more, within-append, within-one}
+use Rattle.avp_lists.proofs.Edited.{state_edited, same_itself, hidden_elsewhere, and_first, and_second, shown_stay, places_in-within, taken-within, any_of_shown, added-applied, agree-more, within-more, within-append, within-one}
 use Rattle.avp_lists.proofs.Growing.{turn_all-grown}
 use Rattle.avp_lists.proofs.InOrder.{in_order, shown_of, in_order-middle, behind, ahead-map, behind-map, all-in_order, shown_pairs-in_order}
 use Rattle.avp_lists.proofs.ShownPairs.{shown-append, shown-agree, beside, beside_none, shown_pairs-more, shown_pairs-agree}
@@ -100,20 +100,20 @@ within-right n (s ∷ ss) d h = within-right n ss d (λ j. h (suc j))
 same_now : (n m : ℕ) → other_pair m n m ≡ n
 same_now n m = grind arith
 
--- names of the slots before a place, and of those after it
+-- places of the slots before a place, and of those after it
 turn_all-both : (a b : List ℕ) (c : List Slot) → turn_all (a ++ b) c ≡ turn_all b (turn_all a c)
 turn_all-both [] b c = refl
 turn_all-both (i ∷ is) b c = turn_all-both is b (turn c i)
 
-turned_before : (p : Slot → Bool) (before rest : List Slot) → turn_all (names_in p 0 before) (before ++ rest) ≡ map (turned_if p) before ++ rest
+turned_before : (p : Slot → Bool) (before rest : List Slot) → turn_all (places_in p 0 before) (before ++ rest) ≡ map (turned_if p) before ++ rest
 turned_before p before rest =
-    turn_all-grown (names_in p 0 before) before rest (λ i h. omega (arith, names_in-within p 0 before i h))
+    turn_all-grown (places_in p 0 before) before rest (λ i h. omega (arith, places_in-within p 0 before i h))
     ∙ ap (λ (xs : List Slot). xs ++ rest) (turned_where p [] before)
 
-turned_after : (p : Slot → Bool) (before after : List Slot) (s : Slot) → turn_all (names_in p (length before + 1) after) (before ++ s ∷ after) ≡ before ++ s ∷ map (turned_if p) after
+turned_after : (p : Slot → Bool) (before after : List Slot) (s : Slot) → turn_all (places_in p (length before + 1) after) (before ++ s ∷ after) ≡ before ++ s ∷ map (turned_if p) after
 turned_after p before after s =
-    ap (λ (n : ℕ). turn_all (names_in p n after) (before ++ s ∷ after)) (sym (length_push before s))
-    ∙ ap (turn_all (names_in p (length (before ++ s ∷ [])) after)) (sym (append_assoc before (s ∷ []) after))
+    ap (λ (n : ℕ). turn_all (places_in p n after) (before ++ s ∷ after)) (sym (length_push before s))
+    ∙ ap (turn_all (places_in p (length (before ++ s ∷ [])) after)) (sym (append_assoc before (s ∷ []) after))
     ∙ turned_where p (before ++ s ∷ []) after
     ∙ append_assoc before (s ∷ []) (map (turned_if p) after)
 
@@ -127,17 +127,17 @@ none_filtered q (x ∷ xs) none =
 
 -- in the place of the first instance
 module _ (e : Edit) (pool : List Pair) (before after : List Slot) (s : Slot) (w : Swap) (op : e.op ≡ Replace) (pooled : PairsWithin (length pool) (before ++ s ∷ after)) (first : shows_id e.list e.pair.id pool s ≡ true) (none : list_any (shows_id e.list e.pair.id pool) (ahead s.end before after) ≡ false) (at : w.slot ≡ length before) (old : w.old ≡ s.mark.pair) (new : w.new ≡ length pool) where
-  pub replaced-turned : forward (names_in (taken e pool) 0 before ++ names_in (taken e pool) (length before + 1) after) (Some w) (before ++ s ∷ after) ≡ (map (turned_if (taken e pool)) before ++ with_other w s ∷ []) ++ map (turned_if (taken e pool)) after
+  pub replaced-turned : forward (places_in (taken e pool) 0 before ++ places_in (taken e pool) (length before + 1) after) (Some w) (before ++ s ∷ after) ≡ (map (turned_if (taken e pool)) before ++ with_other w s ∷ []) ++ map (turned_if (taken e pool)) after
   replaced-turned =
       let p = taken e pool in
       let left = map (turned_if p) before in
       let rest = map (turned_if p) after in
       let long : length left ≡ length before = length-map before (turned_if p) in
       let here : length left ≡ w.slot = long ∙ sym at in
-      let turned : turn_all (names_in p 0 before ++ names_in p (length before + 1) after) (before ++ s ∷ after) ≡ left ++ s ∷ rest =
-      turn_all-both (names_in p 0 before) (names_in p (length before + 1) after) (before ++ s ∷ after)
-      ∙ ap (turn_all (names_in p (length before + 1) after)) (turned_before p before (s ∷ after))
-      ∙ ap (λ (n : ℕ). turn_all (names_in p (n + 1) after) (left ++ s ∷ after)) (sym long)
+      let turned : turn_all (places_in p 0 before ++ places_in p (length before + 1) after) (before ++ s ∷ after) ≡ left ++ s ∷ rest =
+      turn_all-both (places_in p 0 before) (places_in p (length before + 1) after) (before ++ s ∷ after)
+      ∙ ap (turn_all (places_in p (length before + 1) after)) (turned_before p before (s ∷ after))
+      ∙ ap (λ (n : ℕ). turn_all (places_in p (n + 1) after) (left ++ s ∷ after)) (sym long)
       ∙ turned_after p left after s in
       ap (swap_at (Some w)) turned
       ∙ ap (λ (x : Slot). set (left ++ s ∷ rest) w.slot (with_other w x)) (get_or_at left s rest no_slot w.slot here)

@@ -13,17 +13,17 @@ use Rattle.avp_lists.specs.declared.slots.Swap.{Swap}
 use Rattle.avp_lists.specs.internal.Growth.{adds_one, removes}
 use Rattle.avp_lists.specs.Instances.{has_id}
 use Rattle.avp_lists.specs.Operators.{apply}
-use Rattle.avp_lists.specs.internal.Plans.{end_for, taken, names_in, IsPlan}
+use Rattle.avp_lists.specs.internal.Plans.{end_for, taken, places_in, IsPlan}
 use Rattle.avp_lists.specs.internal.Shown.{shows_id, ahead_at, shown_pairs, shown_state}
-use Rattle.avp_lists.specs.internal.Slots.{no_slot, slot_at, flipped, turn_all, with_other, forward, NamesWithin, PairsWithin}
+use Rattle.avp_lists.specs.internal.Slots.{no_slot, slot_at, flipped, turn_all, with_other, forward, PlacesWithin, PairsWithin}
 use Rattle.avp_lists.specs.States.{edited}
 use Rattle.avp_lists.proofs.Editing.{turned_if, turned_where}
-use Rattle.avp_lists.proofs.Edited.{state_edited, names_in-within, taken-within, state-removed}
+use Rattle.avp_lists.proofs.Edited.{state_edited, places_in-within, taken-within, state-removed}
 use Rattle.avp_lists.proofs.Entering.{added-turned, added-within, state-added, replaced-turned, replaced-within, state-replaced}
 
-one_name : (n m : ℕ) → n < m → NamesWithin m (n ∷ [])
-one_name n m lt zero h = lt
-one_name n m lt (suc i) h = absurd (omega (arith, h))
+one_place : (n m : ℕ) → n < m → PlacesWithin m (n ∷ [])
+one_place n m lt zero h = lt
+one_place n m lt (suc i) h = absurd (omega (arith, h))
 
 none_added : (s : Slot) → None ≡ Some s → ⊥
 none_added s h = cc
@@ -33,10 +33,10 @@ pub plan-added : (e : Edit) (pool : List Pair) (c : List Slot) (s : Slot) (v : V
 plan-added e pool c s v fits adds of_list at_end off pair first N =
     let turned : turn_all v.items (c ++ s ∷ []) ≡ c ++ flipped s ∷ [] = ap (λ (ns : List ℕ). turn_all ns (c ++ s ∷ [])) N ∙ added-turned e pool c s fits adds of_list at_end off pair in
     let P : List Slot → Type 0 = λ d. PairsWithin (length (pool ++ e.pair ∷ [])) d in
-    let Q : List ℕ → Type 0 = λ ns. NamesWithin (length (c ++ s ∷ [])) ns in
+    let Q : List ℕ → Type 0 = λ ns. PlacesWithin (length (c ++ s ∷ [])) ns in
     let R : Slot → Type 0 = λ t. (t.mark.live ≡ false) × (t.first ≡ t.mark) in
     record {
-      names = subst Q (sym N) (one_name (length c) (length (c ++ s ∷ [])) (omega (arith, length_push c s)));
+      places = subst Q (sym N) (one_place (length c) (length (c ++ s ∷ [])) (omega (arith, length_push c s)));
       swap = omega arith;
       added = λ t is. let same : s ≡ t = cc in subst R same (off, first);
       within = subst P (sym turned) (added-within e pool c s fits adds of_list at_end off pair);
@@ -44,13 +44,13 @@ plan-added e pool c s v fits adds of_list at_end off pair first N =
     }
 
 -- what is turned without a swap and without a slot more
-plain : (e : Edit) (pool : List Pair) (c d : List Slot) (v : Vec ℕ Global) → NamesWithin (length c) v.items → turn_all v.items c ≡ d → PairsWithin (length pool) d → shown_state pool d ≡ edited e (shown_state pool c) → IsPlan e pool c (record { turned = v; swap = None; added = None })
-plain e pool c d v names turned within state =
+plain : (e : Edit) (pool : List Pair) (c d : List Slot) (v : Vec ℕ Global) → PlacesWithin (length c) v.items → turn_all v.items c ≡ d → PairsWithin (length pool) d → shown_state pool d ≡ edited e (shown_state pool c) → IsPlan e pool c (record { turned = v; swap = None; added = None })
+plain e pool c d v places turned within state =
     let same : turn_all v.items (c ++ []) ≡ d = ap (turn_all v.items) (append-nil c) ∙ turned in
     let P : List Slot → Type 0 = λ x. PairsWithin (length pool) x in
-    let Q : List Slot → Type 0 = λ x. NamesWithin (length x) v.items in
+    let Q : List Slot → Type 0 = λ x. PlacesWithin (length x) v.items in
     record {
-      names = subst Q (sym (append-nil c)) names;
+      places = subst Q (sym (append-nil c)) places;
       swap = omega arith;
       added = λ t is. absurd (none_added t is);
       within = subst P (sym same) within;
@@ -58,11 +58,11 @@ plain e pool c d v names turned within state =
     }
 
 -- pairs go
-pub plan-removed : (e : Edit) (pool : List Pair) (c : List Slot) (v : Vec ℕ Global) → PairsWithin (length pool) c → removes e.op ≡ true → v.items ≡ names_in (taken e pool) 0 c → IsPlan e pool c (record { turned = v; swap = None; added = None })
+pub plan-removed : (e : Edit) (pool : List Pair) (c : List Slot) (v : Vec ℕ Global) → PairsWithin (length pool) c → removes e.op ≡ true → v.items ≡ places_in (taken e pool) 0 c → IsPlan e pool c (record { turned = v; swap = None; added = None })
 plan-removed e pool c v fits rem N =
-    let Q : List ℕ → Type 0 = λ ns. NamesWithin (length c) ns in
-    let names : NamesWithin (length c) (names_in (taken e pool) 0 c) = λ i h. omega (arith, names_in-within (taken e pool) 0 c i h) in
-    plain e pool c (map (turned_if (taken e pool)) c) v (subst Q (sym N) names)
+    let Q : List ℕ → Type 0 = λ ns. PlacesWithin (length c) ns in
+    let places : PlacesWithin (length c) (places_in (taken e pool) 0 c) = λ i h. omega (arith, places_in-within (taken e pool) 0 c i h) in
+    plain e pool c (map (turned_if (taken e pool)) c) v (subst Q (sym N) places)
     (ap (λ (ns : List ℕ). turn_all ns c) N ∙ turned_where (taken e pool) [] c)
     (taken-within e pool (length pool) c fits)
     (state-removed e pool c rem)
@@ -76,18 +76,18 @@ kept_applied op p xs is none =
 
 pub plan-kept : (e : Edit) (pool : List Pair) (c : List Slot) (v : Vec ℕ Global) → PairsWithin (length pool) c → e.op ≡ AddNew → adds_one e.op e.pair.id (shown_pairs e.list pool c) ≡ false → v.items ≡ [] → IsPlan e pool c (record { turned = v; swap = None; added = None })
 plan-kept e pool c v fits op none N =
-    let Q : List ℕ → Type 0 = λ ns. NamesWithin (length c) ns in
+    let Q : List ℕ → Type 0 = λ ns. PlacesWithin (length c) ns in
     plain e pool c c v (subst Q (sym N) (λ i h. absurd (omega (arith, h)))) (ap (λ (ns : List ℕ). turn_all ns c) N) fits
     (state_edited e pool pool c c (sym (kept_applied e.op e.pair (shown_pairs e.list pool c) op none)) (λ which ne. refl))
 
--- names of two parts
-names_both : (n : ℕ) (a b : List ℕ) → NamesWithin n a → NamesWithin n b → NamesWithin n (a ++ b)
-names_both n [] b left right i h = right i h
-names_both n (x ∷ xs) b left right zero h = left 0 (omega arith)
-names_both n (x ∷ xs) b left right (suc i) h = names_both n xs b (λ j lt. left (suc j) (omega (arith, lt))) right i (omega (arith, h))
+-- places of two parts
+places_both : (n : ℕ) (a b : List ℕ) → PlacesWithin n a → PlacesWithin n b → PlacesWithin n (a ++ b)
+places_both n [] b left right i h = right i h
+places_both n (x ∷ xs) b left right zero h = left 0 (omega arith)
+places_both n (x ∷ xs) b left right (suc i) h = places_both n xs b (λ j lt. left (suc j) (omega (arith, lt))) right i (omega (arith, h))
 
 -- the pair takes the place of another
-pub plan-replaced : (e : Edit) (pool : List Pair) (c : List Slot) (first : ℕ) (w : Swap) (v : Vec ℕ Global) → PairsWithin (length pool) c → e.op ≡ Replace → first < length c → shows_id e.list e.pair.id pool (slot_at c first) ≡ true → list_any (shows_id e.list e.pair.id pool) (ahead_at first c) ≡ false → w.slot ≡ first → w.old ≡ (slot_at c first).mark.pair → w.new ≡ length pool → v.items ≡ names_in (taken e pool) 0 (take first c) ++ names_in (taken e pool) (first + 1) (drop (first + 1) c) → IsPlan e pool c (record { turned = v; swap = Some w; added = None })
+pub plan-replaced : (e : Edit) (pool : List Pair) (c : List Slot) (first : ℕ) (w : Swap) (v : Vec ℕ Global) → PairsWithin (length pool) c → e.op ≡ Replace → first < length c → shows_id e.list e.pair.id pool (slot_at c first) ≡ true → list_any (shows_id e.list e.pair.id pool) (ahead_at first c) ≡ false → w.slot ≡ first → w.old ≡ (slot_at c first).mark.pair → w.new ≡ length pool → v.items ≡ places_in (taken e pool) 0 (take first c) ++ places_in (taken e pool) (first + 1) (drop (first + 1) c) → IsPlan e pool c (record { turned = v; swap = Some w; added = None })
 plan-replaced e pool c first w v fits op within shown none at old new N =
     let before = take first c in
     let s = slot_at c first in
@@ -101,20 +101,20 @@ plan-replaced e pool c first w v fits op within shown none at old new N =
     let parts_fit : PairsWithin (length pool) (before ++ s ∷ after) = subst P whole fits in
     let here : w.slot ≡ length before = at ∙ sym long in
     let d = (map (turned_if p) before ++ with_other w s ∷ []) ++ map (turned_if p) after in
-    let names : v.items ≡ names_in p 0 before ++ names_in p (length before + 1) after = N ∙ ap (λ (n : ℕ). names_in p 0 before ++ names_in p (n + 1) after) (sym long) in
+    let places : v.items ≡ places_in p 0 before ++ places_in p (length before + 1) after = N ∙ ap (λ (n : ℕ). places_in p 0 before ++ places_in p (n + 1) after) (sym long) in
     let turned : forward v.items (Some w) (c ++ []) ≡ d =
     ap (forward v.items (Some w)) (append-nil c ∙ whole)
-    ∙ ap (λ (ns : List ℕ). forward ns (Some w) (before ++ s ∷ after)) names
+    ∙ ap (λ (ns : List ℕ). forward ns (Some w) (before ++ s ∷ after)) places
     ∙ replaced-turned e pool before after s w op parts_fit shown none here old new in
     let A : List Slot → Type 0 = λ x. PairsWithin (length other) x in
-    let Q : List ℕ → Type 0 = λ ns. NamesWithin (length (c ++ [])) ns in
+    let Q : List ℕ → Type 0 = λ ns. PlacesWithin (length (c ++ [])) ns in
     let end : length (c ++ []) ≡ length c = ap length (append-nil c) in
-    let left : NamesWithin (length (c ++ [])) (names_in p 0 before) = λ i h. omega (arith, names_in-within p 0 before i h, long, end, within) in
-    let right : NamesWithin (length (c ++ [])) (names_in p (first + 1) after) = λ i h.
-    omega (arith, names_in-within p (first + 1) after i h, length-drop (first + 1) c, end, within) in
-    let all : NamesWithin (length (c ++ [])) (names_in p 0 before ++ names_in p (first + 1) after) = names_both (length (c ++ [])) (names_in p 0 before) (names_in p (first + 1) after) left right in
+    let left : PlacesWithin (length (c ++ [])) (places_in p 0 before) = λ i h. omega (arith, places_in-within p 0 before i h, long, end, within) in
+    let right : PlacesWithin (length (c ++ [])) (places_in p (first + 1) after) = λ i h.
+    omega (arith, places_in-within p (first + 1) after i h, length-drop (first + 1) c, end, within) in
+    let all : PlacesWithin (length (c ++ [])) (places_in p 0 before ++ places_in p (first + 1) after) = places_both (length (c ++ [])) (places_in p 0 before) (places_in p (first + 1) after) left right in
     record {
-      names = subst Q (sym N) all;
+      places = subst Q (sym N) all;
       swap = omega (arith, at, end, within);
       added = λ t is. absurd (none_added t is);
       within = subst A (sym turned) (replaced-within e pool before after s w op parts_fit shown none here old new);

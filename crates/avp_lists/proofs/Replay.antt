@@ -7,7 +7,7 @@ use Rattle.avp_lists.specs.declared.steps.Change.TheVariants.{Turned, Back}
 use Rattle.avp_lists.specs.declared.steps.Step.{Step}
 use Rattle.avp_lists.specs.internal.Slots.{forward, backward}
 use Rattle.avp_lists.specs.internal.Slots.{at_first}
-use Rattle.avp_lists.specs.internal.Steps.{last_or, after, replay, every, slots_at, change_at, names_of, swap_of, turns, node, node_of, BacksBelow}
+use Rattle.avp_lists.specs.internal.Steps.{last_or, after, replay, every, slots_at, change_at, places_of, swap_of, turns, node, node_of, BacksBelow}
 use Rattle.avp_lists.specs.internal.SlotLaws.{length-every}
 use Rattle.avp_lists.proofs.Turning.{backward-forward}
 
@@ -51,14 +51,14 @@ slots_at-after slots steps k within =
     ∙ get_or_push few (after (map at_first slots) few (change_at steps k)) [] k long
     ∙ ap (λ (xs : List (List Slot)). after (map at_first slots) xs (change_at steps k)) (every-take slots steps k le')
 
-by_turn : (x : Change) → turns x ≡ true → (f : List Slot) (done : List (List Slot)) → after f done x ≡ forward (names_of x) (swap_of x) (last_or f done)
-by_turn (Turned names by) h f done = refl
+by_turn : (x : Change) → turns x ≡ true → (f : List Slot) (done : List (List Slot)) → after f done x ≡ forward (places_of x) (swap_of x) (last_or f done)
+by_turn (Turned places by) h f done = refl
 by_turn (Back to) h f done = cc
 
 by_back : (x : Change) (to : ℕ) → x ≡ Back to → (f : List Slot) (done : List (List Slot)) → after f done x ≡ get_or done to f
 by_back x to e f done = ap (after f done) e
 
-pub slots_at-turned : (slots : List Slot) (steps : List Step) (k : ℕ) → k < length steps → 0 < k → turns (change_at steps k) ≡ true → slots_at slots steps k ≡ forward (names_of (change_at steps k)) (swap_of (change_at steps k)) (slots_at slots steps (k - 1))
+pub slots_at-turned : (slots : List Slot) (steps : List Step) (k : ℕ) → k < length steps → 0 < k → turns (change_at steps k) ≡ true → slots_at slots steps k ≡ forward (places_of (change_at steps k)) (swap_of (change_at steps k)) (slots_at slots steps (k - 1))
 slots_at-turned slots steps k within above turned =
     let f = map at_first slots in
     let all = every slots steps in
@@ -67,7 +67,7 @@ slots_at-turned slots steps k within above turned =
     let below : k - 1 < k = omega arith in
     let inside : k - 1 < length all = omega arith in
     let last : last_or f (take k all) ≡ slots_at slots steps (k - 1) = ap (λ (n : ℕ). get_or (take k all) (n - 1) f) long ∙ get_or-take k all (k - 1) f below ∙ get_or_default all (k - 1) f [] inside in
-    slots_at-after slots steps k within ∙ by_turn (change_at steps k) turned f (take k all) ∙ ap (forward (names_of (change_at steps k)) (swap_of (change_at steps k))) last
+    slots_at-after slots steps k within ∙ by_turn (change_at steps k) turned f (take k all) ∙ ap (forward (places_of (change_at steps k)) (swap_of (change_at steps k))) last
 
 pub slots_at-back : (slots : List Slot) (steps : List Step) (k to : ℕ) → k < length steps → to < k → change_at steps k ≡ Back to → slots_at slots steps k ≡ slots_at slots steps to
 slots_at-back slots steps k to within below e =
@@ -78,7 +78,7 @@ slots_at-back slots steps k to within below e =
 
 -- the place that a state's slots come from
 node_cases : (slots : List Slot) (steps : List Step) (k : ℕ) → BacksBelow steps → k < length steps → (x : Change) → change_at steps k ≡ x → (node_of k x ≤ k) × (turns (change_at steps (node_of k x)) ≡ true) × (slots_at slots steps (node_of k x) ≡ slots_at slots steps k)
-node_cases slots steps k below within (Turned names by) e = (omega arith, ap turns e, refl)
+node_cases slots steps k below within (Turned places by) e = (omega arith, ap turns e, refl)
 node_cases slots steps k below within (Back to) e =
     let b = below k to within e in
     let lt : to < k = b.0 in
@@ -92,10 +92,10 @@ pub slots_at-same : (a b : List Slot) (steps : List Step) (k : ℕ) → map at_f
 slots_at-same a b steps k e = ap (λ (f : List Slot). get_or (replay f [] steps) k []) e
 
 -- one step back
-pub slots_at-before : (slots : List Slot) (steps : List Step) (k : ℕ) → k < length steps → 0 < k → turns (change_at steps k) ≡ true → backward (names_of (change_at steps k)) (swap_of (change_at steps k)) (slots_at slots steps k) ≡ slots_at slots steps (k - 1)
+pub slots_at-before : (slots : List Slot) (steps : List Step) (k : ℕ) → k < length steps → 0 < k → turns (change_at steps k) ≡ true → backward (places_of (change_at steps k)) (swap_of (change_at steps k)) (slots_at slots steps k) ≡ slots_at slots steps (k - 1)
 slots_at-before slots steps k within above turned =
     let x = change_at steps k in
-    ap (backward (names_of x) (swap_of x)) (slots_at-turned slots steps k within above turned) ∙ backward-forward (names_of x) (swap_of x) (slots_at slots steps (k - 1))
+    ap (backward (places_of x) (swap_of x)) (slots_at-turned slots steps k within above turned) ∙ backward-forward (places_of x) (swap_of x) (slots_at slots steps (k - 1))
 
 -- what a step is, by what was read of it
 pub change_at_read : (steps : List Step) (k : ℕ) (x : Step) (y : Change) → k < length steps → (get_or steps k x).change ≡ y → change_at steps k ≡ y
@@ -103,14 +103,14 @@ change_at_read steps k x y within e =
     let d : Step = record { change = Back 0; slots = 0; pairs = 0 } in
     ap (λ (s : Step). s.change) (get_or_default steps k d x within) ∙ e
 
-pub ahead_by : (slots : List Slot) (steps : List Step) (k : ℕ) (x : Change) → k < length steps → 0 < k → turns (change_at steps k) ≡ true → change_at steps k ≡ x → slots ≡ slots_at slots steps (k - 1) → forward (names_of x) (swap_of x) slots ≡ slots_at slots steps k
+pub ahead_by : (slots : List Slot) (steps : List Step) (k : ℕ) (x : Change) → k < length steps → 0 < k → turns (change_at steps k) ≡ true → change_at steps k ≡ x → slots ≡ slots_at slots steps (k - 1) → forward (places_of x) (swap_of x) slots ≡ slots_at slots steps k
 ahead_by slots steps k x within above turned e standing =
-    ap (forward (names_of x) (swap_of x)) standing
-    ∙ ap (λ (y : Change). forward (names_of y) (swap_of y) (slots_at slots steps (k - 1))) (sym e)
+    ap (forward (places_of x) (swap_of x)) standing
+    ∙ ap (λ (y : Change). forward (places_of y) (swap_of y) (slots_at slots steps (k - 1))) (sym e)
     ∙ sym (slots_at-turned slots steps k within above turned)
 
-pub back_by : (slots : List Slot) (steps : List Step) (k : ℕ) (x : Change) → k < length steps → 0 < k → turns (change_at steps k) ≡ true → change_at steps k ≡ x → slots ≡ slots_at slots steps k → backward (names_of x) (swap_of x) slots ≡ slots_at slots steps (k - 1)
+pub back_by : (slots : List Slot) (steps : List Step) (k : ℕ) (x : Change) → k < length steps → 0 < k → turns (change_at steps k) ≡ true → change_at steps k ≡ x → slots ≡ slots_at slots steps k → backward (places_of x) (swap_of x) slots ≡ slots_at slots steps (k - 1)
 back_by slots steps k x within above turned e standing =
-    ap (backward (names_of x) (swap_of x)) standing
-    ∙ ap (λ (y : Change). backward (names_of y) (swap_of y) (slots_at slots steps k)) (sym e)
+    ap (backward (places_of x) (swap_of x)) standing
+    ∙ ap (λ (y : Change). backward (places_of y) (swap_of y) (slots_at slots steps k)) (sym e)
     ∙ slots_at-before slots steps k within above turned

@@ -15,7 +15,7 @@ use Rattle.avp_lists.specs.declared.steps.Change.TheVariants.{Turned, Back}
 use Rattle.avp_lists.specs.declared.steps.Step.{Step}
 use Rattle.avp_lists.specs.States.{empty_state, IsLimited}
 use Rattle.avp_lists.specs.internal.Slots.{no_slot, slot_at, is_live, at_first, kept, turn_all, Housed, PairsWithin}
-use Rattle.avp_lists.specs.internal.Steps.{shown_states, after, every, slots_at, step_at, change_at, turns, BacksBelow, NamesCounted, AllCounted, CountsWithin, CountsGrow, AllHoused, StatesLimited}
+use Rattle.avp_lists.specs.internal.Steps.{shown_states, after, every, slots_at, step_at, change_at, turns, BacksBelow, PlacesCounted, AllCounted, CountsWithin, CountsGrow, AllHoused, StatesLimited}
 use Rattle.avp_lists.specs.internal.Shown.{shows, slot_pair, shown_pairs, shown_state}
 use Rattle.avp_lists.proofs.InOrder.{in_order, shown_of, in_order-map, in_order-filter, shown_pairs-in_order}
 
@@ -122,14 +122,14 @@ module _ (slots : List Slot) (steps : List Step) (v : Vec ℕ Global) (e : Step)
   pub standing-alone : slots_at slots steps 0 ≡ slots
   standing-alone = ap (λ (xs : List (List Slot)). get_or xs 0 []) every-alone
 
-  names-alone : (k : ℕ) → NamesCounted (step_at (e ∷ []) k)
-  names-alone zero =
-      let P : Change → Type 0 = λ x. NamesCounted (record { change = x; slots = e.slots; pairs = e.pairs }) in
+  places-alone : (k : ℕ) → PlacesCounted (step_at (e ∷ []) k)
+  places-alone zero =
+      let P : Change → Type 0 = λ x. PlacesCounted (record { change = x; slots = e.slots; pairs = e.pairs }) in
       subst P (sym T) (λ i h. absurd (omega (arith, h, ap length Z)), omega arith)
-  names-alone (suc k) = (λ i h. absurd (omega (arith, h)), omega arith)
+  places-alone (suc k) = (λ i h. absurd (omega (arith, h)), omega arith)
 
   pub counted-alone : AllCounted steps
-  counted-alone = subst AllCounted (sym N) names-alone
+  counted-alone = subst AllCounted (sym N) places-alone
 
   counts-one : (m n k : ℕ) → e.slots ≤ m → e.pairs ≤ n → ((step_at (e ∷ []) k).slots ≤ m) × ((step_at (e ∷ []) k).pairs ≤ n)
   counts-one m n zero s p = (s, p)

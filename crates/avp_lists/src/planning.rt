@@ -4,7 +4,7 @@ ghost use Rattle.std.specs.List.{list_any};
 ghost use Rattle.avp_lists.specs.internal.Slots.{slot_at, PairsWithin};
 ghost use Rattle.avp_lists.specs.internal.Shown.{shows_id, ahead_at, shown_pairs};
 ghost use Rattle.avp_lists.specs.internal.Growth.{adds_one, removes};
-ghost use Rattle.avp_lists.specs.internal.Plans.{enters, end_for, goes, taken, names_in, IsPlan};
+ghost use Rattle.avp_lists.specs.internal.Plans.{enters, end_for, goes, taken, places_in, IsPlan};
 ghost use Rattle.avp_lists.specs.declared.edits.Op.TheVariants.{AddNew, Replace};
 
 use crate::edits::{Edit, Op};
@@ -14,7 +14,7 @@ use crate::showing::{first_slot, shows};
 use crate::slots::{End, Mark, Slot, Swap};
 use std::alloc::{AllocError, Global};
 
-// What an edit turns, as names of slots.
+// What an edit turns, by the places of slots.
 #[derive(Drop)]
 pub(crate) struct Plan {
     // The slots that start or stop showing their pairs.
@@ -56,7 +56,7 @@ fn taken(slot: &Slot, pool: &[Pair], edit: &Edit) -> bool
 
 // The slots from a place on whose pairs an edit takes away.
 fn push_going(
-    names: &mut Vec<usize>,
+    places: &mut Vec<usize>,
     slots: &[Slot],
     pool: &[Pair],
     from: usize,
@@ -64,12 +64,12 @@ fn push_going(
 ) -> Result<(), AllocError>
     requires pooled { PairsWithin (length pool.now) slots.now }
     requires from { from ≤ length slots.now }
-    ensures { OnOk result (names.new.items
-        ≡ names.old.items ++ names_in (taken edit.now pool.now) from (drop from slots.now)) }
+    ensures { OnOk result (places.new.items
+        ≡ places.old.items ++ places_in (taken edit.now pool.now) from (drop from slots.now)) }
 {
-    for name in from..slots.len() {
-        if taken(&slots[name], pool, edit) {
-            names.push(name)?;
+    for place in from..slots.len() {
+        if taken(&slots[place], pool, edit) {
+            places.push(place)?;
         }
     }
     Ok(())

@@ -52,8 +52,8 @@ pub(crate) fn first_shown<'a>(
     requires { PairsWithin (length pool.now) slots.now }
     ensures { option_copied result ≡ find (has_id id) (shown_pairs list pool.now slots.now) }
 {
-    let name = first_slot(slots, pool, list, id)?;
-    Some(&pool[slots[name].mark.pair])
+    let place = first_slot(slots, pool, list, id)?;
+    Some(&pool[slots[place].mark.pair])
 }
 
 // Copies of the pairs that entered a list at one end, in the order of their slots.
@@ -145,12 +145,12 @@ fn last_head(slots: &[Slot], pool: &[Pair], list: List, id: AttrId) -> Option<us
 {
     let mut end = slots.len();
     while end > 0 {
-        let name = end - 1;
-        let slot = &slots[name];
+        let place = end - 1;
+        let slot = &slots[place];
         if shows_at(slot, list, End::Head) && pool[slot.mark.pair].id.equals(id) {
-            return Some(name);
+            return Some(place);
         }
-        end = name;
+        end = place;
     }
     None
 }
@@ -164,10 +164,10 @@ fn first_tail(slots: &[Slot], pool: &[Pair], list: List, id: AttrId) -> Option<u
         list_any (shows_id_at Tail list id pool.now) (take at slots.now) ≡ false) }
     ensures none { IfNone result (list_any (shows_id_at Tail list id pool.now) slots.now ≡ false) }
 {
-    for name in 0..slots.len() {
-        let slot = &slots[name];
+    for place in 0..slots.len() {
+        let slot = &slots[place];
         if shows_at(slot, list, End::Tail) && pool[slot.mark.pair].id.equals(id) {
-            return Some(name);
+            return Some(place);
         }
     }
     None
@@ -183,7 +183,7 @@ pub(crate) fn first_slot(slots: &[Slot], pool: &[Pair], list: List, id: AttrId) 
     ensures none { IfNone result (list_any (shows_id list id pool.now) slots.now ≡ false) }
 {
     match last_head(slots, pool, list, id) {
-        Some(name) => Some(name),
+        Some(place) => Some(place),
         None => first_tail(slots, pool, list, id),
     }
 }

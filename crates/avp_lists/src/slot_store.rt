@@ -5,7 +5,7 @@ ghost use Rattle.avp_lists.specs.Instances.{has_instance};
 ghost use Rattle.avp_lists.specs.internal.Growth.{adds_one};
 ghost use Rattle.avp_lists.specs.History.{starting, present, after_edit, at_place};
 ghost use Rattle.avp_lists.specs.States.{list_of, edited, IsFull, IsLimited};
-ghost use Rattle.avp_lists.specs.internal.Slots.{NamesWithin, SwapWithin};
+ghost use Rattle.avp_lists.specs.internal.Slots.{PlacesWithin, SwapWithin};
 ghost use Rattle.avp_lists.specs.internal.Steps.{slots_at, max_kept, BacksBelow, AllCounted, CountsWithin, CountsGrow, AllHoused, StatesLimited};
 ghost use Rattle.avp_lists.specs.internal.Plans.{pooled, widened, planned, fresh};
 
@@ -22,8 +22,8 @@ use std::alloc::{AllocError, Global};
 
 /// A store that keeps one set of lists, and what each step turned in them.
 ///
-/// Each pair that enters a list stays in a pool, and a slot says whether it is shown. A step names the slots that it
-/// turned, so an edit copies no list: it costs a walk over the slots, and what it changes.
+/// Each pair that enters a list stays in a pool, and a slot says whether it is shown. A step has the places of the slots
+/// that it turned, so an edit copies no list: it costs a walk over the slots, and what it changes.
 #[derive(Drop)]
 pub struct SlotStore {
     alloc: Global,
@@ -154,7 +154,7 @@ fn pool_for(pool: &mut Vec<Pair>, end: usize, plan: &Plan, pair: Pair)
 fn slots_for(slots: &mut Vec<Slot>, end: usize, plan: &Plan)
     requires within { end ≤ length slots.old.items }
     requires room { end < vec_capacity slots.old }
-    requires names { NamesWithin (length (widened plan.now (take end slots.old.items)))
+    requires places { PlacesWithin (length (widened plan.now (take end slots.old.items)))
         plan.now.turned.items }
     requires swap { SwapWithin (length (widened plan.now (take end slots.old.items)))
         plan.now.swap }

@@ -1,6 +1,6 @@
 //! The slots of a store's lists, and how a step turns their marks.
 ghost use Rattle.std.specs.Prelude.{◌≡◌, ◌<◌, length, map, filter};
-ghost use Rattle.avp_lists.specs.internal.Slots.{is_live, kept, turn, turn_all, swap_at, forward, backward, NamesWithin, SwapWithin};
+ghost use Rattle.avp_lists.specs.internal.Slots.{is_live, kept, turn, turn_all, swap_at, forward, backward, PlacesWithin, SwapWithin};
 ghost use Rattle.avp_lists.specs.internal.Shown.{same_list, entered_at};
 
 use crate::lists::List;
@@ -58,24 +58,24 @@ pub(crate) fn entered_at(slot: &Slot, end: End) -> bool
     }
 }
 
-fn turn(slots: &mut [Slot], name: usize)
-    requires { name < length slots.old }
-    ensures { slots.new ≡ turn slots.old name }
+fn turn(slots: &mut [Slot], place: usize)
+    requires { place < length slots.old }
+    ensures { slots.new ≡ turn slots.old place }
 {
-    let slot = slots[name];
+    let slot = slots[place];
     let mark = Mark {
         live: !slot.mark.live,
         ..slot.mark
     };
-    slots[name] = Slot { mark, ..slot };
+    slots[place] = Slot { mark, ..slot };
 }
 
-fn turn_all(slots: &mut [Slot], names: &[usize])
-    requires { NamesWithin (length slots.old) names.now }
-    ensures { slots.new ≡ turn_all names.now slots.old }
+fn turn_all(slots: &mut [Slot], places: &[usize])
+    requires { PlacesWithin (length slots.old) places.now }
+    ensures { slots.new ≡ turn_all places.now slots.old }
 {
-    for name in names {
-        turn(slots, *name);
+    for place in places {
+        turn(slots, *place);
     }
 }
 
@@ -98,32 +98,32 @@ fn put_other(slots: &mut [Slot], swap: Option<Swap>)
 }
 
 // From the state before a step to the one after it.
-pub(crate) fn forward(slots: &mut [Slot], names: &[usize], by: Option<Swap>)
-    requires names { NamesWithin (length slots.old) names.now }
+pub(crate) fn forward(slots: &mut [Slot], places: &[usize], by: Option<Swap>)
+    requires places { PlacesWithin (length slots.old) places.now }
     requires swap { SwapWithin (length slots.old) by }
-    ensures { slots.new ≡ forward names.now by slots.old }
+    ensures { slots.new ≡ forward places.now by slots.old }
 {
-    turn_all(slots, names);
+    turn_all(slots, places);
     put_other(slots, by);
 }
 
 // From the state after a step to the one before it.
-pub(crate) fn backward(slots: &mut [Slot], names: &[usize], by: Option<Swap>)
-    requires names { NamesWithin (length slots.old) names.now }
+pub(crate) fn backward(slots: &mut [Slot], places: &[usize], by: Option<Swap>)
+    requires places { PlacesWithin (length slots.old) places.now }
     requires swap { SwapWithin (length slots.old) by }
-    ensures { slots.new ≡ backward names.now by slots.old }
+    ensures { slots.new ≡ backward places.now by slots.old }
 {
     put_other(slots, by);
-    turn_all(slots, names);
+    turn_all(slots, places);
 }
 
 // `forward`, over a vector.
-pub(crate) fn turn_slots(slots: &mut Vec<Slot>, names: &[usize], by: Option<Swap>)
-    requires names { NamesWithin (length slots.old.items) names.now }
+pub(crate) fn turn_slots(slots: &mut Vec<Slot>, places: &[usize], by: Option<Swap>)
+    requires places { PlacesWithin (length slots.old.items) places.now }
     requires swap { SwapWithin (length slots.old.items) by }
-    ensures { slots.new.items ≡ forward names.now by slots.old.items }
+    ensures { slots.new.items ≡ forward places.now by slots.old.items }
 {
-    forward(slots.as_mut_slice(), names, by);
+    forward(slots.as_mut_slice(), places, by);
 }
 
 fn keep_marks_of(slots: &mut [Slot])

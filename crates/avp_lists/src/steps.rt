@@ -91,7 +91,7 @@ fn go_back(slots: &mut [Slot], steps: &[Step], at: usize)
     ensures firsts { map at_first slots.new ≡ map at_first slots.old }
 {
     match &steps[at].change {
-        Change::Turned(names, by) => backward(slots, names.as_slice(), *by),
+        Change::Turned(places, by) => backward(slots, places.as_slice(), *by),
         Change::Back(_) => unreachable!(),
     }
 }
@@ -105,7 +105,7 @@ fn go_ahead(slots: &mut [Slot], steps: &[Step], at: usize)
     ensures firsts { map at_first slots.new ≡ map at_first slots.old }
 {
     match &steps[at].change {
-        Change::Turned(names, by) => forward(slots, names.as_slice(), *by),
+        Change::Turned(places, by) => forward(slots, places.as_slice(), *by),
         Change::Back(_) => unreachable!(),
     }
 }

@@ -13,7 +13,7 @@ use Rattle.avp_lists.specs.declared.slots.Slot.{Slot}
 use Rattle.avp_lists.specs.Instances.{has_id}
 use Rattle.avp_lists.specs.Pairs.{pair_eq}
 use Rattle.avp_lists.specs.internal.Shown.{shows, slot_pair, shown_state}
-use Rattle.avp_lists.specs.internal.Slots.{forward, NamesWithin, SwapWithin, PairsWithin}
+use Rattle.avp_lists.specs.internal.Slots.{forward, PlacesWithin, SwapWithin, PairsWithin}
 use Rattle.avp_lists.specs.States.{edited}
 
 -- the end at which an operator adds its pair
@@ -33,10 +33,10 @@ goes _ p q = false
 abbrev pub taken : Edit → List Pair → Slot → Bool
 taken e pool s = shows e.list s && goes e.op e.pair (slot_pair pool s)
 
--- the names of the slots that pass, the first of which has the name n
-abbrev pub names_in : (Slot → Bool) → ℕ → List Slot → List ℕ
-names_in p n [] = []
-names_in p n (s ∷ ss) = if p s then n ∷ names_in p (n + 1) ss else names_in p (n + 1) ss
+-- the places of the slots that pass, the first of these slots at n
+abbrev pub places_in : (Slot → Bool) → ℕ → List Slot → List ℕ
+places_in p n [] = []
+places_in p n (s ∷ ss) = if p s then n ∷ places_in p (n + 1) ss else places_in p (n + 1) ss
 
 -- the slots before a plan's marks are turned, and after it
 abbrev pub widened : Plan → List Slot → List Slot
@@ -54,7 +54,7 @@ pooled p pair pool = if enters p then pool ++ pair ∷ [] else pool
 
 -- the plan makes of the slots what the edit makes of the state that they show
 pub record IsPlan (e : Edit) (pool : List Pair) (c : List Slot) (p : Plan) : Type 0 where
-  pub names : NamesWithin (length (widened p c)) p.turned.items
+  pub places : PlacesWithin (length (widened p c)) p.turned.items
   pub swap : SwapWithin (length (widened p c)) p.swap
   pub added : (s : Slot) → p.added ≡ Some s → (s.mark.live ≡ false) × (s.first ≡ s.mark)
   pub within : PairsWithin (length (pooled p e.pair pool)) (planned p c)

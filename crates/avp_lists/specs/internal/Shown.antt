@@ -26,7 +26,7 @@ shows which s = s.mark.live && same_list which s.list
 abbrev pub no_pair : Pair
 no_pair = record { id = Plain 0; value = Int 0 }
 
--- the pair that a slot's mark names
+-- the pair that a slot's mark points to
 abbrev pub slot_pair : List Pair → Slot → Pair
 slot_pair pool s = slice_index_or pool s.mark.pair no_pair
 

@@ -53,14 +53,14 @@ swap_at (Some w) c = slice_set c w.slot (with_other w (slot_at c w.slot))
 
 -- from the state before a step to the one after it, and back
 abbrev pub forward : List ℕ → Option Swap → List Slot → List Slot
-forward names by c = swap_at by (turn_all names c)
+forward places by c = swap_at by (turn_all places c)
 
 abbrev pub backward : List ℕ → Option Swap → List Slot → List Slot
-backward names by c = turn_all names (swap_at by c)
+backward places by c = turn_all places (swap_at by c)
 
--- the slots that are named are among n
-abbrev pub NamesWithin : ℕ → List ℕ → Type 0
-NamesWithin n names = (k : ℕ) → k < length names → slice_index_or names k 0 < n
+-- the slots at these places are among n
+abbrev pub PlacesWithin : ℕ → List ℕ → Type 0
+PlacesWithin n places = (k : ℕ) → k < length places → slice_index_or places k 0 < n
 
 abbrev pub swap_end : Option Swap → ℕ
 swap_end None = 0

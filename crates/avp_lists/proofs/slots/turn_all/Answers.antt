@@ -5,13 +5,13 @@ use Rattle.avp_lists.specs.internal.Slots.{turn, turn_all}
 use Rattle.avp_lists.proofs.Turning.{turn_all_more}
 use Rattle.avp_lists.proofs.slots.turn_all.Goals as goal
 
--- one name more
-pub loop-name-preserved : goal.loop-name-preserved
-loop-name-preserved c =
-    let names = c.args.names.now in
-    let i = c.loop-name.name-index in
-    let within : i < length names = omega (arith, c.loop-name-test.true) in
+-- one place more
+pub loop-place-preserved : goal.loop-place-preserved
+loop-place-preserved c =
+    let places = c.args.places.now in
+    let i = c.loop-place.place-index in
+    let within : i < length places = omega (arith, c.loop-place-test.true) in
     c.turn.ensures
-    ∙ ap (λ (s : List Slot). turn s (get_or names i 0)) c.loop-name.invariant
-    ∙ sym (turn_all_more (take i names) (get_or names i 0) c.args.slots.now)
-    ∙ ap (λ (ns : List ℕ). turn_all ns c.args.slots.now) (sym (take_more names i 0 within))
+    ∙ ap (λ (s : List Slot). turn s (get_or places i 0)) c.loop-place.invariant
+    ∙ sym (turn_all_more (take i places) (get_or places i 0) c.args.slots.now)
+    ∙ ap (λ (ns : List ℕ). turn_all ns c.args.slots.now) (sym (take_more places i 0 within))

@@ -8,4 +8,4 @@ returns c =
     let slots = c.args.slots.now in
     let moved = c.forward.new.slots in
     let long : length moved ≡ slots.len = c.forward.auto.slots ∙ c.as_mut_slice.ensures.len in
-    with_items_is slots moved long ∙ c.forward.ensures ∙ ap (forward c.args.names.now c.args.by) c.as_mut_slice.ensures.value
+    with_items_is slots moved long ∙ c.forward.ensures ∙ ap (forward c.args.places.now c.args.by) c.as_mut_slice.ensures.value

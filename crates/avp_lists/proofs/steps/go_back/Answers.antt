@@ -10,7 +10,7 @@ returns-clause-moved c =
     let slots = c.args.slots.now in
     let steps = c.args.steps.now in
     let at = c.args.at in
-    let x = Turned c.in-Turned.names c.in-Turned.by in
+    let x = Turned c.in-Turned.places c.in-Turned.by in
     let req = c.requires.at in
     let e = change_at_read steps at c.index-steps-at.result x req.1 c.in-Turned.is in
     c.backward.ensures
