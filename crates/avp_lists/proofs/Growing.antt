@@ -8,7 +8,7 @@ use Rattle.avp_lists.specs.declared.steps.Change.{Change}
 use Rattle.avp_lists.specs.declared.steps.Change.TheVariants.{Turned, Back}
 use Rattle.avp_lists.specs.declared.steps.Step.{Step}
 use Rattle.avp_lists.specs.internal.Slots.{no_slot, slot_at, flipped, turn, turn_all, with_other, swap_at, forward, PlacesWithin, SwapWithin}
-use Rattle.avp_lists.specs.internal.Slots.{at_first}
+use Rattle.avp_lists.specs.internal.Slots.{at_initial}
 use Rattle.avp_lists.specs.internal.Steps.{last_or, after, replay, every, slots_at, places_of, swap_of, StepsWithin}
 use Rattle.avp_lists.specs.internal.SlotLaws.{length-every}
 use Rattle.avp_lists.proofs.Turning.{length-turn_all, length-forward}
@@ -81,13 +81,13 @@ replay-grown f d done (e ∷ es) same fits =
     ∙ replay-grown f d (done ++ a ∷ []) es (SameLength-push f done a same (length-after f done e.change same)) (λ k. fits (suc k))
 
 -- the states of slots and more slots, which no step turns
-pub every-grown : (slots more : List Slot) (steps : List Step) → StepsWithin (length slots) steps → every (slots ++ more) steps ≡ map (λ (c : List Slot). c ++ map at_first more) (every slots steps)
+pub every-grown : (slots more : List Slot) (steps : List Step) → StepsWithin (length slots) steps → every (slots ++ more) steps ≡ map (λ (c : List Slot). c ++ map at_initial more) (every slots steps)
 every-grown slots more steps fits =
-    let f = map at_first slots in
-    let d = map at_first more in
+    let f = map at_initial slots in
+    let d = map at_initial more in
     let P : ℕ → Type 0 = λ m. StepsWithin m steps in
-    ap (λ (x : List Slot). replay x [] steps) (map-append at_first slots more)
-    ∙ replay-grown f d [] steps (λ k. refl) (subst P (sym (length-map slots at_first)) fits)
+    ap (λ (x : List Slot). replay x [] steps) (map-append at_initial slots more)
+    ∙ replay-grown f d [] steps (λ k. refl) (subst P (sym (length-map slots at_initial)) fits)
 
 -- each state has all the slots
 SameLength-replay : (f : List Slot) (done : List (List Slot)) (steps : List Step) → SameLength f done → SameLength f (replay f done steps)
@@ -98,8 +98,8 @@ SameLength-replay f done (e ∷ es) same =
 
 pub length-each : (slots : List Slot) (steps : List Step) (k : ℕ) → k < length steps → length (slots_at slots steps k) ≡ length slots
 length-each slots steps k within =
-    let f = map at_first slots in
+    let f = map at_initial slots in
     let inside : k < length (every slots steps) = omega (arith, length-every slots steps) in
     ap length (sym (get_or_default (every slots steps) k f [] inside))
     ∙ SameLength-replay f [] steps (λ j. refl) k
-    ∙ length-map slots at_first
+    ∙ length-map slots at_initial

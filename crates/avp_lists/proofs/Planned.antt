@@ -29,12 +29,12 @@ none_added : (s : Slot) → None ≡ Some s → ⊥
 none_added s h = cc
 
 -- the pair gets a slot of its own
-pub plan-added : (e : Edit) (pool : List Pair) (c : List Slot) (s : Slot) (v : Vec ℕ Global) → PairsWithin (length pool) c → adds_one e.op e.pair.id (shown_pairs e.list pool c) ≡ true → s.list ≡ e.list → s.end ≡ end_for e.op → s.mark.live ≡ false → s.mark.pair ≡ length pool → s.first ≡ s.mark → v.items ≡ length c ∷ [] → IsPlan e pool c (record { turned = v; swap = None; added = Some s })
+pub plan-added : (e : Edit) (pool : List Pair) (c : List Slot) (s : Slot) (v : Vec ℕ Global) → PairsWithin (length pool) c → adds_one e.op e.pair.id (shown_pairs e.list pool c) ≡ true → s.list ≡ e.list → s.end ≡ end_for e.op → s.mark.live ≡ false → s.mark.pair ≡ length pool → s.initial ≡ s.mark → v.items ≡ length c ∷ [] → IsPlan e pool c (record { turned = v; swap = None; added = Some s })
 plan-added e pool c s v fits adds of_list at_end off pair first N =
     let turned : turn_all v.items (c ++ s ∷ []) ≡ c ++ flipped s ∷ [] = ap (λ (ns : List ℕ). turn_all ns (c ++ s ∷ [])) N ∙ added-turned e pool c s fits adds of_list at_end off pair in
     let P : List Slot → Type 0 = λ d. PairsWithin (length (pool ++ e.pair ∷ [])) d in
     let Q : List ℕ → Type 0 = λ ns. PlacesWithin (length (c ++ s ∷ [])) ns in
-    let R : Slot → Type 0 = λ t. (t.mark.live ≡ false) × (t.first ≡ t.mark) in
+    let R : Slot → Type 0 = λ t. (t.mark.live ≡ false) × (t.initial ≡ t.mark) in
     record {
       places = subst Q (sym N) (one_place (length c) (length (c ++ s ∷ [])) (omega (arith, length_push c s)));
       swap = omega arith;

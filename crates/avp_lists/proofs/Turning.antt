@@ -5,7 +5,7 @@ use Rattle.std.proofs.lemmas.List.{length-set, get_or-set_same, get_or-set_other
 use Rattle.avp_lists.specs.declared.slots.Slot.{Slot}
 use Rattle.avp_lists.specs.declared.slots.Swap.{Swap}
 use Rattle.avp_lists.specs.internal.Slots.{no_slot, slot_at, flipped, turn, turn_all, other_pair, with_other, swap_at, forward, backward}
-use Rattle.avp_lists.specs.internal.Slots.{at_first}
+use Rattle.avp_lists.specs.internal.Slots.{at_initial}
 
 pub turn_all_more : (places : List ℕ) (i : ℕ) (c : List Slot) → turn_all (places ++ i ∷ []) c ≡ turn (turn_all places c) i
 turn_all_more [] i c = refl
@@ -29,10 +29,10 @@ not-not true = refl
 not-not false = refl
 
 slot_of : Bool → Slot → Slot
-slot_of b s = record { list = s.list; end = s.end; mark = record { live = b; pair = s.mark.pair }; first = s.first }
+slot_of b s = record { list = s.list; end = s.end; mark = record { live = b; pair = s.mark.pair }; initial = s.initial }
 
 flipped-flipped : (s : Slot) → flipped (flipped s) ≡ s
-flipped-flipped s = ap (λ (b : Bool). let r : Slot = record { list = s.list; end = s.end; mark = record { live = b; pair = s.mark.pair }; first = s.first } in r) (not-not s.mark.live)
+flipped-flipped s = ap (λ (b : Bool). let r : Slot = record { list = s.list; end = s.end; mark = record { live = b; pair = s.mark.pair }; initial = s.initial } in r) (not-not s.mark.live)
 
 pub set_twice : (f : Slot → Slot) → ((s : Slot) → f (f s) ≡ s) → (c : List Slot) (i : ℕ) → set (set c i (f (slot_at c i))) i (f (slot_at (set c i (f (slot_at c i))) i)) ≡ c
 set_twice f back c i =
@@ -82,7 +82,7 @@ other_pair-twice : (old new at : ℕ) → other_pair old new (other_pair old new
 other_pair-twice old new at = grind arith
 
 with_other-twice : (w : Swap) (s : Slot) → with_other w (with_other w s) ≡ s
-with_other-twice w s = ap (λ (n : ℕ). let r : Slot = record { list = s.list; end = s.end; mark = record { live = s.mark.live; pair = n }; first = s.first } in r) (other_pair-twice w.old w.new s.mark.pair)
+with_other-twice w s = ap (λ (n : ℕ). let r : Slot = record { list = s.list; end = s.end; mark = record { live = s.mark.live; pair = n }; initial = s.initial } in r) (other_pair-twice w.old w.new s.mark.pair)
 
 pub swap_at-twice : (by : Option Swap) (c : List Slot) → swap_at by (swap_at by c) ≡ c
 swap_at-twice None c = refl
@@ -92,26 +92,26 @@ pub backward-forward : (places : List ℕ) (by : Option Swap) (c : List Slot) �
 backward-forward places by c = ap (turn_all places) (swap_at-twice by (turn_all places c)) ∙ turn_all-twice places c
 
 -- the first state's slots stay
-pub firsts-set : (f : Slot → Slot) → ((s : Slot) → at_first (f s) ≡ at_first s) → (c : List Slot) (i : ℕ) → map at_first (set c i (f (slot_at c i))) ≡ map at_first c
-firsts-set f same c i = map-set at_first c i (f (slot_at c i)) ∙ elim (cases_lt i (length c)) [
+pub initials-set : (f : Slot → Slot) → ((s : Slot) → at_initial (f s) ≡ at_initial s) → (c : List Slot) (i : ℕ) → map at_initial (set c i (f (slot_at c i))) ≡ map at_initial c
+initials-set f same c i = map-set at_initial c i (f (slot_at c i)) ∙ elim (cases_lt i (length c)) [
   | inl within ↦
-      ap (set (map at_first c) i) (same (slot_at c i) ∙ sym (get_or-map at_first c i no_slot no_slot within))
-      ∙ set-get_or (map at_first c) i no_slot
+      ap (set (map at_initial c) i) (same (slot_at c i) ∙ sym (get_or-map at_initial c i no_slot no_slot within))
+      ∙ set-get_or (map at_initial c) i no_slot
   | inr past ↦
-      let long : length (map at_first c) ≤ i = omega (arith, length-map c at_first) in
-      set_past (map at_first c) i (at_first (f (slot_at c i))) long
+      let long : length (map at_initial c) ≤ i = omega (arith, length-map c at_initial) in
+      set_past (map at_initial c) i (at_initial (f (slot_at c i))) long
 ]
 
-pub firsts-turn_all : (places : List ℕ) (c : List Slot) → map at_first (turn_all places c) ≡ map at_first c
-firsts-turn_all [] c = refl
-firsts-turn_all (i ∷ is) c = firsts-turn_all is (turn c i) ∙ firsts-set flipped (λ s. refl) c i
+pub initials-turn_all : (places : List ℕ) (c : List Slot) → map at_initial (turn_all places c) ≡ map at_initial c
+initials-turn_all [] c = refl
+initials-turn_all (i ∷ is) c = initials-turn_all is (turn c i) ∙ initials-set flipped (λ s. refl) c i
 
-pub firsts-swap_at : (by : Option Swap) (c : List Slot) → map at_first (swap_at by c) ≡ map at_first c
-firsts-swap_at None c = refl
-firsts-swap_at (Some w) c = firsts-set (with_other w) (λ s. refl) c w.slot
+pub initials-swap_at : (by : Option Swap) (c : List Slot) → map at_initial (swap_at by c) ≡ map at_initial c
+initials-swap_at None c = refl
+initials-swap_at (Some w) c = initials-set (with_other w) (λ s. refl) c w.slot
 
-pub firsts-forward : (places : List ℕ) (by : Option Swap) (c : List Slot) → map at_first (forward places by c) ≡ map at_first c
-firsts-forward places by c = firsts-swap_at by (turn_all places c) ∙ firsts-turn_all places c
+pub initials-forward : (places : List ℕ) (by : Option Swap) (c : List Slot) → map at_initial (forward places by c) ≡ map at_initial c
+initials-forward places by c = initials-swap_at by (turn_all places c) ∙ initials-turn_all places c
 
-pub firsts-backward : (places : List ℕ) (by : Option Swap) (c : List Slot) → map at_first (backward places by c) ≡ map at_first c
-firsts-backward places by c = firsts-turn_all places (swap_at by c) ∙ firsts-swap_at by c
+pub initials-backward : (places : List ℕ) (by : Option Swap) (c : List Slot) → map at_initial (backward places by c) ≡ map at_initial c
+initials-backward places by c = initials-turn_all places (swap_at by c) ∙ initials-swap_at by c

@@ -107,7 +107,7 @@ fn plan_addition(
         list: edit.list,
         end: end_for(edit.op),
         mark,
-        first: mark,
+        initial: mark,
     };
     Ok(Plan {
         turned,

@@ -86,7 +86,7 @@ fn push_firsts(slots: &mut Vec<Slot>, list: List, from: usize, end: usize)
             list,
             end: End::Tail,
             mark,
-            first: mark,
+            initial: mark,
         };
         slots.push(slot).unwrap();
     }

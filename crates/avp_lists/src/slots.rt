@@ -25,7 +25,7 @@ pub(crate) struct Slot {
     pub list: List,
     pub end: End,
     pub mark: Mark,
-    pub first: Mark,
+    pub initial: Mark,
 }
 
 // The slot of a replaced pair, and the places in the pool of the pairs that it shows before and after.
@@ -130,7 +130,7 @@ fn keep_marks_of(slots: &mut [Slot])
     ensures { slots.new ≡ map kept slots.old }
 {
     for slot in slots.iter_mut() {
-        slot.first = slot.mark;
+        slot.initial = slot.mark;
     }
 }
 

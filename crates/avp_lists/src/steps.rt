@@ -1,6 +1,6 @@
 //! The steps that lead from state to state, and the moves along them.
 ghost use Rattle.std.specs.Prelude.{◌≡◌, ◌+◌, ◌-◌, ◌≤◌, ◌<◌, ◌∷◌, ◌++◌, [], OnOk, IsOk, true, length, take, map, min, vec_capacity};
-ghost use Rattle.avp_lists.specs.internal.Slots.{at_first};
+ghost use Rattle.avp_lists.specs.internal.Slots.{at_initial};
 ghost use Rattle.avp_lists.specs.internal.Steps.{slots_at, change_at, turns, node, StepsWithin, BacksBelow};
 
 use crate::slots::{Slot, Swap, backward, forward};
@@ -88,7 +88,7 @@ fn go_back(slots: &mut [Slot], steps: &[Step], at: usize)
     requires at { (0 < at) × (at < length steps.now) × (turns (change_at steps.now at) ≡ true) }
     requires standing { slots.old ≡ slots_at slots.old steps.now at }
     ensures moved { slots.new ≡ slots_at slots.old steps.now (at - 1) }
-    ensures firsts { map at_first slots.new ≡ map at_first slots.old }
+    ensures initials { map at_initial slots.new ≡ map at_initial slots.old }
 {
     match &steps[at].change {
         Change::Turned(places, by) => backward(slots, places.as_slice(), *by),
@@ -102,7 +102,7 @@ fn go_ahead(slots: &mut [Slot], steps: &[Step], at: usize)
     requires at { (0 < at) × (at < length steps.now) × (turns (change_at steps.now at) ≡ true) }
     requires standing { slots.old ≡ slots_at slots.old steps.now (at - 1) }
     ensures moved { slots.new ≡ slots_at slots.old steps.now at }
-    ensures firsts { map at_first slots.new ≡ map at_first slots.old }
+    ensures initials { map at_initial slots.new ≡ map at_initial slots.old }
 {
     match &steps[at].change {
         Change::Turned(places, by) => forward(slots, places.as_slice(), *by),
@@ -120,7 +120,7 @@ fn travel(slots: &mut [Slot], steps: &[Step], nexts: &mut [usize], from: usize, 
     requires to { (to < length steps.now) × (turns (change_at steps.now to) ≡ true) }
     requires standing { slots.old ≡ slots_at slots.old steps.now from }
     ensures moved { slots.new ≡ slots_at slots.old steps.now to }
-    ensures firsts { map at_first slots.new ≡ map at_first slots.old }
+    ensures initials { map at_initial slots.new ≡ map at_initial slots.old }
 {
     let mut here = from;
     let mut far = to;
@@ -155,7 +155,7 @@ pub(crate) fn move_to(
     requires to { to < length steps.now }
     requires standing { slots_at slots.old.items steps.now from ≡ slots.old.items }
     ensures standing { slots_at slots.new.items steps.now to ≡ slots.new.items }
-    ensures firsts { map at_first slots.new.items ≡ map at_first slots.old.items }
+    ensures initials { map at_initial slots.new.items ≡ map at_initial slots.old.items }
     ensures slots { length slots.new.items ≡ length slots.old.items }
     ensures nexts { length nexts.new.items ≡ length nexts.old.items }
     ensures capacity { vec_capacity nexts.new ≡ vec_capacity nexts.old }

@@ -56,7 +56,7 @@ pooled p pair pool = if enters p then pool ++ pair ∷ [] else pool
 pub record IsPlan (e : Edit) (pool : List Pair) (c : List Slot) (p : Plan) : Type 0 where
   pub places : PlacesWithin (length (widened p c)) p.turned.items
   pub swap : SwapWithin (length (widened p c)) p.swap
-  pub added : (s : Slot) → p.added ≡ Some s → (s.mark.live ≡ false) × (s.first ≡ s.mark)
+  pub added : (s : Slot) → p.added ≡ Some s → (s.mark.live ≡ false) × (s.initial ≡ s.mark)
   pub within : PairsWithin (length (pooled p e.pair pool)) (planned p c)
   pub state : shown_state (pooled p e.pair pool) (planned p c) ≡ edited e (shown_state pool c)
 
@@ -67,7 +67,7 @@ fresh_slot which at =
       list = which;
       end = Tail;
       mark = record { live = true; pair = at };
-      first = record { live = true; pair = at };
+      initial = record { live = true; pair = at };
     }
 
 abbrev pub fresh : WhichList → ℕ → ℕ → List Slot

@@ -11,7 +11,7 @@ abbrev pub no_mark : Mark
 no_mark = record { live = false; pair = 0 }
 
 abbrev pub no_slot : Slot
-no_slot = record { list = Request; end = Head; mark = no_mark; first = no_mark }
+no_slot = record { list = Request; end = Head; mark = no_mark; initial = no_mark }
 
 -- the slot at a place; past the last one none
 abbrev pub slot_at : List Slot → ℕ → Slot
@@ -22,12 +22,12 @@ abbrev pub is_live : Slot → Bool
 is_live s = s.mark.live
 
 -- the slot as it is in the first state
-abbrev pub at_first : Slot → Slot
-at_first s = record s { mark = s.first }
+abbrev pub at_initial : Slot → Slot
+at_initial s = record s { mark = s.initial }
 
 -- the slot with the present mark as that of the first state
 abbrev pub kept : Slot → Slot
-kept s = record s { first = s.mark }
+kept s = record s { initial = s.mark }
 
 -- the slot with its mark turned
 abbrev pub flipped : Slot → Slot

@@ -7,7 +7,7 @@ use Rattle.avp_lists.specs.declared.slots.Swap.{Swap}
 use Rattle.avp_lists.specs.declared.steps.Change.{Change}
 use Rattle.avp_lists.specs.declared.steps.Change.TheVariants.{Turned, Back}
 use Rattle.avp_lists.specs.declared.steps.Step.{Step}
-use Rattle.avp_lists.specs.internal.Slots.{at_first, forward, PlacesWithin, SwapWithin, Housed}
+use Rattle.avp_lists.specs.internal.Slots.{at_initial, forward, PlacesWithin, SwapWithin, Housed}
 use Rattle.avp_lists.specs.internal.Shown.{shown_state}
 use Rattle.avp_lists.specs.States.{empty_state, IsLimited}
 
@@ -27,7 +27,7 @@ replay first done [] = done
 replay first done (e ∷ es) = replay first (done ++ after first done e.change ∷ []) es
 
 abbrev pub every : List Slot → List Step → List (List Slot)
-every slots steps = replay (map at_first slots) [] steps
+every slots steps = replay (map at_initial slots) [] steps
 
 -- the slots of the state at a place
 abbrev pub slots_at : List Slot → List Step → ℕ → List Slot

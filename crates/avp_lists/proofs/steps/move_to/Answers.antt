@@ -1,7 +1,7 @@
 use Rattle.std.proofs.Common.{◌≡◌, List, length, map, sym, ap, ◌∙◌, subst, []}
 use Rattle.std.proofs.lemmas.List.{with_items_is}
 use Rattle.avp_lists.specs.declared.slots.Slot.{Slot}
-use Rattle.avp_lists.specs.internal.Slots.{at_first}
+use Rattle.avp_lists.specs.internal.Slots.{at_initial}
 use Rattle.avp_lists.specs.internal.Steps.{slots_at, node}
 use Rattle.avp_lists.proofs.Moves.{standing-moved, node_within, node_standing}
 use Rattle.avp_lists.proofs.steps.move_to.Goals as goal
@@ -21,17 +21,17 @@ returns-clause-standing c =
     let steps = c.args.steps.now in
     let moved = c.travel.new.slots in
     let long : length moved ≡ slots.len = c.travel.auto.slots ∙ c.as_mut_slice.ensures.len in
-    let firsts : map at_first moved ≡ map at_first slots.items = c.travel.ensures.firsts ∙ ap (map at_first) c.as_mut_slice.ensures.value in
+    let initials : map at_initial moved ≡ map at_initial slots.items = c.travel.ensures.initials ∙ ap (map at_initial) c.as_mut_slice.ensures.value in
     let at : moved ≡ slots_at slots.items steps (node steps c.args.to) =
     c.travel.ensures.moved
     ∙ ap (λ (xs : List Slot). slots_at xs steps c.node-there.result) c.as_mut_slice.ensures.value
     ∙ ap (slots_at slots.items steps) c.node-there.ensures in
     let P : List Slot → Type 0 = λ xs. slots_at xs steps c.args.to ≡ xs in
-    subst P (sym (with_items_is slots moved long)) (standing-moved [] slots.items moved steps firsts c.args.to c.requires.below c.requires.to at)
+    subst P (sym (with_items_is slots moved long)) (standing-moved [] slots.items moved steps initials c.args.to c.requires.below c.requires.to at)
 
-pub returns-clause-firsts : goal.returns-clause-firsts
-returns-clause-firsts c =
+pub returns-clause-initials : goal.returns-clause-initials
+returns-clause-initials c =
     let slots = c.args.slots.now in
     let moved = c.travel.new.slots in
     let long : length moved ≡ slots.len = c.travel.auto.slots ∙ c.as_mut_slice.ensures.len in
-    ap (map at_first) (with_items_is slots moved long) ∙ c.travel.ensures.firsts ∙ ap (map at_first) c.as_mut_slice.ensures.value
+    ap (map at_initial) (with_items_is slots moved long) ∙ c.travel.ensures.initials ∙ ap (map at_initial) c.as_mut_slice.ensures.value

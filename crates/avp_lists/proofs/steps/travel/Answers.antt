@@ -25,8 +25,8 @@ back-preserved-then-far-here c =
     let there : node steps (h - 1) < length steps = omega arith in
     let P : ℕ → Type 0 = λ n. (n < length steps) × (turns (change_at steps n) ≡ true) in
     record {
-      standing = c.go_back.ensures.moved ∙ slots_at-same c.back.slots first steps (h - 1) inv.firsts ∙ sym fits.2 ∙ ap (slots_at first steps) (sym c.node-here.ensures);
-      firsts = c.go_back.ensures.firsts ∙ inv.firsts;
+      standing = c.go_back.ensures.moved ∙ slots_at-same c.back.slots first steps (h - 1) inv.initials ∙ sym fits.2 ∙ ap (slots_at first steps) (sym c.node-here.ensures);
+      initials = c.go_back.ensures.initials ∙ inv.initials;
       here = subst P (sym c.node-here.ensures) (there, fits.1);
       far = inv.far;
       leads = inv.leads;
@@ -67,7 +67,7 @@ back-preserved c =
     let within : p < length c.back.nexts = omega (arith, c.back.auto.nexts, c.requires.beside) in
     record {
       standing = inv.standing;
-      firsts = inv.firsts;
+      initials = inv.initials;
       here = inv.here;
       far = subst P (sym is) (there, fits.1);
       leads = (suc inv.leads.0, leads_before steps c.back.nexts inv.leads.0 f c.args.to p within below inv.far.0 inv.far.1 (sym is) inv.leads.1);
@@ -93,7 +93,7 @@ go_ahead-requires-clause-standing c =
     let next = leads_next steps c.back.nexts inv.leads.0 h c.args.to inv.leads.1 c.ahead-test.true in
     let lt : n - 1 < length steps = omega (arith, next.1) in
     let fits = node_fits first steps (n - 1) c.requires.below lt in
-    inv.standing ∙ ap (slots_at first steps) (sym next.3) ∙ fits.2 ∙ slots_at-same first c.ahead.slots steps (n - 1) (sym inv.firsts)
+    inv.standing ∙ ap (slots_at first steps) (sym next.3) ∙ fits.2 ∙ slots_at-same first c.ahead.slots steps (n - 1) (sym inv.initials)
 
 pub ahead-smaller : goal.ahead-smaller
 ahead-smaller c =
@@ -112,8 +112,8 @@ ahead-preserved c =
     let n = get_or c.back.nexts h 0 in
     let next = leads_next steps c.back.nexts inv.leads.0 h c.args.to inv.leads.1 c.ahead-test.true in
     record {
-      standing = c.go_ahead.ensures.moved ∙ slots_at-same c.ahead.slots first steps n inv.firsts;
-      firsts = c.go_ahead.ensures.firsts ∙ inv.firsts;
+      standing = c.go_ahead.ensures.moved ∙ slots_at-same c.ahead.slots first steps n inv.initials;
+      initials = c.go_ahead.ensures.initials ∙ inv.initials;
       here = next.1;
       leads = next.4;
     }

@@ -1,5 +1,5 @@
 use Rattle.std.proofs.Common.{◌≡◌, ◌<◌, ◌+◌, ◌-◌, ℕ, true, length, map}
-use Rattle.avp_lists.specs.internal.Slots.{at_first}
+use Rattle.avp_lists.specs.internal.Slots.{at_initial}
 use Rattle.avp_lists.specs.internal.Steps.{slots_at, change_at, turns}
 use Rattle.avp_lists.proofs.NextPlaces.{Leads}
 use Rattle.avp_lists.proofs.steps.travel.Given as goal
@@ -7,7 +7,7 @@ use Rattle.avp_lists.proofs.steps.travel.Given as goal
 abbrev pub invariant-back : goal.invariant-back
 invariant-back l = record {
   standing : l.slots ≡ slots_at l.fn.slots l.steps l.here;
-  firsts : map at_first l.slots ≡ map at_first l.fn.slots;
+  initials : map at_initial l.slots ≡ map at_initial l.fn.slots;
   here : (l.here < length l.steps) × (turns (change_at l.steps l.here) ≡ true);
   far : (l.far < length l.steps) × (turns (change_at l.steps l.far) ≡ true);
   leads : (n : ℕ) × Leads l.steps l.nexts n l.far l.to;
@@ -19,7 +19,7 @@ decreases-back l = l.here + l.far
 abbrev pub invariant-ahead : goal.invariant-ahead
 invariant-ahead l = record {
   standing : l.slots ≡ slots_at l.fn.slots l.steps l.here;
-  firsts : map at_first l.slots ≡ map at_first l.fn.slots;
+  initials : map at_initial l.slots ≡ map at_initial l.fn.slots;
   here : l.here < length l.steps;
   leads : (n : ℕ) × Leads l.steps l.nexts n l.here l.to;
 }

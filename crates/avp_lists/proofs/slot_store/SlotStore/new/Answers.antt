@@ -42,7 +42,7 @@ invariant_of-result c =
     let e : Step = record { change = Turned v None; slots = c.len-4.result; pairs = c.len-5.result } in
     let N = c.cut_and_push.ensures.steps in
     let Z = c.new.ensures.items in
-    let firsts = start.1 in
+    let initials = start.1 in
     let slots_len : e.slots ≡ length slots = omega (arith, c.len-4.ensures, c.add_list-3.new.slots.ok.0) in
     let pairs_len : e.pairs ≡ length pool = omega (arith, c.len-5.ensures, c.add_list-3.new.pool.ok.0) in
     let H : Housed e.slots e.pairs slots = rw (slots_len, pairs_len) (housed_all (length pool) slots start.2) in
@@ -51,13 +51,13 @@ invariant_of-result c =
     record {
       placed = omega (arith, ap length N);
       beside = c.cut_and_push.ensures.nexts ∙ sym (ap length N);
-      below = below-alone slots steps v e firsts N refl Z;
-      counted = counted-alone slots steps v e firsts N refl Z;
-      counts = counts-alone slots steps v e firsts N refl Z (length slots) (length pool) (omega (arith, slots_len)) (omega (arith, pairs_len));
-      grow = grow-alone slots steps v e firsts N refl Z;
-      housed = housed-alone slots steps v e firsts N refl Z H;
-      standing = standing-alone slots steps v e firsts N refl Z;
-      limited = limited-alone slots steps v e firsts N refl Z pool (subst IsLimited (sym start.0) few);
+      below = below-alone slots steps v e initials N refl Z;
+      counted = counted-alone slots steps v e initials N refl Z;
+      counts = counts-alone slots steps v e initials N refl Z (length slots) (length pool) (omega (arith, slots_len)) (omega (arith, pairs_len));
+      grow = grow-alone slots steps v e initials N refl Z;
+      housed = housed-alone slots steps v e initials N refl Z H;
+      standing = standing-alone slots steps v e initials N refl Z;
+      limited = limited-alone slots steps v e initials N refl Z pool (subst IsLimited (sym start.0) few);
     }
 
 pub returns-clause-ok : goal.returns-clause-ok
