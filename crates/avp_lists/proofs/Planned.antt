@@ -13,7 +13,7 @@ use Rattle.avp_lists.specs.declared.slots.Swap.{Swap}
 use Rattle.avp_lists.specs.internal.Growth.{adds_one, removes}
 use Rattle.avp_lists.specs.Instances.{has_id}
 use Rattle.avp_lists.specs.Operators.{apply}
-use Rattle.avp_lists.specs.internal.Plans.{end_for, taken, places_in, IsPlan}
+use Rattle.avp_lists.specs.internal.Plans.{end_for, is_taken, places_in, IsPlan}
 use Rattle.avp_lists.specs.internal.Shown.{shows_id, ahead_at, shown_pairs, shown_state}
 use Rattle.avp_lists.specs.internal.Slots.{no_slot, slot_at, flipped, turn_all, with_other, forward, PlacesWithin, PairsWithin}
 use Rattle.avp_lists.specs.States.{edited}
@@ -58,12 +58,12 @@ plain e pool c d v places turned within state =
     }
 
 -- pairs go
-pub plan-removed : (e : Edit) (pool : List Pair) (c : List Slot) (v : Vec ℕ Global) → PairsWithin (length pool) c → removes e.op ≡ true → v.items ≡ places_in (taken e pool) 0 c → IsPlan e pool c (record { turned = v; swap = None; added = None })
+pub plan-removed : (e : Edit) (pool : List Pair) (c : List Slot) (v : Vec ℕ Global) → PairsWithin (length pool) c → removes e.op ≡ true → v.items ≡ places_in (is_taken e pool) 0 c → IsPlan e pool c (record { turned = v; swap = None; added = None })
 plan-removed e pool c v fits rem N =
     let Q : List ℕ → Type 0 = λ ns. PlacesWithin (length c) ns in
-    let places : PlacesWithin (length c) (places_in (taken e pool) 0 c) = λ i h. omega (arith, places_in-within (taken e pool) 0 c i h) in
-    plain e pool c (map (turned_if (taken e pool)) c) v (subst Q (sym N) places)
-    (ap (λ (ns : List ℕ). turn_all ns c) N ∙ turned_where (taken e pool) [] c)
+    let places : PlacesWithin (length c) (places_in (is_taken e pool) 0 c) = λ i h. omega (arith, places_in-within (is_taken e pool) 0 c i h) in
+    plain e pool c (map (turned_if (is_taken e pool)) c) v (subst Q (sym N) places)
+    (ap (λ (ns : List ℕ). turn_all ns c) N ∙ turned_where (is_taken e pool) [] c)
     (taken-within e pool (length pool) c fits)
     (state-removed e pool c rem)
 
@@ -87,13 +87,13 @@ places_both n (x ∷ xs) b left right zero h = left 0 (omega arith)
 places_both n (x ∷ xs) b left right (suc i) h = places_both n xs b (λ j lt. left (suc j) (omega (arith, lt))) right i (omega (arith, h))
 
 -- the pair takes the place of another
-pub plan-replaced : (e : Edit) (pool : List Pair) (c : List Slot) (first : ℕ) (w : Swap) (v : Vec ℕ Global) → PairsWithin (length pool) c → e.op ≡ Replace → first < length c → shows_id e.list e.pair.id pool (slot_at c first) ≡ true → list_any (shows_id e.list e.pair.id pool) (ahead_at first c) ≡ false → w.slot ≡ first → w.old ≡ (slot_at c first).mark.pair → w.new ≡ length pool → v.items ≡ places_in (taken e pool) 0 (take first c) ++ places_in (taken e pool) (first + 1) (drop (first + 1) c) → IsPlan e pool c (record { turned = v; swap = Some w; added = None })
+pub plan-replaced : (e : Edit) (pool : List Pair) (c : List Slot) (first : ℕ) (w : Swap) (v : Vec ℕ Global) → PairsWithin (length pool) c → e.op ≡ Replace → first < length c → shows_id e.list e.pair.id pool (slot_at c first) ≡ true → list_any (shows_id e.list e.pair.id pool) (ahead_at first c) ≡ false → w.slot ≡ first → w.old ≡ (slot_at c first).mark.pair → w.new ≡ length pool → v.items ≡ places_in (is_taken e pool) 0 (take first c) ++ places_in (is_taken e pool) (first + 1) (drop (first + 1) c) → IsPlan e pool c (record { turned = v; swap = Some w; added = None })
 plan-replaced e pool c first w v fits op within shown none at old new N =
     let before = take first c in
     let s = slot_at c first in
     let after = drop (first + 1) c in
     let other = pool ++ e.pair ∷ [] in
-    let p = taken e pool in
+    let p = is_taken e pool in
     let le : first ≤ length c = omega (arith, within) in
     let long : length before ≡ first = length-take-le first c le in
     let whole : c ≡ before ++ s ∷ after = sym (take-append-drop first c) ∙ ap (λ (xs : List Slot). before ++ xs) (drop_more c first no_slot within) in

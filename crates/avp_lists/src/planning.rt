@@ -4,7 +4,7 @@ ghost use Rattle.std.specs.List.{list_any};
 ghost use Rattle.avp_lists.specs.internal.Slots.{slot_at, PairsWithin};
 ghost use Rattle.avp_lists.specs.internal.Shown.{shows_id, ahead_at, shown_pairs};
 ghost use Rattle.avp_lists.specs.internal.Growth.{adds_one, removes};
-ghost use Rattle.avp_lists.specs.internal.Plans.{enters, end_for, goes, taken, places_in, IsPlan};
+ghost use Rattle.avp_lists.specs.internal.Plans.{enters, end_for, is_removed, is_taken, places_in, IsPlan};
 ghost use Rattle.avp_lists.specs.declared.edits.Op.TheVariants.{AddNew, Replace};
 
 use crate::edits::{Edit, Op};
@@ -35,8 +35,8 @@ impl Plan {
 }
 
 // Whether the operator takes the other pair away, where it is not the first instance.
-fn goes(op: Op, pair: &Pair, other: &Pair) -> bool
-    ensures { result ≡ goes op pair.now other.now }
+fn is_removed(op: Op, pair: &Pair, other: &Pair) -> bool
+    ensures { result ≡ is_removed op pair.now other.now }
 {
     match op {
         Op::AddNew | Op::Append | Op::Prepend => false,
@@ -47,11 +47,11 @@ fn goes(op: Op, pair: &Pair, other: &Pair) -> bool
 }
 
 // Whether an edit takes the pair of the slot away.
-fn taken(slot: &Slot, pool: &[Pair], edit: &Edit) -> bool
+fn is_taken(slot: &Slot, pool: &[Pair], edit: &Edit) -> bool
     requires { slot.now.mark.live ≡ true → slot.now.mark.pair < length pool.now }
-    ensures { result ≡ taken edit.now pool.now slot.now }
+    ensures { result ≡ is_taken edit.now pool.now slot.now }
 {
-    shows(slot, edit.list) && goes(edit.op, &edit.pair, &pool[slot.mark.pair])
+    shows(slot, edit.list) && is_removed(edit.op, &edit.pair, &pool[slot.mark.pair])
 }
 
 // The slots from a place on whose pairs an edit takes away.
@@ -65,10 +65,10 @@ fn push_going(
     requires pooled { PairsWithin (length pool.now) slots.now }
     requires from { from ≤ length slots.now }
     ensures { OnOk result (places.new.items
-        ≡ places.old.items ++ places_in (taken edit.now pool.now) from (drop from slots.now)) }
+        ≡ places.old.items ++ places_in (is_taken edit.now pool.now) from (drop from slots.now)) }
 {
     for place in from..slots.len() {
-        if taken(&slots[place], pool, edit) {
+        if is_taken(&slots[place], pool, edit) {
             places.push(place)?;
         }
     }

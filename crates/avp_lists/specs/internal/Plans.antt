@@ -22,16 +22,16 @@ end_for Prepend = Head
 end_for _ = Tail
 
 -- an operator takes the other pair away, where it is not the first instance
-abbrev pub goes : Op → Pair → Pair → Bool
-goes RemoveEqual p q = pair_eq q p
-goes KeepEqual p q = has_id p.id q && not (pair_eq q p)
-goes RemoveAll p q = has_id p.id q
-goes Replace p q = has_id p.id q
-goes _ p q = false
+abbrev pub is_removed : Op → Pair → Pair → Bool
+is_removed RemoveEqual p q = pair_eq q p
+is_removed KeepEqual p q = has_id p.id q && not (pair_eq q p)
+is_removed RemoveAll p q = has_id p.id q
+is_removed Replace p q = has_id p.id q
+is_removed _ p q = false
 
 -- the pair of the slot is taken away
-abbrev pub taken : Edit → List Pair → Slot → Bool
-taken e pool s = shows e.list s && goes e.op e.pair (slot_pair pool s)
+abbrev pub is_taken : Edit → List Pair → Slot → Bool
+is_taken e pool s = shows e.list s && is_removed e.op e.pair (slot_pair pool s)
 
 -- the places of the slots that pass, the first of these slots at n
 abbrev pub places_in : (Slot → Bool) → ℕ → List Slot → List ℕ
