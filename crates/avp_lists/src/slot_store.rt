@@ -15,9 +15,8 @@ use crate::pairs::{AttrId, Pair};
 use crate::planning::{Plan, plan_edit};
 use crate::showing::{count_shown, first_shown, first_slot, pair_shown, shown_pairs};
 use crate::slots::{End, Mark, Slot, forget_dark, turn_slots};
-use crate::snapshots::ListsRefused;
 use crate::steps::{Change, Step, cut_and_push, make_room, make_room_beside, move_to, node};
-use crate::store::Store;
+use crate::store::{ListsRefused, Store};
 use std::alloc::{AllocError, Global};
 
 /// A store that keeps one set of lists, and what each step turned in them.

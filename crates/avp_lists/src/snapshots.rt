@@ -8,7 +8,7 @@ use crate::lists::{List, MAX_PAIRS, Pairs, State, copies};
 use crate::operators::{edited, find_instance, is_full};
 use crate::pairs::{AttrId, Pair};
 use crate::steps::make_room;
-use crate::store::Store;
+use crate::store::{ListsRefused, Store};
 use std::alloc::{AllocError, Global};
 
 // A state of the history.
@@ -46,14 +46,6 @@ fn cut_and_push(
     snapshots.truncate(end);
     snapshots.push(snapshot).unwrap();
     Ok(())
-}
-
-/// The lists of a store for which there was no memory.
-#[derive(Debug, Drop)]
-pub struct ListsRefused {
-    pub request: Vec<Pair>,
-    pub reply: Vec<Pair>,
-    pub control: Vec<Pair>,
 }
 
 impl SnapshotStore {
