@@ -1,15 +1,14 @@
 //! A store that keeps one set of lists, and a journal of what each step turned in them.
-ghost use Rattle.std.specs.Prelude.{◌≡◌, ◌↔◌, IsTrue, not, ◌+◌, ◌-◌, ◌≤◌, ◌<◌, ◌++◌, [], OnOk, OnErr, IfOk, IfErr, length, take, min, vec_capacity};
+ghost use Rattle.std.specs.Prelude.{◌≡◌, ◌↔◌, IsTrue, ◌+◌, ◌-◌, ◌≤◌, ◌<◌, ◌++◌, [], OnOk, OnErr, IfOk, IfErr, length, take, min, vec_capacity};
 ghost use Rattle.std.specs.Option.{option_to_list};
 ghost use Rattle.avp_lists.specs.Instances.{has_instance};
-ghost use Rattle.avp_lists.specs.internal.Growth.{adds_one};
 ghost use Rattle.avp_lists.specs.History.{starting, present, after_edit, at_place};
 ghost use Rattle.avp_lists.specs.States.{list_of, edited, IsFull, IsLimited};
 ghost use Rattle.avp_lists.specs.internal.Slots.{PlacesWithin, SwapWithin};
 ghost use Rattle.avp_lists.specs.internal.Steps.{slots_at, max_kept, BacksBelow, AllCounted, CountsWithin, CountsGrow, AllHoused, StatesLimited};
 ghost use Rattle.avp_lists.specs.internal.Plans.{pooled, widened, planned, fresh};
 
-use crate::edits::{Edit, EditFault, Op};
+use crate::edits::{Edit, EditFault};
 use crate::lists::{List, MAX_PAIRS};
 use crate::pairs::{AttrId, Pair};
 use crate::planning::{Plan, plan_edit};
@@ -241,36 +240,23 @@ impl SlotStore {
         })
     }
 
-    // Whether the list has no instance of the id.
-    fn has_none(&self, list: List, id: AttrId) -> bool
-        ensures { result ≡ not (has_instance id
-            (list_of list (present (⟦<SlotStore as Store>⟧.history self.now)))) }
-    {
-        first_slot(&self.slots, &self.pool, list, id).is_none()
-    }
-
-    // Whether the operator makes the list longer.
-    fn adds_one(&self, list: List, op: Op, id: AttrId) -> bool
-        ensures { result ≡ adds_one op id
+    // Whether the list has an instance of the id.
+    fn has_instance(&self, list: List, id: AttrId) -> bool
+        ensures { result ≡ has_instance id
             (list_of list (present (⟦<SlotStore as Store>⟧.history self.now))) }
     {
-        match op {
-            Op::Append | Op::Prepend => true,
-            Op::AddNew | Op::Replace => self.has_none(list, id),
-            Op::RemoveEqual | Op::KeepEqual | Op::RemoveAll => false,
-        }
+        first_slot(&self.slots, &self.pool, list, id).is_some()
     }
 
-    // Whether the edit would make its list too long. The pairs are counted only where one is added, and there are slots
-    // enough for a full list.
+    // Whether the edit would make its list too long.
     fn is_full(&self, edit: &Edit) -> bool
         ensures { IsTrue result ↔ IsFull edit.now
             (present (⟦<SlotStore as Store>⟧.history self.now)) }
     {
-        if self.slots.len() < MAX_PAIRS {
-            return false;
-        }
-        self.adds_one(edit.list, edit.op, edit.pair.id) && self.count(edit.list) == MAX_PAIRS
+        self.count(edit.list) == MAX_PAIRS
+            && edit
+                .op
+                .lengthens(self.has_instance(edit.list, edit.pair.id))
     }
 
     // Goes to the state at a place.
