@@ -31,7 +31,7 @@ not-not false = refl
 slot_of : Bool → Slot → Slot
 slot_of b s = record { list = s.list; end = s.end; mark = record { live = b; pair = s.mark.pair }; initial = s.initial }
 
-flipped-flipped : (s : Slot) → flipped (flipped s) ≡ s
+pub flipped-flipped : (s : Slot) → flipped (flipped s) ≡ s
 flipped-flipped s = ap (λ (b : Bool). let r : Slot = record { list = s.list; end = s.end; mark = record { live = b; pair = s.mark.pair }; initial = s.initial } in r) (not-not s.mark.live)
 
 pub set_twice : (f : Slot → Slot) → ((s : Slot) → f (f s) ≡ s) → (c : List Slot) (i : ℕ) → set (set c i (f (slot_at c i))) i (f (slot_at (set c i (f (slot_at c i))) i)) ≡ c
@@ -115,3 +115,6 @@ initials-forward places by c = initials-swap_at by (turn_all places c) ∙ initi
 
 pub initials-backward : (places : List ℕ) (by : Option Swap) (c : List Slot) → map at_initial (backward places by c) ≡ map at_initial c
 initials-backward places by c = initials-turn_all places (swap_at by c) ∙ initials-swap_at by c
+
+pub same-length : (c d : List Slot) → map at_initial c ≡ map at_initial d → length c ≡ length d
+same-length c d same = sym (length-map c at_initial) ∙ ap length same ∙ length-map d at_initial

@@ -8,6 +8,7 @@
 mod bytes;
 mod edits;
 mod lists;
+mod live;
 mod operators;
 mod pairs;
 mod planning;
@@ -18,6 +19,7 @@ mod snapshots;
 mod steps;
 mod store;
 mod undoing;
+mod vectors;
 
 pub use bytes::Octets;
 pub use edits::{Edit, EditFault, Op};

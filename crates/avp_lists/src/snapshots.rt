@@ -7,8 +7,8 @@ use crate::edits::{Edit, EditFault};
 use crate::lists::{List, MAX_PAIRS, Pairs, State, copies};
 use crate::operators::{edited, find_instance, is_full};
 use crate::pairs::{AttrId, Pair};
-use crate::steps::make_room;
 use crate::store::{ListsRefused, Store};
+use crate::vectors::make_room;
 use std::alloc::{AllocError, Global};
 
 // A state of the history.

@@ -1,5 +1,5 @@
 -- What an edit turns in the slots, and the slots that a store begins with.
-use Rattle.std.specs.Prelude.{◌≡◌, zero, suc, ◌+◌, ℕ, Bool, true, false, not, ◌&&◌, ◌||◌, if◌then◌else◌, List, [], ◌∷◌, ◌++◌, length, Some}
+use Rattle.std.specs.Prelude.{◌≡◌, zero, suc, ◌+◌, ℕ, Bool, true, false, not, ◌&&◌, ◌||◌, if◌then◌else◌, List, [], ◌∷◌, ◌++◌, length, filter, Some}
 use Rattle.std.specs.Option.{is_some, option_to_list}
 use Rattle.avp_lists.specs.declared.pairs.Pair.{Pair}
 use Rattle.avp_lists.specs.declared.edits.Op.{Op}
@@ -12,8 +12,8 @@ use Rattle.avp_lists.specs.declared.slots.End.TheVariants.{Head, Tail}
 use Rattle.avp_lists.specs.declared.slots.Slot.{Slot}
 use Rattle.avp_lists.specs.Instances.{has_id}
 use Rattle.avp_lists.specs.Pairs.{pair_eq}
-use Rattle.avp_lists.specs.internal.Shown.{shows, slot_pair, shown_state}
-use Rattle.avp_lists.specs.internal.Slots.{forward, PlacesWithin, SwapWithin, PairsWithin}
+use Rattle.avp_lists.specs.internal.Shown.{shows, shows_at, slot_pair, shown_state}
+use Rattle.avp_lists.specs.internal.Slots.{slot_at, forward, PlacesWithin, SwapWithin, PairsWithin}
 use Rattle.avp_lists.specs.States.{edited}
 
 -- the end at which an operator adds its pair
@@ -37,6 +37,17 @@ is_taken e pool s = shows e.list s && is_removed e.op e.pair (slot_pair pool s)
 abbrev pub places_in : (Slot → Bool) → ℕ → List Slot → List ℕ
 places_in p n [] = []
 places_in p n (s ∷ ss) = if p s then n ∷ places_in p (n + 1) ss else places_in p (n + 1) ss
+
+-- the pair of the slot at a place is taken away
+abbrev pub is_taken_at : Edit → List Pair → List Slot → ℕ → Bool
+is_taken_at e pool c i = is_taken e pool (slot_at c i)
+
+-- the places of the slots whose pairs are taken away, by the end at which they entered
+abbrev pub taken_at_end : End → Edit → List Pair → List Slot → List ℕ
+taken_at_end end e pool c = filter (is_taken_at e pool c) (places_in (shows_at end e.list) 0 c)
+
+abbrev pub taken_places : Edit → List Pair → List Slot → List ℕ
+taken_places e pool c = taken_at_end Head e pool c ++ taken_at_end Tail e pool c
 
 -- the slots before a plan's marks are turned, and after it
 abbrev pub widened : Plan → List Slot → List Slot

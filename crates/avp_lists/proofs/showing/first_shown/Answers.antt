@@ -19,6 +19,6 @@ returns c =
     let shown = c.in_ok-place.ensures.shown in
     let s = slot_at c.args.slots.now place in
     let live : s.mark.live ≡ true = and_first s.mark.live (same_list which s.list) (and_first (shows which s) (has_id c.args.id (slot_pair pool s)) shown.1) in
-    let within : s.mark.pair < length pool = c.requires place live in
+    let within : s.mark.pair < length pool = c.requires.pooled place live in
     ap (λ (p : Pair). Some p) (get_or_read pool s.mark.pair c.index-pool-slots.result within c.index-pool-slots.is no_pair)
     ∙ sym (found-first which c.args.id pool c.args.slots.now place shown.0 shown.1 c.in_ok-place.ensures.none_before)

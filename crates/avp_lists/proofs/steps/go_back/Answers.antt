@@ -7,7 +7,7 @@ use Rattle.avp_lists.proofs.steps.go_back.Goals as goal
 
 pub returns-clause-moved : goal.returns-clause-moved
 returns-clause-moved c =
-    let slots = c.args.slots.now in
+    let slots = c.args.slots.now.all.items in
     let steps = c.args.steps.now in
     let at = c.args.at in
     let x = Turned c.in-Turned.places c.in-Turned.by in
@@ -18,4 +18,4 @@ returns-clause-moved c =
     ∙ back_by slots steps at x req.1 req.0 req.2 e c.requires.standing
 
 pub returns-clause-initials : goal.returns-clause-initials
-returns-clause-initials c = rw c.backward.ensures (initials-backward c.as_slice.result.now c.in-Turned.by c.args.slots.now)
+returns-clause-initials c = rw c.backward.ensures (initials-backward c.as_slice.result.now c.in-Turned.by c.args.slots.now.all.items)

@@ -18,6 +18,6 @@ returns c =
     let pool = c.deref-2.result.now in
     let test : c.is_some.result ≡ is_some c.first_slot.result = search rules in
     let any = found_where which id pool slots c.first_slot.result c.first_slot.ensures.shown c.first_slot.ensures.none in
-    let same : list_any (shows_id which id pool) slots ≡ list_any (shows_id which id s.pool.items) s.slots.items = ap₂ (λ (p : List Pair) (xs : List Slot). list_any (shows_id which id p) xs) c.deref-2.ensures.value c.deref.ensures.value in
-    let shown : list_any (shows_id which id s.pool.items) s.slots.items ≡ _ = any-shown which id s.pool.items s.slots.items ∙ ap (list_any (has_id id)) (sym (present-list which s.pool.items s.slots.items s.steps.items s.place s.placed s.standing)) in
+    let same : list_any (shows_id which id pool) slots ≡ list_any (shows_id which id s.pool.items) s.slots.all.items = ap₂ (λ (p : List Pair) (xs : List Slot). list_any (shows_id which id p) xs) c.deref-2.ensures.value c.deref.ensures.value in
+    let shown : list_any (shows_id which id s.pool.items) s.slots.all.items ≡ _ = any-shown which id s.pool.items s.slots.all.items ∙ ap (list_any (has_id id)) (sym (present-list which s.pool.items s.slots.all.items s.steps.items s.place s.placed s.standing)) in
     test ∙ any ∙ same ∙ shown

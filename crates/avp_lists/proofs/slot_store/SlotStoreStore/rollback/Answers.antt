@@ -42,9 +42,9 @@ pub invariant_of-self-2 : goal.invariant_of-self-2
 invariant_of-self-2 c =
     let s = c.args.self.now in
     let steps = s.steps.items in
-    let slots = s.slots.items in
+    let slots = s.slots.all.items in
     let pool = s.pool.items in
-    let moved = c.move_to.new.slots.items in
+    let moved = c.move_to.new.slots.all.items in
     let n = s.place + 1 in
     let to = c.args.to in
     let w = c.node-earlier.result in
@@ -92,7 +92,7 @@ pub returns-clause-ok : goal.returns-clause-ok
 returns-clause-ok c =
     let s = c.args.self.now in
     let steps = s.steps.items in
-    let moved = c.move_to.new.slots.items in
+    let moved = c.move_to.new.slots.all.items in
     let n = s.place + 1 in
     let to = c.args.to in
     let w = c.node-earlier.result in
@@ -103,4 +103,4 @@ returns-clause-ok c =
     let fine : n ≤ length steps = omega (arith, s.placed) in
     let before : to < n = omega (arith, c.requires) in
     ap (λ (xs : List State). let h : History = record { states = xs; place = n } in h)
-    (ap (shown_states s.pool.items moved) new ∙ states-rolled s.pool.items s.slots.items moved steps n to w e fine before s.below is refl c.move_to.ensures.initials)
+    (ap (shown_states s.pool.items moved) new ∙ states-rolled s.pool.items s.slots.all.items moved steps n to w e fine before s.below is refl c.move_to.ensures.initials)

@@ -14,19 +14,19 @@ use Rattle.avp_lists.proofs.slot_store.SlotStoreStore.settle.Goals as goal
 pub invariant_of-self : goal.invariant_of-self
 invariant_of-self c =
     let s = c.args.self.now in
-    let slots = s.slots.items in
+    let slots = s.slots.all.items in
     let pool = s.pool.items in
-    let new = c.forget_dark.new.slots.items in
+    let new = c.settle.new.self.all.items in
     let steps = c.cut_and_push.new.steps.items in
     let v = c.new.result in
     let e : Step = record { change = Turned v None; slots = c.len.result; pairs = c.len-2.result } in
-    let K = c.forget_dark.ensures in
+    let K = c.settle.ensures in
     let N = c.cut_and_push.ensures.steps in
     let Z = c.new.ensures.items in
     let initials : map at_initial new ≡ new = ap (map at_initial) K ∙ initials-kept (filter is_live slots) ∙ sym K in
     let shown = present-shown pool slots s.steps.items s.place s.placed s.standing in
     let fits = settled_within (length pool) slots new K (pairs-now (length slots) (length pool) slots s.steps.items s.place s.housed s.counts s.standing) in
-    let slots_len : e.slots ≡ length new = omega (arith, c.len.ensures, c.forget_dark.new.slots.ok.0) in
+    let slots_len : e.slots ≡ length new = omega (arith, c.len.ensures, c.settle.new.self.all.ok.0) in
     let pairs_len : e.pairs ≡ length pool = omega (arith, c.len-2.ensures, s.pool.ok.0) in
     let H : Housed e.slots e.pairs new = rw (slots_len, pairs_len) (housed_all (length pool) new fits) in
     record {
@@ -44,13 +44,13 @@ invariant_of-self c =
 pub returns-clause-settled : goal.returns-clause-settled
 returns-clause-settled c =
     let s = c.args.self.now in
-    let slots = s.slots.items in
+    let slots = s.slots.all.items in
     let pool = s.pool.items in
-    let new = c.forget_dark.new.slots.items in
+    let new = c.settle.new.self.all.items in
     let steps = c.cut_and_push.new.steps.items in
     let v = c.new.result in
     let e : Step = record { change = Turned v None; slots = c.len.result; pairs = c.len-2.result } in
-    let K = c.forget_dark.ensures in
+    let K = c.settle.ensures in
     let initials : map at_initial new ≡ new = ap (map at_initial) K ∙ initials-kept (filter is_live slots) ∙ sym K in
     let shown = present-shown pool slots s.steps.items s.place s.placed s.standing in
     ap (λ (xs : List State). let h : History = record { states = xs; place = 0 } in h)
