@@ -11,12 +11,12 @@ use Rattle.avp_lists.specs.declared.slots.Swap.{Swap}
 use Rattle.avp_lists.specs.declared.steps.Change.{Change}
 use Rattle.avp_lists.specs.declared.steps.Change.TheVariants.{Turned, Back}
 use Rattle.avp_lists.specs.declared.steps.Step.{Step}
-use Rattle.avp_lists.specs.internal.Slots.{no_slot, slot_at, at_first, forward, NamesWithin, SwapWithin, Housed, PairsWithin}
-use Rattle.avp_lists.specs.internal.Steps.{last_or, after, replay, every, slots_at, shown_states, no_step, step_at, change_at, names_of, swap_of, StepsWithin, BacksBelow, AllCounted, CountsWithin, CountsGrow, AllHoused}
+use Rattle.avp_lists.specs.internal.Slots.{no_slot, slot_at, at_initial, forward, PlacesWithin, SwapWithin, Housed, PairsWithin}
+use Rattle.avp_lists.specs.internal.Steps.{last_or, after, replay, every, slots_at, shown_states, no_step, step_at, change_at, places_of, swap_of, StepsWithin, BacksBelow, AllCounted, CountsWithin, CountsGrow, AllHoused}
 use Rattle.avp_lists.specs.internal.Shown.{no_pair, slot_pair, shown_state}
 use Rattle.avp_lists.specs.internal.SlotLaws.{length-every}
-use Rattle.avp_lists.proofs.Turning.{length-forward, firsts-forward}
-use Rattle.avp_lists.proofs.Moves.{names_in_more}
+use Rattle.avp_lists.proofs.Turning.{length-forward, initials-forward}
+use Rattle.avp_lists.proofs.Moves.{places_more}
 use Rattle.avp_lists.proofs.Replay.{every-take, every-push}
 use Rattle.avp_lists.proofs.Growing.{every-grown, length-each}
 use Rattle.avp_lists.proofs.ShownPairs.{shown_state-same}
@@ -45,7 +45,7 @@ abbrev base : List Slot → List Step → ℕ → List (List Slot)
 base slots steps k = every (few slots steps k) (old steps k)
 
 abbrev gone : List Slot → List Step → ℕ → List Slot
-gone slots steps k = map at_first (drop (step_at steps k).slots slots)
+gone slots steps k = map at_initial (drop (step_at steps k).slots slots)
 
 module _ (pool : List Pair) (slots : List Slot) (steps : List Step) (k : ℕ) (placed : k < length steps) (counted : AllCounted steps) (counts : CountsWithin (length slots) (length pool) steps) (grow : CountsGrow steps) (housed : AllHoused slots steps) (standing : slots_at slots steps k ≡ slots) where
   below-end : k + 1 ≤ length steps
@@ -63,7 +63,7 @@ module _ (pool : List Pair) (slots : List Slot) (steps : List Step) (k : ℕ) (p
   within-old : StepsWithin (step_at steps k).slots (old steps k)
   within-old j =
       let m = (step_at steps k).slots in
-      let P : Step → Type 0 = λ s. NamesWithin m (names_of s.change) × SwapWithin m (swap_of s.change) in
+      let P : Step → Type 0 = λ s. PlacesWithin m (places_of s.change) × SwapWithin m (swap_of s.change) in
       elim (cases_lt j (k + 1)) [
         | inl below ↦
             let le : j ≤ k = omega arith in
@@ -71,7 +71,7 @@ module _ (pool : List Pair) (slots : List Slot) (steps : List Step) (k : ℕ) (p
             let more : (step_at steps j).slots ≤ m = g.0 in
             let c = counted j in
             let s : SwapWithin (step_at steps j).slots (swap_of (change_at steps j)) = c.1 in
-            subst P (sym (get_or-take (k + 1) steps j no_step below)) (names_in_more (names_of (change_at steps j)) (step_at steps j).slots m more c.0, omega (arith, s, more))
+            subst P (sym (get_or-take (k + 1) steps j no_step below)) (places_more (places_of (change_at steps j)) (step_at steps j).slots m more c.0, omega (arith, s, more))
         | inr past ↦
             let far : length (old steps k) ≤ j = omega (arith, long-old) in
             subst P (sym (get_or_past (old steps k) j no_step far)) (λ i h. absurd (omega (arith, h)), omega arith)
@@ -148,9 +148,9 @@ module _ (pool : List Pair) (slots : List Slot) (steps : List Step) (k : ℕ) (p
       subst Q (sym long-pairs) (subst P standing-few (λ i live. let h = housed-at k below i live in h.1))
 
   -- the slots and pairs that are added, and the new state
-  module _ (more : List Slot) (firsts : map at_first more ≡ more) (dark-more : (i : ℕ) → (slot_at more i).mark.live ≡ true → ⊥) (xs : List Pair) (v : Vec ℕ Global) (by : Option Swap) (e : Step) (new : List Slot) (N : new ≡ forward v.items by (few slots steps k ++ more)) (T : e.change ≡ Turned v by) where
+  module _ (more : List Slot) (initials : map at_initial more ≡ more) (dark-more : (i : ℕ) → (slot_at more i).mark.live ≡ true → ⊥) (xs : List Pair) (v : Vec ℕ Global) (by : Option Swap) (e : Step) (new : List Slot) (N : new ≡ forward v.items by (few slots steps k ++ more)) (T : e.change ≡ Turned v by) where
     grown : every (few slots steps k ++ more) (old steps k) ≡ map (λ (c : List Slot). c ++ more) (base slots steps k)
-    grown = every-grown (few slots steps k) more (old steps k) within-few ∙ ap (λ (d : List Slot). map (λ (c : List Slot). c ++ d) (base slots steps k)) firsts
+    grown = every-grown (few slots steps k) more (old steps k) within-few ∙ ap (λ (d : List Slot). map (λ (c : List Slot). c ++ d) (base slots steps k)) initials
 
     long-grown : length (map (λ (c : List Slot). c ++ more) (base slots steps k)) ≡ k + 1
     long-grown = length-map (base slots steps k) (λ (c : List Slot). c ++ more) ∙ long-base
@@ -159,9 +159,9 @@ module _ (pool : List Pair) (slots : List Slot) (steps : List Step) (k : ℕ) (p
     every-new =
         let g : List Slot → List Slot = λ c. c ++ more in
         let wide = few slots steps k ++ more in
-        let f = map at_first wide in
+        let f = map at_initial wide in
         let done = map g (base slots steps k) in
-        let same : map at_first new ≡ f = ap (map at_first) N ∙ firsts-forward v.items by wide in
+        let same : map at_initial new ≡ f = ap (map at_initial) N ∙ initials-forward v.items by wide in
         let inside : k < length (base slots steps k) = omega (arith, long-base) in
         let place : length done - 1 ≡ k = omega (arith, long-grown) in
         let last : last_or f done ≡ wide = ap (λ (n : ℕ). get_or done n f) place ∙ get_or-map g (base slots steps k) k [] f inside ∙ ap g standing-few in
@@ -224,12 +224,12 @@ module _ (pool : List Pair) (slots : List Slot) (steps : List Step) (k : ℕ) (p
         below-more steps (k + 1) e below-end backs (λ to is. absurd (turned to (sym T ∙ is)))
 
     module _ (es : e.slots ≡ length new) (ep : e.pairs ≡ length (take (step_at steps k).pairs pool ++ xs)) (ls : (step_at steps k).slots ≤ e.slots) (lp : (step_at steps k).pairs ≤ e.pairs) where
-      pub counted-new : NamesWithin (length (few slots steps k ++ more)) v.items → SwapWithin (length (few slots steps k ++ more)) by → AllCounted (old steps k ++ e ∷ [])
-      counted-new names swap =
+      pub counted-new : PlacesWithin (length (few slots steps k ++ more)) v.items → SwapWithin (length (few slots steps k ++ more)) by → AllCounted (old steps k ++ e ∷ [])
+      counted-new places swap =
           let long : length (few slots steps k ++ more) ≡ e.slots = sym (ap length N ∙ length-forward v.items by (few slots steps k ++ more)) ∙ sym es in
-          let P : Change → Type 0 = λ x. NamesWithin e.slots (names_of x) × SwapWithin e.slots (swap_of x) in
-          let Q : ℕ → Type 0 = λ n. NamesWithin n v.items × SwapWithin n by in
-          counted-more steps (k + 1) e below-end counted (subst P (sym T) (subst Q long (names, swap)))
+          let P : Change → Type 0 = λ x. PlacesWithin e.slots (places_of x) × SwapWithin e.slots (swap_of x) in
+          let Q : ℕ → Type 0 = λ n. PlacesWithin n v.items × SwapWithin n by in
+          counted-more steps (k + 1) e below-end counted (subst P (sym T) (subst Q long (places, swap)))
 
       few-counts : (j : ℕ) → j < k + 1 → ((step_at steps j).slots ≤ e.slots) × ((step_at steps j).pairs ≤ e.pairs)
       few-counts j below =

@@ -13,7 +13,7 @@ use Rattle.avp_lists.specs.declared.steps.Step.{Step}
 use Rattle.avp_lists.specs.internal.Plans.{widened, planned, enters, pooled, IsPlan}
 use Rattle.avp_lists.specs.internal.Shown.{shown_state}
 use Rattle.avp_lists.specs.internal.SlotLaws.{length-shown_states}
-use Rattle.avp_lists.specs.internal.Slots.{slot_at, at_first, PairsWithin}
+use Rattle.avp_lists.specs.internal.Slots.{slot_at, at_initial, PairsWithin}
 use Rattle.avp_lists.specs.States.{empty_state, edited, IsLimited}
 use Rattle.avp_lists.specs.internal.Steps.{slots_at, shown_states, step_at, max_kept, BacksBelow, AllCounted, CountsWithin, CountsGrow, AllHoused, StatesLimited}
 use Rattle.avp_lists.proofs.Adding.{long-few, long-pairs, state-few, standing-new, states-new, below-new, counted-new, counts-new, grow-new, housed-new}
@@ -22,13 +22,13 @@ use Rattle.avp_lists.proofs.ShownPairs.{present-shown}
 use Rattle.avp_lists.proofs.Turning.{length-forward}
 
 -- a slot that shows nothing yet is as it is in the first state
-added-firsts : (o : Option Slot) → ((s : Slot) → o ≡ Some s → (s.mark.live ≡ false) × (s.first ≡ s.mark)) → map at_first (option_to_list o) ≡ option_to_list o
-added-firsts None h = refl
-added-firsts (Some s) h =
+added-initials : (o : Option Slot) → ((s : Slot) → o ≡ Some s → (s.mark.live ≡ false) × (s.initial ≡ s.mark)) → map at_initial (option_to_list o) ≡ option_to_list o
+added-initials None h = refl
+added-initials (Some s) h =
     let a = h s refl in
-    ap (λ (m : Mark). let t : Slot = record { list = s.list; end = s.end; mark = m; first = s.first } in t ∷ []) a.1
+    ap (λ (m : Mark). let t : Slot = record { list = s.list; end = s.end; mark = m; initial = s.initial } in t ∷ []) a.1
 
-added-dark : (o : Option Slot) → ((s : Slot) → o ≡ Some s → (s.mark.live ≡ false) × (s.first ≡ s.mark)) → (i : ℕ) → (slot_at (option_to_list o) i).mark.live ≡ true → ⊥
+added-dark : (o : Option Slot) → ((s : Slot) → o ≡ Some s → (s.mark.live ≡ false) × (s.initial ≡ s.mark)) → (i : ℕ) → (slot_at (option_to_list o) i).mark.live ≡ true → ⊥
 added-dark None h i live = cc
 added-dark (Some s) h zero live = let a = h s refl in let dark : false ≡ true = sym a.0 ∙ live in cc
 added-dark (Some s) h (suc i) live = cc
@@ -43,8 +43,8 @@ module _ (e : Edit) (pool : List Pair) (slots : List Slot) (steps : List Step) (
   pool_is : new_pool ≡ take (step_at steps k).pairs pool ++ entering p e.pair
   pool_is = P ∙ pooled-entering p e.pair (take (step_at steps k).pairs pool)
 
-  firsts : map at_first (option_to_list p.added) ≡ option_to_list p.added
-  firsts = added-firsts p.added plan.added
+  initials : map at_initial (option_to_list p.added) ≡ option_to_list p.added
+  initials = added-initials p.added plan.added
 
   dark : (i : ℕ) → (slot_at (option_to_list p.added) i).mark.live ≡ true → ⊥
   dark = added-dark p.added plan.added
@@ -75,19 +75,19 @@ module _ (e : Edit) (pool : List Pair) (slots : List Slot) (steps : List Step) (
       omega (arith, ap length pool_is, length-append few (entering p e.pair), one, long-pairs pool slots steps k placed counted counts grow housed standing)
 
   pub below-changed : BacksBelow steps → BacksBelow new_steps
-  below-changed backs = subst BacksBelow (sym S) (below-new pool slots steps k placed counted counts grow housed standing (option_to_list p.added) firsts dark (entering p e.pair) p.turned p.swap step new_slots N T backs)
+  below-changed backs = subst BacksBelow (sym S) (below-new pool slots steps k placed counted counts grow housed standing (option_to_list p.added) initials dark (entering p e.pair) p.turned p.swap step new_slots N T backs)
 
   pub counted-changed : AllCounted new_steps
-  counted-changed = subst AllCounted (sym S) (counted-new pool slots steps k placed counted counts grow housed standing (option_to_list p.added) firsts dark (entering p e.pair) p.turned p.swap step new_slots N T es pairs_is more_slots more_pairs plan.names plan.swap)
+  counted-changed = subst AllCounted (sym S) (counted-new pool slots steps k placed counted counts grow housed standing (option_to_list p.added) initials dark (entering p e.pair) p.turned p.swap step new_slots N T es pairs_is more_slots more_pairs plan.places plan.swap)
 
   pub counts-changed : CountsWithin (length new_slots) (length new_pool) new_steps
   counts-changed =
       let Q : List Pair → List Step → Type 0 = λ x y. CountsWithin (length new_slots) (length x) y in
       let R : List Pair → Type 0 = λ x. Q x new_steps in
-      subst R (sym pool_is) (subst (Q (take (step_at steps k).pairs pool ++ entering p e.pair)) (sym S) (counts-new pool slots steps k placed counted counts grow housed standing (option_to_list p.added) firsts dark (entering p e.pair) p.turned p.swap step new_slots N T es pairs_is more_slots more_pairs))
+      subst R (sym pool_is) (subst (Q (take (step_at steps k).pairs pool ++ entering p e.pair)) (sym S) (counts-new pool slots steps k placed counted counts grow housed standing (option_to_list p.added) initials dark (entering p e.pair) p.turned p.swap step new_slots N T es pairs_is more_slots more_pairs))
 
   pub grow-changed : CountsGrow new_steps
-  grow-changed = subst CountsGrow (sym S) (grow-new pool slots steps k placed counted counts grow housed standing (option_to_list p.added) firsts dark (entering p e.pair) p.turned p.swap step new_slots N T es pairs_is more_slots more_pairs)
+  grow-changed = subst CountsGrow (sym S) (grow-new pool slots steps k placed counted counts grow housed standing (option_to_list p.added) initials dark (entering p e.pair) p.turned p.swap step new_slots N T es pairs_is more_slots more_pairs)
 
   fits : PairsWithin (length (take (step_at steps k).pairs pool ++ entering p e.pair)) new_slots
   fits =
@@ -96,12 +96,12 @@ module _ (e : Edit) (pool : List Pair) (slots : List Slot) (steps : List Step) (
       subst Q (sym P ∙ pool_is) (subst R (sym N) plan.within)
 
   pub housed-changed : AllHoused new_slots new_steps
-  housed-changed = subst (AllHoused new_slots) (sym S) (housed-new pool slots steps k placed counted counts grow housed standing (option_to_list p.added) firsts dark (entering p e.pair) p.turned p.swap step new_slots N T es pairs_is more_slots more_pairs fits)
+  housed-changed = subst (AllHoused new_slots) (sym S) (housed-new pool slots steps k placed counted counts grow housed standing (option_to_list p.added) initials dark (entering p e.pair) p.turned p.swap step new_slots N T es pairs_is more_slots more_pairs fits)
 
   pub standing-changed : slots_at new_slots new_steps (k + 1) ≡ new_slots
   standing-changed =
       ap (λ (x : List Step). slots_at new_slots x (k + 1)) S
-      ∙ standing-new pool slots steps k placed counted counts grow housed standing (option_to_list p.added) firsts dark (entering p e.pair) p.turned p.swap step new_slots N T
+      ∙ standing-new pool slots steps k placed counted counts grow housed standing (option_to_list p.added) initials dark (entering p e.pair) p.turned p.swap step new_slots N T
 
   now_is : shown_state new_pool new_slots ≡ edited e (get_or (shown_states pool slots steps) k empty_state)
   now_is =
@@ -115,7 +115,7 @@ module _ (e : Edit) (pool : List Pair) (slots : List Slot) (steps : List Step) (
       let other = take (step_at steps k).pairs pool ++ entering p e.pair in
       ap (λ (x : List Pair). shown_states x new_slots new_steps) pool_is
       ∙ ap (shown_states other new_slots) S
-      ∙ states-new pool slots steps k placed counted counts grow housed standing (option_to_list p.added) firsts dark (entering p e.pair) p.turned p.swap step new_slots N T
+      ∙ states-new pool slots steps k placed counted counts grow housed standing (option_to_list p.added) initials dark (entering p e.pair) p.turned p.swap step new_slots N T
       ∙ ap (λ (x : State). take (k + 1) (shown_states pool slots steps) ++ x ∷ []) (ap (λ (x : List Pair). shown_state x new_slots) (sym pool_is) ∙ now_is)
 
   pub limited-changed : StatesLimited pool slots steps → IsLimited (edited e (get_or (shown_states pool slots steps) k empty_state)) → StatesLimited new_pool new_slots new_steps

@@ -9,8 +9,8 @@ use Rattle.avp_lists.specs.declared.slots.Slot.{Slot}
 use Rattle.avp_lists.specs.declared.steps.Change.TheVariants.{Back}
 use Rattle.avp_lists.specs.declared.steps.Step.{Step}
 use Rattle.avp_lists.specs.States.{empty_state, IsLimited}
-use Rattle.avp_lists.specs.internal.Slots.{at_first, slot_at, Housed}
-use Rattle.avp_lists.specs.internal.Steps.{after, every, slots_at, shown_states, no_step, step_at, change_at, turns, node, BacksBelow, NamesCounted, AllCounted, CountsWithin, CountsGrow, AllHoused}
+use Rattle.avp_lists.specs.internal.Slots.{at_initial, slot_at, Housed}
+use Rattle.avp_lists.specs.internal.Steps.{after, every, slots_at, shown_states, no_step, step_at, change_at, turns, node, BacksBelow, PlacesCounted, AllCounted, CountsWithin, CountsGrow, AllHoused}
 use Rattle.avp_lists.specs.internal.Shown.{shown_state}
 use Rattle.avp_lists.specs.internal.SlotLaws.{length-every}
 use Rattle.avp_lists.proofs.Replay.{every-take, every-push, node_fits}
@@ -70,8 +70,8 @@ module _ (steps : List Step) (n : ℕ) (e : Step) (within : n ≤ length steps) 
   pub step-new : step_at (take n steps ++ e ∷ []) n ≡ e
   step-new = get_or_push (take n steps) e no_step n (length-take-le n steps within)
 
-  pub counted-more : AllCounted steps → NamesCounted e → AllCounted (take n steps ++ e ∷ [])
-  counted-more counted new = each-continued NamesCounted no_step steps n e within (λ i h. absurd (omega (arith, h)), omega arith) (λ k below. counted k) new
+  pub counted-more : AllCounted steps → PlacesCounted e → AllCounted (take n steps ++ e ∷ [])
+  counted-more counted new = each-continued PlacesCounted no_step steps n e within (λ i h. absurd (omega (arith, h)), omega arith) (λ k below. counted k) new
 
   pub counts-more : (a b : ℕ) → ((k : ℕ) → k < n → ((step_at steps k).slots ≤ a) × ((step_at steps k).pairs ≤ b)) → e.slots ≤ a → e.pairs ≤ b → CountsWithin a b (take n steps ++ e ∷ [])
   counts-more a b counts s p =
@@ -142,7 +142,7 @@ module _ (steps : List Step) (n : ℕ) (e : Step) (within : n ≤ length steps) 
 module _ (slots : List Slot) (steps : List Step) (n w : ℕ) (e : Step) (within : n ≤ length steps) (back : e.change ≡ Back w) (earlier : w < n) where
   pub every-back : every slots (take n steps ++ e ∷ []) ≡ take n (every slots steps) ++ slots_at slots steps w ∷ []
   every-back =
-      let f = map at_first slots in
+      let f = map at_initial slots in
       let all = every slots steps in
       let inside : w < length all = omega (arith, length-every slots steps) in
       let last : after f (take n all) e.change ≡ slots_at slots steps w = ap (after f (take n all)) back ∙ get_or-take n all w f earlier ∙ get_or_default all w f [] inside in
@@ -179,8 +179,8 @@ module _ (slots : List Slot) (steps : List Step) (n w : ℕ) (e : Step) (within 
       housed-more steps n e within slots each last
 
 -- going back to the place that the state at a place stands for
-pub states-rolled : (pool : List Pair) (slots moved : List Slot) (steps : List Step) (n to w : ℕ) (e : Step) → n ≤ length steps → to < n → BacksBelow steps → w ≡ node steps to → e.change ≡ Back w → map at_first moved ≡ map at_first slots → shown_states pool moved (take n steps ++ e ∷ []) ≡ take n (shown_states pool slots steps) ++ get_or (shown_states pool slots steps) to empty_state ∷ []
-states-rolled pool slots moved steps n to w e within below backs is back firsts =
+pub states-rolled : (pool : List Pair) (slots moved : List Slot) (steps : List Step) (n to w : ℕ) (e : Step) → n ≤ length steps → to < n → BacksBelow steps → w ≡ node steps to → e.change ≡ Back w → map at_initial moved ≡ map at_initial slots → shown_states pool moved (take n steps ++ e ∷ []) ≡ take n (shown_states pool slots steps) ++ get_or (shown_states pool slots steps) to empty_state ∷ []
+states-rolled pool slots moved steps n to w e within below backs is back initials =
     let lt : to < length steps = omega arith in
     let fits = node_fits moved steps to backs lt in
     let low : node steps to ≤ to = fits.0 in
@@ -192,4 +192,4 @@ states-rolled pool slots moved steps n to w e within below backs is back firsts 
     ∙ sym (state-each pool (every moved steps) to) in
     states-back moved steps n w e within back earlier pool
     ∙ ap (λ (x : State). take n (shown_states pool moved steps) ++ x ∷ []) same
-    ∙ ap (λ (xs : List State). take n xs ++ get_or xs to empty_state ∷ []) (states-same pool slots moved steps firsts)
+    ∙ ap (λ (xs : List State). take n xs ++ get_or xs to empty_state ∷ []) (states-same pool slots moved steps initials)

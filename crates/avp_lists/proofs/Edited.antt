@@ -15,7 +15,7 @@ use Rattle.avp_lists.specs.internal.Growth.{adds_one, removes}
 use Rattle.avp_lists.specs.Instances.{has_id, is_other}
 use Rattle.avp_lists.specs.Operators.{agrees, replace, apply}
 use Rattle.avp_lists.specs.Pairs.{pair_eq}
-use Rattle.avp_lists.specs.internal.Plans.{end_for, goes, taken, names_in}
+use Rattle.avp_lists.specs.internal.Plans.{end_for, is_removed, is_taken, places_in}
 use Rattle.avp_lists.specs.internal.Shown.{same_list, shows, shows_id, no_pair, slot_pair, shown_pairs, shown_state}
 use Rattle.avp_lists.specs.internal.Slots.{no_slot, slot_at, flipped, PairsWithin}
 use Rattle.avp_lists.specs.States.{with_list, edited, edited_list}
@@ -108,19 +108,19 @@ turned-within n p c off pooled i =
           subst P (sym (get_or_past (map (turned_if p) c) i no_slot far)) (λ live. cc)
     ]
 
-pub taken-within : (e : Edit) (pool : List Pair) (n : ℕ) (c : List Slot) → PairsWithin n c → PairsWithin n (map (turned_if (taken e pool)) c)
-taken-within e pool n c pooled = turned-within n (taken e pool) c (λ s h. and_first s.mark.live (same_list e.list s.list) (and_first (shows e.list s) (goes e.op e.pair (slot_pair pool s)) h)) pooled
+pub taken-within : (e : Edit) (pool : List Pair) (n : ℕ) (c : List Slot) → PairsWithin n c → PairsWithin n (map (turned_if (is_taken e pool)) c)
+taken-within e pool n c pooled = turned-within n (is_taken e pool) c (λ s h. and_first s.mark.live (same_list e.list s.list) (and_first (shows e.list s) (is_removed e.op e.pair (slot_pair pool s)) h)) pooled
 
-pub names_in-within : (p : Slot → Bool) (n : ℕ) (c : List Slot) (i : ℕ) → i < length (names_in p n c) → get_or (names_in p n c) i 0 < n + length c
-names_in-within p n [] i h = absurd (omega (arith, h))
-names_in-within p n (s ∷ ss) i h =
-    let rest = names_in-within p (n + 1) ss in
-    elim (p s) as (λ b. i < length (cond b (n ∷ names_in p (n + 1) ss) (names_in p (n + 1) ss)) → get_or (cond b (n ∷ names_in p (n + 1) ss) (names_in p (n + 1) ss)) i 0 < n + length (s ∷ ss)) [
+pub places_in-within : (p : Slot → Bool) (n : ℕ) (c : List Slot) (i : ℕ) → i < length (places_in p n c) → get_or (places_in p n c) i 0 < n + length c
+places_in-within p n [] i h = absurd (omega (arith, h))
+places_in-within p n (s ∷ ss) i h =
+    let rest = places_in-within p (n + 1) ss in
+    elim (p s) as (λ b. i < length (cond b (n ∷ places_in p (n + 1) ss) (places_in p (n + 1) ss)) → get_or (cond b (n ∷ places_in p (n + 1) ss) (places_in p (n + 1) ss)) i 0 < n + length (s ∷ ss)) [
       | true ↦ λ lt. first_or_rest p n s ss rest i lt
       | false ↦ λ lt. omega (arith, rest i lt)
     ] h
   where
-    first_or_rest : (p : Slot → Bool) (n : ℕ) (s : Slot) (ss : List Slot) → ((i : ℕ) → i < length (names_in p (n + 1) ss) → get_or (names_in p (n + 1) ss) i 0 < (n + 1) + length ss) → (i : ℕ) → i < length (n ∷ names_in p (n + 1) ss) → get_or (n ∷ names_in p (n + 1) ss) i 0 < n + length (s ∷ ss)
+    first_or_rest : (p : Slot → Bool) (n : ℕ) (s : Slot) (ss : List Slot) → ((i : ℕ) → i < length (places_in p (n + 1) ss) → get_or (places_in p (n + 1) ss) i 0 < (n + 1) + length ss) → (i : ℕ) → i < length (n ∷ places_in p (n + 1) ss) → get_or (n ∷ places_in p (n + 1) ss) i 0 < n + length (s ∷ ss)
     first_or_rest p n s ss rest zero lt = omega arith
     first_or_rest p n s ss rest (suc i) lt = omega (arith, rest i (omega (arith, lt)))
 
@@ -139,21 +139,21 @@ not_and true true = refl
 not_and true false = refl
 not_and false b = refl
 
-taken-applied : (op : Op) (p : Pair) (xs : List Pair) → removes op ≡ true → filter (λ x. not (goes op p x)) xs ≡ apply op p xs
+taken-applied : (op : Op) (p : Pair) (xs : List Pair) → removes op ≡ true → filter (λ x. not (is_removed op p x)) xs ≡ apply op p xs
 taken-applied RemoveEqual p xs h = refl
-taken-applied KeepEqual p xs h = filter_same (λ x. not (goes KeepEqual p x)) (agrees p) xs (λ x. not_and (has_id p.id x) (pair_eq x p))
+taken-applied KeepEqual p xs h = filter_same (λ x. not (is_removed KeepEqual p x)) (agrees p) xs (λ x. not_and (has_id p.id x) (pair_eq x p))
 taken-applied RemoveAll p xs h = refl
 taken-applied Append p xs h = cc
 taken-applied Prepend p xs h = cc
 taken-applied AddNew p xs h = cc
 taken-applied Replace p xs h = cc
 
-pub state-removed : (e : Edit) (pool : List Pair) (c : List Slot) → removes e.op ≡ true → shown_state pool (map (turned_if (taken e pool)) c) ≡ edited e (shown_state pool c)
+pub state-removed : (e : Edit) (pool : List Pair) (c : List Slot) → removes e.op ≡ true → shown_state pool (map (turned_if (is_taken e pool)) c) ≡ edited e (shown_state pool c)
 state-removed e pool c h =
-    let d = map (turned_if (taken e pool)) c in
+    let d = map (turned_if (is_taken e pool)) c in
     state_edited e pool pool c d
-    (taken_away e.list pool (goes e.op e.pair) c ∙ taken-applied e.op e.pair (shown_pairs e.list pool c) h)
-    (λ which ne. others_stay which e.list pool (λ s. goes e.op e.pair (slot_pair pool s)) c ne)
+    (taken_away e.list pool (is_removed e.op e.pair) c ∙ taken-applied e.op e.pair (shown_pairs e.list pool c) h)
+    (λ which ne. others_stay which e.list pool (λ s. is_removed e.op e.pair (slot_pair pool s)) c ne)
 
 -- whether there is an instance
 pub any_of_shown : (w : WhichList) (id : AttrId) (pool : List Pair) (c : List Slot) → list_any (shows_id w id pool) c ≡ list_any (has_id id) (shown_of w pool c)

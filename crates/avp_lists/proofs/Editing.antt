@@ -7,7 +7,7 @@ use Rattle.avp_lists.specs.declared.lists.List.{List as WhichList}
 use Rattle.avp_lists.specs.declared.slots.Slot.{Slot}
 use Rattle.avp_lists.specs.internal.Slots.{no_slot, flipped, turn, turn_all}
 use Rattle.avp_lists.specs.internal.Shown.{same_list, shows, slot_pair, shown_pairs}
-use Rattle.avp_lists.specs.internal.Plans.{names_in}
+use Rattle.avp_lists.specs.internal.Plans.{places_in}
 use Rattle.avp_lists.proofs.InOrder.{in_order, shown_of, in_order-map, shown_pairs-in_order}
 
 abbrev pub turned_if : (Slot → Bool) → Slot → Slot
@@ -20,17 +20,17 @@ turn_at before after s =
     ∙ sym (append_assoc before (flipped s ∷ []) after)
 
 -- those that pass are turned, each once
-pub turned_where : (p : Slot → Bool) (before c : List Slot) → turn_all (names_in p (length before) c) (before ++ c) ≡ before ++ map (turned_if p) c
+pub turned_where : (p : Slot → Bool) (before c : List Slot) → turn_all (places_in p (length before) c) (before ++ c) ≡ before ++ map (turned_if p) c
 turned_where p before [] = refl
 turned_where p before (s ∷ ss) =
-    let step : (x : Slot) → turn_all (names_in p (length before + 1) ss) ((before ++ x ∷ []) ++ ss) ≡ before ++ x ∷ map (turned_if p) ss =
+    let step : (x : Slot) → turn_all (places_in p (length before + 1) ss) ((before ++ x ∷ []) ++ ss) ≡ before ++ x ∷ map (turned_if p) ss =
     λ x.
-    ap (λ (n : ℕ). turn_all (names_in p n ss) ((before ++ x ∷ []) ++ ss)) (sym (length_push before x))
+    ap (λ (n : ℕ). turn_all (places_in p n ss) ((before ++ x ∷ []) ++ ss)) (sym (length_push before x))
     ∙ turned_where p (before ++ x ∷ []) ss
     ∙ append_assoc before (x ∷ []) (map (turned_if p) ss) in
-    elim (p s) as (λ b. turn_all (cond b (length before ∷ names_in p (length before + 1) ss) (names_in p (length before + 1) ss)) (before ++ s ∷ ss) ≡ before ++ cond b (flipped s) s ∷ map (turned_if p) ss) [
-      | true ↦ ap (turn_all (names_in p (length before + 1) ss)) (turn_at before ss s) ∙ step (flipped s)
-      | false ↦ ap (turn_all (names_in p (length before + 1) ss)) (sym (append_assoc before (s ∷ []) ss)) ∙ step s
+    elim (p s) as (λ b. turn_all (cond b (length before ∷ places_in p (length before + 1) ss) (places_in p (length before + 1) ss)) (before ++ s ∷ ss) ≡ before ++ cond b (flipped s) s ∷ map (turned_if p) ss) [
+      | true ↦ ap (turn_all (places_in p (length before + 1) ss)) (turn_at before ss s) ∙ step (flipped s)
+      | false ↦ ap (turn_all (places_in p (length before + 1) ss)) (sym (append_assoc before (s ∷ []) ss)) ∙ step s
     ]
 
 and_true : (b x : Bool) → (b && x) ≡ true → (not b && x) ≡ false

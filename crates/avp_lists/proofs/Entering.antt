@@ -13,12 +13,12 @@ use Rattle.avp_lists.specs.declared.slots.Swap.{Swap}
 use Rattle.avp_lists.specs.internal.Growth.{adds_one}
 use Rattle.avp_lists.specs.Instances.{has_id, is_other}
 use Rattle.avp_lists.specs.Operators.{replace, apply}
-use Rattle.avp_lists.specs.internal.Plans.{end_for, goes, taken, names_in}
+use Rattle.avp_lists.specs.internal.Plans.{end_for, is_removed, is_taken, places_in}
 use Rattle.avp_lists.specs.internal.Shown.{same_list, shows, shows_id, no_pair, slot_pair, shown_pairs, ahead, shown_state}
 use Rattle.avp_lists.specs.internal.Slots.{no_slot, flipped, turn, turn_all, swap_at, forward, other_pair, with_other, PairsWithin}
 use Rattle.avp_lists.specs.States.{edited}
 use Rattle.avp_lists.proofs.Editing.{turned_if, turned_where, end-turned, shown_taken, turn_at}
-use Rattle.avp_lists.proofs.Edited.{state_edited, same_itself, hidden_elsewhere, and_first, and_second, shown_stay, names_in-within, taken-within, any_of_shown, added-applied, agree-more, within-more, within-append, within-one}
+use Rattle.avp_lists.proofs.Edited.{state_edited, same_itself, hidden_elsewhere, and_first, and_second, shown_stay, places_in-within, taken-within, any_of_shown, added-applied, agree-more, within-more, within-append, within-one}
 use Rattle.avp_lists.proofs.Growing.{turn_all-grown}
 use Rattle.avp_lists.proofs.InOrder.{in_order, shown_of, in_order-middle, behind, ahead-map, behind-map, all-in_order, shown_pairs-in_order}
 use Rattle.avp_lists.proofs.ShownPairs.{shown-append, shown-agree, beside, beside_none, shown_pairs-more, shown_pairs-agree}
@@ -100,20 +100,20 @@ within-right n (s ∷ ss) d h = within-right n ss d (λ j. h (suc j))
 same_now : (n m : ℕ) → other_pair m n m ≡ n
 same_now n m = grind arith
 
--- names of the slots before a place, and of those after it
+-- places of the slots before a place, and of those after it
 turn_all-both : (a b : List ℕ) (c : List Slot) → turn_all (a ++ b) c ≡ turn_all b (turn_all a c)
 turn_all-both [] b c = refl
 turn_all-both (i ∷ is) b c = turn_all-both is b (turn c i)
 
-turned_before : (p : Slot → Bool) (before rest : List Slot) → turn_all (names_in p 0 before) (before ++ rest) ≡ map (turned_if p) before ++ rest
+turned_before : (p : Slot → Bool) (before rest : List Slot) → turn_all (places_in p 0 before) (before ++ rest) ≡ map (turned_if p) before ++ rest
 turned_before p before rest =
-    turn_all-grown (names_in p 0 before) before rest (λ i h. omega (arith, names_in-within p 0 before i h))
+    turn_all-grown (places_in p 0 before) before rest (λ i h. omega (arith, places_in-within p 0 before i h))
     ∙ ap (λ (xs : List Slot). xs ++ rest) (turned_where p [] before)
 
-turned_after : (p : Slot → Bool) (before after : List Slot) (s : Slot) → turn_all (names_in p (length before + 1) after) (before ++ s ∷ after) ≡ before ++ s ∷ map (turned_if p) after
+turned_after : (p : Slot → Bool) (before after : List Slot) (s : Slot) → turn_all (places_in p (length before + 1) after) (before ++ s ∷ after) ≡ before ++ s ∷ map (turned_if p) after
 turned_after p before after s =
-    ap (λ (n : ℕ). turn_all (names_in p n after) (before ++ s ∷ after)) (sym (length_push before s))
-    ∙ ap (turn_all (names_in p (length (before ++ s ∷ [])) after)) (sym (append_assoc before (s ∷ []) after))
+    ap (λ (n : ℕ). turn_all (places_in p n after) (before ++ s ∷ after)) (sym (length_push before s))
+    ∙ ap (turn_all (places_in p (length (before ++ s ∷ [])) after)) (sym (append_assoc before (s ∷ []) after))
     ∙ turned_where p (before ++ s ∷ []) after
     ∙ append_assoc before (s ∷ []) (map (turned_if p) after)
 
@@ -127,17 +127,17 @@ none_filtered q (x ∷ xs) none =
 
 -- in the place of the first instance
 module _ (e : Edit) (pool : List Pair) (before after : List Slot) (s : Slot) (w : Swap) (op : e.op ≡ Replace) (pooled : PairsWithin (length pool) (before ++ s ∷ after)) (first : shows_id e.list e.pair.id pool s ≡ true) (none : list_any (shows_id e.list e.pair.id pool) (ahead s.end before after) ≡ false) (at : w.slot ≡ length before) (old : w.old ≡ s.mark.pair) (new : w.new ≡ length pool) where
-  pub replaced-turned : forward (names_in (taken e pool) 0 before ++ names_in (taken e pool) (length before + 1) after) (Some w) (before ++ s ∷ after) ≡ (map (turned_if (taken e pool)) before ++ with_other w s ∷ []) ++ map (turned_if (taken e pool)) after
+  pub replaced-turned : forward (places_in (is_taken e pool) 0 before ++ places_in (is_taken e pool) (length before + 1) after) (Some w) (before ++ s ∷ after) ≡ (map (turned_if (is_taken e pool)) before ++ with_other w s ∷ []) ++ map (turned_if (is_taken e pool)) after
   replaced-turned =
-      let p = taken e pool in
+      let p = is_taken e pool in
       let left = map (turned_if p) before in
       let rest = map (turned_if p) after in
       let long : length left ≡ length before = length-map before (turned_if p) in
       let here : length left ≡ w.slot = long ∙ sym at in
-      let turned : turn_all (names_in p 0 before ++ names_in p (length before + 1) after) (before ++ s ∷ after) ≡ left ++ s ∷ rest =
-      turn_all-both (names_in p 0 before) (names_in p (length before + 1) after) (before ++ s ∷ after)
-      ∙ ap (turn_all (names_in p (length before + 1) after)) (turned_before p before (s ∷ after))
-      ∙ ap (λ (n : ℕ). turn_all (names_in p (n + 1) after) (left ++ s ∷ after)) (sym long)
+      let turned : turn_all (places_in p 0 before ++ places_in p (length before + 1) after) (before ++ s ∷ after) ≡ left ++ s ∷ rest =
+      turn_all-both (places_in p 0 before) (places_in p (length before + 1) after) (before ++ s ∷ after)
+      ∙ ap (turn_all (places_in p (length before + 1) after)) (turned_before p before (s ∷ after))
+      ∙ ap (λ (n : ℕ). turn_all (places_in p (n + 1) after) (left ++ s ∷ after)) (sym long)
       ∙ turned_after p left after s in
       ap (swap_at (Some w)) turned
       ∙ ap (λ (x : Slot). set (left ++ s ∷ rest) w.slot (with_other w x)) (get_or_at left s rest no_slot w.slot here)
@@ -150,21 +150,21 @@ module _ (e : Edit) (pool : List Pair) (before after : List Slot) (s : Slot) (w 
   new_pair : (with_other w s).mark.pair ≡ length pool
   new_pair = ap (λ (n : ℕ). other_pair n w.new s.mark.pair) old ∙ same_now w.new s.mark.pair ∙ new
 
-  left_within : PairsWithin (length pool) (map (turned_if (taken e pool)) before)
+  left_within : PairsWithin (length pool) (map (turned_if (is_taken e pool)) before)
   left_within = taken-within e pool (length pool) before (within-left (length pool) before (s ∷ after) pooled)
 
-  rest_within : PairsWithin (length pool) (map (turned_if (taken e pool)) after)
+  rest_within : PairsWithin (length pool) (map (turned_if (is_taken e pool)) after)
   rest_within =
       let all : PairsWithin (length pool) (s ∷ after) = within-right (length pool) before (s ∷ after) pooled in
       taken-within e pool (length pool) after (λ i. all (suc i))
 
-  pub replaced-within : PairsWithin (length (pool ++ e.pair ∷ [])) ((map (turned_if (taken e pool)) before ++ with_other w s ∷ []) ++ map (turned_if (taken e pool)) after)
+  pub replaced-within : PairsWithin (length (pool ++ e.pair ∷ [])) ((map (turned_if (is_taken e pool)) before ++ with_other w s ∷ []) ++ map (turned_if (is_taken e pool)) after)
   replaced-within =
       let n = length (pool ++ e.pair ∷ []) in
       let long = length_push pool e.pair in
       let le : length pool ≤ n = omega (arith, long) in
-      let left = map (turned_if (taken e pool)) before in
-      let rest = map (turned_if (taken e pool)) after in
+      let left = map (turned_if (is_taken e pool)) before in
+      let rest = map (turned_if (is_taken e pool)) after in
       let one : PairsWithin n (with_other w s ∷ []) = within-one n (with_other w s) (λ live. omega (arith, new_pair, long)) in
       within-append n (left ++ with_other w s ∷ []) rest (within-append n left (with_other w s ∷ []) (within-more (length pool) n left le left_within) one) (within-more (length pool) n rest le rest_within)
 
@@ -178,13 +178,13 @@ module _ (e : Edit) (pool : List Pair) (before after : List Slot) (s : Slot) (w 
   was_in_order : in_order (before ++ s ∷ after) ≡ first_slots ++ s ∷ last_slots
   was_in_order = in_order-middle before after s
 
-  is_in_order : in_order ((map (turned_if (taken e pool)) before ++ with_other w s ∷ []) ++ map (turned_if (taken e pool)) after) ≡ (map (turned_if (taken e pool)) first_slots ++ with_other w s ∷ []) ++ map (turned_if (taken e pool)) last_slots
+  is_in_order : in_order ((map (turned_if (is_taken e pool)) before ++ with_other w s ∷ []) ++ map (turned_if (is_taken e pool)) after) ≡ (map (turned_if (is_taken e pool)) first_slots ++ with_other w s ∷ []) ++ map (turned_if (is_taken e pool)) last_slots
   is_in_order =
-      let g = turned_if (taken e pool) in
+      let g = turned_if (is_taken e pool) in
       let s' = with_other w s in
       ap in_order (append_assoc (map g before) (s' ∷ []) (map g after))
       ∙ in_order-middle (map g before) (map g after) s'
-      ∙ ap₂ (λ (xs ys : List Slot). xs ++ s' ∷ ys) (ahead-map g (end-turned (taken e pool)) s.end before after) (behind-map g (end-turned (taken e pool)) s.end before after)
+      ∙ ap₂ (λ (xs ys : List Slot). xs ++ s' ∷ ys) (ahead-map g (end-turned (is_taken e pool)) s.end before after) (behind-map g (end-turned (is_taken e pool)) s.end before after)
       ∙ sym (append_assoc (map g first_slots) (s' ∷ []) (map g last_slots))
 
   order_within : PairsWithin (length pool) (first_slots ++ s ∷ last_slots)
@@ -193,17 +193,17 @@ module _ (e : Edit) (pool : List Pair) (before after : List Slot) (s : Slot) (w 
       let Q : List Slot → Type 0 = λ c. PairsWithin (length pool) c in
       subst Q was_in_order (all-in_order P (before ++ s ∷ after) pooled)
 
-  firsts_within : PairsWithin (length pool) (map (turned_if (taken e pool)) first_slots)
+  firsts_within : PairsWithin (length pool) (map (turned_if (is_taken e pool)) first_slots)
   firsts_within = taken-within e pool (length pool) first_slots (within-left (length pool) first_slots (s ∷ last_slots) order_within)
 
-  lasts_within : PairsWithin (length pool) (map (turned_if (taken e pool)) last_slots)
+  lasts_within : PairsWithin (length pool) (map (turned_if (is_taken e pool)) last_slots)
   lasts_within =
       let all : PairsWithin (length pool) (s ∷ last_slots) = within-right (length pool) first_slots (s ∷ last_slots) order_within in
       taken-within e pool (length pool) last_slots (λ i. all (suc i))
 
-  parts : (which : WhichList) → shown_pairs which (pool ++ e.pair ∷ []) ((map (turned_if (taken e pool)) before ++ with_other w s ∷ []) ++ map (turned_if (taken e pool)) after) ≡ (shown_of which pool (map (turned_if (taken e pool)) first_slots) ++ shown_of which (pool ++ e.pair ∷ []) (with_other w s ∷ [])) ++ shown_of which pool (map (turned_if (taken e pool)) last_slots)
+  parts : (which : WhichList) → shown_pairs which (pool ++ e.pair ∷ []) ((map (turned_if (is_taken e pool)) before ++ with_other w s ∷ []) ++ map (turned_if (is_taken e pool)) after) ≡ (shown_of which pool (map (turned_if (is_taken e pool)) first_slots) ++ shown_of which (pool ++ e.pair ∷ []) (with_other w s ∷ [])) ++ shown_of which pool (map (turned_if (is_taken e pool)) last_slots)
   parts which =
-      let g = turned_if (taken e pool) in
+      let g = turned_if (is_taken e pool) in
       let other = pool ++ e.pair ∷ [] in
       let s' = with_other w s in
       let left = map g first_slots in
@@ -214,9 +214,9 @@ module _ (e : Edit) (pool : List Pair) (before after : List Slot) (s : Slot) (w 
       ∙ ap (λ (xs : List Pair). xs ++ shown_of which other rest) (shown-append which other left (s' ∷ []))
       ∙ ap₂ (λ (xs ys : List Pair). (xs ++ shown_of which other (s' ∷ [])) ++ ys) (shown-agree which other pool left (agree-more pool e.pair left firsts_within)) (shown-agree which other pool rest (agree-more pool e.pair rest lasts_within))
 
-  pub state-replaced : shown_state (pool ++ e.pair ∷ []) ((map (turned_if (taken e pool)) before ++ with_other w s ∷ []) ++ map (turned_if (taken e pool)) after) ≡ edited e (shown_state pool (before ++ s ∷ after))
+  pub state-replaced : shown_state (pool ++ e.pair ∷ []) ((map (turned_if (is_taken e pool)) before ++ with_other w s ∷ []) ++ map (turned_if (is_taken e pool)) after) ≡ edited e (shown_state pool (before ++ s ∷ after))
   state-replaced =
-      let g = turned_if (taken e pool) in
+      let g = turned_if (is_taken e pool) in
       let other = pool ++ e.pair ∷ [] in
       let s' = with_other w s in
       let d = (map g before ++ s' ∷ []) ++ map g after in
@@ -227,8 +227,8 @@ module _ (e : Edit) (pool : List Pair) (before after : List Slot) (s : Slot) (w 
       let old_list : (which : WhichList) → shown_pairs which pool (before ++ s ∷ after) ≡ shown_of which pool first_slots ++ shown_of which pool (s ∷ last_slots) = λ which.
       shown_pairs-in_order which pool (before ++ s ∷ after) ∙ ap (shown_of which pool) was_in_order ∙ shown-append which pool first_slots (s ∷ last_slots) in
       let none_shown : list_any (has_id e.pair.id) B ≡ false = sym (any_of_shown e.list e.pair.id pool first_slots) ∙ none in
-      let kept : shown_of e.list pool (map g first_slots) ≡ B = shown_taken e.list pool (goes e.op e.pair) first_slots ∙ ap (λ (o : Op). filter (λ y. not (goes o e.pair y)) B) op ∙ none_filtered (has_id e.pair.id) B none_shown in
-      let gone : shown_of e.list pool (map g last_slots) ≡ filter (is_other e.pair.id) A = shown_taken e.list pool (goes e.op e.pair) last_slots ∙ ap (λ (o : Op). filter (λ y. not (goes o e.pair y)) A) op in
+      let kept : shown_of e.list pool (map g first_slots) ≡ B = shown_taken e.list pool (is_removed e.op e.pair) first_slots ∙ ap (λ (o : Op). filter (λ y. not (is_removed o e.pair y)) B) op ∙ none_filtered (has_id e.pair.id) B none_shown in
+      let gone : shown_of e.list pool (map g last_slots) ≡ filter (is_other e.pair.id) A = shown_taken e.list pool (is_removed e.op e.pair) last_slots ∙ ap (λ (o : Op). filter (λ y. not (is_removed o e.pair y)) A) op in
       let own : shown_pairs e.list other d ≡ apply e.op e.pair (shown_pairs e.list pool (before ++ s ∷ after)) =
       parts e.list
       ∙ ap₂ (λ (xs ys : List Pair). (xs ++ shown_of e.list other (s' ∷ [])) ++ ys) kept gone
@@ -239,7 +239,7 @@ module _ (e : Edit) (pool : List Pair) (before after : List Slot) (s : Slot) (w 
       ∙ sym (ap (λ (o : Op). apply o e.pair (shown_pairs e.list pool (before ++ s ∷ after))) op) in
       state_edited e pool other (before ++ s ∷ after) d own (λ which ne.
       let hidden : shows which s ≡ false = hidden_elsewhere which e.list s.mark.live s ne shown_here in
-      let stay : (c : List Slot) → shown_of which pool (map g c) ≡ shown_of which pool c = λ c. shown_stay which e.list pool (λ t. goes e.op e.pair (slot_pair pool t)) c ne in
+      let stay : (c : List Slot) → shown_of which pool (map g c) ≡ shown_of which pool c = λ c. shown_stay which e.list pool (λ t. is_removed e.op e.pair (slot_pair pool t)) c ne in
       parts which
       ∙ ap₂ (λ (xs ys : List Pair). (xs ++ shown_of which other (s' ∷ [])) ++ ys) (stay first_slots) (stay last_slots)
       ∙ ap (λ (xs : List Pair). (shown_of which pool first_slots ++ xs) ++ shown_of which pool last_slots) (one_hidden which other s' hidden)

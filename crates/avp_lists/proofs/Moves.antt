@@ -5,25 +5,25 @@ use Rattle.avp_lists.specs.declared.lists.State.{State}
 use Rattle.avp_lists.specs.declared.slots.Slot.{Slot}
 use Rattle.avp_lists.specs.declared.steps.Step.{Step}
 use Rattle.avp_lists.specs.States.{empty_state, IsLimited}
-use Rattle.avp_lists.specs.internal.Slots.{at_first}
-use Rattle.avp_lists.specs.internal.Steps.{replay, shown_states, slots_at, step_at, change_at, turns, node, names_of, swap_of, BacksBelow, StepsWithin, AllCounted, CountsWithin, AllHoused, StatesLimited}
+use Rattle.avp_lists.specs.internal.Slots.{at_initial}
+use Rattle.avp_lists.specs.internal.Steps.{replay, shown_states, slots_at, step_at, change_at, turns, node, places_of, swap_of, BacksBelow, StepsWithin, AllCounted, CountsWithin, AllHoused, StatesLimited}
 use Rattle.avp_lists.specs.internal.Shown.{shown_state}
-use Rattle.avp_lists.specs.internal.Slots.{NamesWithin, SwapWithin, Housed}
+use Rattle.avp_lists.specs.internal.Slots.{PlacesWithin, SwapWithin, Housed}
 use Rattle.avp_lists.proofs.Replay.{node_fits, slots_at-same}
 
-module _ (pool : List Pair) (slots moved : List Slot) (steps : List Step) (firsts : map at_first moved ≡ map at_first slots) where
+module _ (pool : List Pair) (slots moved : List Slot) (steps : List Step) (initials : map at_initial moved ≡ map at_initial slots) where
   pub states-same : shown_states pool moved steps ≡ shown_states pool slots steps
-  states-same = ap (λ (f : List Slot). map (shown_state pool) (replay f [] steps)) firsts
+  states-same = ap (λ (f : List Slot). map (shown_state pool) (replay f [] steps)) initials
 
   pub housed-same : AllHoused slots steps → AllHoused moved steps
-  housed-same housed k = subst (Housed (step_at steps k).slots (step_at steps k).pairs) (sym (slots_at-same moved slots steps k firsts)) (housed k)
+  housed-same housed k = subst (Housed (step_at steps k).slots (step_at steps k).pairs) (sym (slots_at-same moved slots steps k initials)) (housed k)
 
   pub limited-same : StatesLimited pool slots steps → StatesLimited pool moved steps
   limited-same limited k = let P : List State → Type 0 = λ c. IsLimited (get_or c k empty_state) in subst P (sym states-same) (limited k)
 
   -- at the place that was moved to
   pub standing-moved : (to : ℕ) → BacksBelow steps → to < length steps → moved ≡ slots_at slots steps (node steps to) → slots_at moved steps to ≡ moved
-  standing-moved to below within at = slots_at-same moved slots steps to firsts ∙ sym (node_fits slots steps to below within).2 ∙ sym at
+  standing-moved to below within at = slots_at-same moved slots steps to initials ∙ sym (node_fits slots steps to below within).2 ∙ sym at
 
 -- what a move asks of a place
 pub node_within : (slots : List Slot) (steps : List Step) (k n : ℕ) → BacksBelow steps → k < length steps → n ≡ node steps k → (n < length steps) × (turns (change_at steps n) ≡ true)
@@ -36,10 +36,10 @@ node_within slots steps k n below within e =
 pub node_standing : (slots : List Slot) (steps : List Step) (k n : ℕ) → BacksBelow steps → k < length steps → n ≡ node steps k → slots_at slots steps k ≡ slots → slots ≡ slots_at slots steps n
 node_standing slots steps k n below within e standing = sym standing ∙ sym (node_fits slots steps k below within).2 ∙ ap (slots_at slots steps) (sym e)
 
--- what steps name is among the slots
-pub names_in_more : (names : List ℕ) (a b : ℕ) → a ≤ b → NamesWithin a names → NamesWithin b names
-names_in_more names a b le h i lt =
-    let low : get_or names i 0 < a = h i lt in
+-- what steps turn is among the slots
+pub places_more : (places : List ℕ) (a b : ℕ) → a ≤ b → PlacesWithin a places → PlacesWithin b places
+places_more places a b le h i lt =
+    let low : get_or places i 0 < a = h i lt in
     omega arith
 
 pub steps_within : (m n : ℕ) (steps : List Step) → AllCounted steps → CountsWithin m n steps → StepsWithin m steps
@@ -48,4 +48,4 @@ steps_within m n steps counted counts k =
     let all = counts k in
     let le : (step_at steps k).slots ≤ m = all.0 in
     let s : SwapWithin (step_at steps k).slots (swap_of (change_at steps k)) = c.1 in
-    (names_in_more (names_of (change_at steps k)) (step_at steps k).slots m le c.0, omega (arith, s, le))
+    (places_more (places_of (change_at steps k)) (step_at steps k).slots m le c.0, omega (arith, s, le))

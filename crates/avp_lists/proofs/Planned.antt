@@ -1,42 +1,46 @@
 -- Each operator's plan makes of the slots what the operator makes of the list.
-use Rattle.std.proofs.Common.{◌≡◌, ℕ, zero, suc, ◌+◌, ◌<◌, ◌≤◌, true, false, not, cond, List, [], ◌∷◌, ◌++◌, Some, None, length, map, take, drop, refl, sym, ap, ◌∙◌, subst, arith, append-nil}
-use Rattle.std.specs.List.{list_any}
+use Rattle.std.proofs.Common.{◌≡◌, ℕ, zero, suc, ◌+◌, ◌<◌, ◌≤◌, Bool, true, false, not, ◌&&◌, cond, List, [], ◌∷◌, ◌++◌, Some, None, length, map, take, drop, refl, sym, ap, ap₂, ◌∙◌, subst, arith, append-nil}
+use Rattle.std.specs.List.{filter, list_any}
 use Rattle.std.specs.declared.vec.Vec.{Vec}
 use Rattle.std.specs.declared.alloc.Global.{Global}
-use Rattle.std.proofs.lemmas.List.{length-take-le, length-drop, take-append-drop, drop_more, length_push}
+use Rattle.std.proofs.lemmas.List.{length-take-le, take-append-drop, drop_more, length_push}
 use Rattle.avp_lists.specs.declared.pairs.Pair.{Pair}
 use Rattle.avp_lists.specs.declared.edits.Edit.{Edit}
 use Rattle.avp_lists.specs.declared.edits.Op.{Op}
 use Rattle.avp_lists.specs.declared.edits.Op.TheVariants.{AddNew, Replace}
+use Rattle.avp_lists.specs.declared.slots.End.{End}
+use Rattle.avp_lists.specs.declared.slots.End.TheVariants.{Head, Tail}
 use Rattle.avp_lists.specs.declared.slots.Slot.{Slot}
 use Rattle.avp_lists.specs.declared.slots.Swap.{Swap}
 use Rattle.avp_lists.specs.internal.Growth.{adds_one, removes}
 use Rattle.avp_lists.specs.Instances.{has_id}
 use Rattle.avp_lists.specs.Operators.{apply}
-use Rattle.avp_lists.specs.internal.Plans.{end_for, taken, names_in, IsPlan}
-use Rattle.avp_lists.specs.internal.Shown.{shows_id, ahead_at, shown_pairs, shown_state}
-use Rattle.avp_lists.specs.internal.Slots.{no_slot, slot_at, flipped, turn_all, with_other, forward, NamesWithin, PairsWithin}
+use Rattle.avp_lists.specs.internal.Plans.{end_for, is_removed, is_taken, is_taken_at, taken_at_end, taken_places, places_in, IsPlan}
+use Rattle.avp_lists.specs.internal.Shown.{same_end, shows, shows_at, shows_id, slot_pair, ahead_at, shown_pairs, shown_state}
+use Rattle.avp_lists.specs.internal.Slots.{no_slot, slot_at, flipped, turn_all, swap_at, with_other, forward, PlacesWithin, PairsWithin}
 use Rattle.avp_lists.specs.States.{edited}
 use Rattle.avp_lists.proofs.Editing.{turned_if, turned_where}
-use Rattle.avp_lists.proofs.Edited.{state_edited, names_in-within, taken-within, state-removed}
+use Rattle.avp_lists.proofs.Edited.{state_edited, places_in-within, taken-within, state-removed}
+use Rattle.avp_lists.proofs.PlacesInOrder.{places-passing}
+use Rattle.avp_lists.proofs.TurnedPlaces.{either, odd, turn_all-odd, odd-append, odd-filter, odd-either, is_not, others-middle}
 use Rattle.avp_lists.proofs.Entering.{added-turned, added-within, state-added, replaced-turned, replaced-within, state-replaced}
 
-one_name : (n m : ℕ) → n < m → NamesWithin m (n ∷ [])
-one_name n m lt zero h = lt
-one_name n m lt (suc i) h = absurd (omega (arith, h))
+one_place : (n m : ℕ) → n < m → PlacesWithin m (n ∷ [])
+one_place n m lt zero h = lt
+one_place n m lt (suc i) h = absurd (omega (arith, h))
 
 none_added : (s : Slot) → None ≡ Some s → ⊥
 none_added s h = cc
 
 -- the pair gets a slot of its own
-pub plan-added : (e : Edit) (pool : List Pair) (c : List Slot) (s : Slot) (v : Vec ℕ Global) → PairsWithin (length pool) c → adds_one e.op e.pair.id (shown_pairs e.list pool c) ≡ true → s.list ≡ e.list → s.end ≡ end_for e.op → s.mark.live ≡ false → s.mark.pair ≡ length pool → s.first ≡ s.mark → v.items ≡ length c ∷ [] → IsPlan e pool c (record { turned = v; swap = None; added = Some s })
+pub plan-added : (e : Edit) (pool : List Pair) (c : List Slot) (s : Slot) (v : Vec ℕ Global) → PairsWithin (length pool) c → adds_one e.op e.pair.id (shown_pairs e.list pool c) ≡ true → s.list ≡ e.list → s.end ≡ end_for e.op → s.mark.live ≡ false → s.mark.pair ≡ length pool → s.initial ≡ s.mark → v.items ≡ length c ∷ [] → IsPlan e pool c (record { turned = v; swap = None; added = Some s })
 plan-added e pool c s v fits adds of_list at_end off pair first N =
     let turned : turn_all v.items (c ++ s ∷ []) ≡ c ++ flipped s ∷ [] = ap (λ (ns : List ℕ). turn_all ns (c ++ s ∷ [])) N ∙ added-turned e pool c s fits adds of_list at_end off pair in
     let P : List Slot → Type 0 = λ d. PairsWithin (length (pool ++ e.pair ∷ [])) d in
-    let Q : List ℕ → Type 0 = λ ns. NamesWithin (length (c ++ s ∷ [])) ns in
-    let R : Slot → Type 0 = λ t. (t.mark.live ≡ false) × (t.first ≡ t.mark) in
+    let Q : List ℕ → Type 0 = λ ns. PlacesWithin (length (c ++ s ∷ [])) ns in
+    let R : Slot → Type 0 = λ t. (t.mark.live ≡ false) × (t.initial ≡ t.mark) in
     record {
-      names = subst Q (sym N) (one_name (length c) (length (c ++ s ∷ [])) (omega (arith, length_push c s)));
+      places = subst Q (sym N) (one_place (length c) (length (c ++ s ∷ [])) (omega (arith, length_push c s)));
       swap = omega arith;
       added = λ t is. let same : s ≡ t = cc in subst R same (off, first);
       within = subst P (sym turned) (added-within e pool c s fits adds of_list at_end off pair);
@@ -44,26 +48,77 @@ plan-added e pool c s v fits adds of_list at_end off pair first N =
     }
 
 -- what is turned without a swap and without a slot more
-plain : (e : Edit) (pool : List Pair) (c d : List Slot) (v : Vec ℕ Global) → NamesWithin (length c) v.items → turn_all v.items c ≡ d → PairsWithin (length pool) d → shown_state pool d ≡ edited e (shown_state pool c) → IsPlan e pool c (record { turned = v; swap = None; added = None })
-plain e pool c d v names turned within state =
+plain : (e : Edit) (pool : List Pair) (c d : List Slot) (v : Vec ℕ Global) → PlacesWithin (length c) v.items → turn_all v.items c ≡ d → PairsWithin (length pool) d → shown_state pool d ≡ edited e (shown_state pool c) → IsPlan e pool c (record { turned = v; swap = None; added = None })
+plain e pool c d v places turned within state =
     let same : turn_all v.items (c ++ []) ≡ d = ap (turn_all v.items) (append-nil c) ∙ turned in
     let P : List Slot → Type 0 = λ x. PairsWithin (length pool) x in
-    let Q : List Slot → Type 0 = λ x. NamesWithin (length x) v.items in
+    let Q : List Slot → Type 0 = λ x. PlacesWithin (length x) v.items in
     record {
-      names = subst Q (sym (append-nil c)) names;
+      places = subst Q (sym (append-nil c)) places;
       swap = omega arith;
       added = λ t is. absurd (none_added t is);
       within = subst P (sym same) within;
       state = ap (shown_state pool) same ∙ state;
     }
 
+-- places of two parts
+places_both : (n : ℕ) (a b : List ℕ) → PlacesWithin n a → PlacesWithin n b → PlacesWithin n (a ++ b)
+places_both n [] b left right i h = right i h
+places_both n (x ∷ xs) b left right zero h = left 0 (omega arith)
+places_both n (x ∷ xs) b left right (suc i) h = places_both n xs b (λ j lt. left (suc j) (omega (arith, lt))) right i (omega (arith, h))
+
+within-filter : (n : ℕ) (q : ℕ → Bool) (xs : List ℕ) → PlacesWithin n xs → PlacesWithin n (filter q xs)
+within-filter n q [] h = h
+within-filter n q (x ∷ xs) h =
+    let rest = within-filter n q xs (λ i lt. h (suc i) (omega (arith, lt))) in
+    elim (q x) as (λ b. PlacesWithin n (cond b (x ∷ filter q xs) (filter q xs))) [
+      | true ↦ one_more n x (filter q xs) (h 0 (omega arith)) rest
+      | false ↦ rest
+    ]
+  where
+    one_more : (n x : ℕ) (xs : List ℕ) → x < n → PlacesWithin n xs → PlacesWithin n (x ∷ xs)
+    one_more n x xs first rest zero lt = first
+    one_more n x xs first rest (suc i) lt = rest i (omega (arith, lt))
+
+-- what is taken away is turned, in the order of its places or in another
+end-inside : (end : End) (e : Edit) (pool : List Pair) (c : List Slot) → PlacesWithin (length c) (taken_at_end end e pool c)
+end-inside end e pool c = within-filter (length c) (is_taken_at e pool c) (places_in (shows_at end e.list) 0 c) (λ i h. omega (arith, places_in-within (shows_at end e.list) 0 c i h))
+
+taken-inside : (e : Edit) (pool : List Pair) (c : List Slot) → PlacesWithin (length c) (taken_places e pool c)
+taken-inside e pool c = places_both (length c) (taken_at_end Head e pool c) (taken_at_end Tail e pool c) (end-inside Head e pool c) (end-inside Tail e pool c)
+
+either_end : (end : End) (l r : Bool) → either ((same_end Head end && l) && (l && r)) ((same_end Tail end && l) && (l && r)) ≡ (l && r)
+either_end Head true true = refl
+either_end Head true false = refl
+either_end Head false r = refl
+either_end Tail true r = refl
+either_end Tail false r = refl
+
+taken-odd : (e : Edit) (pool : List Pair) (c : List Slot) (i : ℕ) → odd i (taken_places e pool c) ≡ odd i (places_in (is_taken e pool) 0 c)
+taken-odd e pool c i =
+    let t = is_taken e pool in
+    let p = shows_at Head e.list in
+    let q = shows_at Tail e.list in
+    odd-append i (taken_at_end Head e pool c) (taken_at_end Tail e pool c)
+    ∙ ap₂ either (ap (odd i) (places-passing p t c)) (ap (odd i) (places-passing q t c))
+    ∙ odd-either (λ s. p s && t s) (λ s. q s && t s) t (λ s. either_end s.end (shows e.list s) (is_removed e.op e.pair (slot_pair pool s))) i 0 c
+
+-- but one
+others-odd : (e : Edit) (pool : List Pair) (before after : List Slot) (s : Slot) (first : ℕ) → length before ≡ first → (i : ℕ) → odd i (filter (is_not first) (taken_places e pool (before ++ s ∷ after))) ≡ odd i (places_in (is_taken e pool) 0 before ++ places_in (is_taken e pool) (length before + 1) after)
+others-odd e pool before after s first long i =
+    let c = before ++ s ∷ after in
+    let p = is_taken e pool in
+    odd-filter (is_not first) i (taken_places e pool c)
+    ∙ ap (λ (b : Bool). b && is_not first i) (taken-odd e pool c i)
+    ∙ sym (odd-filter (is_not first) i (places_in p 0 c))
+    ∙ ap (odd i) (others-middle p before after s first long)
+
 -- pairs go
-pub plan-removed : (e : Edit) (pool : List Pair) (c : List Slot) (v : Vec ℕ Global) → PairsWithin (length pool) c → removes e.op ≡ true → v.items ≡ names_in (taken e pool) 0 c → IsPlan e pool c (record { turned = v; swap = None; added = None })
+pub plan-removed : (e : Edit) (pool : List Pair) (c : List Slot) (v : Vec ℕ Global) → PairsWithin (length pool) c → removes e.op ≡ true → v.items ≡ taken_places e pool c → IsPlan e pool c (record { turned = v; swap = None; added = None })
 plan-removed e pool c v fits rem N =
-    let Q : List ℕ → Type 0 = λ ns. NamesWithin (length c) ns in
-    let names : NamesWithin (length c) (names_in (taken e pool) 0 c) = λ i h. omega (arith, names_in-within (taken e pool) 0 c i h) in
-    plain e pool c (map (turned_if (taken e pool)) c) v (subst Q (sym N) names)
-    (ap (λ (ns : List ℕ). turn_all ns c) N ∙ turned_where (taken e pool) [] c)
+    let Q : List ℕ → Type 0 = λ ns. PlacesWithin (length c) ns in
+    plain e pool c (map (turned_if (is_taken e pool)) c) v (subst Q (sym N) (taken-inside e pool c))
+    (ap (λ (ns : List ℕ). turn_all ns c) N ∙ turn_all-odd (taken_places e pool c) (places_in (is_taken e pool) 0 c) c (taken-odd e pool c) ∙ turned_where (is_taken e pool) [] c)
     (taken-within e pool (length pool) c fits)
     (state-removed e pool c rem)
 
@@ -76,24 +131,18 @@ kept_applied op p xs is none =
 
 pub plan-kept : (e : Edit) (pool : List Pair) (c : List Slot) (v : Vec ℕ Global) → PairsWithin (length pool) c → e.op ≡ AddNew → adds_one e.op e.pair.id (shown_pairs e.list pool c) ≡ false → v.items ≡ [] → IsPlan e pool c (record { turned = v; swap = None; added = None })
 plan-kept e pool c v fits op none N =
-    let Q : List ℕ → Type 0 = λ ns. NamesWithin (length c) ns in
+    let Q : List ℕ → Type 0 = λ ns. PlacesWithin (length c) ns in
     plain e pool c c v (subst Q (sym N) (λ i h. absurd (omega (arith, h)))) (ap (λ (ns : List ℕ). turn_all ns c) N) fits
     (state_edited e pool pool c c (sym (kept_applied e.op e.pair (shown_pairs e.list pool c) op none)) (λ which ne. refl))
 
--- names of two parts
-names_both : (n : ℕ) (a b : List ℕ) → NamesWithin n a → NamesWithin n b → NamesWithin n (a ++ b)
-names_both n [] b left right i h = right i h
-names_both n (x ∷ xs) b left right zero h = left 0 (omega arith)
-names_both n (x ∷ xs) b left right (suc i) h = names_both n xs b (λ j lt. left (suc j) (omega (arith, lt))) right i (omega (arith, h))
-
 -- the pair takes the place of another
-pub plan-replaced : (e : Edit) (pool : List Pair) (c : List Slot) (first : ℕ) (w : Swap) (v : Vec ℕ Global) → PairsWithin (length pool) c → e.op ≡ Replace → first < length c → shows_id e.list e.pair.id pool (slot_at c first) ≡ true → list_any (shows_id e.list e.pair.id pool) (ahead_at first c) ≡ false → w.slot ≡ first → w.old ≡ (slot_at c first).mark.pair → w.new ≡ length pool → v.items ≡ names_in (taken e pool) 0 (take first c) ++ names_in (taken e pool) (first + 1) (drop (first + 1) c) → IsPlan e pool c (record { turned = v; swap = Some w; added = None })
+pub plan-replaced : (e : Edit) (pool : List Pair) (c : List Slot) (first : ℕ) (w : Swap) (v : Vec ℕ Global) → PairsWithin (length pool) c → e.op ≡ Replace → first < length c → shows_id e.list e.pair.id pool (slot_at c first) ≡ true → list_any (shows_id e.list e.pair.id pool) (ahead_at first c) ≡ false → w.slot ≡ first → w.old ≡ (slot_at c first).mark.pair → w.new ≡ length pool → v.items ≡ filter (is_not first) (taken_places e pool c) → IsPlan e pool c (record { turned = v; swap = Some w; added = None })
 plan-replaced e pool c first w v fits op within shown none at old new N =
     let before = take first c in
     let s = slot_at c first in
     let after = drop (first + 1) c in
     let other = pool ++ e.pair ∷ [] in
-    let p = taken e pool in
+    let p = is_taken e pool in
     let le : first ≤ length c = omega (arith, within) in
     let long : length before ≡ first = length-take-le first c le in
     let whole : c ≡ before ++ s ∷ after = sym (take-append-drop first c) ∙ ap (λ (xs : List Slot). before ++ xs) (drop_more c first no_slot within) in
@@ -101,20 +150,22 @@ plan-replaced e pool c first w v fits op within shown none at old new N =
     let parts_fit : PairsWithin (length pool) (before ++ s ∷ after) = subst P whole fits in
     let here : w.slot ≡ length before = at ∙ sym long in
     let d = (map (turned_if p) before ++ with_other w s ∷ []) ++ map (turned_if p) after in
-    let names : v.items ≡ names_in p 0 before ++ names_in p (length before + 1) after = N ∙ ap (λ (n : ℕ). names_in p 0 before ++ names_in p (n + 1) after) (sym long) in
+    let two = places_in p 0 before ++ places_in p (length before + 1) after in
+    let same : (i : ℕ) → odd i v.items ≡ odd i two = λ i.
+    ap (odd i) N
+    ∙ ap (λ (xs : List Slot). odd i (filter (is_not first) (taken_places e pool xs))) whole
+    ∙ others-odd e pool before after s first long i in
     let turned : forward v.items (Some w) (c ++ []) ≡ d =
     ap (forward v.items (Some w)) (append-nil c ∙ whole)
-    ∙ ap (λ (ns : List ℕ). forward ns (Some w) (before ++ s ∷ after)) names
+    ∙ ap (swap_at (Some w)) (turn_all-odd v.items two (before ++ s ∷ after) same)
     ∙ replaced-turned e pool before after s w op parts_fit shown none here old new in
     let A : List Slot → Type 0 = λ x. PairsWithin (length other) x in
-    let Q : List ℕ → Type 0 = λ ns. NamesWithin (length (c ++ [])) ns in
+    let Q : List ℕ → Type 0 = λ ns. PlacesWithin (length (c ++ [])) ns in
     let end : length (c ++ []) ≡ length c = ap length (append-nil c) in
-    let left : NamesWithin (length (c ++ [])) (names_in p 0 before) = λ i h. omega (arith, names_in-within p 0 before i h, long, end, within) in
-    let right : NamesWithin (length (c ++ [])) (names_in p (first + 1) after) = λ i h.
-    omega (arith, names_in-within p (first + 1) after i h, length-drop (first + 1) c, end, within) in
-    let all : NamesWithin (length (c ++ [])) (names_in p 0 before ++ names_in p (first + 1) after) = names_both (length (c ++ [])) (names_in p 0 before) (names_in p (first + 1) after) left right in
+    let all : PlacesWithin (length (c ++ [])) (filter (is_not first) (taken_places e pool c)) = λ i h.
+    omega (arith, within-filter (length c) (is_not first) (taken_places e pool c) (taken-inside e pool c) i h, end) in
     record {
-      names = subst Q (sym N) all;
+      places = subst Q (sym N) all;
       swap = omega (arith, at, end, within);
       added = λ t is. absurd (none_added t is);
       within = subst A (sym turned) (replaced-within e pool before after s w op parts_fit shown none here old new);

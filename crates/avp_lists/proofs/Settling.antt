@@ -14,14 +14,14 @@ use Rattle.avp_lists.specs.declared.steps.Change.{Change}
 use Rattle.avp_lists.specs.declared.steps.Change.TheVariants.{Turned, Back}
 use Rattle.avp_lists.specs.declared.steps.Step.{Step}
 use Rattle.avp_lists.specs.States.{empty_state, IsLimited}
-use Rattle.avp_lists.specs.internal.Slots.{no_slot, slot_at, is_live, at_first, kept, turn_all, Housed, PairsWithin}
-use Rattle.avp_lists.specs.internal.Steps.{shown_states, after, every, slots_at, step_at, change_at, turns, BacksBelow, NamesCounted, AllCounted, CountsWithin, CountsGrow, AllHoused, StatesLimited}
+use Rattle.avp_lists.specs.internal.Slots.{no_slot, slot_at, is_live, at_initial, kept, turn_all, Housed, PairsWithin}
+use Rattle.avp_lists.specs.internal.Steps.{shown_states, after, every, slots_at, step_at, change_at, turns, BacksBelow, PlacesCounted, AllCounted, CountsWithin, CountsGrow, AllHoused, StatesLimited}
 use Rattle.avp_lists.specs.internal.Shown.{shows, slot_pair, shown_pairs, shown_state}
 use Rattle.avp_lists.proofs.InOrder.{in_order, shown_of, in_order-map, in_order-filter, shown_pairs-in_order}
 
-pub firsts-kept : (c : List Slot) → map at_first (map kept c) ≡ map kept c
-firsts-kept [] = refl
-firsts-kept (s ∷ ss) = ap (λ (xs : List Slot). kept s ∷ xs) (firsts-kept ss)
+pub initials-kept : (c : List Slot) → map at_initial (map kept c) ≡ map kept c
+initials-kept [] = refl
+initials-kept (s ∷ ss) = ap (λ (xs : List Slot). kept s ∷ xs) (initials-kept ss)
 
 shown-kept : (which : WhichList) (pool : List Pair) (c : List Slot) → shown_of which pool (map kept c) ≡ shown_of which pool c
 shown-kept which pool [] = refl
@@ -112,24 +112,24 @@ housed_all n c pooled i live = elim (cases_lt i (length c)) [
 ]
 
 -- the only step turns nothing
-module _ (slots : List Slot) (steps : List Step) (v : Vec ℕ Global) (e : Step) (firsts : map at_first slots ≡ slots) (N : steps ≡ e ∷ []) (T : e.change ≡ Turned v None) (Z : v.items ≡ []) where
+module _ (slots : List Slot) (steps : List Step) (v : Vec ℕ Global) (e : Step) (initials : map at_initial slots ≡ slots) (N : steps ≡ e ∷ []) (T : e.change ≡ Turned v None) (Z : v.items ≡ []) where
   every-alone : every slots steps ≡ slots ∷ []
   every-alone =
-      let f = map at_first slots in
+      let f = map at_initial slots in
       let still : after f [] e.change ≡ f = ap (after f []) T ∙ ap (λ (ns : List ℕ). turn_all ns f) Z in
-      ap (every slots) N ∙ ap (λ (x : List Slot). x ∷ []) (still ∙ firsts)
+      ap (every slots) N ∙ ap (λ (x : List Slot). x ∷ []) (still ∙ initials)
 
   pub standing-alone : slots_at slots steps 0 ≡ slots
   standing-alone = ap (λ (xs : List (List Slot)). get_or xs 0 []) every-alone
 
-  names-alone : (k : ℕ) → NamesCounted (step_at (e ∷ []) k)
-  names-alone zero =
-      let P : Change → Type 0 = λ x. NamesCounted (record { change = x; slots = e.slots; pairs = e.pairs }) in
+  places-alone : (k : ℕ) → PlacesCounted (step_at (e ∷ []) k)
+  places-alone zero =
+      let P : Change → Type 0 = λ x. PlacesCounted (record { change = x; slots = e.slots; pairs = e.pairs }) in
       subst P (sym T) (λ i h. absurd (omega (arith, h, ap length Z)), omega arith)
-  names-alone (suc k) = (λ i h. absurd (omega (arith, h)), omega arith)
+  places-alone (suc k) = (λ i h. absurd (omega (arith, h)), omega arith)
 
   pub counted-alone : AllCounted steps
-  counted-alone = subst AllCounted (sym N) names-alone
+  counted-alone = subst AllCounted (sym N) places-alone
 
   counts-one : (m n k : ℕ) → e.slots ≤ m → e.pairs ≤ n → ((step_at (e ∷ []) k).slots ≤ m) × ((step_at (e ∷ []) k).pairs ≤ n)
   counts-one m n zero s p = (s, p)

@@ -1,8 +1,8 @@
 -- The pairs that slots show.
-use Rattle.std.proofs.Common.{◌≡◌, ℕ, suc, ◌<◌, ◌≤◌, true, false, ◌&&◌, not, cond, Option, Some, None, List, [], ◌∷◌, ◌++◌, length, get_or, map, refl, sym, ap, ap₂, ◌∙◌, subst, arith}
+use Rattle.std.proofs.Common.{◌≡◌, ℕ, suc, ◌<◌, ◌≤◌, true, false, ◌&&◌, cond, Option, Some, None, List, [], ◌∷◌, ◌++◌, length, get_or, map, refl, sym, ap, ap₂, ◌∙◌, subst, arith}
 use Rattle.std.specs.Prelude.{reverse}
 use Rattle.std.specs.List.{filter, list_any}
-use Rattle.std.specs.Option.{is_none, IfSome, IfNone}
+use Rattle.std.specs.Option.{is_some, IfSome, IfNone}
 use Rattle.std.proofs.lemmas.List.Folds.{list_any_at}
 use Rattle.avp_lists.specs.declared.pairs.AttrId.{AttrId}
 use Rattle.std.proofs.lemmas.List.{append-nil, get_or-map, length-map, map-append}
@@ -91,9 +91,9 @@ length-shown_pairs which pool c =
     ∙ length-in_order (filter (shows which) c)
 
 -- whether a slot was found
-pub none_where : (which : WhichList) (id : AttrId) (pool : List Pair) (c : List Slot) (o : Option ℕ) → IfSome o (λ at. (at < length c) × (shows_id which id pool (slot_at c at) ≡ true)) → IfNone o (list_any (shows_id which id pool) c ≡ false) → is_none o ≡ not (list_any (shows_id which id pool) c)
-none_where which id pool c None some none = rw none refl
-none_where which id pool c (Some at) some none = rw (list_any_at (shows_id which id pool) c at no_slot some.0 some.1) refl
+pub found_where : (which : WhichList) (id : AttrId) (pool : List Pair) (c : List Slot) (o : Option ℕ) → IfSome o (λ at. (at < length c) × (shows_id which id pool (slot_at c at) ≡ true)) → IfNone o (list_any (shows_id which id pool) c ≡ false) → is_some o ≡ list_any (shows_id which id pool) c
+found_where which id pool c None some none = rw none refl
+found_where which id pool c (Some at) some none = rw (list_any_at (shows_id which id pool) c at no_slot some.0 some.1) refl
 
 -- slots that show nothing
 pub shown-dark : (which : WhichList) (pool : List Pair) (c : List Slot) → ((i : ℕ) → (slot_at c i).mark.live ≡ true → ⊥) → shown_of which pool c ≡ []

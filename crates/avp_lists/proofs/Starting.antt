@@ -8,7 +8,7 @@ use Rattle.avp_lists.specs.declared.lists.List.TheVariants.{Request, Reply, Cont
 use Rattle.avp_lists.specs.declared.slots.End.TheVariants.{Head, Tail}
 use Rattle.avp_lists.specs.declared.slots.Slot.{Slot}
 use Rattle.avp_lists.specs.internal.Shown.{same_list, shows, no_pair, slot_pair, entered_at, shown_pairs, shown_state}
-use Rattle.avp_lists.specs.internal.Slots.{slot_at, at_first, PairsWithin}
+use Rattle.avp_lists.specs.internal.Slots.{slot_at, at_initial, PairsWithin}
 use Rattle.avp_lists.proofs.Edited.{same_itself, within-append, within-more}
 use Rattle.avp_lists.proofs.InOrder.{shown_of}
 use Rattle.avp_lists.proofs.ShownPairs.{shown_pairs-tails, shown_pairs-agree}
@@ -66,9 +66,9 @@ fresh-pairs pool which at (suc n) h =
     ap (λ (xs : List Pair). get_or pool at no_pair ∷ xs) (fresh-pairs pool which (at + 1) n le)
     ∙ ap (take (suc n)) (sym (drop_more pool at no_pair lt))
 
-fresh-firsts : (which : WhichList) (at n : ℕ) → map at_first (fresh which at n) ≡ fresh which at n
-fresh-firsts which at zero = refl
-fresh-firsts which at (suc n) = ap (λ (xs : List Slot). fresh_slot which at ∷ xs) (fresh-firsts which (at + 1) n)
+fresh-initials : (which : WhichList) (at n : ℕ) → map at_initial (fresh which at n) ≡ fresh which at n
+fresh-initials which at zero = refl
+fresh-initials which at (suc n) = ap (λ (xs : List Slot). fresh_slot which at ∷ xs) (fresh-initials which (at + 1) n)
 
 fresh-within : (which : WhichList) (at n m : ℕ) → at + n ≤ m → PairsWithin m (fresh which at n)
 fresh-within which at zero m le i live = cc
@@ -80,10 +80,10 @@ module _ (which : WhichList) (pool xs other : List Pair) (slots more : List Slot
   pub started-length : length more ≡ length slots + length xs
   started-length = ap length N ∙ length-append slots (fresh which (length pool) (length xs)) ∙ ap (λ (n : ℕ). length slots + n) (length-fresh which (length pool) (length xs))
 
-  pub started-firsts : map at_first slots ≡ slots → map at_first more ≡ more
-  started-firsts firsts =
+  pub started-initials : map at_initial slots ≡ slots → map at_initial more ≡ more
+  started-initials initials =
       let end = fresh which (length pool) (length xs) in
-      ap (map at_first) N ∙ map-append at_first slots end ∙ ap₂ (λ (a b : List Slot). a ++ b) firsts (fresh-firsts which (length pool) (length xs)) ∙ sym N
+      ap (map at_initial) N ∙ map-append at_initial slots end ∙ ap₂ (λ (a b : List Slot). a ++ b) initials (fresh-initials which (length pool) (length xs)) ∙ sym N
 
   pub started-within : PairsWithin (length pool) slots → PairsWithin (length other) more
   started-within within =
@@ -111,17 +111,17 @@ module _ (which : WhichList) (pool xs other : List Pair) (slots more : List Slot
       ∙ ap₂ (λ (a b : List Pair). a ++ b) (shown_pairs-agree one other pool slots agree) new
 
 -- the three lists
-pub started-state : (pool0 pool1 pool2 pool : List Pair) (slots0 slots1 slots2 slots : List Slot) (R P C : List Pair) → pool0 ≡ [] → slots0 ≡ [] → pool1 ≡ pool0 ++ R → slots1 ≡ slots0 ++ fresh Request (length pool0) (length R) → pool2 ≡ pool1 ++ P → slots2 ≡ slots1 ++ fresh Reply (length pool1) (length P) → pool ≡ pool2 ++ C → slots ≡ slots2 ++ fresh Control (length pool2) (length C) → (shown_state pool slots ≡ record { request = R; reply = P; control = C }) × (map at_first slots ≡ slots) × PairsWithin (length pool) slots
+pub started-state : (pool0 pool1 pool2 pool : List Pair) (slots0 slots1 slots2 slots : List Slot) (R P C : List Pair) → pool0 ≡ [] → slots0 ≡ [] → pool1 ≡ pool0 ++ R → slots1 ≡ slots0 ++ fresh Request (length pool0) (length R) → pool2 ≡ pool1 ++ P → slots2 ≡ slots1 ++ fresh Reply (length pool1) (length P) → pool ≡ pool2 ++ C → slots ≡ slots2 ++ fresh Control (length pool2) (length C) → (shown_state pool slots ≡ record { request = R; reply = P; control = C }) × (map at_initial slots ≡ slots) × PairsWithin (length pool) slots
 started-state pool0 pool1 pool2 pool slots0 slots1 slots2 slots R P C zp zs p1 s1 p2 s2 p3 s3 =
     let A : List Slot → Type 0 = λ c. PairsWithin (length pool0) c in
     let w0 : PairsWithin (length pool0) slots0 = subst A (sym zs) (λ i live. cc) in
-    let f0 : map at_first slots0 ≡ slots0 = ap (map at_first) zs ∙ sym zs in
+    let f0 : map at_initial slots0 ≡ slots0 = ap (map at_initial) zs ∙ sym zs in
     let w1 = started-within Request pool0 R pool1 slots0 slots1 p1 s1 w0 in
     let w2 = started-within Reply pool1 P pool2 slots1 slots2 p2 s2 w1 in
     let w3 = started-within Control pool2 C pool slots2 slots p3 s3 w2 in
-    let f1 = started-firsts Request pool0 R pool1 slots0 slots1 p1 s1 f0 in
-    let f2 = started-firsts Reply pool1 P pool2 slots1 slots2 p2 s2 f1 in
-    let f3 = started-firsts Control pool2 C pool slots2 slots p3 s3 f2 in
+    let f1 = started-initials Request pool0 R pool1 slots0 slots1 p1 s1 f0 in
+    let f2 = started-initials Reply pool1 P pool2 slots1 slots2 p2 s2 f1 in
+    let f3 = started-initials Control pool2 C pool slots2 slots p3 s3 f2 in
     let all : (one : WhichList) → shown_pairs one pool slots ≡ (cond (same_list one Request) R [] ++ cond (same_list one Reply) P []) ++ cond (same_list one Control) C [] = λ one.
     let none : shown_pairs one pool0 slots0 ≡ [] = ap (shown_pairs one pool0) zs in
     started-pairs Control pool2 C pool slots2 slots p3 s3 w2 one

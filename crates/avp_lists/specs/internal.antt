@@ -1,4 +1,5 @@
 pub mod Growth
+pub mod Live
 pub mod Plans
 pub mod Shown
 pub mod SlotLaws

@@ -1,3 +1,6 @@
+ghost use Rattle.std.specs.Prelude.{◌≡◌};
+ghost use Rattle.avp_lists.specs.internal.Growth.{lengthens};
+
 use crate::lists::List;
 use crate::pairs::Pair;
 use thiserror::Error;
@@ -21,6 +24,19 @@ pub enum Op {
     KeepEqual,
     /// `!*` drops each instance of the id, whatever the value.
     RemoveAll,
+}
+
+impl Op {
+    // Whether it makes a list longer, by whether its id has an instance there.
+    pub(crate) fn lengthens(self, has_instance: bool) -> bool
+        ensures { result ≡ lengthens self has_instance }
+    {
+        match self {
+            Op::Append | Op::Prepend => true,
+            Op::AddNew | Op::Replace => !has_instance,
+            Op::RemoveEqual | Op::KeepEqual | Op::RemoveAll => false,
+        }
+    }
 }
 
 /// A change of one list by one pair.

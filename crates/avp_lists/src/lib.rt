@@ -8,6 +8,7 @@
 mod bytes;
 mod edits;
 mod lists;
+mod live;
 mod operators;
 mod pairs;
 mod planning;
@@ -18,12 +19,13 @@ mod snapshots;
 mod steps;
 mod store;
 mod undoing;
+mod vectors;
 
 pub use bytes::Octets;
 pub use edits::{Edit, EditFault, Op};
 pub use lists::{List, MAX_PAIRS, Pairs, State};
 pub use pairs::{AttrId, Pair, Value, copy_pair};
 pub use slot_store::SlotStore;
-pub use snapshots::{ListsRefused, SnapshotStore};
-pub use store::Store;
+pub use snapshots::SnapshotStore;
+pub use store::{ListsRefused, Store};
 pub use undoing::{edit_and_undo, undo_by};

@@ -3,7 +3,6 @@ ghost use Rattle.std.specs.Prelude.{◌≡◌, ◌++◌, ◌<◌, ◌↔◌, IfO
 ghost use Rattle.std.specs.List.{find, position};
 ghost use Rattle.std.specs.Option.{option_copied};
 ghost use Rattle.avp_lists.specs.States.{edited, IsFull, IsLimited};
-ghost use Rattle.avp_lists.specs.internal.Growth.{adds_one};
 ghost use Rattle.avp_lists.specs.Instances.{has_id, has_instance, is_other};
 ghost use Rattle.avp_lists.specs.Operators.{differs, agrees, replace, apply};
 ghost use Rattle.avp_lists.specs.declared.edits.Op.TheVariants.{AddNew, Append, Prepend};
@@ -132,24 +131,13 @@ fn apply(alloc: Global, op: Op, pair: Pair, pairs: &[Pair]) -> Result<Vec<Pair>,
     Ok(made)
 }
 
-// Whether the operator makes the list longer.
-fn adds_one(op: Op, id: AttrId, pairs: &[Pair]) -> bool
-    ensures { result ≡ adds_one op id pairs.now }
-{
-    match op {
-        Op::Append | Op::Prepend => true,
-        Op::AddNew | Op::Replace => !has_instance(pairs, id),
-        Op::RemoveEqual | Op::KeepEqual | Op::RemoveAll => false,
-    }
-}
-
 // Whether the edit would make its list too long.
 pub(crate) fn is_full(state: &State, edit: &Edit) -> bool
     requires { IsLimited state.now }
     ensures { IsTrue result ↔ IsFull edit.now state.now }
 {
     let pairs = state.list(edit.list);
-    pairs.len() == MAX_PAIRS && adds_one(edit.op, edit.pair.id, pairs)
+    pairs.len() == MAX_PAIRS && edit.op.lengthens(has_instance(pairs, edit.pair.id))
 }
 
 // The state after the edit, as a new one.

@@ -1,20 +1,21 @@
 //! What an edit turns in the slots.
-ghost use Rattle.std.specs.Prelude.{◌≡◌, ◌≤◌, ◌<◌, ◌++◌, true, false, IfOk, OnOk, length, drop};
+ghost use Rattle.std.specs.Prelude.{◌≡◌, ◌<◌, ◌++◌, true, false, IfOk, OnOk, length, filter};
 ghost use Rattle.std.specs.List.{list_any};
 ghost use Rattle.avp_lists.specs.internal.Slots.{slot_at, PairsWithin};
 ghost use Rattle.avp_lists.specs.internal.Shown.{shows_id, ahead_at, shown_pairs};
+ghost use Rattle.avp_lists.specs.internal.Live.{AreLive, AllLive};
 ghost use Rattle.avp_lists.specs.internal.Growth.{adds_one, removes};
-ghost use Rattle.avp_lists.specs.internal.Plans.{enters, end_for, goes, taken, names_in, IsPlan};
+ghost use Rattle.avp_lists.specs.internal.Plans.{enters, end_for, is_removed, is_taken, is_taken_at, taken_places, IsPlan};
 ghost use Rattle.avp_lists.specs.declared.edits.Op.TheVariants.{AddNew, Replace};
 
 use crate::edits::{Edit, Op};
-use crate::lists::List;
+use crate::live::Live;
 use crate::pairs::Pair;
 use crate::showing::{first_slot, shows};
 use crate::slots::{End, Mark, Slot, Swap};
 use std::alloc::{AllocError, Global};
 
-// What an edit turns, as names of slots.
+// What an edit turns, by the places of slots.
 #[derive(Drop)]
 pub(crate) struct Plan {
     // The slots that start or stop showing their pairs.
@@ -35,8 +36,8 @@ impl Plan {
 }
 
 // Whether the operator takes the other pair away, where it is not the first instance.
-fn goes(op: Op, pair: &Pair, other: &Pair) -> bool
-    ensures { result ≡ goes op pair.now other.now }
+fn is_removed(op: Op, pair: &Pair, other: &Pair) -> bool
+    ensures { result ≡ is_removed op pair.now other.now }
 {
     match op {
         Op::AddNew | Op::Append | Op::Prepend => false,
@@ -47,32 +48,51 @@ fn goes(op: Op, pair: &Pair, other: &Pair) -> bool
 }
 
 // Whether an edit takes the pair of the slot away.
-fn taken(slot: &Slot, pool: &[Pair], edit: &Edit) -> bool
+fn is_taken(slot: &Slot, pool: &[Pair], edit: &Edit) -> bool
     requires { slot.now.mark.live ≡ true → slot.now.mark.pair < length pool.now }
-    ensures { result ≡ taken edit.now pool.now slot.now }
+    ensures { result ≡ is_taken edit.now pool.now slot.now }
 {
-    shows(slot, edit.list) && goes(edit.op, &edit.pair, &pool[slot.mark.pair])
+    shows(slot, edit.list) && is_removed(edit.op, &edit.pair, &pool[slot.mark.pair])
 }
 
-// The slots from a place on whose pairs an edit takes away.
-fn push_going(
-    names: &mut Vec<usize>,
+// Those of these places whose slots' pairs an edit takes away.
+fn push_taken(
+    taken: &mut Vec<usize>,
+    places: &[usize],
     slots: &[Slot],
     pool: &[Pair],
-    from: usize,
     edit: &Edit,
 ) -> Result<(), AllocError>
     requires pooled { PairsWithin (length pool.now) slots.now }
-    requires from { from ≤ length slots.now }
-    ensures { OnOk result (names.new.items
-        ≡ names.old.items ++ names_in (taken edit.now pool.now) from (drop from slots.now)) }
+    requires live { AllLive slots.now places.now }
+    ensures { OnOk result (taken.new.items
+        ≡ taken.old.items ++ filter (is_taken_at edit.now pool.now slots.now) places.now) }
 {
-    for name in from..slots.len() {
-        if taken(&slots[name], pool, edit) {
-            names.push(name)?;
+    for place in places {
+        if is_taken(&slots[*place], pool, edit) {
+            taken.push(*place)?;
         }
     }
     Ok(())
+}
+
+// The places of the slots whose pairs an edit takes away: first those that entered at the head.
+fn taken_places(
+    alloc: Global,
+    slots: &[Slot],
+    live: &Live,
+    pool: &[Pair],
+    edit: &Edit,
+) -> Result<Vec<usize>, AllocError>
+    requires pooled { PairsWithin (length pool.now) slots.now }
+    requires live { AreLive slots.now live.now }
+    ensures { IfOk result (λ taken. taken.items ≡ taken_places edit.now pool.now slots.now) }
+{
+    let places = live.of(edit.list);
+    let mut taken = Vec::new(alloc);
+    push_taken(&mut taken, &places.head, slots, pool, edit)?;
+    push_taken(&mut taken, &places.tail, slots, pool, edit)?;
+    Ok(taken)
 }
 
 // The end at which an operator adds its pair.
@@ -107,7 +127,7 @@ fn plan_addition(
         list: edit.list,
         end: end_for(edit.op),
         mark,
-        first: mark,
+        initial: mark,
     };
     Ok(Plan {
         turned,
@@ -120,11 +140,13 @@ fn plan_addition(
 fn plan_replacement(
     alloc: Global,
     slots: &[Slot],
+    live: &Live,
     pool: &[Pair],
     edit: &Edit,
     first: usize,
 ) -> Result<Plan, AllocError>
     requires pooled { PairsWithin (length pool.now) slots.now }
+    requires live { AreLive slots.now live.now }
     requires op { edit.now.op ≡ Replace }
     requires first { (first < length slots.now)
         × (shows_id edit.now.list edit.now.pair.id pool.now (slot_at slots.now first) ≡ true) }
@@ -132,9 +154,8 @@ fn plan_replacement(
         (ahead_at first slots.now) ≡ false }
     ensures { IfOk result (λ plan. IsPlan edit.now pool.now slots.now plan) }
 {
-    let mut turned = Vec::new(alloc);
-    push_going(&mut turned, &slots[..first], pool, 0, edit)?;
-    push_going(&mut turned, slots, pool, first + 1, edit)?;
+    let mut turned = taken_places(alloc, slots, live, pool, edit)?;
+    turned.retain(|place| *place != first);
     let swap = Swap {
         slot: first,
         old: slots[first].mark.pair,
@@ -151,15 +172,16 @@ fn plan_replacement(
 fn plan_removal(
     alloc: Global,
     slots: &[Slot],
+    live: &Live,
     pool: &[Pair],
     edit: &Edit,
 ) -> Result<Plan, AllocError>
     requires pooled { PairsWithin (length pool.now) slots.now }
+    requires live { AreLive slots.now live.now }
     requires removes { removes edit.now.op ≡ true }
     ensures { IfOk result (λ plan. IsPlan edit.now pool.now slots.now plan) }
 {
-    let mut turned = Vec::new(alloc);
-    push_going(&mut turned, slots, pool, 0, edit)?;
+    let turned = taken_places(alloc, slots, live, pool, edit)?;
     Ok(Plan {
         turned,
         swap: None,
@@ -171,15 +193,17 @@ fn plan_removal(
 pub(crate) fn plan_edit(
     alloc: Global,
     slots: &[Slot],
+    live: &Live,
     pool: &[Pair],
     edit: &Edit,
 ) -> Result<Plan, AllocError>
     requires pooled { PairsWithin (length pool.now) slots.now }
+    requires live { AreLive slots.now live.now }
     ensures { IfOk result (λ plan. IsPlan edit.now pool.now slots.now plan) }
 {
     match edit.op {
         Op::Append | Op::Prepend => plan_addition(alloc, slots, pool, edit),
-        Op::AddNew => match first_slot(slots, pool, edit.list, edit.pair.id) {
+        Op::AddNew => match first_slot(slots, live, pool, edit.list, edit.pair.id) {
             None => plan_addition(alloc, slots, pool, edit),
             Some(_) => Ok(Plan {
                 turned: Vec::new(alloc),
@@ -187,10 +211,12 @@ pub(crate) fn plan_edit(
                 added: None,
             }),
         },
-        Op::Replace => match first_slot(slots, pool, edit.list, edit.pair.id) {
+        Op::Replace => match first_slot(slots, live, pool, edit.list, edit.pair.id) {
             None => plan_addition(alloc, slots, pool, edit),
-            Some(first) => plan_replacement(alloc, slots, pool, edit, first),
+            Some(first) => plan_replacement(alloc, slots, live, pool, edit, first),
         },
-        Op::RemoveEqual | Op::KeepEqual | Op::RemoveAll => plan_removal(alloc, slots, pool, edit),
+        Op::RemoveEqual | Op::KeepEqual | Op::RemoveAll => plan_removal(
+            alloc, slots, live, pool, edit,
+        ),
     }
 }

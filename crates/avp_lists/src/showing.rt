@@ -1,15 +1,17 @@
 //! The pairs that slots show.
-ghost use Rattle.std.specs.Prelude.{◌≡◌, ◌<◌, ◌+◌, ◌++◌, OnOk, IfOk, true, false, length, take, drop, filter, find, slice_get};
+ghost use Rattle.std.specs.Prelude.{◌≡◌, ◌<◌, ◌+◌, ◌++◌, OnOk, IfOk, true, false, length, map, take, drop, find, slice_get, slice_index_or};
 ghost use Rattle.std.specs.Option.{option_copied, IfSome, IfNone};
 ghost use Rattle.std.specs.List.{list_any};
 ghost use Rattle.avp_lists.specs.Instances.{has_id};
 ghost use Rattle.avp_lists.specs.internal.Slots.{slot_at, PairsWithin};
 ghost use Rattle.avp_lists.specs.declared.slots.End.TheVariants.{Head, Tail};
-ghost use Rattle.avp_lists.specs.internal.Shown.{shows, shows_at, shows_id, shows_id_at, ahead_at, shown_pairs_at, shown_pairs};
+ghost use Rattle.avp_lists.specs.internal.Shown.{shows, pair_at, has_id_at, shows_id, shows_id_at, ahead_at, shown_pairs};
+ghost use Rattle.avp_lists.specs.internal.Live.{AreLive, AllLive};
 
 use crate::lists::List;
+use crate::live::Live;
 use crate::pairs::{AttrId, Pair, copy_pair};
-use crate::slots::{End, Slot, entered_at, same_list};
+use crate::slots::{Slot, same_list};
 use std::alloc::{AllocError, Global};
 
 pub(crate) fn shows(slot: &Slot, list: List) -> bool
@@ -18,60 +20,36 @@ pub(crate) fn shows(slot: &Slot, list: List) -> bool
     slot.mark.live && same_list(list, slot.list)
 }
 
-// Whether a slot shows a pair that entered the list at that end.
-fn shows_at(slot: &Slot, list: List, end: End) -> bool
-    ensures { result ≡ shows_at end list slot.now }
-{
-    entered_at(slot, end) && shows(slot, list)
-}
-
-// The number of pairs in a list.
-pub(crate) fn count_shown(slots: &[Slot], list: List) -> usize
-    ensures { result ≡ length (filter (shows list) slots.now) }
-{
-    slots.iter().filter(|slot| shows(slot, list)).count()
-}
-
-// The number of those that entered it at one end.
-fn count_at(slots: &[Slot], list: List, end: End) -> usize
-    ensures { result ≡ length (filter (shows_at end list) slots.now) }
-{
-    slots
-        .iter()
-        .filter(|slot| shows_at(slot, list, end))
-        .count()
-}
-
 // The first instance of an id in a list.
 pub(crate) fn first_shown<'a>(
     slots: &[Slot],
+    live: &Live,
     pool: &'a [Pair],
     list: List,
     id: AttrId,
 ) -> Option<&'a Pair>
-    requires { PairsWithin (length pool.now) slots.now }
+    requires pooled { PairsWithin (length pool.now) slots.now }
+    requires live { AreLive slots.now live.now }
     ensures { option_copied result ≡ find (has_id id) (shown_pairs list pool.now slots.now) }
 {
-    let name = first_slot(slots, pool, list, id)?;
-    Some(&pool[slots[name].mark.pair])
+    let place = first_slot(slots, live, pool, list, id)?;
+    Some(&pool[slots[place].mark.pair])
 }
 
-// Copies of the pairs that entered a list at one end, in the order of their slots.
+// Copies of the pairs at these places.
 fn push_shown(
     made: &mut Vec<Pair>,
     slots: &[Slot],
     pool: &[Pair],
-    list: List,
-    end: End,
+    places: &[usize],
 ) -> Result<(), AllocError>
-    requires { PairsWithin (length pool.now) slots.now }
+    requires pooled { PairsWithin (length pool.now) slots.now }
+    requires live { AllLive slots.now places.now }
     ensures { OnOk result (made.new.items
-        ≡ made.old.items ++ shown_pairs_at end list pool.now slots.now) }
+        ≡ made.old.items ++ map (pair_at pool.now slots.now) places.now) }
 {
-    for slot in slots {
-        if shows_at(slot, list, end) {
-            made.push(copy_pair(*made.allocator(), &pool[slot.mark.pair])?)?;
-        }
+    for place in places {
+        made.push(copy_pair(*made.allocator(), &pool[slots[*place].mark.pair])?)?;
     }
     Ok(())
 }
@@ -80,38 +58,31 @@ fn push_shown(
 pub(crate) fn shown_pairs(
     alloc: Global,
     slots: &[Slot],
+    live: &Live,
     pool: &[Pair],
     list: List,
 ) -> Result<Vec<Pair>, AllocError>
-    requires { PairsWithin (length pool.now) slots.now }
+    requires pooled { PairsWithin (length pool.now) slots.now }
+    requires live { AreLive slots.now live.now }
     ensures { IfOk result (λ made. made.items ≡ shown_pairs list pool.now slots.now) }
 {
+    let places = live.of(list);
     let mut made = Vec::new(alloc);
-    push_shown(&mut made, slots, pool, list, End::Head)?;
+    push_shown(&mut made, slots, pool, &places.head)?;
     made.reverse();
-    push_shown(&mut made, slots, pool, list, End::Tail)?;
+    push_shown(&mut made, slots, pool, &places.tail)?;
     Ok(made)
 }
 
-// The pair at a place among those that entered a list at one end, in the order of their slots.
-fn pair_at<'a>(
-    slots: &[Slot],
-    pool: &'a [Pair],
-    list: List,
-    end: End,
-    at: usize,
-) -> Option<&'a Pair>
-    requires { PairsWithin (length pool.now) slots.now }
-    ensures { option_copied result ≡ slice_get (shown_pairs_at end list pool.now slots.now) at }
+// The pair of one of these places.
+fn pair_of<'a>(slots: &[Slot], pool: &'a [Pair], places: &[usize], at: usize) -> Option<&'a Pair>
+    requires pooled { PairsWithin (length pool.now) slots.now }
+    requires live { AllLive slots.now places.now }
+    ensures { option_copied result ≡ slice_get (map (pair_at pool.now slots.now) places.now) at }
 {
-    let mut left = at;
-    for slot in slots {
-        if shows_at(slot, list, end) {
-            if left == 0 {
-                return Some(&pool[slot.mark.pair]);
-            }
-            left -= 1;
-        }
+    if at < places.len() {
+        let place = places[at];
+        return Some(&pool[slots[place].mark.pair]);
     }
     None
 }
@@ -119,71 +90,111 @@ fn pair_at<'a>(
 // The pair at a place of a list.
 pub(crate) fn pair_shown<'a>(
     slots: &[Slot],
+    live: &Live,
     pool: &'a [Pair],
     list: List,
     at: usize,
 ) -> Option<&'a Pair>
-    requires { PairsWithin (length pool.now) slots.now }
+    requires pooled { PairsWithin (length pool.now) slots.now }
+    requires live { AreLive slots.now live.now }
     ensures { option_copied result ≡ slice_get (shown_pairs list pool.now slots.now) at }
 {
-    let heads = count_at(slots, list, End::Head);
+    let places = live.of(list);
+    let heads = places.head.len();
     if at < heads {
-        pair_at(slots, pool, list, End::Head, heads - 1 - at)
+        pair_of(slots, pool, &places.head, heads - 1 - at)
     } else {
-        pair_at(slots, pool, list, End::Tail, at - heads)
+        pair_of(slots, pool, &places.tail, at - heads)
     }
 }
 
 // The last slot that shows an instance of the id which entered at the head.
-fn last_head(slots: &[Slot], pool: &[Pair], list: List, id: AttrId) -> Option<usize>
-    requires { PairsWithin (length pool.now) slots.now }
+fn last_head(slots: &[Slot], live: &Live, pool: &[Pair], list: List, id: AttrId) -> Option<usize>
+    requires pooled { PairsWithin (length pool.now) slots.now }
+    requires live { AreLive slots.now live.now }
     ensures shown { IfSome result (λ at. (at < length slots.now)
         × (shows_id_at Head list id pool.now (slot_at slots.now at) ≡ true)) }
     ensures none_after { IfSome result (λ at.
         list_any (shows_id_at Head list id pool.now) (drop (at + 1) slots.now) ≡ false) }
     ensures none { IfNone result (list_any (shows_id_at Head list id pool.now) slots.now ≡ false) }
 {
-    let mut end = slots.len();
-    while end > 0 {
-        let name = end - 1;
-        let slot = &slots[name];
-        if shows_at(slot, list, End::Head) && pool[slot.mark.pair].id.equals(id) {
-            return Some(name);
-        }
-        end = name;
-    }
-    None
+    let places = live.of(list).head.as_slice();
+    let at = last_with(slots, pool, places, id)?;
+    Some(places[at])
 }
 
 // The first slot that shows an instance of the id which entered at the tail.
-fn first_tail(slots: &[Slot], pool: &[Pair], list: List, id: AttrId) -> Option<usize>
-    requires { PairsWithin (length pool.now) slots.now }
+fn first_tail(slots: &[Slot], live: &Live, pool: &[Pair], list: List, id: AttrId) -> Option<usize>
+    requires pooled { PairsWithin (length pool.now) slots.now }
+    requires live { AreLive slots.now live.now }
     ensures shown { IfSome result (λ at. (at < length slots.now)
         × (shows_id_at Tail list id pool.now (slot_at slots.now at) ≡ true)) }
     ensures none_before { IfSome result (λ at.
         list_any (shows_id_at Tail list id pool.now) (take at slots.now) ≡ false) }
     ensures none { IfNone result (list_any (shows_id_at Tail list id pool.now) slots.now ≡ false) }
 {
-    for name in 0..slots.len() {
-        let slot = &slots[name];
-        if shows_at(slot, list, End::Tail) && pool[slot.mark.pair].id.equals(id) {
-            return Some(name);
+    let places = live.of(list).tail.as_slice();
+    let at = first_with(slots, pool, places, id)?;
+    Some(places[at])
+}
+
+// Which is the last of these places where a slot shows an instance of the id.
+fn last_with(slots: &[Slot], pool: &[Pair], places: &[usize], id: AttrId) -> Option<usize>
+    requires pooled { PairsWithin (length pool.now) slots.now }
+    requires live { AllLive slots.now places.now }
+    ensures found { IfSome result (λ at. (at < length places.now)
+        × (has_id_at id pool.now slots.now (slice_index_or places.now at 0) ≡ true)) }
+    ensures none_after { IfSome result (λ at.
+        list_any (has_id_at id pool.now slots.now) (drop (at + 1) places.now) ≡ false) }
+    ensures none { IfNone result (list_any (has_id_at id pool.now slots.now) places.now ≡ false) }
+{
+    let mut end = places.len();
+    while end > 0 {
+        let at = end - 1;
+        if pool[slots[places[at]].mark.pair].id.equals(id) {
+            return Some(at);
+        }
+        end = at;
+    }
+    None
+}
+
+// Which is the first.
+fn first_with(slots: &[Slot], pool: &[Pair], places: &[usize], id: AttrId) -> Option<usize>
+    requires pooled { PairsWithin (length pool.now) slots.now }
+    requires live { AllLive slots.now places.now }
+    ensures found { IfSome result (λ at. (at < length places.now)
+        × (has_id_at id pool.now slots.now (slice_index_or places.now at 0) ≡ true)) }
+    ensures none_before { IfSome result (λ at.
+        list_any (has_id_at id pool.now slots.now) (take at places.now) ≡ false) }
+    ensures none { IfNone result (list_any (has_id_at id pool.now slots.now) places.now ≡ false) }
+{
+    for at in 0..places.len() {
+        if pool[slots[places[at]].mark.pair].id.equals(id) {
+            return Some(at);
         }
     }
     None
 }
 
 // The slot that shows the first instance of the id in a list.
-pub(crate) fn first_slot(slots: &[Slot], pool: &[Pair], list: List, id: AttrId) -> Option<usize>
-    requires { PairsWithin (length pool.now) slots.now }
+pub(crate) fn first_slot(
+    slots: &[Slot],
+    live: &Live,
+    pool: &[Pair],
+    list: List,
+    id: AttrId,
+) -> Option<usize>
+    requires pooled { PairsWithin (length pool.now) slots.now }
+    requires live { AreLive slots.now live.now }
     ensures shown { IfSome result (λ at. (at < length slots.now)
         × (shows_id list id pool.now (slot_at slots.now at) ≡ true)) }
     ensures none_before { IfSome result (λ at.
         list_any (shows_id list id pool.now) (ahead_at at slots.now) ≡ false) }
     ensures none { IfNone result (list_any (shows_id list id pool.now) slots.now ≡ false) }
 {
-    match last_head(slots, pool, list, id) {
-        Some(name) => Some(name),
-        None => first_tail(slots, pool, list, id),
+    match last_head(slots, live, pool, list, id) {
+        Some(place) => Some(place),
+        None => first_tail(slots, live, pool, list, id),
     }
 }

@@ -1,34 +1,35 @@
 //! A store that keeps one set of lists, and a journal of what each step turned in them.
-ghost use Rattle.std.specs.Prelude.{◌≡◌, ◌↔◌, IsTrue, not, ◌+◌, ◌-◌, ◌≤◌, ◌<◌, ◌++◌, [], OnOk, OnErr, IfOk, IfErr, length, take, min, vec_capacity};
+ghost use Rattle.std.specs.Prelude.{◌≡◌, ◌↔◌, IsTrue, ◌+◌, ◌-◌, ◌≤◌, ◌<◌, ◌++◌, [], OnOk, OnErr, IfOk, IfErr, length, take, min, vec_capacity};
 ghost use Rattle.std.specs.Option.{option_to_list};
 ghost use Rattle.avp_lists.specs.Instances.{has_instance};
-ghost use Rattle.avp_lists.specs.internal.Growth.{adds_one};
 ghost use Rattle.avp_lists.specs.History.{starting, present, after_edit, at_place};
 ghost use Rattle.avp_lists.specs.States.{list_of, edited, IsFull, IsLimited};
-ghost use Rattle.avp_lists.specs.internal.Slots.{NamesWithin, SwapWithin};
+ghost use Rattle.avp_lists.specs.internal.Slots.{PlacesWithin, SwapWithin};
 ghost use Rattle.avp_lists.specs.internal.Steps.{slots_at, max_kept, BacksBelow, AllCounted, CountsWithin, CountsGrow, AllHoused, StatesLimited};
+ghost use Rattle.avp_lists.specs.internal.Live.{NoneLive, HasTailRoom, HasRoomFor, AllBelow, AddsDark};
 ghost use Rattle.avp_lists.specs.internal.Plans.{pooled, widened, planned, fresh};
 
-use crate::edits::{Edit, EditFault, Op};
+use crate::edits::{Edit, EditFault};
 use crate::lists::{List, MAX_PAIRS};
+use crate::live::Live;
 use crate::pairs::{AttrId, Pair};
 use crate::planning::{Plan, plan_edit};
-use crate::showing::{count_shown, first_shown, first_slot, pair_shown, shown_pairs};
-use crate::slots::{End, Mark, Slot, forget_dark, turn_slots};
-use crate::snapshots::ListsRefused;
-use crate::steps::{Change, Step, cut_and_push, make_room, make_room_beside, move_to, node};
-use crate::store::Store;
+use crate::showing::{first_shown, first_slot, pair_shown, shown_pairs};
+use crate::slots::{End, Mark, Slot, Slots};
+use crate::steps::{Change, Step, cut_and_push, make_room_beside, move_to, node};
+use crate::store::{ListsRefused, Store};
+use crate::vectors::{cut_and_add, make_room};
 use std::alloc::{AllocError, Global};
 
 /// A store that keeps one set of lists, and what each step turned in them.
 ///
-/// Each pair that enters a list stays in a pool, and a slot says whether it is shown. A step names the slots that it
-/// turned, so an edit copies no list: it costs a walk over the slots, and what it changes.
+/// Each pair that enters a list stays in a pool, and a slot says whether it is shown. A step has the places of the slots
+/// that it turned, so an edit copies no list: it costs a walk over the pairs that are shown, and what it changes.
 #[derive(Drop)]
 pub struct SlotStore {
     alloc: Global,
     pool: Vec<Pair>,
-    slots: Vec<Slot>,
+    slots: Slots,
     // One for each state; the first one turns nothing.
     steps: Vec<Step>,
     // One for each state: where a move ahead goes on, which is written as the move begins.
@@ -38,11 +39,11 @@ pub struct SlotStore {
     ghost beside: { length nexts.items ≡ length steps.items },
     ghost below: { BacksBelow steps.items },
     ghost counted: { AllCounted steps.items },
-    ghost counts: { CountsWithin (length slots.items) (length pool.items) steps.items },
+    ghost counts: { CountsWithin (length slots.all.items) (length pool.items) steps.items },
     ghost grow: { CountsGrow steps.items },
-    ghost housed: { AllHoused slots.items steps.items },
-    ghost standing: { slots_at slots.items steps.items place ≡ slots.items },
-    ghost limited: { StatesLimited pool.items slots.items steps.items },
+    ghost housed: { AllHoused slots.all.items steps.items },
+    ghost standing: { slots_at slots.all.items steps.items place ≡ slots.all.items },
+    ghost limited: { StatesLimited pool.items slots.all.items steps.items },
 }
 
 // The parts of a store.
@@ -50,24 +51,37 @@ pub struct SlotStore {
 struct Parts {
     pool: Vec<Pair>,
     slots: Vec<Slot>,
+    live: Live,
     steps: Vec<Step>,
     nexts: Vec<usize>,
 }
 
 // Room for a store of so many pairs.
-fn empty_parts(alloc: Global, count: usize) -> Result<Parts, AllocError>
+fn empty_parts(
+    alloc: Global,
+    request: usize,
+    reply: usize,
+    control: usize,
+) -> Result<Parts, AllocError>
+    requires request_fits { request ≤ MAX_PAIRS }
+    requires reply_fits { reply ≤ MAX_PAIRS }
+    requires control_fits { control ≤ MAX_PAIRS }
     ensures pool { IfOk result (λ parts. (parts.pool.items ≡ [])
-        × (count ≤ vec_capacity parts.pool)) }
+        × (request + reply + control ≤ vec_capacity parts.pool)) }
     ensures slots { IfOk result (λ parts. (parts.slots.items ≡ [])
-        × (count ≤ vec_capacity parts.slots)) }
+        × (request + reply + control ≤ vec_capacity parts.slots)) }
+    ensures live { IfOk result (λ parts. NoneLive parts.live) }
+    ensures live_room { IfOk result (λ parts. HasTailRoom request reply control parts.live) }
     ensures steps { IfOk result (λ parts. (parts.steps.items ≡ [])
         × (1 ≤ vec_capacity parts.steps)) }
     ensures nexts { IfOk result (λ parts. (parts.nexts.items ≡ [])
         × (1 ≤ vec_capacity parts.nexts)) }
 {
+    let count = request + reply + control;
     Ok(Parts {
         pool: Vec::with_capacity(alloc, count)?,
         slots: Vec::with_capacity(alloc, count)?,
+        live: Live::with_tails(alloc, request, reply, control)?,
         steps: Vec::with_capacity(alloc, 1)?,
         nexts: Vec::with_capacity(alloc, 1)?,
     })
@@ -86,7 +100,7 @@ fn push_firsts(slots: &mut Vec<Slot>, list: List, from: usize, end: usize)
             list,
             end: End::Tail,
             mark,
-            first: mark,
+            initial: mark,
         };
         slots.push(slot).unwrap();
     }
@@ -104,40 +118,30 @@ struct Ends {
 fn make_room_after(
     steps: &mut Vec<Step>,
     nexts: &mut Vec<usize>,
-    slots: &mut Vec<Slot>,
+    slots: &mut Slots,
     pool: &mut Vec<Pair>,
     ends: Ends,
+    added: Option<Slot>,
 ) -> Result<(), AllocError>
     requires beside { length nexts.old.items ≡ length steps.old.items }
     requires steps { ends.steps ≤ length steps.old.items }
-    requires slots { ends.slots ≤ length slots.old.items }
+    requires slots { ends.slots ≤ length slots.old.all.items }
     requires pool { ends.pairs ≤ length pool.old.items }
     ensures room { OnOk result (ends.steps
         < min (vec_capacity steps.new) (vec_capacity nexts.new)) }
-    ensures slots_room { OnOk result (ends.slots < vec_capacity slots.new) }
+    ensures slots_room { OnOk result (ends.slots < vec_capacity slots.new.all) }
+    ensures live_room { OnOk result (HasRoomFor ends.slots added slots.new.live) }
     ensures pool_room { OnOk result (ends.pairs < vec_capacity pool.new) }
     ensures steps { steps.new.items ≡ steps.old.items }
     ensures nexts { nexts.new.items ≡ nexts.old.items }
-    ensures slots { slots.new.items ≡ slots.old.items }
+    ensures slots { slots.new.all.items ≡ slots.old.all.items }
     ensures pool { pool.new.items ≡ pool.old.items }
     ensures kept_steps { vec_capacity steps.old ≤ vec_capacity steps.new }
     ensures kept_nexts { vec_capacity nexts.old ≤ vec_capacity nexts.new }
 {
     make_room_beside(steps, nexts, ends.steps)?;
-    make_room(slots, ends.slots)?;
+    slots.make_room(ends.slots, added)?;
     make_room(pool, ends.pairs)
-}
-
-// Cuts off the items from `end` on, and adds one, if there is one.
-fn cut_and_add<T: Drop>(items: &mut Vec<T>, end: usize, item: Option<T>)
-    requires within { end ≤ length items.old.items }
-    requires room { end < vec_capacity items.old }
-    ensures { items.new.items ≡ take end items.old.items ++ option_to_list item }
-{
-    items.truncate(end);
-    if let Some(item) = item {
-        items.push(item).unwrap();
-    }
 }
 
 // Cuts off the pairs from `end` on, and adds the edit's own where the plan needs it.
@@ -150,18 +154,21 @@ fn pool_for(pool: &mut Vec<Pair>, end: usize, plan: &Plan, pair: Pair)
     cut_and_add(pool, end, added);
 }
 
-// Cuts off the slots from `end` on, and carries out the plan.
-fn slots_for(slots: &mut Vec<Slot>, end: usize, plan: &Plan)
-    requires within { end ≤ length slots.old.items }
-    requires room { end < vec_capacity slots.old }
-    requires names { NamesWithin (length (widened plan.now (take end slots.old.items)))
+// Cuts off the slots from `end` on, which show nothing, and carries out the plan.
+fn slots_for(slots: &mut Slots, end: usize, plan: &Plan)
+    requires within { end ≤ length slots.old.all.items }
+    requires room { end < vec_capacity slots.old.all }
+    requires live_room { HasRoomFor end plan.now.added slots.old.live }
+    requires dark { AllBelow end slots.old.all.items }
+    requires unlit { AddsDark plan.now.added }
+    requires places { PlacesWithin (length (widened plan.now (take end slots.old.all.items)))
         plan.now.turned.items }
-    requires swap { SwapWithin (length (widened plan.now (take end slots.old.items)))
+    requires swap { SwapWithin (length (widened plan.now (take end slots.old.all.items)))
         plan.now.swap }
-    ensures { slots.new.items ≡ planned plan.now (take end slots.old.items) }
+    ensures { slots.new.all.items ≡ planned plan.now (take end slots.old.all.items) }
 {
-    cut_and_add(slots, end, plan.added);
-    turn_slots(slots, plan.turned.as_slice(), plan.swap);
+    slots.cut_and_add(end, plan.added);
+    slots.forward(plan.turned.as_slice(), plan.swap);
 }
 
 // Adds the pairs of a list.
@@ -209,8 +216,7 @@ impl SlotStore {
         ensures err { IfErr result (λ back. back
             ≡ record { request = request; reply = reply; control = control }) }
     {
-        let count = request.len() + reply.len() + control.len();
-        let Ok(parts) = empty_parts(alloc, count) else {
+        let Ok(parts) = empty_parts(alloc, request.len(), reply.len(), control.len()) else {
             return Err(ListsRefused {
                 request,
                 reply,
@@ -220,12 +226,14 @@ impl SlotStore {
         let Parts {
             mut pool,
             mut slots,
+            live,
             mut steps,
             mut nexts,
         } = parts;
         add_list(&mut pool, &mut slots, List::Request, request);
         add_list(&mut pool, &mut slots, List::Reply, reply);
         add_list(&mut pool, &mut slots, List::Control, control);
+        let slots = Slots::new(slots, live);
         let first = Step {
             change: Change::Turned(Vec::new(alloc), None),
             slots: slots.len(),
@@ -242,36 +250,23 @@ impl SlotStore {
         })
     }
 
-    // Whether the list has no instance of the id.
-    fn has_none(&self, list: List, id: AttrId) -> bool
-        ensures { result ≡ not (has_instance id
-            (list_of list (present (⟦<SlotStore as Store>⟧.history self.now)))) }
-    {
-        first_slot(&self.slots, &self.pool, list, id).is_none()
-    }
-
-    // Whether the operator makes the list longer.
-    fn adds_one(&self, list: List, op: Op, id: AttrId) -> bool
-        ensures { result ≡ adds_one op id
+    // Whether the list has an instance of the id.
+    fn has_instance(&self, list: List, id: AttrId) -> bool
+        ensures { result ≡ has_instance id
             (list_of list (present (⟦<SlotStore as Store>⟧.history self.now))) }
     {
-        match op {
-            Op::Append | Op::Prepend => true,
-            Op::AddNew | Op::Replace => self.has_none(list, id),
-            Op::RemoveEqual | Op::KeepEqual | Op::RemoveAll => false,
-        }
+        first_slot(&self.slots.all, &self.slots.live, &self.pool, list, id).is_some()
     }
 
-    // Whether the edit would make its list too long. The pairs are counted only where one is added, and there are slots
-    // enough for a full list.
+    // Whether the edit would make its list too long.
     fn is_full(&self, edit: &Edit) -> bool
         ensures { IsTrue result ↔ IsFull edit.now
             (present (⟦<SlotStore as Store>⟧.history self.now)) }
     {
-        if self.slots.len() < MAX_PAIRS {
-            return false;
-        }
-        self.adds_one(edit.list, edit.op, edit.pair.id) && self.count(edit.list) == MAX_PAIRS
+        self.count(edit.list) == MAX_PAIRS
+            && edit
+                .op
+                .lengthens(self.has_instance(edit.list, edit.pair.id))
     }
 
     // Goes to the state at a place.
@@ -314,7 +309,8 @@ impl SlotStore {
         };
         let plan = plan_edit(
             self.alloc,
-            &self.slots[..ends.slots],
+            &self.slots.all[..ends.slots],
+            &self.slots.live,
             &self.pool[..ends.pairs],
             &edit,
         )?;
@@ -324,6 +320,7 @@ impl SlotStore {
             &mut self.slots,
             &mut self.pool,
             ends,
+            plan.added,
         )?;
         pool_for(&mut self.pool, ends.pairs, &plan, edit.pair);
         slots_for(&mut self.slots, ends.slots, &plan);
@@ -342,32 +339,38 @@ impl Store for SlotStore {
     ghost use Rattle.std.specs.Prelude.{◌+◌, ◌-◌, min, vec_capacity};
     ghost use Rattle.avp_lists.specs.internal.Steps.{shown_states};
 
-    ghost history = { λ s. record { states = shown_states s.pool.items s.slots.items s.steps.items; place = s.place } };
+    ghost history = { λ s. record { states = shown_states s.pool.items s.slots.all.items s.steps.items; place = s.place } };
 
     ghost room = { λ s. min (vec_capacity s.steps) (vec_capacity s.nexts) - (s.place + 1) };
 
     ghost use Rattle.avp_lists.specs.internal.SlotLaws.{placed_among, roomy_among};
 
-    ghost placed = { λ s. placed_among s.pool.items s.slots.items s.steps.items s.place s.placed };
+    ghost placed = { λ s. placed_among s.pool.items s.slots.all.items s.steps.items s.place s.placed };
 
-    ghost roomy = { λ s. roomy_among s.pool.items s.slots.items s.steps s.nexts s.place s.beside };
+    ghost roomy = { λ s. roomy_among s.pool.items s.slots.all.items s.steps s.nexts s.place s.beside };
 
     ghost limited = { λ s k. s.limited k };
 
     fn count(&self, list: List) -> usize {
-        count_shown(&self.slots, list)
+        self.slots.live.of(list).len()
     }
 
     fn first(&self, list: List, id: AttrId) -> Option<&Pair> {
-        first_shown(&self.slots, &self.pool, list, id)
+        first_shown(&self.slots.all, &self.slots.live, &self.pool, list, id)
     }
 
     fn list(&self, list: List) -> Result<Vec<Pair>, AllocError> {
-        shown_pairs(self.alloc, &self.slots, &self.pool, list)
+        shown_pairs(
+            self.alloc,
+            &self.slots.all,
+            &self.slots.live,
+            &self.pool,
+            list,
+        )
     }
 
     fn pair(&self, list: List, at: usize) -> Option<&Pair> {
-        pair_shown(&self.slots, &self.pool, list, at)
+        pair_shown(&self.slots.all, &self.slots.live, &self.pool, list, at)
     }
 
     fn place(&self) -> usize {
@@ -436,7 +439,7 @@ impl Store for SlotStore {
     }
 
     fn settle(&mut self) {
-        forget_dark(&mut self.slots);
+        self.slots.settle();
         let step = Step {
             change: Change::Turned(Vec::new(self.alloc), None),
             slots: self.slots.len(),

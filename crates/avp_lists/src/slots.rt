@@ -1,9 +1,14 @@
 //! The slots of a store's lists, and how a step turns their marks.
-ghost use Rattle.std.specs.Prelude.{◌≡◌, ◌<◌, length, map, filter};
-ghost use Rattle.avp_lists.specs.internal.Slots.{is_live, kept, turn, turn_all, swap_at, forward, backward, NamesWithin, SwapWithin};
+ghost use Rattle.std.specs.Prelude.{◌≡◌, ◌≤◌, ◌<◌, ◌++◌, false, OnOk, length, map, filter, take, vec_capacity};
+ghost use Rattle.std.specs.Option.{option_to_list};
+ghost use Rattle.avp_lists.specs.internal.Slots.{is_live, kept, turn, turn_all, swap_at, forward, backward, PlacesWithin, SwapWithin};
 ghost use Rattle.avp_lists.specs.internal.Shown.{same_list, entered_at};
+ghost use Rattle.avp_lists.specs.internal.Live.{NoneLive, AreLive, HaveRoom, AllBelow, AddsDark, HasRoomFor};
 
 use crate::lists::List;
+use crate::live::Live;
+use crate::vectors::{cut_and_add, make_room};
+use std::alloc::AllocError;
 
 // Whether a slot shows a pair, and the place of that pair in the pool.
 #[derive(Clone, Copy)]
@@ -25,7 +30,7 @@ pub(crate) struct Slot {
     pub list: List,
     pub end: End,
     pub mark: Mark,
-    pub first: Mark,
+    pub initial: Mark,
 }
 
 // The slot of a replaced pair, and the places in the pool of the pairs that it shows before and after.
@@ -34,6 +39,15 @@ pub(crate) struct Swap {
     pub slot: usize,
     pub old: usize,
     pub new: usize,
+}
+
+// The slots of a store, and the places of those that show a pair.
+#[derive(Drop)]
+pub(crate) struct Slots {
+    pub all: Vec<Slot>,
+    pub live: Live,
+    ghost in_order: { AreLive all.items live },
+    ghost roomy: { HaveRoom all.items live },
 }
 
 pub(crate) fn same_list(a: List, b: List) -> bool
@@ -58,79 +72,11 @@ pub(crate) fn entered_at(slot: &Slot, end: End) -> bool
     }
 }
 
-fn turn(slots: &mut [Slot], name: usize)
-    requires { name < length slots.old }
-    ensures { slots.new ≡ turn slots.old name }
-{
-    let slot = slots[name];
-    let mark = Mark {
-        live: !slot.mark.live,
-        ..slot.mark
-    };
-    slots[name] = Slot { mark, ..slot };
-}
-
-fn turn_all(slots: &mut [Slot], names: &[usize])
-    requires { NamesWithin (length slots.old) names.now }
-    ensures { slots.new ≡ turn_all names.now slots.old }
-{
-    for name in names {
-        turn(slots, *name);
-    }
-}
-
-fn put_other(slots: &mut [Slot], swap: Option<Swap>)
-    requires { SwapWithin (length slots.old) swap }
-    ensures { slots.new ≡ swap_at swap slots.old }
-{
-    if let Some(swap) = swap {
-        let slot = slots[swap.slot];
-        let pair = if slot.mark.pair == swap.old {
-            swap.new
-        } else if slot.mark.pair == swap.new {
-            swap.old
-        } else {
-            slot.mark.pair
-        };
-        let mark = Mark { pair, ..slot.mark };
-        slots[swap.slot] = Slot { mark, ..slot };
-    }
-}
-
-// From the state before a step to the one after it.
-pub(crate) fn forward(slots: &mut [Slot], names: &[usize], by: Option<Swap>)
-    requires names { NamesWithin (length slots.old) names.now }
-    requires swap { SwapWithin (length slots.old) by }
-    ensures { slots.new ≡ forward names.now by slots.old }
-{
-    turn_all(slots, names);
-    put_other(slots, by);
-}
-
-// From the state after a step to the one before it.
-pub(crate) fn backward(slots: &mut [Slot], names: &[usize], by: Option<Swap>)
-    requires names { NamesWithin (length slots.old) names.now }
-    requires swap { SwapWithin (length slots.old) by }
-    ensures { slots.new ≡ backward names.now by slots.old }
-{
-    put_other(slots, by);
-    turn_all(slots, names);
-}
-
-// `forward`, over a vector.
-pub(crate) fn turn_slots(slots: &mut Vec<Slot>, names: &[usize], by: Option<Swap>)
-    requires names { NamesWithin (length slots.old.items) names.now }
-    requires swap { SwapWithin (length slots.old.items) by }
-    ensures { slots.new.items ≡ forward names.now by slots.old.items }
-{
-    forward(slots.as_mut_slice(), names, by);
-}
-
 fn keep_marks_of(slots: &mut [Slot])
     ensures { slots.new ≡ map kept slots.old }
 {
     for slot in slots.iter_mut() {
-        slot.first = slot.mark;
+        slot.initial = slot.mark;
     }
 }
 
@@ -142,9 +88,120 @@ fn keep_marks(slots: &mut Vec<Slot>)
 }
 
 // Forgets the slots that show nothing, and each mark but the present ones.
-pub(crate) fn forget_dark(slots: &mut Vec<Slot>)
+fn forget_dark(slots: &mut Vec<Slot>)
     ensures { slots.new.items ≡ map kept (filter is_live slots.old.items) }
 {
     slots.retain(|slot| slot.mark.live);
     keep_marks(slots);
+}
+
+impl Slots {
+    // These slots, and in `live` the places of those that show a pair.
+    pub fn new(all: Vec<Slot>, mut live: Live) -> Slots
+        requires none { NoneLive live }
+        requires room { HaveRoom all.items live }
+        ensures { result.all.items ≡ all.items }
+    {
+        live.fill(&all);
+        Slots { all, live }
+    }
+
+    pub fn len(&self) -> usize
+        ensures { result ≡ length self.now.all.items }
+    {
+        self.all.len()
+    }
+
+    fn turn(&mut self, place: usize)
+        requires { place < length self.old.all.items }
+        ensures { self.new.all.items ≡ turn self.old.all.items place }
+    {
+        let slot = self.all[place];
+        let live = !slot.mark.live;
+        let mark = Mark { live, ..slot.mark };
+        self.all[place] = Slot { mark, ..slot };
+        self.live.turn(slot.list, slot.end, place, live);
+    }
+
+    fn turn_all(&mut self, places: &[usize])
+        requires { PlacesWithin (length self.old.all.items) places.now }
+        ensures { self.new.all.items ≡ turn_all places.now self.old.all.items }
+    {
+        for place in places {
+            self.turn(*place);
+        }
+    }
+
+    fn put_other(&mut self, swap: Option<Swap>)
+        requires { SwapWithin (length self.old.all.items) swap }
+        ensures { self.new.all.items ≡ swap_at swap self.old.all.items }
+    {
+        if let Some(swap) = swap {
+            let slot = self.all[swap.slot];
+            let pair = if slot.mark.pair == swap.old {
+                swap.new
+            } else if slot.mark.pair == swap.new {
+                swap.old
+            } else {
+                slot.mark.pair
+            };
+            let mark = Mark { pair, ..slot.mark };
+            self.all[swap.slot] = Slot { mark, ..slot };
+        }
+    }
+
+    // From the state before a step to the one after it.
+    pub fn forward(&mut self, places: &[usize], by: Option<Swap>)
+        requires places { PlacesWithin (length self.old.all.items) places.now }
+        requires swap { SwapWithin (length self.old.all.items) by }
+        ensures { self.new.all.items ≡ forward places.now by self.old.all.items }
+    {
+        self.turn_all(places);
+        self.put_other(by);
+    }
+
+    // From the state after a step to the one before it.
+    pub fn backward(&mut self, places: &[usize], by: Option<Swap>)
+        requires places { PlacesWithin (length self.old.all.items) places.now }
+        requires swap { SwapWithin (length self.old.all.items) by }
+        ensures { self.new.all.items ≡ backward places.now by self.old.all.items }
+    {
+        self.put_other(by);
+        self.turn_all(places);
+    }
+
+    // Makes room for a slot after the first `end`, and for its place.
+    pub fn make_room(&mut self, end: usize, added: Option<Slot>) -> Result<(), AllocError>
+        requires { end ≤ length self.old.all.items }
+        ensures room { OnOk result (end < vec_capacity self.new.all) }
+        ensures live_room { OnOk result (HasRoomFor end added self.new.live) }
+        ensures items { self.new.all.items ≡ self.old.all.items }
+    {
+        make_room(&mut self.all, end)?;
+        if let Some(slot) = added {
+            self.live.make_room(slot.list, slot.end, end + 1)?;
+        }
+        Ok(())
+    }
+
+    // Cuts off the slots from `end` on, which show nothing, and adds one that shows nothing yet, if there is one.
+    pub fn cut_and_add(&mut self, end: usize, added: Option<Slot>)
+        requires within { end ≤ length self.old.all.items }
+        requires room { end < vec_capacity self.old.all }
+        requires live_room { HasRoomFor end added self.old.live }
+        requires dark { AllBelow end self.old.all.items }
+        requires unlit { AddsDark added }
+        ensures { self.new.all.items ≡ take end self.old.all.items ++ option_to_list added }
+    {
+        cut_and_add(&mut self.all, end, added);
+    }
+
+    // Forgets the slots that show nothing, and each mark but the present ones.
+    pub fn settle(&mut self)
+        ensures { self.new.all.items ≡ map kept (filter is_live self.old.all.items) }
+    {
+        forget_dark(&mut self.all);
+        self.live.clear();
+        self.live.fill(&self.all);
+    }
 }

@@ -1,14 +1,14 @@
 ghost use Rattle.std.specs.Prelude.{◌≡◌, ◌+◌, ◌-◌, ◌≤◌, ◌<◌, ◌∷◌, ◌++◌, [], OnOk, OnErr, IfOk, IfErr, IsOk, true, length, take, slice_index_or, vec_capacity};
 ghost use Rattle.avp_lists.specs.History.{starting};
 ghost use Rattle.avp_lists.specs.States.{empty_state, IsLimited};
-ghost use Rattle.avp_lists.specs.internal.Snapshots.{snapshot_at, state_of, states_of, own_state, is_whole, NamesEarlier, NamesBelow, AllLimited};
+ghost use Rattle.avp_lists.specs.internal.Snapshots.{snapshot_at, state_of, states_of, own_state, is_whole, PlacesEarlier, PlaceBelow, AllLimited};
 
 use crate::edits::{Edit, EditFault};
 use crate::lists::{List, MAX_PAIRS, Pairs, State, copies};
 use crate::operators::{edited, find_instance, is_full};
 use crate::pairs::{AttrId, Pair};
-use crate::steps::make_room;
-use crate::store::Store;
+use crate::store::{ListsRefused, Store};
+use crate::vectors::make_room;
 use std::alloc::{AllocError, Global};
 
 // A state of the history.
@@ -26,7 +26,7 @@ pub struct SnapshotStore {
     snapshots: Vec<Snapshot>,
     place: usize,
     ghost placed: { place < length snapshots.items },
-    ghost named: { NamesEarlier snapshots.items },
+    ghost earlier: { PlacesEarlier snapshots.items },
     ghost limited: { AllLimited snapshots.items },
 }
 
@@ -46,14 +46,6 @@ fn cut_and_push(
     snapshots.truncate(end);
     snapshots.push(snapshot).unwrap();
     Ok(())
-}
-
-/// The lists of a store for which there was no memory.
-#[derive(Debug, Drop)]
-pub struct ListsRefused {
-    pub request: Vec<Pair>,
-    pub reply: Vec<Pair>,
-    pub control: Vec<Pair>,
 }
 
 impl SnapshotStore {
@@ -125,7 +117,7 @@ impl SnapshotStore {
 
     // Cuts off the snapshots after the place, and adds one.
     fn add(&mut self, snapshot: Snapshot) -> Result<(), AllocError>
-        requires names { NamesBelow (self.old.place + 1) self.old.snapshots.items snapshot }
+        requires earlier { PlaceBelow (self.old.place + 1) self.old.snapshots.items snapshot }
         requires limited { IsLimited (own_state snapshot) }
         ensures ok { OnOk result (states_of self.new.snapshots.items
             ≡ take (self.old.place + 1) (states_of self.old.snapshots.items)

@@ -1,9 +1,10 @@
 //! The steps that lead from state to state, and the moves along them.
 ghost use Rattle.std.specs.Prelude.{◌≡◌, ◌+◌, ◌-◌, ◌≤◌, ◌<◌, ◌∷◌, ◌++◌, [], OnOk, IsOk, true, length, take, map, min, vec_capacity};
-ghost use Rattle.avp_lists.specs.internal.Slots.{at_first};
+ghost use Rattle.avp_lists.specs.internal.Slots.{at_initial};
 ghost use Rattle.avp_lists.specs.internal.Steps.{slots_at, change_at, turns, node, StepsWithin, BacksBelow};
 
-use crate::slots::{Slot, Swap, backward, forward};
+use crate::slots::{Slots, Swap};
+use crate::vectors::make_room;
 use std::alloc::AllocError;
 
 // What a step did.
@@ -21,20 +22,6 @@ pub(crate) struct Step {
     pub change: Change,
     pub slots: usize,
     pub pairs: usize,
-}
-
-// Makes room for one more after the first `end`.
-pub(crate) fn make_room<T: Drop>(items: &mut Vec<T>, end: usize) -> Result<(), AllocError>
-    requires { end ≤ length items.old.items }
-    ensures ok { OnOk result (end < vec_capacity items.new) }
-    ensures enough { end < vec_capacity items.old → IsOk result }
-    ensures items { items.new.items ≡ items.old.items }
-    ensures kept { vec_capacity items.old ≤ vec_capacity items.new }
-{
-    if end == items.len() {
-        items.reserve(1)?;
-    }
-    Ok(())
 }
 
 pub(crate) fn make_room_beside(
@@ -83,48 +70,48 @@ pub(crate) fn node(steps: &[Step], place: usize) -> usize
 }
 
 // From the state that a step leads to, to that of the place before it.
-fn go_back(slots: &mut [Slot], steps: &[Step], at: usize)
-    requires within { StepsWithin (length slots.old) steps.now }
+fn go_back(slots: &mut Slots, steps: &[Step], at: usize)
+    requires within { StepsWithin (length slots.old.all.items) steps.now }
     requires at { (0 < at) × (at < length steps.now) × (turns (change_at steps.now at) ≡ true) }
-    requires standing { slots.old ≡ slots_at slots.old steps.now at }
-    ensures moved { slots.new ≡ slots_at slots.old steps.now (at - 1) }
-    ensures firsts { map at_first slots.new ≡ map at_first slots.old }
+    requires standing { slots.old.all.items ≡ slots_at slots.old.all.items steps.now at }
+    ensures moved { slots.new.all.items ≡ slots_at slots.old.all.items steps.now (at - 1) }
+    ensures initials { map at_initial slots.new.all.items ≡ map at_initial slots.old.all.items }
 {
     match &steps[at].change {
-        Change::Turned(names, by) => backward(slots, names.as_slice(), *by),
+        Change::Turned(places, by) => slots.backward(places.as_slice(), *by),
         Change::Back(_) => unreachable!(),
     }
 }
 
 // From the state of the place before a step to the one that it leads to.
-fn go_ahead(slots: &mut [Slot], steps: &[Step], at: usize)
-    requires within { StepsWithin (length slots.old) steps.now }
+fn go_ahead(slots: &mut Slots, steps: &[Step], at: usize)
+    requires within { StepsWithin (length slots.old.all.items) steps.now }
     requires at { (0 < at) × (at < length steps.now) × (turns (change_at steps.now at) ≡ true) }
-    requires standing { slots.old ≡ slots_at slots.old steps.now (at - 1) }
-    ensures moved { slots.new ≡ slots_at slots.old steps.now at }
-    ensures firsts { map at_first slots.new ≡ map at_first slots.old }
+    requires standing { slots.old.all.items ≡ slots_at slots.old.all.items steps.now (at - 1) }
+    ensures moved { slots.new.all.items ≡ slots_at slots.old.all.items steps.now at }
+    ensures initials { map at_initial slots.new.all.items ≡ map at_initial slots.old.all.items }
 {
     match &steps[at].change {
-        Change::Turned(names, by) => forward(slots, names.as_slice(), *by),
+        Change::Turned(places, by) => slots.forward(places.as_slice(), *by),
         Change::Back(_) => unreachable!(),
     }
 }
 
 // From the state at one place to that at another: back to a state that both come from, then ahead along the next
 // places, which are written first, from the far state back.
-fn travel(slots: &mut [Slot], steps: &[Step], nexts: &mut [usize], from: usize, to: usize)
-    requires within { StepsWithin (length slots.old) steps.now }
+fn travel(slots: &mut Slots, steps: &[Step], nexts: &mut [usize], from: usize, to: usize)
+    requires within { StepsWithin (length slots.old.all.items) steps.now }
     requires below { BacksBelow steps.now }
     requires beside { length nexts.old ≡ length steps.now }
     requires from { (from < length steps.now) × (turns (change_at steps.now from) ≡ true) }
     requires to { (to < length steps.now) × (turns (change_at steps.now to) ≡ true) }
-    requires standing { slots.old ≡ slots_at slots.old steps.now from }
-    ensures moved { slots.new ≡ slots_at slots.old steps.now to }
-    ensures firsts { map at_first slots.new ≡ map at_first slots.old }
+    requires standing { slots.old.all.items ≡ slots_at slots.old.all.items steps.now from }
+    ensures moved { slots.new.all.items ≡ slots_at slots.old.all.items steps.now to }
+    ensures initials { map at_initial slots.new.all.items ≡ map at_initial slots.old.all.items }
 {
     let mut here = from;
     let mut far = to;
-    'back: while here != far {
+    while here != far {
         if far < here {
             go_back(slots, steps, here);
             here = node(steps, here - 1);
@@ -134,7 +121,7 @@ fn travel(slots: &mut [Slot], steps: &[Step], nexts: &mut [usize], from: usize, 
             far = before;
         }
     }
-    'ahead: while here != to {
+    while here != to {
         here = nexts[here];
         go_ahead(slots, steps, here);
     }
@@ -142,31 +129,25 @@ fn travel(slots: &mut [Slot], steps: &[Step], nexts: &mut [usize], from: usize, 
 
 // From the state at one place to that at another.
 pub(crate) fn move_to(
-    slots: &mut Vec<Slot>,
+    slots: &mut Slots,
     steps: &[Step],
     nexts: &mut Vec<usize>,
     from: usize,
     to: usize,
 )
-    requires within { StepsWithin (length slots.old.items) steps.now }
+    requires within { StepsWithin (length slots.old.all.items) steps.now }
     requires below { BacksBelow steps.now }
     requires beside { length nexts.old.items ≡ length steps.now }
     requires from { from < length steps.now }
     requires to { to < length steps.now }
-    requires standing { slots_at slots.old.items steps.now from ≡ slots.old.items }
-    ensures standing { slots_at slots.new.items steps.now to ≡ slots.new.items }
-    ensures firsts { map at_first slots.new.items ≡ map at_first slots.old.items }
-    ensures slots { length slots.new.items ≡ length slots.old.items }
+    requires standing { slots_at slots.old.all.items steps.now from ≡ slots.old.all.items }
+    ensures standing { slots_at slots.new.all.items steps.now to ≡ slots.new.all.items }
+    ensures initials { map at_initial slots.new.all.items ≡ map at_initial slots.old.all.items }
+    ensures slots { length slots.new.all.items ≡ length slots.old.all.items }
     ensures nexts { length nexts.new.items ≡ length nexts.old.items }
     ensures capacity { vec_capacity nexts.new ≡ vec_capacity nexts.old }
 {
     let here = node(steps, from);
     let there = node(steps, to);
-    travel(
-        slots.as_mut_slice(),
-        steps,
-        nexts.as_mut_slice(),
-        here,
-        there,
-    );
+    travel(slots, steps, nexts.as_mut_slice(), here, there);
 }

@@ -10,6 +10,14 @@ use crate::lists::{List, MAX_PAIRS};
 use crate::pairs::{AttrId, Pair};
 use std::alloc::AllocError;
 
+/// The lists of a store for which there was no memory.
+#[derive(Debug, Drop)]
+pub struct ListsRefused {
+    pub request: Vec<Pair>,
+    pub reply: Vec<Pair>,
+    pub control: Vec<Pair>,
+}
+
 /// Three lists of pairs under edits, with the states that they went through.
 ///
 /// A contract sees a store as a history, which is a list of states and the place of the present one,

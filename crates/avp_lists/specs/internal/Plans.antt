@@ -1,5 +1,5 @@
 -- What an edit turns in the slots, and the slots that a store begins with.
-use Rattle.std.specs.Prelude.{◌≡◌, zero, suc, ◌+◌, ℕ, Bool, true, false, not, ◌&&◌, ◌||◌, if◌then◌else◌, List, [], ◌∷◌, ◌++◌, length, Some}
+use Rattle.std.specs.Prelude.{◌≡◌, zero, suc, ◌+◌, ℕ, Bool, true, false, not, ◌&&◌, ◌||◌, if◌then◌else◌, List, [], ◌∷◌, ◌++◌, length, filter, Some}
 use Rattle.std.specs.Option.{is_some, option_to_list}
 use Rattle.avp_lists.specs.declared.pairs.Pair.{Pair}
 use Rattle.avp_lists.specs.declared.edits.Op.{Op}
@@ -12,8 +12,8 @@ use Rattle.avp_lists.specs.declared.slots.End.TheVariants.{Head, Tail}
 use Rattle.avp_lists.specs.declared.slots.Slot.{Slot}
 use Rattle.avp_lists.specs.Instances.{has_id}
 use Rattle.avp_lists.specs.Pairs.{pair_eq}
-use Rattle.avp_lists.specs.internal.Shown.{shows, slot_pair, shown_state}
-use Rattle.avp_lists.specs.internal.Slots.{forward, NamesWithin, SwapWithin, PairsWithin}
+use Rattle.avp_lists.specs.internal.Shown.{shows, shows_at, slot_pair, shown_state}
+use Rattle.avp_lists.specs.internal.Slots.{slot_at, forward, PlacesWithin, SwapWithin, PairsWithin}
 use Rattle.avp_lists.specs.States.{edited}
 
 -- the end at which an operator adds its pair
@@ -22,21 +22,32 @@ end_for Prepend = Head
 end_for _ = Tail
 
 -- an operator takes the other pair away, where it is not the first instance
-abbrev pub goes : Op → Pair → Pair → Bool
-goes RemoveEqual p q = pair_eq q p
-goes KeepEqual p q = has_id p.id q && not (pair_eq q p)
-goes RemoveAll p q = has_id p.id q
-goes Replace p q = has_id p.id q
-goes _ p q = false
+abbrev pub is_removed : Op → Pair → Pair → Bool
+is_removed RemoveEqual p q = pair_eq q p
+is_removed KeepEqual p q = has_id p.id q && not (pair_eq q p)
+is_removed RemoveAll p q = has_id p.id q
+is_removed Replace p q = has_id p.id q
+is_removed _ p q = false
 
 -- the pair of the slot is taken away
-abbrev pub taken : Edit → List Pair → Slot → Bool
-taken e pool s = shows e.list s && goes e.op e.pair (slot_pair pool s)
+abbrev pub is_taken : Edit → List Pair → Slot → Bool
+is_taken e pool s = shows e.list s && is_removed e.op e.pair (slot_pair pool s)
 
--- the names of the slots that pass, the first of which has the name n
-abbrev pub names_in : (Slot → Bool) → ℕ → List Slot → List ℕ
-names_in p n [] = []
-names_in p n (s ∷ ss) = if p s then n ∷ names_in p (n + 1) ss else names_in p (n + 1) ss
+-- the places of the slots that pass, the first of these slots at n
+abbrev pub places_in : (Slot → Bool) → ℕ → List Slot → List ℕ
+places_in p n [] = []
+places_in p n (s ∷ ss) = if p s then n ∷ places_in p (n + 1) ss else places_in p (n + 1) ss
+
+-- the pair of the slot at a place is taken away
+abbrev pub is_taken_at : Edit → List Pair → List Slot → ℕ → Bool
+is_taken_at e pool c i = is_taken e pool (slot_at c i)
+
+-- the places of the slots whose pairs are taken away, by the end at which they entered
+abbrev pub taken_at_end : End → Edit → List Pair → List Slot → List ℕ
+taken_at_end end e pool c = filter (is_taken_at e pool c) (places_in (shows_at end e.list) 0 c)
+
+abbrev pub taken_places : Edit → List Pair → List Slot → List ℕ
+taken_places e pool c = taken_at_end Head e pool c ++ taken_at_end Tail e pool c
 
 -- the slots before a plan's marks are turned, and after it
 abbrev pub widened : Plan → List Slot → List Slot
@@ -54,9 +65,9 @@ pooled p pair pool = if enters p then pool ++ pair ∷ [] else pool
 
 -- the plan makes of the slots what the edit makes of the state that they show
 pub record IsPlan (e : Edit) (pool : List Pair) (c : List Slot) (p : Plan) : Type 0 where
-  pub names : NamesWithin (length (widened p c)) p.turned.items
+  pub places : PlacesWithin (length (widened p c)) p.turned.items
   pub swap : SwapWithin (length (widened p c)) p.swap
-  pub added : (s : Slot) → p.added ≡ Some s → (s.mark.live ≡ false) × (s.first ≡ s.mark)
+  pub added : (s : Slot) → p.added ≡ Some s → (s.mark.live ≡ false) × (s.initial ≡ s.mark)
   pub within : PairsWithin (length (pooled p e.pair pool)) (planned p c)
   pub state : shown_state (pooled p e.pair pool) (planned p c) ≡ edited e (shown_state pool c)
 
@@ -67,7 +78,7 @@ fresh_slot which at =
       list = which;
       end = Tail;
       mark = record { live = true; pair = at };
-      first = record { live = true; pair = at };
+      initial = record { live = true; pair = at };
     }
 
 abbrev pub fresh : WhichList → ℕ → ℕ → List Slot

@@ -26,9 +26,16 @@ shows which s = s.mark.live && same_list which s.list
 abbrev pub no_pair : Pair
 no_pair = record { id = Plain 0; value = Int 0 }
 
--- the pair that a slot's mark names
+-- the pair that a slot's mark points to
 abbrev pub slot_pair : List Pair → Slot → Pair
 slot_pair pool s = slice_index_or pool s.mark.pair no_pair
+
+-- the pair that the slot at a place shows, and whether it is an instance of the id
+abbrev pub pair_at : List Pair → List Slot → ℕ → Pair
+pair_at pool c i = slot_pair pool (slot_at c i)
+
+abbrev pub has_id_at : AttrId → List Pair → List Slot → ℕ → Bool
+has_id_at id pool c i = has_id id (pair_at pool c i)
 
 -- it shows an instance of the id, in that list
 abbrev pub shows_id : WhichList → AttrId → List Pair → Slot → Bool

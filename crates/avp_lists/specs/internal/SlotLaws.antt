@@ -7,7 +7,7 @@ use Rattle.std.proofs.lemmas.List.{length-map, length_push}
 use Rattle.avp_lists.specs.declared.pairs.Pair.{Pair}
 use Rattle.avp_lists.specs.declared.slots.Slot.{Slot}
 use Rattle.avp_lists.specs.declared.steps.Step.{Step}
-use Rattle.avp_lists.specs.internal.Slots.{at_first}
+use Rattle.avp_lists.specs.internal.Slots.{at_initial}
 use Rattle.avp_lists.specs.internal.Steps.{after, replay, every, shown_states}
 use Rattle.avp_lists.specs.internal.Shown.{shown_state}
 
@@ -22,8 +22,8 @@ length-replay first done (e ∷ es) =
 pub length-every : (slots : List Slot) (steps : List Step)
     → length (every slots steps) ≡ length steps
 length-every slots steps =
-    let e : length (replay (map at_first slots) [] steps) ≡ 0 + length steps =
-    length-replay (map at_first slots) [] steps in
+    let e : length (replay (map at_initial slots) [] steps) ≡ 0 + length steps =
+    length-replay (map at_initial slots) [] steps in
     omega (arith, e)
 
 pub length-shown_states : (pool : List Pair) (slots : List Slot) (steps : List Step)

@@ -11,7 +11,7 @@ abbrev pub no_mark : Mark
 no_mark = record { live = false; pair = 0 }
 
 abbrev pub no_slot : Slot
-no_slot = record { list = Request; end = Head; mark = no_mark; first = no_mark }
+no_slot = record { list = Request; end = Head; mark = no_mark; initial = no_mark }
 
 -- the slot at a place; past the last one none
 abbrev pub slot_at : List Slot → ℕ → Slot
@@ -22,12 +22,12 @@ abbrev pub is_live : Slot → Bool
 is_live s = s.mark.live
 
 -- the slot as it is in the first state
-abbrev pub at_first : Slot → Slot
-at_first s = record s { mark = s.first }
+abbrev pub at_initial : Slot → Slot
+at_initial s = record s { mark = s.initial }
 
 -- the slot with the present mark as that of the first state
 abbrev pub kept : Slot → Slot
-kept s = record s { first = s.mark }
+kept s = record s { initial = s.mark }
 
 -- the slot with its mark turned
 abbrev pub flipped : Slot → Slot
@@ -53,14 +53,14 @@ swap_at (Some w) c = slice_set c w.slot (with_other w (slot_at c w.slot))
 
 -- from the state before a step to the one after it, and back
 abbrev pub forward : List ℕ → Option Swap → List Slot → List Slot
-forward names by c = swap_at by (turn_all names c)
+forward places by c = swap_at by (turn_all places c)
 
 abbrev pub backward : List ℕ → Option Swap → List Slot → List Slot
-backward names by c = turn_all names (swap_at by c)
+backward places by c = turn_all places (swap_at by c)
 
--- the slots that are named are among n
-abbrev pub NamesWithin : ℕ → List ℕ → Type 0
-NamesWithin n names = (k : ℕ) → k < length names → slice_index_or names k 0 < n
+-- the slots at these places are among n
+abbrev pub PlacesWithin : ℕ → List ℕ → Type 0
+PlacesWithin n places = (k : ℕ) → k < length places → slice_index_or places k 0 < n
 
 abbrev pub swap_end : Option Swap → ℕ
 swap_end None = 0

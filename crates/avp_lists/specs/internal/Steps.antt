@@ -7,7 +7,7 @@ use Rattle.avp_lists.specs.declared.slots.Swap.{Swap}
 use Rattle.avp_lists.specs.declared.steps.Change.{Change}
 use Rattle.avp_lists.specs.declared.steps.Change.TheVariants.{Turned, Back}
 use Rattle.avp_lists.specs.declared.steps.Step.{Step}
-use Rattle.avp_lists.specs.internal.Slots.{at_first, forward, NamesWithin, SwapWithin, Housed}
+use Rattle.avp_lists.specs.internal.Slots.{at_initial, forward, PlacesWithin, SwapWithin, Housed}
 use Rattle.avp_lists.specs.internal.Shown.{shown_state}
 use Rattle.avp_lists.specs.States.{empty_state, IsLimited}
 
@@ -18,7 +18,7 @@ last_or d done = slice_index_or done (length done - 1) d
 -- the slots of the state after a change, by those of the states before it, and by those of the first state where there
 -- are none
 abbrev pub after : List Slot → List (List Slot) → Change → List Slot
-after first done (Turned names by) = forward names.items by (last_or first done)
+after first done (Turned places by) = forward places.items by (last_or first done)
 after first done (Back to) = slice_index_or done to first
 
 -- the slots of every state, one for each step
@@ -27,7 +27,7 @@ replay first done [] = done
 replay first done (e ∷ es) = replay first (done ++ after first done e.change ∷ []) es
 
 abbrev pub every : List Slot → List Step → List (List Slot)
-every slots steps = replay (map at_first slots) [] steps
+every slots steps = replay (map at_initial slots) [] steps
 
 -- the slots of the state at a place
 abbrev pub slots_at : List Slot → List Step → ℕ → List Slot
@@ -37,7 +37,7 @@ slots_at slots steps k = slice_index_or (every slots steps) k []
 abbrev pub shown_states : List Pair → List Slot → List Step → List State
 shown_states pool slots steps = map (shown_state pool) (every slots steps)
 
--- the step that leads to a place; past the last one a step that names and counts nothing
+-- the step that leads to a place; past the last one a step that turns and counts nothing
 abbrev pub no_step : Step
 no_step = record { change = Back 0; slots = 0; pairs = 0 }
 
@@ -48,30 +48,30 @@ abbrev pub change_at : List Step → ℕ → Change
 change_at steps k = (step_at steps k).change
 
 abbrev pub turns : Change → Bool
-turns (Turned names by) = true
+turns (Turned places by) = true
 turns (Back to) = false
 
-abbrev pub names_of : Change → List ℕ
-names_of (Turned names by) = names.items
-names_of (Back to) = []
+abbrev pub places_of : Change → List ℕ
+places_of (Turned places by) = places.items
+places_of (Back to) = []
 
 abbrev pub swap_of : Change → Option Swap
-swap_of (Turned names by) = by
+swap_of (Turned places by) = by
 swap_of (Back to) = None
 
 -- the place that the state at a place stands for
 abbrev pub node_of : ℕ → Change → ℕ
-node_of k (Turned names by) = k
+node_of k (Turned places by) = k
 node_of k (Back to) = to
 
 abbrev pub node : List Step → ℕ → ℕ
 node steps k = node_of k (change_at steps k)
 
--- what each step names is among n slots
+-- what each step turns is among n slots
 abbrev pub StepsWithin : ℕ → List Step → Type 0
 StepsWithin n steps =
     (k : ℕ)
-    → NamesWithin n (names_of (change_at steps k)) × SwapWithin n (swap_of (change_at steps k))
+    → PlacesWithin n (places_of (change_at steps k)) × SwapWithin n (swap_of (change_at steps k))
 
 -- a step goes back to an earlier place that none of its kind leads to
 abbrev pub BacksBelow : List Step → Type 0
@@ -79,12 +79,12 @@ BacksBelow steps =
     (k to : ℕ) → k < length steps → change_at steps k ≡ Back to
     → (to < k) × (turns (change_at steps to) ≡ true)
 
--- what a step names is among the slots that it counts
-abbrev pub NamesCounted : Step → Type 0
-NamesCounted e = NamesWithin e.slots (names_of e.change) × SwapWithin e.slots (swap_of e.change)
+-- what a step turns is among the slots that it counts
+abbrev pub PlacesCounted : Step → Type 0
+PlacesCounted e = PlacesWithin e.slots (places_of e.change) × SwapWithin e.slots (swap_of e.change)
 
 abbrev pub AllCounted : List Step → Type 0
-AllCounted steps = (k : ℕ) → NamesCounted (step_at steps k)
+AllCounted steps = (k : ℕ) → PlacesCounted (step_at steps k)
 
 -- no step counts more than there is
 abbrev pub CountsWithin : ℕ → ℕ → List Step → Type 0

@@ -1,12 +1,5 @@
-use Rattle.std.proofs.Common.{◌∙◌, ◌++◌, List, ap}
-use Rattle.avp_lists.specs.internal.Plans.{taken, names_in}
 use Rattle.avp_lists.proofs.Planned.{plan-removed}
 use Rattle.avp_lists.proofs.planning.plan_removal.Goals as goal
 
 pub returns : goal.returns
-returns c =
-    let e = c.args.edit.now in
-    let pool = c.args.pool.now in
-    let slots = c.args.slots.now in
-    let names = c.in_ok-push_going.ensures ∙ ap (λ (ns : List _). ns ++ names_in (taken e pool) 0 slots) c.new-turned.ensures.items in
-    plan-removed e pool slots c.push_going.new.names c.requires.pooled c.requires.removes names
+returns c = plan-removed c.args.edit.now c.args.pool.now c.args.slots.now c.in_ok-turned.turned c.requires.pooled c.requires.removes c.in_ok-turned.ensures

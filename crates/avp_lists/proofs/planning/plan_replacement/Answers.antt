@@ -1,14 +1,12 @@
-use Rattle.std.proofs.Common.{◌∙◌, ◌++◌, ◌+◌, List, drop, take, ap, refl}
-use Rattle.avp_lists.specs.internal.Plans.{taken, names_in}
+use Rattle.std.proofs.Common.{◌∙◌, ap, refl, rules}
+use Rattle.std.specs.List.{filter}
+use Rattle.std.proofs.lemmas.Fn.{filter_same}
 use Rattle.avp_lists.proofs.Planned.{plan-replaced}
+use Rattle.avp_lists.proofs.TurnedPlaces.{is_not}
 use Rattle.avp_lists.proofs.planning.plan_replacement.Goals as goal
 
 pub returns : goal.returns
 returns c =
-    let e = c.args.edit.now in
-    let pool = c.args.pool.now in
-    let slots = c.args.slots.now in
     let first = c.args.first in
-    let before = c.in_ok-push_going.ensures ∙ ap (λ (ns : List _). ns ++ names_in (taken e pool) 0 (take first slots)) c.new-turned.ensures.items in
-    let names = c.in_ok-push_going-2.ensures ∙ ap (λ (ns : List _). ns ++ names_in (taken e pool) (first + 1) (drop (first + 1) slots)) before in
-    plan-replaced e pool slots first _ c.push_going-2.new.names c.requires.pooled c.requires.op c.requires.first.0 c.requires.first.1 c.requires.none_before refl refl refl names
+    let others = filter_same _ (is_not first) _ (λ x b f' k. search rules) _ _ c.retain.ensures.filtered in
+    plan-replaced c.args.edit.now c.args.pool.now c.args.slots.now first _ c.retain.new.self c.requires.pooled c.requires.op c.requires.first.0 c.requires.first.1 c.requires.none_before refl refl refl (others ∙ ap (filter (is_not first)) c.in_ok-turned.ensures)

@@ -24,7 +24,7 @@ pub returns-in-Some-clause-none_before : goal.returns-in-Some-clause-none_before
 returns-in-Some-clause-none_before c =
     let e = c.in-Some.ensures in
     let shown = e.shown in
-    let first = first-head c.args.list c.args.id c.args.pool.now c.args.slots.now c.in-Some.name shown.1 e.none_after in
+    let first = first-head c.args.list c.args.id c.args.pool.now c.args.slots.now c.in-Some.place shown.1 e.none_after in
     first.1
 
 pub returns-in-None-clause-none_before : goal.returns-in-None-clause-none_before

@@ -1,6 +1,6 @@
-use Rattle.std.proofs.Common.{◌≡◌, ◌++◌, take}
-use Rattle.avp_lists.specs.internal.Shown.{shown_pairs_at}
+use Rattle.std.proofs.Common.{◌≡◌, ◌++◌, map, take}
+use Rattle.avp_lists.specs.internal.Shown.{pair_at}
 use Rattle.avp_lists.proofs.showing.push_shown.Given as goal
 
-abbrev pub invariant-loop-slot : goal.invariant-loop-slot
-invariant-loop-slot l = l.made.items ≡ l.fn.made.items ++ shown_pairs_at l.end l.list l.pool (take l.slot-index l.slots)
+abbrev pub invariant-loop-place : goal.invariant-loop-place
+invariant-loop-place l = l.made.items ≡ l.fn.made.items ++ map (pair_at l.pool l.slots) (take l.place-index l.places)

@@ -9,7 +9,34 @@ use Rattle.avp_lists.specs.History.{History}
 use Rattle.avp_lists.specs.internal.Plans.{pooled, planned, IsPlan}
 use Rattle.avp_lists.specs.internal.Steps.{slots_at, no_step, step_at, BacksBelow, AllCounted, CountsWithin, CountsGrow, AllHoused, StatesLimited}
 use Rattle.avp_lists.proofs.Changing.{length-changed, below-changed, counted-changed, counts-changed, grow-changed, housed-changed, standing-changed, states-changed, limited-changed, slim-changed}
+use Rattle.avp_lists.specs.internal.Live.{AreLive, AllBelow}
+use Rattle.avp_lists.proofs.LiveTurns.{live-cut, below-now, adds-dark}
 use Rattle.avp_lists.proofs.slot_store.SlotStore.change.Goals as goal
+
+-- the slots after those of the place show nothing, and neither does one to be added
+pub plan_edit-requires-clause-live : goal.plan_edit-requires-clause-live
+plan_edit-requires-clause-live c =
+    let s = c.args.self.now in
+    let slots = s.slots.all.items in
+    let steps = s.steps.items in
+    let last = c.index-last.result.now in
+    let count : last ≡ step_at steps s.place = get_or_read steps s.place last s.placed c.index-last.ensures no_step in
+    let P : Step → Type 0 = λ x. AllBelow x.slots slots in
+    let Q : List Slot → Type 0 = λ xs. AreLive (take last.slots xs) s.slots.live in
+    subst Q (sym c.deref.ensures.value) (live-cut last.slots slots s.slots.live (subst P (sym count) (below-now slots steps s.place s.housed s.standing)) s.slots.in_order)
+
+pub slots_for-requires-clause-dark : goal.slots_for-requires-clause-dark
+slots_for-requires-clause-dark c =
+    let s = c.args.self.now in
+    let slots = s.slots.all.items in
+    let steps = s.steps.items in
+    let last = c.index-last.result.now in
+    let count : last ≡ step_at steps s.place = get_or_read steps s.place last s.placed c.index-last.ensures no_step in
+    let P : Step → Type 0 = λ x. AllBelow x.slots slots in
+    subst (AllBelow last.slots) (sym c.in_ok-make_room_after.ensures.slots) (subst P (sym count) (below-now slots steps s.place s.housed s.standing))
+
+pub slots_for-requires-clause-unlit : goal.slots_for-requires-clause-unlit
+slots_for-requires-clause-unlit c = adds-dark c.in_ok-plan.plan.added c.in_ok-plan.ensures.added
 
 -- nothing has changed
 pub invariant_of-self-in-Break-branch-2 : goal.invariant_of-self-in-Break-branch-2
@@ -17,9 +44,9 @@ invariant_of-self-in-Break-branch-2 c =
     let s = c.args.self.now in
     let e = c.in_err-make_room_after.ensures in
     let pool = s.pool.items in
-    let slots = s.slots.items in
+    let slots = s.slots.all.items in
     let new_pool = c.make_room_after.new.pool.items in
-    let new_slots = c.make_room_after.new.slots.items in
+    let new_slots = c.make_room_after.new.slots.all.items in
     let new_steps = c.make_room_after.new.steps.items in
     let C1 : List Pair → Type 0 = λ x. CountsWithin (length slots) (length x) new_steps in
     let C2 : List Slot → Type 0 = λ x. CountsWithin (length x) (length new_pool) new_steps in
@@ -45,7 +72,7 @@ invariant_of-self-2 c =
     let s = c.args.self.now in
     let e = c.args.edit in
     let pool = s.pool.items in
-    let slots = s.slots.items in
+    let slots = s.slots.all.items in
     let steps = s.steps.items in
     let k = s.place in
     let p = c.in_ok-plan.plan in
@@ -53,7 +80,7 @@ invariant_of-self-2 c =
     let room = c.in_ok-make_room_after.ensures in
     let count : last ≡ step_at steps k = get_or_read steps k last s.placed c.index-last.ensures no_step in
     let new_pool = c.pool_for.new.pool.items in
-    let new_slots = c.slots_for.new.slots.items in
+    let new_slots = c.slots_for.new.slots.all.items in
     let new_steps = c.cut_and_push.new.steps.items in
     let step : Step = record { change = Turned p.turned p.swap; slots = c.len.result; pairs = c.len-2.result } in
     let made : IsPlan e (take last.pairs c.deref-2.result.now) (take last.slots c.deref.result.now) p = c.in_ok-plan.ensures in
@@ -65,7 +92,7 @@ invariant_of-self-2 c =
     let P : new_pool ≡ pooled p e.pair (take (step_at steps k).pairs pool) = c.pool_for.ensures ∙ ap₂ (λ (x : Step) (a : List Pair). pooled p e.pair (take x.pairs a)) count room.pool in
     let N : new_slots ≡ planned p (take (step_at steps k).slots slots) = c.slots_for.ensures ∙ ap₂ (λ (x : Step) (a : List Slot). planned p (take x.slots a)) count room.slots in
     let S : new_steps ≡ take (k + 1) steps ++ step ∷ [] = c.cut_and_push.ensures.steps ∙ ap (λ (xs : List Step). take (k + 1) xs ++ step ∷ []) room.steps in
-    let es : c.len.result ≡ length new_slots = omega (arith, c.len.ensures, c.slots_for.new.slots.ok.0) in
+    let es : c.len.result ≡ length new_slots = omega (arith, c.len.ensures, c.slots_for.new.slots.all.ok.0) in
     let ep : c.len-2.result ≡ length new_pool = omega (arith, c.len-2.ensures, c.pool_for.new.pool.ok.0) in
     let long = length-changed e pool slots steps k s.placed s.counted s.counts s.grow s.housed s.standing p plan step new_pool new_slots new_steps P N S refl es ep in
     record {
@@ -85,7 +112,7 @@ returns c =
     let s = c.args.self.now in
     let e = c.args.edit in
     let pool = s.pool.items in
-    let slots = s.slots.items in
+    let slots = s.slots.all.items in
     let steps = s.steps.items in
     let k = s.place in
     let p = c.in_ok-plan.plan in
@@ -93,7 +120,7 @@ returns c =
     let room = c.in_ok-make_room_after.ensures in
     let count : last ≡ step_at steps k = get_or_read steps k last s.placed c.index-last.ensures no_step in
     let new_pool = c.pool_for.new.pool.items in
-    let new_slots = c.slots_for.new.slots.items in
+    let new_slots = c.slots_for.new.slots.all.items in
     let new_steps = c.cut_and_push.new.steps.items in
     let step : Step = record { change = Turned p.turned p.swap; slots = c.len.result; pairs = c.len-2.result } in
     let made : IsPlan e (take last.pairs c.deref-2.result.now) (take last.slots c.deref.result.now) p = c.in_ok-plan.ensures in
@@ -105,7 +132,7 @@ returns c =
     let P : new_pool ≡ pooled p e.pair (take (step_at steps k).pairs pool) = c.pool_for.ensures ∙ ap₂ (λ (x : Step) (a : List Pair). pooled p e.pair (take x.pairs a)) count room.pool in
     let N : new_slots ≡ planned p (take (step_at steps k).slots slots) = c.slots_for.ensures ∙ ap₂ (λ (x : Step) (a : List Slot). planned p (take x.slots a)) count room.slots in
     let S : new_steps ≡ take (k + 1) steps ++ step ∷ [] = c.cut_and_push.ensures.steps ∙ ap (λ (xs : List Step). take (k + 1) xs ++ step ∷ []) room.steps in
-    let es : c.len.result ≡ length new_slots = omega (arith, c.len.ensures, c.slots_for.new.slots.ok.0) in
+    let es : c.len.result ≡ length new_slots = omega (arith, c.len.ensures, c.slots_for.new.slots.all.ok.0) in
     let ep : c.len-2.result ≡ length new_pool = omega (arith, c.len-2.ensures, c.pool_for.new.pool.ok.0) in
     record {
       ok = ap (λ (xs : List State). let h : History = record { states = xs; place = k + 1 } in h)

@@ -8,6 +8,6 @@ use Rattle.avp_lists.proofs.slot_store.SlotStoreStore.edit.Goals as goal
 pub change-requires : goal.change-requires
 change-requires c =
     let s = c.args.self.now in
-    let state = get_or (shown_states s.pool.items s.slots.items s.steps.items) s.place empty_state in
+    let state = get_or (shown_states s.pool.items s.slots.all.items s.steps.items) s.place empty_state in
     let not_full : IsFull c.args.edit state → ⊥ = λ full. let t : false ≡ true = c.if-is_full.ensures.1 full in cc in
     record { fits = edited_limited c.args.edit state (s.limited s.place) not_full }

@@ -15,5 +15,5 @@ returns c =
     let id = c.args.id in
     c.first_shown.ensures
     ∙ ap₂ (λ (p : List Pair) (xs : List Slot). find (has_id id) (shown_pairs which p xs)) c.deref-2.ensures.value c.deref.ensures.value
-    ∙ ap (find (has_id id)) (sym (present-list which s.pool.items s.slots.items s.steps.items s.place s.placed s.standing))
+    ∙ ap (find (has_id id)) (sym (present-list which s.pool.items s.slots.all.items s.steps.items s.place s.placed s.standing))
     ∙ find-front (has_id id) _

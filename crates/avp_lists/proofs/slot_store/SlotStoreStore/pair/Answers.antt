@@ -13,4 +13,4 @@ returns c =
     let at = c.args.at in
     c.pair_shown.ensures
     ∙ ap₂ (λ (p : List Pair) (xs : List Slot). slice_get (shown_pairs which p xs) at) c.deref-2.ensures.value c.deref.ensures.value
-    ∙ ap (λ (xs : List Pair). slice_get xs at) (sym (present-list which s.pool.items s.slots.items s.steps.items s.place s.placed s.standing))
+    ∙ ap (λ (xs : List Pair). slice_get xs at) (sym (present-list which s.pool.items s.slots.all.items s.steps.items s.place s.placed s.standing))

@@ -42,9 +42,9 @@ pub invariant_of-self-2 : goal.invariant_of-self-2
 invariant_of-self-2 c =
     let s = c.args.self.now in
     let steps = s.steps.items in
-    let slots = s.slots.items in
+    let slots = s.slots.all.items in
     let pool = s.pool.items in
-    let moved = c.move_to.new.slots.items in
+    let moved = c.move_to.new.slots.all.items in
     let n = s.place + 1 in
     let to = c.args.to in
     let w = c.node-earlier.result in
@@ -61,7 +61,7 @@ invariant_of-self-2 c =
     let earlier : w < n = omega arith in
     let turned : turns (change_at steps w) ≡ true = ap (λ (m : ℕ). turns (change_at steps m)) is ∙ fits.1 in
     let there : slots_at moved steps to ≡ moved = ap (λ (xs : List Step). slots_at moved xs to) (sym (c.deref.ensures.value ∙ room.steps)) ∙ c.move_to.ensures.standing in
-    let firsts = c.move_to.ensures.firsts in
+    let initials = c.move_to.ensures.initials in
     let long = length-more steps n e fine in
     let read : last ≡ get_or steps s.place last = c.index-last.ensures ∙ ap (λ (xs : List Step). get_or xs s.place last) room.steps in
     let count : step_at steps s.place ≡ last = sym (get_or_read steps s.place last s.placed read no_step) in
@@ -74,7 +74,7 @@ invariant_of-self-2 c =
     let le_slots : last.slots ≤ length moved = omega (arith, all.0, same_slots) in
     let counts : CountsWithin (length moved) (length pool) steps = let P : ℕ → Type 0 = λ m. CountsWithin m (length pool) steps in subst P (sym same_slots) s.counts in
     let of_w = most w earlier in
-    let states = states-rolled pool slots moved steps n to w e fine (omega (arith, before)) s.below is refl firsts in
+    let states = states-rolled pool slots moved steps n to w e fine (omega (arith, before)) s.below is refl initials in
     let within : n ≤ length (shown_states pool slots steps) = omega (arith, length-shown_states pool slots steps, fine) in
     record {
       placed = omega (arith, ap length new, long);
@@ -83,7 +83,7 @@ invariant_of-self-2 c =
       counted = subst AllCounted (sym new) (counted-more steps n e fine s.counted (λ i h. absurd (omega (arith, h)), omega arith));
       counts = subst (CountsWithin (length moved) (length pool)) (sym new) (counts-more steps n e fine (length moved) (length pool) (λ k below. counts k) le_slots all.1);
       grow = subst CountsGrow (sym new) (grow-more steps n e fine s.grow most);
-      housed = subst (AllHoused moved) (sym new) (housed-back moved steps n w e fine refl earlier (housed-same pool slots moved steps firsts s.housed) of_w.0 of_w.1);
+      housed = subst (AllHoused moved) (sym new) (housed-back moved steps n w e fine refl earlier (housed-same pool slots moved steps initials s.housed) of_w.0 of_w.1);
       standing = let P : List Step → Type 0 = λ xs. slots_at moved xs n ≡ moved in subst P (sym new) (standing-back moved steps n w e fine refl earlier ∙ ap (slots_at moved steps) is ∙ fits.2 ∙ there);
       limited = subst (StatesLimited pool moved) (sym new) (λ k. let P : List State → Type 0 = λ xs. IsLimited (get_or xs k empty_state) in subst P (sym states) (limited-continued (shown_states pool slots steps) n (get_or (shown_states pool slots steps) to empty_state) within s.limited (s.limited to) k));
     }
@@ -92,7 +92,7 @@ pub returns-clause-ok : goal.returns-clause-ok
 returns-clause-ok c =
     let s = c.args.self.now in
     let steps = s.steps.items in
-    let moved = c.move_to.new.slots.items in
+    let moved = c.move_to.new.slots.all.items in
     let n = s.place + 1 in
     let to = c.args.to in
     let w = c.node-earlier.result in
@@ -103,4 +103,4 @@ returns-clause-ok c =
     let fine : n ≤ length steps = omega (arith, s.placed) in
     let before : to < n = omega (arith, c.requires) in
     ap (λ (xs : List State). let h : History = record { states = xs; place = n } in h)
-    (ap (shown_states s.pool.items moved) new ∙ states-rolled s.pool.items s.slots.items moved steps n to w e fine before s.below is refl c.move_to.ensures.firsts)
+    (ap (shown_states s.pool.items moved) new ∙ states-rolled s.pool.items s.slots.all.items moved steps n to w e fine before s.below is refl c.move_to.ensures.initials)

@@ -5,6 +5,6 @@ use Rattle.avp_lists.proofs.slot_store.SlotStoreStore.steps.Goals as goal
 pub returns : goal.returns
 returns c =
     let s = c.args.self.now in
-    let long = length-shown_states s.pool.items s.slots.items s.steps.items in
+    let long = length-shown_states s.pool.items s.slots.all.items s.steps.items in
     let some = s.placed in
     omega (arith, c.len.ensures, long, some)

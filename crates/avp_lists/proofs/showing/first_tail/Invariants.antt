@@ -1,8 +1,0 @@
-use Rattle.std.proofs.Common.{◌≡◌, false, take}
-use Rattle.std.specs.List.{list_any}
-use Rattle.avp_lists.specs.declared.slots.End.TheVariants.{Tail}
-use Rattle.avp_lists.specs.internal.Shown.{shows_id_at}
-use Rattle.avp_lists.proofs.showing.first_tail.Given as goal
-
-abbrev pub invariant-loop-name : goal.invariant-loop-name
-invariant-loop-name l = list_any (shows_id_at Tail l.list l.id l.pool) (take l.name l.slots) ≡ false
