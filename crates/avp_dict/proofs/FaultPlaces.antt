@@ -1,7 +1,7 @@
 -- Each line, note and fault lies in a file of the set.
-use Rattle.std.proofs.Common.{◌≡◌, ℕ, zero, suc, Bool, true, false, ◌+◌, ◌-◌, ◌<◌, List, [], ◌∷◌, ◌++◌, Option, Some, None, Result, Ok, Err, refl, sym, ap, ◌∙◌, subst, length, unwrap_or, slice_get, All, fold}
+use Rattle.std.proofs.Common.{◌≡◌, ℕ, zero, suc, Bool, true, false, ◌&&◌, ◌==◌, ◌+◌, ◌-◌, ◌<◌, List, [], ◌∷◌, ◌++◌, Option, Some, None, Result, Ok, Err, refl, sym, ap, ◌∙◌, subst, length, unwrap_or, slice_get, All, fold}
 use Rattle.std.specs.Option.{option_and_then, option_map_or}
-use Rattle.std.proofs.lemmas.Bool.{cond_both}
+use Rattle.std.proofs.lemmas.Bool.{and_parts, cond_both, eqb-true}
 use Rattle.std.proofs.lemmas.Option.{slice_get_within, unwrap_or-slice_get}
 use Rattle.std.proofs.lemmas.List.Elements.{All-nil, All-cons, All-head, All-tail, All-append, All-push, All-take}
 use Rattle.avp_dict.specs.declared.entries.Note.{Note}
@@ -9,6 +9,7 @@ use Rattle.avp_dict.specs.declared.entries.ValueLine.{ValueLine}
 use Rattle.avp_dict.specs.declared.faults.DictFault.{DictFault}
 use Rattle.avp_dict.specs.declared.faults.DictKind.{DictKind}
 use Rattle.avp_dict.specs.declared.file.files.NamedFile.{NamedFile}
+use Rattle.avp_lists.specs.Meets.{Unless}
 use Rattle.avp_dict.proofs.FoundPositions.{found_within}
 use Rattle.avp_dict.proofs.LinesRead.{then_both}
 use Rattle.avp_dict.specs.Blocks.{innermost}
@@ -16,7 +17,7 @@ use Rattle.avp_dict.specs.Dictionary.{Dictionary, id_named}
 use Rattle.avp_dict.specs.DictionaryReading.{dictionary_of, outline_of, settled_dictionary, unless_open}
 use Rattle.avp_dict.specs.Lines.{Line, expanded, file_included, file_named, has_name, included_by, lines_below, lines_in, lines_of, octets_at, texts_of}
 use Rattle.avp_dict.specs.Meanings.{Meaning, Value, BeginVendor, BeginTlv, End, Reading, Context, after_reading, context_of, no_context}
-use Rattle.avp_dict.specs.Outcomes.{If, Refuses, is_memory, want_of_memory}
+use Rattle.avp_dict.specs.Outcomes.{is_memory, is_memory_kind}
 use Rattle.avp_dict.specs.Readings.{read_line, read_lines, within}
 use Rattle.avp_dict.specs.Settled.{skipped_names}
 use Rattle.avp_dict.specs.Refusals.{refused_at, ◌>>=◌}
@@ -143,12 +144,17 @@ dictionary_in limit files some =
 
 -- ---- faults and notes
 
-fault_by : (memory : Bool) (n : ℕ) (fault : DictFault) (read : Result Dictionary DictFault) → 0 < n → IsDictionaryIn n read → If memory (fault ≡ want_of_memory) (read ≡ Err fault) → fault.file < n
-fault_by true n fault read some are h = rw h some
-fault_by false n fault read some are h = subst (IsDictionaryIn n) h are
+unplaced : (fault : DictFault) → is_memory fault ≡ true → fault.file ≡ 0
+unplaced fault h =
+    let place = (and_parts (is_memory_kind fault.kind) (fault.file == 0 && fault.line == 0) h).1 in
+    eqb-true fault.file 0 (and_parts (fault.file == 0) (fault.line == 0) place).0
 
-pub fault_in : (limit : ℕ) (files : List NamedFile) (fault : DictFault) → 0 < length files → Refuses fault (dictionary_of limit files) → fault.file < length files
-fault_in limit files fault some h = fault_by (is_memory fault.kind) (length files) fault (dictionary_of limit files) some (dictionary_in limit files some) h
+fault_by : (memory : Bool) (n : ℕ) (fault : DictFault) (read : Result Dictionary DictFault) → is_memory fault ≡ memory → 0 < n → IsDictionaryIn n read → Unless memory (read ≡ Err fault) → fault.file < n
+fault_by true n fault read is some are h = rw (unplaced fault is) some
+fault_by false n fault read is some are h = subst (IsDictionaryIn n) h are
+
+pub fault_in : (limit : ℕ) (files : List NamedFile) (fault : DictFault) → 0 < length files → Unless (is_memory fault) (dictionary_of limit files ≡ Err fault) → fault.file < length files
+fault_in limit files fault some h = fault_by (is_memory fault) (length files) fault (dictionary_of limit files) refl some (dictionary_in limit files some) h
 
 pub notes_in : (limit : ℕ) (files : List NamedFile) (dictionary : Dictionary) → 0 < length files → dictionary_of limit files ≡ Ok dictionary → All (λ (note : Note). note.file < length files) dictionary.notes
 notes_in limit files dictionary some e = subst (IsDictionaryIn (length files)) e (dictionary_in limit files some)

@@ -1,21 +1,19 @@
 -- One line more.
-use Rattle.std.proofs.Common.{◌≡◌, ℕ, Bool, true, false, ◌-◌, ◌∙◌, sym, ap, take, ◌<◌, List, [], ◌∷◌, ◌++◌, Result, Ok, Err, refl, length, if◌then◌else◌, nat_lt, ltb-true}
+use Rattle.std.proofs.Common.{◌≡◌, ℕ, Bool, true, false, ◌&&◌, ◌==◌, ◌-◌, ◌∙◌, sym, ap, take, ◌<◌, List, [], ◌∷◌, ◌++◌, Result, Ok, Err, refl, length, if◌then◌else◌, nat_lt, ltb-true}
 use Rattle.std.proofs.lemmas.List.{length-map, take-map}
 use Rattle.std.proofs.lemmas.List.Sums.{fold_push}
 use Rattle.avp_dict.specs.declared.file.files.NamedFile.{NamedFile}
 use Rattle.avp_dict.specs.declared.faults.DictKind.{DictKind}
 use Rattle.avp_dict.specs.declared.faults.DictKind.TheVariants.{TooLong}
-use Rattle.avp_dict.specs.declared.faults.LineError.{LineError}
-use Rattle.avp_dict.specs.declared.faults.LineError.TheVariants.{Memory, Refused}
 use Rattle.avp_dict.specs.declared.file.meanings.Reading.{Reading as CodeReading}
 use Rattle.avp_dict.specs.declared.faults.DictFault.{DictFault}
+use Rattle.avp_lists.specs.Meets.{Unless}
 use Rattle.avp_dict.specs.Lines.{Line}
 use Rattle.avp_dict.specs.Meanings.{Context, Meaning, Reading, after_reading, context_of, no_context}
-use Rattle.avp_dict.specs.Outcomes.{If, Refuses, is_memory, want_of_memory}
+use Rattle.avp_dict.specs.Outcomes.{is_memory, is_memory_kind, want_of_memory}
 use Rattle.avp_dict.specs.Readings.{read_line, read_lines, within}
 use Rattle.avp_dict.specs.Refusals.{refused_at, ◌>>=◌}
 use Rattle.avp_dict.specs.internal.Meanings.{reading_view, reading_views}
-use Rattle.avp_dict.specs.internal.Outcomes.{Fails}
 use Rattle.avp_dict.specs.internal.Refused.{fault_at}
 
 pub context_of_push : (lines : List Reading) (r : Reading) → context_of (lines ++ r ∷ []) ≡ after_reading (context_of lines) r
@@ -40,17 +38,14 @@ pub then_both : {A B E : Type 0} (P : Result A E → Type 0) (Q : Result B E →
 then_both P Q (Ok x) f h ok err = ok x h
 then_both P Q (Err e) f h ok err = err e h
 
-fails_through : (memory : Bool) (fault : DictFault) (A : Type 0) (B : Type 0) (r : Result A DictFault) (f : A → Result B DictFault) → If memory (fault ≡ want_of_memory) (r ≡ Err fault) → If memory (fault ≡ want_of_memory) (r >>= f ≡ Err fault)
-fails_through true fault A B r f h = h
-fails_through false fault A B r f h = rw h
-
 -- a step that is refused refuses what it is a step of
-pub refuses_through : {A B : Type 0} (fault : DictFault) (r : Result A DictFault) (f : A → Result B DictFault) → Refuses fault r → Refuses fault (r >>= f)
-refuses_through {A} {B} fault r f h = fails_through (is_memory fault.kind) fault A B r f h
+pub refuses_through : {A B E : Type 0} (memory : Bool) (fault : E) (r : Result A E) (f : A → Result B E) → Unless memory (r ≡ Err fault) → Unless memory (r >>= f ≡ Err fault)
+refuses_through true fault r f h = h
+refuses_through false fault r f h = rw h
 
-pub read_lines_fails : (limit : ℕ) (files : List NamedFile) (before : List Reading) (line : Line) (lines : List Line) (fault : DictFault) → Refuses fault (refused_at line.file line.number (within limit before (read_line files (context_of before) line))) → Refuses fault (read_lines limit files before (line ∷ lines))
+pub read_lines_fails : (limit : ℕ) (files : List NamedFile) (before : List Reading) (line : Line) (lines : List Line) (fault : DictFault) → Unless (is_memory fault) (refused_at line.file line.number (within limit before (read_line files (context_of before) line)) ≡ Err fault) → Unless (is_memory fault) (read_lines limit files before (line ∷ lines) ≡ Err fault)
 unfolding read_lines
-read_lines_fails limit files before line lines fault h = refuses_through fault (refused_at line.file line.number (within limit before (read_line files (context_of before) line))) _ h
+read_lines_fails limit files before line lines fault h = refuses_through (is_memory fault) fault (refused_at line.file line.number (within limit before (read_line files (context_of before) line))) _ h
 
 -- one line is read only where there is room
 read_by : (room : Bool) (read : Result Meaning DictKind) (m : Meaning) → (if room then read else Err TooLong) ≡ Ok m → (room ≡ true) × (read ≡ Ok m)
@@ -67,14 +62,20 @@ pub context_after : (before : List Reading) (was now : Context) (r : Reading) (a
 context_after before was now r after is_was is_now is_after = rw (is_after, context_of_push, ← is_was) is_now
 
 -- the refusal of a line is what its definition gives
-fault_by : (A : Type 0) (memory : Bool) (file line : ℕ) (kind : DictKind) (read : Result A DictKind) → is_memory kind ≡ memory → read ≡ Err kind
-    → Refuses (if memory then want_of_memory else record { file = file; line = line; kind = kind }) (refused_at file line read)
-fault_by A true file line kind read e h = refl
-fault_by A false file line kind read e h = rw (e, h)
+refused : {A : Type 0} (file line : ℕ) (kind : DictKind) (read : Result A DictKind) → is_memory_kind kind ≡ false → read ≡ Err kind
+    → Unless (is_memory_kind kind && (file == 0 && line == 0)) (refused_at file line read ≡ Err (record { file = file; line = line; kind = kind }))
+refused file line kind read e h = rw (e, h)
 
-pub refused_by : {A : Type 0} (file line : ℕ) (error : LineError) (read : Result A DictKind) (fault : DictFault) → fault ≡ fault_at file line error → Fails error read → Refuses fault (refused_at file line read)
-refused_by {A} file line Memory read fault e h = rw e
-refused_by {A} file line (Refused kind) read fault e h = rw e (fault_by A (is_memory kind) file line kind read refl h)
+abbrev fault_if : Bool → ℕ → ℕ → DictKind → DictFault
+fault_if memory file line kind = if memory then want_of_memory else record { file = file; line = line; kind = kind }
+
+fault_by : {A : Type 0} (memory : Bool) (file line : ℕ) (kind : DictKind) (read : Result A DictKind) → is_memory_kind kind ≡ memory → Unless memory (read ≡ Err kind)
+    → Unless (is_memory (fault_if memory file line kind)) (refused_at file line read ≡ Err (fault_if memory file line kind))
+fault_by true file line kind read e h = tt
+fault_by false file line kind read e h = refused file line kind read e h
+
+pub refused_by : {A : Type 0} (file line : ℕ) (kind : DictKind) (read : Result A DictKind) (fault : DictFault) → fault ≡ fault_at file line kind → Unless (is_memory_kind kind) (read ≡ Err kind) → Unless (is_memory fault) (refused_at file line read ≡ Err fault)
+refused_by file line kind read fault e h = rw e (fault_by (is_memory_kind kind) file line kind read refl h)
 
 -- all open blocks but the innermost
 pub opened_cut : (opened : List CodeReading) (n : ℕ) → n ≡ length opened - 1 → reading_views (take n opened) ≡ take (length (reading_views opened) - 1) (reading_views opened)

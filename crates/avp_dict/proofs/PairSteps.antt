@@ -3,6 +3,7 @@ use Rattle.std.proofs.Common.{◌≡◌, ◌≢◌, ℕ, ◌<◌, ◌≤◌, Boo
 use Rattle.std.specs.List.{list_all}
 use Rattle.std.proofs.lemmas.Grind.{common_steps}
 use Rattle.avp_lists.specs.declared.pairs.Pair.{Pair}
+use Rattle.avp_lists.specs.Meets.{Unless}
 use Rattle.avp_lists.specs.States.{max_pairs}
 use Rattle.avp_dict.specs.declared.entries.Named.{Named}
 use Rattle.avp_dict.specs.declared.request.faults.LineKind.{LineKind}
@@ -12,10 +13,11 @@ use Rattle.avp_dict.specs.declared.request.tokens.Side.TheVariants.{Name, Value}
 use Rattle.avp_dict.specs.declared.request.tokens.Token.{Token as CodeToken}
 use Rattle.avp_dict.specs.declared.request.tokens.Token.TheVariants as code
 use Rattle.avp_dict.specs.Names.{named}
+use Rattle.avp_dict.specs.Outcomes.{is_memory_line}
 use Rattle.avp_dict.specs.Lines.{texts_of}
 use Rattle.avp_dict.specs.RequestLines.{Assignment, Token, Comma, Sign, Run, assigned, assignments_of, is_blank_line, is_idle_line, joined, packet_assignments, pairs_of, tokens_at, value_text, without_front}
 use Rattle.avp_dict.specs.Requests.{few_enough, pair_named, pair_spelled, pairs_spelled, request_spelled}
-use Rattle.avp_dict.specs.internal.LineReading.{IsNoRequest, RefusesLine, after_pairs, assigned_after, packet_pairs, pair_of_token, pairs_after, pairs_at}
+use Rattle.avp_dict.specs.internal.LineReading.{IsNoRequest, after_pairs, assigned_after, packet_pairs, pair_of_token, pairs_after, pairs_at}
 use Rattle.avp_dict.specs.internal.RequestTokens.{side_after, token_view}
 
 -- ---- one list after another
@@ -93,11 +95,11 @@ module _ (d : Dictionary) (name : List ℕ) (n : Named) (known : named name d �
       pairs_then d name (token_view value) tokens (Some n) known ∙ ap (λ x. joined (option_map (λ p. p ∷ []) x) (pairs_after d tokens)) h
 
 -- what refuses a part refuses the whole
-pub refuses_whole : {A B : Type 0} (kind : LineKind) (part : Option A) (whole : Option B) → RefusesLine kind part → (part ≡ None → whole ≡ None) → RefusesLine kind whole
-refuses_whole kinds.Memory part whole h f = tt
-refuses_whole _ part whole h f = f h
+pub refuses_whole : {A B : Type 0} (memory : Bool) (part : Option A) (whole : Option B) → Unless memory (part ≡ None) → (part ≡ None → whole ≡ None) → Unless memory (whole ≡ None)
+refuses_whole true part whole h f = tt
+refuses_whole false part whole h f = f h
 
-pub refuses_all : {A : Type 0} (kind : LineKind) (part : Option A) → RefusesLine kind part → kind ≢ kinds.Memory → part ≡ None
+pub refuses_all : {A : Type 0} (kind : LineKind) (part : Option A) → Unless (is_memory_line kind) (part ≡ None) → kind ≢ kinds.Memory → part ≡ None
 refuses_all kinds.Memory part h other = absurd (other refl)
 refuses_all _ part h other = h
 

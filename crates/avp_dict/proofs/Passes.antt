@@ -6,13 +6,14 @@ use Rattle.avp_dict.specs.declared.entries.ValueLine.{ValueLine}
 use Rattle.avp_dict.specs.declared.faults.DictFault.{DictFault}
 use Rattle.avp_dict.specs.declared.faults.DictKind.TheVariants.{Unmatched}
 use Rattle.avp_dict.specs.declared.file.files.NamedFile.{NamedFile}
+use Rattle.avp_lists.specs.Meets.{Unless}
 use Rattle.avp_dict.proofs.LinesRead.{read_lines_none, refuses_through}
 use Rattle.avp_dict.specs.Blocks.{innermost}
 use Rattle.avp_dict.specs.Dictionary.{Dictionary}
 use Rattle.avp_dict.specs.DictionaryReading.{dictionary_of, settled_dictionary, unless_open}
 use Rattle.avp_dict.specs.Lines.{lines_in, lines_of}
 use Rattle.avp_dict.specs.Meanings.{Context, Reading, context_of}
-use Rattle.avp_dict.specs.Outcomes.{Refuses, is_memory}
+use Rattle.avp_dict.specs.Outcomes.{is_memory}
 use Rattle.avp_dict.specs.Readings.{read_lines}
 use Rattle.avp_dict.specs.Settled.{skipped_names, used}
 use Rattle.avp_dict.specs.Values.{resolve}
@@ -21,9 +22,9 @@ all_lines : (limit : ℕ) (files : List NamedFile) → read_lines limit files []
 unfolding lines_of
 all_lines limit files = ap (read_lines limit files []) (append-nil (lines_in files 9 0))
 
-pub read_fails : (limit : ℕ) (files : List NamedFile) (fault : DictFault) → Refuses fault (read_lines limit files [] (lines_in files 9 0 ++ [])) → Refuses fault (dictionary_of limit files)
+pub read_fails : (limit : ℕ) (files : List NamedFile) (fault : DictFault) → Unless (is_memory fault) (read_lines limit files [] (lines_in files 9 0 ++ []) ≡ Err fault) → Unless (is_memory fault) (dictionary_of limit files ≡ Err fault)
 unfolding dictionary_of
-read_fails limit files fault h = refuses_through fault (read_lines limit files [] (lines_of files)) _ (rw all_lines at h)
+read_fails limit files fault h = refuses_through (is_memory fault) fault (read_lines limit files [] (lines_of files)) _ (rw all_lines at h)
 
 module _ (limit : ℕ) (files : List NamedFile) (readings : List Reading) (is_read : read_lines limit files [] (lines_in files 9 0 ++ []) ≡ read_lines limit files readings []) where
   are_read : read_lines limit files [] (lines_of files) ≡ Ok readings
@@ -42,13 +43,13 @@ module _ (limit : ℕ) (files : List NamedFile) (readings : List Reading) (is_re
       rw (are_read, e)
 
 -- a refusal that is no want of memory
-open_certain : (opened : Option Reading) (readings : List Reading) (fault : DictFault) → unless_open opened readings ≡ Err fault → is_memory fault.kind ≡ false
+open_certain : (opened : Option Reading) (readings : List Reading) (fault : DictFault) → unless_open opened readings ≡ Err fault → is_memory fault ≡ false
 open_certain None readings fault h = absurd (cc)
 open_certain (Some r) readings fault h =
     let is : record { file = r.file; line = r.line; kind = Unmatched } ≡ fault = cc in
-    ap (λ (f : DictFault). is_memory f.kind) (sym is)
+    ap is_memory (sym is)
 
-pub open_refuses : (opened : Option Reading) (readings : List Reading) (fault : DictFault) (read : Result Dictionary DictFault) → unless_open opened readings ≡ Err fault → read ≡ Err fault → Refuses fault read
+pub open_refuses : (opened : Option Reading) (readings : List Reading) (fault : DictFault) (read : Result Dictionary DictFault) → unless_open opened readings ≡ Err fault → read ≡ Err fault → Unless (is_memory fault) (read ≡ Err fault)
 open_refuses opened readings fault read h e = rw (open_certain opened readings fault h) e
 
 -- the lines by what they define before the names of values

@@ -1,25 +1,28 @@
--- What a call returned is what its definition gives, unless memory ran out.
-use Rattle.std.specs.Prelude.{◌≡◌, Bool, true, false, Result, Ok, Err}
+-- Which faults are want of memory.
+use Rattle.std.specs.Prelude.{Bool, true, false, ◌&&◌, ◌==◌}
 use Rattle.avp_dict.specs.declared.faults.DictKind.{DictKind}
 use Rattle.avp_dict.specs.declared.faults.DictKind.TheVariants.{Memory}
 use Rattle.avp_dict.specs.declared.faults.DictFault.{DictFault}
+use Rattle.avp_dict.specs.declared.request.faults.LineKind.{LineKind}
+use Rattle.avp_dict.specs.declared.request.faults.LineKind.TheVariants as lines
+use Rattle.avp_dict.specs.declared.value.faults.ValueFault.{ValueFault}
+use Rattle.avp_dict.specs.declared.value.faults.ValueFault.TheVariants as values
 
+abbrev pub is_memory_kind : DictKind → Bool
+is_memory_kind Memory = true
+is_memory_kind _ = false
+
+-- it has no place
 abbrev pub want_of_memory : DictFault
 want_of_memory = record { file = 0; line = 0; kind = Memory }
 
-abbrev pub is_memory : DictKind → Bool
-is_memory Memory = true
-is_memory _ = false
+abbrev pub is_memory : DictFault → Bool
+is_memory fault = is_memory_kind fault.kind && (fault.file == 0 && fault.line == 0)
 
-abbrev pub If : Bool → Type 0 → Type 0 → Type 0
-If true P Q = P
-If false P Q = Q
+abbrev pub is_memory_value : ValueFault → Bool
+is_memory_value values.Memory = true
+is_memory_value _ = false
 
--- want of memory has no place, and any other fault is the one that the definition gives, with its file and line
-abbrev pub Refuses : {Y : Type 0} → DictFault → Result Y DictFault → Type 0
-Refuses fault read = If (is_memory fault.kind) (fault ≡ want_of_memory) (read ≡ Err fault)
-
--- a value is the one that the definition gives, as it is seen
-abbrev pub Answers : {X Y : Type 0} → (X → Y) → Result X DictFault → Result Y DictFault → Type 0
-Answers view (Ok x) read = read ≡ Ok (view x)
-Answers view (Err fault) read = Refuses fault read
+abbrev pub is_memory_line : LineKind → Bool
+is_memory_line lines.Memory = true
+is_memory_line _ = false

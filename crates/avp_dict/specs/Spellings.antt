@@ -1,5 +1,5 @@
 -- Which value a text stands for under a name.
-use Rattle.std.specs.Prelude.{◌≡◌, ℕ, ◌+◌, pos, neg_ℤ, ℤ, Bool, not, ◌&&◌, ◌||◌, ◌==◌, nat_le, if◌then◌else◌, List, [], ◌∷◌, drop, length, slice_index, Option, Some, None, Result, Ok, Err}
+use Rattle.std.specs.Prelude.{ℕ, ◌+◌, pos, neg_ℤ, ℤ, Bool, not, ◌&&◌, ◌||◌, ◌==◌, nat_le, if◌then◌else◌, List, [], ◌∷◌, drop, length, slice_index, Option, Some, None, Result, Ok, Err}
 use Rattle.std.specs.Option.{option_and_then, option_map, option_or}
 use Rattle.std.specs.Result.{result_ok}
 use Rattle.std.specs.List.{slice_split}
@@ -16,7 +16,7 @@ use Rattle.avp_dict.specs.AttributeNumbers.{greatest_number, greatest_signed}
 use Rattle.avp_dict.specs.Dictionary.{Dictionary, number_named, typing_of_id}
 use Rattle.avp_dict.specs.declared.entries.Typing.{Typing}
 use Rattle.avp_dict.specs.declared.value.faults.ValueFault.{ValueFault}
-use Rattle.avp_dict.specs.declared.value.faults.ValueFault.TheVariants.{NotWritable, NotValue, TooLong, Memory}
+use Rattle.avp_dict.specs.declared.value.faults.ValueFault.TheVariants.{NotWritable, NotValue, TooLong}
 use Rattle.avp_dict.specs.Letters.{is_dot}
 use Rattle.avp_dict.specs.Limits.{is_within}
 use Rattle.avp_dict.specs.Octets.{is_hidden, value_of_octets}
@@ -142,9 +142,3 @@ unfoldable pub value_spelled : Named → List ℕ → Dictionary → Result Valu
 value_spelled name text dictionary =
     if is_barred name dictionary then Err NotWritable
     else unless_long name.id dictionary (spelled name text dictionary)
-
--- a value, and a fault other than want of memory, is the one that the definition gives
-abbrev pub AnswersValue : Result Value ValueFault → Result Value ValueFault → Type 0
-AnswersValue (Ok value) spelling = spelling ≡ Ok value
-AnswersValue (Err Memory) spelling = Unit {0}
-AnswersValue (Err fault) spelling = spelling ≡ Err fault

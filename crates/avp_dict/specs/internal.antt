@@ -5,7 +5,6 @@ pub mod LineReading
 pub mod LineViews
 pub mod Meanings
 pub mod Numbers
-pub mod Outcomes
 pub mod Ranges
 pub mod Refused
 pub mod RequestTokens

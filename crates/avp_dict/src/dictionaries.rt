@@ -1,11 +1,13 @@
 ghost use Rattle.std.specs.Prelude.{◌≡◌, ◌<◌, ◌^◌, length, slice_get, All, IfOk, IfErr};
 ghost use Rattle.std.specs.Option.{option_map, option_copied};
+ghost use Rattle.std.specs.Result.{result_map_both};
+ghost use Rattle.avp_lists.specs.Meets.{Meets};
 ghost use Rattle.avp_dict.specs.Counts.{counts_of};
 ghost use Rattle.avp_dict.specs.Dictionary.{first_names, name_numbered, number_named, typing_of_id};
 ghost use Rattle.avp_dict.specs.DictionaryReading.{dictionary_of, max_lines};
 ghost use Rattle.avp_dict.specs.Lines.{HasDistinctNames};
 ghost use Rattle.avp_dict.specs.Names.{described, form_of, is_marked_secret, named, unless_three, vendor_format};
-ghost use Rattle.avp_dict.specs.Outcomes.{Answers};
+ghost use Rattle.avp_dict.specs.Outcomes.{is_memory};
 ghost use Rattle.avp_dict.specs.Settled.{is_in_format};
 ghost use Rattle.avp_dict.specs.Soundness.{IsSound};
 ghost use Rattle.avp_dict.specs.internal.Contents.{contents_view};
@@ -70,7 +72,8 @@ pub(crate) fn read_up_to(
     limit: usize,
 ) -> Result<Contents, DictFault>
     requires { limit < 2 ^ 32 }
-    ensures { Answers contents_view result (dictionary_of limit files.now) }
+    ensures { Meets is_memory (result_map_both contents_view (λ fault. fault) result)
+        (dictionary_of limit files.now) }
 {
     let mut read = ReadLines::new(alloc);
     read_set(alloc, files, limit, &mut read)?;
@@ -96,8 +99,7 @@ impl Dictionary {
     pub fn read(alloc: Global, files: &FileSet) -> Result<Dictionary, DictFault>
         requires first { 0 < length files.now }
         requires names { HasDistinctNames files.now }
-        ensures read { Answers (λ dictionary. dictionary) result
-            (dictionary_of max_lines files.now) }
+        ensures read { Meets is_memory result (dictionary_of max_lines files.now) }
         ensures placed { IfErr result (λ fault. fault.file < length files.now) }
         ensures noted { IfOk result (λ dictionary.
             All (λ note. note.file < length files.now) dictionary.notes) }

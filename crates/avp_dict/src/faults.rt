@@ -1,6 +1,6 @@
 ghost use Rattle.std.specs.Prelude.{◌≡◌};
-ghost use Rattle.avp_dict.specs.declared.faults.LineError.TheVariants.{Memory};
-ghost use Rattle.avp_dict.specs.Outcomes.{is_memory, want_of_memory};
+ghost use Rattle.avp_dict.specs.declared.faults.DictKind.TheVariants.{Memory};
+ghost use Rattle.avp_dict.specs.Outcomes.{is_memory_kind, want_of_memory};
 ghost use Rattle.avp_dict.specs.internal.Refused.{fault_at};
 
 use std::alloc::{AllocError, AllocFailed};
@@ -52,26 +52,19 @@ pub struct DictFault {
     pub kind: DictKind,
 }
 
-/// Why one line is not read: for want of memory, or by the line's own fault.
-#[derive(Clone, Copy)]
-pub(crate) enum LineError {
-    Memory,
-    Refused(DictKind),
-}
+impl From<AllocError> for DictKind {
+    ghost from_gives = { λ _ kind. kind ≡ Memory };
 
-impl From<AllocError> for LineError {
-    ghost from_gives = { λ _ e. e ≡ Memory };
-
-    fn from(_error: AllocError) -> LineError {
-        LineError::Memory
+    fn from(_error: AllocError) -> DictKind {
+        DictKind::Memory
     }
 }
 
-impl<T: Drop> From<AllocFailed<T>> for LineError {
-    ghost from_gives = { λ _ e. e ≡ Memory };
+impl<T: Drop> From<AllocFailed<T>> for DictKind {
+    ghost from_gives = { λ _ kind. kind ≡ Memory };
 
-    fn from(_error: AllocFailed<T>) -> LineError {
-        LineError::Memory
+    fn from(_error: AllocFailed<T>) -> DictKind {
+        DictKind::Memory
     }
 }
 
@@ -100,28 +93,25 @@ const OUT_OF_MEMORY: DictFault = DictFault {
 
 impl DictKind {
     fn is_memory(self) -> bool
-        ensures { result ≡ is_memory self }
+        ensures { result ≡ is_memory_kind self }
     {
         match self {
             DictKind::Memory => true,
             _ => false,
         }
     }
-}
 
-impl LineError {
-    /// The refusal of the file set at that line.
+    /// The refusal of the file set for what a line gave.
     pub(crate) fn at(self, file: usize, line: usize) -> DictFault
         ensures { result ≡ fault_at file line self }
     {
-        match self {
-            LineError::Memory => OUT_OF_MEMORY,
-            LineError::Refused(kind) => {
-                if kind.is_memory() {
-                    OUT_OF_MEMORY
-                } else {
-                    DictFault { file, line, kind }
-                }
+        if self.is_memory() {
+            OUT_OF_MEMORY
+        } else {
+            DictFault {
+                file,
+                line,
+                kind: self,
             }
         }
     }

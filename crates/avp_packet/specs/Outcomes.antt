@@ -1,13 +1,14 @@
--- What a call returned is what its definition gives, unless memory ran out, which it can only where that is a packet.
-use Rattle.std.specs.Prelude.{◌≡◌, Result, Ok, Err}
+-- Which faults are want of memory.
+use Rattle.std.specs.Prelude.{Bool, true, false}
+use Rattle.avp_packet.specs.declared.faults.EncodeFault.{EncodeFault}
+use Rattle.avp_packet.specs.declared.faults.EncodeFault.TheVariants as encoding
 use Rattle.avp_packet.specs.declared.faults.PacketFault.{PacketFault}
 use Rattle.avp_packet.specs.declared.faults.PacketFault.TheVariants.{Memory}
-use Rattle.avp_packet.specs.declared.packets.Packet.{Packet}
 
-abbrev pub Refuses : PacketFault → Result Packet PacketFault → Type 0
-Refuses Memory read = (packet : Packet) × (read ≡ Ok packet)
-Refuses fault read = read ≡ Err fault
+abbrev pub is_memory : PacketFault → Bool
+is_memory Memory = true
+is_memory _ = false
 
-abbrev pub Gives : Result Packet PacketFault → Result Packet PacketFault → Type 0
-Gives (Ok packet) read = read ≡ Ok packet
-Gives (Err fault) read = Refuses fault read
+abbrev pub is_memory_encoding : EncodeFault → Bool
+is_memory_encoding encoding.TooLong = false
+is_memory_encoding encoding.Memory = true

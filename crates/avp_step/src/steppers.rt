@@ -212,7 +212,7 @@ impl<'a, S: Store> Stepper<'a, S> {
     {
         // `position` ensures that the position is one of the trace's, which the proof needs.
         let _within = self.position();
-        'steps: while let Moved::To(_) = self.forward()? {}
+        while let Moved::To(_) = self.forward()? {}
         Ok(())
     }
 

@@ -53,7 +53,8 @@ abbrev pub Chain : {S A : Type 0} → Step S → Form S A → Form S (List A)
 Chain step form p [] rest = ⊥
 Chain step form p (x ∷ xs) rest = (end : _) × form p x end × Others step form end xs rest
 
--- A refusal: nothing is spelled, unless memory was short.
+-- A refusal: nothing is spelled, unless memory was short. A form is a relation and no function, and so no definition
+-- that `Meets` takes.
 abbrev pub Refuses : {S A : Type 0} → (A → S → Type 0) → PolicyFault → Type 0
 Refuses spelled fault = fault.kind ≢ Memory → (x : _) (rest : _) → spelled x rest → ⊥
 

@@ -1,5 +1,5 @@
 -- What an update line sets its attribute to in a state: a value that its source gives, or why it gives none.
-use Rattle.std.specs.Prelude.{◌≡◌, ℕ, IsTrue, Bool, true, ◌&&◌, List, [], Option, Some, None, Result, Ok, Err}
+use Rattle.std.specs.Prelude.{ℕ, IsTrue, Bool, true, false, ◌&&◌, List, [], Option, Some, None, Result, Ok, Err}
 use Rattle.std.specs.List.{All, flat_map}
 use Rattle.std.specs.Option.{option_map_or}
 use Rattle.avp_lists.specs.Instances.{first_instance}
@@ -97,11 +97,9 @@ paired id (Err fault) = Err fault
 unfoldable pub resolution : Dictionary → Line → State → Result Pair Unresolved
 resolution dictionary line s = paired line.id (source_value dictionary s line.id line.source)
 
--- a pair, and a fault other than want of memory, is the one that the definition gives
-abbrev pub Resolves : {A : Type 0} → Result A Unresolved → Result A Unresolved → Type 0
-Resolves (Ok x) right = right ≡ Ok x
-Resolves (Err Memory) right = Unit {0}
-Resolves (Err fault) right = right ≡ Err fault
+abbrev pub is_memory : Unresolved → Bool
+is_memory Memory = true
+is_memory _ = false
 
 -- ---- what a line is resolved with
 

@@ -1,6 +1,6 @@
 //! Asks a dictionary and a packet all that takes no memory, and prints the answers. The tests run it with every
-//! growth refused from the line `begin` on. Its words: the text of a dictionary, the octets of attributes, a request
-//! line for each pair, and then the names to look up.
+//! allocation refused from the line `begin` on. Its words: the text of a dictionary, the octets of attributes, a
+//! request line for each pair, and then the names to look up.
 #![tactic(auto)]
 
 use avp_dict::{Dictionary, FileSet, NamedFile};

@@ -1,6 +1,6 @@
 //! Runs a prepared policy on a packet, as often as it is told, and prints how many runs were refused, by the numbers of
-//! their faults, and the report of the last. The tests run it with growths refused, and the benchmark measures it. Its
-//! words: how often, the files of the packet's octets, of the secret, of the policy and of the lines of the initial
+//! their faults, and the report of the last. The tests run it with allocations refused, and the benchmark measures it.
+//! Its words: how often, the files of the packet's octets, of the secret, of the policy and of the lines of the initial
 //! reply and control lists, and the dictionary files.
 #![tactic(auto)]
 

@@ -1,5 +1,5 @@
 //! Makes the calls of its words on a store, and prints what each answers and the state after it, also after a
-//! refusal. The tests run it with growths refused. The first word names the store; each other word is a call, as
+//! refusal. The tests run it with allocations refused. The first word names the store; each other word is a call, as
 //! `reply += 25 1`.
 #![tactic(auto)]
 

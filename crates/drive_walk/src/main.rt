@@ -1,5 +1,5 @@
 //! Walks over the run of a policy, and prints the answer of each move and where the walk then is, also after a
-//! refused step. The tests run it with growths refused. Its words: the store, the texts of a dictionary, of a
+//! refused step. The tests run it with allocations refused. Its words: the store, the texts of a dictionary, of a
 //! request and of a policy, and then the moves.
 #![tactic(auto)]
 

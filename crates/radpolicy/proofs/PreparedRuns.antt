@@ -15,7 +15,9 @@ use Rattle.radpolicy.specs.declared.jobs.Command.{Command}
 use Rattle.radpolicy.specs.declared.jobs.Command.TheVariants.{Run}
 use Rattle.radpolicy.specs.declared.jobs.Form.TheVariants as form
 use Rattle.avp_dict.specs.Requests.{request_spelled}
+use Rattle.avp_lists.specs.Meets.{Finds}
 use Rattle.avp_lists.specs.declared.pairs.Pair.{Pair}
+use Rattle.avp_packet.specs.Outcomes.{is_memory_encoding}
 use Rattle.avp_packet.specs.Packets.{access_request, accounting_request, zeros}
 use Rattle.radpolicy.specs.declared.faults.Fault.{Fault}
 use Rattle.radpolicy.specs.declared.jobs.Job.{Job}
@@ -27,7 +29,7 @@ use Rattle.radpolicy.specs.Faults.{MemoryOr, fault_of_encode}
 use Rattle.radpolicy.specs.declared.faults.Fault.TheVariants as fault
 use Rattle.radpolicy.specs.declared.replies.ReplyHead.{ReplyHead}
 use Rattle.radpolicy.specs.declared.run_outcomes.Reply.{Reply}
-use Rattle.radpolicy.specs.internal.ReplyHeads.{IsSent, sent_by}
+use Rattle.radpolicy.specs.internal.ReplyHeads.{sent_by}
 use Rattle.avp_packet.specs.declared.faults.EncodeFault.{EncodeFault}
 use Rattle.avp_packet.specs.declared.faults.EncodeFault.TheVariants as encode
 use Rattle.radpolicy.specs.declared.jobs.Form.{Form}
@@ -142,6 +144,6 @@ module _ (start : Start) (head : Option ReplyHead) (end : End) (ended : end_of s
   pub outcome_sent : (sent : Reply) → sent_by start.prepared.dictionary head end.code end.state.reply ≡ Some sent → outcome_of start ≡ Some (outcome_with start.prepared.dictionary end sent)
   outcome_sent sent is = outcome_by_end (Some sent) is
 
-  pub outcome_refused : (f : EncodeFault) → IsSent (Err f) (sent_by start.prepared.dictionary head end.code end.state.reply) → MemoryOr (λ g. (g ≡ fault.PacketTooLong) × (outcome_of start ≡ None)) (fault_of_encode f)
+  pub outcome_refused : (f : EncodeFault) → Finds is_memory_encoding (Err f) (sent_by start.prepared.dictionary head end.code end.state.reply) → MemoryOr (λ g. (g ≡ fault.PacketTooLong) × (outcome_of start ≡ None)) (fault_of_encode f)
   outcome_refused encode.TooLong is = inr (refl, outcome_by_end None is)
   outcome_refused encode.Memory is = inl refl

@@ -200,7 +200,7 @@ fault_of_policy f = of_kind f.kind
     of_kind policy.Memory = fault.Memory
     of_kind _ = fault.Policy f
 
--- the fault is want of memory, or of this kind
+-- The fault is want of memory, or of this kind. A kind has many faults, where `Meets` has the one of a definition.
 abbrev pub MemoryOr : (Fault → Type 0) → Fault → Type 0
 MemoryOr IsFault f = (f ≡ fault.Memory) ⊎ IsFault f
 

@@ -1,5 +1,5 @@
 -- Why a start is refused: a packet that is none, or lines that are no list.
-use Rattle.std.specs.Prelude.{◌≡◌, ◌≢◌, List, Option, None, Some, Result, Ok, Err}
+use Rattle.std.specs.Prelude.{◌≡◌, ◌≢◌, List, Option, None, Some, Result, Err, IsOk}
 use Rattle.avp_lists.specs.declared.pairs.Pair.{Pair}
 use Rattle.avp_dict.specs.declared.request.faults.LineKind.TheVariants as line
 use Rattle.avp_packet.specs.declared.faults.PacketFault.{PacketFault}
@@ -10,7 +10,7 @@ use Rattle.radpolicy.specs.declared.faults.Fault.TheVariants as fault
 -- octets that are read as no packet, for this reason; memory runs out only where they are one
 abbrev pub IsUnreadPacket : Result Packet PacketFault → Fault → Type 0
 IsUnreadPacket read (fault.Packet f) = read ≡ Err f
-IsUnreadPacket read fault.Memory = (packet : Packet) × (read ≡ Ok packet)
+IsUnreadPacket read fault.Memory = IsOk read
 IsUnreadPacket read _ = ⊥
 
 -- Lines that spell no list. Which fault of them comes, and its line, is left open.

@@ -3,13 +3,15 @@
 ghost use Rattle.std.specs.Prelude.{◌≡◌, ◌<◌, true, false, IfOk, OnOk, IfSome};
 ghost use Rattle.std.specs.Option.{option_map};
 ghost use Rattle.avp_lists.specs.Instances.{has_instance, instances};
+ghost use Rattle.avp_lists.specs.Meets.{Finds};
 ghost use Rattle.avp_lists.specs.declared.pairs.AttrId.TheVariants.{Plain};
 ghost use Rattle.radpolicy.specs.internal.Fitting.{AllFit};
 ghost use Rattle.avp_dict.specs.AttributeNumbers.{proxy_state};
+ghost use Rattle.avp_packet.specs.Outcomes.{is_memory_encoding};
 ghost use Rattle.avp_packet.specs.Packets.{IsReplyCode, IsRequestCode, accounting_request, accounting_response, authenticator_of};
 ghost use Rattle.avp_packet.specs.Sending.{message_authenticator_id};
 ghost use Rattle.radpolicy.specs.Replies.{answer_of, answered_authenticator, reply_code, reply_pairs, request_packet, signs_reply};
-ghost use Rattle.radpolicy.specs.internal.ReplyHeads.{AnswerIsRead, IsAnswer, IsHeadOf, IsSent, IsUsable, SentIsRead, answered_by, sent_by};
+ghost use Rattle.radpolicy.specs.internal.ReplyHeads.{AnswerIsRead, IsAnswer, IsHeadOf, IsUsable, SentIsRead, answered_by, sent_by};
 ghost use Rattle.radpolicy.specs.RunOutcomes.{reply_of};
 ghost use Rattle.avp_lists.specs.History.{present};
 ghost use Rattle.avp_unlang.specs.Resolutions.{StateFits};
@@ -219,8 +221,8 @@ fn reply_of(
 ) -> Result<Reply, EncodeFault>
     requires usable { IsUsable dictionary.now head.now }
     requires reply { AllFit dictionary.now reply.now }
-    ensures sent { IsSent result (reply_of
-        (answered_by dictionary.now head.now last reply.now)) }
+    ensures sent { Finds is_memory_encoding result
+        (reply_of (answered_by dictionary.now head.now last reply.now)) }
     ensures read { OnOk result (AnswerIsRead dictionary.now head.now last reply.now) }
 {
     match answered_by(alloc, dictionary, head, last, reply)? {
@@ -240,7 +242,7 @@ pub(crate) fn sent_by<S: Store>(
 ) -> Result<Reply, EncodeFault>
     requires usable { IfSome head.now (λ h. IsUsable dictionary.now h) }
     requires fits { StateFits dictionary.now (present (S.history store.now)) }
-    ensures sent { IsSent result
+    ensures sent { Finds is_memory_encoding result
         (sent_by dictionary.now head.now last (present (S.history store.now)).reply) }
     ensures read { OnOk result
         (SentIsRead dictionary.now head.now last (present (S.history store.now)).reply) }

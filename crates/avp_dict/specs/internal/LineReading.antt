@@ -1,5 +1,5 @@
--- What the readers of request lines answer with, and what they are to find.
-use Rattle.std.specs.Prelude.{◌≡◌, ℕ, List, [], ◌∷◌, Option, Some, None, Result, Ok, Err}
+-- What the readers of request lines are to find.
+use Rattle.std.specs.Prelude.{◌≡◌, ℕ, List, [], ◌∷◌, Option, Some, None}
 use Rattle.std.specs.Option.{option_and_then}
 use Rattle.avp_lists.specs.declared.pairs.Pair.{Pair}
 use Rattle.avp_dict.specs.declared.entries.Named.{Named}
@@ -17,15 +17,6 @@ line_kind faults.NotWritable = kinds.NotWritable
 line_kind faults.NotValue = kinds.NotValue
 line_kind faults.TooLong = kinds.TooLong
 line_kind faults.Memory = kinds.Memory
-
--- a fault other than want of memory comes only where nothing is spelled
-abbrev pub RefusesLine : {A : Type 0} → LineKind → Option A → Type 0
-RefusesLine kinds.Memory read = Unit {0}
-RefusesLine _ read = read ≡ None
-
-abbrev pub ReadsLine : {A : Type 0} → Result A LineKind → Option A → Type 0
-ReadsLine (Ok x) read = read ≡ Some x
-ReadsLine (Err kind) read = RefusesLine kind read
 
 -- the pair of a name and the token of its value
 abbrev pub pair_of_token : Dictionary → Named → Token → Option Pair

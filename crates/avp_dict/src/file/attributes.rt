@@ -3,16 +3,17 @@
 ghost use Rattle.std.specs.Prelude.{◌≡◌, ◌≤◌, ℕ, Option, Some, None, if◌then◌else◌, IsTrue};
 ghost use Rattle.std.specs.List.{list_all};
 ghost use Rattle.avp_lists.specs.declared.pairs.AttrId.TheVariants.{Extended};
+ghost use Rattle.avp_lists.specs.Meets.{Meets};
 ghost use Rattle.avp_dict.specs.Attributes.{attribute, attribute_line, attribute_of, id_of_dotted, id_of_parts, is_attribute_name, is_extended_id, is_held, is_number, is_of_other_id, id_of_more, max_in, number_id, id_of_number, vendor_id};
 ghost use Rattle.avp_dict.specs.Letters.{begins_as_attr, is_decimal, is_letter, is_name_octet};
+ghost use Rattle.avp_dict.specs.Outcomes.{is_memory_kind};
 ghost use Rattle.avp_dict.specs.internal.Numbers.{Reads};
-ghost use Rattle.avp_dict.specs.internal.Meanings.{context_view};
-ghost use Rattle.avp_dict.specs.internal.Outcomes.{Gives, Means};
+ghost use Rattle.avp_dict.specs.internal.Meanings.{context_view, read_view};
 ghost use Rattle.avp_dict.specs.internal.Views.{views};
 
 use crate::attribute_numbers::is_extended_type;
 use crate::entries::VendorFormat;
-use crate::faults::{DictKind, LineError};
+use crate::faults::DictKind;
 use crate::file::context::Context;
 use crate::file::meanings::Meaning;
 use crate::file::numbers::{MAX_NUMBER, Number, number_of};
@@ -72,17 +73,18 @@ fn id_of_number(
     vendors: &Vendors,
     block: Option<u32>,
     number: Number,
-) -> Result<Option<AttrId>, LineError>
-    ensures { (n : Option ℕ) → Reads number n → Gives result (id_of_number vendors.now block n) }
+) -> Result<Option<AttrId>, DictKind>
+    ensures { (n : Option ℕ) → Reads number n
+        → Meets is_memory_kind result (id_of_number vendors.now block n) }
 {
     match number {
-        Number::Unreadable => Err(LineError::Refused(DictKind::Unreadable)),
-        Number::TooGreat => Err(LineError::Refused(DictKind::OutOfRange)),
+        Number::Unreadable => Err(DictKind::Unreadable),
+        Number::TooGreat => Err(DictKind::OutOfRange),
         Number::Is(number) => {
             if number <= MAX_NUMBER {
                 Ok(number_id(vendors, block, number as u32))
             } else {
-                Err(LineError::Refused(DictKind::OutOfRange))
+                Err(DictKind::OutOfRange)
             }
         }
     }
@@ -99,13 +101,12 @@ pub(crate) fn extended_id(least: u64, t: u64, x: u64) -> Option<AttrId>
     }
 }
 
-fn id_of_dotted(block: Option<u32>, t: Number, x: Number) -> Result<Option<AttrId>, LineError>
-    ensures { (m n : Option ℕ) → Reads t m → Reads x n → Gives result (id_of_dotted block m n) }
+fn id_of_dotted(block: Option<u32>, t: Number, x: Number) -> Result<Option<AttrId>, DictKind>
+    ensures { (m n : Option ℕ) → Reads t m → Reads x n
+        → Meets is_memory_kind result (id_of_dotted block m n) }
 {
     match (t, x) {
-        (Number::Unreadable, _) | (_, Number::Unreadable) => {
-            Err(LineError::Refused(DictKind::Unreadable))
-        }
+        (Number::Unreadable, _) | (_, Number::Unreadable) => { Err(DictKind::Unreadable) }
         (Number::Is(t), Number::Is(x)) if block.is_none() => Ok(extended_id(1, t, x)),
         _ => Ok(None),
     }
@@ -130,13 +131,13 @@ fn are_numbers(parts: &[&[u8]]) -> bool
     true
 }
 
-fn id_of_more(parts: &[&[u8]]) -> Result<Option<AttrId>, LineError>
-    ensures { Gives result (id_of_more (views parts.now)) }
+fn id_of_more(parts: &[&[u8]]) -> Result<Option<AttrId>, DictKind>
+    ensures { Meets is_memory_kind result (id_of_more (views parts.now)) }
 {
     if are_numbers(parts) {
         Ok(None)
     } else {
-        Err(LineError::Refused(DictKind::Unreadable))
+        Err(DictKind::Unreadable)
     }
 }
 
@@ -145,8 +146,8 @@ fn id_of_parts(
     vendors: &Vendors,
     block: Option<u32>,
     parts: &[&[u8]],
-) -> Result<Option<AttrId>, LineError>
-    ensures { Gives result (id_of_parts vendors.now block (views parts.now)) }
+) -> Result<Option<AttrId>, DictKind>
+    ensures { Meets is_memory_kind result (id_of_parts vendors.now block (views parts.now)) }
 {
     match parts {
         [number] => id_of_number(vendors, block, number_of(number)),
@@ -214,8 +215,9 @@ fn attribute_of<'a>(
     kind: &[u8],
     flags: &[&[u8]],
     id: Option<AttrId>,
-) -> Result<Meaning<'a>, LineError>
-    ensures { Means result (attribute_of attributes.now name.now kind.now (views flags.now) id) }
+) -> Result<Meaning<'a>, DictKind>
+    ensures { Meets is_memory_kind (read_view result)
+        (attribute_of attributes.now name.now kind.now (views flags.now) id) }
 {
     match id {
         None => Ok(Meaning::SkippedAttribute(name)),
@@ -224,7 +226,7 @@ fn attribute_of<'a>(
                 return Ok(Meaning::SkippedAttribute(name));
             }
             if is_of_other_id(id, attributes.id_named(name)) {
-                return Err(LineError::Refused(DictKind::OtherNumber));
+                return Err(DictKind::OtherNumber);
             }
             Ok(Meaning::Attribute(name, id, typing_of(id, kind, flags)))
         }
@@ -240,8 +242,8 @@ fn attribute_line<'a>(
     number: &[u8],
     kind: &[u8],
     flags: &[&[u8]],
-) -> Result<Meaning<'a>, LineError>
-    ensures { Means result (attribute_line
+) -> Result<Meaning<'a>, DictKind>
+    ensures { Meets is_memory_kind (read_view result) (attribute_line
         (context_view before.now) block name.now number.now kind.now (views flags.now)) }
 {
     let parts = parts_between(alloc, b'.', number)?;
@@ -256,8 +258,9 @@ pub(crate) fn read_attribute<'a>(
     before: &Context<'_>,
     block: Option<u32>,
     words: &[&'a [u8]],
-) -> Result<Meaning<'a>, LineError>
-    ensures { Means result (attribute (context_view before.now) block (views words.now)) }
+) -> Result<Meaning<'a>, DictKind>
+    ensures { Meets is_memory_kind (read_view result)
+        (attribute (context_view before.now) block (views words.now)) }
 {
     match words {
         [name, number, kind] => attribute_line(alloc, before, block, name, number, kind, &[]),
@@ -265,6 +268,6 @@ pub(crate) fn read_attribute<'a>(
             let flags = parts_between(alloc, b',', flags)?;
             attribute_line(alloc, before, block, name, number, kind, &flags)
         }
-        _ => Err(LineError::Refused(DictKind::Unreadable)),
+        _ => Err(DictKind::Unreadable),
     }
 }

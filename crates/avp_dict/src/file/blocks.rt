@@ -2,14 +2,15 @@
 
 ghost use Rattle.std.specs.Prelude.{◌≡◌, false};
 ghost use Rattle.std.specs.Option.{option_map_or};
+ghost use Rattle.avp_lists.specs.Meets.{Meets};
 ghost use Rattle.avp_dict.specs.Blocks.{begin_known, begin_tlv, begin_vendor, end_tlv, end_vendor, ended, innermost, opens_tlv_named, opens_vendor_named, unless_third};
+ghost use Rattle.avp_dict.specs.Outcomes.{is_memory_kind};
 ghost use Rattle.avp_dict.specs.Readings.{include, include_line};
-ghost use Rattle.avp_dict.specs.internal.Meanings.{reading_view, reading_views};
-ghost use Rattle.avp_dict.specs.internal.Outcomes.{Means};
+ghost use Rattle.avp_dict.specs.internal.Meanings.{read_view, reading_view, reading_views};
 ghost use Rattle.avp_dict.specs.internal.Views.{views};
 
 use crate::entries::VendorFormat;
-use crate::faults::{DictKind, LineError};
+use crate::faults::DictKind;
 use crate::file::context::{innermost, is_skipping};
 use crate::file::keywords::DOLLAR_INCLUDE;
 use crate::file::lines::MAX_DEPTH;
@@ -55,13 +56,13 @@ fn is_in_tlv(opened: &[Reading<'_>], name: &[u8]) -> bool
     }
 }
 
-fn ended<'a>(fits: bool, opened: &[Reading<'_>]) -> Result<Meaning<'a>, LineError>
-    ensures { Means result (ended fits (reading_views opened.now)) }
+fn ended<'a>(fits: bool, opened: &[Reading<'_>]) -> Result<Meaning<'a>, DictKind>
+    ensures { Meets is_memory_kind (read_view result) (ended fits (reading_views opened.now)) }
 {
     if fits {
         Ok(Meaning::End(is_skipping(opened)))
     } else {
-        Err(LineError::Refused(DictKind::Unmatched))
+        Err(DictKind::Unmatched)
     }
 }
 
@@ -69,12 +70,13 @@ fn ended<'a>(fits: bool, opened: &[Reading<'_>]) -> Result<Meaning<'a>, LineErro
 pub(crate) fn end_vendor<'a>(
     opened: &[Reading<'_>],
     words: &[&'a [u8]],
-) -> Result<Meaning<'a>, LineError>
-    ensures { Means result (end_vendor (reading_views opened.now) (views words.now)) }
+) -> Result<Meaning<'a>, DictKind>
+    ensures { Meets is_memory_kind (read_view result)
+        (end_vendor (reading_views opened.now) (views words.now)) }
 {
     match words {
         [name] => ended(is_in_vendor(opened, name), opened),
-        _ => Err(LineError::Refused(DictKind::Unreadable)),
+        _ => Err(DictKind::Unreadable),
     }
 }
 
@@ -82,22 +84,23 @@ pub(crate) fn end_vendor<'a>(
 pub(crate) fn end_tlv<'a>(
     opened: &[Reading<'_>],
     words: &[&'a [u8]],
-) -> Result<Meaning<'a>, LineError>
-    ensures { Means result (end_tlv (reading_views opened.now) (views words.now)) }
+) -> Result<Meaning<'a>, DictKind>
+    ensures { Meets is_memory_kind (read_view result)
+        (end_tlv (reading_views opened.now) (views words.now)) }
 {
     match words {
         [name] => ended(is_in_tlv(opened, name), opened),
-        _ => Err(LineError::Refused(DictKind::Unreadable)),
+        _ => Err(DictKind::Unreadable),
     }
 }
 
 #[tactic(auto, unfolding(crate::specs::Blocks::begin_tlv))]
-pub(crate) fn begin_tlv<'a>(words: &[&'a [u8]]) -> Result<Meaning<'a>, LineError>
-    ensures { Means result (begin_tlv (views words.now)) }
+pub(crate) fn begin_tlv<'a>(words: &[&'a [u8]]) -> Result<Meaning<'a>, DictKind>
+    ensures { Meets is_memory_kind (read_view result) (begin_tlv (views words.now)) }
 {
     match words {
         [name] => Ok(Meaning::BeginTlv(name)),
-        _ => Err(LineError::Refused(DictKind::Unreadable)),
+        _ => Err(DictKind::Unreadable),
     }
 }
 
@@ -111,11 +114,11 @@ fn unless_third(vendor: u32, format: Option<VendorFormat>) -> Option<u32>
 }
 
 #[tactic(auto, unfolding(crate::specs::Blocks::begin_known))]
-fn begin_known<'a>(vendors: &Vendors, name: &'a [u8]) -> Result<Meaning<'a>, LineError>
-    ensures { Means result (begin_known vendors.now name.now) }
+fn begin_known<'a>(vendors: &Vendors, name: &'a [u8]) -> Result<Meaning<'a>, DictKind>
+    ensures { Meets is_memory_kind (read_view result) (begin_known vendors.now name.now) }
 {
     match vendors.vendor_named(name) {
-        None => Err(LineError::Refused(DictKind::UnknownVendor)),
+        None => Err(DictKind::UnknownVendor),
         Some(vendor) => Ok(Meaning::BeginVendor(
             name,
             unless_third(vendor, vendors.format_of(vendor)),
@@ -128,8 +131,9 @@ pub(crate) fn begin_vendor<'a>(
     vendors: &Vendors,
     opened: &[Reading<'_>],
     words: &[&'a [u8]],
-) -> Result<Meaning<'a>, LineError>
-    ensures { Means result (begin_vendor vendors.now (reading_views opened.now) (views words.now)) }
+) -> Result<Meaning<'a>, DictKind>
+    ensures { Meets is_memory_kind (read_view result)
+        (begin_vendor vendors.now (reading_views opened.now) (views words.now)) }
 {
     match words {
         [name] => {
@@ -140,7 +144,7 @@ pub(crate) fn begin_vendor<'a>(
             }
         }
         [name, _] => Ok(Meaning::BeginVendor(name, None)),
-        _ => Err(LineError::Refused(DictKind::Unreadable)),
+        _ => Err(DictKind::Unreadable),
     }
 }
 
@@ -148,13 +152,13 @@ fn include_line<'a>(
     required: bool,
     found: Option<usize>,
     depth: usize,
-) -> Result<Meaning<'a>, LineError>
-    ensures { Means result (include_line required found depth) }
+) -> Result<Meaning<'a>, DictKind>
+    ensures { Meets is_memory_kind (read_view result) (include_line required found depth) }
 {
     match found {
         None => {
             if required {
-                Err(LineError::Refused(DictKind::NoFile))
+                Err(DictKind::NoFile)
             } else {
                 Ok(Meaning::Skipped)
             }
@@ -163,7 +167,7 @@ fn include_line<'a>(
             if depth < MAX_DEPTH {
                 Ok(Meaning::Nothing)
             } else {
-                Err(LineError::Refused(DictKind::TooDeep))
+                Err(DictKind::TooDeep)
             }
         }
     }
@@ -175,11 +179,12 @@ pub(crate) fn include<'a>(
     depth: usize,
     head: &[u8],
     words: &[&'a [u8]],
-) -> Result<Meaning<'a>, LineError>
-    ensures { Means result (include found depth head.now (views words.now)) }
+) -> Result<Meaning<'a>, DictKind>
+    ensures { Meets is_memory_kind (read_view result)
+        (include found depth head.now (views words.now)) }
 {
     match words {
         [_] => include_line(same_name(head, DOLLAR_INCLUDE), found, depth),
-        _ => Err(LineError::Refused(DictKind::Unreadable)),
+        _ => Err(DictKind::Unreadable),
     }
 }

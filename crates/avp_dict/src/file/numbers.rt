@@ -2,12 +2,13 @@
 
 ghost use Rattle.std.specs.Prelude.{◌≡◌, ◌≤◌, ◌+◌, ◌*◌, ℕ, Option, is_some};
 ghost use Rattle.std.specs.Char.{digit_value};
+ghost use Rattle.avp_lists.specs.Meets.{Meets};
+ghost use Rattle.avp_dict.specs.Outcomes.{is_memory_kind};
 ghost use Rattle.avp_dict.specs.Vendors.{bounded};
 ghost use Rattle.avp_dict.specs.Words.{digits, number_of};
 ghost use Rattle.avp_dict.specs.internal.Numbers.{Holds, Reads};
-ghost use Rattle.avp_dict.specs.internal.Outcomes.{Gives};
 
-use crate::faults::{DictKind, LineError};
+use crate::faults::DictKind;
 
 /// The greatest number of an attribute and of a vendor.
 pub const MAX_NUMBER: u64 = u32::MAX as u64;
@@ -94,17 +95,17 @@ pub(crate) fn number_of(word: &[u8]) -> Number
 }
 
 /// A number of a line, within its bound.
-pub(crate) fn bounded(most: u64, word: &[u8]) -> Result<u64, LineError>
-    ensures { Gives result (bounded most word.now) }
+pub(crate) fn bounded(most: u64, word: &[u8]) -> Result<u64, DictKind>
+    ensures { Meets is_memory_kind result (bounded most word.now) }
 {
     match number_of(word) {
-        Number::Unreadable => Err(LineError::Refused(DictKind::Unreadable)),
-        Number::TooGreat => Err(LineError::Refused(DictKind::OutOfRange)),
+        Number::Unreadable => Err(DictKind::Unreadable),
+        Number::TooGreat => Err(DictKind::OutOfRange),
         Number::Is(number) => {
             if number <= most {
                 Ok(number)
             } else {
-                Err(LineError::Refused(DictKind::OutOfRange))
+                Err(DictKind::OutOfRange)
             }
         }
     }

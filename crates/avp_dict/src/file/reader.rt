@@ -1,19 +1,19 @@
 //! The lines of a file set, read one after the other.
 
 ghost use Rattle.std.specs.Prelude.{◌≡◌, ◌∷◌, ◌++◌, ◌+◌, ◌<◌, ◌≤◌, ◌^◌, [], Err, None, List, OnOk, IfErr, length};
+ghost use Rattle.avp_lists.specs.Meets.{Meets, Unless};
 ghost use Rattle.avp_dict.specs.Blocks.{innermost};
 ghost use Rattle.avp_dict.specs.DictionaryReading.{dictionary_of, settled_dictionary, unless_open};
 ghost use Rattle.avp_dict.specs.Lines.{Line as SetLine, file_included, lines_in};
 ghost use Rattle.avp_dict.specs.Meanings.{Reading as SetReading, context_of};
-ghost use Rattle.avp_dict.specs.Outcomes.{Refuses};
+ghost use Rattle.avp_dict.specs.Outcomes.{is_memory, is_memory_kind};
 ghost use Rattle.avp_dict.specs.Readings.{read_line, read_lines, within};
 ghost use Rattle.avp_dict.specs.Words.{words_of};
 ghost use Rattle.avp_dict.specs.internal.LineViews.{line_view};
-ghost use Rattle.avp_dict.specs.internal.Meanings.{context_view, reading_views};
-ghost use Rattle.avp_dict.specs.internal.Outcomes.{Means};
+ghost use Rattle.avp_dict.specs.internal.Meanings.{context_view, read_view, reading_views};
 ghost use Rattle.avp_dict.specs.internal.Views.{views};
 
-use crate::faults::{DictFault, DictKind, LineError};
+use crate::faults::{DictFault, DictKind};
 use crate::file::context::{Context, innermost};
 use crate::file::files::NamedFile;
 use crate::file::lines::{Line, MAX_LEVELS, octets_at, place_included, split_line};
@@ -50,14 +50,15 @@ impl<'a> ReadLines<'a> {
         line: Line<'a>,
         words: &[&'a [u8]],
         included: Option<usize>,
-    ) -> Result<Meaning<'a>, LineError>
+    ) -> Result<Meaning<'a>, DictKind>
         requires words { views words.now ≡ words_of line.text.now }
         requires included { included ≡ file_included files.now line.text.now }
-        ensures { Means result (within limit (reading_views self.now.readings.items)
+        ensures { Meets is_memory_kind (read_view result)
+            (within limit (reading_views self.now.readings.items)
             (read_line files.now (context_view self.now.context) (line_view line.entry))) }
     {
         if self.readings.len() >= limit {
-            return Err(LineError::Refused(DictKind::TooLong));
+            return Err(DictKind::TooLong);
         }
         read_words(alloc, &self.context, included, line.depth, words)
     }
@@ -87,9 +88,9 @@ impl<'a> ReadLines<'a> {
             (line_view line.entry ∷ ls) ≡ read_lines limit files.now
             (reading_views self.new.readings.items) ls) }
         ensures refused { (ls : List SetLine)
-            → IfErr result (λ e. Refuses e
+            → IfErr result (λ fault. Unless (is_memory fault)
             (read_lines limit files.now (reading_views self.old.readings.items)
-            (line_view line.entry ∷ ls))) }
+            (line_view line.entry ∷ ls) ≡ Err fault)) }
     {
         match self.read_one(alloc, files, limit, line, words, included) {
             Ok(meaning) => {
@@ -130,9 +131,9 @@ impl<'a> ReadLines<'a> {
             (lines_in files.now levels place ++ ls)
             ≡ read_lines limit files.now (reading_views self.new.readings.items) ls) }
         ensures refused { (ls : List SetLine)
-            → IfErr result (λ e. Refuses e
+            → IfErr result (λ fault. Unless (is_memory fault)
             (read_lines limit files.now (reading_views self.old.readings.items)
-            (lines_in files.now levels place ++ ls))) }
+            (lines_in files.now levels place ++ ls) ≡ Err fault)) }
     {
         if levels == 0 {
             return Ok(());
@@ -192,7 +193,8 @@ pub(crate) fn read_set<'a>(
         ≡ context_of (reading_views read.new.readings.items)) }
     ensures read { OnOk result (dictionary_of limit files.now
         ≡ settled_dictionary (reading_views read.new.readings.items)) }
-    ensures refused { IfErr result (λ fault. Refuses fault (dictionary_of limit files.now)) }
+    ensures refused { IfErr result (λ fault.
+        Unless (is_memory fault) (dictionary_of limit files.now ≡ Err fault)) }
 {
     read.read_file(alloc, files, limit, MAX_LEVELS, 0)?;
     refuse_open(&read.context.opened)?;

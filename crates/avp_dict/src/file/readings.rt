@@ -1,12 +1,13 @@
 //! What a line of a file set is read as, by the lines before it.
 
 ghost use Rattle.std.specs.Prelude.{◌≡◌};
+ghost use Rattle.avp_lists.specs.Meets.{Meets};
+ghost use Rattle.avp_dict.specs.Outcomes.{is_memory_kind};
 ghost use Rattle.avp_dict.specs.Readings.{plain_line, read_head, read_words, skipped_line, value, value_words};
-ghost use Rattle.avp_dict.specs.internal.Meanings.{context_view, meaning_view};
-ghost use Rattle.avp_dict.specs.internal.Outcomes.{Means};
+ghost use Rattle.avp_dict.specs.internal.Meanings.{context_view, meaning_view, read_view};
 ghost use Rattle.avp_dict.specs.internal.Views.{views};
 
-use crate::faults::{DictKind, LineError};
+use crate::faults::DictKind;
 use crate::file::attributes::read_attribute;
 use crate::file::blocks::{begin_tlv, begin_vendor, end_tlv, end_vendor, include};
 use crate::file::context::{Context, block_vendor, is_skipping};
@@ -24,20 +25,21 @@ fn value_words<'a>(
     attribute: &'a [u8],
     name: &'a [u8],
     number: &[u8],
-) -> Result<Meaning<'a>, LineError>
-    ensures { Means result (value_words attribute.now name.now number.now) }
+) -> Result<Meaning<'a>, DictKind>
+    ensures { Meets is_memory_kind (read_view result)
+        (value_words attribute.now name.now number.now) }
 {
     let number = bounded(MAX_VALUE, number)?;
     Ok(Meaning::Value(attribute, name, number))
 }
 
 #[tactic(auto, unfolding(crate::specs::Readings::value))]
-fn read_value<'a>(words: &[&'a [u8]]) -> Result<Meaning<'a>, LineError>
-    ensures { Means result (value (views words.now)) }
+fn read_value<'a>(words: &[&'a [u8]]) -> Result<Meaning<'a>, DictKind>
+    ensures { Meets is_memory_kind (read_view result) (value (views words.now)) }
 {
     match words {
         [attribute, name, number] => value_words(attribute, name, number),
-        _ => Err(LineError::Refused(DictKind::Unreadable)),
+        _ => Err(DictKind::Unreadable),
     }
 }
 
@@ -63,8 +65,9 @@ fn plain_line<'a>(
     block: Option<u32>,
     head: &[u8],
     words: &[&'a [u8]],
-) -> Result<Meaning<'a>, LineError>
-    ensures { Means result (plain_line (context_view before.now) block head.now (views words.now)) }
+) -> Result<Meaning<'a>, DictKind>
+    ensures { Meets is_memory_kind (read_view result)
+        (plain_line (context_view before.now) block head.now (views words.now)) }
 {
     if same_name(head, ATTRIBUTE) {
         read_attribute(alloc, before, block, words)
@@ -73,7 +76,7 @@ fn plain_line<'a>(
     } else if same_name(head, VENDOR) {
         read_vendor(alloc, &before.vendors, words)
     } else {
-        Err(LineError::Refused(DictKind::Unreadable))
+        Err(DictKind::Unreadable)
     }
 }
 
@@ -86,8 +89,9 @@ fn read_head<'a>(
     depth: usize,
     head: &[u8],
     words: &[&'a [u8]],
-) -> Result<Meaning<'a>, LineError>
-    ensures { Means result (read_head (context_view before.now) found depth head.now
+) -> Result<Meaning<'a>, DictKind>
+    ensures { Meets is_memory_kind (read_view result)
+        (read_head (context_view before.now) found depth head.now
         (views words.now)) }
 {
     let opened = before.opened.as_slice();
@@ -116,8 +120,9 @@ pub(crate) fn read_words<'a>(
     found: Option<usize>,
     depth: usize,
     words: &[&'a [u8]],
-) -> Result<Meaning<'a>, LineError>
-    ensures { Means result (read_words (context_view before.now) found depth (views words.now)) }
+) -> Result<Meaning<'a>, DictKind>
+    ensures { Meets is_memory_kind (read_view result)
+        (read_words (context_view before.now) found depth (views words.now)) }
 {
     match words {
         [] => Ok(Meaning::Nothing),

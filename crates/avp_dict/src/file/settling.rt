@@ -1,12 +1,14 @@
 //! What is settled after the last line: which ATTRIBUTE lines are used, by the vendors' last formats, and the
 //! dictionary.
 
-ghost use Rattle.std.specs.Prelude.{◌≡◌, ◌≤◌, [], Ok, IfErr, IfOk, OnOk, IsTrue};
+ghost use Rattle.std.specs.Prelude.{◌≡◌, ◌≤◌, [], Err, Ok, IfErr, IfOk, OnOk, IsTrue};
 ghost use Rattle.std.specs.List.{list_all};
 ghost use Rattle.std.specs.Option.{option_copied};
+ghost use Rattle.std.specs.Result.{result_map_both};
+ghost use Rattle.avp_lists.specs.Meets.{Meets, Unless};
 ghost use Rattle.avp_dict.specs.DictionaryReading.{settled_dictionary};
 ghost use Rattle.avp_dict.specs.Meanings.{context_of};
-ghost use Rattle.avp_dict.specs.Outcomes.{Answers, Refuses};
+ghost use Rattle.avp_dict.specs.Outcomes.{is_memory};
 ghost use Rattle.avp_dict.specs.Settled.{holds, is_in_format, is_kept, skipped_names, used};
 ghost use Rattle.avp_dict.specs.Values.{resolve};
 ghost use Rattle.avp_dict.specs.internal.Contents.{contents_view};
@@ -143,8 +145,9 @@ fn add_all(
         (reading_views readings.now)) (contents_view contents.old) (reading_views readings.now)
         ≡ Ok (contents_view contents.new)) }
     ensures refused { IfErr result (λ fault.
-        Refuses fault (resolve (skipped_names contents.old.vendors (reading_views readings.now))
-        (contents_view contents.old) (reading_views readings.now))) }
+        Unless (is_memory fault) (resolve
+        (skipped_names contents.old.vendors (reading_views readings.now))
+        (contents_view contents.old) (reading_views readings.now) ≡ Err fault)) }
 {
     let mut skipped = NameSet::new(alloc);
     add_skipped(alloc, &contents.vendors, readings, &mut skipped)?;
@@ -159,7 +162,8 @@ pub(crate) fn settle(
     context: Context<'_>,
 ) -> Result<Contents, DictFault>
     requires { context_view context ≡ context_of (reading_views readings.now) }
-    ensures { Answers contents_view result (settled_dictionary (reading_views readings.now)) }
+    ensures { Meets is_memory (result_map_both contents_view (λ fault. fault) result)
+        (settled_dictionary (reading_views readings.now)) }
 {
     let Context {
         attributes,

@@ -1,19 +1,19 @@
 //! VALUE lines and notes, after the last line.
 
-ghost use Rattle.std.specs.Prelude.{◌≡◌, Ok, ◌≤◌, length, OnOk, IfErr, IfOk, IfSome, IsTrue};
+ghost use Rattle.std.specs.Prelude.{◌≡◌, Err, Ok, ◌≤◌, length, OnOk, IfErr, IfOk, IfSome, IsTrue};
 ghost use Rattle.std.specs.Option.{option_and_then};
 ghost use Rattle.std.specs.List.{list_all};
+ghost use Rattle.avp_lists.specs.Meets.{Meets, Unless};
 ghost use Rattle.avp_dict.specs.Letters.{is_value_name_octet, max_name};
-ghost use Rattle.avp_dict.specs.Outcomes.{Refuses};
 ghost use Rattle.avp_dict.specs.Values.{is_noted, is_of_other_number, is_value_name, max_of, max_of_typing, reads_as_number, resolve, value_of, value_up_to, with_line, with_note, with_value};
 ghost use Rattle.avp_dict.specs.Dictionary.{typing_of_id};
+ghost use Rattle.avp_dict.specs.Outcomes.{is_memory, is_memory_kind};
 ghost use Rattle.avp_dict.specs.internal.Contents.{contents_view};
 ghost use Rattle.avp_dict.specs.internal.Meanings.{meaning_view, reading_view, reading_views};
-ghost use Rattle.avp_dict.specs.internal.Outcomes.{Gives};
 
 use crate::contents::Contents;
 use crate::entries::{Kind, Note, ValueLine};
-use crate::faults::{DictFault, DictKind, LineError};
+use crate::faults::{DictFault, DictKind};
 use crate::file::attributes::is_name_octet;
 use crate::file::meanings::{Meaning, Reading};
 use crate::file::numbers::digits;
@@ -89,8 +89,8 @@ fn value_up_to(
     name: &[u8],
     number: u64,
     most: Option<u64>,
-) -> Result<Option<ValueLine>, LineError>
-    ensures value { Gives result (value_up_to values.now id name.now number most) }
+) -> Result<Option<ValueLine>, DictKind>
+    ensures value { Meets is_memory_kind result (value_up_to values.now id name.now number most) }
     ensures short { IfOk result (λ value. IfSome value (λ v. length v.name ≤ max_name)) }
 {
     match most {
@@ -100,10 +100,10 @@ fn value_up_to(
                 return Ok(None);
             }
             if number > most {
-                return Err(LineError::Refused(DictKind::OutOfRange));
+                return Err(DictKind::OutOfRange);
             }
             if is_of_other_number(number, values.number_named(id, name)) {
-                return Err(LineError::Refused(DictKind::OtherValue));
+                return Err(DictKind::OtherValue);
             }
             let name = Octets::from_slice(alloc, name)?;
             Ok(Some(ValueLine { id, name, number }))
@@ -120,8 +120,8 @@ fn value_of(
     name: &[u8],
     number: u64,
     id: Option<AttrId>,
-) -> Result<Option<ValueLine>, LineError>
-    ensures value { Gives result (value_of skipped.now
+) -> Result<Option<ValueLine>, DictKind>
+    ensures value { Meets is_memory_kind result (value_of skipped.now
         (contents_view contents.now) attribute.now name.now number id) }
     ensures short { IfOk result (λ value. IfSome value (λ v. length v.name ≤ max_name)) }
 {
@@ -134,7 +134,7 @@ fn value_of(
             if skipped.contains(alloc, attribute)? {
                 Ok(None)
             } else {
-                Err(LineError::Refused(DictKind::NoAttribute))
+                Err(DictKind::NoAttribute)
             }
         }
     }
@@ -194,8 +194,8 @@ impl Contents {
         ensures step { OnOk result (with_line skipped.now (contents_view self.old)
             (reading_view reading.entry) ≡ Ok (contents_view self.new)) }
         ensures refused { IfErr result (λ fault.
-            Refuses fault (with_line skipped.now (contents_view self.old)
-            (reading_view reading.entry))) }
+            Unless (is_memory fault) (with_line skipped.now (contents_view self.old)
+            (reading_view reading.entry) ≡ Err fault)) }
     {
         if let Meaning::Value(attribute, name, number) = reading.meaning {
             let id = self.attributes.id_named(attribute);
@@ -219,8 +219,8 @@ impl Contents {
         ensures ok { OnOk result (resolve skipped.now (contents_view self.old)
             (reading_views readings.now) ≡ Ok (contents_view self.new)) }
         ensures refused { IfErr result (λ fault.
-            Refuses fault (resolve skipped.now (contents_view self.old)
-            (reading_views readings.now))) }
+            Unless (is_memory fault) (resolve skipped.now (contents_view self.old)
+            (reading_views readings.now) ≡ Err fault)) }
     {
         for reading in readings {
             self.add_line(alloc, skipped, *reading)?;

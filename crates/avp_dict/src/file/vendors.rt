@@ -2,14 +2,16 @@
 
 ghost use Rattle.std.specs.Prelude.{◌≡◌, ◌≤◌, ℕ, Option, IfOk};
 ghost use Rattle.std.specs.List.{list_all, slice_split};
+ghost use Rattle.avp_lists.specs.Meets.{Meets};
 ghost use Rattle.avp_dict.specs.Letters.{is_comma, is_visible};
+ghost use Rattle.avp_dict.specs.Outcomes.{is_memory_kind};
 ghost use Rattle.avp_dict.specs.Vendors.{format_parts, format_word, is_other_vendor, is_vendor_name, two_parts, vendor, vendor_line, vendor_numbered};
+ghost use Rattle.avp_dict.specs.internal.Meanings.{read_view};
 ghost use Rattle.avp_dict.specs.internal.Numbers.{Reads};
-ghost use Rattle.avp_dict.specs.internal.Outcomes.{Means};
 ghost use Rattle.avp_dict.specs.internal.Views.{views};
 
 use crate::entries::VendorFormat;
-use crate::faults::{DictKind, LineError};
+use crate::faults::DictKind;
 use crate::file::keywords::FORMAT_KEY;
 use crate::file::meanings::Meaning;
 use crate::file::numbers::{MAX_NUMBER, Number, bounded, number_of};
@@ -59,13 +61,14 @@ fn vendor_numbered<'a>(
     name: &'a [u8],
     format: VendorFormat,
     number: u64,
-) -> Result<Meaning<'a>, LineError>
+) -> Result<Meaning<'a>, DictKind>
     requires { number ≤ MAX_NUMBER }
-    ensures { Means result (vendor_numbered vendors.now name.now format number) }
+    ensures { Meets is_memory_kind (read_view result)
+        (vendor_numbered vendors.now name.now format number) }
 {
     let number = number as u32;
     if is_other_vendor(number, vendors.vendor_named(name)) {
-        return Err(LineError::Refused(DictKind::OtherNumber));
+        return Err(DictKind::OtherNumber);
     }
     Ok(Meaning::Vendor(name, number, format))
 }
@@ -76,14 +79,15 @@ fn vendor_line<'a>(
     name: &'a [u8],
     number: &[u8],
     format: Option<VendorFormat>,
-) -> Result<Meaning<'a>, LineError>
-    ensures { Means result (vendor_line vendors.now name.now number.now format) }
+) -> Result<Meaning<'a>, DictKind>
+    ensures { Meets is_memory_kind (read_view result)
+        (vendor_line vendors.now name.now number.now format) }
 {
     match format {
-        None => Err(LineError::Refused(DictKind::Unreadable)),
+        None => Err(DictKind::Unreadable),
         Some(format) => {
             if !is_vendor_name(name) {
-                return Err(LineError::Refused(DictKind::Unreadable));
+                return Err(DictKind::Unreadable);
             }
             let number = bounded(MAX_NUMBER, number)?;
             vendor_numbered(vendors, name, format, number)
@@ -147,8 +151,8 @@ pub(crate) fn read_vendor<'a>(
     alloc: Global,
     vendors: &Vendors,
     words: &[&'a [u8]],
-) -> Result<Meaning<'a>, LineError>
-    ensures { Means result (vendor vendors.now (views words.now)) }
+) -> Result<Meaning<'a>, DictKind>
+    ensures { Meets is_memory_kind (read_view result) (vendor vendors.now (views words.now)) }
 {
     match words {
         [name, number] => vendor_line(vendors, name, number, Some(STANDARD_FORMAT)),
@@ -156,6 +160,6 @@ pub(crate) fn read_vendor<'a>(
             let format = format_word(alloc, format)?;
             vendor_line(vendors, name, number, format)
         }
-        _ => Err(LineError::Refused(DictKind::Unreadable)),
+        _ => Err(DictKind::Unreadable),
     }
 }

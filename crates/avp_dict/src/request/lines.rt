@@ -2,14 +2,16 @@
 
 ghost use Rattle.std.specs.Prelude.{◌≡◌, ◌≢◌, ◌≤◌, ◌<◌, ◌+◌, ◌^◌, ◌++◌, ◌∷◌, [], Some, None, true, false, IfOk, IfErr, OnOk, OnErr, IfSome, MatchOption, length, List, All, IsTrue};
 ghost use Rattle.std.specs.List.{before_first, after_first, list_all};
+ghost use Rattle.avp_lists.specs.Meets.{Finds, Unless};
 ghost use Rattle.avp_lists.specs.States.{max_pairs};
 ghost use Rattle.avp_lists.specs.declared.pairs.Pair.{Pair};
 ghost use Rattle.avp_dict.specs.Limits.{fits};
 ghost use Rattle.avp_dict.specs.Lines.{is_line_end, texts_of};
+ghost use Rattle.avp_dict.specs.Outcomes.{is_memory_line};
 ghost use Rattle.avp_dict.specs.RequestLines.{is_blank_line, is_idle_line, pairs_of, tokens_at, without_front};
 ghost use Rattle.avp_dict.specs.Requests.{pair_named, request_spelled};
 ghost use Rattle.avp_dict.specs.Sent.{is_clean};
-ghost use Rattle.avp_dict.specs.internal.LineReading.{IsNoRequest, ReadsLine, RefusesLine, after_pairs, assigned_after, pair_of_token, pairs_after, pairs_at};
+ghost use Rattle.avp_dict.specs.internal.LineReading.{IsNoRequest, after_pairs, assigned_after, pair_of_token, pairs_after, pairs_at};
 ghost use Rattle.avp_dict.specs.internal.RequestTokens.{side_after, token_view};
 
 use crate::dictionaries::Dictionary;
@@ -117,7 +119,7 @@ fn push_pair(pairs: &mut Vec<Pair>, pair: Pair) -> Result<(), LineKind>
 impl Dictionary {
     // The pair of a text under a name.
     fn pair_named(&self, alloc: Global, named: Named, text: &[u8]) -> Result<Pair, LineKind>
-        ensures { ReadsLine result (pair_named self.now text.now named) }
+        ensures { Finds is_memory_line result (pair_named self.now text.now named) }
     {
         let value = self.value_of_text(alloc, named, text)?;
         Ok(Pair {
@@ -128,7 +130,8 @@ impl Dictionary {
 
     // The pair of a name and the token of its value.
     fn pair_of_token(&self, alloc: Global, named: Named, token: Token) -> Result<Pair, LineKind>
-        ensures { ReadsLine result (pair_of_token self.now named (token_view token.entry)) }
+        ensures { Finds is_memory_line result
+            (pair_of_token self.now named (token_view token.entry)) }
     {
         match token {
             Token::Run([b'=', ..]) => Err(LineKind::Unreadable),
@@ -155,8 +158,9 @@ impl Dictionary {
             ≡ after_pairs (x.0 ∷ []) (pairs_after self.now (tokens_at Side.Value x.1.now))) }
         ensures shorter { IfOk result (λ x. length x.1.now ≤ length rest.now) }
         ensures refused { IfErr result (λ kind.
-            RefusesLine kind (pairs_at self.now
-            (token_view first.entry ∷ tokens_at (side_after Side.Name first.entry) rest.now))) }
+            Unless (is_memory_line kind) (pairs_at self.now
+            (token_view first.entry ∷ tokens_at (side_after Side.Name first.entry) rest.now)
+            ≡ None)) }
     {
         let Token::Run(name) = first else {
             return Err(LineKind::Unreadable);

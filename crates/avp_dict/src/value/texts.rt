@@ -2,9 +2,11 @@
 
 ghost use Rattle.std.specs.Prelude.{◌≡◌, ◌+◌, ◌∷◌, [], IfOk, ℕ, Option, pos};
 ghost use Rattle.std.specs.Option.{option_and_then, option_map};
+ghost use Rattle.avp_lists.specs.Meets.{Meets};
 ghost use Rattle.avp_dict.specs.AttributeNumbers.{greatest_signed};
+ghost use Rattle.avp_dict.specs.Outcomes.{is_memory_value};
 ghost use Rattle.avp_dict.specs.Sent.{is_container};
-ghost use Rattle.avp_dict.specs.Spellings.{address_spelled, bytes_spelled, decimal_octet, digit_pair, each_number, ether_spelled, is_barred, AnswersValue, negated, number_spelled, number_up_to, octets_spelled, signed_spelled, spelled, spelled_by, up_to, value_spelled};
+ghost use Rattle.avp_dict.specs.Spellings.{address_spelled, bytes_spelled, decimal_octet, digit_pair, each_number, ether_spelled, is_barred, negated, number_spelled, number_up_to, octets_spelled, signed_spelled, spelled, spelled_by, up_to, value_spelled};
 ghost use Rattle.avp_dict.specs.Values.{max_of};
 ghost use Rattle.avp_dict.specs.Words.{digits};
 ghost use Rattle.avp_dict.specs.internal.Numbers.{Reads};
@@ -261,7 +263,7 @@ impl Dictionary {
         named: Named,
         text: &[u8],
     ) -> Result<Value, ValueFault>
-        ensures answers { AnswersValue result (value_spelled named text.now self.now) }
+        ensures answers { Meets is_memory_value result (value_spelled named text.now self.now) }
         ensures only { IfOk result (λ value. (other : Value) → value_spelled named text.now self.now
             ≡ Ok other → other ≡ value) }
     {

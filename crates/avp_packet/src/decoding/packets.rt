@@ -1,12 +1,12 @@
 //! What is read alike of requests and of replies (RFC 2865, section 3).
 
-ghost use Rattle.std.specs.Prelude.{◌≡◌, ◌≤◌, [], true, Result, length, All, OnOk, IfOk, IfErr};
+ghost use Rattle.std.specs.Prelude.{◌≡◌, ◌≤◌, [], true, false, Err, Result, length, All, OnOk, IfOk, IfErr};
 ghost use Rattle.avp_dict.specs.Limits.{fits};
 ghost use Rattle.avp_packet.specs.declared.packets.Packet.{Packet};
 ghost use Rattle.avp_packet.specs.CanonicalOrContainer.{IsCanonicalOrContainer};
 ghost use Rattle.avp_packet.specs.Decoded.{packet_read, unless_broken};
 ghost use Rattle.avp_packet.specs.Meanings.{attribute_pairs};
-ghost use Rattle.avp_packet.specs.Outcomes.{Refuses};
+ghost use Rattle.avp_packet.specs.Outcomes.{is_memory};
 ghost use Rattle.avp_packet.specs.Packets.{attributes_of, authenticator_of, length_of};
 ghost use Rattle.avp_packet.specs.Splitting.{left, parts};
 ghost use Rattle.avp_packet.specs.internal.Views.{under};
@@ -42,7 +42,8 @@ pub(crate) fn count_whole(octets: &[u8]) -> Result<usize, PacketFault>
     ensures unbroken { OnOk result ((read : Result Packet PacketFault)
         → unless_broken octets.now read ≡ read) }
     ensures broken { IfErr result (λ fault. (read : Result Packet PacketFault)
-        → Refuses fault (unless_broken octets.now read)) }
+        → unless_broken octets.now read ≡ Err fault) }
+    ensures certain { IfErr result (λ fault. is_memory fault ≡ false) }
 {
     if octets.len() < PACKET_HEAD_OCTETS {
         return Err(PacketFault::TooShort);

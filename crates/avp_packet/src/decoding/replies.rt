@@ -1,14 +1,15 @@
 //! Replies read (RFC 2865, sections 3 and 4.4; RFC 2866, section 3; RFC 3579, section 3.2).
 
-ghost use Rattle.std.specs.Prelude.{◌≡◌, ◌≤◌, ◌<◌, [], true, List, length, All, IfOk, IfSome, IfNone, Ok};
+ghost use Rattle.std.specs.Prelude.{◌≡◌, ◌≤◌, ◌<◌, [], true, false, List, length, All, IfOk, IfErr, IfSome, IfNone, IsOk, IsTrue, Err, Ok};
 ghost use Rattle.avp_lists.specs.declared.pairs.Pair.{Pair};
+ghost use Rattle.avp_lists.specs.Meets.{Meets};
 ghost use Rattle.avp_lists.specs.States.{max_pairs};
 ghost use Rattle.avp_dict.specs.Dictionary.{Dictionary};
 ghost use Rattle.avp_dict.specs.Limits.{fits};
 ghost use Rattle.avp_packet.specs.CanonicalOrContainer.{IsCanonicalOrContainer};
 ghost use Rattle.avp_packet.specs.Decoded.{packet_read};
 ghost use Rattle.avp_packet.specs.DecodedReply.{decoded_reply, is_taken_reply_code, is_wrongly_signed_reply, reply_read};
-ghost use Rattle.avp_packet.specs.Outcomes.{Gives, Refuses};
+ghost use Rattle.avp_packet.specs.Outcomes.{is_memory};
 ghost use Rattle.avp_packet.specs.PacketMeaning.{OctetsMean};
 ghost use Rattle.avp_packet.specs.Packets.{IsTakenReplyCode, attributes_of, code_of, hiding_authenticator, is_reply, length_of};
 ghost use Rattle.avp_packet.specs.Splitting.{left};
@@ -50,8 +51,8 @@ fn refusal(octets: &[u8], request_authenticator: &[u8; 16], secret: &[u8]) -> Op
     requires short { length_of octets.now ≤ MAX_PACKET_OCTETS }
     requires whole { left (attributes_of octets.now) ≡ [] }
     ensures some { IfSome result (λ fault. (dictionary : Dictionary)
-        → Refuses fault
-        (reply_read dictionary secret.now request_authenticator.now octets.now)) }
+        → reply_read dictionary secret.now request_authenticator.now octets.now ≡ Err fault) }
+    ensures certain { IfSome result (λ fault. is_memory fault ≡ false) }
     ensures none { IfNone result ((dictionary : Dictionary)
         → reply_read dictionary secret.now request_authenticator.now octets.now
         ≡ Ok (packet_read dictionary secret.now
@@ -113,8 +114,10 @@ pub fn decode_reply(
         → OctetsMean dictionary.now secret.now
         packet.code request_authenticator.now octets.now pairs
         → pairs ≡ packet.list) }
-    ensures read { Gives result
+    ensures read { Meets is_memory result
         (decoded_reply dictionary.now secret.now request_authenticator.now octets.now) }
+    ensures memory { IfErr result (λ fault. IsTrue (is_memory fault)
+        → IsOk (decoded_reply dictionary.now secret.now request_authenticator.now octets.now)) }
     ensures code { IfOk result (λ packet. IsTakenReplyCode packet.code) }
     ensures accepted { IfOk result (λ packet.
         is_reply octets.now request_authenticator.now secret.now ≡ true) }

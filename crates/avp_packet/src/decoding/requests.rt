@@ -1,13 +1,14 @@
 //! Requests read (RFC 2865, section 3; RFC 2866, section 3).
 
-ghost use Rattle.std.specs.Prelude.{◌≡◌, ◌≤◌, ◌<◌, [], true, List, length, All, IfOk, IfSome, IfNone, Ok};
+ghost use Rattle.std.specs.Prelude.{◌≡◌, ◌≤◌, ◌<◌, [], true, false, List, length, All, IfOk, IfErr, IfSome, IfNone, IsOk, IsTrue, Err, Ok};
 ghost use Rattle.avp_lists.specs.declared.pairs.Pair.{Pair};
+ghost use Rattle.avp_lists.specs.Meets.{Meets};
 ghost use Rattle.avp_lists.specs.States.{max_pairs};
 ghost use Rattle.avp_dict.specs.Dictionary.{Dictionary};
 ghost use Rattle.avp_dict.specs.Limits.{fits};
 ghost use Rattle.avp_packet.specs.CanonicalOrContainer.{IsCanonicalOrContainer};
 ghost use Rattle.avp_packet.specs.Decoded.{decoded, is_wrongly_signed, packet_read, request_read};
-ghost use Rattle.avp_packet.specs.Outcomes.{Gives, Refuses};
+ghost use Rattle.avp_packet.specs.Outcomes.{is_memory};
 ghost use Rattle.avp_packet.specs.PacketMeaning.{OctetsMean};
 ghost use Rattle.avp_packet.specs.Packets.{IsRequestCode, attributes_of, authenticator_of, code_of, hiding_authenticator, length_of};
 ghost use Rattle.avp_packet.specs.Splitting.{left};
@@ -39,7 +40,8 @@ fn refusal(octets: &[u8], secret: &[u8]) -> Option<PacketFault>
     requires short { length_of octets.now ≤ MAX_PACKET_OCTETS }
     requires whole { left (attributes_of octets.now) ≡ [] }
     ensures some { IfSome result (λ fault. (dictionary : Dictionary)
-        → Refuses fault (request_read dictionary secret.now octets.now)) }
+        → request_read dictionary secret.now octets.now ≡ Err fault) }
+    ensures certain { IfSome result (λ fault. is_memory fault ≡ false) }
     ensures none { IfNone result ((dictionary : Dictionary)
         → request_read dictionary secret.now octets.now
         ≡ Ok (packet_read dictionary secret.now
@@ -92,7 +94,9 @@ pub fn decode(
     ensures only { IfOk result (λ packet. (pairs : List Pair)
         → OctetsMean dictionary.now secret.now packet.code packet.authenticator octets.now pairs
         → pairs ≡ packet.list) }
-    ensures read { Gives result (decoded dictionary.now secret.now octets.now) }
+    ensures read { Meets is_memory result (decoded dictionary.now secret.now octets.now) }
+    ensures memory { IfErr result (λ fault. IsTrue (is_memory fault)
+        → IsOk (decoded dictionary.now secret.now octets.now)) }
     ensures code { IfOk result (λ packet. IsRequestCode packet.code) }
     ensures few { IfOk result (λ packet. length packet.list ≤ max_pairs) }
 {

@@ -2,10 +2,11 @@
 
 ghost use Rattle.std.specs.Prelude.{◌≡◌, ◌++◌, IsTrue, IfOk, IfSome, OnOk, Some};
 ghost use Rattle.avp_lists.specs.History.{present};
+ghost use Rattle.avp_lists.specs.Meets.{Meets};
 ghost use Rattle.avp_dict.specs.Limits.{fits, is_known, is_typed};
 ghost use Rattle.avp_dict.specs.Octets.{octets, read_value};
 ghost use Rattle.avp_dict.specs.Spellings.{unless_long, value_spelled};
-ghost use Rattle.avp_unlang.specs.Resolutions.{Resolves, StateFits, given, instance_value, line_suits, literal_fits, pair_of, pair_put, part_text, parts_text, read_by_type, resolution, source_value, unresolved};
+ghost use Rattle.avp_unlang.specs.Resolutions.{StateFits, given, instance_value, is_memory, line_suits, literal_fits, pair_of, pair_put, part_text, parts_text, read_by_type, resolution, source_value, unresolved};
 ghost use Rattle.avp_unlang.specs.declared.meaning.resolving.Unresolved.TheVariants as why;
 
 use crate::tree::{Line, Part, Source};
@@ -179,7 +180,7 @@ fn instance_value(
 ) -> Result<Value, Unresolved>
     requires known { IsTrue (is_known id dictionary.now) }
     requires fits { IsTrue (fits pair.now dictionary.now) }
-    ensures resolves { Resolves result (instance_value dictionary.now id (Some pair.now)) }
+    ensures resolves { Meets is_memory result (instance_value dictionary.now id (Some pair.now)) }
     ensures fits { IfOk result (λ v. IsTrue (fits (pair_of id v) dictionary.now)) }
 {
     let octets = dictionary.bytes_of_value(alloc, pair.id, &pair.value)?;
@@ -197,7 +198,7 @@ fn text_value<S: Store>(
 ) -> Result<Value, Unresolved>
     requires known { IsTrue (is_known name.id dictionary.now) }
     requires fits { StateFits dictionary.now (present (S.history store.now)) }
-    ensures resolves { Resolves result (given (value_spelled name
+    ensures resolves { Meets is_memory result (given (value_spelled name
         (parts_text dictionary.now (present (S.history store.now)) parts.now) dictionary.now)) }
     ensures fits { IfOk result (λ v. IsTrue (fits (pair_of name.id v) dictionary.now)) }
 {
@@ -216,7 +217,8 @@ fn source_value<S: Store>(
     requires known { IsTrue (is_known id dictionary.now) }
     requires literal { IsTrue (literal_fits dictionary.now id source.now) }
     requires fits { StateFits dictionary.now (present (S.history store.now)) }
-    ensures resolves { Resolves result (source_value dictionary.now (present (S.history store.now))
+    ensures resolves { Meets is_memory result
+        (source_value dictionary.now (present (S.history store.now))
         id source.now) }
     ensures fits { IfOk result (λ v. IsTrue (fits (pair_of id v) dictionary.now)) }
 {
@@ -248,7 +250,7 @@ pub fn resolve<S: Store>(
 ) -> Result<Pair, Unresolved>
     requires line { IsTrue (line_suits dictionary.now line.now) }
     requires store { StateFits dictionary.now (present (S.history store.now)) }
-    ensures resolves { Resolves result
+    ensures resolves { Meets is_memory result
         (resolution dictionary.now line.now (present (S.history store.now))) }
     ensures fits { IfOk result (λ pair. IsTrue (fits pair dictionary.now)) }
 {

@@ -261,7 +261,7 @@ fn both<'a>(alloc: Global, dictionary: &Dictionary, depth: usize, at: Cursor<'a>
     let (first, mut rest) = operand(alloc, dictionary, depth, at)?;
     let mut conds = Vec::new(alloc);
     conds.push(first)?;
-    'conds: while let Some(next) = rest.after_sign(Sign::And) {
+    while let Some(next) = rest.after_sign(Sign::And) {
         let (cond, end) = operand(alloc, dictionary, depth, next)?;
         conds.push(cond)?;
         rest = end;
@@ -283,7 +283,7 @@ fn either<'a>(
     let (first, mut rest) = both(alloc, dictionary, depth, at)?;
     let mut conds = Vec::new(alloc);
     conds.push(first)?;
-    'conds: while let Some(next) = rest.after_sign(Sign::Or) {
+    while let Some(next) = rest.after_sign(Sign::Or) {
         let (cond, end) = both(alloc, dictionary, depth, next)?;
         conds.push(cond)?;
         rest = end;

@@ -111,7 +111,7 @@ pub(crate) fn lines<'a>(
 {
     let mut lines = Vec::new(alloc);
     let mut rest = at;
-    'lines: while begins_line(&rest) {
+    while begins_line(&rest) {
         let (found, end) = line(alloc, dictionary, own, rest)?;
         lines.push(found)?;
         rest = end;

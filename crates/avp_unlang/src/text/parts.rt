@@ -46,7 +46,7 @@ fn octets<'a>(alloc: Global, text: Excerpt<'a>) -> Result<(Octets, Excerpt<'a>),
 {
     let mut octets = Vec::new(alloc);
     let mut rest = text;
-    'octets: while let Some((found, after)) = octet_at(&rest) {
+    while let Some((found, after)) = octet_at(&rest) {
         octets.push(found)?;
         rest = after;
     }
@@ -133,7 +133,7 @@ pub(crate) fn parts(
 {
     let mut parts = Vec::new(alloc);
     let mut rest = text;
-    'parts: while is_left(&rest) {
+    while is_left(&rest) {
         let (found, end) = part(alloc, dictionary, rest, line)?;
         parts.push(found)?;
         rest = end;

@@ -194,7 +194,7 @@ fn branches<'a>(
     let (first, mut rest) = branch(alloc, dictionary, depth, at)?;
     let mut branches = Vec::new(alloc);
     branches.push(first)?;
-    'branches: while let Some(next) = rest.after_word(b"elsif") {
+    while let Some(next) = rest.after_word(b"elsif") {
         let (branch, end) = branch(alloc, dictionary, depth, next)?;
         branches.push(branch)?;
         rest = end;
@@ -275,7 +275,7 @@ pub(crate) fn statements<'a>(
 {
     let mut statements = Vec::new(alloc);
     let mut rest = at;
-    'statements: while begins_word(&rest) {
+    while begins_word(&rest) {
         let (found, end) = statement(alloc, dictionary, depth, rest)?;
         statements.push(found)?;
         rest = end;

@@ -59,7 +59,7 @@ IsHeadFor form dictionary (Some key) request None = ⊥
 IsHeadFor form dictionary (Some key) request (Some head) =
     IsHeadOf form dictionary key request head
 
--- a call's result is this answer, unless memory ran out
+-- A call's result is this answer, unless memory ran out. An answer is no `Result`, so this is no case of `Meets`.
 abbrev pub IsAnswer : Result (Option (Vec ℕ Global)) EncodeFault → Answer → Type 0
 IsAnswer (Ok None) answer = answer ≡ Nothing
 IsAnswer (Ok (Some octets)) answer = answer ≡ Sent octets.items
@@ -76,9 +76,3 @@ pub record IsUsable (dictionary : Dictionary) (head : ReplyHead) : Type 0 where
   pub proxies : All (λ (pair : Pair). pair.id ≡ Plain proxy_state) head.proxy_states.items
   pub fit : AllFit dictionary head.proxy_states.items
   pub signed : head.code ≡ accounting_request → head.signed ≡ false
-
--- a call's result is this reply, unless memory ran out
-abbrev pub IsSent : Result Reply EncodeFault → Option Reply → Type 0
-IsSent (Ok own) sent = sent ≡ Some own
-IsSent (Err encode.TooLong) sent = sent ≡ None
-IsSent (Err encode.Memory) sent = Unit {0}

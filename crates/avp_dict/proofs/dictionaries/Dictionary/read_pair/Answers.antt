@@ -1,6 +1,7 @@
 use Rattle.std.proofs.Common.{sym, ◌∙◌}
 use Rattle.std.proofs.lemmas.Result.{err_from_is_err_and}
 use Rattle.avp_dict.specs.declared.request.tokens.Side.TheVariants.{Name}
+use Rattle.avp_dict.specs.Outcomes.{is_memory_line}
 use Rattle.avp_dict.specs.RequestLines.{tokens_at}
 use Rattle.avp_dict.proofs.PairSteps.{pair_read, pair_refused, refuses_whole, unknown_refused}
 use Rattle.avp_dict.proofs.dictionaries.Dictionary.read_pair.Goals as goal
@@ -14,7 +15,7 @@ returns-in_err-pair-clause-refused c =
     let known = sym c.by_name.ensures ∙ c.in-Some.is in
     let p = err_from_is_err_and c.from_residual.result c.from_residual.ensures.1 in
     rw (p.1, p.2, c.in-Run.is, c.in-Some-Sign-default.ensures.token, c.in-Some-Sign-default.field-0-0-is, c.in-Some-next_token.ensures.token)
-    (refuses_whole c.in_err-pair.field-0.0 _ _ c.in_err-pair.ensures (pair_refused c.args.self.now c.in-Run.name.now c.in-Some.named known c.in-Some-next_token.value c.in-Some-next_token.rest.now))
+    (refuses_whole (is_memory_line c.in_err-pair.field-0.0) _ _ c.in_err-pair.ensures (pair_refused c.args.self.now c.in-Run.name.now c.in-Some.named known c.in-Some-next_token.value c.in-Some-next_token.rest.now))
 
 pub returns-clause-read : goal.returns-clause-read
 returns-clause-read c =

@@ -1,4 +1,4 @@
-use Rattle.std.proofs.Common.{ℕ, ◌-◌, List, ◌∷◌, ◌++◌, length, take, drop, decimal, ap, ◌∙◌}
+use Rattle.std.proofs.Common.{ℕ, ◌-◌, ◌∷◌, ◌++◌, length, take, drop, decimal, ap, ◌∙◌}
 use Rattle.avp_dict.specs.Printing.{address_text}
 use Rattle.avp_dict.proofs.Appending.{appended}
 use Rattle.avp_dict.proofs.value.printing.address_text.Goals as goal

@@ -1,4 +1,4 @@
-use Rattle.std.proofs.Common.{ℕ, ◌-◌, List, ◌∷◌, ◌++◌, length, take, drop}
+use Rattle.std.proofs.Common.{◌-◌, ◌∷◌, length, take, drop}
 use Rattle.avp_dict.specs.Printing.{digit_pair_text, ether_text}
 use Rattle.avp_dict.proofs.Appending.{appended}
 use Rattle.avp_dict.proofs.value.printing.ether_text.Goals as goal

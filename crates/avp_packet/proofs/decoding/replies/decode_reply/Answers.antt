@@ -1,34 +1,45 @@
-use Rattle.std.proofs.Common.{rules, ◌≡◌, ◌∙◌, ℕ, List, Err, Ok, sym, ap, subst}
+use Rattle.std.proofs.Common.{rules, ◌≡◌, ◌∙◌, ℕ, List, Err, Ok, is_ok, sym, ap, subst}
+use Rattle.avp_lists.specs.Meets.{Meets}
 use Rattle.avp_packet.specs.declared.faults.PacketFault.TheVariants.{Memory}
 use Rattle.avp_packet.specs.declared.packets.Packet.{Packet}
 use Rattle.avp_packet.specs.Decoded.{packet_read}
 use Rattle.avp_packet.specs.DecodedReply.{decoded_reply, reply_read}
 use Rattle.avp_packet.specs.Meanings.{attribute_pairs}
-use Rattle.avp_packet.specs.Outcomes.{Gives, Refuses}
+use Rattle.avp_packet.specs.Outcomes.{is_memory}
 use Rattle.avp_packet.specs.Packets.{attributes_of, hiding_authenticator}
 use Rattle.avp_packet.specs.Splitting.{parts}
 use Rattle.avp_packet.proofs.OneMeaning.{meant_by, only_by}
 use Rattle.avp_packet.proofs.decoding.replies.decode_reply.Goals as goal
 
+-- a fault of the octets is no want of memory
 pub returns-in_err-count-clause-read : goal.returns-in_err-count-clause-read
 unfolding decoded_reply
 returns-in_err-count-clause-read c =
     let fault = c.in_err-count.field-0.0 in
     let refused : c.from_residual.result ≡ Err fault = search rules in
-    subst (λ result. Gives result (decoded_reply c.args.dictionary.now c.args.secret.now c.args.request_authenticator.now c.args.octets.now)) (sym refused) (c.in_err-count.ensures.broken (reply_read c.args.dictionary.now c.args.secret.now c.args.request_authenticator.now c.args.octets.now))
+    let broken = c.in_err-count.ensures.broken (reply_read c.args.dictionary.now c.args.secret.now c.args.request_authenticator.now c.args.octets.now) in
+    subst (λ result. Meets is_memory result (decoded_reply c.args.dictionary.now c.args.secret.now c.args.request_authenticator.now c.args.octets.now)) (sym refused) (rw c.in_err-count.ensures.certain broken)
+
+pub returns-in_err-count-clause-memory : goal.returns-in_err-count-clause-memory
+returns-in_err-count-clause-memory c =
+    let fault = c.in_err-count.field-0.0 in
+    let refused : c.from_residual.result ≡ Err fault = search rules in
+    rw refused (λ memory. absurd (cc (memory, c.in_err-count.ensures.certain)))
 
 pub returns-in-Some-clause-read : goal.returns-in-Some-clause-read
 unfolding decoded_reply
 returns-in-Some-clause-read c =
-    subst (Refuses c.in-Some.fault) (sym (c.in_ok-count.ensures.unbroken (reply_read c.args.dictionary.now c.args.secret.now c.args.request_authenticator.now c.args.octets.now))) (c.in-Some.ensures.some c.args.dictionary.now)
+    rw c.in-Some.ensures.certain (c.in_ok-count.ensures.unbroken (reply_read c.args.dictionary.now c.args.secret.now c.args.request_authenticator.now c.args.octets.now) ∙ c.in-Some.ensures.some c.args.dictionary.now)
 
--- memory runs out only where a packet is read
-pub returns-in_err-read_packet-clause-read : goal.returns-in_err-read_packet-clause-read
+pub returns-in-Some-clause-memory : goal.returns-in-Some-clause-memory
+returns-in-Some-clause-memory c = λ memory. absurd (cc (memory, c.in-Some.ensures.certain))
+
+pub returns-in_err-read_packet-clause-memory : goal.returns-in_err-read_packet-clause-memory
 unfolding decoded_reply
-returns-in_err-read_packet-clause-read c =
+returns-in_err-read_packet-clause-memory c =
     let refused : c.from_residual-in_err-read_packet.result ≡ Err Memory = search rules in
     let read = c.in_ok-count.ensures.unbroken (reply_read c.args.dictionary.now c.args.secret.now c.args.request_authenticator.now c.args.octets.now) ∙ c.in_default.ensures.none c.args.dictionary.now in
-    subst (λ result. Gives result (decoded_reply c.args.dictionary.now c.args.secret.now c.args.request_authenticator.now c.args.octets.now)) (sym refused) (_, read)
+    rw refused (λ _. ap is_ok read)
 
 pub returns-clause-read : goal.returns-clause-read
 unfolding decoded_reply

@@ -12,8 +12,8 @@ use Rattle.avp_unlang.proofs.LinesOne.{follows_sure}
 use Rattle.avp_unlang.proofs.ConditionsOne.{within_one, both_one, operand_reads, negated_refused, closed_refused, unclosed_refused, closed_reads}
 use Rattle.avp_unlang.proofs.text.conditions.+conditions.Goals as goal
 
-pub both-conds-init : goal.both-conds-init
-both-conds-init t c = record {
+pub both-loop-next-init : goal.both-loop-next-init
+both-loop-next-init t c = record {
   front =
       front_one (Follows (Operator And)) (Within c.args.dictionary.now (suc c.args.depth)) (within_one c.args.dictionary.now (suc c.args.depth)) c.args.at c.in_ok-first.first c.in_ok-first.rest
       c.in_ok-first.ensures.read c.new-conds.result.items c.push.new.self.items c.new-conds.ensures.items c.in_ok-push.ensures.items;
@@ -24,22 +24,22 @@ pub both-returns-in_err-cond-clause-read : goal.both-returns-in_err-cond-clause-
 both-returns-in_err-cond-clause-read t c =
     exits (Both (Within c.args.dictionary.now (suc c.args.depth)) c.args.at) _ _ c.from_residual-in_err-cond.ensures.1
     (then_stops (Chain (Follows (Operator And)) (Within c.args.dictionary.now (suc c.args.depth))) (λ cs. Gives (all_of cs)) c.args.at c.in_err-cond.field-0.0
-    (front_stops (Follows (Operator And)) (Within c.args.dictionary.now (suc c.args.depth)) (follows_sure (Operator And)) c.args.at c.conds.conds.items c.conds.rest c.in-Some.next
-    c.conds.invariant.front c.in-Some.ensures.found c.in_err-cond.field-0.0 c.in_err-cond.ensures.read))
+    (front_stops (Follows (Operator And)) (Within c.args.dictionary.now (suc c.args.depth)) (follows_sure (Operator And)) c.args.at c.loop-next.conds.items c.loop-next.rest c.in-Some.next
+    c.loop-next.invariant.front c.in-Some.ensures.found c.in_err-cond.field-0.0 c.in_err-cond.ensures.read))
 
-pub both-conds-preserved : goal.both-conds-preserved
-both-conds-preserved t c = record {
+pub both-loop-next-preserved : goal.both-loop-next-preserved
+both-loop-next-preserved t c = record {
   front =
-      front_more (Follows (Operator And)) (Within c.args.dictionary.now (suc c.args.depth)) (follows_sure (Operator And)) (within_one c.args.dictionary.now (suc c.args.depth)) c.args.at c.conds.conds.items c.conds.rest
-      c.in-Some.next c.in_ok-cond.cond c.in_ok-cond.end c.conds.invariant.front c.in-Some.ensures.found c.in_ok-cond.ensures.read c.push-in-Some.new.self.items c.in_ok-push-2.ensures.items;
-  within = omega (arith, c.in-Some.ensures.shorter, c.in_ok-cond.ensures.shorter, c.conds.invariant.within);
+      front_more (Follows (Operator And)) (Within c.args.dictionary.now (suc c.args.depth)) (follows_sure (Operator And)) (within_one c.args.dictionary.now (suc c.args.depth)) c.args.at c.loop-next.conds.items c.loop-next.rest
+      c.in-Some.next c.in_ok-cond.cond c.in_ok-cond.end c.loop-next.invariant.front c.in-Some.ensures.found c.in_ok-cond.ensures.read c.push-in-Some.new.self.items c.in_ok-push-2.ensures.items;
+  within = omega (arith, c.in-Some.ensures.shorter, c.in_ok-cond.ensures.shorter, c.loop-next.invariant.within);
 }
 
 pub both-returns-clause-read : goal.both-returns-clause-read
 both-returns-clause-read t c = (
-  c.conds.conds.items,
-  c.conds.rest,
-  front_done (Follows (Operator And)) (Within c.args.dictionary.now (suc c.args.depth)) c.args.at c.conds.conds.items c.conds.rest c.conds.invariant.front c.in_default.ensures.none,
+  c.loop-next.conds.items,
+  c.loop-next.rest,
+  front_done (Follows (Operator And)) (Within c.args.dictionary.now (suc c.args.depth)) c.args.at c.loop-next.conds.items c.loop-next.rest c.loop-next.invariant.front c.in_default.ensures.none,
   (c.all_of.ensures, refl),
 )
 
@@ -49,8 +49,8 @@ either-returns-in_err-first-clause-read t c =
     (then_stops (Chain (Follows (Operator Or)) (Both (Within c.args.dictionary.now (suc c.args.depth)))) (λ cs. Gives (any_of cs)) c.args.at c.in_err-first.field-0.0
     (chain_stops (Follows (Operator Or)) (Both (Within c.args.dictionary.now (suc c.args.depth))) c.args.at c.in_err-first.field-0.0 c.in_err-first.ensures.read))
 
-pub either-conds-init : goal.either-conds-init
-either-conds-init t c = record {
+pub either-loop-next-init : goal.either-loop-next-init
+either-loop-next-init t c = record {
   front =
       front_one (Follows (Operator Or)) (Both (Within c.args.dictionary.now (suc c.args.depth))) (both_one (Within c.args.dictionary.now (suc c.args.depth)) (within_one c.args.dictionary.now (suc c.args.depth)))
       c.args.at c.in_ok-first.first c.in_ok-first.rest
@@ -62,23 +62,23 @@ pub either-returns-in_err-cond-clause-read : goal.either-returns-in_err-cond-cla
 either-returns-in_err-cond-clause-read t c =
     exits (Either (Within c.args.dictionary.now (suc c.args.depth)) c.args.at) _ _ c.from_residual-in_err-cond.ensures.1
     (then_stops (Chain (Follows (Operator Or)) (Both (Within c.args.dictionary.now (suc c.args.depth)))) (λ cs. Gives (any_of cs)) c.args.at c.in_err-cond.field-0.0
-    (front_stops (Follows (Operator Or)) (Both (Within c.args.dictionary.now (suc c.args.depth))) (follows_sure (Operator Or)) c.args.at c.conds.conds.items c.conds.rest c.in-Some.next
-    c.conds.invariant.front c.in-Some.ensures.found c.in_err-cond.field-0.0 c.in_err-cond.ensures.read))
+    (front_stops (Follows (Operator Or)) (Both (Within c.args.dictionary.now (suc c.args.depth))) (follows_sure (Operator Or)) c.args.at c.loop-next.conds.items c.loop-next.rest c.in-Some.next
+    c.loop-next.invariant.front c.in-Some.ensures.found c.in_err-cond.field-0.0 c.in_err-cond.ensures.read))
 
-pub either-conds-preserved : goal.either-conds-preserved
-either-conds-preserved t c = record {
+pub either-loop-next-preserved : goal.either-loop-next-preserved
+either-loop-next-preserved t c = record {
   front =
       front_more (Follows (Operator Or)) (Both (Within c.args.dictionary.now (suc c.args.depth))) (follows_sure (Operator Or))
-      (both_one (Within c.args.dictionary.now (suc c.args.depth)) (within_one c.args.dictionary.now (suc c.args.depth))) c.args.at c.conds.conds.items c.conds.rest
-      c.in-Some.next c.in_ok-cond.cond c.in_ok-cond.end c.conds.invariant.front c.in-Some.ensures.found c.in_ok-cond.ensures.read c.push-in-Some.new.self.items c.in_ok-push-2.ensures.items;
-  within = omega (arith, c.in-Some.ensures.shorter, c.in_ok-cond.ensures.shorter, c.conds.invariant.within);
+      (both_one (Within c.args.dictionary.now (suc c.args.depth)) (within_one c.args.dictionary.now (suc c.args.depth))) c.args.at c.loop-next.conds.items c.loop-next.rest
+      c.in-Some.next c.in_ok-cond.cond c.in_ok-cond.end c.loop-next.invariant.front c.in-Some.ensures.found c.in_ok-cond.ensures.read c.push-in-Some.new.self.items c.in_ok-push-2.ensures.items;
+  within = omega (arith, c.in-Some.ensures.shorter, c.in_ok-cond.ensures.shorter, c.loop-next.invariant.within);
 }
 
 pub either-returns-clause-read : goal.either-returns-clause-read
 either-returns-clause-read t c = (
-  c.conds.conds.items,
-  c.conds.rest,
-  front_done (Follows (Operator Or)) (Both (Within c.args.dictionary.now (suc c.args.depth))) c.args.at c.conds.conds.items c.conds.rest c.conds.invariant.front c.in_default.ensures.none,
+  c.loop-next.conds.items,
+  c.loop-next.rest,
+  front_done (Follows (Operator Or)) (Both (Within c.args.dictionary.now (suc c.args.depth))) c.args.at c.loop-next.conds.items c.loop-next.rest c.loop-next.invariant.front c.in_default.ensures.none,
   (c.any_of.ensures, refl),
 )
 

@@ -21,20 +21,20 @@ decreases-both l = 4 * l.depth + 2
 abbrev pub decreases-either : goal.decreases-either
 decreases-either l = 4 * l.depth + 3
 
-abbrev pub invariant-both-conds : goal.invariant-both-conds
-invariant-both-conds l = record {
+abbrev pub invariant-both-loop-next : goal.invariant-both-loop-next
+invariant-both-loop-next l = record {
   front : IsFront (Follows (Operator And)) (Within l.dictionary (suc l.depth)) l.fn.at l.conds.items l.rest;
   within : length l.rest.text ≤ length l.fn.at.text;
 }
 
-abbrev pub decreases-both-conds : goal.decreases-both-conds
-decreases-both-conds l = length l.rest.text
+abbrev pub decreases-both-loop-next : goal.decreases-both-loop-next
+decreases-both-loop-next l = length l.rest.text
 
-abbrev pub invariant-either-conds : goal.invariant-either-conds
-invariant-either-conds l = record {
+abbrev pub invariant-either-loop-next : goal.invariant-either-loop-next
+invariant-either-loop-next l = record {
   front : IsFront (Follows (Operator Or)) (Both (Within l.dictionary (suc l.depth))) l.fn.at l.conds.items l.rest;
   within : length l.rest.text ≤ length l.fn.at.text;
 }
 
-abbrev pub decreases-either-conds : goal.decreases-either-conds
-decreases-either-conds l = length l.rest.text
+abbrev pub decreases-either-loop-next : goal.decreases-either-loop-next
+decreases-either-loop-next l = length l.rest.text

@@ -3,8 +3,8 @@ use Rattle.avp_unlang.specs.Parts.{is_left, PartIs}
 use Rattle.avp_unlang.proofs.ValueRuns.{IsRun}
 use Rattle.avp_unlang.proofs.text.parts.parts.Given as goal
 
-abbrev pub invariant-parts : goal.invariant-parts
-invariant-parts l = IsRun is_left (PartIs l.dictionary) l.initial.rest l.parts.items l.rest
+abbrev pub invariant-loop-rest : goal.invariant-loop-rest
+invariant-loop-rest l = IsRun is_left (PartIs l.dictionary) l.initial.rest l.parts.items l.rest
 
-abbrev pub decreases-parts : goal.decreases-parts
-decreases-parts l = length l.rest
+abbrev pub decreases-loop-rest : goal.decreases-loop-rest
+decreases-loop-rest l = length l.rest

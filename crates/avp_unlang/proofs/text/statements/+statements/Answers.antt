@@ -63,8 +63,8 @@ branches-returns-in_err-first-clause-read t c =
     exits (Chain (Follows elsif_word) (BranchIs c.args.dictionary.now c.args.depth (Nested c.args.dictionary.now c.args.depth)) c.args.at) _ _ c.from_residual.ensures.1
     (chain_stops (Follows elsif_word) (BranchIs c.args.dictionary.now c.args.depth (Nested c.args.dictionary.now c.args.depth)) c.args.at c.in_err-first.field-0.0 c.in_err-first.ensures.read)
 
-pub branches-branches-init : goal.branches-branches-init
-branches-branches-init t c =
+pub branches-loop-next-init : goal.branches-loop-next-init
+branches-loop-next-init t c =
     record {
       front =
           front_one (Follows elsif_word) (BranchIs c.args.dictionary.now c.args.depth (Nested c.args.dictionary.now c.args.depth)) (branch_one c.args.dictionary.now c.args.depth (Nested c.args.dictionary.now c.args.depth) (nested_one c.args.dictionary.now c.args.depth)) c.args.at c.in_ok-first.first c.in_ok-first.rest
@@ -75,22 +75,22 @@ branches-branches-init t c =
 pub branches-returns-in_err-branch-clause-read : goal.branches-returns-in_err-branch-clause-read
 branches-returns-in_err-branch-clause-read t c =
     exits (Chain (Follows elsif_word) (BranchIs c.args.dictionary.now c.args.depth (Nested c.args.dictionary.now c.args.depth)) c.args.at) _ _ c.from_residual-in_err-branch.ensures.1
-    (front_stops (Follows elsif_word) (BranchIs c.args.dictionary.now c.args.depth (Nested c.args.dictionary.now c.args.depth)) (follows_sure elsif_word) c.args.at c.branches.branches.items c.branches.rest c.in-Some.next
-    c.branches.invariant.front c.in-Some.ensures.found c.in_err-branch.field-0.0 c.in_err-branch.ensures.read)
+    (front_stops (Follows elsif_word) (BranchIs c.args.dictionary.now c.args.depth (Nested c.args.dictionary.now c.args.depth)) (follows_sure elsif_word) c.args.at c.loop-next.branches.items c.loop-next.rest c.in-Some.next
+    c.loop-next.invariant.front c.in-Some.ensures.found c.in_err-branch.field-0.0 c.in_err-branch.ensures.read)
 
-pub branches-branches-preserved : goal.branches-branches-preserved
-branches-branches-preserved t c =
+pub branches-loop-next-preserved : goal.branches-loop-next-preserved
+branches-loop-next-preserved t c =
     record {
       front =
-          front_more (Follows elsif_word) (BranchIs c.args.dictionary.now c.args.depth (Nested c.args.dictionary.now c.args.depth)) (follows_sure elsif_word) (branch_one c.args.dictionary.now c.args.depth (Nested c.args.dictionary.now c.args.depth) (nested_one c.args.dictionary.now c.args.depth)) c.args.at c.branches.branches.items c.branches.rest
-          c.in-Some.next c.in_ok-branch.branch c.in_ok-branch.end c.branches.invariant.front c.in-Some.ensures.found c.in_ok-branch.ensures.read c.push-in-Some.new.self.items c.in_ok-push-2.ensures.items;
-      within = omega (arith, c.in-Some.ensures.shorter, c.in_ok-branch.ensures.shorter, c.branches.invariant.within);
+          front_more (Follows elsif_word) (BranchIs c.args.dictionary.now c.args.depth (Nested c.args.dictionary.now c.args.depth)) (follows_sure elsif_word) (branch_one c.args.dictionary.now c.args.depth (Nested c.args.dictionary.now c.args.depth) (nested_one c.args.dictionary.now c.args.depth)) c.args.at c.loop-next.branches.items c.loop-next.rest
+          c.in-Some.next c.in_ok-branch.branch c.in_ok-branch.end c.loop-next.invariant.front c.in-Some.ensures.found c.in_ok-branch.ensures.read c.push-in-Some.new.self.items c.in_ok-push-2.ensures.items;
+      within = omega (arith, c.in-Some.ensures.shorter, c.in_ok-branch.ensures.shorter, c.loop-next.invariant.within);
     }
 
 pub branches-returns-clause-read : goal.branches-returns-clause-read
 branches-returns-clause-read t c =
-    subst (λ found. Chain (Follows elsif_word) (BranchIs c.args.dictionary.now c.args.depth (Nested c.args.dictionary.now c.args.depth)) c.args.at found c.branches.rest) (sym c.from_vec.ensures)
-    (front_done (Follows elsif_word) (BranchIs c.args.dictionary.now c.args.depth (Nested c.args.dictionary.now c.args.depth)) c.args.at c.branches.branches.items c.branches.rest c.branches.invariant.front c.in_default.ensures.none)
+    subst (λ found. Chain (Follows elsif_word) (BranchIs c.args.dictionary.now c.args.depth (Nested c.args.dictionary.now c.args.depth)) c.args.at found c.loop-next.rest) (sym c.from_vec.ensures)
+    (front_done (Follows elsif_word) (BranchIs c.args.dictionary.now c.args.depth (Nested c.args.dictionary.now c.args.depth)) c.args.at c.loop-next.branches.items c.loop-next.rest c.loop-next.invariant.front c.in_default.ensures.none)
 
 pub conditional-returns-in_err-branches-clause-read : goal.conditional-returns-in_err-branches-clause-read
 conditional-returns-in_err-branches-clause-read t c =
@@ -133,18 +133,18 @@ statement-returns-in-Code-clause-read t c =
 pub statements-returns-in_err-found-clause-read : goal.statements-returns-in_err-found-clause-read
 statements-returns-in_err-found-clause-read t c =
     exits (While begins_word (Nested c.args.dictionary.now (suc c.args.depth)) c.args.at) _ _ c.from_residual.ensures.1
-    (run_stops begins_word (Nested c.args.dictionary.now (suc c.args.depth)) c.args.at c.statements.statements.items c.statements.rest c.statements.invariant.run (sym c.statements-test.ensures) c.in_err-found.field-0.0 c.in_err-found.ensures.read)
+    (run_stops begins_word (Nested c.args.dictionary.now (suc c.args.depth)) c.args.at c.loop-alloc.statements.items c.loop-alloc.rest c.loop-alloc.invariant.run (sym c.loop-alloc-test.ensures) c.in_err-found.field-0.0 c.in_err-found.ensures.read)
 
-pub statements-statements-preserved : goal.statements-statements-preserved
-statements-statements-preserved t c =
+pub statements-loop-alloc-preserved : goal.statements-loop-alloc-preserved
+statements-loop-alloc-preserved t c =
     record {
       run =
-          run_more begins_word (Nested c.args.dictionary.now (suc c.args.depth)) (nested_one c.args.dictionary.now (suc c.args.depth)) c.args.at c.statements.statements.items c.statements.rest c.in_ok-found.found c.in_ok-found.end
-          c.statements.invariant.run (sym c.statements-test.ensures) c.in_ok-found.ensures.read c.push.new.self.items c.in_ok-push.ensures.items;
-      within = omega (arith, c.in_ok-found.ensures.shorter, c.statements.invariant.within);
+          run_more begins_word (Nested c.args.dictionary.now (suc c.args.depth)) (nested_one c.args.dictionary.now (suc c.args.depth)) c.args.at c.loop-alloc.statements.items c.loop-alloc.rest c.in_ok-found.found c.in_ok-found.end
+          c.loop-alloc.invariant.run (sym c.loop-alloc-test.ensures) c.in_ok-found.ensures.read c.push.new.self.items c.in_ok-push.ensures.items;
+      within = omega (arith, c.in_ok-found.ensures.shorter, c.loop-alloc.invariant.within);
     }
 
 pub statements-returns-clause-read : goal.statements-returns-clause-read
 statements-returns-clause-read t c =
-    subst (λ found. While begins_word (Nested c.args.dictionary.now (suc c.args.depth)) c.args.at found c.statements.rest) (sym c.from_vec.ensures)
-    (run_done begins_word (Nested c.args.dictionary.now (suc c.args.depth)) c.args.at c.statements.statements.items c.statements.rest c.statements.invariant.run (sym c.statements-test.ensures))
+    subst (λ found. While begins_word (Nested c.args.dictionary.now (suc c.args.depth)) c.args.at found c.loop-alloc.rest) (sym c.from_vec.ensures)
+    (run_done begins_word (Nested c.args.dictionary.now (suc c.args.depth)) c.args.at c.loop-alloc.statements.items c.loop-alloc.rest c.loop-alloc.invariant.run (sym c.loop-alloc-test.ensures))

@@ -30,20 +30,20 @@ decreases-statement l = 8 * l.depth + 5
 abbrev pub decreases-statements : goal.decreases-statements
 decreases-statements l = 8 * l.depth + 6
 
-abbrev pub invariant-statements-statements : goal.invariant-statements-statements
-invariant-statements-statements l = record {
+abbrev pub invariant-statements-loop-alloc : goal.invariant-statements-loop-alloc
+invariant-statements-loop-alloc l = record {
   run : IsRun begins_word (Nested l.dictionary (suc l.depth)) l.initial.rest l.statements.items l.rest;
   within : length l.rest.text ≤ length l.initial.rest.text;
 }
 
-abbrev pub decreases-statements-statements : goal.decreases-statements-statements
-decreases-statements-statements l = length l.rest.text
+abbrev pub decreases-statements-loop-alloc : goal.decreases-statements-loop-alloc
+decreases-statements-loop-alloc l = length l.rest.text
 
-abbrev pub invariant-branches-branches : goal.invariant-branches-branches
-invariant-branches-branches l = record {
+abbrev pub invariant-branches-loop-next : goal.invariant-branches-loop-next
+invariant-branches-loop-next l = record {
   front : IsFront (Follows elsif_word) (BranchIs l.dictionary l.depth (Nested l.dictionary l.depth)) l.fn.at l.branches.items l.rest;
   within : length l.rest.text < length l.fn.at.text;
 }
 
-abbrev pub decreases-branches-branches : goal.decreases-branches-branches
-decreases-branches-branches l = length l.rest.text
+abbrev pub decreases-branches-loop-next : goal.decreases-branches-loop-next
+decreases-branches-loop-next l = length l.rest.text

@@ -1,11 +1,11 @@
-"""Runs of a prepared policy: how often one asks for memory, that none leaves any behind, and each growth refused."""
+"""Runs of a prepared policy: how often one asks for memory, that it gives all back, and each allocation refused."""
 from pathlib import Path
 from typing import List, NamedTuple
 
 from common.report import Report
 from common.subject import Subject, new_folder, on_all
-from growths.address_space import SERVER
-from growths.refusing import Refusals, Refused
+from allocations.address_space import SERVER
+from allocations.refusing import Refusals, Refused
 
 ROOT = Path(__file__).parent.parent.parent
 POLICY = b"""if (&reply:Class == 0x01 && &control:Session-Timeout > 6) {
@@ -49,7 +49,7 @@ def sets() -> List[Driven]:
 
 
 def drive(subject: Subject, driven: Driven, count: int, first: int = 0) -> Refused:
-    """Runs the policy so often, and refuses one growth."""
+    """Runs the policy so often, and refuses one allocation."""
     with new_folder() as folder:
         for name, octets in FILES.items():
             (folder / name).write_bytes(octets)
@@ -60,14 +60,14 @@ def drive(subject: Subject, driven: Driven, count: int, first: int = 0) -> Refus
 def check_counts(subject: Subject, report: Report, driven: Driven) -> int:
     """Runs one and two, and many: what one more asks for, and that nothing is left behind. """
     none, one, two, many = (drive(subject, driven, count) for count in (0, 1, 2, 500))
-    growths = two.asked - one.asked
+    allocations = two.asked - one.asked
     wrong = [] if two.ended.output.endswith(REPORT + packet_line(two)) else [f"another report: {two.ended}"]
-    if many.asked - one.asked != 499 * growths:
+    if many.asked - one.asked != 499 * allocations:
         wrong.append(f"500 runs ask for memory {many.asked} times, one {one.asked}")
     if many.held != one.held:
         wrong.append(f"after 500 runs {many.held} pieces are held, after one {one.held}")
-    report.check(f"a run by {driven.name} asks for memory {growths} times, and gives all back", wrong)
-    return growths
+    report.check(f"a run by {driven.name} asks for memory {allocations} times, and gives all back", wrong)
+    return allocations
 
 
 def packet_line(run: Refused) -> bytes:
@@ -76,17 +76,17 @@ def packet_line(run: Refused) -> bytes:
     return line if line.startswith(b"packet 0307") else b"packet"
 
 
-def refused_first(subject: Subject, driven: Driven, growth: int, whole: Refused) -> List[str]:
-    """Refuses a growth of the first of two runs: it is told, and the second run is as ever; or nothing changes."""
-    run = drive(subject, driven, 2, growth)
+def refused_first(subject: Subject, driven: Driven, allocation: int, whole: Refused) -> List[str]:
+    """Refuses an allocation of the first of two runs: it is told, and the second run is as ever; or nothing changes."""
+    run = drive(subject, driven, 2, allocation)
     told = [b"0 of 2 refused", b"1 of 2 refused"]
     lines = run.ended.output.splitlines(keepends=True)
     if run.refused != 1 or run.ended.status or run.ended.errors:
-        return [f"growth {growth}: {run.ended}"]
+        return [f"allocation {allocation}: {run.ended}"]
     refused = lines[0] == b"run 0 refused: 9\n"
     rest = lines[1:] if refused else lines
     same = rest[1:] == whole.ended.output.splitlines(keepends=True)[1:]
-    return [] if same and rest[0].rstrip() == told[refused] else [f"growth {growth}: {run.ended.output!r}"]
+    return [] if same and rest[0].rstrip() == told[refused] else [f"allocation {allocation}: {run.ended.output!r}"]
 
 
 def check(subject: Subject, report: Report) -> None:
@@ -98,6 +98,7 @@ def check(subject: Subject, report: Report) -> None:
         report.say(f"only with the small set, since {SERVER} is not there")
     small = sets()[0]
     before, one, two = drive(subject, small, 0).asked, drive(subject, small, 1), drive(subject, small, 2)
-    growths = range(before + 1, before + 1 + counts[small.name])
-    wrong = on_all(lambda growth: refused_first(subject, small, growth, two), growths)
-    report.check(f"{len(growths)} growths of a run, each refused", [fault for faults in wrong for fault in faults])
+    allocations = range(before + 1, before + 1 + counts[small.name])
+    wrong = on_all(lambda allocation: refused_first(subject, small, allocation, two), allocations)
+    faults = [fault for of_one in wrong for fault in of_one]
+    report.check(f"{len(allocations)} allocations of a run, each refused", faults)

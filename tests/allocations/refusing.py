@@ -1,4 +1,4 @@
-"""Runs programs with growths of their memory refused."""
+"""Runs programs with allocations of their memory refused."""
 import mmap
 import os
 import struct
@@ -13,8 +13,8 @@ from common.subject import Subject
 
 NUMBERS = struct.Struct("6q")
 ALL_LATER = 2**62
-SOURCE = Path(__file__).with_name("refuse_growths.c")
-MADE = Path(__file__).parent / "out" / "refuse_growths.so"
+SOURCE = Path(__file__).with_name("refuse_allocations.c")
+MADE = Path(__file__).parent / "out" / "refuse_allocations.so"
 MAKING = threading.Lock()
 
 
@@ -49,19 +49,19 @@ class Refused(NamedTuple):
 
 
 class Refusals:
-    """Refuses growths of the programs that it runs, one program at a time."""
+    """Refuses allocations of the programs that it runs, one program at a time."""
 
     def __init__(self, subject: Subject, folder: Path) -> None:
-        self._file = folder / f"growths-{os.urandom(4).hex()}"
+        self._file = folder / f"allocations-{os.urandom(4).hex()}"
         self._file.write_bytes(bytes(NUMBERS.size))
         with open(self._file, "r+b") as file:
             self._page = mmap.mmap(file.fileno(), NUMBERS.size)
-        self._environment = {"LD_PRELOAD": str(library(subject)), "GROWTHS": str(self._file)}
+        self._environment = {"LD_PRELOAD": str(library(subject)), "ALLOCATIONS": str(self._file)}
 
     def run(
         self, command: Sequence[Word], folder: Path, first: int, last: Optional[int] = None, stdin: bytes = b""
     ) -> Refused:
-        """Runs a command with its growths from the first to the last refused, or the first alone."""
+        """Runs a command with its allocations from the first to the last refused, or the first alone."""
         NUMBERS.pack_into(self._page, 0, first, first if last is None else last, 0, 0, 0, 0)
         ended = run(command, folder, stdin, self._environment)
         _, _, asked, refused, _, held = NUMBERS.unpack_from(self._page)

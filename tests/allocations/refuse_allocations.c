@@ -1,9 +1,9 @@
 // Preloaded into a program, it counts each time that the program asks for memory, and refuses some.
 //
-// GROWTHS names a file of six numbers of eight octets, which is shared with whoever started the program: the first
-// growth to refuse and the last one, both counted from 1, and then what is told, how often the program asked, how
-// often it was refused, how many pieces of memory it holds, and how many it held when it last asked. Growths before the
-// program's own start are not counted. It is made without headers and without a C library's start files, so that the
+// ALLOCATIONS names a file of six numbers of eight octets, which is shared with whoever started the program: the first
+// allocation to refuse and the last one, both counted from 1, and then what is told, how often the program asked, how
+// often it was refused, how many pieces of memory it holds, and how many it held when it last asked. Allocations before
+// the program's own start are not counted. It is made without headers and without a C library's start files, so that the
 // kit's clang is all that is needed.
 
 typedef unsigned long size;
@@ -20,34 +20,34 @@ extern void *mmap(void *, size, int, int, int, long);
 
 enum { READ_WRITE = 2, PROT_READ_WRITE = 3, MAP_SHARED = 1, NO_MEMORY = 12 };
 
-struct growths {
+struct allocations {
     long first, last, asked, refused, held, held_last;
 };
 
-static struct growths nowhere = {0, 0, 0, 0, 0, 0};
-static volatile struct growths *growths = &nowhere;
+static struct allocations nowhere = {0, 0, 0, 0, 0, 0};
+static volatile struct allocations *allocations = &nowhere;
 
 __attribute__((constructor)) static void begin(void) {
-    const char *name = getenv("GROWTHS");
+    const char *name = getenv("ALLOCATIONS");
     int file = name ? open(name, READ_WRITE) : -1;
-    void *page = file < 0 ? (void *)-1 : mmap(0, sizeof(struct growths), PROT_READ_WRITE, MAP_SHARED, file, 0);
+    void *page = file < 0 ? (void *)-1 : mmap(0, sizeof(struct allocations), PROT_READ_WRITE, MAP_SHARED, file, 0);
     if (page != (void *)-1)
-        growths = page;
+        allocations = page;
 }
 
 static int is_refused(void) {
-    long growth = ++growths->asked;
-    growths->held_last = growths->held;
-    if (growth < growths->first || growths->last < growth)
+    long allocation = ++allocations->asked;
+    allocations->held_last = allocations->held;
+    if (allocation < allocations->first || allocations->last < allocation)
         return 0;
-    growths->refused++;
+    allocations->refused++;
     *__errno_location() = NO_MEMORY;
     return 1;
 }
 
 static void *counted(void *made) {
     if (made)
-        growths->held++;
+        allocations->held++;
     return made;
 }
 
@@ -78,6 +78,6 @@ int posix_memalign(void **made, size alignment, size octets) {
 
 void free(void *old) {
     if (old)
-        growths->held--;
+        allocations->held--;
     __libc_free(old);
 }

@@ -4,7 +4,7 @@ from typing import List, Tuple
 
 from common.report import Report
 from common.subject import Subject, new_folder
-from growths.refusing import Refusals
+from allocations.refusing import Refusals
 
 DICTIONARY = Path(__file__).parent.parent / "cases" / "dictionary"
 MAX_MORE = 10
@@ -29,7 +29,7 @@ PACKETS: List[Tuple[str, bytes, int]] = [
 ]
 
 
-def growths_of(subject: Subject, octets: bytes, count: int) -> int:
+def allocations_of(subject: Subject, octets: bytes, count: int) -> int:
     """How often a program asks for memory that decodes the packet so many times."""
     with new_folder() as folder:
         (folder / "packet").write_bytes(octets)
@@ -44,6 +44,6 @@ def check(subject: Subject, report: Report) -> None:
     """Each packet, by the difference of one more decode."""
     for name, attributes, values in PACKETS:
         octets = packet(attributes)
-        growths = growths_of(subject, octets, 2) - growths_of(subject, octets, 1)
-        wrong = [] if growths <= values + MAX_MORE else [f"more than {MAX_MORE} above its {values} values"]
-        report.check(f"a decode of {name} asks for memory {growths} times", wrong)
+        allocations = allocations_of(subject, octets, 2) - allocations_of(subject, octets, 1)
+        wrong = [] if allocations <= values + MAX_MORE else [f"more than {MAX_MORE} above its {values} values"]
+        report.check(f"a decode of {name} asks for memory {allocations} times", wrong)

@@ -1,4 +1,4 @@
-"""Stores with each growth of their calls refused in turn: a refusal changes nothing, and the store is used on."""
+"""Stores with each allocation of their calls refused in turn: a refusal changes nothing, and the store is used on."""
 import itertools
 from pathlib import Path
 from typing import Counter, Iterator, List, NamedTuple, Optional, Sequence, Tuple
@@ -6,8 +6,8 @@ from typing import Counter, Iterator, List, NamedTuple, Optional, Sequence, Tupl
 from common.program import Word
 from common.report import Report
 from common.subject import Subject, new_folder, on_all
-from growths.refusing import ALL_LATER, Refusals, Refused
-from growths.store_model import FIRST, NAMES, Store, told
+from allocations.refusing import ALL_LATER, Refusals, Refused
+from allocations.store_model import FIRST, NAMES, Store, told
 
 STORES = ("snapshots", "slots")
 OUT_OF_MEMORY = b"Error: Kind(OutOfMemory)\n"
@@ -41,7 +41,7 @@ BEFORE_LATER = ["reply += 25 9", "undo", "reply += 25 8", "redo", "list reply"]
 REFUSED_EDIT = 2
 # An append to as many pairs as leave room for one, after a call that takes memory.
 TO_MANY = ["reply !* 18 0", "reply !* 25 0", *["reply += 25 1"] * 4095, "list request", "reply += 25 2"]
-MAX_GROWTHS = 10
+MAX_ALLOCATIONS = 10
 # An append and its undo, how many appends are made, and the calls that make a list full.
 UNDONE = ["control += 25 2", "undo"]
 APPENDS = 1000
@@ -91,35 +91,35 @@ def kind_of(script: List[str], at: int) -> str:
 
 
 def runs(refusals: Refusals, command: Sequence[Word], folder: Path, all_later: bool) -> Iterator[Tuple[int, Refused]]:
-    """The runs with the first, the second and each later growth refused, until none is; that one too."""
-    for growth in itertools.count(1):
-        run = refusals.run(command, folder, growth, ALL_LATER if all_later else growth)
-        yield growth, run
+    """The runs with the first, the second and each later allocation refused, until none is; that one too."""
+    for allocation in itertools.count(1):
+        run = refusals.run(command, folder, allocation, ALL_LATER if all_later else allocation)
+        yield allocation, run
         if not run.refused:
             return
 
 
 def swept(subject: Subject, store: str, script: List[str], all_later: bool) -> Tuple[List[str], Counter[str]]:
-    """Each growth of a script refused in turn: what is wrong, and how often each kind of call was refused."""
+    """Each allocation of a script refused in turn: what is wrong, and how often each kind of call was refused."""
     wrong, kinds = [], Counter[str]()
     command = [str(subject.driver("drive_store")), store, *script]
     with new_folder() as folder:
-        for growth, run in runs(Refusals(subject, folder), command, folder, all_later):
+        for allocation, run in runs(Refusals(subject, folder), command, folder, all_later):
             ended = run.ended
             if ended.status == 1 and ended.errors == OUT_OF_MEMORY and (not ended.output or all_later):
                 continue
             found = follow(script, ended.output.decode())
             kinds.update(kind_of(script, at) for at in found.refused)
             if found.fault or ended.status:
-                wrong.append(f"growth {growth} of {run.asked}: status {ended.status}, {found.fault}")
+                wrong.append(f"allocation {allocation} of {run.asked}: status {ended.status}, {found.fault}")
             elif not all_later and len(found.refused) > run.refused:
-                wrong.append(f"growth {growth}: {len(found.refused)} calls were refused")
+                wrong.append(f"allocation {allocation}: {len(found.refused)} calls were refused")
     return wrong, kinds
 
 
 def check_without_memory(subject: Subject, report: Report, store: str) -> None:
-    """From the last growth on every one is refused. It was that of the last call that takes memory, so the calls after
-    it asked for none."""
+    """From the last allocation on every one is refused. It was that of the last call that takes memory, so the calls
+    after it asked for none."""
     command = [str(subject.driver("drive_store")), store, *WITHOUT_MEMORY]
     with new_folder() as folder:
         refusals = Refusals(subject, folder)
@@ -129,7 +129,7 @@ def check_without_memory(subject: Subject, report: Report, store: str) -> None:
     wrong = [found.fault] if found.fault else []
     if found.refused != [LAST_WITH_MEMORY] or run.asked != asked:
         wrong.append(f"asked {asked} and then {run.asked} times, refused at the calls {found.refused}")
-    report.check(f"calls of {store} that take no memory, with every growth refused", wrong)
+    report.check(f"calls of {store} that take no memory, with every allocation refused", wrong)
 
 
 def check_later_state(subject: Subject, report: Report, store: str) -> None:
@@ -146,18 +146,18 @@ def check_later_state(subject: Subject, report: Report, store: str) -> None:
 
 
 def check_append_to_many(subject: Subject, report: Report) -> None:
-    """An append to 4,095 pairs in slots is made with every growth after its tenth refused. With all from the eleventh
-    last on refused the call before it is refused already, so the append asks for ten at most."""
+    """An append to 4,095 pairs in slots is made with every allocation after its tenth refused. With all from the
+    eleventh last on refused the call before it is refused already, so the append asks for ten at most."""
     command = [str(subject.driver("drive_store")), "slots", *TO_MANY]
     with new_folder() as folder:
         refusals = Refusals(subject, folder)
         whole = refusals.run(command, folder, 0)
-        few = refusals.run(command, folder, whole.asked - MAX_GROWTHS, ALL_LATER)
+        few = refusals.run(command, folder, whole.asked - MAX_ALLOCATIONS, ALL_LATER)
     answer, state = whole.ended.output.decode().splitlines()[-2:]
     wrong = [] if answer == "done" and " pairs 1 4096 0 " in state else [f"it answered {answer}, {state}"]
     listed = few.ended.output.decode().splitlines()[-4]
-    wrong += [] if listed == "refused" else [f"it asks for more than {MAX_GROWTHS} growths"]
-    report.check("an append to 4,095 pairs in slots, with every growth after its tenth refused", wrong)
+    wrong += [] if listed == "refused" else [f"it asks for more than {MAX_ALLOCATIONS} allocations"]
+    report.check("an append to 4,095 pairs in slots, with every allocation after its tenth refused", wrong)
 
 
 def held_after(subject: Subject, report: Report, store: str, calls: List[str], filling: int) -> int:
@@ -183,14 +183,14 @@ def check_pairs_held(subject: Subject, report: Report) -> None:
 
 
 def check_sweeps(subject: Subject, report: Report, store: str) -> None:
-    """Each script, each growth alone and with all later ones; every kind of call was refused in one of them."""
+    """Each script, each allocation alone and with all later ones; every kind of call was refused in one of them."""
     works = [(name, all_later) for name in SCRIPTS for all_later in (False, True)]
     found = on_all(lambda work: swept(subject, store, SCRIPTS[work[0]], work[1]), works)
     kinds = Counter[str]()
     for (name, all_later), (wrong, refused) in zip(works, found):
         kinds += refused
         how = "with all later ones" if all_later else "alone"
-        report.check(f"growths of {store}, {name}, {how}: {sum(refused.values())} calls refused", wrong)
+        report.check(f"allocations of {store}, {name}, {how}: {sum(refused.values())} calls refused", wrong)
     missed = sorted(KINDS - set(kinds))
     report.check(f"calls of {store} that were refused: {dict(kinds)}", [f"none of {it}" for it in missed])
 

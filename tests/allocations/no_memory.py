@@ -1,4 +1,4 @@
-"""Calls that take no memory, made with every growth refused."""
+"""Calls that take no memory, made with every allocation refused."""
 from pathlib import Path
 from typing import List
 
@@ -6,7 +6,7 @@ from common.cases import from_folder
 from common.documents import faults, line_of
 from common.report import Report
 from common.subject import Subject, new_folder
-from growths.refusing import ALL_LATER, Refusals
+from allocations.refusing import ALL_LATER, Refusals
 
 CASES = Path(__file__).parent.parent / "cases"
 DICTIONARY_END = """ATTRIBUTE Skipped 300.1 integer
@@ -33,7 +33,7 @@ reply true
 
 
 def check_look_ups(subject: Subject, report: Report) -> None:
-    """From the last growth on every one is refused. It came before the line `begin`, so nothing after it asked."""
+    """From the last allocation on every one is refused. It came before the line `begin`, so nothing after it asked."""
     text = (CASES / "dictionary").read_text() + DICTIONARY_END
     command = [str(subject.driver("drive_lookups")), text, ATTRIBUTES, REQUEST, *NAMES]
     with new_folder() as folder:
@@ -46,21 +46,21 @@ def check_look_ups(subject: Subject, report: Report) -> None:
     if not told.startswith(ANSWERS) or len(told.splitlines()) < len(ANSWERS.splitlines()) + len(NAMES):
         wrong.append(f"status {free.ended.status}, {free.ended.errors!r}, told {told}")
     if last.ended.output:
-        wrong.append(f"the last of {free.asked} growths came after this: {last.ended.output.decode()}")
+        wrong.append(f"the last of {free.asked} allocations came after this: {last.ended.output.decode()}")
     if (after.ended.output, after.asked) != (free.ended.output, free.asked):
         wrong.append(f"asked {after.asked} times in place of {free.asked}")
-    report.check(f"look-ups and packets with every growth after {free.asked} refused", wrong)
+    report.check(f"look-ups and packets with every allocation after {free.asked} refused", wrong)
 
 
 def check_fault(subject: Subject, report: Report) -> None:
-    """With every growth refused the program still prints its fault and has its status."""
+    """With every allocation refused the program still prints its fault and has its status."""
     case = from_folder(CASES / "reply-to-a-packet")
     with new_folder() as folder:
         case.place(folder)
         ended = Refusals(subject, folder).run([subject.program, *case.words], folder, 1, ALL_LATER).ended
     wanted = (4, b"", line_of(faults(subject.root)["E09"]))
     found = (ended.status, ended.output, ended.errors)
-    report.check("the program with every growth refused", [] if found == wanted else [f"{found}"])
+    report.check("the program with every allocation refused", [] if found == wanted else [f"{found}"])
 
 
 def check(subject: Subject, report: Report) -> None:

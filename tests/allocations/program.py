@@ -1,4 +1,4 @@
-"""The program with each growth refused in turn: it ends with want of memory and nothing written, or as ever."""
+"""The program with each allocation refused in turn: it ends with want of memory and nothing written, or as ever."""
 import itertools
 from pathlib import Path
 from typing import List, NamedTuple, Optional
@@ -8,7 +8,7 @@ from common.documents import faults, line_of
 from common.program import Ended
 from common.report import Report
 from common.subject import Subject, new_folder, on_all
-from growths.refusing import ALL_LATER, Refusals
+from allocations.refusing import ALL_LATER, Refusals
 
 WORKERS = 2
 
@@ -29,20 +29,20 @@ def judged(ended: Ended, wanted: bytes, fault: bytes) -> Optional[bool]:
 
 
 def sweep(subject: Subject, case: Case, fault: bytes, first: int, all_later: bool) -> Sweep:
-    """Refuses every second growth from the first on, each alone or with all later ones, until none is refused."""
+    """Refuses every second allocation from the first on, each alone or with all later ones, until none is refused."""
     counts, wrong = {True: 0, False: 0}, []
     with new_folder() as folder:
         case.place(folder)
         refusals = Refusals(subject, folder)
-        for growth in itertools.count(first, WORKERS):
-            last = ALL_LATER if all_later else growth
-            run = refusals.run([subject.program, *case.words], folder, growth, last, case.stdin)
+        for allocation in itertools.count(first, WORKERS):
+            last = ALL_LATER if all_later else allocation
+            run = refusals.run([subject.program, *case.words], folder, allocation, last, case.stdin)
             is_refused = judged(run.ended, case.output, fault)
             if run.refused == 0:
                 wrong += [] if is_refused is False else [f"nothing refused: {run.ended}"]
                 return Sweep(counts[True], counts[False], wrong)
             if is_refused is None:
-                wrong.append(f"growth {growth} refused: {run.ended}")
+                wrong.append(f"allocation {allocation} refused: {run.ended}")
             else:
                 counts[is_refused] += 1
 
@@ -55,7 +55,7 @@ def check_case(subject: Subject, report: Report, case: Case, fault: bytes) -> in
     refused, exact = sum(it.refused for it in sweeps), sum(it.exact for it in sweeps)
     if not refused:
         wrong.append("no run was refused")
-    report.check(f"growths of {case.name}: {refused} runs refused, {exact} done without that growth", wrong)
+    report.check(f"allocations of {case.name}: {refused} runs refused, {exact} done without that allocation", wrong)
     return refused + exact
 
 
@@ -64,4 +64,4 @@ def check(subject: Subject, report: Report) -> None:
     fault = line_of(faults(subject.root)["E09"])
     cases = cases_below(Path(__file__).parent.parent / "cases")
     runs = sum(check_case(subject, report, case, fault) for case in cases)
-    report.say(f"{runs} growths of the program were refused")
+    report.say(f"{runs} allocations of the program were refused")

@@ -6,9 +6,9 @@ from common.cases import from_folder
 from common.program import Word
 from common.report import Report
 from common.subject import Subject, new_folder, on_all
-from growths.refusing import Refusals
-from growths.stores import STORES, runs
-from growths.walk_model import Answered, Stand, Walk, answers
+from allocations.refusing import Refusals
+from allocations.stores import STORES, runs
+from allocations.walk_model import Answered, Stand, Walk, answers
 
 CASES = Path(__file__).parent.parent / "cases"
 # For each policy the lines whose step adds octets to a list, which takes memory in every store.
@@ -81,29 +81,30 @@ def is_held_up_inside(moves: List[str], walked: Walked) -> bool:
 
 
 def swept(subject: Subject, store: str, case: str, moves: List[str], all_later: bool) -> Swept:
-    """Each growth of a script refused in turn."""
+    """Each allocation of a script refused in turn."""
     trace, wrong, labels, held_up = trace_of(subject, store, case), [], set(), 0
     command = command_of(subject, store, case, moves)
     with new_folder() as folder:
-        for growth, run in runs(Refusals(subject, folder), command, folder, all_later):
+        for allocation, run in runs(Refusals(subject, folder), command, folder, all_later):
             ended = run.ended
             if ended.status == 1 and b"at 0" not in ended.output:
                 continue  # the program's own preparation was refused
             walked = follow(trace, moves, ended.output.decode())
             if ended.status or walked.fault:
-                wrong.append(f"growth {growth}: status {ended.status}, {walked.fault}")
+                wrong.append(f"allocation {allocation}: status {ended.status}, {walked.fault}")
             labels |= {trace[at].label for at in walked.refused}
             held_up += not walked.fault and walked.refused == [5] and is_held_up_inside(moves, walked)
     return Swept(wrong, labels, held_up)
 
 
 def check_case(subject: Subject, report: Report, store: str, case: str) -> None:
-    """Each script over a policy, each growth alone and with all later ones. Each line that adds is refused in one."""
+    """Each script over a policy, each allocation alone and with all later ones. Each line that adds is refused in
+    one."""
     works = [(name, all_later) for name in SCRIPTS for all_later in (False, True)]
     found = on_all(lambda work: swept(subject, store, case, SCRIPTS[work[0]], work[1]), works)
     for (name, all_later), it in zip(works, found):
         how = "with all later ones" if all_later else "alone"
-        report.check(f"growths of a walk over {case} on {store}, {name}, {how}", it.wrong)
+        report.check(f"allocations of a walk over {case} on {store}, {name}, {how}", it.wrong)
     if case == "nested-transactions":
         held_up = sum(it.held_up for it in found)
         report.check(f"a walk on {store} held up inside two transactions", [] if held_up else ["none was"])
