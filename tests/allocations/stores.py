@@ -171,11 +171,12 @@ def held_after(subject: Subject, report: Report, store: str, calls: List[str], f
 
 
 def check_pairs_held(subject: Subject, report: Report) -> None:
-    """What slots hold, by how many pieces of memory there are: one for a pair, and one for the record of a step. Appends
-    that are undone leave one of each at the most, and appends beside a full list one of each for every append. As many
-    words are given each time, so that these take the same."""
+    """What slots hold, by how many pieces of memory there are: one for a pair, one for the record of a step, and one
+    for the places at an end of a list. Appends to an empty list that are undone leave one of each at the most, and
+    appends beside a full list a pair and a record for every append. As many words are given each time, so that these
+    take the same."""
     undone = [held_after(subject, report, "slots", UNDONE * count, 2 * (APPENDS - count)) for count in (0, APPENDS)]
-    wrong = [] if undone[1] <= undone[0] + 2 else [f"there were {undone[0]} pieces of memory, and then {undone[1]}"]
+    wrong = [] if undone[1] <= undone[0] + 3 else [f"there were {undone[0]} pieces of memory, and then {undone[1]}"]
     report.check(f"{APPENDS} appends in slots, each of them undone, leave one pair at the most", wrong)
     full = [held_after(subject, report, "slots", FULL + UNDONE[:1] * count, APPENDS - count) for count in (0, APPENDS)]
     wrong = [] if full[1] <= full[0] + 2 * APPENDS else [f"there were {full[0]} pieces of memory, and then {full[1]}"]

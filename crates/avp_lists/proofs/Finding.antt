@@ -89,7 +89,7 @@ pub found-none : (which : WhichList) (id : AttrId) (pool : List Pair) (c : List 
 found-none which id pool c none = find_none (has_id id) (shown_pairs which pool c) (sym (any-shown which id pool c) ∙ none)
 
 -- the last one at the head, or else the first one at the tail, is the first
-end_is : (a b : End) → same_end a b ≡ true → b ≡ a
+pub end_is : (a b : End) → same_end a b ≡ true → b ≡ a
 end_is Head Head h = refl
 end_is Tail Tail h = refl
 end_is Head Tail h = cc

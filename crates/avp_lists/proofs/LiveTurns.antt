@@ -12,13 +12,14 @@ use Rattle.avp_lists.specs.declared.live.Live.{Live}
 use Rattle.avp_lists.specs.declared.slots.End.{End}
 use Rattle.avp_lists.specs.declared.slots.End.TheVariants.{Head, Tail}
 use Rattle.avp_lists.specs.declared.slots.Slot.{Slot}
-use Rattle.avp_lists.specs.declared.slots.Swap.{Swap}
 use Rattle.avp_lists.specs.declared.steps.Step.{Step}
 use Rattle.avp_lists.specs.internal.Steps.{slots_at, step_at, AllHoused}
 use Rattle.avp_lists.specs.internal.Live.{live_at, before, turned_place, entered_in, LiveRoom, LiveTurned, AreLive, HaveRoom, AllBelow, AddsDark, HasRoomFor}
 use Rattle.avp_lists.specs.internal.Plans.{places_in}
 use Rattle.avp_lists.specs.internal.Shown.{same_list, same_end, shows_at}
-use Rattle.avp_lists.specs.internal.Slots.{no_slot, slot_at, flipped, turn, with_other, swap_at, Housed}
+use Rattle.avp_lists.specs.internal.Slots.{no_slot, slot_at, flipped, turn, Housed}
+use Rattle.avp_lists.proofs.Edited.{same_itself, and_first, and_second}
+use Rattle.avp_lists.proofs.Finding.{end_is}
 use Rattle.avp_lists.proofs.Lengths.{filter_short}
 use Rattle.avp_lists.proofs.LivePlaces.{places-append, length-places, places-cut, all-before, places-turned_at, places-same_at}
 use Rattle.avp_lists.proofs.LiveRoom.{fewer, strictly_fewer, fewer-take, shows-entered}
@@ -49,6 +50,13 @@ shows-live false l b h = cc
 pub live_where : (e : End) (w : WhichList) (s : Slot) → shows_at e w s ≡ true → s.mark.live ≡ true
 live_where e w s h = shows-live (same_end e s.end) s.mark.live (same_list w s.list) h
 
+hide : (a l b : Bool) → l ≡ false → (a && (l && b)) ≡ false
+hide true l b h = rw h refl
+hide false l b h = refl
+
+dark_where : (e : End) (w : WhichList) (s : Slot) → s.mark.live ≡ false → shows_at e w s ≡ false
+dark_where e w s h = hide (same_end e s.end) s.mark.live (same_list w s.list) h
+
 not-swap : (a b : Bool) → b ≡ not a → a ≡ not b
 not-swap true b h = ap not (sym h)
 not-swap false b h = ap not (sym h)
@@ -68,26 +76,13 @@ live-turned c i b old new within is live turned e w =
     ∙ ap (λ (xs : List ℕ). cond (entered_in e w (slot_at c i)) (turned_place i b xs) xs) (live e w)
     ∙ turned-one e w c i b within is (entered_in e w (slot_at c i)) refl
 
--- an exchange of pairs
-pub live-swapped : (by : Option Swap) (c : List Slot) (l : Live) → AreLive c l → AreLive (swap_at by c) l
-live-swapped None c l live end which = live end which
-live-swapped (Some w) c l live end which = live end which ∙ sym (places-same_at (shows_at end which) c w.slot (with_other w (slot_at c w.slot)) refl)
-
 -- room for one more
-same-itself_list : (w : WhichList) → same_list w w ≡ true
-same-itself_list Request = refl
-same-itself_list Reply = refl
-same-itself_list Control = refl
-
-same-itself_end : (e : End) → same_end e e ≡ true
-same-itself_end Head = refl
-same-itself_end Tail = refl
-
-both_true : (a b : Bool) → a ≡ true → b ≡ true → (a && b) ≡ true
-both_true a b ha hb = rw (ha, hb) refl
+same_end-itself : (e : End) → same_end e e ≡ true
+same_end-itself Head = refl
+same_end-itself Tail = refl
 
 pub entered-own : (s : Slot) → entered_in s.end s.list s ≡ true
-entered-own s = both_true (same_end s.end s.end) (same_list s.list s.list) (same-itself_end s.end) (same-itself_list s.list)
+entered-own s = rw (same_end-itself s.end, same_itself s.list) refl
 
 pub room-for : (c : List Slot) (i : ℕ) (l : Live) → i < length c → (slot_at c i).mark.live ≡ false → AreLive c l → HaveRoom c l → length (live_at (slot_at c i).end (slot_at c i).list l).items < vec_capacity (live_at (slot_at c i).end (slot_at c i).list l)
 room-for c i l within off live room =
@@ -108,12 +103,7 @@ live-cut n c l below live e w = live e w ∙ sym (places-cut (shows_at e w) n c 
 added-none : (e : End) (w : WhichList) (n : ℕ) (o : Option Slot) → AddsDark o → places_in (shows_at e w) n (option_to_list o) ≡ []
 added-none e w n None dark = refl
 added-none e w n (Some s) dark =
-    let off : shows_at e w s ≡ false = hide (same_end e s.end) s.mark.live (same_list w s.list) dark in
-    ap (λ (b : Bool). cond b (n ∷ []) []) off
-  where
-    hide : (a l b : Bool) → l ≡ false → (a && (l && b)) ≡ false
-    hide true l b h = rw h refl
-    hide false l b h = refl
+    ap (λ (b : Bool). cond b (n ∷ []) []) (dark_where e w s dark)
 
 pub live-added : (n : ℕ) (c : List Slot) (o : Option Slot) (l : Live) → AllBelow n c → AddsDark o → AreLive c l → AreLive (take n c ++ option_to_list o) l
 live-added n c o l below dark live e w =
@@ -142,12 +132,6 @@ room-added n c (Some s) l more room e w =
       | false ↦ λ h sum. omega (arith, sum, cut, room e w)
     ] refl parts
   where
-    same_end-is : (a b : End) → same_end a b ≡ true → a ≡ b
-    same_end-is Head Head h = refl
-    same_end-is Tail Tail h = refl
-    same_end-is Head Tail h = cc
-    same_end-is Tail Head h = cc
-
     same_list-is : (a b : WhichList) → same_list a b ≡ true → a ≡ b
     same_list-is Request Request h = refl
     same_list-is Reply Reply h = refl
@@ -159,15 +143,11 @@ room-added n c (Some s) l more room e w =
     same_list-is Control Request h = cc
     same_list-is Control Reply h = cc
 
-    first_of : (a b : Bool) → (a && b) ≡ true → (a ≡ true) × (b ≡ true)
-    first_of true true h = (refl, refl)
-    first_of true false h = cc
-    first_of false b h = cc
-
     entered-there : (e : End) (w : WhichList) (s : Slot) → entered_in e w s ≡ true → (e ≡ s.end) × (w ≡ s.list)
     entered-there e w s h =
-        let both = first_of (same_end e s.end) (same_list w s.list) h in
-        (same_end-is e s.end both.0, same_list-is w s.list both.1)
+        let end = same_end e s.end in
+        let list = same_list w s.list in
+        (sym (end_is e s.end (and_first end list h)), same_list-is w s.list (and_second end list h))
 
 -- the places put in one after another
 filled-one : (e : End) (w : WhichList) (c : List Slot) (i : ℕ) → i < length c → (slot_at c i).mark.live ≡ true → (t : Bool) → entered_in e w (slot_at c i) ≡ t → cond t (turned_place i true (places_in (shows_at e w) 0 (take i c))) (places_in (shows_at e w) 0 (take i c)) ≡ places_in (shows_at e w) 0 (take (i + 1) c)
@@ -206,16 +186,12 @@ live-passed c i l within off live e w =
     let s = slot_at c i in
     let xs = places_in p 0 (take i c) in
     let n = 0 + length (take i c) in
-    let hidden : p s ≡ false = hide (same_end e s.end) s.mark.live (same_list w s.list) off in
+    let hidden : p s ≡ false = dark_where e w s off in
     live e w
     ∙ sym (append-nil xs)
     ∙ sym (ap (λ (b : Bool). xs ++ cond b (n ∷ []) []) hidden)
     ∙ sym (places-append p 0 (take i c) (s ∷ []))
     ∙ sym (ap (places_in p 0) (take_more c i no_slot within))
-  where
-    hide : (a l b : Bool) → l ≡ false → (a && (l && b)) ≡ false
-    hide true l b h = rw h refl
-    hide false l b h = refl
 
 -- while there is still room
 pub room-filling : (c : List Slot) (i : ℕ) (l : Live) → i < length c → (slot_at c i).mark.live ≡ true → AreLive (take i c) l → HaveRoom c l → length (live_at (slot_at c i).end (slot_at c i).list l).items < vec_capacity (live_at (slot_at c i).end (slot_at c i).list l)

@@ -5,7 +5,7 @@ use Rattle.std.specs.List.{filter, list_any}
 use Rattle.std.specs.Option.{is_some, IfSome, IfNone}
 use Rattle.std.proofs.lemmas.List.Folds.{list_any_at}
 use Rattle.avp_lists.specs.declared.pairs.AttrId.{AttrId}
-use Rattle.std.proofs.lemmas.List.{append-nil, get_or-map, length-map, map-append}
+use Rattle.std.proofs.lemmas.List.{append-nil, get_or-map, map-append}
 use Rattle.std.proofs.lemmas.List.Elements.{filter-append}
 use Rattle.avp_lists.specs.declared.pairs.Pair.{Pair}
 use Rattle.avp_lists.specs.declared.lists.List.{List as WhichList}
@@ -19,7 +19,7 @@ use Rattle.avp_lists.specs.States.{empty_state, list_of}
 use Rattle.avp_lists.specs.internal.Steps.{every, slots_at, shown_states, step_at, AllHoused, CountsWithin}
 use Rattle.avp_lists.specs.internal.Shown.{same_list, shows, shows_id, slot_pair, same_end, entered_at, shown_pairs, shown_state}
 use Rattle.avp_lists.specs.internal.SlotLaws.{length-every}
-use Rattle.avp_lists.proofs.InOrder.{in_order, shown_of, in_order-append, in_order-filter, all-filter, all-reverse, all-in_order, length-in_order, shown_pairs-in_order}
+use Rattle.avp_lists.proofs.InOrder.{in_order, shown_of, in_order-append, all-filter, all-reverse, all-in_order, shown_pairs-in_order}
 
 pub list_of-shown_state : (which : WhichList) (pool : List Pair) (c : List Slot) → list_of which (shown_state pool c) ≡ shown_pairs which pool c
 list_of-shown_state Request pool c = refl
@@ -81,14 +81,6 @@ shown_pairs-tails which pool c d heads tails =
     ∙ ap (shown_of which pool) (in_order-append c d ∙ ap₂ (λ (xs ys : List Slot). reverse xs ++ (in_order c ++ ys)) heads tails)
     ∙ shown-append which pool (in_order c) d
     ∙ ap (λ (xs : List Pair). xs ++ shown_of which pool d) (sym (shown_pairs-in_order which pool c))
-
--- the number of pairs
-pub length-shown_pairs : (which : WhichList) (pool : List Pair) (c : List Slot) → length (shown_pairs which pool c) ≡ length (filter (shows which) c)
-length-shown_pairs which pool c =
-    ap length (shown_pairs-in_order which pool c)
-    ∙ length-map (filter (shows which) (in_order c)) (slot_pair pool)
-    ∙ ap length (sym (in_order-filter (shows which) c))
-    ∙ length-in_order (filter (shows which) c)
 
 -- whether a slot was found
 pub found_where : (which : WhichList) (id : AttrId) (pool : List Pair) (c : List Slot) (o : Option ℕ) → IfSome o (λ at. (at < length c) × (shows_id which id pool (slot_at c at) ≡ true)) → IfNone o (list_any (shows_id which id pool) c ≡ false) → is_some o ≡ list_any (shows_id which id pool) c

@@ -1,6 +1,5 @@
 //! A store that keeps one set of lists, and a journal of what each step turned in them.
 ghost use Rattle.std.specs.Prelude.{◌≡◌, ◌↔◌, IsTrue, ◌+◌, ◌-◌, ◌≤◌, ◌<◌, ◌++◌, [], OnOk, OnErr, IfOk, IfErr, length, take, min, vec_capacity};
-ghost use Rattle.std.specs.Option.{option_to_list};
 ghost use Rattle.avp_lists.specs.Instances.{has_instance};
 ghost use Rattle.avp_lists.specs.History.{starting, present, after_edit, at_place};
 ghost use Rattle.avp_lists.specs.States.{list_of, edited, IsFull, IsLimited};
@@ -23,8 +22,8 @@ use std::alloc::{AllocError, Global};
 
 /// A store that keeps one set of lists, and what each step turned in them.
 ///
-/// Each pair that enters a list stays in a pool, and a slot says whether it is shown. A step has the places of the slots
-/// that it turned, so an edit copies no list: it costs a walk over the pairs that are shown, and what it changes.
+/// Each pair that enters a list stays in a pool, and a slot says whether it is shown. A step has the places of those
+/// slots that it turned, so an edit copies no list: it costs a walk over the pairs shown, and what it changes.
 #[derive(Drop)]
 pub struct SlotStore {
     alloc: Global,

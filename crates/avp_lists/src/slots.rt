@@ -132,6 +132,19 @@ impl Slots {
         }
     }
 
+    // The same, from the last place on: of places in order, those that are taken out so, and put in again from the
+    // first on, move few others.
+    fn turn_all_last_first(&mut self, places: &[usize])
+        requires { PlacesWithin (length self.old.all.items) places.now }
+        ensures { self.new.all.items ≡ turn_all places.now self.old.all.items }
+    {
+        let mut end = places.len();
+        while end > 0 {
+            end -= 1;
+            self.turn(places[end]);
+        }
+    }
+
     fn put_other(&mut self, swap: Option<Swap>)
         requires { SwapWithin (length self.old.all.items) swap }
         ensures { self.new.all.items ≡ swap_at swap self.old.all.items }
@@ -156,7 +169,7 @@ impl Slots {
         requires swap { SwapWithin (length self.old.all.items) by }
         ensures { self.new.all.items ≡ forward places.now by self.old.all.items }
     {
-        self.turn_all(places);
+        self.turn_all_last_first(places);
         self.put_other(by);
     }
 
