@@ -55,14 +55,18 @@ module _ (d : Dictionary) where
   abbrev the_branches : List ((b : Branch) × BranchAgrees b) → List Branch
   the_branches es = map (λ e. e.0) es
 
+  one_more : (x : Statement) (xs : List Statement) → StatementAgrees x → Agrees (all_steps (map (steps d) xs)) (in_order (map (meaning d) xs)) → Agrees (all_steps (map (steps d) (x ∷ xs))) (in_order (map (meaning d) (x ∷ xs)))
+  one_more x xs own others s c =
+      let o = end_of (running s c) (steps d x (running s c)) in
+      let rest = all_steps (map (steps d) xs) in
+      let rest_meaning = in_order (map (meaning d) xs) in
+      end_of-append (running s c) (steps d x (running s c)) (unless_stopped rest o)
+      ∙ rest_agrees rest rest_meaning o others
+      ∙ ap (λ o. unless_stop o rest_meaning) (own s c)
+
   block_agrees : (es : List ((s : Statement) × StatementAgrees s)) → Agrees (all_steps (map (steps d) (the_statements es))) (in_order (map (meaning d) (the_statements es)))
   block_agrees [] s c = refl
-  block_agrees (e ∷ es) s c =
-      let rest = all_steps (map (steps d) (the_statements es)) in
-      let rest_meaning = in_order (map (meaning d) (the_statements es)) in
-      end_of-append (running s c) (steps d e.0 (running s c)) (unless_stopped rest (end_of (running s c) (steps d e.0 (running s c))))
-      ∙ rest_agrees rest rest_meaning (end_of (running s c) (steps d e.0 (running s c))) (block_agrees es)
-      ∙ ap (λ o. unless_stop o rest_meaning) (e.1 s c)
+  block_agrees (e ∷ es) s c = one_more e.0 (the_statements es) e.1 (block_agrees es) s c
 
   branches_agree : (es : List ((b : Branch) × BranchAgrees b)) (t : Steps) (m : Meaning) → Agrees t m → Agrees (branch_steps (map (guarded d) (the_branches es)) t) (first_true (map choice (the_branches es)) m)
   branches_agree [] t m h s c = h s c
@@ -130,11 +134,7 @@ module _ (d : Dictionary) where
 
   statements_agree : (ss : List Statement) → Agrees (all_steps (map (steps d) ss)) (in_order (map (meaning d) ss))
   statements_agree [] s c = refl
-  statements_agree (x ∷ xs) s c =
-      let rest = all_steps (map (steps d) xs) in
-      end_of-append (running s c) (steps d x (running s c)) (unless_stopped rest (end_of (running s c) (steps d x (running s c))))
-      ∙ rest_agrees rest (in_order (map (meaning d) xs)) (end_of (running s c) (steps d x (running s c))) (statements_agree xs)
-      ∙ ap (λ o. unless_stop o (in_order (map (meaning d) xs))) (statement_agrees x s c)
+  statements_agree (x ∷ xs) s c = one_more x xs (statement_agrees x) (statements_agree xs) s c
 
   -- the last entry of a trace stands where the meaning d says
   pub trace_end : (ss : List Statement) (s : State) (o : Outcome) → end_of o (trace_of d ss s) ≡ meaning_of d ss s code.Ok

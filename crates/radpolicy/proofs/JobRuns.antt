@@ -1,9 +1,8 @@
 -- The run of a job is that of a prepared policy over the job's request.
-use Rattle.std.proofs.Common.{◌≡◌, ◌∙◌, ℕ, ◌⊎◌, inl, inr, true, List, [], Option, Some, None, Result, Ok, refl, sym, ap, subst}
+use Rattle.std.proofs.Common.{◌≡◌, ◌∙◌, ℕ, ◌⊎◌, inl, inr, true, List, Option, Some, None, Ok, sym, ap, subst}
 use Rattle.std.specs.Option.{option_map}
 use Rattle.avp_dict.specs.Dictionary.{Dictionary}
 use Rattle.avp_dict.specs.Sent.{is_clean}
-use Rattle.avp_packet.specs.declared.packets.Packet.{Packet}
 use Rattle.avp_step.specs.Walk.{walk_from}
 use Rattle.radpolicy.specs.Faults.{MemoryOr}
 use Rattle.radpolicy.specs.JobReports.{IsOpened, IsPolicy, IsPolicyRefusal, IsRequestOrReplyRefusal, IsRunReport, IsScript, IsScriptOrRequestRefusal, IsStepReport, IsUnspelled, opened, policy_of, report_of_run, run_of, script_of, step_report}

@@ -81,7 +81,7 @@ struct Opened<'a> {
 }
 
 // Reads the dictionary and the secret.
-fn open<'a>(alloc: Global, job: &'a Job) -> Result<Opened<'a>, Fault>
+fn opened_for<'a>(alloc: Global, job: &'a Job) -> Result<Opened<'a>, Fault>
     requires sound { IsSound (asked_by_job job.now) }
     ensures ok { IfOk result (λ o.
         IsOpened job.now (opened o.dictionary o.secret)) }
@@ -244,7 +244,7 @@ fn request_report_of(alloc: Global, job: &Job) -> Result<Report, Fault>
     ensures refused { IfErr result (MemoryOr (IsRefused job.now)) }
     ensures printed { IfErr result (IsPrintedWith job.now.files) }
 {
-    let Opened { dictionary, secret } = open(alloc, job)?;
+    let Opened { dictionary, secret } = opened_for(alloc, job)?;
     match (job.command, secret.as_ref()) {
         (Command::Run, secret) => run_report_of(alloc, &dictionary, secret, job),
         (Command::Step, secret) => step_report_of(alloc, &dictionary, secret, job),

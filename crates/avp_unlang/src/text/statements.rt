@@ -216,8 +216,8 @@ fn branch<'a>(
 {
     let line = at.line();
     let start = at.count(1, line)?;
-    let open = start.expect(Sign::Open)?;
-    let (cond, next) = closed(alloc, dictionary, depth, open)?;
+    let opened = start.expect(Sign::Open)?;
+    let (cond, next) = closed(alloc, dictionary, depth, opened)?;
     let (block, rest) = block(alloc, dictionary, depth, next)?;
     Ok((Branch { line, cond, block }, rest))
 }

@@ -1,7 +1,5 @@
 use Rattle.std.specs.Option.{option_copied}
 use Rattle.std.proofs.lemmas.Result.{IfErr-weaker}
-use Rattle.radpolicy.specs.Faults.{MemoryOr}
-use Rattle.radpolicy.specs.JobReports.{IsUnspelled}
 use Rattle.radpolicy.proofs.JobRuns.{policy_refusal}
 use Rattle.radpolicy.proofs.answers.policy_for.Goals as goal
 

@@ -2,7 +2,7 @@ use Rattle.std.proofs.Common.{◌≡◌, ◌∙◌, sym, None, Some, true}
 use Rattle.avp_dict.specs.Sent.{is_clean}
 use Rattle.radpolicy.proofs.Replying.{reply_clean}
 use Rattle.radpolicy.proofs.ReplyReads.{nothing_read, sent_read}
-use Rattle.radpolicy.specs.Replies.{reply_code, reply_pairs}
+use Rattle.radpolicy.specs.Replies.{reply_code}
 use Rattle.radpolicy.proofs.replies.answered_by.Goals as goal
 
 pub returns-in_default-clause-read : goal.returns-in_default-clause-read

@@ -37,25 +37,25 @@ block-returns-clause-read t c =
     block_reads c.args.depth begins_word (Nested c.args.dictionary.now c.args.depth) c.args.at c.in_ok-start.start c.in_ok-found.found c.in_ok-found.end c.in_ok-rest.rest (omega (arith, c.if-depth-eq0.false)) c.in_ok-start.ensures.taken
     (subst (λ k. While begins_word (Nested c.args.dictionary.now k) c.in_ok-start.start c.in_ok-found.found c.in_ok-found.end) same c.in_ok-found.ensures.read) c.in_ok-rest.ensures.taken
 
-pub branch-returns-in_err-open-clause-read : goal.branch-returns-in_err-open-clause-read
-branch-returns-in_err-open-clause-read t c =
-    exits (BranchIs c.args.dictionary.now c.args.depth (Nested c.args.dictionary.now c.args.depth) c.args.at) _ _ c.from_residual-in_err-open.ensures.1
-    (after_on (Counts 1) (Opened c.args.dictionary.now c.args.depth (Nested c.args.dictionary.now c.args.depth) (nested_one c.args.dictionary.now c.args.depth) c.args.at.line) (counts_sure 1) c.args.at c.in_ok-start.start c.in_ok-start.ensures.taken c.in_err-open.field-0.0
-    (after_stops (Follows open_sign) (Asked c.args.dictionary.now c.args.depth (Nested c.args.dictionary.now c.args.depth) (nested_one c.args.dictionary.now c.args.depth) c.args.at.line) c.in_ok-start.start c.in_err-open.field-0.0 c.in_err-open.ensures.taken))
+pub branch-returns-in_err-opened-clause-read : goal.branch-returns-in_err-opened-clause-read
+branch-returns-in_err-opened-clause-read t c =
+    exits (BranchIs c.args.dictionary.now c.args.depth (Nested c.args.dictionary.now c.args.depth) c.args.at) _ _ c.from_residual-in_err-opened.ensures.1
+    (after_on (Counts 1) (Opened c.args.dictionary.now c.args.depth (Nested c.args.dictionary.now c.args.depth) (nested_one c.args.dictionary.now c.args.depth) c.args.at.line) (counts_sure 1) c.args.at c.in_ok-start.start c.in_ok-start.ensures.taken c.in_err-opened.field-0.0
+    (after_stops (Follows open_sign) (Asked c.args.dictionary.now c.args.depth (Nested c.args.dictionary.now c.args.depth) (nested_one c.args.dictionary.now c.args.depth) c.args.at.line) c.in_ok-start.start c.in_err-opened.field-0.0 c.in_err-opened.ensures.taken))
 
 pub branch-returns-in_err-cond-clause-read : goal.branch-returns-in_err-cond-clause-read
 branch-returns-in_err-cond-clause-read t c =
     exits (BranchIs c.args.dictionary.now c.args.depth (Nested c.args.dictionary.now c.args.depth) c.args.at) _ _ c.from_residual-in_err-cond.ensures.1
     (after_on (Counts 1) (Opened c.args.dictionary.now c.args.depth (Nested c.args.dictionary.now c.args.depth) (nested_one c.args.dictionary.now c.args.depth) c.args.at.line) (counts_sure 1) c.args.at c.in_ok-start.start c.in_ok-start.ensures.taken c.in_err-cond.field-0.0
-    (after_on (Follows open_sign) (Asked c.args.dictionary.now c.args.depth (Nested c.args.dictionary.now c.args.depth) (nested_one c.args.dictionary.now c.args.depth) c.args.at.line) (follows_sure open_sign) c.in_ok-start.start c.in_ok-open.open c.in_ok-open.ensures.taken c.in_err-cond.field-0.0
-    (then_stops (Closed (Within c.args.dictionary.now c.args.depth)) (Blocked c.args.dictionary.now c.args.depth (Nested c.args.dictionary.now c.args.depth) (nested_one c.args.dictionary.now c.args.depth) c.args.at.line) c.in_ok-open.open c.in_err-cond.field-0.0 c.in_err-cond.ensures.read)))
+    (after_on (Follows open_sign) (Asked c.args.dictionary.now c.args.depth (Nested c.args.dictionary.now c.args.depth) (nested_one c.args.dictionary.now c.args.depth) c.args.at.line) (follows_sure open_sign) c.in_ok-start.start c.in_ok-opened.opened c.in_ok-opened.ensures.taken c.in_err-cond.field-0.0
+    (then_stops (Closed (Within c.args.dictionary.now c.args.depth)) (Blocked c.args.dictionary.now c.args.depth (Nested c.args.dictionary.now c.args.depth) (nested_one c.args.dictionary.now c.args.depth) c.args.at.line) c.in_ok-opened.opened c.in_err-cond.field-0.0 c.in_err-cond.ensures.read)))
 
 pub branch-returns-in_err-block-clause-read : goal.branch-returns-in_err-block-clause-read
 branch-returns-in_err-block-clause-read t c =
     exits (BranchIs c.args.dictionary.now c.args.depth (Nested c.args.dictionary.now c.args.depth) c.args.at) _ _ c.from_residual-in_err-block.ensures.1
     (after_on (Counts 1) (Opened c.args.dictionary.now c.args.depth (Nested c.args.dictionary.now c.args.depth) (nested_one c.args.dictionary.now c.args.depth) c.args.at.line) (counts_sure 1) c.args.at c.in_ok-start.start c.in_ok-start.ensures.taken c.in_err-block.field-0.0
-    (after_on (Follows open_sign) (Asked c.args.dictionary.now c.args.depth (Nested c.args.dictionary.now c.args.depth) (nested_one c.args.dictionary.now c.args.depth) c.args.at.line) (follows_sure open_sign) c.in_ok-start.start c.in_ok-open.open c.in_ok-open.ensures.taken c.in_err-block.field-0.0
-    (then_on (Closed (Within c.args.dictionary.now c.args.depth)) (Blocked c.args.dictionary.now c.args.depth (Nested c.args.dictionary.now c.args.depth) (nested_one c.args.dictionary.now c.args.depth) c.args.at.line) (condition_one c.args.dictionary.now c.args.depth (Nested c.args.dictionary.now c.args.depth) (nested_one c.args.dictionary.now c.args.depth)) c.in_ok-open.open c.in_ok-cond.cond c.in_ok-cond.next c.in_ok-cond.ensures.read c.in_err-block.field-0.0
+    (after_on (Follows open_sign) (Asked c.args.dictionary.now c.args.depth (Nested c.args.dictionary.now c.args.depth) (nested_one c.args.dictionary.now c.args.depth) c.args.at.line) (follows_sure open_sign) c.in_ok-start.start c.in_ok-opened.opened c.in_ok-opened.ensures.taken c.in_err-block.field-0.0
+    (then_on (Closed (Within c.args.dictionary.now c.args.depth)) (Blocked c.args.dictionary.now c.args.depth (Nested c.args.dictionary.now c.args.depth) (nested_one c.args.dictionary.now c.args.depth) c.args.at.line) (condition_one c.args.dictionary.now c.args.depth (Nested c.args.dictionary.now c.args.depth) (nested_one c.args.dictionary.now c.args.depth)) c.in_ok-opened.opened c.in_ok-cond.cond c.in_ok-cond.next c.in_ok-cond.ensures.read c.in_err-block.field-0.0
     (then_stops (BlockIs c.args.depth begins_word (Nested c.args.dictionary.now c.args.depth)) (λ block. Gives (branch_of c.args.at.line c.in_ok-cond.cond block)) c.in_ok-cond.next c.in_err-block.field-0.0 c.in_err-block.ensures.read))))
 
 pub branches-returns-in_err-first-clause-read : goal.branches-returns-in_err-first-clause-read

@@ -1,6 +1,5 @@
 use Rattle.std.proofs.Common.{◌≡◌, ◌∙◌, true, ap, sym, subst}
 use Rattle.avp_dict.specs.Sent.{is_clean}
-use Rattle.avp_lists.specs.History.{present}
 use Rattle.avp_lists.specs.declared.lists.List.TheVariants.{Reply}
 use Rattle.avp_lists.specs.declared.lists.State.{State}
 use Rattle.avp_unlang.specs.Meaning.{Outcome as End}
