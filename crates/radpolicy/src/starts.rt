@@ -13,9 +13,8 @@ ghost use Rattle.avp_packet.specs.Decoded.{decoded};
 ghost use Rattle.avp_packet.specs.Packets.{IsRequestCode};
 ghost use Rattle.avp_step.specs.Walk.{last_outcome, walk_from};
 ghost use Rattle.avp_unlang.specs.Cleanness.{KeepsReplyClean};
-ghost use Rattle.avp_unlang.specs.Meaning.{Outcome as End, meaning_of};
+ghost use Rattle.avp_unlang.specs.Meaning.{Outcome as End};
 ghost use Rattle.avp_unlang.specs.Resolutions.{StateFits};
-ghost use Rattle.avp_unlang.specs.Suiting.{IsSpelled};
 ghost use Rattle.radpolicy.specs.Faults.{IsPrintedAnywhere, MemoryOr};
 ghost use Rattle.radpolicy.specs.Replies.{proxy_states};
 ghost use Rattle.radpolicy.specs.RunOutcomes.{OutcomeIsRead, end_of, outcome_of, sent_reply};
@@ -71,31 +70,6 @@ impl<'a> Model for Start<'a> {
 
     ghost invariant = { λ s. IsReady (start_shown s.dictionary.now s.policy.now
         (option_copied s.secret) s.form s.request s.reply s.control) };
-}
-
-// A stepper at the start of a policy's run, from the present lists of a store, if there was memory for it.
-fn stepper_over<'a, S: Store>(
-    alloc: Global,
-    dictionary: &'a Dictionary,
-    policy: &'a Policy,
-    store: Result<S, AllocError>,
-) -> Result<Stepper<'a, S>, AllocError>
-    requires policy { IsSpelled dictionary.now policy.now }
-    requires store { IfOk store (λ store. StateFits dictionary.now (present (S.history store))) }
-    ensures start { (lists : State) → IfOk store (λ store. present (S.history store) ≡ lists)
-        → IfOk result (λ stepper. stepper
-        ≡ walk_from dictionary.entry.now policy.entry.now lists) }
-    ensures last { (lists : State) → IfOk store (λ store. present (S.history store) ≡ lists)
-        → IfOk result (λ stepper. last_outcome stepper
-        ≡ meaning_of dictionary.entry.now policy.entry.now lists Code.Ok) }
-{
-    match store {
-        Ok(store) => match Stepper::new(alloc, dictionary, policy, store) {
-            Ok(stepper) => Ok(stepper),
-            Err((_, refused)) => Err(refused),
-        },
-        Err(refused) => Err(refused),
-    }
 }
 
 // A store of the lists with which a run begins.
@@ -386,8 +360,11 @@ impl<'a> Start<'a> {
             reply: self.reply,
             control: self.control,
         };
-        let store = entry_store(alloc, lists);
-        stepper_over(alloc, self.dictionary, self.policy, store)
+        let store = entry_store(alloc, lists)?;
+        match Stepper::new(alloc, self.dictionary, self.policy, store) {
+            Ok(stepper) => Ok(stepper),
+            Err((_, refused)) => Err(refused),
+        }
     }
 
     // Where the run ends.
