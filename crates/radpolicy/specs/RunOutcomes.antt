@@ -1,10 +1,8 @@
 -- What a run comes to: its lists, its code, whether it was stopped, and what it sends.
-use Rattle.std.specs.Prelude.{◌≡◌, ℕ, Bool, List, [], Option, Some, None, codes}
+use Rattle.std.specs.Prelude.{◌≡◌, ℕ, List, [], Option, Some, None, codes}
 use Rattle.std.specs.Option.{option_map}
-use Rattle.avp_lists.specs.declared.lists.State.{State}
 use Rattle.avp_dict.specs.Dictionary.{Dictionary}
 use Rattle.avp_unlang.specs.Meaning.{Outcome as End, meaning_of}
-use Rattle.avp_unlang.specs.declared.codes.Code.{Code}
 use Rattle.avp_unlang.specs.declared.codes.Code.TheVariants as code
 use Rattle.radpolicy.specs.Replies.{Answer, Nothing, Sent, TooLong, answer_of}
 use Rattle.radpolicy.specs.ReplyMeaning.{ReplyIsRead}

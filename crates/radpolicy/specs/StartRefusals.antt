@@ -1,5 +1,5 @@
 -- Why a start is refused: a packet that is none, or lines that are no list.
-use Rattle.std.specs.Prelude.{◌≡◌, ◌≢◌, List, Option, None, Some, Result, Err, IsOk}
+use Rattle.std.specs.Prelude.{◌≡◌, ◌≢◌, List, Option, None, Result, Err, IsOk}
 use Rattle.avp_lists.specs.declared.pairs.Pair.{Pair}
 use Rattle.avp_dict.specs.declared.request.faults.LineKind.TheVariants as line
 use Rattle.avp_packet.specs.declared.faults.PacketFault.{PacketFault}

@@ -1,6 +1,6 @@
 -- What a run begins with: a request, and the reply and control lists, over a dictionary and a policy that were read
 -- before.
-use Rattle.std.specs.Prelude.{ℕ, ◌+◌, Bool, not, nat_lt, if◌then◌else◌, List, [], length, Option, Some, None}
+use Rattle.std.specs.Prelude.{ℕ, ◌+◌, not, nat_lt, if◌then◌else◌, List, [], length, Option, Some, None}
 use Rattle.std.specs.List.{position}
 use Rattle.std.specs.Option.{unwrap_or}
 use Rattle.avp_lists.specs.States.{max_pairs}

@@ -1,5 +1,5 @@
 -- What a reply takes of its request, and the reply that is made of it.
-use Rattle.std.specs.Prelude.{◌≡◌, ◌++◌, ℕ, true, false, All, List, [], Option, Some, None, Result, Ok, Err}
+use Rattle.std.specs.Prelude.{◌≡◌, ℕ, true, false, All, List, Option, Some, None, Result, Ok, Err}
 use Rattle.std.specs.declared.alloc.Global.{Global}
 use Rattle.std.specs.declared.vec.Vec.{Vec}
 use Rattle.avp_lists.specs.declared.pairs.AttrId.TheVariants.{Plain}
