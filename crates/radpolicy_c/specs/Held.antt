@@ -4,7 +4,6 @@ use base.Fml.{Fml, ftrue}
 use denote.RawPtr.{Ptr}
 use Rattle.std.specs.Box.Ownership.{box_owns}
 use Rattle.std.specs.contracts.impls.GlobalAllocator.TheImpl.{ghosts}
-use Rattle.std.specs.declared.alloc.Global.{Global}
 use Rattle.radpolicy.specs.Starts.{Prepared}
 use Rattle.radpolicy.specs.contracts.prepared.OwnedPolicy.{the_row}
 

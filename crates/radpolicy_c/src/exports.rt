@@ -4,14 +4,20 @@ ghost use Rattle.std.specs.Prelude.{◌≡◌, None, length, map};
 ghost use Rattle.radpolicy_c.specs.Closing.{closing_status};
 ghost use Rattle.radpolicy_c.specs.Files.{file_given};
 ghost use Rattle.radpolicy_c.specs.Opening.{Opens};
+ghost use Rattle.radpolicy_c.specs.Outcomes.{outcome_told, packet_told, report_told, run_status};
 ghost use Rattle.radpolicy_c.specs.Rooms.{room_told, status_told};
+ghost use Rattle.radpolicy_c.specs.Runs.{Runs};
 ghost use Rattle.radpolicy_c.specs.Statuses.{number_of};
 ghost use Rattle.radpolicy_c.specs.declared.opening.Opening.{Opening};
+ghost use Rattle.radpolicy_c.specs.declared.runs.Ran.{Ran};
 
 use crate::files::RadpolicyFile;
 use crate::handles::RadpolicyPolicy;
 use crate::lines::tell;
 use crate::opening::open;
+use crate::outcomes::{RadpolicyOutcome, tell_run};
+use crate::requests::RadpolicyRequest;
+use crate::runs::run_held;
 use crate::statuses::Status;
 use std::alloc::Global;
 use std::mem;
@@ -47,4 +53,25 @@ pub extern "C" fn radpolicy_close(alloc: Global, policy: &mut RadpolicyPolicy) -
         None => Status::Closed,
     };
     status.number()
+}
+
+/// Runs the policy that is held on a request. The reply packet and the report go to the fronts of their rooms.
+#[unsafe(no_mangle)]
+pub extern "C" fn radpolicy_run(
+    alloc: Global,
+    policy: &mut RadpolicyPolicy,
+    asked: &RadpolicyRequest<'_>,
+    told: &mut RadpolicyOutcome,
+    packet: &mut [u8],
+    report: &mut [u8],
+) -> u8
+    ensures kept { policy.new.held.policy ≡ policy.old.held.policy }
+    ensures runs { (ran : Ran) × Runs policy.old.held.policy asked.now ran
+        × (result ≡ number_of (run_status ran packet.old report.old))
+        × (told.new ≡ outcome_told ran)
+        × (packet.new ≡ packet_told ran packet.old report.old)
+        × (report.new ≡ report_told ran packet.old report.old) }
+{
+    let ran = run_held(alloc, policy, asked);
+    tell_run(&ran, told, packet, report).number()
 }

@@ -1,22 +1,22 @@
 -- `none` keeps nothing at null.
-use Rattle.std.proofs.Common.{◌≡◌, List, [], ◌∷◌, ◌++◌, refl, lit<, Option, None}
+use Rattle.std.proofs.Common.{◌≡◌, [], ◌∷◌, refl, lit<, Option, None}
 use mir.Val.{Val}
 use base.Logic.{SProp, emp}
 use base.Fml.{ftrue}
 use types.Kit.{‵, raw, ◌⊛◌, ◌$◌, ◌∵◌, !, qed, by, keep, split, use0}
-use types.Run.{of_opd, no_more, and_then, returns, enter, lit}
+use types.Run.{no_more, and_then, returns, enter, lit}
 use types.ByLocal.{alloc_all, pass_all, free_all, look_at, sets}
 use types.Part.{agg}
 use contract.Monad.{fact, fact_i}
 use contract.Running.{tables}
 use denote.RattleType.{owns}
-use denote.RawPtr.{Ptr, null_ptr}
+use denote.RawPtr.{null_ptr}
 use denote.Signature.{types_at}
 use denote.Steps.{nothing}
 use denote.Triple.Walked.{Stays, walk_of}
 use Rattle.std.proofs.raw_atomic.Walks.{proved_at, leaves}
 use Rattle.radpolicy.specs.Starts.{Prepared}
-use Rattle.radpolicy_c.proofs.HeldValues.{Held, word, held_in}
+use Rattle.radpolicy_c.proofs.HeldValues.{word, held_in}
 use Rattle.radpolicy_c.specs.contracts.held.Held.none as f
 use Rattle.radpolicy_c.specs.contracts.held.Held.none.Key.{name as #self}
 use Rattle.radpolicy_c.proofs.held.Held.none.Statement.{statement}

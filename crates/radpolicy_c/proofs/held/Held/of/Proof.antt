@@ -1,5 +1,5 @@
 -- `of` forgets what is behind the pointer.
-use Rattle.std.proofs.Common.{◌≡◌, List, [], ◌∷◌, ◌++◌, refl, sym, subst, Option, Some}
+use Rattle.std.proofs.Common.{◌≡◌, List, [], ◌∷◌, ◌++◌, refl, sym, subst, Some}
 use mir.Val.{Val, vptr}
 use base.Logic.{SProp, ent, emp, id⊢}
 use base.Fml.{ftrue}
@@ -12,7 +12,7 @@ use contract.Monad.{fact, fact_i}
 use contract.Running.{tables}
 use denote.Exit.{yes}
 use denote.RattleType.{owns}
-use denote.RawPtr.{Ptr, block_ptr}
+use denote.RawPtr.{block_ptr}
 use denote.Signature.{types_at, plain}
 use denote.Steps.{nothing}
 use denote.Triple.Walked.{Stays, stay_dropped, walk_of, Goes-dropped}
@@ -20,10 +20,9 @@ use Rattle.std.proofs.raw_atomic.Walks.{proved_at, leaves}
 use Rattle.std.proofs.alloc.Global.TheLaws as heap_laws
 use Rattle.std.specs.contracts.alloc.Global as heap
 use Rattle.std.specs.contracts.impls.GlobalAllocator.TheImpl.{ghosts}
-use Rattle.radpolicy.specs.Starts.{Prepared}
 use Rattle.radpolicy.specs.contracts.prepared.OwnedPolicy as owned
 use Rattle.radpolicy_c.proofs.LooseValues.{both, Loose, loose_good, loose_out}
-use Rattle.radpolicy_c.proofs.HeldValues.{Held, word, held_in}
+use Rattle.radpolicy_c.proofs.HeldValues.{word, held_in}
 use Rattle.radpolicy_c.specs.contracts.held.Held.of as f
 use Rattle.radpolicy_c.specs.contracts.held.Held.of.Key.{name as #self}
 use Rattle.radpolicy_c.proofs.held.Held.of.Statement.{statement}
