@@ -10,7 +10,6 @@ use std::alloc::Global;
 /// A policy with its dictionary, or none. C begins with one of zeros, which holds none.
 // A copy in C of a handle that was closed since is C's fault, as a pointer that was freed is.
 #[repr(C)]
-#[derive(Drop)]
 pub struct RadpolicyPolicy {
     pub held: Held,
     pub is_open: bool,
@@ -38,6 +37,14 @@ impl RadpolicyPolicy {
         }
     }
 
+    /// Lets one that holds no policy go.
+    pub(crate) fn end(self)
+        requires { self.held.policy ≡ None }
+    {
+        let RadpolicyPolicy { held, is_open: _ } = self;
+        held.end();
+    }
+
     /// The policy that it holds.
     pub(crate) fn into_box(self, alloc: Global) -> Option<Box<OwnedPolicy>>
         ensures { MatchOption result (self.held.policy ≡ None)
@@ -47,6 +54,7 @@ impl RadpolicyPolicy {
         if is_open {
             Some(held.into_loose(alloc).into_box())
         } else {
+            held.end();
             None
         }
     }

@@ -13,8 +13,8 @@ use std::marker::Model;
 use std::ptr;
 
 /// A policy with its dictionary, or none.
+// It is not Drop, so that no policy is let go by mistake: each is given back by `into_loose`.
 #[repr(C)]
-#[derive(Drop)]
 pub struct Held {
     at: *mut u8,
     pub ghost policy: { Option Prepared } by { Prim.hlevel (codes, e.the_row.coded) },
@@ -31,6 +31,13 @@ impl Held {
         Held {
             at: ptr::null_mut(),
         }
+    }
+
+    // Lets one that holds nothing go.
+    pub(crate) fn end(self)
+        requires { self.policy ≡ None }
+    {
+        let Held { at: _ } = self;
     }
 
     pub(crate) fn of(policy: Loose<OwnedPolicy, Global>) -> Held

@@ -15,6 +15,7 @@ use avp_dict::{Dictionary, FileSet};
 use avp_lists::Octets;
 use radpolicy::{Fault, OwnedPolicy};
 use std::alloc::Global;
+use std::mem;
 
 /// What the opening of a policy tells: its status, and the line of a fault.
 #[derive(Debug, Drop)]
@@ -126,7 +127,7 @@ pub(crate) fn open(
     }
     match opened(alloc, files, text) {
         Ok(opened) => {
-            *policy = RadpolicyPolicy::of(opened);
+            mem::replace(policy, RadpolicyPolicy::of(opened)).end();
             nothing_told(alloc, Status::Done)
         }
         Err(opening) => opening,

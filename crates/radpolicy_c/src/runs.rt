@@ -162,7 +162,7 @@ pub(crate) fn run_held(
     match mem::replace(policy, RadpolicyPolicy::closed()).into_box(alloc) {
         Some(owned) => {
             let ran = run(alloc, &owned, asked);
-            *policy = RadpolicyPolicy::of(owned);
+            mem::replace(policy, RadpolicyPolicy::of(owned)).end();
             ran
         }
         None => only_told(alloc, Status::Closed, Vec::new(alloc)),
