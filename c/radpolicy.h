@@ -1,0 +1,141 @@
+/* radpolicy for C: a RADIUS policy is read once and kept behind a handle, and run on any number of requests.
+ *
+ *     struct radpolicy_policy policy = RADPOLICY_CLOSED;
+ *     status = radpolicy_open(&policy, files, count, text, text_length, room, room_length, &told);
+ *     status = radpolicy_run(&policy, &request, &outcome, packet, packet_room, report, report_room);
+ *     radpolicy_close(&policy);
+ *
+ * What the caller keeps
+ * - No pointer is null, also where its length is 0: point at any octet then. An array may be of length 0.
+ * - What a pointer points at is there during the call alone. All that is to last is copied, and all that is copied is
+ *   given back by radpolicy_close. The caller frees what the caller made.
+ * - The rooms, the outcome and the handle of one call do not overlap one another or what the call reads.
+ * - A handle begins as RADPOLICY_CLOSED. The caller does not look into it or change it, and uses no copy of it: once
+ *   one copy was closed, using another is as wrong as using memory that was freed.
+ * - A handle is used by one call at a time, and by the thread that opened it. Each thread opens a handle of its own.
+ * - A call is not made from a signal handler, nor in the child of a process that had threads.
+ *
+ * The library opens no file, no socket and no process, starts no thread, writes nowhere but in the caller's rooms, and
+ * keeps no state outside its handles. It asks malloc, realloc and free for memory, and goes on where there is none.
+ *
+ * Texts are octets with no zero at their end. Where a room is too short for what is to be told, nothing is written
+ * into any room, the lengths say what is wanted, and the call may be made again with longer rooms: it does and tells the
+ * same. No call writes past the lengths that it tells. */
+#ifndef RADPOLICY_H
+#define RADPOLICY_H
+
+#include <stdbool.h>
+#include <stddef.h>
+#include <stdint.h>
+
+#ifdef __cplusplus
+extern "C" {
+#endif
+
+/* How a call ended. The numbers never change. */
+enum radpolicy_status {
+    RADPOLICY_DONE = 0,
+    /* What was given is refused. The room (of a run: that of the report) has the line that the program radpolicy
+     * prints, as "radpolicy: E32 policy:3: unknown attribute\n". */
+    RADPOLICY_REFUSED = 2,
+    /* There is not enough memory. Nothing is told, and nothing has changed. */
+    RADPOLICY_NO_MEMORY = 4,
+    /* A room is too short. Nothing was written into a room; the lengths say what is wanted. */
+    RADPOLICY_TOO_SHORT = 5,
+    /* The handle holds no policy. */
+    RADPOLICY_IS_CLOSED = 6,
+    /* The handle holds a policy already, and keeps it. */
+    RADPOLICY_IS_OPEN = 7,
+};
+
+/* A policy with its dictionary, or none. */
+struct radpolicy_policy {
+    void *held;
+    bool is_open;
+};
+#define RADPOLICY_CLOSED { NULL, false }
+
+struct radpolicy_slice {
+    const uint8_t *at;
+    size_t length;
+};
+
+/* A dictionary file: the last component of its path, by which $INCLUDE names it, and what it holds. */
+struct radpolicy_file {
+    struct radpolicy_slice name;
+    struct radpolicy_slice text;
+};
+
+/* Reads a policy by dictionary files, the main file first. No files, or two of one name, are refused as an option's
+ * value (E02). room_length octets are at room; *told becomes the length of what is told: 0, or that of a fault's line.
+ *
+ * RADPOLICY_DONE, RADPOLICY_REFUSED, RADPOLICY_NO_MEMORY, RADPOLICY_TOO_SHORT (it is refused, and the room is too short
+ * for the line), RADPOLICY_IS_OPEN. */
+uint8_t radpolicy_open(struct radpolicy_policy *policy, const struct radpolicy_file *files, size_t file_count,
+                       const uint8_t *text, size_t text_length, uint8_t *room, size_t room_length, size_t *told);
+
+/* Gives the policy's memory back and leaves a closed handle. RADPOLICY_DONE, RADPOLICY_IS_CLOSED. */
+uint8_t radpolicy_close(struct radpolicy_policy *policy);
+
+/* How a request is given. */
+enum radpolicy_form {
+    /* The octets of a packet, an Access-Request or an Accounting-Request. The secret is needed: without one it is
+     * refused as an option's value (E02). Its digests are checked. */
+    RADPOLICY_PACKET = 0,
+    /* The lines of an Access-Request or an Accounting-Request, as "User-Name = bob, NAS-Port = 3\n". */
+    RADPOLICY_ACCESS_LINES = 1,
+    RADPOLICY_ACCOUNTING_LINES = 2,
+};
+
+/* A request, and the reply and control lists with which its run begins. */
+struct radpolicy_request {
+    struct radpolicy_slice octets;  /* a packet's octets, or lines */
+    struct radpolicy_slice secret;  /* the shared secret, where has_secret; of no octets it is refused (E03) */
+    struct radpolicy_slice reply;   /* lines of the initial reply list; of length 0 for none */
+    struct radpolicy_slice control; /* lines of the initial control list; of length 0 for none */
+    uint8_t authenticator[16];      /* of lines: the Request Authenticator, where has_authenticator */
+    uint8_t form;                   /* enum radpolicy_form; any other is refused as an option's value (E02) */
+    uint8_t identifier;             /* of lines: the Identifier */
+    bool has_authenticator;
+    bool has_secret; /* without a secret no reply packet is made */
+};
+
+/* The last code of a policy. */
+enum radpolicy_code {
+    RADPOLICY_OK = 0,
+    RADPOLICY_NOOP = 1,
+    RADPOLICY_UPDATED = 2,
+    RADPOLICY_FAIL = 3,
+    RADPOLICY_REJECT = 4,
+};
+
+/* What is sent. */
+enum radpolicy_sends {
+    RADPOLICY_UNMADE = 0,  /* there is no secret, so no packet was made */
+    RADPOLICY_NOTHING = 1, /* nothing: the policy rejected an Accounting-Request or failed */
+    RADPOLICY_REPLY = 2,   /* the octets in the room for the packet */
+};
+
+/* What a run came to. It is always written; where the status is not RADPOLICY_DONE or RADPOLICY_TOO_SHORT, all but
+ * report_length is 0. */
+struct radpolicy_outcome {
+    size_t packet_length; /* of the reply packet, at most 4096 */
+    size_t report_length; /* of the report, or of a fault's line */
+    uint8_t code;         /* enum radpolicy_code */
+    uint8_t sends;        /* enum radpolicy_sends */
+    bool stopped;         /* whether the policy was stopped before its end */
+};
+
+/* Runs the policy on a request. The reply packet goes into one room, and the report into the other: the three lists, the
+ * result and the packet in hexadecimal digits, as `radpolicy run` prints them. A run changes nothing that is held, and no
+ * run sees another.
+ *
+ * RADPOLICY_DONE, RADPOLICY_REFUSED, RADPOLICY_NO_MEMORY, RADPOLICY_TOO_SHORT, RADPOLICY_IS_CLOSED. */
+uint8_t radpolicy_run(struct radpolicy_policy *policy, const struct radpolicy_request *request,
+                      struct radpolicy_outcome *outcome, uint8_t *packet, size_t packet_room, uint8_t *report,
+                      size_t report_room);
+
+#ifdef __cplusplus
+}
+#endif
+#endif

@@ -1,0 +1,10 @@
+pub mod Closing
+pub mod Files
+pub mod Held
+pub mod Opening
+pub mod Outcomes
+pub mod Requests
+pub mod Rooms
+pub mod Runs
+pub mod Statuses
+pub mod internal

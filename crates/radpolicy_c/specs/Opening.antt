@@ -1,0 +1,63 @@
+-- What a policy is opened from, and why it is not.
+use Rattle.std.specs.Prelude.{◌≡◌, ◌≢◌, ◌⊎◌, ◌<◌, ℕ, List, [], Option, None, Some, Ok, Err, length}
+use Rattle.avp_dict.specs.declared.file.files.NamedFile.{NamedFile}
+use Rattle.avp_dict.specs.Dictionary.{Dictionary}
+use Rattle.avp_dict.specs.DictionaryReading.{dictionary_of, max_lines}
+use Rattle.avp_dict.specs.Lines.{HasDistinctNames}
+use Rattle.avp_unlang.specs.Policies.{SpellsPolicy}
+use Rattle.radpolicy.specs.Faults.{fault_line}
+use Rattle.radpolicy.specs.JobReports.{IsUnspelled}
+use Rattle.radpolicy.specs.Starts.{Prepared}
+use Rattle.radpolicy.specs.declared.faults.Fault.{Fault}
+use Rattle.radpolicy.specs.declared.faults.Fault.TheVariants as fault
+use Rattle.radpolicy_c.specs.declared.opening.Opening.{Opening}
+use Rattle.radpolicy_c.specs.declared.statuses.Status.{Status}
+use Rattle.radpolicy_c.specs.declared.statuses.Status.TheVariants.{AlreadyOpen, Done, NoMemory, Refused}
+
+-- the policy's dictionary is that of the files, and the text spells the policy by it
+pub record IsOpenedFrom (files : List NamedFile) (text : List ℕ) (policy : Prepared) : Type 0 where
+  pub read : dictionary_of max_lines files ≡ Ok policy.dictionary
+  pub spelled : SpellsPolicy policy.dictionary text policy.statements
+
+-- there are files, and no two have one name
+pub record IsFileSet (files : List NamedFile) : Type 0 where
+  pub some : 0 < length files
+  pub distinct : HasDistinctNames files
+
+-- the refusal of the files' dictionary, with its file and line
+abbrev pub IsDictionaryRefusal : List NamedFile → Fault → Type 0
+IsDictionaryRefusal files (fault.Dictionary f) = dictionary_of max_lines files ≡ Err f
+IsDictionaryRefusal files _ = ⊥
+
+-- the text spells no policy by the files' dictionary
+pub record IsPolicyRefusal (files : List NamedFile) (text : List ℕ) (f : Fault) : Type 0 where
+  pub dictionary : Dictionary
+  pub read : dictionary_of max_lines files ≡ Ok dictionary
+  pub none : IsUnspelled dictionary text f
+
+-- why no policy is opened, but for want of memory: the files are no set, or their dictionary or the text is refused
+abbrev pub IsOpenRefusal : List NamedFile → List ℕ → Fault → Type 0
+IsOpenRefusal files text f =
+    ((IsFileSet files → ⊥) × (f ≡ fault.OptionValue))
+    ⊎ IsDictionaryRefusal files f ⊎ IsPolicyRefusal files text f
+
+-- ---- what the opening of a policy comes to
+
+-- what was held before, what is opened from what, the line that is told, and what is held after, by the status
+abbrev pub OpensBy
+    : Status → Option Prepared → List NamedFile → List ℕ → List ℕ → Option Prepared → Type 0
+OpensBy Done before files text line after =
+    (before ≡ None) × (line ≡ [])
+    × ((policy : Prepared) × IsOpenedFrom files text policy × (after ≡ Some policy))
+OpensBy Refused before files text line after =
+    (before ≡ None) × (after ≡ None)
+    × ((f : Fault) × IsOpenRefusal files text f × (line ≡ fault_line files f))
+OpensBy NoMemory before files text line after =
+    (before ≡ None) × (after ≡ None) × (line ≡ [])
+OpensBy AlreadyOpen before files text line after =
+    (before ≢ None) × (after ≡ before) × (line ≡ [])
+OpensBy _ before files text line after = ⊥
+
+abbrev pub Opens : Option Prepared → List NamedFile → List ℕ → Opening → Option Prepared → Type 0
+Opens before files text opening after =
+    OpensBy opening.status before files text opening.line after

@@ -1,0 +1,77 @@
+//! The functions that C calls. `c/radpolicy.h` says what C has to keep.
+
+ghost use Rattle.std.specs.Prelude.{◌≡◌, None, length, map};
+ghost use Rattle.radpolicy_c.specs.Closing.{closing_status};
+ghost use Rattle.radpolicy_c.specs.Files.{file_given};
+ghost use Rattle.radpolicy_c.specs.Opening.{Opens};
+ghost use Rattle.radpolicy_c.specs.Outcomes.{outcome_told, packet_told, report_told, run_status};
+ghost use Rattle.radpolicy_c.specs.Rooms.{room_told, status_told};
+ghost use Rattle.radpolicy_c.specs.Runs.{Runs};
+ghost use Rattle.radpolicy_c.specs.Statuses.{number_of};
+ghost use Rattle.radpolicy_c.specs.declared.opening.Opening.{Opening};
+ghost use Rattle.radpolicy_c.specs.declared.runs.Ran.{Ran};
+
+use crate::files::RadpolicyFile;
+use crate::handles::RadpolicyPolicy;
+use crate::lines::tell;
+use crate::opening::open;
+use crate::outcomes::{RadpolicyOutcome, tell_run};
+use crate::requests::RadpolicyRequest;
+use crate::runs::run_held;
+use crate::statuses::Status;
+use std::alloc::Global;
+use std::mem;
+
+/// Opens a policy by dictionary files. The line of the fault for which it is refused goes to the front of the room.
+#[unsafe(no_mangle)]
+pub extern "C" fn radpolicy_open(
+    alloc: Global,
+    policy: &mut RadpolicyPolicy,
+    files: &[RadpolicyFile<'_>],
+    text: &[u8],
+    room: &mut [u8],
+    told: &mut usize,
+) -> u8
+    ensures { (opening : Opening)
+        × Opens policy.old.held.policy (map file_given files.now) text.now opening
+        policy.new.held.policy
+        × (result ≡ number_of (status_told opening.status opening.line room.old))
+        × (room.new ≡ room_told opening.line room.old) × (told.new ≡ length opening.line) }
+{
+    let opening = open(alloc, policy, files, text);
+    tell(opening.status, opening.line.as_slice(), room, told).number()
+}
+
+/// Closes a policy: gives its memory back, and leaves a handle that holds none.
+#[unsafe(no_mangle)]
+pub extern "C" fn radpolicy_close(alloc: Global, policy: &mut RadpolicyPolicy) -> u8
+    ensures closed { policy.new.held.policy ≡ None }
+    ensures status { result ≡ number_of (closing_status policy.old.held.policy) }
+{
+    let status = match mem::replace(policy, RadpolicyPolicy::closed()).into_box(alloc) {
+        Some(_) => Status::Done,
+        None => Status::Closed,
+    };
+    status.number()
+}
+
+/// Runs the policy that is held on a request. The reply packet and the report go to the fronts of their rooms.
+#[unsafe(no_mangle)]
+pub extern "C" fn radpolicy_run(
+    alloc: Global,
+    policy: &mut RadpolicyPolicy,
+    asked: &RadpolicyRequest<'_>,
+    told: &mut RadpolicyOutcome,
+    packet: &mut [u8],
+    report: &mut [u8],
+) -> u8
+    ensures kept { policy.new.held.policy ≡ policy.old.held.policy }
+    ensures runs { (ran : Ran) × Runs policy.old.held.policy asked.now ran
+        × (result ≡ number_of (run_status ran packet.old report.old))
+        × (told.new ≡ outcome_told ran)
+        × (packet.new ≡ packet_told ran packet.old report.old)
+        × (report.new ≡ report_told ran packet.old report.old) }
+{
+    let ran = run_held(alloc, policy, asked);
+    tell_run(&ran, told, packet, report).number()
+}

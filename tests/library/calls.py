@@ -1,0 +1,163 @@
+"""The library for C, as C and Python programs call it: what the program prints of each case, replies that FreeRADIUS's
+client accepts, and memory that valgrind sees used rightly."""
+import ctypes
+import importlib.util
+import shutil
+import subprocess
+import sys
+from pathlib import Path
+from types import ModuleType
+from typing import List, Tuple
+
+from common.cases import Case, cases_below
+from common.program import run
+from common.report import Report
+from common.subject import Subject, new_folder
+from library.building import missing, program, shared_library
+
+EXPORTED = ["radpolicy_close", "radpolicy_open", "radpolicy_run"]
+CLIENT = "radclient"
+SECRET = "testing123"
+POLICY = 'update reply { Reply-Message := "hello" }\nif (&User-Name == "eve") { reject }\n'
+ASKED = "User-Name = {}, User-Password = hello, Message-Authenticator = 0x00\n"
+FORMS = {"--hex": 0, "--acct": 2}
+
+
+def example(subject: Subject) -> ModuleType:
+    """The example in Python, as a module."""
+    spec = importlib.util.spec_from_file_location("run_policy", subject.root / "examples" / "python" / "run_policy.py")
+    module = importlib.util.module_from_spec(spec)
+    spec.loader.exec_module(module)
+    return module
+
+
+def words_of(case: Case) -> Tuple[dict, List[str]]:
+    """The options of a case of `run`, and its dictionary files."""
+    options, files, words = {}, [], [word.decode() for word in case.words[1:]]
+    while words:
+        word = words.pop(0)
+        if word in FORMS:
+            options["form"] = FORMS[word]
+        elif word.startswith("-"):
+            options[word] = words.pop(0)
+        else:
+            files.append(word)
+    return options, files
+
+
+def request_of(case: Case, options: dict, python: ModuleType):
+    """The request of a case, as C gives it."""
+    form = options.get("form", 1)
+    octets = case.files[options["-f"]] if "-f" in options else case.stdin
+    secret = case.files[options["-S"]].split(b"\n")[0] if "-S" in options else None
+    asked = python.Request(python.octets(bytes.fromhex(octets.decode()) if form == 0 else octets),
+                           python.octets(secret or b""), python.octets(b""), python.octets(b""), form=form,
+                           identifier=int(options.get("-i", "0")), has_secret=secret is not None)
+    if "--authenticator" in options:
+        asked.has_authenticator = True
+        asked.authenticator[:] = bytes.fromhex(options["--authenticator"])
+    return asked
+
+
+def told_by(library: ctypes.CDLL, python: ModuleType, case: Case) -> Tuple[int, bytes]:
+    """The status, and the report or the line of the fault, that the library tells of a case."""
+    options, names = words_of(case)
+    policy, told, room = python.Policy(), ctypes.c_size_t(), ctypes.create_string_buffer(1 << 20)
+    size = ctypes.c_size_t(len(room))
+    files = (python.File * len(names))(*(python.File(python.octets(n.encode()), python.octets(case.files[n]))
+                                         for n in names))
+    text = case.files[options["--policy"]]
+    status = library.radpolicy_open(ctypes.byref(policy), files, ctypes.c_size_t(len(names)), text,
+                                    ctypes.c_size_t(len(text)), room, size, ctypes.byref(told))
+    if status == 0:
+        outcome, packet = python.Outcome(), ctypes.create_string_buffer(4096)
+        status = library.radpolicy_run(ctypes.byref(policy), ctypes.byref(request_of(case, options, python)),
+                                       ctypes.byref(outcome), packet, ctypes.c_size_t(len(packet)), room, size)
+        told.value = outcome.report_length
+        library.radpolicy_close(ctypes.byref(policy))
+    return status, room.raw[: told.value]
+
+
+def check_cases(subject: Subject, report: Report, made: Path) -> None:
+    """Each case of `run` that names files which exist."""
+    python = example(subject)
+    library = python.load(str(made))
+    for folder in (subject.root / "examples", subject.root / "tests" / "cases"):
+        for case in cases_below(folder):
+            options, names = words_of(case)
+            wanted = [options.get("--policy"), *([options["-f"]] if "-f" in options else []), *names]
+            if case.words[0] != b"run" or not all(name in case.files for name in wanted):
+                continue
+            with new_folder() as place:
+                case.place(place)
+                ended = run([subject.program, *case.words], place, case.stdin)
+            status, text = told_by(library, python, case)
+            same = (status, text) == (ended.status, ended.errors.splitlines(True)[0] if ended.status else ended.output)
+            fault = f"it tells {status} {text!r}, and the program {ended}"
+            report.check(f"the library tells of {case.name} what the program prints", [] if same else [fault])
+
+
+def check_example(subject: Subject, report: Report, made: Path) -> None:
+    """The example in Python as a program."""
+    folder = subject.root / "examples" / "reply"
+    words = [sys.executable, subject.root / "examples" / "python" / "run_policy.py", made,
+             (folder / "secret").read_text().split("\n")[0], folder / "policy",
+             *sorted((subject.root / "dictionaries").glob("dictionary*"))]
+    ended = run(words, folder, (folder / "packet").read_bytes())
+    same = ended.output == (folder / "output").read_bytes()
+    report.check("the example in Python prints what the program prints", [] if same else [repr(ended)])
+
+
+def check_responder(subject: Subject, report: Report, folder: Path) -> None:
+    """FreeRADIUS's client accepts the replies of the example in C."""
+    if shutil.which(CLIENT) is None:
+        report.say(f"the example in C: not tried, there is no {CLIENT}")
+        return
+    made = program(subject, folder, "examples/c/responder.c")
+    (folder / "policy").write_text(POLICY)
+    words = [made, "0", SECRET, folder / "policy", *sorted((subject.root / "dictionaries").glob("dictionary*"))]
+    with subprocess.Popen(words, stdout=subprocess.PIPE, text=True) as responder:
+        try:
+            port = responder.stdout.readline().split()[1]
+            for name, verdict in (("bob", "Received Access-Accept"), ("eve", "Received Access-Reject")):
+                command = [CLIENT, "-r", "1", "-t", "60", "-x", f"127.0.0.1:{port}", "auth", SECRET]
+                ended = subprocess.run(command, input=ASKED.format(name), text=True, capture_output=True, check=False)
+                holds = verdict in ended.stdout and "verification failed" not in ended.stdout + ended.stderr
+                report.check(f"FreeRADIUS's client and the example in C: {verdict}", [] if holds else [ended.stdout])
+        finally:
+            responder.kill()
+
+
+def check_wrong_calls(subject: Subject, report: Report, folder: Path) -> None:
+    """Wrong calls and changed packets, watched by valgrind where it is installed."""
+    made = program(subject, folder, "tests/library/wrong_calls.c")
+    reply = subject.root / "tests" / "cases" / "reply-to-a-packet"
+    packet = bytes.fromhex((reply / "packet").read_text())
+    secret = (reply / "secret").read_text().split("\n")[0]
+    words = [made, secret, reply / "policy", subject.root / "tests" / "cases" / "dictionary"]
+    if shutil.which("valgrind") is None:
+        report.say("the library's use of memory: not watched, there is no valgrind")
+    else:
+        words = ["valgrind", "--quiet", "--error-exitcode=9", "--leak-check=full",
+                 "--show-leak-kinds=all", "--errors-for-leak-kinds=all", *words]
+    ended = subprocess.run(words, input=packet, capture_output=True, check=False)
+    holds = ended.returncode == 0 and ended.stdout == b"0 faults\n" and not ended.stderr
+    report.check("wrong calls of the library, rooms of every length and changed packets",
+                 [] if holds else [f"status {ended.returncode}: {ended.stdout!r} {ended.stderr[-2000:]!r}"])
+
+
+def check(subject: Subject, report: Report) -> None:
+    """All of it, where the library is built and there is a compiler for C."""
+    absent = missing(subject)
+    if absent:
+        report.say(f"the library for C: not tried, {absent}")
+        return
+    with new_folder() as folder:
+        made = shared_library(subject, folder)
+        shown = subprocess.run(["nm", "-D", "--defined-only", made], capture_output=True, text=True, check=True)
+        names = sorted(line.split()[-1] for line in shown.stdout.splitlines())
+        report.check("the library shows its own calls alone", [] if names == EXPORTED else [f"it shows {names}"])
+        check_cases(subject, report, made)
+        check_example(subject, report, made)
+        check_responder(subject, report, folder)
+        check_wrong_calls(subject, report, folder)
