@@ -1,12 +1,15 @@
 -- What a replay writes of a text of records, and how many there were.
-use Rattle.std.specs.Prelude.{ℕ, ◌+◌, List, [], ◌++◌, codes, Result, Ok, Err}
+use Rattle.std.specs.Prelude.{◌≡◌, ◌≤◌, ℕ, ◌+◌, ◌^◌, List, [], ◌++◌, codes, Option, Some, Result, Ok, Err, ⊤}
+use Rattle.std.specs.Io.KnownBytes.{Appends, Consumes}
 use Rattle.std.specs.List.{enumerate_from, flat_map, fold}
 use Rattle.radpolicy.specs.RunOutcomes.{RunOutcome}
 use Rattle.radpolicy.specs.declared.faults.Fault.{Fault}
 use Rattle.radpolicy_replay_records.specs.Answers.{answer_shown, answered}
-use Rattle.radpolicy_replay_records.specs.Lines.{records_of}
+use Rattle.radpolicy_replay_records.specs.Lines.{ended_records_of, records_of}
 use Rattle.radpolicy_replay_records.specs.Records.{name_shown, request_octets}
 use Rattle.radpolicy_replay_records.specs.declared.replays.Replay.{Replay}
+use Rattle.radpolicy_replay_records.specs.declared.replays.ReplayFault.{ReplayFault}
+use Rattle.radpolicy_replay_records.specs.declared.replays.ReplayFault.TheVariants.{Input, TooManyRecords}
 use Rattle.radpolicy_replay_records.specs.declared.summaries.Summary.{Summary}
 use Rattle.radpolicy_replay_records.specs.declared.summaries.Verdict.{Verdict}
 use Rattle.radpolicy_replay_records.specs.declared.summaries.Verdict.TheVariants.{Answered, Refused}
@@ -38,10 +41,14 @@ verdict_of replay line = verdict_by (record_answer replay line)
 
 -- ---- all records
 
--- what is written for the records of a text: a text for each, by itself and its number alone
+-- what is written for records: a text for each, by itself and its number alone
+abbrev pub records_text : Replay → ℕ → List (List ℕ) → List ℕ
+records_text replay number records =
+    flat_map (λ numbered. record_text replay numbered.0 numbered.1)
+    (enumerate_from number records)
+
 abbrev pub text_from : Replay → ℕ → List ℕ → List ℕ
-text_from replay number text = flat_map (λ numbered. record_text replay numbered.0 numbered.1)
-    (enumerate_from number (records_of text))
+text_from replay number text = records_text replay number (records_of text)
 
 abbrev pub replayed_text : Replay → List ℕ → List ℕ
 replayed_text replay text = text_from replay 1 text
@@ -62,3 +69,26 @@ summary_from replay summary text =
 
 abbrev pub summary_of : Replay → List ℕ → Summary
 summary_of replay text = summary_from replay no_records text
+
+-- ---- what was written where a replay ends before its input does
+
+-- what is written for the records of lines that have ended
+abbrev pub ended_text_from : Replay → ℕ → List ℕ → List ℕ
+ended_text_from replay number text = records_text replay number (ended_records_of text)
+
+abbrev pub ended_text : Replay → List ℕ → List ℕ
+ended_text replay text = ended_text_from replay 1 text
+
+-- known octets grow by a front of a text
+abbrev pub AppendsFront : Option (List ℕ) → Option (List ℕ) → List ℕ → Type 0
+AppendsFront old new text =
+    (front rest : List ℕ) × (text ≡ front ++ rest) × Appends old new front
+
+-- The reason of a fault, at an input of these octets of which these are left: where it is the input, all is written
+-- that is to be said of the lines that were read; and too many records are 2^64 at least.
+abbrev pub IsReason : Replay → List ℕ → Option (List ℕ) → Option (List ℕ) → Option (List ℕ)
+    → ReplayFault → Type 0
+IsReason replay octets left old new Input = (read : List ℕ) × Consumes (Some octets) left read
+    × Appends old new (ended_text replay read)
+IsReason replay octets left old new TooManyRecords = 2 ^ 64 ≤ (summary_of replay octets).read
+IsReason replay octets left old new _ = ⊤

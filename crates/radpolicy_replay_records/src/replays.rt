@@ -1,13 +1,13 @@
 //! The replay of an input.
 
-ghost use Rattle.std.specs.Prelude.{◌≡◌, ◌<◌, ◌≤◌, ◌+◌, ◌++◌, Err, IfErr, IfOk, IfSome, Ok, OnOk, length, take};
+ghost use Rattle.std.specs.Prelude.{◌≡◌, ◌<◌, ◌≤◌, ◌+◌, ◌++◌, Err, IfErr, IfOk, IfSome, Ok, OnErr, OnOk, length, take};
 ghost use Rattle.std.specs.Io.KnownBytes.{Appends, Consumes, IsAtEnd, Keeps};
 ghost use Rattle.radpolicy_replay_records.specs.Lines.{cut};
 ghost use Rattle.radpolicy.specs.Faults.{MemoryOr};
 ghost use Rattle.radpolicy_replay_records.specs.Answers.{answer_shown};
-ghost use Rattle.radpolicy_replay_records.specs.Replays.{record_answer, record_text, replayed_text, summary_of, verdict_by, verdict_of};
-ghost use Rattle.radpolicy_replay_records.specs.declared.replays.ReplayFault.TheVariants.{Memory as OutOfMemory};
-ghost use Rattle.radpolicy_replay_records.specs.internal.Positions.{HasNoEnd, Writes, line_counted, line_text};
+ghost use Rattle.radpolicy_replay_records.specs.Replays.{AppendsFront, IsReason, record_answer, record_text, replayed_text, summary_of, verdict_by, verdict_of};
+ghost use Rattle.radpolicy_replay_records.specs.declared.replays.ReplayFault.TheVariants.{Input as NotRead, Memory as OutOfMemory, Output as NotWritten};
+ghost use Rattle.radpolicy_replay_records.specs.internal.Positions.{CountsWithin, HasNoEnd, IsLineReason, IsOctetsReason, Writes, WritesFront, line_counted, line_text};
 
 use crate::answers::{answer, push_fault, push_outcome};
 use crate::lines::{MAX_LINE_OCTETS, first_line_end, is_record, keep};
@@ -16,7 +16,7 @@ use crate::summaries::{Summary, Verdict};
 use radpolicy::{Fault, PreparedPolicy, RunOutcome, Secret};
 use radpolicy_common::SecretValues;
 use std::alloc::{AllocError, AllocFailed, Global};
-use std::io::{Read, Write};
+use std::io::{ErrorKind, Read, Write};
 
 // The octets that are asked for by one read.
 const BLOCK_OCTETS: usize = 65_536;
@@ -71,6 +71,8 @@ fn read_block<R: Read>(input: &mut R, block: &mut Vec<u8>) -> Result<usize, Repl
     ensures read { IfOk result (λ count.
         Consumes (R.remaining input.old) (R.remaining input.new) (take count block.new.items)) }
     ensures end { IfOk result (λ count. count ≡ 0 → IsAtEnd (R.remaining input.new)) }
+    ensures unread { OnErr result (Keeps (R.remaining input.old) (R.remaining input.new)) }
+    ensures fault { IfErr result (λ fault. fault ≡ NotRead) }
 {
     match input.read(block.as_mut_slice()) {
         Ok(count) => Ok(count),
@@ -78,17 +80,44 @@ fn read_block<R: Read>(input: &mut R, block: &mut Vec<u8>) -> Result<usize, Repl
     }
 }
 
-fn write_text<W: Write>(out: &mut W, text: &[u8]) -> Result<(), ReplayFault>
-    ensures { OnOk result (Appends (W.contents out.old) (W.contents out.new) text.now) }
+// Writes a front of a text and says how long it is, which is 0 where the writing was interrupted.
+#[tactic(auto, using(crate::proofs::Writing::kept_by_nothing, crate::proofs::Writing::nothing_by_kept))]
+fn write_front<W: Write>(out: &mut W, text: &[u8]) -> Result<usize, ReplayFault>
+    ensures within { IfOk result (λ count. count ≤ length text.now) }
+    ensures written { IfOk result (λ count.
+        Appends (W.contents out.old) (W.contents out.new) (take count text.now)) }
+    ensures kept { OnErr result (Keeps (W.contents out.old) (W.contents out.new)) }
+    ensures fault { IfErr result (λ fault. fault ≡ NotWritten) }
 {
-    match out.write_all(text) {
-        Ok(()) => Ok(()),
+    match out.write(text) {
+        Ok(0) => Err(ReplayFault::Output),
+        Ok(count) => Ok(count),
+        Err(error) if error.kind() == ErrorKind::Interrupted => Ok(0),
         Err(_) => Err(ReplayFault::Output),
     }
 }
 
+// Writes a text, or the front of it that the writer takes.
+fn write_text<W: Write>(out: &mut W, text: &[u8]) -> Result<(), ReplayFault>
+    ensures whole { OnOk result (Appends (W.contents out.old) (W.contents out.new) text.now) }
+    ensures front { OnErr result
+        (AppendsFront (W.contents out.old) (W.contents out.new) text.now) }
+    ensures fault { IfErr result (λ fault. fault ≡ NotWritten) }
+{
+    let mut rest = text;
+    for _ in 0..u64::MAX {
+        if rest.len() < 1 {
+            return Ok(());
+        }
+        let count = write_front(out, rest)?;
+        rest = &rest[count..];
+    }
+    Err(ReplayFault::Output)
+}
+
 fn flush<W: Write>(out: &mut W) -> Result<(), ReplayFault>
-    ensures { OnOk result (Keeps (W.contents out.old) (W.contents out.new)) }
+    ensures kept { Keeps (W.contents out.old) (W.contents out.new) }
+    ensures fault { IfErr result (λ fault. fault ≡ NotWritten) }
 {
     match out.flush() {
         Ok(()) => Ok(()),
@@ -154,22 +183,25 @@ impl<'a> Replay<'a> {
         summary: Summary,
         out: &mut W,
     ) -> Result<Summary, ReplayFault>
+        requires { CountsWithin summary }
         ensures text { OnOk result (Appends (W.contents out.old) (W.contents out.new)
             (line_text self.now summary line.now)) }
         ensures summary { IfOk result (λ after.
             after ≡ line_counted self.now summary line.now) }
+        ensures front { OnErr result (AppendsFront (W.contents out.old) (W.contents out.new)
+            (line_text self.now summary line.now)) }
+        ensures reason { IfErr result (IsLineReason summary line.now) }
     {
-        let mut text = Vec::new(alloc);
         if !is_record(line) {
-            write_text(out, &text)?;
             return Ok(summary);
         }
         let Some(number) = summary.read.checked_add(1) else {
             return Err(ReplayFault::TooManyRecords);
         };
+        let mut text = Vec::new(alloc);
         let verdict = self.push_record(&mut text, number, line)?;
         write_text(out, &text)?;
-        summary.counted(verdict).ok_or(ReplayFault::TooManyRecords)
+        Ok(summary.counted(verdict))
     }
 
     // Writes what is to be said of each line that ends in the block, and keeps the line that does not.
@@ -182,11 +214,17 @@ impl<'a> Replay<'a> {
     ) -> Result<Summary, ReplayFault>
         requires no_end { HasNoEnd line.old.items }
         requires short { length line.old.items ≤ MAX_LINE_OCTETS + 1 }
+        requires within { CountsWithin summary }
         ensures no_end { OnOk result (HasNoEnd line.new.items) }
         ensures short { OnOk result (length line.new.items ≤ MAX_LINE_OCTETS + 1) }
+        ensures within { IfOk result CountsWithin }
         ensures told { IfOk result (λ after.
             Writes self.now summary (line.old.items ++ block.now) after line.new.items
             (W.contents out.old) (W.contents out.new)) }
+        ensures front { OnErr result (WritesFront self.now summary (line.old.items ++ block.now)
+            (W.contents out.old) (W.contents out.new)) }
+        ensures reason { IfErr result
+            (IsOctetsReason self.now summary (line.old.items ++ block.now)) }
     {
         let alloc = *line.allocator();
         let mut after = summary;
@@ -208,6 +246,9 @@ impl<'a> Replay<'a> {
     /// A record is a line of words with the packet of a request, in hexadecimal digits, after words that name the
     /// record; lines of blanks are passed over. Of a line of more than [`MAX_LINE_OCTETS`] octets no more than these
     /// are kept.
+    ///
+    /// Where it ends by a fault, what was written is a front of what was to be written. A fault of the input comes only
+    /// after all is written that is to be said of the lines that were read.
     pub fn run<R: Read, W: Write>(
         &self,
         alloc: Global,
@@ -218,6 +259,12 @@ impl<'a> Replay<'a> {
             Appends (W.contents out.old) (W.contents out.new) (replayed_text self.now octets))) }
         ensures summary { IfOk result (λ summary. IfSome (R.remaining input.old) (λ octets.
             summary ≡ summary_of self.now octets)) }
+        ensures front { OnErr result (IfSome (R.remaining input.old) (λ octets.
+            AppendsFront (W.contents out.old) (W.contents out.new)
+            (replayed_text self.now octets))) }
+        ensures reason { IfErr result (λ fault. IfSome (R.remaining input.old) (λ octets.
+            IsReason self.now octets (R.remaining input.new) (W.contents out.old)
+            (W.contents out.new) fault)) }
     {
         let mut block = new_block(alloc)?;
         let mut line = Vec::new(alloc);

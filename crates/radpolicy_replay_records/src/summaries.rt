@@ -1,7 +1,8 @@
 //! What became of records, and how many there were of each kind.
 
-ghost use Rattle.std.specs.Prelude.{◌≡◌, IfSome};
+ghost use Rattle.std.specs.Prelude.{◌≡◌, ◌<◌, ◌+◌, ◌^◌};
 ghost use Rattle.radpolicy_replay_records.specs.Replays.{counted, no_records};
+ghost use Rattle.radpolicy_replay_records.specs.internal.Positions.{CountsWithin};
 
 /// What became of a record.
 #[derive(Clone, Copy, Debug, PartialEq, Eq)]
@@ -29,17 +30,19 @@ impl Summary {
         }
     }
 
-    /// The same with one record more; none where a count would be too large.
-    pub(crate) fn counted(self, verdict: Verdict) -> Option<Summary>
-        ensures { IfSome result (λ summary. summary ≡ counted self verdict) }
+    /// The same with one record more.
+    pub(crate) fn counted(self, verdict: Verdict) -> Summary
+        requires room { self.read + 1 < 2 ^ 64 }
+        requires within { CountsWithin self }
+        ensures { result ≡ counted self verdict }
     {
-        let read = self.read.checked_add(1)?;
+        let read = self.read + 1;
         match verdict {
-            Verdict::Answered => Some(Summary { read, ..self }),
-            Verdict::Refused => Some(Summary {
+            Verdict::Answered => Summary { read, ..self },
+            Verdict::Refused => Summary {
                 read,
-                refused: self.refused.checked_add(1)?,
-            }),
+                refused: self.refused + 1,
+            },
         }
     }
 }
