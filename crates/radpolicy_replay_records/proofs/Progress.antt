@@ -14,7 +14,7 @@ use Rattle.radpolicy_replay_records.specs.declared.replays.ReplayFault.{ReplayFa
 use Rattle.radpolicy_replay_records.specs.declared.replays.ReplayFault.TheVariants.{Input, Memory, Output, TooManyRecords}
 use Rattle.radpolicy_replay_records.specs.declared.summaries.Summary.{Summary}
 use Rattle.radpolicy_replay_records.specs.declared.summaries.Verdict.{Verdict}
-use Rattle.radpolicy_replay_records.specs.declared.summaries.Verdict.TheVariants.{Answered, Refused}
+use Rattle.radpolicy_replay_records.specs.declared.summaries.Verdict.TheVariants.{Answered, Different, Refused, Same}
 use Rattle.radpolicy_replay_records.specs.internal.Positions.{Continues, CountsWithin, HasCome, HasNoEnd, IsLineReason, IsOctetsReason, Writes, WritesFront, line_counted, line_text}
 use Rattle.radpolicy_replay_records.proofs.Cutting.{NoEnd, cut_has_no_end, ended_records_cut, ended_records_line, ended_records_none, first_clean, parts_joined, records_cut, records_last, records_line}
 
@@ -25,6 +25,8 @@ counts_of replay summary records = fold (λ so_far line. counted so_far (verdict
 
 counted_read : (summary : Summary) (verdict : Verdict) → (counted summary verdict).read ≡ summary.read + 1
 counted_read summary Answered = refl
+counted_read summary Same = refl
+counted_read summary Different = refl
 counted_read summary Refused = refl
 
 -- the text of a line and of those after it
@@ -38,8 +40,14 @@ count_first replay summary line records true = refl
 count_first replay summary line records false = refl
 
 counted_within : (summary : Summary) (verdict : Verdict) → CountsWithin summary → CountsWithin (counted summary verdict)
-counted_within summary Answered within = omega (arith, within)
-counted_within summary Refused within = omega (arith, within)
+counted_within summary Answered (same, different, refused) =
+    (omega (arith, same), omega (arith, different), omega (arith, refused))
+counted_within summary Same (same, different, refused) =
+    (omega (arith, same), omega (arith, different), omega (arith, refused))
+counted_within summary Different (same, different, refused) =
+    (omega (arith, same), omega (arith, different), omega (arith, refused))
+counted_within summary Refused (same, different, refused) =
+    (omega (arith, same), omega (arith, different), omega (arith, refused))
 
 pub line_counted_within : (replay : Replay) (summary : Summary) (line : List ℕ) → CountsWithin summary → CountsWithin (line_counted replay summary line)
 line_counted_within replay summary line within =

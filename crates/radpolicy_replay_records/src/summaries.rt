@@ -7,9 +7,13 @@ ghost use Rattle.radpolicy_replay_records.specs.internal.Positions.{CountsWithin
 /// What became of a record.
 #[derive(Clone, Copy, Debug, PartialEq, Eq)]
 pub enum Verdict {
-    /// The policy ran.
+    /// The policy ran, and its answer was compared with none.
     Answered,
-    /// The line has no packet, or the packet was not taken.
+    /// Both policies ran, and came to the same.
+    Same,
+    /// Two policies answer it otherwise.
+    Different,
+    /// The line has no packet, or the packet was not taken, by both policies where two are compared.
     Refused,
 }
 
@@ -17,6 +21,8 @@ pub enum Verdict {
 #[derive(Clone, Copy, Debug, PartialEq, Eq)]
 pub struct Summary {
     pub read: u64,
+    pub same: u64,
+    pub different: u64,
     pub refused: u64,
 }
 
@@ -26,6 +32,8 @@ impl Summary {
     {
         Summary {
             read: 0,
+            same: 0,
+            different: 0,
             refused: 0,
         }
     }
@@ -39,9 +47,20 @@ impl Summary {
         let read = self.read + 1;
         match verdict {
             Verdict::Answered => Summary { read, ..self },
+            Verdict::Same => Summary {
+                read,
+                same: self.same + 1,
+                ..self
+            },
+            Verdict::Different => Summary {
+                read,
+                different: self.different + 1,
+                ..self
+            },
             Verdict::Refused => Summary {
                 read,
                 refused: self.refused + 1,
+                ..self
             },
         }
     }

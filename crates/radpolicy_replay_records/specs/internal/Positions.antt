@@ -23,7 +23,8 @@ line_counted replay summary line =
 
 -- no count is above that of the records
 abbrev pub CountsWithin : Summary → Type 0
-CountsWithin summary = summary.refused ≤ summary.read
+CountsWithin summary = (summary.same ≤ summary.read) × (summary.different ≤ summary.read)
+    × (summary.refused ≤ summary.read)
 
 -- Where `before` was left before, `after` is left now, and this was written: what is to be written for the one,
 -- whatever follows it, is what was written and what is to be written for the other.

@@ -142,3 +142,8 @@ pub returns-clause-reason : goal.returns-clause-reason
 returns-clause-reason g c =
     input_reason c.args.self.now c.loop.summary c.loop.line.items (g.R.Read.remaining c.args.input.now) (g.R.Read.remaining c.loop.input) (g.R.Read.remaining c.loop.input) (g.W.Write.contents c.args.out.now) (g.W.Write.contents c.loop.out)
     c.loop.invariant.no_end (Keeps-refl (g.R.Read.remaining c.loop.input)) c.loop.invariant.come
+
+pub returns-clause-front : goal.returns-clause-front
+returns-clause-front g c =
+    come_front c.args.self.now c.loop.summary c.loop.line.items (g.R.Read.remaining c.args.input.now) (g.R.Read.remaining c.loop.input) (g.W.Write.contents c.args.out.now) (g.W.Write.contents c.loop.out) (g.W.Write.contents c.loop.out)
+    (Keeps-refl (g.W.Write.contents c.loop.out)) c.loop.invariant.come
