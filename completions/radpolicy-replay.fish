@@ -1,5 +1,10 @@
 # Completes the words of radpolicy-replay in fish.
 complete -c radpolicy-replay -s h -l help -f -d 'Print help'
 complete -c radpolicy-replay -l policy -r -F -d 'Policy file'
+complete -c radpolicy-replay -l against -r -F -d 'Policy file to compare with'
+complete -c radpolicy-replay -l ordered -d 'The order of different attributes counts'
+complete -c radpolicy-replay -l ignore -x -d 'Attribute to leave out'
+complete -c radpolicy-replay -l all -d 'Tell records that are answered alike too'
+complete -c radpolicy-replay -l strict -d 'Status 1 if a record is refused'
 complete -c radpolicy-replay -s S -r -F -d 'File with the shared secret'
 complete -c radpolicy-replay -l show-secrets -d 'Show replies that have secret values'

@@ -43,21 +43,27 @@ def records(count: int) -> bytes:
 
 
 class Place:
-    """A folder with the files that the program needs."""
+    """A folder with the files that the program needs, and a policy in it."""
 
-    def __init__(self, subject: Subject, folder: Path) -> None:
-        self.subject, self.folder = subject, folder
-        (folder / "policy").write_bytes(POLICY)
+    def __init__(self, subject: Subject, folder: Path, policy: str = "policy", text: bytes = POLICY) -> None:
+        self.subject, self.folder, self.policy = subject, folder, policy
+        (folder / policy).write_bytes(text)
         (folder / "secret").write_bytes(SECRET + b"\n")
 
-    def command(self) -> List[str]:
+    def command(self, options: Sequence[str] = ()) -> List[str]:
         program = self.subject.driver("radpolicy_replay")
-        return [str(program), "--policy", "policy", "-S", "secret", str(DICTIONARY)]
+        return [str(program), "--policy", self.policy, "-S", "secret", *options, str(DICTIONARY)]
 
-    def replay(self, octets: bytes, before: Optional[Callable[[], None]] = None) -> Ended:
-        return run(self.command(), self.folder, octets, before=before)
+    def options(self, *others: str) -> List[str]:
+        """The words by which another policy is compared with this one."""
+        return ["--against", self.policy, *others]
+
+    def replay(
+        self, octets: bytes, options: Sequence[str] = (), before: Optional[Callable[[], None]] = None
+    ) -> Ended:
+        return run(self.command(options), self.folder, octets, before=before)
 
     def run_one(self, digits: bytes) -> Ended:
         """One packet by `radpolicy run`."""
-        words: Sequence[str] = ["run", "--hex", "-S", "secret", "--policy", "policy", str(DICTIONARY)]
+        words: Sequence[str] = ["run", "--hex", "-S", "secret", "--policy", self.policy, str(DICTIONARY)]
         return run([self.subject.program, *words], self.folder, digits)

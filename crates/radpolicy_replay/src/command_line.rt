@@ -7,10 +7,21 @@ use clap::error::ErrorKind;
 use clap::{Arg, ArgAction, ArgMatches};
 use radpolicy::Fault;
 use radpolicy_common::SecretValues;
+use radpolicy_replay_records::{Order, Told};
 use std::alloc::{AllocError, Global};
 use std::convert::AsStr;
 
 const POLICY: &str = "policy";
+
+const AGAINST: &str = "against";
+
+const ORDERED: &str = "ordered";
+
+const IGNORE: &str = "ignore";
+
+const ALL: &str = "all";
+
+const STRICT: &str = "strict";
 
 const SECRET: &str = "secret";
 
@@ -18,10 +29,21 @@ const SHOW_SECRETS: &str = "show-secrets";
 
 const DICTIONARY: &str = "dictionary";
 
+/// What answers are compared with, and how.
+#[derive(Drop)]
+pub struct ComparisonPlan<'a> {
+    pub against: &'a str,
+    pub order: Order,
+    pub ignored: Vec<&'a str>,
+    pub told: Told,
+}
+
 /// What a command line asks for.
 #[derive(Drop)]
 pub struct Plan<'a> {
     pub policy: &'a str,
+    pub comparison: Option<ComparisonPlan<'a>>,
+    pub strict: bool,
     pub secret: &'a str,
     pub secrets: SecretValues,
     pub dictionaries: Vec<&'a str>,
@@ -34,6 +56,43 @@ fn policy_option<'a>(alloc: Global) -> Arg<'a> {
         .required(true)
         .action(ArgAction::Set)
         .help("The policy that answers the records")
+}
+
+fn against_option<'a>(alloc: Global) -> Arg<'a> {
+    Arg::new(alloc, AGAINST)
+        .long(AGAINST)
+        .value_name("OLD")
+        .action(ArgAction::Set)
+        .help("Compares with the answers of this policy, and tells those that differ")
+}
+
+fn ordered_option<'a>(alloc: Global) -> Arg<'a> {
+    Arg::new(alloc, ORDERED)
+        .long(ORDERED)
+        .action(ArgAction::SetTrue)
+        .help("The order of attributes of different names counts too")
+}
+
+fn ignore_option<'a>(alloc: Global) -> Arg<'a> {
+    Arg::new(alloc, IGNORE)
+        .long(IGNORE)
+        .value_name("NAME")
+        .action(ArgAction::Append)
+        .help("Leaves an attribute out of what is compared; may be given more than once")
+}
+
+fn all_option<'a>(alloc: Global) -> Arg<'a> {
+    Arg::new(alloc, ALL)
+        .long(ALL)
+        .action(ArgAction::SetTrue)
+        .help("Tells the records that are answered alike too")
+}
+
+fn strict_option<'a>(alloc: Global) -> Arg<'a> {
+    Arg::new(alloc, STRICT)
+        .long(STRICT)
+        .action(ArgAction::SetTrue)
+        .help("Ends with status 1 where a record is refused")
 }
 
 fn secret_option<'a>(alloc: Global) -> Arg<'a> {
@@ -64,12 +123,19 @@ fn dictionary_files<'a>(alloc: Global) -> Arg<'a> {
 fn program<'a>(alloc: Global) -> Result<clap::Command<'a>, AllocError> {
     clap::Command::new(alloc, "radpolicy-replay")
         .bin_name("radpolicy-replay")?
-        .about("Answers recorded requests by a policy")
+        .about(
+            "Answers recorded requests by a policy, and tells what it answers otherwise than another",
+        )
         .after_help(
             "Standard input has a record a line: words that name it, and the request's packet in \
             hexadecimal digits.",
         )
         .arg(policy_option(alloc))?
+        .arg(against_option(alloc))?
+        .arg(ordered_option(alloc))?
+        .arg(ignore_option(alloc))?
+        .arg(all_option(alloc))?
+        .arg(strict_option(alloc))?
         .arg(secret_option(alloc))?
         .arg(show_secrets_option(alloc))?
         .arg(dictionary_files(alloc))
@@ -94,12 +160,60 @@ fn shown_secrets(found: &ArgMatches<'_>) -> SecretValues {
     }
 }
 
+fn asked_order(found: &ArgMatches<'_>) -> Order {
+    if found.get_flag(ORDERED) {
+        Order::Ordered
+    } else {
+        Order::ByName
+    }
+}
+
+fn asked_records(found: &ArgMatches<'_>) -> Told {
+    if found.get_flag(ALL) {
+        Told::All
+    } else {
+        Told::Different
+    }
+}
+
+fn ignored_names<'a>(alloc: Global, found: &ArgMatches<'a>) -> Result<Vec<&'a str>, AllocError> {
+    match found.get_strs(IGNORE) {
+        Some(names) => Vec::from_slice(alloc, names),
+        None => Ok(Vec::new(alloc)),
+    }
+}
+
+// How answers are compared has no meaning where they are not.
+fn comparison_of<'a>(
+    alloc: Global,
+    found: &ArgMatches<'a>,
+) -> Result<Option<ComparisonPlan<'a>>, Fault>
+    ensures { IfErr result IsWordFault }
+{
+    let (order, told) = (asked_order(found), asked_records(found));
+    let ignored = ignored_names(alloc, found)?;
+    match found.get_str(AGAINST) {
+        Some(against) => Ok(Some(ComparisonPlan {
+            against,
+            order,
+            ignored,
+            told,
+        })),
+        None if order == Order::Ordered || told == Told::All || ignored.len() > 0 => {
+            Err(Fault::Usage)
+        }
+        None => Ok(None),
+    }
+}
+
 fn plan_of<'a>(alloc: Global, found: &ArgMatches<'a>) -> Result<Plan<'a>, Fault>
     ensures { IfErr result IsWordFault }
 {
     let files = found.get_strs(DICTIONARY).ok_or(Fault::Usage)?;
     Ok(Plan {
         policy: found.get_str(POLICY).ok_or(Fault::Usage)?,
+        comparison: comparison_of(alloc, found)?,
+        strict: found.get_flag(STRICT),
         secret: found.get_str(SECRET).ok_or(Fault::Usage)?,
         secrets: shown_secrets(found),
         dictionaries: Vec::from_slice(alloc, files)?,

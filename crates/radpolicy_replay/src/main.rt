@@ -5,16 +5,17 @@ mod command_line;
 
 ghost use Rattle.std.specs.Prelude.{◌<◌, IfErr, IfOk, length};
 ghost use Rattle.avp_dict.specs.Lines.{HasDistinctNames};
-ghost use Rattle.radpolicy.specs.Faults.{IsPrintedWith};
+ghost use Rattle.radpolicy.specs.Faults.{IsPrintedAnywhere, IsPrintedWith};
 
 use crate::command_line::{Plan, help_text, read_words};
 use avp_dict::{Dictionary, FileSet};
-use avp_lists::Octets;
+use avp_lists::{AttrId, Octets};
 use radpolicy::{Fault, PreparedPolicy, Secret, status};
 use radpolicy_common::{
-    SecretValues, Unread, read_dictionary_set, read_file, refuse, refuse_early, refuse_unread,
+    Unread, read_dictionary_set, read_file, refuse, refuse_early, refuse_unread,
 };
-use radpolicy_replay_records::{Replay, ReplayFault, Summary};
+use radpolicy_replay_records::{Comparison, Replay, ReplayFault, Summary};
+use std::alloc::{AllocError, Global};
 use std::io;
 use std::io::BufWriter;
 use std::process::ExitCode;
@@ -24,10 +25,23 @@ use std::process::ExitCode;
 struct Files {
     dictionary: FileSet,
     policy: Octets,
+    // Empty where answers are not compared.
+    against: Octets,
     secret: Octets,
 }
 
-// The files are read in the order dictionaries, policy, secret, up to the first that cannot be read.
+// The status where a record is answered otherwise, or by --strict refused.
+const DIFFERENT: u8 = 1;
+
+// What the old policy's file holds; nothing where there is none.
+fn read_old_policy<'a>(rt: &HostRuntime, plan: &Plan<'a>) -> Result<Octets, Unread<'a>> {
+    match &plan.comparison {
+        Some(comparison) => read_file(rt, comparison.against),
+        None => Ok(Octets::from_vec(Vec::new(rt.alloc()))),
+    }
+}
+
+// The files are read in the order dictionaries, policy, old policy, secret, up to the first that cannot be read.
 fn read_files<'a>(rt: &HostRuntime, plan: &Plan<'a>) -> Result<Files, Unread<'a>>
     ensures first { IfOk result (λ files. 0 < length files.dictionary) }
     ensures distinct { IfOk result (λ files. HasDistinctNames files.dictionary) }
@@ -35,13 +49,28 @@ fn read_files<'a>(rt: &HostRuntime, plan: &Plan<'a>) -> Result<Files, Unread<'a>
     Ok(Files {
         dictionary: read_dictionary_set(rt, plan.dictionaries.as_slice())?,
         policy: read_file(rt, plan.policy)?,
+        against: read_old_policy(rt, plan)?,
         secret: read_file(rt, plan.secret)?,
     })
 }
 
-fn show_summary(rt: &HostRuntime, summary: Summary) {
+// How many records there were, those that were answered alike and otherwise where answers were compared.
+fn show_summary(rt: &HostRuntime, compares: bool, summary: Summary) {
     let (read, refused) = (summary.read, summary.refused);
-    let _ = eprintln!(rt; "{read} read, {refused} refused");
+    let (same, different) = (summary.same, summary.different);
+    let _ = if compares {
+        eprintln!(rt; "{read} read, {same} same, {different} different, {refused} refused")
+    } else {
+        eprintln!(rt; "{read} read, {refused} refused")
+    };
+}
+
+fn status_of(strict: bool, summary: Summary) -> u8 {
+    if summary.different > 0 || strict && summary.refused > 0 {
+        DIFFERENT
+    } else {
+        0
+    }
 }
 
 // Why a replay ended early. Standard input is named as a file that cannot be read is.
@@ -53,34 +82,107 @@ fn refuse_replay(rt: &HostRuntime, fault: ReplayFault) -> u8 {
     }
 }
 
-fn replay_input(rt: &HostRuntime, replay: &Replay<'_>) -> u8 {
+fn replay_input(rt: &HostRuntime, strict: bool, replay: &Replay<'_>) -> u8 {
     let Ok(mut out) = BufWriter::new(rt.alloc(), rt.stdout()) else {
         return refuse_early(rt, &Fault::Memory);
     };
     match replay.run(rt.alloc(), &mut rt.stdin(), &mut out) {
         Ok(summary) => {
-            show_summary(rt, summary);
-            0
+            show_summary(rt, replay.comparison.is_some(), summary);
+            status_of(strict, summary)
         }
         Err(fault) => refuse_replay(rt, fault),
     }
 }
 
+// The attributes of these names, up to the first that the dictionary does not have.
+fn named_attributes<'a>(
+    alloc: Global,
+    dictionary: &Dictionary,
+    names: &[&'a str],
+) -> Result<Result<Vec<AttrId>, &'a str>, AllocError> {
+    let mut ids = Vec::new(alloc);
+    for name in names {
+        match dictionary.by_name(name.as_bytes()) {
+            Some(named) => ids.push(named.id)?,
+            None => return Ok(Err(*name)),
+        }
+    }
+    Ok(Ok(ids))
+}
+
+// A name that is no attribute's, with the name.
+fn refuse_name(rt: &HostRuntime, name: &str) -> u8 {
+    let fault = Fault::OptionValue;
+    let _ = eprintln!(rt; "radpolicy: E02 {name}: {fault}");
+    status(&fault)
+}
+
+// The policy that answers are compared with, if they are. The name of its file is said before what is wrong with it.
+fn read_against<'a>(
+    rt: &HostRuntime,
+    dictionary: &'a Dictionary,
+    plan: &Plan<'_>,
+    text: &[u8],
+) -> Result<Option<PreparedPolicy<'a>>, Fault>
+    ensures { IfErr result IsPrintedAnywhere }
+{
+    let Some(asked) = &plan.comparison else {
+        return Ok(None);
+    };
+    match PreparedPolicy::read(rt.alloc(), dictionary, text) {
+        Ok(policy) => Ok(Some(policy)),
+        Err(fault) => {
+            let path = asked.against;
+            let _ = eprintln!(rt; "radpolicy-replay: {path}:");
+            Err(fault)
+        }
+    }
+}
+
+fn ignored_names<'a, 'b>(plan: &'b Plan<'a>) -> &'b [&'a str] {
+    match &plan.comparison {
+        Some(asked) => asked.ignored.as_slice(),
+        None => &[],
+    }
+}
+
+fn comparison_of<'a>(
+    plan: &Plan<'_>,
+    against: &'a Option<PreparedPolicy<'a>>,
+    ignored: &'a [AttrId],
+) -> Option<Comparison<'a>> {
+    let asked = plan.comparison.as_ref()?;
+    let against = against.as_ref()?;
+    Some(Comparison {
+        against,
+        order: asked.order,
+        ignored,
+        told: asked.told,
+    })
+}
+
 // What is read of the files, and the replay by it.
-fn replay_by(rt: &HostRuntime, files: &Files, secrets: SecretValues) -> Result<u8, Fault>
+fn replay_by(rt: &HostRuntime, plan: &Plan<'_>, files: &Files) -> Result<u8, Fault>
     requires first { 0 < length files.now.dictionary }
     requires distinct { HasDistinctNames files.now.dictionary }
     ensures { IfErr result (IsPrintedWith files.now.dictionary) }
 {
     let dictionary = Dictionary::read(rt.alloc(), &files.dictionary)?;
     let policy = PreparedPolicy::read(rt.alloc(), &dictionary, files.policy.as_slice())?;
+    let against = read_against(rt, &dictionary, plan, files.against.as_slice())?;
     let secret = Secret::in_file(files.secret.as_slice())?;
+    let ignored = match named_attributes(rt.alloc(), &dictionary, ignored_names(plan))? {
+        Ok(ids) => ids,
+        Err(name) => return Ok(refuse_name(rt, name)),
+    };
     let replay = Replay {
         policy: &policy,
         secret: &secret,
-        secrets,
+        comparison: comparison_of(plan, &against, &ignored),
+        secrets: plan.secrets,
     };
-    Ok(replay_input(rt, &replay))
+    Ok(replay_input(rt, plan.strict, &replay))
 }
 
 fn replay_plan(rt: &HostRuntime, plan: &Plan<'_>) -> u8 {
@@ -88,7 +190,7 @@ fn replay_plan(rt: &HostRuntime, plan: &Plan<'_>) -> u8 {
         Ok(files) => files,
         Err(unread) => return refuse_unread(rt, unread),
     };
-    match replay_by(rt, &files, plan.secrets) {
+    match replay_by(rt, plan, &files) {
         Ok(status) => status,
         Err(fault) => refuse(rt, &fault, &files.dictionary),
     }

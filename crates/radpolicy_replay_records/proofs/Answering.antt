@@ -1,5 +1,5 @@
 -- What a policy answers, by how its packet is read and what its run comes to.
-use Rattle.std.proofs.Common.{◌≡◌, ◌∙◌, ◌⊎◌, inl, inr, List, ℕ, Option, None, Some, Result, Ok, Err, refl, ap, sym}
+use Rattle.std.proofs.Common.{◌≡◌, ◌∙◌, ◌⊎◌, inl, inr, List, ℕ, Option, None, Some, Result, Ok, Err, refl, ap, subst, sym}
 use Rattle.avp_packet.specs.Decoded.{decoded}
 use Rattle.avp_packet.specs.declared.faults.PacketFault.{PacketFault}
 use Rattle.avp_packet.specs.declared.packets.Packet.{Packet}
@@ -10,7 +10,14 @@ use Rattle.radpolicy.specs.Starts.{Prepared, Start, start_of}
 use Rattle.radpolicy.specs.declared.faults.Fault.{Fault}
 use Rattle.radpolicy.specs.declared.faults.Fault.TheVariants as fault
 use Rattle.radpolicy.specs.declared.jobs.Form.TheVariants.{Hex}
+use Rattle.avp_dict.specs.Dictionary.{Dictionary}
+use Rattle.avp_unlang.specs.Meaning.{Outcome as End}
+use Rattle.std.specs.Option.{option_map}
+use Rattle.radpolicy.specs.RunOutcomes.{end_of, outcome_with, sent_reply}
+use Rattle.radpolicy.specs.declared.run_outcomes.Reply.{Reply}
 use Rattle.radpolicy_replay_records.specs.Answers.{answer_to, answered, outcome_or_fault}
+use Rattle.radpolicy_replay_records.specs.Replays.{answer_by}
+use Rattle.radpolicy_replay_records.specs.internal.Over.{IsOver}
 
 -- a packet that is not read
 unread : (prepared : Prepared) (secret : List ℕ) (read : Result Packet PacketFault) (f : Fault) → IsUnreadPacket read f → MemoryOr (λ g. answer_to prepared secret read ≡ Err g) f
@@ -49,3 +56,23 @@ pub run_refused : (prepared : Prepared) (secret octets : List ℕ) (start : Star
 run_refused prepared secret octets start read is f (inl memory) = inl memory
 run_refused prepared secret octets start read is f (inr (too_long, none)) =
     inr (by_run prepared secret octets start read is ∙ ap outcome_or_fault none ∙ ap (λ (g : Fault). Err g) (sym too_long))
+
+-- ---- whose dictionary an answer is over
+
+over_run : (dictionary : Dictionary) (end : End) (sent : Option Reply) → IsOver dictionary (outcome_or_fault (option_map (outcome_with dictionary end) sent))
+over_run dictionary end None = tt
+over_run dictionary end (Some reply) = refl
+
+over_read : (prepared : Prepared) (secret : List ℕ) (read : Result Packet PacketFault) → IsOver prepared.dictionary (answer_to prepared secret read)
+over_read prepared secret (Err f) = tt
+over_read prepared secret (Ok request) =
+    let start = start_of prepared (Some secret) Hex request in
+    over_run prepared.dictionary (end_of start) (sent_reply start (end_of start))
+
+over_answer : (prepared : Prepared) (secret : List ℕ) (request : Result (List ℕ) Fault) → IsOver prepared.dictionary (answer_by prepared secret request)
+unfolding answered
+over_answer prepared secret (Err f) = tt
+over_answer prepared secret (Ok octets) = over_read prepared secret (decoded prepared.dictionary secret octets)
+
+pub answer_is_over : (prepared : Prepared) (secret : List ℕ) (request : Result (List ℕ) Fault) (answer : Result RunOutcome Fault) → answer ≡ answer_by prepared secret request → IsOver prepared.dictionary answer
+answer_is_over prepared secret request answer same = subst (IsOver prepared.dictionary) (sym same) (over_answer prepared secret request)

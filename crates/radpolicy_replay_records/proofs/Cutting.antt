@@ -6,7 +6,7 @@ use Rattle.std.proofs.lemmas.List.{length-take, take_min}
 use Rattle.std.proofs.lemmas.List.Elements.{All-head, All-tail, All-cons, All-nil, All-append}
 use Rattle.std.proofs.lemmas.List.Splits.{join_with_byte-slice_split, slice_split-cons_no, slice_split_at, slice_split_none}
 use Rattle.avp_dict.specs.Lines.{is_line_end}
-use Rattle.radpolicy_replay_records.specs.Lines.{cut, is_record, records_of}
+use Rattle.radpolicy_replay_records.specs.Lines.{all_but_last, cut, ended_records_of, is_record, records_of}
 use Rattle.radpolicy_replay_records.specs.declared.lines.TheConstants.{MAX_LINE_OCTETS}
 use Rattle.radpolicy_replay_records.specs.internal.Positions.{HasNoEnd}
 
@@ -90,6 +90,29 @@ records_line xs ys none =
 pub records_last : (xs : List ℕ) → HasNoEnd xs → records_of xs ≡ cond (is_record (cut xs)) (cut xs ∷ []) []
 unfolding records_of
 records_last xs none = ap (λ parts. filter is_record (map cut parts)) (slice_split_none is_line_end xs none)
+
+-- ---- the records whose lines have ended
+
+pub ended_records_cut : (xs ys : List ℕ) → HasNoEnd xs → ended_records_of (cut xs ++ ys) ≡ ended_records_of (xs ++ ys)
+unfolding ended_records_of
+ended_records_cut xs ys none =
+    ap (λ lines. filter is_record (all_but_last lines)) (cut_by xs ys none (has_part ys))
+
+-- a line before a text ends
+one_before : (line ys : List ℕ) → HasPart (slice_split is_line_end ys) → all_but_last (line ∷ map cut (slice_split is_line_end ys)) ≡ line ∷ all_but_last (map cut (slice_split is_line_end ys))
+unfolding HasPart
+one_before line ys (part, parts, same) =
+    ap (λ lines. all_but_last (line ∷ map cut lines)) same ∙ sym (ap (λ lines. line ∷ all_but_last (map cut lines)) same)
+
+pub ended_records_line : (xs ys : List ℕ) → HasNoEnd xs → ended_records_of (xs ++ 10 ∷ ys) ≡ cond (is_record (cut xs)) (cut xs ∷ ended_records_of ys) (ended_records_of ys)
+unfolding ended_records_of
+ended_records_line xs ys none =
+    ap (λ parts. filter is_record (all_but_last (map cut parts))) (slice_split_at is_line_end xs 10 ys none refl)
+    ∙ ap (filter is_record) (one_before (cut xs) ys (has_part ys))
+
+pub ended_records_none : (xs : List ℕ) → HasNoEnd xs → ended_records_of xs ≡ []
+unfolding ended_records_of
+ended_records_none xs none = ap (λ parts. filter is_record (all_but_last (map cut parts))) (slice_split_none is_line_end xs none)
 
 -- ---- where a text is split
 

@@ -1,4 +1,6 @@
 pub mod Answers
+pub mod Comparisons
+pub mod Differences
 pub mod Lines
 pub mod Records
 pub mod Replays

@@ -1,47 +1,75 @@
 -- What a replay writes of a text of records, and how many there were.
-use Rattle.std.specs.Prelude.{ℕ, ◌+◌, List, [], ◌++◌, codes, Result, Ok, Err}
+use Rattle.std.specs.Prelude.{◌≡◌, ◌≤◌, ℕ, ◌+◌, ◌^◌, List, [], ◌++◌, codes, Option, None, Some, Result, Ok, Err, ⊤}
+use Rattle.std.specs.Io.KnownBytes.{Appends, Consumes}
 use Rattle.std.specs.List.{enumerate_from, flat_map, fold}
 use Rattle.radpolicy.specs.RunOutcomes.{RunOutcome}
+use Rattle.radpolicy.specs.Starts.{Prepared}
 use Rattle.radpolicy.specs.declared.faults.Fault.{Fault}
 use Rattle.radpolicy_replay_records.specs.Answers.{answer_shown, answered}
-use Rattle.radpolicy_replay_records.specs.Lines.{records_of}
+use Rattle.radpolicy_replay_records.specs.Differences.{answers_told, verdict_of_answers}
+use Rattle.radpolicy_replay_records.specs.Lines.{ended_records_of, records_of}
 use Rattle.radpolicy_replay_records.specs.Records.{name_shown, request_octets}
+use Rattle.radpolicy_replay_records.specs.declared.comparisons.Comparison.{Comparison}
 use Rattle.radpolicy_replay_records.specs.declared.replays.Replay.{Replay}
+use Rattle.radpolicy_replay_records.specs.declared.replays.ReplayFault.{ReplayFault}
+use Rattle.radpolicy_replay_records.specs.declared.replays.ReplayFault.TheVariants.{Input, TooManyRecords}
 use Rattle.radpolicy_replay_records.specs.declared.summaries.Summary.{Summary}
 use Rattle.radpolicy_replay_records.specs.declared.summaries.Verdict.{Verdict}
-use Rattle.radpolicy_replay_records.specs.declared.summaries.Verdict.TheVariants.{Answered, Refused}
+use Rattle.radpolicy_replay_records.specs.declared.summaries.Verdict.TheVariants.{Answered, Different, Refused, Same}
 
 -- ---- one record
 
--- what the policy answers to a request
-abbrev pub answer_by : Replay → Result (List ℕ) Fault → Result RunOutcome Fault
-answer_by replay (Ok octets) = answered replay.policy.now replay.secret.now octets
-answer_by replay (Err f) = Err f
+-- what a policy answers to a request
+abbrev pub answer_by : Prepared → List ℕ → Result (List ℕ) Fault → Result RunOutcome Fault
+answer_by prepared secret (Ok octets) = answered prepared secret octets
+answer_by prepared secret (Err f) = Err f
 
 -- what the policy answers to a record
 abbrev pub record_answer : Replay → List ℕ → Result RunOutcome Fault
-record_answer replay line = answer_by replay (request_octets line)
+record_answer replay line =
+    answer_by replay.policy.now replay.secret.now (request_octets line)
 
--- the line of a record with this number
-unfoldable pub record_text : Replay → ℕ → List ℕ → List ℕ
-record_text replay number line = name_shown number line
+-- what the policy answers to it with which the other is compared
+abbrev pub old_answer : Replay → Comparison → List ℕ → Result RunOutcome Fault
+old_answer replay comparison line =
+    answer_by comparison.against.now replay.secret.now (request_octets line)
+
+-- what is written for a record with this number, where its answer is compared and where it is not
+abbrev pub text_by : Replay → Option Comparison → ℕ → List ℕ → List ℕ
+text_by replay None number line = name_shown number line
     ++ answer_shown replay.policy.now.dictionary replay.secrets (record_answer replay line)
     ++ codes "\n"
+text_by replay (Some comparison) number line =
+    answers_told replay.secrets comparison (name_shown number line)
+    (old_answer replay comparison line) (record_answer replay line)
+
+-- what is written for a record with this number
+unfoldable pub record_text : Replay → ℕ → List ℕ → List ℕ
+record_text replay number line = text_by replay replay.comparison number line
 
 abbrev pub verdict_by : Result RunOutcome Fault → Verdict
 verdict_by (Ok _) = Answered
 verdict_by (Err _) = Refused
 
+abbrev pub verdict_on : Replay → Option Comparison → List ℕ → Verdict
+verdict_on replay None line = verdict_by (record_answer replay line)
+verdict_on replay (Some comparison) line =
+    verdict_of_answers comparison (old_answer replay comparison line) (record_answer replay line)
+
 -- what became of a record
 unfoldable pub verdict_of : Replay → List ℕ → Verdict
-verdict_of replay line = verdict_by (record_answer replay line)
+verdict_of replay line = verdict_on replay replay.comparison line
 
 -- ---- all records
 
--- what is written for the records of a text: a text for each, by itself and its number alone
+-- what is written for records: a text for each, by itself and its number alone
+abbrev pub records_text : Replay → ℕ → List (List ℕ) → List ℕ
+records_text replay number records =
+    flat_map (λ numbered. record_text replay numbered.0 numbered.1)
+    (enumerate_from number records)
+
 abbrev pub text_from : Replay → ℕ → List ℕ → List ℕ
-text_from replay number text = flat_map (λ numbered. record_text replay numbered.0 numbered.1)
-    (enumerate_from number (records_of text))
+text_from replay number text = records_text replay number (records_of text)
 
 abbrev pub replayed_text : Replay → List ℕ → List ℕ
 replayed_text replay text = text_from replay 1 text
@@ -49,11 +77,14 @@ replayed_text replay text = text_from replay 1 text
 -- one record more
 abbrev pub counted : Summary → Verdict → Summary
 counted summary Answered = record summary { read = summary.read + 1 }
+counted summary Same = record summary { read = summary.read + 1; same = summary.same + 1 }
+counted summary Different =
+    record summary { read = summary.read + 1; different = summary.different + 1 }
 counted summary Refused =
     record summary { read = summary.read + 1; refused = summary.refused + 1 }
 
 abbrev pub no_records : Summary
-no_records = record { read = 0; refused = 0 }
+no_records = record { read = 0; same = 0; different = 0; refused = 0 }
 
 -- the counts with those of the records of a text
 abbrev pub summary_from : Replay → Summary → List ℕ → Summary
@@ -62,3 +93,26 @@ summary_from replay summary text =
 
 abbrev pub summary_of : Replay → List ℕ → Summary
 summary_of replay text = summary_from replay no_records text
+
+-- ---- what was written where a replay ends before its input does
+
+-- what is written for the records of lines that have ended
+abbrev pub ended_text_from : Replay → ℕ → List ℕ → List ℕ
+ended_text_from replay number text = records_text replay number (ended_records_of text)
+
+abbrev pub ended_text : Replay → List ℕ → List ℕ
+ended_text replay text = ended_text_from replay 1 text
+
+-- known octets grow by a front of a text
+abbrev pub AppendsFront : Option (List ℕ) → Option (List ℕ) → List ℕ → Type 0
+AppendsFront old new text =
+    (front rest : List ℕ) × (text ≡ front ++ rest) × Appends old new front
+
+-- The reason of a fault, at an input of these octets of which these are left: where it is the input, all is written
+-- that is to be said of the lines that were read; and too many records are 2^64 at least.
+abbrev pub IsReason : Replay → List ℕ → Option (List ℕ) → Option (List ℕ) → Option (List ℕ)
+    → ReplayFault → Type 0
+IsReason replay octets left old new Input = (read : List ℕ) × Consumes (Some octets) left read
+    × Appends old new (ended_text replay read)
+IsReason replay octets left old new TooManyRecords = 2 ^ 64 ≤ (summary_of replay octets).read
+IsReason replay octets left old new _ = ⊤

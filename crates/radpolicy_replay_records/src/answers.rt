@@ -69,8 +69,8 @@ fn push_reply(text: &mut Vec<u8>, hides: bool, reply: &Reply) -> Result<(), Allo
     Ok(())
 }
 
-// The result, and whether the run was stopped.
-fn push_result(text: &mut Vec<u8>, outcome: &RunOutcome<'_>) -> Result<(), AllocError>
+/// The result, and whether the run was stopped.
+pub(crate) fn push_result(text: &mut Vec<u8>, outcome: &RunOutcome<'_>) -> Result<(), AllocError>
     ensures { OnOk result (text.new.items ≡ text.old.items ++ result_shown outcome.now.end) }
 {
     text.extend_from_slice(code_text(outcome.code()).as_bytes())?;

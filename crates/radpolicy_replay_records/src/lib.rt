@@ -2,12 +2,15 @@
 #![tactic(auto)]
 
 mod answers;
+mod comparisons;
+mod differences;
 mod lines;
 mod records;
 mod replays;
 mod summaries;
 
 pub use answers::answer;
+pub use comparisons::{Comparison, Order, Told, compared, same_lists};
 pub use lines::MAX_LINE_OCTETS;
 pub use records::request_octets;
 pub use replays::{Replay, ReplayFault};

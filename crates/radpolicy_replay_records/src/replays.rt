@@ -1,22 +1,26 @@
 //! The replay of an input.
 
-ghost use Rattle.std.specs.Prelude.{◌≡◌, ◌<◌, ◌≤◌, ◌+◌, ◌++◌, Err, IfErr, IfOk, IfSome, Ok, OnOk, length, take};
+ghost use Rattle.std.specs.Prelude.{◌≡◌, ◌<◌, ◌≤◌, ◌+◌, ◌++◌, Err, IfErr, IfOk, IfSome, None, Ok, OnErr, OnOk, Some, length, take};
 ghost use Rattle.std.specs.Io.KnownBytes.{Appends, Consumes, IsAtEnd, Keeps};
 ghost use Rattle.radpolicy_replay_records.specs.Lines.{cut};
 ghost use Rattle.radpolicy.specs.Faults.{MemoryOr};
 ghost use Rattle.radpolicy_replay_records.specs.Answers.{answer_shown};
-ghost use Rattle.radpolicy_replay_records.specs.Replays.{record_answer, record_text, replayed_text, summary_of, verdict_by, verdict_of};
-ghost use Rattle.radpolicy_replay_records.specs.declared.replays.ReplayFault.TheVariants.{Memory as OutOfMemory};
-ghost use Rattle.radpolicy_replay_records.specs.internal.Positions.{HasNoEnd, Writes, line_counted, line_text};
+ghost use Rattle.radpolicy_replay_records.specs.Replays.{AppendsFront, IsReason, answer_by, record_answer, record_text, replayed_text, summary_of, text_by, verdict_by, verdict_of, verdict_on};
+ghost use Rattle.radpolicy_replay_records.specs.Records.{request_octets};
+ghost use Rattle.radpolicy_replay_records.specs.internal.Over.{IsOver};
+ghost use Rattle.radpolicy_replay_records.specs.declared.replays.ReplayFault.TheVariants.{Input as NotRead, Memory as OutOfMemory, Output as NotWritten};
+ghost use Rattle.radpolicy_replay_records.specs.internal.Positions.{CountsWithin, HasNoEnd, IsLineReason, IsOctetsReason, Writes, WritesFront, line_counted, line_text};
 
 use crate::answers::{answer, push_fault, push_outcome};
+use crate::comparisons::Comparison;
+use crate::differences::Printer;
 use crate::lines::{MAX_LINE_OCTETS, first_line_end, is_record, keep};
 use crate::records::{push_name, request_octets};
 use crate::summaries::{Summary, Verdict};
 use radpolicy::{Fault, PreparedPolicy, RunOutcome, Secret};
 use radpolicy_common::SecretValues;
 use std::alloc::{AllocError, AllocFailed, Global};
-use std::io::{Read, Write};
+use std::io::{ErrorKind, Read, Write};
 
 // The octets that are asked for by one read.
 const BLOCK_OCTETS: usize = 65_536;
@@ -49,11 +53,14 @@ impl<T: Drop> From<AllocFailed<T>> for ReplayFault {
     }
 }
 
-/// What is asked of records: which policy answers them, by which secret, and what is shown.
+/// What is asked of records: which policy answers them, by which secret, what its answers are compared with, and what
+/// is shown of secret values.
 #[derive(Drop)]
 pub struct Replay<'a> {
     pub policy: &'a PreparedPolicy<'a>,
     pub secret: &'a Secret<'a>,
+    /// `None`: each record is answered.
+    pub comparison: Option<Comparison<'a>>,
     pub secrets: SecretValues,
 }
 
@@ -71,6 +78,8 @@ fn read_block<R: Read>(input: &mut R, block: &mut Vec<u8>) -> Result<usize, Repl
     ensures read { IfOk result (λ count.
         Consumes (R.remaining input.old) (R.remaining input.new) (take count block.new.items)) }
     ensures end { IfOk result (λ count. count ≡ 0 → IsAtEnd (R.remaining input.new)) }
+    ensures unread { OnErr result (Keeps (R.remaining input.old) (R.remaining input.new)) }
+    ensures fault { IfErr result (λ fault. fault ≡ NotRead) }
 {
     match input.read(block.as_mut_slice()) {
         Ok(count) => Ok(count),
@@ -78,17 +87,44 @@ fn read_block<R: Read>(input: &mut R, block: &mut Vec<u8>) -> Result<usize, Repl
     }
 }
 
-fn write_text<W: Write>(out: &mut W, text: &[u8]) -> Result<(), ReplayFault>
-    ensures { OnOk result (Appends (W.contents out.old) (W.contents out.new) text.now) }
+// Writes a front of a text and says how long it is, which is 0 where the writing was interrupted.
+#[tactic(auto, using(crate::proofs::Writing::kept_by_nothing, crate::proofs::Writing::nothing_by_kept))]
+fn write_front<W: Write>(out: &mut W, text: &[u8]) -> Result<usize, ReplayFault>
+    ensures within { IfOk result (λ count. count ≤ length text.now) }
+    ensures written { IfOk result (λ count.
+        Appends (W.contents out.old) (W.contents out.new) (take count text.now)) }
+    ensures kept { OnErr result (Keeps (W.contents out.old) (W.contents out.new)) }
+    ensures fault { IfErr result (λ fault. fault ≡ NotWritten) }
 {
-    match out.write_all(text) {
-        Ok(()) => Ok(()),
+    match out.write(text) {
+        Ok(0) => Err(ReplayFault::Output),
+        Ok(count) => Ok(count),
+        Err(error) if error.kind() == ErrorKind::Interrupted => Ok(0),
         Err(_) => Err(ReplayFault::Output),
     }
 }
 
+// Writes a text, or the front of it that the writer takes.
+fn write_text<W: Write>(out: &mut W, text: &[u8]) -> Result<(), ReplayFault>
+    ensures whole { OnOk result (Appends (W.contents out.old) (W.contents out.new) text.now) }
+    ensures front { OnErr result
+        (AppendsFront (W.contents out.old) (W.contents out.new) text.now) }
+    ensures fault { IfErr result (λ fault. fault ≡ NotWritten) }
+{
+    let mut rest = text;
+    for _ in 0..u64::MAX {
+        if rest.len() < 1 {
+            return Ok(());
+        }
+        let count = write_front(out, rest)?;
+        rest = &rest[count..];
+    }
+    Err(ReplayFault::Output)
+}
+
 fn flush<W: Write>(out: &mut W) -> Result<(), ReplayFault>
-    ensures { OnOk result (Keeps (W.contents out.old) (W.contents out.new)) }
+    ensures kept { Keeps (W.contents out.old) (W.contents out.new) }
+    ensures fault { IfErr result (λ fault. fault ≡ NotWritten) }
 {
     match out.flush() {
         Ok(()) => Ok(()),
@@ -96,16 +132,55 @@ fn flush<W: Write>(out: &mut W) -> Result<(), ReplayFault>
     }
 }
 
-impl<'a> Replay<'a> {
-    // What the policy answers to a record.
-    fn answer(&self, alloc: Global, line: &[u8]) -> Result<RunOutcome<'a>, Fault>
-        ensures ok { IfOk result (λ outcome. record_answer self.now line.now ≡ Ok outcome) }
-        ensures refused { IfErr result (MemoryOr (λ f. record_answer self.now line.now ≡ Err f)) }
-    {
-        let octets = request_octets(alloc, line)?;
-        answer(alloc, self.policy, self.secret, &octets)
-    }
+// What a policy answers to a record.
+fn record_answer<'a>(
+    alloc: Global,
+    policy: &'a PreparedPolicy<'a>,
+    secret: &'a Secret<'a>,
+    line: &[u8],
+) -> Result<RunOutcome<'a>, Fault>
+    ensures ok { IfOk result (λ outcome.
+        answer_by policy.entry.now secret.entry.now (request_octets line.now) ≡ Ok outcome) }
+    ensures refused { IfErr result (MemoryOr (λ f.
+        answer_by policy.entry.now secret.entry.now (request_octets line.now) ≡ Err f)) }
+{
+    let octets = request_octets(alloc, line)?;
+    answer(alloc, policy, secret, &octets)
+}
 
+// The same as a value, so that only want of memory is an error.
+fn answer_or_fault<'a>(
+    alloc: Global,
+    policy: &'a PreparedPolicy<'a>,
+    secret: &'a Secret<'a>,
+    line: &[u8],
+) -> Result<Result<RunOutcome<'a>, Fault>, AllocError>
+    ensures { IfOk result (λ answer.
+        answer ≡ answer_by policy.entry.now secret.entry.now (request_octets line.now)) }
+{
+    match record_answer(alloc, policy, secret, line) {
+        Ok(outcome) => Ok(Ok(outcome)),
+        Err(Fault::Memory) => Err(AllocError),
+        Err(fault) => Ok(Err(fault)),
+    }
+}
+
+// The same, which is over the dictionary of its policy.
+fn answer_over<'a>(
+    alloc: Global,
+    policy: &'a PreparedPolicy<'a>,
+    secret: &'a Secret<'a>,
+    line: &[u8],
+) -> Result<Result<RunOutcome<'a>, Fault>, AllocError>
+    ensures answer { IfOk result (λ answer.
+        answer ≡ answer_by policy.entry.now secret.entry.now (request_octets line.now)) }
+    ensures over { IfOk result (IsOver policy.entry.now.dictionary) }
+{
+    let answer = answer_or_fault(alloc, policy, secret, line)?;
+    Ok(answer)
+}
+
+impl<'a> Replay<'a> {
     // What is said of the answer to a record.
     fn push_answer(&self, text: &mut Vec<u8>, line: &[u8]) -> Result<Verdict, AllocError>
         ensures text { OnOk result (text.new.items ≡ text.old.items
@@ -115,7 +190,7 @@ impl<'a> Replay<'a> {
             verdict ≡ verdict_by (record_answer self.now line.now)) }
     {
         let alloc = *text.allocator();
-        match self.answer(alloc, line) {
+        match record_answer(alloc, self.policy, self.secret, line) {
             Ok(outcome) => {
                 push_outcome(text, self.policy.dictionary(), self.secrets, &outcome)?;
                 Ok(Verdict::Answered)
@@ -128,7 +203,50 @@ impl<'a> Replay<'a> {
         }
     }
 
-    // The line of a record.
+    // The line of a record whose answer is not compared.
+    fn push_answered(
+        &self,
+        text: &mut Vec<u8>,
+        number: u64,
+        line: &[u8],
+    ) -> Result<Verdict, AllocError>
+        ensures text { OnOk result
+            (text.new.items ≡ text.old.items ++ text_by self.now None number line.now) }
+        ensures verdict { IfOk result (λ verdict. verdict ≡ verdict_on self.now None line.now) }
+    {
+        push_name(text, number, line)?;
+        let verdict = self.push_answer(text, line)?;
+        text.extend_from_slice(b"\n")?;
+        Ok(verdict)
+    }
+
+    // What is said of a record whose answer is compared.
+    fn push_compared(
+        &self,
+        text: &mut Vec<u8>,
+        comparison: &Comparison<'a>,
+        number: u64,
+        line: &[u8],
+    ) -> Result<Verdict, AllocError>
+        ensures text { OnOk result (text.new.items
+            ≡ text.old.items ++ text_by self.now (Some comparison.now) number line.now) }
+        ensures verdict { IfOk result (λ verdict.
+            verdict ≡ verdict_on self.now (Some comparison.now) line.now) }
+    {
+        let alloc = *text.allocator();
+        let mut name = Vec::new(alloc);
+        push_name(&mut name, number, line)?;
+        let old = answer_over(alloc, comparison.against, self.secret, line)?;
+        let new = answer_over(alloc, self.policy, self.secret, line)?;
+        let printer = Printer {
+            old: comparison.against.dictionary(),
+            new: self.policy.dictionary(),
+            secrets: self.secrets,
+        };
+        comparison.push_answers(text, &printer, &name, &old, &new)
+    }
+
+    // What is said of a record.
     #[tactic(auto, unfolding(crate::specs::Replays::record_text, crate::specs::Replays::verdict_of))]
     fn push_record(
         &self,
@@ -140,10 +258,10 @@ impl<'a> Replay<'a> {
             (text.new.items ≡ text.old.items ++ record_text self.now number line.now) }
         ensures verdict { IfOk result (λ verdict. verdict ≡ verdict_of self.now line.now) }
     {
-        push_name(text, number, line)?;
-        let verdict = self.push_answer(text, line)?;
-        text.extend_from_slice(b"\n")?;
-        Ok(verdict)
+        match &self.comparison {
+            None => self.push_answered(text, number, line),
+            Some(comparison) => self.push_compared(text, comparison, number, line),
+        }
     }
 
     // Writes what is to be said of a line.
@@ -154,22 +272,25 @@ impl<'a> Replay<'a> {
         summary: Summary,
         out: &mut W,
     ) -> Result<Summary, ReplayFault>
+        requires { CountsWithin summary }
         ensures text { OnOk result (Appends (W.contents out.old) (W.contents out.new)
             (line_text self.now summary line.now)) }
         ensures summary { IfOk result (λ after.
             after ≡ line_counted self.now summary line.now) }
+        ensures front { OnErr result (AppendsFront (W.contents out.old) (W.contents out.new)
+            (line_text self.now summary line.now)) }
+        ensures reason { IfErr result (IsLineReason summary line.now) }
     {
-        let mut text = Vec::new(alloc);
         if !is_record(line) {
-            write_text(out, &text)?;
             return Ok(summary);
         }
         let Some(number) = summary.read.checked_add(1) else {
             return Err(ReplayFault::TooManyRecords);
         };
+        let mut text = Vec::new(alloc);
         let verdict = self.push_record(&mut text, number, line)?;
         write_text(out, &text)?;
-        summary.counted(verdict).ok_or(ReplayFault::TooManyRecords)
+        Ok(summary.counted(verdict))
     }
 
     // Writes what is to be said of each line that ends in the block, and keeps the line that does not.
@@ -182,11 +303,17 @@ impl<'a> Replay<'a> {
     ) -> Result<Summary, ReplayFault>
         requires no_end { HasNoEnd line.old.items }
         requires short { length line.old.items ≤ MAX_LINE_OCTETS + 1 }
+        requires within { CountsWithin summary }
         ensures no_end { OnOk result (HasNoEnd line.new.items) }
         ensures short { OnOk result (length line.new.items ≤ MAX_LINE_OCTETS + 1) }
+        ensures within { IfOk result CountsWithin }
         ensures told { IfOk result (λ after.
             Writes self.now summary (line.old.items ++ block.now) after line.new.items
             (W.contents out.old) (W.contents out.new)) }
+        ensures front { OnErr result (WritesFront self.now summary (line.old.items ++ block.now)
+            (W.contents out.old) (W.contents out.new)) }
+        ensures reason { IfErr result
+            (IsOctetsReason self.now summary (line.old.items ++ block.now)) }
     {
         let alloc = *line.allocator();
         let mut after = summary;
@@ -201,13 +328,16 @@ impl<'a> Replay<'a> {
         Ok(after)
     }
 
-    /// Writes a line for each record of the input, in order, and says how many records there were. A record that is
-    /// refused has a line too, and does not end the replay. What was written is put out before more is read, so that
-    /// no answer waits for a further record.
+    /// Writes what is to be said of each record of the input, in order, and says how many records there were: a line
+    /// with its answer, or where answers are compared what differs. A record that is refused does not end the replay.
+    /// What was written is put out before more is read, so that no answer waits for a further record.
     ///
     /// A record is a line of words with the packet of a request, in hexadecimal digits, after words that name the
     /// record; lines of blanks are passed over. Of a line of more than [`MAX_LINE_OCTETS`] octets no more than these
     /// are kept.
+    ///
+    /// Where it ends by a fault, what was written is a front of what was to be written. A fault of the input comes only
+    /// after all is written that is to be said of the lines that were read.
     pub fn run<R: Read, W: Write>(
         &self,
         alloc: Global,
@@ -218,6 +348,12 @@ impl<'a> Replay<'a> {
             Appends (W.contents out.old) (W.contents out.new) (replayed_text self.now octets))) }
         ensures summary { IfOk result (λ summary. IfSome (R.remaining input.old) (λ octets.
             summary ≡ summary_of self.now octets)) }
+        ensures front { OnErr result (IfSome (R.remaining input.old) (λ octets.
+            AppendsFront (W.contents out.old) (W.contents out.new)
+            (replayed_text self.now octets))) }
+        ensures reason { IfErr result (λ fault. IfSome (R.remaining input.old) (λ octets.
+            IsReason self.now octets (R.remaining input.new) (W.contents out.old)
+            (W.contents out.new) fault)) }
     {
         let mut block = new_block(alloc)?;
         let mut line = Vec::new(alloc);

@@ -1,14 +1,19 @@
 //! What became of records, and how many there were of each kind.
 
-ghost use Rattle.std.specs.Prelude.{◌≡◌, IfSome};
+ghost use Rattle.std.specs.Prelude.{◌≡◌, ◌<◌, ◌+◌, ◌^◌};
 ghost use Rattle.radpolicy_replay_records.specs.Replays.{counted, no_records};
+ghost use Rattle.radpolicy_replay_records.specs.internal.Positions.{CountsWithin};
 
 /// What became of a record.
 #[derive(Clone, Copy, Debug, PartialEq, Eq)]
 pub enum Verdict {
-    /// The policy ran.
+    /// The policy ran, and its answer was compared with none.
     Answered,
-    /// The line has no packet, or the packet was not taken.
+    /// Both policies ran, and came to the same.
+    Same,
+    /// Two policies answer it otherwise.
+    Different,
+    /// The line has no packet, or the packet was not taken, by both policies where two are compared.
     Refused,
 }
 
@@ -16,6 +21,8 @@ pub enum Verdict {
 #[derive(Clone, Copy, Debug, PartialEq, Eq)]
 pub struct Summary {
     pub read: u64,
+    pub same: u64,
+    pub different: u64,
     pub refused: u64,
 }
 
@@ -25,21 +32,36 @@ impl Summary {
     {
         Summary {
             read: 0,
+            same: 0,
+            different: 0,
             refused: 0,
         }
     }
 
-    /// The same with one record more; none where a count would be too large.
-    pub(crate) fn counted(self, verdict: Verdict) -> Option<Summary>
-        ensures { IfSome result (λ summary. summary ≡ counted self verdict) }
+    /// The same with one record more.
+    pub(crate) fn counted(self, verdict: Verdict) -> Summary
+        requires room { self.read + 1 < 2 ^ 64 }
+        requires within { CountsWithin self }
+        ensures { result ≡ counted self verdict }
     {
-        let read = self.read.checked_add(1)?;
+        let read = self.read + 1;
         match verdict {
-            Verdict::Answered => Some(Summary { read, ..self }),
-            Verdict::Refused => Some(Summary {
+            Verdict::Answered => Summary { read, ..self },
+            Verdict::Same => Summary {
                 read,
-                refused: self.refused.checked_add(1)?,
-            }),
+                same: self.same + 1,
+                ..self
+            },
+            Verdict::Different => Summary {
+                read,
+                different: self.different + 1,
+                ..self
+            },
+            Verdict::Refused => Summary {
+                read,
+                refused: self.refused + 1,
+                ..self
+            },
         }
     }
 }

@@ -2,6 +2,10 @@
 #![tactic(auto)]
 
 #[cfg(test)]
+mod comparisons;
+#[cfg(test)]
+mod faults;
+#[cfg(test)]
 mod records;
 #[cfg(test)]
 mod replays;

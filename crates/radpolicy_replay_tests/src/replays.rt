@@ -41,6 +41,7 @@ fn replayed(
     let replay = Replay {
         policy: &policy,
         secret: &secret,
+        comparison: None,
         secrets,
     };
     let mut input = input;
@@ -54,8 +55,7 @@ fn records_are_answered(rt: HostRuntime) -> Result<(), Fail> {
     let alloc = rt.alloc();
     let (text, summary) = replayed(alloc, POLICY, SecretValues::Hidden, RECORDS)?;
     assert_eq!(&rt; text.as_slice(), ANSWERS);
-    let (read, refused) = (4, 2);
-    assert_eq!(&rt; summary, Summary { read, refused });
+    assert_eq!(&rt; (summary.read, summary.refused), (4, 2));
     Ok(())
 }
 
@@ -81,7 +81,6 @@ fn a_long_line_is_one_record(rt: HostRuntime) -> Result<(), Fail> {
     input.extend_from_slice(REQUEST)?;
     let (text, summary) = replayed(alloc, POLICY, SecretValues::Hidden, &input)?;
     assert!(&rt; text.starts_with(b"1 E46 packet too long\n2 ok 0207"));
-    let (read, refused) = (2, 1);
-    assert_eq!(&rt; summary, Summary { read, refused });
+    assert_eq!(&rt; (summary.read, summary.refused), (2, 1));
     Ok(())
 }

@@ -1,10 +1,12 @@
 -- How far a replay has come: the octets that are left, those that are kept of a line before them, and the counts.
-use Rattle.std.specs.Prelude.{◌≡◌, ℕ, ◌+◌, Bool, false, if◌then◌else◌, List, [], ◌++◌, Option, None, Some, All}
+use Rattle.std.specs.Prelude.{◌≡◌, ◌≤◌, ℕ, ◌+◌, ◌^◌, Bool, true, false, if◌then◌else◌, List, [], ◌++◌, Option, None, Some, All, ⊤}
 use Rattle.std.specs.Io.KnownBytes.{Appends}
 use Rattle.avp_dict.specs.Lines.{is_line_end}
 use Rattle.radpolicy_replay_records.specs.Lines.{is_record}
-use Rattle.radpolicy_replay_records.specs.Replays.{counted, no_records, record_text, summary_from, text_from, verdict_of}
+use Rattle.radpolicy_replay_records.specs.Replays.{counted, ended_text_from, no_records, record_text, summary_from, text_from, verdict_of}
 use Rattle.radpolicy_replay_records.specs.declared.replays.Replay.{Replay}
+use Rattle.radpolicy_replay_records.specs.declared.replays.ReplayFault.{ReplayFault}
+use Rattle.radpolicy_replay_records.specs.declared.replays.ReplayFault.TheVariants.{Input, TooManyRecords}
 use Rattle.radpolicy_replay_records.specs.declared.summaries.Summary.{Summary}
 
 abbrev pub HasNoEnd : List ℕ → Type 0
@@ -19,12 +21,19 @@ abbrev pub line_counted : Replay → Summary → List ℕ → Summary
 line_counted replay summary line =
     if is_record line then counted summary (verdict_of replay line) else summary
 
+-- no count is above that of the records
+abbrev pub CountsWithin : Summary → Type 0
+CountsWithin summary = (summary.same ≤ summary.read) × (summary.different ≤ summary.read)
+    × (summary.refused ≤ summary.read)
+
 -- Where `before` was left before, `after` is left now, and this was written: what is to be written for the one,
 -- whatever follows it, is what was written and what is to be written for the other.
 pub record Continues (replay : Replay) (summary : Summary) (before : List ℕ) (now : Summary)
     (after written : List ℕ) : Type 0 where
   pub text : (later : List ℕ) → text_from replay (summary.read + 1) (before ++ later)
       ≡ written ++ text_from replay (now.read + 1) (after ++ later)
+  pub ended : (later : List ℕ) → ended_text_from replay (summary.read + 1) (before ++ later)
+      ≡ written ++ ended_text_from replay (now.read + 1) (after ++ later)
   pub summary_same : (later : List ℕ) → summary_from replay summary (before ++ later)
       ≡ summary_from replay now (after ++ later)
 
@@ -34,10 +43,31 @@ abbrev pub Writes : Replay → Summary → List ℕ → Summary → List ℕ →
 Writes replay summary before now after old new = (written : List ℕ) × Appends old new written
     × Continues replay summary before now after written
 
--- How far a replay has come whose input had these octets, where they are known: some are left after those that are kept
--- of a line, and what is to be written for the others was written.
+-- a front of what is to be written for octets, whatever follows them, was written
+abbrev pub WritesFront : Replay → Summary → List ℕ → Option (List ℕ) → Option (List ℕ) → Type 0
+WritesFront replay summary before old new = (front : List ℕ) × Appends old new front
+    × ((later : List ℕ) → (rest : List ℕ)
+    × (text_from replay (summary.read + 1) (before ++ later) ≡ front ++ rest))
+
+-- the reason of a fault that ends the telling of a line
+abbrev pub IsLineReason : Summary → List ℕ → ReplayFault → Type 0
+IsLineReason summary line Input = ⊥
+IsLineReason summary line TooManyRecords =
+    (is_record line ≡ true) × (2 ^ 64 ≤ summary.read + 1)
+IsLineReason summary line _ = ⊤
+
+-- the reason of a fault that ends the telling of octets, whatever follows them
+abbrev pub IsOctetsReason : Replay → Summary → List ℕ → ReplayFault → Type 0
+IsOctetsReason replay summary before Input = ⊥
+IsOctetsReason replay summary before TooManyRecords = (later : List ℕ)
+    → 2 ^ 64 ≤ (summary_from replay summary (before ++ later)).read
+IsOctetsReason replay summary before _ = ⊤
+
+-- How far a replay has come whose input had these octets, where they are known: some were read and some are left, and
+-- what is to be written for those that were read was written, but for those that are kept of a line.
 abbrev pub HasCome : Replay → Option (List ℕ) → Option (List ℕ) → Summary → List ℕ
     → Option (List ℕ) → Option (List ℕ) → Type 0
-HasCome replay None now summary line old new = Unit {0}
-HasCome replay (Some all) now summary line old new = (rest : List ℕ) × (now ≡ Some rest)
-    × Writes replay no_records all summary (line ++ rest) old new
+HasCome replay None left summary line old new = ⊤
+HasCome replay (Some all) left summary line old new = (read rest : List ℕ)
+    × (all ≡ read ++ rest) × (left ≡ Some rest)
+    × Writes replay no_records read summary line old new

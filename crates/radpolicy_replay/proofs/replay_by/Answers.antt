@@ -1,0 +1,7 @@
+use Rattle.std.proofs.lemmas.Result.{err_from_is_err_and}
+use Rattle.radpolicy_replay.proofs.replay_by.Goals as goal
+
+pub returns-in_err-against : goal.returns-in_err-against
+returns-in_err-against c =
+    let p = err_from_is_err_and c.from_residual-in_err-against.result c.from_residual-in_err-against.ensures.1 in
+    rw (p.1, p.2) (c.in_err-against.ensures c.args.files.now.dictionary)
