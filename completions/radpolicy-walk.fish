@@ -1,0 +1,11 @@
+# Completes the words of radpolicy-walk in fish.
+complete -c radpolicy-walk -s h -l help -f -d 'Print help'
+complete -c radpolicy-walk -s f -r -F -d 'Request file'
+complete -c radpolicy-walk -l policy -r -F -d 'Policy file'
+complete -c radpolicy-walk -l hex -d 'The request is a packet in hexadecimal digits'
+complete -c radpolicy-walk -s S -r -F -d 'File with the shared secret'
+complete -c radpolicy-walk -l acct -d 'The request lines are an Accounting-Request'
+complete -c radpolicy-walk -l reply -r -F -d 'First pairs of the reply list'
+complete -c radpolicy-walk -l control -r -F -d 'First pairs of the control list'
+complete -c radpolicy-walk -l script -r -F -d 'File of commands'
+complete -c radpolicy-walk -l show-secrets -d 'Show passwords and keys'

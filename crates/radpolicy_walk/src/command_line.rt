@@ -1,0 +1,196 @@
+//! The words of the command line.
+
+ghost use Rattle.std.specs.Prelude.{IfErr};
+ghost use Rattle.radpolicy.specs.Faults.{IsWordFault};
+
+use clap::error::ErrorKind;
+use clap::{Arg, ArgAction, ArgMatches};
+use radpolicy::{Fault, Form};
+use radpolicy_common::SecretValues;
+use std::alloc::{AllocError, Global};
+use std::convert::AsStr;
+
+const REQUEST: &str = "request";
+
+const POLICY: &str = "policy";
+
+const HEX: &str = "hex";
+
+const ACCOUNTING: &str = "acct";
+
+const SECRET: &str = "secret";
+
+const REPLY: &str = "reply";
+
+const CONTROL: &str = "control";
+
+const SCRIPT: &str = "script";
+
+const SHOW_SECRETS: &str = "show-secrets";
+
+const DICTIONARY: &str = "dictionary";
+
+/// What a command line asks for.
+#[derive(Drop)]
+pub struct Plan<'a> {
+    pub form: Form,
+    /// The request's file; standard input where there is none.
+    pub request: Option<&'a str>,
+    pub policy: &'a str,
+    pub secret: Option<&'a str>,
+    pub reply: Option<&'a str>,
+    pub control: Option<&'a str>,
+    /// The file of the commands; standard input where there is none.
+    pub script: Option<&'a str>,
+    pub secrets: SecretValues,
+    pub dictionaries: Vec<&'a str>,
+}
+
+fn file_option<'a>(alloc: Global, name: &'a str, value_name: &'a str, help: &'a str) -> Arg<'a> {
+    Arg::new(alloc, name)
+        .value_name(value_name)
+        .action(ArgAction::Set)
+        .help(help)
+}
+
+fn flag<'a>(alloc: Global, name: &'a str, help: &'a str) -> Arg<'a> {
+    Arg::new(alloc, name)
+        .long(name)
+        .action(ArgAction::SetTrue)
+        .help(help)
+}
+
+fn request_option<'a>(alloc: Global) -> Arg<'a> {
+    let help = "The request [default: standard input, where --script is given]";
+    file_option(alloc, REQUEST, "REQUEST", help).short('f')
+}
+
+fn policy_option<'a>(alloc: Global) -> Arg<'a> {
+    file_option(alloc, POLICY, "POLICY", "The policy")
+        .long(POLICY)
+        .required(true)
+}
+
+fn secret_option<'a>(alloc: Global) -> Arg<'a> {
+    let help = "The file whose first line is the shared secret; needed with --hex";
+    file_option(alloc, SECRET, "SECRET-FILE", help).short('S')
+}
+
+fn reply_option<'a>(alloc: Global) -> Arg<'a> {
+    file_option(alloc, REPLY, "LINES", "The reply list's first pairs").long(REPLY)
+}
+
+fn control_option<'a>(alloc: Global) -> Arg<'a> {
+    file_option(alloc, CONTROL, "LINES", "The control list's first pairs").long(CONTROL)
+}
+
+fn script_option<'a>(alloc: Global) -> Arg<'a> {
+    let help = "The commands, a line each [default: standard input]";
+    file_option(alloc, SCRIPT, "SCRIPT", help).long(SCRIPT)
+}
+
+fn dictionary_files<'a>(alloc: Global) -> Arg<'a> {
+    Arg::new(alloc, DICTIONARY)
+        .required(true)
+        .value_name("DICTIONARY")
+        .num_args(1..)
+        .action(ArgAction::Append)
+        .help("Dictionary files, the main one first, as in /usr/share/freeradius/dictionary*")
+}
+
+fn program<'a>(alloc: Global) -> Result<clap::Command<'a>, AllocError> {
+    clap::Command::new(alloc, "radpolicy-walk")
+        .bin_name("radpolicy-walk")?
+        .about("Walks through the run of a policy, forward and back")
+        .after_help("Commands are read from standard input, a line each; `help` lists them.")
+        .arg(request_option(alloc))?
+        .arg(policy_option(alloc))?
+        .arg(flag(
+            alloc,
+            HEX,
+            "The request is a packet in hexadecimal digits; needs -S",
+        ))?
+        .arg(secret_option(alloc))?
+        .arg(flag(
+            alloc,
+            ACCOUNTING,
+            "The request lines are an Accounting-Request, not an Access-Request",
+        ))?
+        .arg(reply_option(alloc))?
+        .arg(control_option(alloc))?
+        .arg(script_option(alloc))?
+        .arg(flag(alloc, SHOW_SECRETS, "Shows passwords and keys"))?
+        .arg(dictionary_files(alloc))
+}
+
+// The fault of a parse that failed.
+fn fault_of(error: &clap::Error) -> Fault
+    ensures { IsWordFault result }
+{
+    match error.kind() {
+        ErrorKind::DisplayHelp => Fault::Help,
+        ErrorKind::OutOfMemory => Fault::Memory,
+        _ => Fault::Usage,
+    }
+}
+
+// How the request is given. A packet needs a secret, and lines take none.
+fn form_of(found: &ArgMatches<'_>) -> Result<Form, Fault>
+    ensures { IfErr result IsWordFault }
+{
+    let has_secret = found.get_str(SECRET).is_some();
+    match (found.get_flag(HEX), found.get_flag(ACCOUNTING), has_secret) {
+        (true, false, true) => Ok(Form::Hex),
+        (false, true, false) => Ok(Form::Accounting),
+        (false, false, false) => Ok(Form::Access),
+        _ => Err(Fault::OptionValue),
+    }
+}
+
+fn shown_secrets(found: &ArgMatches<'_>) -> SecretValues {
+    if found.get_flag(SHOW_SECRETS) {
+        SecretValues::Shown
+    } else {
+        SecretValues::Hidden
+    }
+}
+
+fn plan_of<'a>(alloc: Global, found: &ArgMatches<'a>) -> Result<Plan<'a>, Fault>
+    ensures { IfErr result IsWordFault }
+{
+    let files = found.get_strs(DICTIONARY).ok_or(Fault::Usage)?;
+    let (request, script) = (found.get_str(REQUEST), found.get_str(SCRIPT));
+    // Standard input has either the request or the commands.
+    if request.is_none() && script.is_none() {
+        return Err(Fault::OptionValue);
+    }
+    Ok(Plan {
+        form: form_of(found)?,
+        request,
+        policy: found.get_str(POLICY).ok_or(Fault::Usage)?,
+        secret: found.get_str(SECRET),
+        reply: found.get_str(REPLY),
+        control: found.get_str(CONTROL),
+        script,
+        secrets: shown_secrets(found),
+        dictionaries: Vec::from_slice(alloc, files)?,
+    })
+}
+
+/// What the words of a command line ask for; the program's name is the first word.
+pub fn read_words<'a, S: AsStr>(alloc: Global, words: &'a [S]) -> Result<Plan<'a>, Fault>
+    ensures { IfErr result IsWordFault }
+{
+    let matches = program(alloc)?
+        .try_get_matches_from(words)
+        .map_err(|error| fault_of(&error))?;
+    plan_of(alloc, &matches)
+}
+
+/// The help that the words of a command line ask for, or what is wrong with them.
+pub fn help_text<'a, S: AsStr>(alloc: Global, words: &'a [S]) -> Result<String, AllocError> {
+    match program(alloc)?.try_get_matches_from(words) {
+        Ok(_) => String::from_str(alloc, ""),
+        Err(error) => error.to_string(alloc),
+    }
+}

@@ -1,0 +1,273 @@
+//! The dialogue: commands are read, and what they come to is shown.
+
+use avp_dict::next_line;
+use radpolicy::Start;
+use radpolicy_common::{LineBreaks, PLAIN_STYLE, SecretValues, Stream, Style, visible_text};
+use radpolicy_walk_commands::{
+    Asked, Command, HELP_TEXT, Session, SourceLines, around_text, breaks_text, has_step_on,
+    history_text, instances_text, lists_text, nearest_line, read_command, source_text, trace_text,
+    why_text,
+};
+use std::alloc::{AllocError, AllocFailed, Global};
+use std::io;
+use std::io::{IsTerminal, Write};
+
+/// How a dialogue ended.
+#[derive(Clone, Copy, Debug, PartialEq, Eq)]
+pub enum Ending {
+    /// By `quit`, or where the commands ended.
+    Done,
+    Memory,
+    /// The commands could not be read.
+    Input,
+    /// What was to be shown could not be written.
+    Output,
+}
+
+impl From<AllocError> for Ending {
+    fn from(_error: AllocError) -> Self {
+        Ending::Memory
+    }
+}
+
+impl<T: Drop> From<AllocFailed<T>> for Ending {
+    fn from(_error: AllocFailed<T>) -> Self {
+        Ending::Memory
+    }
+}
+
+/// A session with the policy's text, and how it is shown.
+#[derive(Drop)]
+pub struct Dialogue<'a> {
+    session: Session<'a>,
+    sources: SourceLines<'a>,
+    secrets: SecretValues,
+    last: Command,
+    is_coloured: bool,
+}
+
+fn write(rt: &HostRuntime, text: &[u8]) -> Result<(), Ending> {
+    match rt.stdout().write_all(text) {
+        Ok(()) => Ok(()),
+        Err(_) => Err(Ending::Output),
+    }
+}
+
+// A prompt, where the commands are typed and what they come to is read.
+fn prompt(rt: &HostRuntime) -> Result<(), Ending> {
+    if !rt.stdin().is_terminal() || !Stream::Output.is_terminal(rt) {
+        return Ok(());
+    }
+    write(rt, b"(walk) ")?;
+    match rt.stdout().flush() {
+        Ok(()) => Ok(()),
+        Err(_) => Err(Ending::Output),
+    }
+}
+
+fn style_of(line: &[u8]) -> Option<Style> {
+    match line {
+        [b'-', ..] => Some(Style::Removed),
+        [b'+', ..] => Some(Style::Added),
+        [b'[', ..] => Some(Style::Heading),
+        _ => None,
+    }
+}
+
+// A text in colour, by the first octets of its lines.
+fn coloured(alloc: Global, text: &[u8]) -> Result<Vec<u8>, AllocError> {
+    let mut shown = Vec::new(alloc);
+    let mut rest = text;
+    while let Some((line, after)) = next_line(rest) {
+        match style_of(line) {
+            Some(style) => {
+                shown.extend_from_slice(style.begin().as_bytes())?;
+                shown.extend_from_slice(line)?;
+                shown.extend_from_slice(PLAIN_STYLE.as_bytes())?;
+            }
+            None => shown.extend_from_slice(line)?,
+        }
+        shown.push(b'\n')?;
+        rest = after;
+    }
+    Ok(shown)
+}
+
+// Says why a line is no command.
+fn complain(rt: &HostRuntime, asked: Asked<'_>) {
+    let _ = match asked {
+        Asked::Make(_) | Asked::Again => Ok(()),
+        Asked::Unknown(word, nearest) => {
+            eprintln!(rt; "no command {word:?}; the nearest is {nearest}")
+        }
+        Asked::Misused(usage) => eprintln!(rt; "write: {usage}"),
+        Asked::NoNumber(word) => eprintln!(rt; "{word:?} is no number"),
+        Asked::NoAttribute(word) => eprintln!(rt; "no attribute {word:?}"),
+        Asked::NoList(word) => {
+            eprintln!(rt; "no list {word:?}; they are request, reply and control")
+        }
+    };
+}
+
+impl<'a> Dialogue<'a> {
+    /// A dialogue over the run from a start.
+    pub fn new(
+        rt: &HostRuntime,
+        start: Start<'a>,
+        policy: &'a [u8],
+        secrets: SecretValues,
+    ) -> Result<Dialogue<'a>, AllocError> {
+        Ok(Dialogue {
+            session: Session::new(rt.alloc(), start)?,
+            sources: SourceLines::new(rt.alloc(), policy)?,
+            secrets,
+            last: Command::Show(None),
+            is_coloured: Stream::Output.is_coloured(rt),
+        })
+    }
+
+    // Shows a text, without control characters.
+    fn show(&self, rt: &HostRuntime, text: &[u8]) -> Result<(), Ending> {
+        let visible = visible_text(rt.alloc(), text, LineBreaks::Kept)?;
+        if self.is_coloured {
+            write(rt, &coloured(rt.alloc(), &visible)?)
+        } else {
+            write(rt, &visible)
+        }
+    }
+
+    // The place, and the line of the policy.
+    fn place_text(&self, alloc: Global) -> Result<Vec<u8>, AllocError> {
+        let mut text = self.session.place_text(alloc)?;
+        text.extend_from_slice(b"\n")?;
+        text.extend_from_slice(&source_text(alloc, &self.session, &self.sources)?)?;
+        Ok(text)
+    }
+
+    // What a command comes to that leads to a place.
+    fn moved_text(&mut self, alloc: Global, command: Command) -> Result<Vec<u8>, AllocError> {
+        let changes = self.session.change(alloc, command, self.secrets)?;
+        let mut text = self.place_text(alloc)?;
+        text.extend_from_slice(&changes)?;
+        Ok(text)
+    }
+
+    fn lists_text(&self, alloc: Global, command: Command) -> Result<Vec<u8>, AllocError> {
+        let mut text = self.place_text(alloc)?;
+        if let Command::Show(which) = command {
+            let lists = lists_text(alloc, &self.session, self.secrets, which)?;
+            text.extend_from_slice(&lists)?;
+        }
+        Ok(text)
+    }
+
+    // What a command comes to.
+    fn text_of(&mut self, alloc: Global, command: Command) -> Result<Vec<u8>, AllocError> {
+        let secrets = self.secrets;
+        match command {
+            Command::Show(_) => self.lists_text(alloc, command),
+            Command::Print(id) => instances_text(alloc, &self.session, secrets, id),
+            Command::History(id) => history_text(
+                alloc,
+                &mut self.session,
+                &self.sources,
+                secrets,
+                id,
+            ),
+            Command::Why => why_text(alloc, &mut self.session, &self.sources, secrets),
+            Command::Trace => trace_text(alloc, &self.session, &self.sources),
+            Command::List => around_text(alloc, &self.session, &self.sources),
+            Command::Breaks => breaks_text(alloc, &self.session, &self.sources),
+            Command::Help => Vec::from_slice(alloc, HELP_TEXT.as_bytes()),
+            _ => self.moved_text(alloc, command),
+        }
+    }
+
+    // Says where a command is not made as it is written; whether it is made at all.
+    fn is_made(&self, rt: &HostRuntime, command: Command) -> bool {
+        match command {
+            Command::Break(line) if !has_step_on(self.session.steps(), line) => {
+                let nearest = nearest_line(self.session.steps(), line).unwrap_or(0);
+                let _ = eprintln!(rt;
+                    "no step of this run is on line {line}; the nearest that has one is {nearest}"
+                );
+                false
+            }
+            Command::Goto(position) if position > self.session.last_position() => {
+                let last = self.session.last_position();
+                let _ = eprintln!(rt; "the last position is {last}");
+                true
+            }
+            _ => true,
+        }
+    }
+
+    fn make(&mut self, rt: &HostRuntime, command: Command) -> Result<(), Ending> {
+        self.last = command;
+        if self.is_made(rt, command) {
+            let text = self.text_of(rt.alloc(), command)?;
+            self.show(rt, &text)?;
+        }
+        Ok(())
+    }
+
+    // Makes what a line asks for; false at the command to end.
+    fn obey(&mut self, rt: &HostRuntime, line: &str) -> Result<bool, Ending> {
+        match read_command(rt.alloc(), self.session.dictionary(), line)? {
+            Asked::Make(Command::Quit) => return Ok(false),
+            Asked::Make(command) => self.make(rt, command)?,
+            Asked::Again => self.make(rt, self.last)?,
+            asked => complain(rt, asked),
+        }
+        Ok(true)
+    }
+
+    fn obey_input(&mut self, rt: &HostRuntime) -> Result<(), Ending> {
+        prompt(rt)?;
+        for line in rt.lines(rt.alloc()) {
+            match line {
+                Ok(line) => {
+                    if !self.obey(rt, line.as_str())? {
+                        return Ok(());
+                    }
+                }
+                Err(error) if error.kind() == io::ErrorKind::OutOfMemory => {
+                    return Err(Ending::Memory);
+                }
+                Err(_) => return Err(Ending::Input),
+            }
+            prompt(rt)?;
+        }
+        Ok(())
+    }
+
+    fn obey_script(&mut self, rt: &HostRuntime, script: &[u8]) -> Result<(), Ending> {
+        let mut rest = script;
+        while let Some((line, after)) = next_line(rest) {
+            let Ok(line) = str::from_utf8(line) else {
+                return Err(Ending::Input);
+            };
+            if !self.obey(rt, line)? {
+                return Ok(());
+            }
+            rest = after;
+        }
+        Ok(())
+    }
+
+    /// Shows the start, and then makes the commands of standard input.
+    pub fn follow_input(&mut self, rt: &HostRuntime) -> Ending {
+        match self.make(rt, Command::Show(None)) {
+            Ok(()) => self.obey_input(rt).err().unwrap_or(Ending::Done),
+            Err(ending) => ending,
+        }
+    }
+
+    /// Shows the start, and then makes the commands of a script.
+    pub fn follow_script(&mut self, rt: &HostRuntime, script: &[u8]) -> Ending {
+        match self.make(rt, Command::Show(None)) {
+            Ok(()) => self.obey_script(rt, script).err().unwrap_or(Ending::Done),
+            Err(ending) => ending,
+        }
+    }
+}

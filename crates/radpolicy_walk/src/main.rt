@@ -1,0 +1,220 @@
+//! The program: its words, the files that they name, and the walk by commands.
+#![tactic(auto)]
+
+mod command_line;
+mod dialogues;
+
+ghost use Rattle.std.specs.Prelude.{◌<◌, IfErr, IfOk, length};
+ghost use Rattle.avp_dict.specs.Lines.{HasDistinctNames};
+ghost use Rattle.radpolicy.specs.Faults.{IsPrintedAnywhere, IsPrintedWith};
+
+use crate::command_line::{Plan, help_text, read_words};
+use crate::dialogues::{Dialogue, Ending};
+use avp_dict::{Dictionary, FileSet};
+use avp_lists::Octets;
+use hex::FromHexError;
+use radpolicy::{Fault, Form, PreparedPolicy, RequestHead, RequestKind, Secret, Start, status};
+use radpolicy_common::{
+    Unread, read_dictionary_set, read_file, read_optional, read_standard_input, refuse,
+    refuse_early, refuse_unread,
+};
+use std::alloc::{AllocError, Global};
+use std::io;
+use std::process::ExitCode;
+
+// What the files of a plan hold.
+#[derive(Drop)]
+struct Files {
+    dictionary: FileSet,
+    request: Octets,
+    policy: Octets,
+    secret: Option<Octets>,
+    reply: Option<Octets>,
+    control: Option<Octets>,
+    script: Option<Octets>,
+}
+
+fn read_request<'a>(rt: &HostRuntime, plan: &Plan<'a>) -> Result<Octets, Unread<'a>> {
+    match plan.request {
+        Some(path) => read_file(rt, path),
+        None => read_standard_input(rt),
+    }
+}
+
+// The files are read in the order dictionaries, request, policy, secret, lists, script, up to the first that cannot be
+// read.
+fn read_files<'a>(rt: &HostRuntime, plan: &Plan<'a>) -> Result<Files, Unread<'a>>
+    ensures first { IfOk result (λ files. 0 < length files.dictionary) }
+    ensures distinct { IfOk result (λ files. HasDistinctNames files.dictionary) }
+{
+    Ok(Files {
+        dictionary: read_dictionary_set(rt, plan.dictionaries.as_slice())?,
+        request: read_request(rt, plan)?,
+        policy: read_file(rt, plan.policy)?,
+        secret: read_optional(rt, plan.secret)?,
+        reply: read_optional(rt, plan.reply)?,
+        control: read_optional(rt, plan.control)?,
+        script: read_optional(rt, plan.script)?,
+    })
+}
+
+fn without_white_space(alloc: Global, text: &[u8]) -> Result<Vec<u8>, AllocError> {
+    let mut digits = Vec::new(alloc);
+    for octet in text {
+        if !matches!(*octet, b' ' | b'\t' | b'\r' | b'\n') {
+            digits.push(*octet)?;
+        }
+    }
+    Ok(digits)
+}
+
+// The octets of a packet in hexadecimal digits.
+fn packet_octets(alloc: Global, text: &[u8]) -> Result<Vec<u8>, Fault>
+    ensures { IfErr result IsPrintedAnywhere }
+{
+    let digits = without_white_space(alloc, text)?;
+    match hex::decode(alloc, digits) {
+        Ok(octets) => Ok(octets),
+        Err(FromHexError::OutOfMemory) => Err(Fault::Memory),
+        Err(_) => Err(Fault::NotHex),
+    }
+}
+
+// The head of a request of lines.
+fn head_by(form: Form) -> RequestHead {
+    RequestHead {
+        kind: match form {
+            Form::Accounting => RequestKind::Accounting,
+            Form::Access | Form::Hex => RequestKind::Access,
+        },
+        id: 0,
+        authenticator: None,
+    }
+}
+
+// The start of the run over the request, with empty reply and control lists.
+fn start_by<'a>(
+    alloc: Global,
+    prepared: &'a PreparedPolicy<'a>,
+    secret: Option<&'a Secret<'a>>,
+    form: Form,
+    request: &[u8],
+) -> Result<Start<'a>, Fault>
+    ensures { IfErr result IsPrintedAnywhere }
+{
+    match secret {
+        Some(secret) => {
+            let octets = packet_octets(alloc, request)?;
+            Start::of_packet(alloc, prepared, secret, &octets)
+        }
+        None => Start::of_lines(alloc, prepared, None, head_by(form), request),
+    }
+}
+
+// The same start with the reply and control lists of files.
+fn with_lists<'a>(alloc: Global, start: Start<'a>, files: &Files) -> Result<Start<'a>, Fault>
+    ensures { IfErr result IsPrintedAnywhere }
+{
+    let start = match &files.reply {
+        Some(lines) => start.with_reply_lines(alloc, lines.as_slice())?,
+        None => start,
+    };
+    match &files.control {
+        Some(lines) => start.with_control_lines(alloc, lines.as_slice()),
+        None => Ok(start),
+    }
+}
+
+// The secret of a file, where there is one.
+fn secret_in(file: &Option<Octets>) -> Result<Option<Secret<'_>>, Fault>
+    ensures { IfErr result IsPrintedAnywhere }
+{
+    match file {
+        Some(octets) => match Secret::in_file(octets.as_slice()) {
+            Ok(secret) => Ok(Some(secret)),
+            Err(fault) => Err(fault),
+        },
+        None => Ok(None),
+    }
+}
+
+// Why a walk ended early. Standard input is named as a file that cannot be read is.
+fn status_of_ending(rt: &HostRuntime, ending: Ending) -> u8 {
+    match ending {
+        Ending::Done => 0,
+        Ending::Memory => refuse_early(rt, &Fault::Memory),
+        Ending::Output => refuse_early(rt, &Fault::Write),
+        Ending::Input => refuse_unread(rt, Unread::File("-")),
+    }
+}
+
+// What is read of the files, and the walk by it.
+fn walk_by(rt: &HostRuntime, plan: &Plan<'_>, files: &Files) -> Result<u8, Fault>
+    requires first { 0 < length files.now.dictionary }
+    requires distinct { HasDistinctNames files.now.dictionary }
+    ensures { IfErr result (IsPrintedWith files.now.dictionary) }
+{
+    let alloc = rt.alloc();
+    let dictionary = Dictionary::read(alloc, &files.dictionary)?;
+    let secret = secret_in(&files.secret)?;
+    let policy = PreparedPolicy::read(alloc, &dictionary, files.policy.as_slice())?;
+    let start = start_by(
+        alloc,
+        &policy,
+        secret.as_ref(),
+        plan.form,
+        files.request.as_slice(),
+    )?;
+    let start = with_lists(alloc, start, files)?;
+    let mut dialogue = Dialogue::new(rt, start, files.policy.as_slice(), plan.secrets)?;
+    let ending = match &files.script {
+        Some(script) => dialogue.follow_script(rt, script.as_slice()),
+        None => dialogue.follow_input(rt),
+    };
+    Ok(status_of_ending(rt, ending))
+}
+
+fn walk_plan(rt: &HostRuntime, plan: &Plan<'_>) -> u8 {
+    let files = match read_files(rt, plan) {
+        Ok(files) => files,
+        Err(unread) => return refuse_unread(rt, unread),
+    };
+    match walk_by(rt, plan, &files) {
+        Ok(status) => status,
+        Err(fault) => refuse(rt, &fault, &files.dictionary),
+    }
+}
+
+fn show_help(rt: &HostRuntime, words: &[String]) -> u8 {
+    match help_text(rt.alloc(), words) {
+        Ok(text) => match rt.print(text.as_str()) {
+            Ok(()) => status(&Fault::Help),
+            Err(_) => refuse_early(rt, &Fault::Write),
+        },
+        Err(_) => refuse_early(rt, &Fault::Memory),
+    }
+}
+
+fn walk_words(rt: &HostRuntime, words: &[String]) -> u8 {
+    match read_words(rt.alloc(), words) {
+        Ok(plan) => walk_plan(rt, &plan),
+        Err(Fault::Help) => show_help(rt, words),
+        Err(fault) => refuse_early(rt, &fault),
+    }
+}
+
+// The words of the command line. Words that are no UTF-8 are an error.
+fn words_of(rt: &HostRuntime) -> io::Result<Vec<String>> {
+    Ok(std::env::args(rt)?.collect(rt.alloc())?)
+}
+
+fn main(rt: HostRuntime) -> ExitCode {
+    let code = match words_of(&rt) {
+        Ok(words) => walk_words(&rt, words.as_slice()),
+        Err(error) if error.kind() == io::ErrorKind::OutOfMemory => {
+            refuse_early(&rt, &Fault::Memory)
+        }
+        Err(_) => refuse_early(&rt, &Fault::Usage),
+    };
+    ExitCode::from(code)
+}

@@ -1,0 +1,3 @@
+pub mod FittingInstances
+pub mod Positions
+pub mod Sameness

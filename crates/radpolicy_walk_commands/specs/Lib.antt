@@ -1,0 +1,4 @@
+pub mod Histories
+pub mod Sessions
+pub mod Showings
+pub mod Steps

@@ -1,0 +1,23 @@
+//! A debugger for policies: the commands that walk through a run, forward and back, and what is shown at each place.
+#![tactic(auto)]
+
+mod commands;
+mod explanations;
+mod instances;
+mod listings;
+mod moves;
+mod sessions;
+mod showings;
+mod sources;
+mod steps;
+mod words;
+
+pub use commands::Command;
+pub use explanations::why_text;
+pub use instances::{changed_positions, history_text, instances_text};
+pub use listings::{around_text, breaks_text, lists_text, source_text, trace_text};
+pub use sessions::Session;
+pub use showings::{change_text, list_text};
+pub use sources::SourceLines;
+pub use steps::{Step, has_step_on, line_of, nearest_line};
+pub use words::{Asked, HELP_TEXT, read_command};

@@ -1,0 +1,238 @@
+//! A run with a place in it, moved by commands.
+
+ghost use Rattle.std.specs.Prelude.{◌≡◌, ◌<◌, IfOk, OnOk, length, map};
+ghost use Rattle.avp_step.specs.Walk.{walk_from};
+ghost use Rattle.avp_unlang.specs.Resolutions.{StateFits};
+ghost use Rattle.radpolicy.specs.Starts.{entry_of as lists_of_start};
+ghost use Rattle.radpolicy_walk_commands.specs.Sessions.{after, after_all, breaks_after, entry_of, last_position, lists_of, position_after, session_of, steps_of, with_break, without_break};
+ghost use Rattle.radpolicy_walk_commands.specs.Showings.{AreChanges, step_text};
+ghost use Rattle.radpolicy_walk_commands.specs.Steps.{step_of};
+
+use crate::commands::Command;
+use crate::moves::{go_to, steps_to_end};
+use crate::showings::{change_text, push_step};
+use crate::steps::{Step, next_failure, next_on, previous_on};
+use avp_dict::Dictionary;
+use avp_lists::{List, Pairs, SlotStore, State, Store};
+use avp_step::Stepper;
+use radpolicy::Start;
+use radpolicy_common::SecretValues;
+use std::alloc::{AllocError, Global};
+use std::marker::Model;
+
+/// A run of a policy that was made to its end, a position in it, and the lines with breaks.
+#[derive(Drop)]
+pub struct Session<'a> {
+    dictionary: &'a Dictionary,
+    stepper: Stepper<'a, SlotStore>,
+    // The step of each position.
+    steps: Vec<Step>,
+    breaks: Vec<usize>,
+}
+
+impl<'a> Model for Session<'a> {
+    ghost use Rattle.std.specs.Prelude.{◌≡◌, map};
+    ghost use Rattle.radpolicy_walk_commands.specs.Sessions.{Session as Shown};
+    ghost use Rattle.radpolicy_walk_commands.specs.Steps.{step_of};
+
+    ghost Value = { Shown };
+
+    ghost view = { λ s. record {
+      dictionary = s.dictionary.now;
+      trace = s.stepper.trace;
+      position = s.stepper.position;
+      breaks = s.breaks.items;
+    } };
+
+    ghost invariant = { λ s. (s.stepper.dictionary ≡ s.dictionary.now)
+        × (s.steps.items ≡ map step_of s.stepper.trace) };
+}
+
+fn without_break(alloc: Global, breaks: &[usize], line: usize) -> Result<Vec<usize>, AllocError>
+    ensures { IfOk result (λ kept. kept.items ≡ without_break line breaks.now) }
+{
+    let mut kept = Vec::new(alloc);
+    for own in breaks {
+        if *own != line {
+            kept.push(*own)?;
+        }
+    }
+    Ok(kept)
+}
+
+fn with_break(breaks: &mut Vec<usize>, line: usize) -> Result<(), AllocError>
+    ensures { OnOk result (breaks.new.items ≡ with_break line breaks.old.items) }
+{
+    if !breaks.contains(&line) {
+        breaks.push(line)?;
+    }
+    Ok(())
+}
+
+// The lines with breaks after a command.
+fn set_breaks(breaks: &mut Vec<usize>, command: Command) -> Result<(), AllocError>
+    ensures { OnOk result (breaks.new.items ≡ breaks_after command breaks.old.items) }
+{
+    match command {
+        Command::Break(line) => with_break(breaks, line),
+        Command::Delete(line) => {
+            *breaks = without_break(*breaks.allocator(), breaks.as_slice(), line)?;
+            Ok(())
+        }
+        _ => Ok(()),
+    }
+}
+
+impl<'a> Session<'a> {
+    /// A session over the run from a start, at its start and with no breaks. The run is made to its end.
+    pub fn new(alloc: Global, start: Start<'a>) -> Result<Session<'a>, AllocError>
+        ensures { IfOk result (λ session. session ≡ session_of
+            (walk_from start.entry.prepared.dictionary start.entry.prepared.statements
+            (lists_of_start start.entry))) }
+    {
+        let dictionary = start.dictionary();
+        let mut stepper = start.stepper(alloc)?;
+        let steps = steps_to_end(alloc, &mut stepper)?;
+        stepper.to_start();
+        Ok(Session {
+            dictionary,
+            stepper,
+            steps,
+            breaks: Vec::new(alloc),
+        })
+    }
+
+    /// The dictionary of the policy.
+    pub fn dictionary(&self) -> &Dictionary
+        ensures { result.now ≡ self.now.dictionary }
+    {
+        self.dictionary
+    }
+
+    /// The number of steps before the place.
+    pub fn position(&self) -> usize
+        ensures position { result ≡ self.now.position }
+        ensures within { self.now.position < length self.now.trace }
+    {
+        self.stepper.position()
+    }
+
+    /// The step of each position, from the start's.
+    pub fn steps(&self) -> &[Step]
+        ensures { result.now ≡ steps_of self.now }
+    {
+        self.steps.as_slice()
+    }
+
+    /// The step at the place.
+    pub fn step(&self) -> Step
+        ensures { result ≡ step_of (entry_of self.now) }
+    {
+        Step {
+            label: self.stepper.label(),
+            code: self.stepper.code(),
+        }
+    }
+
+    /// The lines with breaks, in the order in which they were set.
+    pub fn breaks(&self) -> &[usize]
+        ensures { result.now ≡ self.now.breaks }
+    {
+        self.breaks.as_slice()
+    }
+
+    /// The last position.
+    pub fn last_position(&self) -> usize
+        ensures { result ≡ last_position self.now }
+    {
+        self.steps.len().saturating_sub(1)
+    }
+
+    /// Copies of the lists at the place.
+    pub fn lists(&self) -> Result<State, AllocError>
+        ensures lists { IfOk result (λ lists. lists ≡ lists_of self.now) }
+        ensures fits { IfOk result (λ lists. StateFits self.now.dictionary lists) }
+    {
+        let store = self.stepper.store();
+        Ok(State {
+            request: Pairs::from_vec(store.list(List::Request)?),
+            reply: Pairs::from_vec(store.list(List::Reply)?),
+            control: Pairs::from_vec(store.list(List::Control)?),
+        })
+    }
+
+    // The position that a command leads to.
+    fn position_after(&self, command: Command) -> usize
+        ensures position { result ≡ position_after command self.now }
+        ensures within { result < length self.now.trace }
+    {
+        let (steps, breaks) = (self.steps.as_slice(), self.breaks.as_slice());
+        let (position, last) = (self.position(), self.last_position());
+        match command {
+            Command::Forward(count) => position.saturating_add(count).min(last),
+            Command::Back(count) => position.saturating_sub(count),
+            Command::Start => 0,
+            Command::End => last,
+            Command::Goto(to) => to.min(last),
+            Command::Continue => next_on(breaks, steps, position),
+            Command::BackToBreak => previous_on(breaks, steps, position),
+            Command::UntilFailure => next_failure(steps, position),
+            _ => position,
+        }
+    }
+
+    /// Makes a command: it leads to the position that it names, or sets or deletes a break. What asks only for an
+    /// answer changes nothing.
+    pub fn make(&mut self, command: Command) -> Result<(), AllocError>
+        ensures { OnOk result (self.new ≡ after command self.old) }
+    {
+        let position = self.position_after(command);
+        go_to(&mut self.stepper, position)?;
+        set_breaks(&mut self.breaks, command)
+    }
+
+    /// Makes commands one after another.
+    pub fn follow(&mut self, commands: &[Command]) -> Result<(), AllocError>
+        ensures { OnOk result (self.new ≡ after_all commands.now self.old) }
+    {
+        let mut rest = commands;
+        while let Some((command, others)) = rest.split_first() {
+            self.make(*command)?;
+            rest = others;
+        }
+        Ok(())
+    }
+
+    /// Makes a command, and gives the lines of what it changed in the lists: of each list that changed its name, and
+    /// then `- Name = value` for what is gone and `+ Name = value` for what came.
+    pub fn change(
+        &mut self,
+        alloc: Global,
+        command: Command,
+        secrets: SecretValues,
+    ) -> Result<Vec<u8>, AllocError>
+        ensures after { OnOk result (self.new ≡ after command self.old) }
+        ensures changes { IfOk result (λ text. AreChanges self.old.dictionary secrets
+            (lists_of self.old) (lists_of (after command self.old)) text.items) }
+    {
+        let before = self.lists()?;
+        self.make(command)?;
+        let after = self.lists()?;
+        change_text(alloc, self.dictionary, secrets, &before, &after)
+    }
+
+    /// The place: `[3 of 17] line 8 ok`.
+    pub fn place_text(&self, alloc: Global) -> Result<Vec<u8>, AllocError>
+        ensures { IfOk result (λ text. text.items
+            ≡ step_text self.now.position (last_position self.now) (step_of (entry_of self.now))) }
+    {
+        let mut text = Vec::new(alloc);
+        push_step(
+            &mut text,
+            self.position(),
+            self.last_position(),
+            self.step(),
+        )?;
+        Ok(text)
+    }
+}

@@ -1,0 +1,164 @@
+//! What is shown of places and lists.
+
+ghost use Rattle.std.specs.Prelude.{◌≡◌, ◌++◌, IfOk, OnOk, codes, decimal};
+ghost use Rattle.avp_unlang.specs.Resolutions.{StateFits};
+ghost use Rattle.radpolicy_common.specs.ChangeTexts.{AllFit, Fits, shown_text};
+ghost use Rattle.radpolicy_walk_commands.specs.Showings.{AreChanges, IsListChange, list_text, named_lines, pair_line, step_text};
+
+use crate::steps::Step;
+use avp_dict::Dictionary;
+use avp_lists::{Pair, State};
+use itoa::Buffer;
+use radpolicy::{code_text, push_label};
+use radpolicy_common::{SecretValues, change_lines, changes, is_secret};
+use std::alloc::{AllocError, Global};
+
+/// Appends a number in decimal digits.
+pub(crate) fn push_number(text: &mut Vec<u8>, number: usize) -> Result<(), AllocError>
+    ensures { OnOk result (text.new.items ≡ text.old.items ++ decimal number) }
+{
+    let mut digits = Buffer::new();
+    text.extend_from_slice(digits.format(number).as_bytes())?;
+    Ok(())
+}
+
+/// Appends a position, the last one and a step: `[3 of 17] line 8 ok`.
+pub(crate) fn push_step(
+    text: &mut Vec<u8>,
+    position: usize,
+    last: usize,
+    step: Step,
+) -> Result<(), AllocError>
+    ensures { OnOk result (text.new.items ≡ text.old.items ++ step_text position last step) }
+{
+    text.extend_from_slice(b"[")?;
+    push_number(text, position)?;
+    text.extend_from_slice(b" of ")?;
+    push_number(text, last)?;
+    text.extend_from_slice(b"] ")?;
+    push_label(text, step.label)?;
+    text.extend_from_slice(b" ")?;
+    text.extend_from_slice(code_text(step.code).as_bytes())?;
+    Ok(())
+}
+
+// The text of a value, or `(hidden)`.
+fn value_text(
+    alloc: Global,
+    dictionary: &Dictionary,
+    secrets: SecretValues,
+    pair: &Pair,
+) -> Result<Vec<u8>, AllocError>
+    requires { Fits dictionary.now pair.now }
+    ensures { IfOk result (λ text. text.items
+        ≡ shown_text dictionary.now secrets pair.now) }
+{
+    match secrets {
+        SecretValues::Hidden if is_secret(dictionary, pair.id, &pair.value) => {
+            Vec::from_slice(alloc, b"(hidden)")
+        }
+        _ => dictionary.text_of_value(alloc, pair.id, &pair.value),
+    }
+}
+
+fn push_pair(
+    text: &mut Vec<u8>,
+    dictionary: &Dictionary,
+    secrets: SecretValues,
+    pair: &Pair,
+) -> Result<(), AllocError>
+    requires { Fits dictionary.now pair.now }
+    ensures { OnOk result
+        (text.new.items ≡ text.old.items ++ pair_line dictionary.now secrets pair.now) }
+{
+    let alloc = *text.allocator();
+    let name = dictionary.printed_name(alloc, pair.id, &pair.value)?;
+    let value = value_text(alloc, dictionary, secrets, pair)?;
+    text.extend_from_slice(b"  ")?;
+    text.extend_from_slice(name.as_slice())?;
+    text.extend_from_slice(b" = ")?;
+    text.extend_from_slice(value.as_slice())?;
+    text.extend_from_slice(b"\n")?;
+    Ok(())
+}
+
+/// A list under its name, a line for each pair: `  Name = value`.
+pub fn list_text(
+    alloc: Global,
+    dictionary: &Dictionary,
+    secrets: SecretValues,
+    name: &str,
+    pairs: &[Pair],
+) -> Result<Vec<u8>, AllocError>
+    requires { AllFit dictionary.now pairs.now }
+    ensures { IfOk result (λ text. text.items
+        ≡ list_text dictionary.now secrets name.now pairs.now) }
+{
+    let mut text = Vec::new(alloc);
+    text.extend_from_slice(name.as_bytes())?;
+    text.extend_from_slice(b"\n")?;
+    for pair in pairs {
+        push_pair(&mut text, dictionary, secrets, pair)?;
+    }
+    Ok(text)
+}
+
+// Lines under a name.
+fn named_lines(alloc: Global, name: &str, lines: &[u8]) -> Result<Vec<u8>, AllocError>
+    ensures { IfOk result (λ text. text.items ≡ named_lines name.now lines.now) }
+{
+    let mut text = Vec::new(alloc);
+    match lines {
+        [] => {}
+        [_, ..] => {
+            text.extend_from_slice(name.as_bytes())?;
+            text.extend_from_slice(b"\n")?;
+            text.extend_from_slice(lines)?;
+        }
+    }
+    Ok(text)
+}
+
+// The lines of what changed from one list to another.
+fn list_change(
+    alloc: Global,
+    dictionary: &Dictionary,
+    secrets: SecretValues,
+    name: &str,
+    before: &[Pair],
+    after: &[Pair],
+) -> Result<Vec<u8>, AllocError>
+    requires before { AllFit dictionary.now before.now }
+    requires after { AllFit dictionary.now after.now }
+    ensures { IfOk result (λ text.
+        IsListChange dictionary.now secrets name.now before.now after.now text.items) }
+{
+    let changes = changes(alloc, before, after)?;
+    let lines = change_lines(alloc, dictionary, &changes, secrets)?;
+    named_lines(alloc, name, &lines)
+}
+
+/// The lines of what changed from lists to others: of each list that changed its name, and then `- Name = value` for
+/// what is gone and `+ Name = value` for what came.
+pub fn change_text(
+    alloc: Global,
+    dictionary: &Dictionary,
+    secrets: SecretValues,
+    before: &State,
+    after: &State,
+) -> Result<Vec<u8>, AllocError>
+    requires before { StateFits dictionary.now before.now }
+    requires after { StateFits dictionary.now after.now }
+    ensures { IfOk result (λ text.
+        AreChanges dictionary.now secrets before.now after.now text.items) }
+{
+    let (old, new) = (before.request.as_slice(), after.request.as_slice());
+    let mut text = list_change(alloc, dictionary, secrets, "request", old, new)?;
+    let (old, new) = (before.reply.as_slice(), after.reply.as_slice());
+    let reply = list_change(alloc, dictionary, secrets, "reply", old, new)?;
+    let (old, new) = (before.control.as_slice(), after.control.as_slice());
+    let control = list_change(alloc, dictionary, secrets, "control", old, new)?;
+    text.extend_from_slice(&reply)?;
+    text.extend_from_slice(&control)?;
+    Ok(text)
+}

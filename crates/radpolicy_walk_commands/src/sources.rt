@@ -1,0 +1,91 @@
+//! The lines of a policy's text.
+
+ghost use Rattle.std.specs.Prelude.{◌<◌, IfSome, length};
+
+use avp_dict::{Dictionary, next_line};
+use avp_lists::AttrId;
+use std::alloc::{AllocError, Global};
+
+fn is_name_octet(octet: u8) -> bool {
+    octet.is_ascii_alphanumeric() || matches!(octet, b'-' | b'.' | b'_')
+}
+
+// The first octets that can be a name, and what follows the octet after them; none where nothing is left.
+fn next_name(text: &[u8]) -> Option<(&[u8], &[u8])>
+    ensures { IfSome result (λ x. length x.1.now < length text.now) }
+{
+    if text.len() < 1 {
+        return None;
+    }
+    let count = text
+        .iter()
+        .position(|octet| !is_name_octet(*octet))
+        .unwrap_or(text.len());
+    let (name, rest) = text.split_at(count);
+    match rest.split_first() {
+        Some((_, after)) => Some((name, after)),
+        None => Some((name, &[])),
+    }
+}
+
+/// The attributes that a line of the policy names, each once.
+pub(crate) fn named_in(
+    alloc: Global,
+    dictionary: &Dictionary,
+    line: &[u8],
+) -> Result<Vec<AttrId>, AllocError> {
+    let mut ids = Vec::new(alloc);
+    let mut rest = line;
+    while let Some((name, after)) = next_name(rest) {
+        if let Some(named) = dictionary.by_name(name)
+            && !ids.contains(&named.id)
+        {
+            ids.push(named.id)?;
+        }
+        rest = after;
+    }
+    Ok(ids)
+}
+
+/// The lines of a text, by their numbers from 1.
+#[derive(Drop)]
+pub struct SourceLines<'a> {
+    lines: Vec<&'a [u8]>,
+}
+
+impl<'a> SourceLines<'a> {
+    pub fn new(alloc: Global, text: &'a [u8]) -> Result<SourceLines<'a>, AllocError> {
+        let mut lines = Vec::new(alloc);
+        let mut rest = text;
+        while let Some((line, after)) = next_line(rest) {
+            lines.push(line)?;
+            rest = after;
+        }
+        Ok(SourceLines { lines })
+    }
+
+    /// The number of lines.
+    pub fn count(&self) -> usize {
+        self.lines.len()
+    }
+
+    /// The line with this number; none where there is no such line.
+    pub fn line(&self, number: usize) -> Option<&'a [u8]> {
+        let index = number.checked_sub(1)?;
+        self.lines.get(index).copied()
+    }
+
+    /// Whether each line names an attribute.
+    pub(crate) fn naming(
+        &self,
+        alloc: Global,
+        dictionary: &Dictionary,
+        id: AttrId,
+    ) -> Result<Vec<bool>, AllocError> {
+        let mut named = Vec::new(alloc);
+        for line in &self.lines {
+            named.push(named_in(alloc, dictionary, line)?.contains(&id))?;
+        }
+        Ok(named)
+    }
+}
