@@ -1,1 +1,5 @@
+pub mod Contents
+pub mod Files
+pub mod Names
 pub mod Places
+pub mod internal
