@@ -5,6 +5,7 @@ ghost use Rattle.server_configuration.specs.Places.{HasLine, line_feeds};
 ghost use Rattle.server_configuration.specs.internal.Refusals.{IsPlaced};
 ghost use Rattle.server_configuration.specs.declared.sources.SourceFile.{SourceFile as Source};
 
+use crate::references::ReferenceFaultKind;
 use crate::sources::SourceFile;
 use std::alloc::{AllocError, AllocFailed};
 use thiserror::Error;
@@ -45,6 +46,9 @@ pub enum FaultKind {
     /// Includes more than [`MAX_DEPTH`](crate::MAX_DEPTH) deep.
     #[error("includes too deep")]
     TooDeep,
+    /// A reference in the path of what this line includes.
+    #[error("{0}")]
+    Reference(ReferenceFaultKind),
 }
 
 /// Why a file is not read, and where.

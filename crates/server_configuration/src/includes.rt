@@ -8,12 +8,13 @@ ghost use Rattle.server_configuration.specs.internal.Readings.{IsIncludeIn, IsOp
 ghost use Rattle.server_configuration.specs.declared.items.Item.{Item as AnItem};
 ghost use Rattle.server_configuration.specs.internal.Refusals.{IsPlaced};
 
-use crate::configurations::Configuration;
+use crate::configurations::{Configuration, first_folder};
 use crate::cursors::line_feeds;
 use crate::faults::{ConfigurationFault, FaultKind, Refusal};
 use crate::items::{Content, Item};
 use crate::paths::{beside, is_folder, is_included_name, joined};
 use crate::reader::{MAX_ITEMS, MAX_OCTETS, Spot, add_statement, read_statements};
+use crate::references::{ReferenceFaultKind, Scope, resolved};
 use crate::sources::{Files, SourceFile, Unread};
 use crate::statements::Placed;
 use std::alloc::Global;
@@ -107,6 +108,27 @@ fn kind_of(unread: Unread) -> FaultKind {
         Unread::Memory => FaultKind::Memory,
         Unread::Missing | Unread::Unreadable => FaultKind::Unreadable,
         Unread::TooLong => FaultKind::TooLong,
+    }
+}
+
+fn kind_of_reference(kind: ReferenceFaultKind) -> FaultKind {
+    match kind {
+        ReferenceFaultKind::Memory => FaultKind::Memory,
+        kind => FaultKind::Reference(kind),
+    }
+}
+
+fn refused(item: &Item, kind: FaultKind) -> Refusal
+    ensures { (files : List Source) → HasLine files item.now.file item.now.line
+        → IsPlaced files result }
+{
+    match kind {
+        FaultKind::Memory => Refusal::Memory,
+        kind => Refusal::At {
+            file: item.file,
+            line: item.line,
+            kind,
+        },
     }
 }
 
@@ -366,6 +388,32 @@ impl Reading {
         }
     }
 
+    // The path of what a file includes. One that begins with a reference is not relative to the file.
+    fn path_of<'a>(
+        &'a self,
+        alloc: Global,
+        naming: &[u8],
+        section: Option<usize>,
+        text: &'a [u8],
+    ) -> Result<Vec<u8>, FaultKind> {
+        let scope = Scope {
+            items: self.items.as_slice(),
+            folder: first_folder(&self.files),
+            variables: &[],
+        };
+        let path = match resolved(alloc, &scope, section, text) {
+            Ok(path) => path,
+            Err(fault) => return Err(kind_of_reference(fault.kind)),
+        };
+        if text.first() == Some(&b'$') {
+            return Ok(path);
+        }
+        match beside(alloc, naming, &path) {
+            Ok(path) => Ok(path),
+            Err(_) => Err(FaultKind::Memory),
+        }
+    }
+
     // What the include at a place leads to.
     fn include_at(&self, alloc: Global, place: usize) -> Result<Option<Include>, Refusal>
         requires { IsReading self.now }
@@ -383,13 +431,12 @@ impl Reading {
             return Ok(None);
         };
         if naming.depth >= MAX_DEPTH {
-            return Err(Refusal::At {
-                file: item.file,
-                line: item.line,
-                kind: FaultKind::TooDeep,
-            });
+            return Err(refused(item, FaultKind::TooDeep));
         }
-        let path = beside(alloc, &naming.path, &path.octets)?;
+        let path = match self.path_of(alloc, &naming.path, item.section, &path.octets) {
+            Ok(path) => path,
+            Err(kind) => return Err(refused(item, kind)),
+        };
         Ok(Some(Include {
             path,
             file: item.file,

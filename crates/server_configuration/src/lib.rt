@@ -1,4 +1,5 @@
-//! Reads a FreeRADIUS 3 server's configuration: pairs, sections, words and includes, each with its file and line.
+//! Reads a FreeRADIUS 3 server's configuration: pairs, sections, words and includes, each with its file and line; and
+//! looks up what it has by name.
 #![tactic(auto)]
 
 mod configurations;
@@ -6,8 +7,10 @@ mod cursors;
 mod faults;
 mod includes;
 mod items;
+mod lookups;
 mod paths;
 mod reader;
+mod references;
 mod sources;
 mod statements;
 mod texts;
@@ -17,4 +20,8 @@ pub use faults::{ConfigurationFault, Fault, FaultKind};
 pub use includes::{MAX_CONFIGURATION_OCTETS, MAX_DEPTH, MAX_FILES, read_configuration};
 pub use items::{Content, Item, Operator, Quote, Text};
 pub use reader::{MAX_ITEMS, MAX_OCTETS, read_items};
+pub use references::{
+    MAX_REFERENCE_DEPTH, MAX_REFERENCES, ReferenceFault, ReferenceFaultKind, Referent, Variable,
+    has_reference,
+};
 pub use sources::{Files, SourceFile, SystemFiles, Unread};

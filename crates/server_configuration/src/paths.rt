@@ -52,6 +52,14 @@ fn folder_of(path: &[u8]) -> &[u8] {
     }
 }
 
+/// The folder of a file, without the `/` at its end; a path without `/` is left as it is.
+pub(crate) fn parent(path: &[u8]) -> &[u8] {
+    match path.iter().rposition(|octet| *octet == b'/') {
+        Some(place) => path.split_at(place).0,
+        None => path,
+    }
+}
+
 /// A path in the folder of the file that names it, unless it begins with `/`.
 pub(crate) fn beside(alloc: Global, naming: &[u8], path: &[u8]) -> Result<Vec<u8>, AllocError> {
     if path.first() == Some(&b'/') {
