@@ -25,7 +25,7 @@ pub enum ReferenceFaultKind {
     /// Nothing has this name.
     #[error("unknown reference")]
     Unknown,
-    /// What has this name is a section, or has no value.
+    /// What has this name is a section, or a word.
     #[error("reference without a value")]
     NoValue,
     /// More than [`MAX_REFERENCE_DEPTH`], as where references lead in a circle.

@@ -45,6 +45,7 @@ pub trait Files {
 }
 
 /// The files of the system.
+#[derive(Clone, Copy)]
 pub struct SystemFiles<'a> {
     runtime: &'a HostRuntime,
 }
