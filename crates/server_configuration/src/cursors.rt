@@ -29,7 +29,7 @@ fn joins(rest: &[u8]) -> bool
     matches!(rest, [b'\\', b'\n', ..] | [b'\\', b'\r', b'\n', ..])
 }
 
-fn line_feeds(text: &[u8]) -> usize
+pub(crate) fn line_feeds(text: &[u8]) -> usize
     ensures value { result ≡ line_feeds text.now }
     ensures bound { result ≤ length text.now }
 {

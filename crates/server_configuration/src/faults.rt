@@ -1,5 +1,12 @@
 //! Why a file is not read.
 
+ghost use Rattle.std.specs.Prelude.{◌≡◌, ◌+◌, ◌≤◌, ℕ, List, length, max};
+ghost use Rattle.server_configuration.specs.Places.{HasLine, line_feeds};
+ghost use Rattle.server_configuration.specs.internal.Refusals.{IsPlaced};
+ghost use Rattle.server_configuration.specs.declared.sources.SourceFile.{SourceFile as Source};
+
+use crate::references::ReferenceFaultKind;
+use crate::sources::SourceFile;
 use std::alloc::{AllocError, AllocFailed};
 use thiserror::Error;
 
@@ -30,6 +37,18 @@ pub enum FaultKind {
     /// More than [`MAX_OCTETS`](crate::MAX_OCTETS).
     #[error("too many octets")]
     TooLong,
+    /// What this line includes is missing, or cannot be read.
+    #[error("include not readable")]
+    Unreadable,
+    /// More than [`MAX_FILES`](crate::MAX_FILES), or more includes than so many files need.
+    #[error("too many files")]
+    TooManyFiles,
+    /// Includes more than [`MAX_DEPTH`](crate::MAX_DEPTH) deep.
+    #[error("includes too deep")]
+    TooDeep,
+    /// A reference in the path of what this line includes.
+    #[error("{0}")]
+    Reference(ReferenceFaultKind),
 }
 
 /// Why a file is not read, and where.
@@ -42,6 +61,8 @@ pub struct Fault {
 }
 
 impl From<AllocError> for Fault {
+    ghost from_gives = { λ _ fault. fault.line ≡ 0 };
+
     fn from(_error: AllocError) -> Fault {
         Fault {
             line: 0,
@@ -51,10 +72,73 @@ impl From<AllocError> for Fault {
 }
 
 impl<T: Drop> From<AllocFailed<T>> for Fault {
+    ghost from_gives = { λ _ fault. fault.line ≡ 0 };
+
     fn from(_error: AllocFailed<T>) -> Fault {
         Fault {
             line: 0,
             kind: FaultKind::Memory,
+        }
+    }
+}
+
+/// Why a configuration is not read, and where.
+#[derive(Debug, Drop, PartialEq, Eq)]
+pub struct ConfigurationFault {
+    /// The file that has the place, as far as it was read. For want of memory its path may be empty.
+    pub file: SourceFile,
+    /// The line's number, from 1 on.
+    pub line: usize,
+    pub kind: FaultKind,
+    ghost first: { 1 ≤ line },
+    ghost last: { line ≤ 1 + line_feeds file.octets.items },
+}
+
+/// Why a configuration is not read, and at which of the files that were read.
+#[derive(Clone, Copy, Debug)]
+pub(crate) enum Refusal {
+    Memory,
+    At {
+        file: usize,
+        line: usize,
+        kind: FaultKind,
+    },
+}
+
+impl From<AllocError> for Refusal {
+    ghost use Rattle.server_configuration.specs.declared.faults.Refusal.TheVariants.{Memory};
+
+    ghost from_gives = { λ _ refusal. refusal ≡ Memory };
+
+    fn from(_error: AllocError) -> Refusal {
+        Refusal::Memory
+    }
+}
+
+impl<T: Drop> From<AllocFailed<T>> for Refusal {
+    ghost use Rattle.server_configuration.specs.declared.faults.Refusal.TheVariants.{Memory};
+
+    ghost from_gives = { λ _ refusal. refusal ≡ Memory };
+
+    fn from(_error: AllocFailed<T>) -> Refusal {
+        Refusal::Memory
+    }
+}
+
+impl Fault {
+    /// The same in a file of a configuration.
+    #[tactic(auto, using(crate::proofs::Lines::earlier_line))]
+    pub(crate) fn in_file(self, file: usize) -> Refusal
+        ensures { (files : List Source) (line : ℕ) → HasLine files file line → self.line ≤ line
+            → IsPlaced files result }
+    {
+        match self.kind {
+            FaultKind::Memory => Refusal::Memory,
+            kind => Refusal::At {
+                file,
+                line: self.line.max(1),
+                kind,
+            },
         }
     }
 }

@@ -1,5 +1,8 @@
 //! What a configuration consists of.
 
+ghost use Rattle.std.specs.Prelude.{◌≡◌};
+ghost use Rattle.server_configuration.specs.Contents.{is_section};
+
 /// How a text is quoted.
 #[derive(Clone, Copy, Debug, PartialEq, Eq)]
 pub enum Quote {
@@ -91,7 +94,9 @@ pub enum Content {
 }
 
 impl Content {
-    pub fn is_section(&self) -> bool {
+    pub fn is_section(&self) -> bool
+        ensures { result ≡ is_section self.now }
+    {
         matches!(self, Content::Section { .. })
     }
 }
@@ -99,6 +104,8 @@ impl Content {
 /// A part of a file.
 #[derive(Debug, Drop, PartialEq, Eq)]
 pub struct Item {
+    /// The place of its file among those of a configuration; 0 where one text was read.
+    pub file: usize,
     /// The line on which it begins, from 1 on.
     pub line: usize,
     /// The place, among the items, of the section that holds it; none at the top.

@@ -1,6 +1,6 @@
 //! Statements, one after the other.
 
-ghost use Rattle.std.specs.Prelude.{◌≡◌, ◌≤◌, ◌<◌, length, OnOk};
+ghost use Rattle.std.specs.Prelude.{◌≡◌, ◌≤◌, ◌<◌, length, IfErr, OnOk};
 
 use crate::cursors::Cursor;
 use crate::faults::{Fault, FaultKind};
@@ -14,6 +14,19 @@ pub(crate) enum Statement {
     /// `}`
     Close,
     Item(Content),
+}
+
+impl Statement {
+    pub(crate) fn is_include(&self) -> bool {
+        matches!(self, Statement::Item(Content::Include { .. }))
+    }
+}
+
+/// A statement, and the line on which it begins.
+#[derive(Drop)]
+pub(crate) struct Placed {
+    pub(crate) line: usize,
+    pub(crate) statement: Statement,
 }
 
 // The operator that follows, which is passed.
@@ -34,6 +47,7 @@ fn read_operator(cursor: &mut Cursor<'_>) -> Option<Operator>
 fn read_value(alloc: Global, cursor: &mut Cursor<'_>) -> Result<Option<Text>, Fault>
     ensures shorter { length cursor.new.rest.now ≤ length cursor.old.rest.now }
     ensures lines { cursor.new.lines ≡ cursor.old.lines }
+    ensures refused { IfErr result (λ fault. fault.line ≤ cursor.old.lines) }
 {
     cursor.skip_blanks();
     match cursor.peek() {
@@ -51,6 +65,7 @@ fn goes_on(next: Option<u8>) -> bool {
 fn read_arguments(alloc: Global, cursor: &mut Cursor<'_>) -> Result<Vec<Text>, Fault>
     ensures shorter { length cursor.new.rest.now ≤ length cursor.old.rest.now }
     ensures lines { cursor.new.lines ≡ cursor.old.lines }
+    ensures refused { IfErr result (λ fault. fault.line ≤ cursor.old.lines) }
 {
     let mut arguments = Vec::new(alloc);
     cursor.skip_blanks();
@@ -67,6 +82,7 @@ fn read_word(alloc: Global, cursor: &mut Cursor<'_>) -> Result<Text, Fault>
     ensures shorter { length cursor.new.rest.now ≤ length cursor.old.rest.now }
     ensures taken { OnOk result (length cursor.new.rest.now < length cursor.old.rest.now) }
     ensures lines { cursor.new.lines ≡ cursor.old.lines }
+    ensures refused { IfErr result (λ fault. fault.line ≤ cursor.old.lines) }
 {
     let line = cursor.line();
     let before = cursor.left();
@@ -98,6 +114,7 @@ fn opens(cursor: &mut Cursor<'_>) -> bool
 fn read_branch(alloc: Global, cursor: &mut Cursor<'_>, name: Text) -> Result<Content, Fault>
     ensures shorter { length cursor.new.rest.now ≤ length cursor.old.rest.now }
     ensures lines { cursor.new.lines ≡ cursor.old.lines }
+    ensures refused { IfErr result (λ fault. fault.line ≤ cursor.old.lines) }
 {
     cursor.skip_blanks();
     let condition = read_condition(alloc, cursor)?;
@@ -117,6 +134,7 @@ fn read_branch(alloc: Global, cursor: &mut Cursor<'_>, name: Text) -> Result<Con
 fn read_content(alloc: Global, cursor: &mut Cursor<'_>, name: Text) -> Result<Content, Fault>
     ensures shorter { length cursor.new.rest.now ≤ length cursor.old.rest.now }
     ensures lines { cursor.new.lines ≡ cursor.old.lines }
+    ensures refused { IfErr result (λ fault. fault.line ≤ cursor.old.lines) }
 {
     cursor.skip_blanks();
     if let Some(operator) = read_operator(cursor) {
@@ -138,6 +156,7 @@ fn read_content(alloc: Global, cursor: &mut Cursor<'_>, name: Text) -> Result<Co
 fn read_path(alloc: Global, cursor: &mut Cursor<'_>, optional: bool) -> Result<Content, Fault>
     ensures shorter { length cursor.new.rest.now ≤ length cursor.old.rest.now }
     ensures lines { cursor.new.lines ≡ cursor.old.lines }
+    ensures refused { IfErr result (λ fault. fault.line ≤ cursor.old.lines) }
 {
     cursor.skip_blanks();
     let path = read_text(alloc, cursor, Ending::Path)?;
@@ -149,6 +168,7 @@ pub(crate) fn read_statement(alloc: Global, cursor: &mut Cursor<'_>) -> Result<S
     ensures shorter { length cursor.new.rest.now ≤ length cursor.old.rest.now }
     ensures taken { OnOk result (length cursor.new.rest.now < length cursor.old.rest.now) }
     ensures lines { cursor.new.lines ≡ cursor.old.lines }
+    ensures refused { IfErr result (λ fault. fault.line ≤ cursor.old.lines) }
 {
     if cursor.peek() == Some(b'}') {
         cursor.advance();
@@ -164,6 +184,7 @@ pub(crate) fn read_statement(alloc: Global, cursor: &mut Cursor<'_>) -> Result<S
 fn read_rest(alloc: Global, cursor: &mut Cursor<'_>, name: Text) -> Result<Content, Fault>
     ensures shorter { length cursor.new.rest.now ≤ length cursor.old.rest.now }
     ensures lines { cursor.new.lines ≡ cursor.old.lines }
+    ensures refused { IfErr result (λ fault. fault.line ≤ cursor.old.lines) }
 {
     if name.is_ignoring_case(b"$INCLUDE") {
         read_path(alloc, cursor, false)

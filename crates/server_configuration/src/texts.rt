@@ -1,6 +1,6 @@
 //! Words, quoted texts and conditions.
 
-ghost use Rattle.std.specs.Prelude.{◌≡◌, ◌≤◌, ◌<◌, length};
+ghost use Rattle.std.specs.Prelude.{◌≡◌, ◌≤◌, ◌<◌, length, IfErr};
 
 use crate::cursors::{Cursor, is_blank};
 use crate::faults::{Fault, FaultKind};
@@ -143,6 +143,7 @@ pub(crate) fn read_text(
 ) -> Result<Text, Fault>
     ensures shorter { length cursor.new.rest.now ≤ length cursor.old.rest.now }
     ensures lines { cursor.new.lines ≡ cursor.old.lines }
+    ensures refused { IfErr result (λ fault. fault.line ≤ cursor.old.lines) }
 {
     let mark = cursor.peek().unwrap_or(b' ');
     let Some(quote) = quote_of(mark) else {
@@ -258,6 +259,7 @@ fn read_balanced(alloc: Global, cursor: &mut Cursor<'_>) -> Result<Option<Vec<u8
 pub(crate) fn read_condition(alloc: Global, cursor: &mut Cursor<'_>) -> Result<Text, Fault>
     ensures shorter { length cursor.new.rest.now ≤ length cursor.old.rest.now }
     ensures lines { cursor.new.lines ≡ cursor.old.lines }
+    ensures refused { IfErr result (λ fault. fault.line ≤ cursor.old.lines) }
 {
     let line = cursor.line();
     if cursor.peek() != Some(b'(') {

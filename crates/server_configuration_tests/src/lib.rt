@@ -2,6 +2,12 @@
 #![tactic(auto)]
 
 #[cfg(test)]
+mod configurations;
+#[cfg(test)]
 mod faults;
 #[cfg(test)]
 mod items;
+#[cfg(test)]
+mod memory_files;
+#[cfg(test)]
+mod references;

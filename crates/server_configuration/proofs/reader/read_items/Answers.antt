@@ -11,7 +11,14 @@ loop-alloc-preserved c =
     record {
       lines = c.skip_lines-in-loop-alloc.ensures.lines ∙ c.in_ok-statement.ensures.lines
           ∙ c.loop-alloc.invariant.lines;
-      within = c.in_ok-section.ensures.within lines c.line-line.ensures.first last
+      within = c.in_ok-spot.ensures.within lines c.line-line.ensures.first last
           c.loop-alloc.invariant.within;
-      count = c.in_ok-section.ensures.count;
+      count = c.add_statement.ensures.count;
+      nested = c.add_statement.ensures.nested c.loop-alloc.invariant.nested
+          c.loop-alloc.invariant.open_section;
+      open_section = c.in_ok-spot.ensures.open c.loop-alloc.invariant.nested
+          c.loop-alloc.invariant.open_section;
     }
+
+pub returns-clause-refused : goal.returns-clause-refused
+returns-clause-refused c = c.closed.ensures.refused (1 + line_feeds c.args.octets.now) c.loop-alloc.invariant.within

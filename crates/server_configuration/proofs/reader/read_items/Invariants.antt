@@ -1,5 +1,5 @@
 use Rattle.std.proofs.Common.{◌≡◌, ◌+◌, ◌≤◌, length}
-use Rattle.server_configuration.specs.Places.{BeginWithin, line_feeds}
+use Rattle.server_configuration.specs.Places.{AreNested, BeginWithin, IsSectionOf, line_feeds}
 use Rattle.server_configuration.specs.declared.reader.TheConstants.{MAX_ITEMS}
 use Rattle.server_configuration.proofs.reader.read_items.Given as goal
 
@@ -11,4 +11,6 @@ invariant-loop-alloc l = record {
   lines : l.cursor.lines ≡ 1 + line_feeds l.octets;
   within : BeginWithin (1 + line_feeds l.octets) l.items.items;
   count : length l.items.items ≤ MAX_ITEMS;
+  nested : AreNested l.items.items;
+  open_section : IsSectionOf l.items.items l.spot.section;
 }

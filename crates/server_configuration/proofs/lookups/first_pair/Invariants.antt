@@ -1,0 +1,7 @@
+use Rattle.std.proofs.Common.{◌≡◌, drop}
+use Rattle.server_configuration.specs.Lookups.{first_place, is_pair_in}
+use Rattle.server_configuration.proofs.lookups.first_pair.Given as goal
+
+abbrev pub invariant-loop-place : goal.invariant-loop-place
+invariant-loop-place l =
+    first_place (is_pair_in l.section l.name) l.place (drop l.place l.items) ≡ first_place (is_pair_in l.section l.name) 0 l.items

@@ -1,0 +1,122 @@
+//! Where a configuration's files come from.
+
+use std::alloc::{AllocError, Global};
+use std::fs::File;
+use std::io::{ErrorKind, Read};
+use std::{fs, io};
+
+/// A file that was read.
+#[derive(Debug, Drop, PartialEq, Eq)]
+pub struct SourceFile {
+    pub path: Vec<u8>,
+    pub octets: Vec<u8>,
+    /// How many includes lead to it: none to the first file.
+    pub depth: usize,
+}
+
+/// Why a file or a folder is not read.
+#[derive(Clone, Copy, Debug, PartialEq, Eq)]
+pub enum Unread {
+    Memory,
+    /// It is not there.
+    Missing,
+    /// It is there, and cannot be read.
+    Unreadable,
+    /// It has more octets than were asked for.
+    TooLong,
+}
+
+impl From<AllocError> for Unread {
+    fn from(_error: AllocError) -> Unread {
+        Unread::Memory
+    }
+}
+
+/// The files among which a configuration is.
+pub trait Files {
+    /// What the file at a path holds, at most so many octets.
+    fn octets(&self, alloc: Global, path: &[u8], limit: usize) -> Result<Vec<u8>, Unread>;
+
+    /// The names in a folder, in any order. Its path ends in `/`.
+    fn names(&self, alloc: Global, folder: &[u8]) -> Result<Vec<Vec<u8>>, Unread>;
+
+    /// Whether there is a folder at a path. Symbolic links are followed.
+    fn is_folder(&self, path: &[u8]) -> bool;
+}
+
+/// The files of the system.
+#[derive(Clone, Copy)]
+pub struct SystemFiles<'a> {
+    runtime: &'a HostRuntime,
+}
+
+impl<'a> SystemFiles<'a> {
+    pub fn new(runtime: &'a HostRuntime) -> SystemFiles<'a> {
+        SystemFiles { runtime }
+    }
+}
+
+fn unread_of(error: &io::Error) -> Unread {
+    match error.kind() {
+        ErrorKind::OutOfMemory => Unread::Memory,
+        ErrorKind::NotFound | ErrorKind::NotADirectory => Unread::Missing,
+        _ => Unread::Unreadable,
+    }
+}
+
+// At most one octet more than the limit.
+fn read_path(rt: &HostRuntime, path: &str, limit: usize) -> io::Result<Vec<u8>> {
+    let file = File::open(rt, path)?;
+    let mut octets = Vec::new(rt.alloc());
+    file.take((limit as u64).saturating_add(1))
+        .read_to_end(&mut octets)?;
+    Ok(octets)
+}
+
+// Names that are no UTF-8 are left out: no include takes them.
+fn read_names(rt: &HostRuntime, folder: &str) -> io::Result<Vec<Vec<u8>>> {
+    let mut names = Vec::new(rt.alloc());
+    for entry in fs::read_dir(rt, folder)? {
+        match entry {
+            Ok(entry) => {
+                names.push(Vec::from_slice(rt.alloc(), entry.file_name().as_bytes())?)?;
+            }
+            Err(error) if error.kind() == ErrorKind::InvalidFilename => {}
+            Err(error) => return Err(error),
+        }
+    }
+    Ok(names)
+}
+
+impl Files for SystemFiles<'_> {
+    fn octets(&self, _alloc: Global, path: &[u8], limit: usize) -> Result<Vec<u8>, Unread> {
+        let Ok(path) = str::from_utf8(path) else {
+            return Err(Unread::Missing);
+        };
+        match read_path(self.runtime, path, limit) {
+            Ok(octets) if octets.len() > limit => Err(Unread::TooLong),
+            Ok(octets) => Ok(octets),
+            Err(error) => Err(unread_of(&error)),
+        }
+    }
+
+    fn names(&self, _alloc: Global, folder: &[u8]) -> Result<Vec<Vec<u8>>, Unread> {
+        let Ok(folder) = str::from_utf8(folder) else {
+            return Err(Unread::Missing);
+        };
+        match read_names(self.runtime, folder) {
+            Ok(names) => Ok(names),
+            Err(error) => Err(unread_of(&error)),
+        }
+    }
+
+    fn is_folder(&self, path: &[u8]) -> bool {
+        match str::from_utf8(path) {
+            Ok(path) => match fs::metadata(self.runtime, path) {
+                Ok(metadata) => metadata.is_dir(),
+                Err(_) => false,
+            },
+            Err(_) => false,
+        }
+    }
+}
