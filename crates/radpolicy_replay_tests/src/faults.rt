@@ -1,9 +1,10 @@
 //! Inputs that cannot be read to their end, and outputs that are too small.
 
+use crate::replays::replay_alone;
 use avp_dict::Dictionary;
 use radpolicy::{PreparedPolicy, Secret};
 use radpolicy_common::SecretValues;
-use radpolicy_replay_records::{Replay, ReplayFault, Summary};
+use radpolicy_replay_records::{ReplayFault, Summary};
 use samples::test_dictionary;
 use std::alloc::Global;
 use std::io;
@@ -36,12 +37,7 @@ fn replay_by<R: Read, W: Write>(
     let dictionary: Dictionary = test_dictionary(alloc)?;
     let policy = PreparedPolicy::read(alloc, &dictionary, b"reject")?;
     let secret = Secret::new(b"testing123")?;
-    let replay = Replay {
-        policy: &policy,
-        secret: &secret,
-        comparison: None,
-        secrets: SecretValues::Hidden,
-    };
+    let replay = replay_alone(&policy, &secret, SecretValues::Hidden);
     Ok(replay.run(alloc, input, out))
 }
 

@@ -28,6 +28,20 @@ a b\\007 E44 code not taken
 no packet E05 not hex
 ";
 
+/// The replay by a policy that is compared with none.
+pub(crate) fn replay_alone<'a>(
+    policy: &'a PreparedPolicy<'a>,
+    secret: &'a Secret<'a>,
+    secrets: SecretValues,
+) -> Replay<'a> {
+    Replay {
+        policy,
+        secret,
+        comparison: None,
+        secrets,
+    }
+}
+
 // What is written for an input, and the counts.
 fn replayed(
     alloc: Global,
@@ -38,12 +52,7 @@ fn replayed(
     let dictionary: Dictionary = test_dictionary(alloc)?;
     let policy = PreparedPolicy::read(alloc, &dictionary, policy)?;
     let secret = Secret::new(b"testing123")?;
-    let replay = Replay {
-        policy: &policy,
-        secret: &secret,
-        comparison: None,
-        secrets,
-    };
+    let replay = replay_alone(&policy, &secret, secrets);
     let mut input = input;
     let mut out = Vec::new(alloc);
     let summary = replay.run(alloc, &mut input, &mut out)?;
