@@ -10,10 +10,10 @@ use Rattle.avp_lists.specs.declared.steps.Change.TheVariants.{Back}
 use Rattle.avp_lists.specs.declared.steps.Step.{Step}
 use Rattle.avp_lists.specs.States.{empty_state, IsLimited}
 use Rattle.avp_lists.specs.internal.Slots.{at_initial, slot_at, Housed}
-use Rattle.avp_lists.specs.internal.Steps.{after, every, slots_at, shown_states, no_step, step_at, change_at, turns, node, BacksBelow, PlacesCounted, AllCounted, CountsWithin, CountsGrow, AllHoused}
+use Rattle.avp_lists.specs.internal.Steps.{after, every, slots_at, shown_states, no_step, step_at, change_at, turns, origin, BacksBelow, PlacesCounted, AllCounted, CountsWithin, CountsGrow, AllHoused}
 use Rattle.avp_lists.specs.internal.Shown.{shown_state}
 use Rattle.avp_lists.specs.internal.SlotLaws.{length-every}
-use Rattle.avp_lists.proofs.Replay.{every-take, every-push, node_fits}
+use Rattle.avp_lists.proofs.Replay.{every-take, every-push, origin_fits}
 use Rattle.avp_lists.proofs.Moves.{states-same}
 
 -- what holds of each and of one more
@@ -179,11 +179,11 @@ module _ (slots : List Slot) (steps : List Step) (n w : ℕ) (e : Step) (within 
       housed-more steps n e within slots each last
 
 -- going back to the place that the state at a place stands for
-pub states-rolled : (pool : List Pair) (slots moved : List Slot) (steps : List Step) (n to w : ℕ) (e : Step) → n ≤ length steps → to < n → BacksBelow steps → w ≡ node steps to → e.change ≡ Back w → map at_initial moved ≡ map at_initial slots → shown_states pool moved (take n steps ++ e ∷ []) ≡ take n (shown_states pool slots steps) ++ get_or (shown_states pool slots steps) to empty_state ∷ []
+pub states-rolled : (pool : List Pair) (slots moved : List Slot) (steps : List Step) (n to w : ℕ) (e : Step) → n ≤ length steps → to < n → BacksBelow steps → w ≡ origin steps to → e.change ≡ Back w → map at_initial moved ≡ map at_initial slots → shown_states pool moved (take n steps ++ e ∷ []) ≡ take n (shown_states pool slots steps) ++ get_or (shown_states pool slots steps) to empty_state ∷ []
 states-rolled pool slots moved steps n to w e within below backs is back initials =
     let lt : to < length steps = omega arith in
-    let fits = node_fits moved steps to backs lt in
-    let low : node steps to ≤ to = fits.0 in
+    let fits = origin_fits moved steps to backs lt in
+    let low : origin steps to ≤ to = fits.0 in
     let earlier : w < n = omega arith in
     let same : get_or (shown_states pool moved steps) w empty_state ≡ get_or (shown_states pool moved steps) to empty_state =
     state-each pool (every moved steps) w

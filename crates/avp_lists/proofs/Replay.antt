@@ -7,7 +7,7 @@ use Rattle.avp_lists.specs.declared.steps.Change.TheVariants.{Turned, Back}
 use Rattle.avp_lists.specs.declared.steps.Step.{Step}
 use Rattle.avp_lists.specs.internal.Slots.{forward, backward}
 use Rattle.avp_lists.specs.internal.Slots.{at_initial}
-use Rattle.avp_lists.specs.internal.Steps.{last_or, after, replay, every, slots_at, change_at, places_of, swap_of, turns, node, node_of, BacksBelow}
+use Rattle.avp_lists.specs.internal.Steps.{last_or, after, replay, every, slots_at, change_at, places_of, swap_of, turns, origin, origin_of, BacksBelow}
 use Rattle.avp_lists.specs.internal.SlotLaws.{length-every}
 use Rattle.avp_lists.proofs.Turning.{backward-forward}
 
@@ -77,15 +77,15 @@ slots_at-back slots steps k to within below e =
     slots_at-after slots steps k within ∙ by_back (change_at steps k) to e f (take k all) ∙ get_or-take k all to f below ∙ get_or_default all to f [] inside
 
 -- the place that a state's slots come from
-node_cases : (slots : List Slot) (steps : List Step) (k : ℕ) → BacksBelow steps → k < length steps → (x : Change) → change_at steps k ≡ x → (node_of k x ≤ k) × (turns (change_at steps (node_of k x)) ≡ true) × (slots_at slots steps (node_of k x) ≡ slots_at slots steps k)
-node_cases slots steps k below within (Turned places by) e = (omega arith, ap turns e, refl)
-node_cases slots steps k below within (Back to) e =
+origin_cases : (slots : List Slot) (steps : List Step) (k : ℕ) → BacksBelow steps → k < length steps → (x : Change) → change_at steps k ≡ x → (origin_of k x ≤ k) × (turns (change_at steps (origin_of k x)) ≡ true) × (slots_at slots steps (origin_of k x) ≡ slots_at slots steps k)
+origin_cases slots steps k below within (Turned places by) e = (omega arith, ap turns e, refl)
+origin_cases slots steps k below within (Back to) e =
     let b = below k to within e in
     let lt : to < k = b.0 in
     (omega arith, b.1, sym (slots_at-back slots steps k to within lt e))
 
-pub node_fits : (slots : List Slot) (steps : List Step) (k : ℕ) → BacksBelow steps → k < length steps → (node steps k ≤ k) × (turns (change_at steps (node steps k)) ≡ true) × (slots_at slots steps (node steps k) ≡ slots_at slots steps k)
-node_fits slots steps k below within = node_cases slots steps k below within (change_at steps k) refl
+pub origin_fits : (slots : List Slot) (steps : List Step) (k : ℕ) → BacksBelow steps → k < length steps → (origin steps k ≤ k) × (turns (change_at steps (origin steps k)) ≡ true) × (slots_at slots steps (origin steps k) ≡ slots_at slots steps k)
+origin_fits slots steps k below within = origin_cases slots steps k below within (change_at steps k) refl
 
 -- the marks of the first state decide
 pub slots_at-same : (a b : List Slot) (steps : List Step) (k : ℕ) → map at_initial a ≡ map at_initial b → slots_at a steps k ≡ slots_at b steps k

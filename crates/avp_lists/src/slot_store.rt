@@ -15,7 +15,7 @@ use crate::pairs::{AttrId, Pair};
 use crate::planning::{Plan, plan_edit};
 use crate::showing::{first_shown, first_slot, pair_shown, shown_pairs};
 use crate::slots::{End, Mark, Slot, Slots};
-use crate::steps::{Change, Step, cut_and_push, make_room_beside, move_to, node};
+use crate::steps::{Change, Step, cut_and_push, make_room_beside, move_to, origin};
 use crate::store::{ListsRefused, Store};
 use crate::vectors::{cut_and_add, make_room};
 use std::alloc::{AllocError, Global};
@@ -425,7 +425,7 @@ impl Store for SlotStore {
             self.place,
             to,
         );
-        let earlier = node(&self.steps, to);
+        let earlier = origin(&self.steps, to);
         let last = &self.steps[self.place];
         let step = Step {
             change: Change::Back(earlier),

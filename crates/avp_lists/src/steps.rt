@@ -1,7 +1,7 @@
 //! The steps that lead from state to state, and the moves along them.
 ghost use Rattle.std.specs.Prelude.{◌≡◌, ◌+◌, ◌-◌, ◌≤◌, ◌<◌, ◌∷◌, ◌++◌, [], OnOk, IsOk, true, length, take, map, min, vec_capacity};
 ghost use Rattle.avp_lists.specs.internal.Slots.{at_initial};
-ghost use Rattle.avp_lists.specs.internal.Steps.{slots_at, change_at, turns, node, StepsWithin, BacksBelow};
+ghost use Rattle.avp_lists.specs.internal.Steps.{slots_at, change_at, turns, origin, StepsWithin, BacksBelow};
 
 use crate::slots::{Slots, Swap};
 use crate::vectors::make_room;
@@ -59,9 +59,9 @@ pub(crate) fn cut_and_push(steps: &mut Vec<Step>, nexts: &mut Vec<usize>, end: u
 }
 
 // The place of the state that the one at a place stands for.
-pub(crate) fn node(steps: &[Step], place: usize) -> usize
+pub(crate) fn origin(steps: &[Step], place: usize) -> usize
     requires { place < length steps.now }
-    ensures { result ≡ node steps.now place }
+    ensures { result ≡ origin steps.now place }
 {
     match &steps[place].change {
         Change::Turned(_, _) => place,
@@ -114,9 +114,9 @@ fn travel(slots: &mut Slots, steps: &[Step], nexts: &mut [usize], from: usize, t
     while here != far {
         if far < here {
             go_back(slots, steps, here);
-            here = node(steps, here - 1);
+            here = origin(steps, here - 1);
         } else {
-            let before = node(steps, far - 1);
+            let before = origin(steps, far - 1);
             nexts[before] = far;
             far = before;
         }
@@ -147,7 +147,7 @@ pub(crate) fn move_to(
     ensures nexts { length nexts.new.items ≡ length nexts.old.items }
     ensures capacity { vec_capacity nexts.new ≡ vec_capacity nexts.old }
 {
-    let here = node(steps, from);
-    let there = node(steps, to);
+    let here = origin(steps, from);
+    let there = origin(steps, to);
     travel(slots, steps, nexts.as_mut_slice(), here, there);
 }

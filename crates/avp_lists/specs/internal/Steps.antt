@@ -60,12 +60,12 @@ swap_of (Turned places by) = by
 swap_of (Back to) = None
 
 -- the place that the state at a place stands for
-abbrev pub node_of : ℕ → Change → ℕ
-node_of k (Turned places by) = k
-node_of k (Back to) = to
+abbrev pub origin_of : ℕ → Change → ℕ
+origin_of k (Turned places by) = k
+origin_of k (Back to) = to
 
-abbrev pub node : List Step → ℕ → ℕ
-node steps k = node_of k (change_at steps k)
+abbrev pub origin : List Step → ℕ → ℕ
+origin steps k = origin_of k (change_at steps k)
 
 -- what each step turns is among n slots
 abbrev pub StepsWithin : ℕ → List Step → Type 0

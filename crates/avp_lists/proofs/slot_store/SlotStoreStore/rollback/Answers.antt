@@ -5,8 +5,8 @@ use Rattle.avp_lists.specs.declared.steps.Change.TheVariants.{Back}
 use Rattle.avp_lists.specs.declared.steps.Step.{Step}
 use Rattle.avp_lists.specs.History.{History}
 use Rattle.avp_lists.specs.States.{empty_state, IsLimited}
-use Rattle.avp_lists.specs.internal.Steps.{slots_at, shown_states, no_step, step_at, change_at, turns, node, BacksBelow, AllCounted, CountsWithin, CountsGrow, AllHoused, StatesLimited}
-use Rattle.avp_lists.proofs.Replay.{node_fits}
+use Rattle.avp_lists.specs.internal.Steps.{slots_at, shown_states, no_step, step_at, change_at, turns, origin, BacksBelow, AllCounted, CountsWithin, CountsGrow, AllHoused, StatesLimited}
+use Rattle.avp_lists.proofs.Replay.{origin_fits}
 use Rattle.avp_lists.specs.internal.SlotLaws.{length-shown_states}
 use Rattle.avp_lists.proofs.Moves.{housed-same, steps_within}
 use Rattle.avp_lists.proofs.Continuing.{length-more, counted-more, counts-more, grow-more, below-more, standing-back, housed-back, limited-continued, states-rolled}
@@ -47,17 +47,17 @@ invariant_of-self-2 c =
     let moved = c.move_to.new.slots.all.items in
     let n = s.place + 1 in
     let to = c.args.to in
-    let w = c.node-earlier.result in
+    let w = c.origin-earlier.result in
     let room = c.in_ok-make_room_beside.ensures in
     let last = c.index-last.result.now in
     let e : Step = record { change = Back w; slots = last.slots; pairs = last.pairs } in
     let new : c.cut_and_push.new.steps.items ≡ take n steps ++ e ∷ [] = c.cut_and_push.ensures.steps ∙ ap (λ (xs : List Step). take n xs ++ e ∷ []) room.steps in
-    let is : w ≡ node steps to = c.node-earlier.ensures ∙ ap (λ (xs : List Step). node xs to) (c.deref-2.ensures.value ∙ room.steps) in
+    let is : w ≡ origin steps to = c.origin-earlier.ensures ∙ ap (λ (xs : List Step). origin xs to) (c.deref-2.ensures.value ∙ room.steps) in
     let fine : n ≤ length steps = omega (arith, s.placed) in
     let before : to ≤ s.place = c.requires in
     let lt : to < length steps = omega arith in
-    let fits = node_fits moved steps to s.below lt in
-    let low : node steps to ≤ to = fits.0 in
+    let fits = origin_fits moved steps to s.below lt in
+    let low : origin steps to ≤ to = fits.0 in
     let earlier : w < n = omega arith in
     let turned : turns (change_at steps w) ≡ true = ap (λ (m : ℕ). turns (change_at steps m)) is ∙ fits.1 in
     let there : slots_at moved steps to ≡ moved = ap (λ (xs : List Step). slots_at moved xs to) (sym (c.deref.ensures.value ∙ room.steps)) ∙ c.move_to.ensures.standing in
@@ -95,11 +95,11 @@ returns-clause-ok c =
     let moved = c.move_to.new.slots.all.items in
     let n = s.place + 1 in
     let to = c.args.to in
-    let w = c.node-earlier.result in
+    let w = c.origin-earlier.result in
     let room = c.in_ok-make_room_beside.ensures in
     let e : Step = record { change = Back w; slots = c.index-last.result.now.slots; pairs = c.index-last.result.now.pairs } in
     let new : c.cut_and_push.new.steps.items ≡ take n steps ++ e ∷ [] = c.cut_and_push.ensures.steps ∙ ap (λ (xs : List Step). take n xs ++ e ∷ []) room.steps in
-    let is : w ≡ node steps to = c.node-earlier.ensures ∙ ap (λ (xs : List Step). node xs to) (c.deref-2.ensures.value ∙ room.steps) in
+    let is : w ≡ origin steps to = c.origin-earlier.ensures ∙ ap (λ (xs : List Step). origin xs to) (c.deref-2.ensures.value ∙ room.steps) in
     let fine : n ≤ length steps = omega (arith, s.placed) in
     let before : to < n = omega (arith, c.requires) in
     ap (λ (xs : List State). let h : History = record { states = xs; place = n } in h)
