@@ -52,7 +52,7 @@ class Copy:
         return subprocess.run(
             command,
             cwd=self.root,
-            env={"PATH": SYSTEM_PATH, "RT": str(rt), **self._built(), **more},
+            env={"PATH": SYSTEM_PATH, "RT": str(rt), "AT_ONCE": "1", **self._built(), **more},
             stdin=subprocess.DEVNULL,
             stdout=subprocess.PIPE,
             stderr=subprocess.STDOUT,

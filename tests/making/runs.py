@@ -91,6 +91,24 @@ def check_stopped(copy: Copy, report: Report) -> None:
     report.check("make run: with too little memory for several jobs", wrong)
 
 
+def check_side_by_side(copy: Copy, report: Report) -> None:
+    """Two crates of which neither stands on the other, proved at the same time; one that fails, beside one that ends."""
+    pair = ["build avp_packet", "build avp_unlang"]
+    printed = give_policy(copy, 605)
+    said = copy.make("run", AT_ONCE="2", RT_TOGETHER=",".join(pair)).stdout
+    called = copy.calls()
+    wrong = faults_of_both(said, printed)
+    wrong += [] if sorted(called) == sorted([f"try {CRATE}", *builds(copy)]) else [f"the kit was asked for {called}"]
+    report.check("make run: two crates side by side", wrong)
+    os.utime(copy.root / "crates/avp_dict/src/lib.rt")
+    ended = copy.make("run", AT_ONCE="2", RT_TOGETHER=",".join(pair), RT_FAILS=pair[0])
+    wrong = [] if ended.returncode and "avp_packet failed:" in ended.stdout else [f"{ended.returncode}: {ended.stdout!r}"]
+    wrong += [] if set(copy.calls()[-2:]) == set(pair) else [f"it went on with {copy.calls()}"]
+    copy.make("run", AT_ONCE="2")
+    wrong += [] if pair[0] in copy.calls() and pair[1] not in copy.calls() else [f"then with {copy.calls()}"]
+    report.check("make run: one of two crates fails", wrong)
+
+
 def check_guesses(copy: Copy, report: Report) -> None:
     """The minutes left: by the last times here, and the mean for a crate that is new. Then there are new times."""
     crates, kept = copy.crates(CRATE), copy.root / "out/build-seconds"
@@ -110,7 +128,7 @@ def check_guesses(copy: Copy, report: Report) -> None:
 
 def check(subject: Subject, report: Report) -> None:
     """With a stand-in for the kit, which proves nothing and compiles nothing."""
-    for part in (check_shown, check_stopped, check_guesses):
+    for part in (check_shown, check_stopped, check_side_by_side, check_guesses):
         with new_copy(subject) as copy:
             part(copy, report)
 
