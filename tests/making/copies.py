@@ -7,13 +7,13 @@ import subprocess
 import tempfile
 from contextlib import contextmanager
 from pathlib import Path
-from typing import Iterator, List, Mapping, Sequence
+from typing import Iterator, List, Mapping, Optional, Sequence
 
 from common.program import Word
 from common.subject import Subject
 
 Finished = subprocess.CompletedProcess
-STAND_IN = Path(__file__).with_name("kit") / "bin/rt"
+STAND_IN = Path(__file__).with_name("kit")
 # Without the kit.
 SYSTEM_PATH = "/usr/local/sbin:/usr/local/bin:/usr/sbin:/usr/bin:/sbin:/bin"
 LEFT_OUT = shutil.ignore_patterns("out", "found", ".git", "__pycache__")
@@ -27,6 +27,8 @@ def new_copy(subject: Subject) -> Iterator["Copy"]:
         folder = Path(name)
         folder.chmod(0o755)
         shutil.copytree(subject.root, folder / "copy", ignore=LEFT_OUT)
+        shutil.copytree(STAND_IN, folder / "kit")
+        (folder / "kit/c").symlink_to(subject.kit / "c")
         yield Copy(subject, folder / "copy")
 
 
@@ -37,8 +39,9 @@ class Copy:
         self.subject = subject
         self.root = root
         self._calls = root.parent / "calls"
+        self._stand_in = root.parent / "kit/bin/rt"
 
-    def run(self, command: Sequence[Word], rt: Path = STAND_IN, umask: int = 0o022, **more: str) -> Finished:
+    def run(self, command: Sequence[Word], rt: Optional[Path] = None, umask: int = 0o022, **more: str) -> Finished:
         """Runs a command at the top as a person does, with more in the environment. What it says is in `stdout`."""
         self._calls.write_text("")
 
@@ -52,7 +55,7 @@ class Copy:
         return subprocess.run(
             command,
             cwd=self.root,
-            env={"PATH": SYSTEM_PATH, "RT": str(rt), "AT_ONCE": "1", **self._built(), **more},
+            env={"PATH": SYSTEM_PATH, "RT": str(rt or self._stand_in), "AT_ONCE": "1", **self._built(), **more},
             stdin=subprocess.DEVNULL,
             stdout=subprocess.PIPE,
             stderr=subprocess.STDOUT,

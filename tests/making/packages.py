@@ -11,7 +11,21 @@ from common.report import Report
 from common.subject import Subject
 from making.copies import SYSTEM_PATH, Copy, new_copy
 
-NEEDED = ("dpkg", "dpkg-deb", "dpkg-shlibdeps", "strip", "objdump")
+NEEDED = ("dpkg", "dpkg-deb", "dpkg-shlibdeps", "strip", "objdump", "cc")
+LIBRARY = "crates/radpolicy_c/out/libradpolicy_c.a"
+EXPORTED = {"radpolicy_close", "radpolicy_open", "radpolicy_run"}
+# Opens nothing, and says so.
+IN_C = """#include <radpolicy.h>
+#include <stdio.h>
+
+int main(void)
+{
+    struct radpolicy_policy policy = RADPOLICY_CLOSED;
+    radpolicy_close(&policy);
+    puts(policy.is_open ? "open" : "closed");
+    return 0;
+}
+"""
 EXAMPLE = "share/doc/radpolicy/examples/hello"
 DICTIONARIES = "share/radpolicy/dictionaries"
 MORE = "radpolicy-again"
@@ -56,6 +70,24 @@ def faults_of_use(prefix: Path, elsewhere: Path) -> List[str]:
     return wrong
 
 
+def faults_of_library(prefix: Path, folder: Path, libraries: str = "lib") -> List[str]:
+    """What is wrong with the library below a prefix, for one who compiles a program over it, shared and static."""
+    source, place = folder / "program.c", prefix / libraries
+    source.write_text(IN_C)
+    shown = {line.split()[-1] for line in printed(["nm", "-D", "--defined-only", place / "libradpolicy.so"]).splitlines()}
+    wrong = [] if shown == EXPORTED else [f"the shared library shows {sorted(shown)}"]
+    said = printed(["cc", f"-I{prefix / 'include'}", "-o", folder / "static", source, place / "libradpolicy.a"])
+    wrong += [said] if said else []
+    flags = [f"-I{prefix / 'include'}", f"-L{place}", "-lradpolicy"]
+    if shutil.which("pkg-config"):
+        found = ["env", f"PKG_CONFIG_PATH={place / 'pkgconfig'}", "pkg-config", "--cflags", "--libs", "radpolicy"]
+        flags = printed(found).split()
+    said = printed(["cc", "-o", folder / "shared", source, *flags, f"-Wl,-rpath,{place}"])
+    wrong += [said] if said else []
+    ended = [printed([folder / name]) for name in ("static", "shared")]
+    return wrong + [f"a program of it says {said!r}" for said in ended if said != "closed\n"]
+
+
 def new_folder_beside(copy: Copy, name: str) -> Path:
     folder = copy.root.parent / name
     folder.mkdir()
@@ -65,39 +97,47 @@ def new_folder_beside(copy: Copy, name: str) -> Path:
 
 def check_install(subject: Subject, report: Report) -> None:
     """`make install` with one more program, used, and `make uninstall`."""
+    if not (subject.root / LIBRARY).is_file():
+        report.say(f"make install: not tried, there is no {LIBRARY}")
+        return
     with new_copy(subject) as copy:
         with open(copy.root / "programs.txt", "a") as programs:
             programs.write(f"{MORE}: radpolicy_cli\n")
         place, elsewhere = new_folder_beside(copy, "place"), new_folder_beside(copy, "elsewhere")
         copy.make("install", f"DESTDIR={place}", "PREFIX=/usr", umask=0o077)
-        listed = copy.run(["scripts/list-installed", "files"]).stdout.splitlines()
-        wanted = {f"usr/{line.split()[2]}" for line in listed}
-        wanted |= {f"usr/bin/{MORE}", "usr/share/doc/radpolicy/dictionaries"}
+        listed = [copy.run(["scripts/list-installed", kind]).stdout.splitlines() for kind in ("files", "links")]
+        wanted = {f"usr/{line.split()[-1]}" for lines in listed for line in lines} | {f"usr/bin/{MORE}"}
         found = files_below(place)
         report.check("make install: every file", [f"differs: {file}" for file in sorted(wanted ^ found)])
         report.check("make install: in use", faults_of_use(place / "usr", elsewhere))
+        report.check("make install: the library for C", faults_of_library(place / "usr", elsewhere))
         copy.make("uninstall", f"DESTDIR={place}", "PREFIX=/usr")
         report.check("make uninstall: no file is left", [f"left: {file}" for file in sorted(files_below(place))])
 
 
 class Made(NamedTuple):
-    """A package and a tarball, with what `make package` said."""
+    """The two packages and the tarball, with what `make package` said."""
 
     package: Path
+    development: Path
     tarball: Path
     said: str
+
+    def files(self) -> Sequence[Path]:
+        return self.package, self.development, self.tarball
 
 
 def make_package(copy: Copy, **how: object) -> Made:
     said = copy.make("package", **how).stdout
     heading = re.search(r"^## (\S+)", (copy.root / "CHANGELOG.md").read_text(), re.M)
-    name = f"radpolicy_{heading[1]}_{printed(['dpkg', '--print-architecture']).strip()}"
-    return Made(copy.root / f"out/{name}.deb", copy.root / f"out/{name}.tar.gz", said)
+    name = f"_{heading[1]}_{printed(['dpkg', '--print-architecture']).strip()}"
+    made = [copy.root / f"out/radpolicy{ending}" for ending in (f"{name}.deb", f"-dev{name}.deb", f"{name}.tar.gz")]
+    return Made(*made, said)
 
 
 def faults_of_contents(made: Made) -> List[str]:
-    """What is wrong with the owners of the files, and with the tarball, which has the files of the package."""
-    lines = printed(["dpkg-deb", "-c", made.package]).splitlines()
+    """What is wrong with the owners of the files, and with the tarball, which has the files of both packages."""
+    lines = [line for package in made.files()[:2] for line in printed(["dpkg-deb", "-c", package]).splitlines()]
     wrong = [line for line in lines if line.split()[1] != "root/root"]
     in_package = {line.split()[5].rstrip("/")[2:] for line in lines} - {""}
     with tarfile.open(made.tarball) as tarball:
@@ -107,9 +147,9 @@ def faults_of_contents(made: Made) -> List[str]:
 
 
 def check_made(copy: Copy, report: Report) -> Made:
-    """What is in the package, and what is said of it."""
+    """What is in the packages, and what is said of them."""
     made = make_package(copy)
-    if not made.package.is_file():
+    if not made.development.is_file():
         report.check("make package: a package", [made.said])
         raise FileNotFoundError(made.package)
     report.check("make package: files of root, and the same in the tarball", faults_of_contents(made))
@@ -117,7 +157,8 @@ def check_made(copy: Copy, report: Report) -> Made:
     wrong = [] if re.fullmatch(r"libc6 \(>= [0-9.]+\)", depends) else [f"it depends on {depends!r}"]
     report.check("make package: the C library is all that it needs", wrong)
     if shutil.which("lintian"):
-        errors = [line for line in printed(["lintian", made.package]).splitlines() if line.startswith("E:")]
+        said = printed(["lintian", *made.files()[:2]])
+        errors = [line for line in said.splitlines() if line.startswith("E:")]
         report.check("make package: no errors by lintian", errors)
     else:
         report.say("make package: not judged by lintian, which is not installed")
@@ -130,7 +171,7 @@ def check_again(subject: Subject, report: Report, first: Made) -> None:
         for file in (copy.root / "dictionaries").iterdir():
             os.utime(file)
         second = make_package(copy, umask=0o077, TZ="Asia/Tokyo")
-        pairs = ((first.package, second.package), (first.tarball, second.tarball))
+        pairs = zip(first.files(), second.files())
         wrong = [one.name for one, other in pairs if not other.is_file() or one.read_bytes() != other.read_bytes()]
         report.check("make package: the same octets again", wrong)
         changes = copy.root / "CHANGELOG.md"
@@ -161,13 +202,17 @@ def check_installed(copy: Copy, report: Report, made: Made) -> None:
     (root / "var/lib/dpkg/status").touch()
     before = files_below(root)
     dpkg = ["dpkg", f"--root={root}", f"--log={root.parent}/log", "--force-depends", "--path-include=*"]
-    said = printed([*dpkg, "-i", made.package])
-    listed = {line.split(" ./")[1].split(" -> ")[0] for line in printed(["dpkg-deb", "-c", made.package]).splitlines()}
+    said = printed([*dpkg, "-i", *made.files()[:2]])
+    contents = [line for package in made.files()[:2] for line in printed(["dpkg-deb", "-c", package]).splitlines()]
+    listed = {line.split(" ./")[1].split(" -> ")[0] for line in contents}
     missing = {name for name in listed if name and not name.endswith("/")} - files_below(root)
     report.check("the package: installed", [f"{name} is missing; {said}" for name in sorted(missing)])
     report.check("the package: in use", faults_of_use(root / "usr", elsewhere))
+    architecture = printed(["dpkg-architecture", "-qDEB_HOST_MULTIARCH"]).strip()
+    wrong = faults_of_library(root / "usr", elsewhere, f"lib/{architecture}")
+    report.check("the package: the library for C", wrong)
     report.check("the package: no call that opens a socket or starts a program", faults_of_calls(root / "usr/bin"))
-    said = printed([*dpkg, "-r", "radpolicy"])
+    said = printed([*dpkg, "-r", "radpolicy-dev", "radpolicy"])
     own = {name for name in files_below(root) - before if not name.startswith("var/lib/dpkg/")}
     own |= {"usr"} if (root / "usr").exists() else set()
     report.check("the package: removed, with no file left", [f"{name} is left; {said}" for name in sorted(own)])
@@ -176,6 +221,7 @@ def check_installed(copy: Copy, report: Report, made: Made) -> None:
 def check(subject: Subject, report: Report) -> None:
     """`make package`, by programs that are built."""
     absent = [command for command in NEEDED if shutil.which(command, path=SYSTEM_PATH) is None]
+    absent += [] if (subject.root / LIBRARY).is_file() else [LIBRARY]
     if absent:
         report.say(f"make package: not tried, there is no {', no '.join(absent)}")
         return
