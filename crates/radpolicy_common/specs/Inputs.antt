@@ -1,5 +1,5 @@
 -- Inputs: what files and standard input hold, and which of them a job is made of.
-use Rattle.std.specs.Prelude.{◌≡◌, ◌×◌, ◌++◌, ℕ, Bool, true, List, [], ◌∷◌, Option, None, Some, Result, Ok, Err, is_some, map, codes, MatchOption}
+use Rattle.std.specs.Prelude.{◌≡◌, ◌++◌, ℕ, List, [], ◌∷◌, Option, None, Some, Result, Ok, Err, map, codes, MatchOption}
 use Rattle.std.specs.Borrow.{Bor}
 use Rattle.avp_dict.specs.declared.file.files.NamedFile.{NamedFile}
 use Rattle.radpolicy.specs.declared.jobs.Command.{Command}
@@ -78,12 +78,13 @@ request_of contents command None = input_of_standard_input contents ∷ []
 abbrev pub inputs_of : Contents → Plan → List Input
 inputs_of contents plan =
     files_of contents plan.dictionaries.items ++ request_of contents plan.command plan.request
-        ++ named_file contents plan.policy ++ named_file contents plan.secret ++ named_file contents plan.script
+    ++ named_file contents plan.policy ++ named_file contents plan.secret ++ named_file contents plan.script
 
 -- what the one input holds, and nothing where there is none
 abbrev pub IsHeldBy : List Input → List ℕ → Type 0
 IsHeldBy [] octets = octets ≡ []
-IsHeldBy (input ∷ inputs) octets = input.held ≡ Some octets
+IsHeldBy (input ∷ []) octets = input.held ≡ Some octets
+IsHeldBy (input ∷ other ∷ others) octets = ⊥
 
 abbrev pub octets_of_files : List NamedFile → List (List ℕ)
 octets_of_files files = map (λ file. file.octets) files

@@ -1,6 +1,6 @@
 //! Where a program reads from.
 
-ghost use Rattle.std.specs.Prelude.{Option, None, IfErr, codes};
+ghost use Rattle.std.specs.Prelude.{◌≡◌, ◌⊎◌, Option, None, IfErr, codes};
 ghost use Rattle.radpolicy_common.specs.Inputs.{Contents, IsReading, WhereKnown, file_of, input_of_standard_input};
 ghost use Rattle.radpolicy_common.specs.Unread.{IsRefusalOf};
 
@@ -18,7 +18,8 @@ pub trait Inputs {
 
     /// What a file holds, at most 16,777,216 octets.
     fn file<'a>(&self, path: &'a str) -> Result<Octets, Unread<'a>>
-        ensures refused { IfErr result (IsRefusalOf path.now) }
+        ensures refused { IfErr result (λ unread.
+            (unread ≡ Unread.Memory) ⊎ (unread ≡ Unread.File path.entry)) }
         ensures read { WhereKnown (contents self.now) (λ c. IsReading (file_of c path.entry) result) };
 
     /// What standard input holds, at most 16,777,216 octets.
