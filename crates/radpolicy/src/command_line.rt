@@ -1,6 +1,8 @@
 //! The words of the command line, with all calls of `clap`.
 
-ghost use Rattle.std.specs.Prelude.{◌≡◌, ◌<◌, length, true, IfOk, IfErr};
+ghost use Rattle.std.specs.Prelude.{◌≡◌, ◌<◌, length, true, Ok, IfOk, IfErr};
+ghost use Rattle.std.specs.Str.Parse.{digits_value, without_leading_plus};
+ghost use Rattle.hex.specs.Hex.{decode_sized};
 ghost use Rattle.radpolicy.specs.declared.jobs.Command.TheVariants.{Decode};
 ghost use Rattle.radpolicy.specs.declared.jobs.Form.TheVariants.{Hex};
 ghost use Rattle.radpolicy.specs.Faults.{IsWordFault};
@@ -222,6 +224,8 @@ fn form_of(command: Command, found: &ArgMatches<'_>) -> Result<Form, Fault>
 
 // A number of decimal digits, 0 to 255.
 fn identifier_in(word: &str) -> Result<u8, Fault>
+    ensures number { IfOk result (λ number.
+        number ≡ digits_value 10 (without_leading_plus word.now)) }
     ensures fault { IfErr result IsWordFault }
 {
     if word.is_empty() || !word.as_bytes().iter().all(|octet| octet.is_ascii_digit()) {
@@ -244,6 +248,7 @@ fn identifier_of(form: Form, found: &ArgMatches<'_>) -> Result<u8, Fault>
 
 // The octets of 32 hexadecimal digits.
 fn authenticator_in(word: &str) -> Result<[u8; 16], Fault>
+    ensures octets { IfOk result (λ octets. decode_sized word.now 16 ≡ Ok octets) }
     ensures fault { IfErr result IsWordFault }
 {
     let mut authenticator = [0; 16];

@@ -1,5 +1,6 @@
 pub mod ChangeTexts
 pub mod Changes
+pub mod Inputs
 pub mod JsonStrings
 pub mod Refusals
 pub mod SecretAttributes

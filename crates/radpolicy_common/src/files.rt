@@ -4,10 +4,12 @@
 ghost use Rattle.std.specs.Prelude.{◌≡◌, ◌⊎◌, ◌<◌, Ok, Some, IfOk, IfErr, IfSome, is_some, codes, length};
 ghost use Rattle.avp_dict.specs.Lines.{HasDistinctNames};
 ghost use Rattle.radpolicy.specs.Plans.{names_of_files, names_of_paths};
+ghost use Rattle.radpolicy_common.specs.Inputs.{AreRead, AreUnread, WhereKnown, files_of, named_file, octets_of, octets_of_files};
 ghost use Rattle.radpolicy_common.specs.Refusals.{fault_of_unread};
 ghost use Rattle.radpolicy_common.specs.Unread.{IsRefusalOf, IsRefusalOfFiles, IsRefusalOfSet};
 ghost use Rattle.radpolicy_common.specs.declared.files.Unread.TheVariants as why;
 
+use crate::inputs::Inputs;
 use avp_dict::{FileSet, NamedFile};
 use avp_lists::Octets;
 use radpolicy::{Fault, read_input};
@@ -85,16 +87,20 @@ pub fn read_file<'a>(rt: &HostRuntime, path: &'a str) -> Result<Octets, Unread<'
 }
 
 /// What a file holds, if one is named.
-pub fn read_optional<'a>(
-    rt: &HostRuntime,
+pub fn read_optional<'a, I: Inputs>(
+    inputs: &I,
     path: Option<&'a str>,
 ) -> Result<Option<Octets>, Unread<'a>>
+    ensures read { IfOk result (λ octets. WhereKnown (I.contents inputs.now) (λ c.
+        AreRead (named_file c path.entry) (octets_of octets))) }
+    ensures unread { IfErr result (λ unread. WhereKnown (I.contents inputs.now) (λ c.
+        AreUnread (named_file c path.entry) unread)) }
     ensures given { IfOk result (λ octets. is_some octets ≡ is_some path.entry) }
     ensures named { IfErr result (λ unread.
         (unread ≡ Unread.Memory) ⊎ IfSome path.entry (λ p. unread ≡ Unread.File p)) }
 {
     match path {
-        Some(path) => Ok(Some(read_file(rt, path)?)),
+        Some(path) => Ok(Some(inputs.file(path)?)),
         None => Ok(None),
     }
 }
@@ -108,14 +114,22 @@ pub fn read_standard_input(rt: &HostRuntime) -> Result<Octets, Unread<'static>>
 
 /// Dictionary files, the main one first, of a plan: [`radpolicy::read_words`] compared their names. For other paths
 /// there is [`read_dictionary_set`].
-pub fn read_dictionaries<'a>(rt: &HostRuntime, paths: &[&'a str]) -> Result<FileSet, Unread<'a>>
+pub fn read_dictionaries<'a, I: Inputs>(
+    inputs: &I,
+    paths: &[&'a str],
+) -> Result<FileSet, Unread<'a>>
+    ensures read { IfOk result (λ files. WhereKnown (I.contents inputs.now) (λ c.
+        AreRead (files_of c paths.now) (octets_of_files files))) }
+    ensures unread { IfErr result (λ unread. WhereKnown (I.contents inputs.now) (λ c.
+        AreUnread (files_of c paths.now) unread)) }
     ensures named { IfOk result (λ files. names_of_files files ≡ names_of_paths paths.now) }
     ensures refused { IfErr result (IsRefusalOfFiles paths.now) }
 {
-    let mut files = Vec::new(rt.alloc());
+    let alloc = inputs.allocator();
+    let mut files = Vec::new(alloc);
     for path in paths {
-        let octets = read_file(rt, path)?;
-        files.push(NamedFile::at(rt.alloc(), path, octets)?)?;
+        let octets = inputs.file(path)?;
+        files.push(NamedFile::at(alloc, path, octets)?)?;
     }
     Ok(FileSet::from_vec(files))
 }
@@ -135,7 +149,12 @@ fn empty_files(alloc: Global, paths: &[&str]) -> Result<FileSet, AllocError>
 /// Dictionary files, the main one first, that a dictionary can be read from. No file is read where none is named, or
 /// two have one last component.
 #[tactic(auto, using(crate::proofs::FileNames::distinct_by_names, crate::proofs::FileNames::some_by_names))]
-pub fn read_dictionary_set<'a>(rt: &HostRuntime, paths: &[&'a str]) -> Result<FileSet, Unread<'a>>
+pub fn read_dictionary_set<'a, I: Inputs>(
+    inputs: &I,
+    paths: &[&'a str],
+) -> Result<FileSet, Unread<'a>>
+    ensures read { IfOk result (λ files. WhereKnown (I.contents inputs.now) (λ c.
+        AreRead (files_of c paths.now) (octets_of_files files))) }
     ensures named { IfOk result (λ files. names_of_files files ≡ names_of_paths paths.now) }
     ensures first { IfOk result (λ files. 0 < length files) }
     ensures distinct { IfOk result (λ files. HasDistinctNames files) }
@@ -145,9 +164,9 @@ pub fn read_dictionary_set<'a>(rt: &HostRuntime, paths: &[&'a str]) -> Result<Fi
     if paths.is_empty() {
         return Err(Unread::NoDictionary);
     }
-    if !empty_files(rt.alloc(), paths)?.has_distinct_names() {
+    if !empty_files(inputs.allocator(), paths)?.has_distinct_names() {
         return Err(Unread::SameNames);
     }
-    let files = read_dictionaries(rt, paths)?;
+    let files = read_dictionaries(inputs, paths)?;
     Ok(files)
 }

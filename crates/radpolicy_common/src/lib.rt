@@ -6,6 +6,8 @@ mod alignments;
 mod change_lists;
 mod change_texts;
 mod files;
+mod inputs;
+mod jobs;
 mod json_strings;
 mod refusals;
 mod secret_attributes;
@@ -17,6 +19,8 @@ pub use change_texts::{SecretValues, change_lines};
 pub use files::{
     Unread, read_dictionaries, read_dictionary_set, read_file, read_optional, read_standard_input,
 };
+pub use inputs::Inputs;
+pub use jobs::job_of;
 pub use json_strings::{Escaping, push_json_string};
 pub use refusals::{refuse, refuse_early, refuse_unread};
 pub use secret_attributes::{SECRET_ENDINGS, SECRET_IDS, SECRET_NAMES, is_secret};

@@ -8,6 +8,8 @@ mod change_lists;
 #[cfg(test)]
 mod files;
 #[cfg(test)]
+mod jobs;
+#[cfg(test)]
 mod secrets;
 #[cfg(test)]
 mod texts;

@@ -35,8 +35,8 @@ abbrev pub changes_at : AttrId → List Entry → ℕ → Bool
 changes_at id trace k =
     is_changed id (entry_at trace (k - 1)).outcome.state (entry_at trace k).outcome.state
 
--- Steps by which instances may change: update lines that failed, transactions that were taken back, and the update lines
--- that name the attribute. For each line of the policy's text, from 1, it is told whether it names it.
+-- Steps by which instances may change: update lines that failed, transactions that were taken back, and the update
+-- lines that name the attribute. For each line of the policy's text, from 1, it is told whether it names it.
 abbrev pub may_change : List Bool → Label → Bool
 may_change named (label.Failed n reason) = true
 may_change named (label.Rollback n) = true
