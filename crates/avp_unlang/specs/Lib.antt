@@ -1,6 +1,7 @@
 pub mod Between
 pub mod Cleanness
 pub mod Conditions
+pub mod Faults
 pub mod Forms
 pub mod Lines
 pub mod Meaning

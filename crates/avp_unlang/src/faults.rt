@@ -35,30 +35,47 @@ pub enum PolicyKind {
     Memory,
 }
 
-/// Why a policy text was refused, and at which line, from 1. Want of memory has line 0.
+/// Why a policy text was refused, and where. Want of memory has line 0 and offset 0.
 #[derive(Clone, Copy, Debug, PartialEq, Eq, Error)]
 #[error("{kind}")]
 pub struct PolicyFault {
+    /// The line, from 1.
     pub line: usize,
+    /// How many octets of the text are before the token that was refused: that of a value is where the value begins.
+    pub offset: usize,
     pub kind: PolicyKind,
 }
 
-/// The fault of this kind at this line.
-pub(crate) fn fault_at(line: usize, kind: PolicyKind) -> PolicyFault
-    ensures { result.kind ≡ kind }
-{
-    PolicyFault { line, kind }
+/// Where a token begins in a text: its line, from 1, and how many octets are before it.
+#[derive(Clone, Copy)]
+pub(crate) struct Position {
+    pub line: usize,
+    pub offset: usize,
 }
 
-// Want of memory belongs to no line.
+/// The fault of this kind at the token that begins here.
+pub(crate) fn fault_at(position: Position, kind: PolicyKind) -> PolicyFault
+    ensures { result.kind ≡ kind }
+{
+    PolicyFault {
+        line: position.line,
+        offset: position.offset,
+        kind,
+    }
+}
+
+// Want of memory, which has no place.
+pub(crate) const OUT_OF_MEMORY: PolicyFault = PolicyFault {
+    line: 0,
+    offset: 0,
+    kind: PolicyKind::Memory,
+};
+
 impl From<AllocError> for PolicyFault {
     ghost from_gives = { λ _ fault. fault.kind ≡ Memory };
 
     fn from(_error: AllocError) -> PolicyFault {
-        PolicyFault {
-            line: 0,
-            kind: PolicyKind::Memory,
-        }
+        OUT_OF_MEMORY
     }
 }
 
@@ -66,9 +83,6 @@ impl<T: Drop> From<AllocFailed<T>> for PolicyFault {
     ghost from_gives = { λ _ fault. fault.kind ≡ Memory };
 
     fn from(_error: AllocFailed<T>) -> PolicyFault {
-        PolicyFault {
-            line: 0,
-            kind: PolicyKind::Memory,
-        }
+        OUT_OF_MEMORY
     }
 }

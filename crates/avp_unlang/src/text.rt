@@ -5,6 +5,7 @@ pub mod cursors;
 pub mod lines;
 pub mod parts;
 pub mod policies;
+pub mod positions;
 pub mod references;
 pub mod sources;
 pub mod statements;

@@ -8,12 +8,12 @@ ghost use Rattle.avp_unlang.specs.declared.faults.PolicyKind.TheVariants.{Memory
 
 use crate::boxed::Boxed;
 use crate::codes::code_named;
-use crate::faults::{PolicyFault, PolicyKind, fault_at};
+use crate::faults::{PolicyFault, PolicyKind, Position, fault_at};
 use crate::items::Items;
 use crate::text::cursors::{Cursor, Read};
 use crate::text::references::{Reference, readable, referred, type_of};
 use crate::text::tokens::{Excerpt, Sign, Token, front};
-use crate::text::values::{ValueLines, Written, quoted_literal, value_written};
+use crate::text::values::{ValuePositions, Written, quoted_literal, value_written};
 use crate::tree::{Comparand, Comparison, Cond, Relation};
 use avp_dict::{Dictionary, Named, QuoteMark};
 use avp_lists::Value;
@@ -51,11 +51,15 @@ fn has_expansion(text: &[u8]) -> bool
 }
 
 // The fault of an expansion in a condition; that the name is not writable comes first.
-fn expansion_fault(dictionary: &Dictionary, named: Named, lines: ValueLines) -> PolicyFault {
+fn expansion_fault(
+    dictionary: &Dictionary,
+    named: Named,
+    positions: ValuePositions,
+) -> PolicyFault {
     if dictionary.is_barred(named) {
-        fault_at(lines.name, PolicyKind::NotWritable)
+        fault_at(positions.name, PolicyKind::NotWritable)
     } else {
-        fault_at(lines.value, PolicyKind::Unreadable)
+        fault_at(positions.value, PolicyKind::Unreadable)
     }
 }
 
@@ -65,16 +69,16 @@ fn plain_literal(
     dictionary: &Dictionary,
     named: Named,
     text: &Excerpt,
-    lines: ValueLines,
+    positions: ValuePositions,
 ) -> Result<Value, PolicyFault>
     ensures ok { IfOk result (λ value. plain_literal dictionary.now named text.now ≡ Some value) }
     ensures err { IfErr result (λ fault. fault.kind ≢ Memory
         → plain_literal dictionary.now named text.now ≡ None) }
 {
     if has_expansion(text.as_slice()) {
-        return Err(expansion_fault(dictionary, named, lines));
+        return Err(expansion_fault(dictionary, named, positions));
     }
-    quoted_literal(alloc, dictionary, named, QuoteMark::Double, text, lines)
+    quoted_literal(alloc, dictionary, named, QuoteMark::Double, text, positions)
 }
 
 // What an attribute is compared with.
@@ -83,26 +87,26 @@ fn comparand_of(
     dictionary: &Dictionary,
     named: Named,
     written: Written,
-    lines: ValueLines,
+    positions: ValuePositions,
 ) -> Result<Comparand, PolicyFault>
     ensures { ReadsAll (ComparandOf dictionary.now named written.entry) result }
 {
     match written {
         Written::Literal(value) => Ok(Comparand::Literal(value)),
         Written::Double(text) => {
-            let value = plain_literal(alloc, dictionary, named, &text, lines)?;
+            let value = plain_literal(alloc, dictionary, named, &text, positions)?;
             Ok(Comparand::Literal(value))
         }
         Written::Instance(list, id) => Ok(Comparand::Instance(list, id)),
     }
 }
 
-// What follows a reference on this line: nothing of the operand, or a comparison.
+// What follows a reference that begins here: nothing of the operand, or a comparison.
 fn compared<'a>(
     alloc: Global,
     dictionary: &Dictionary,
     found: Reference,
-    name_line: usize,
+    name: Position,
     at: Cursor<'a>,
 ) -> Read<'a, Cond>
     ensures read { Reads (ComparedIs dictionary.now found at.entry) result }
@@ -112,12 +116,12 @@ fn compared<'a>(
         return Ok((Cond::Present(found.list, found.named.id), at));
     };
     let after = at.after();
-    let lines = ValueLines {
-        name: name_line,
-        value: after.token_line(),
+    let positions = ValuePositions {
+        name,
+        value: after.position(),
     };
-    let (written, rest) = value_written(alloc, dictionary, found.named, lines, &after)?;
-    let comparand = comparand_of(alloc, dictionary, found.named, written, lines)?;
+    let (written, rest) = value_written(alloc, dictionary, found.named, positions, &after)?;
+    let comparand = comparand_of(alloc, dictionary, found.named, written, positions)?;
     let comparison = Comparison {
         list: found.list,
         id: found.named.id,
@@ -134,11 +138,11 @@ fn referred_operand<'a>(alloc: Global, dictionary: &Dictionary, at: &Cursor<'a>)
     ensures shorter { IfOk result (λ x. length x.1.text ≤ length at.now.text) }
 {
     let (found, mid) = referred(dictionary, at)?;
-    let line = mid.line();
-    compared(alloc, dictionary, found, line, mid)
+    let name = mid.before();
+    compared(alloc, dictionary, found, name, mid)
 }
 
-// The operand of a word on the line of this place, which is the one after it.
+// The operand of a word, which is the token before this place.
 fn worded_operand<'a>(
     alloc: Global,
     dictionary: &Dictionary,
@@ -154,8 +158,8 @@ fn worded_operand<'a>(
     match readable(dictionary, word) {
         Err(kind) => Err(at.fault(kind)),
         Ok(found) => {
-            let line = at.line();
-            compared(alloc, dictionary, found, line, at)
+            let name = at.before();
+            compared(alloc, dictionary, found, name, at)
         }
     }
 }
@@ -214,7 +218,7 @@ fn operand<'a>(
     }
 }
 
-// The operand after a `!`, which is on the line of this place.
+// The operand after a `!`, which is the token before this place.
 #[cycle(conditions)]
 fn negated<'a>(
     alloc: Global,
@@ -232,7 +236,7 @@ fn negated<'a>(
     Ok((Cond::Not(Boxed::new(alloc, cond)?), rest))
 }
 
-/// The condition after a `(`, which is on the line of this place, and the `)`. At most `depth` signs are nested, the
+/// The condition after a `(`, which is the token before this place, and the `)`. At most `depth` signs are nested, the
 /// `(` counted.
 #[cycle(conditions)]
 pub(crate) fn closed<'a>(

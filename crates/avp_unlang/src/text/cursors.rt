@@ -7,7 +7,7 @@ ghost use Rattle.avp_unlang.specs.Places.{Place, start_of, counted};
 ghost use Rattle.avp_unlang.specs.Between.{Counts, Follows};
 ghost use Rattle.avp_unlang.specs.declared.text.tokens.Token.TheVariants.{End, Operator, Word};
 
-use crate::faults::{PolicyFault, PolicyKind, fault_at};
+use crate::faults::{PolicyFault, PolicyKind, Position, fault_at};
 use crate::text::tokens::{Sign, Token, front, token_at};
 use std::marker::Model;
 
@@ -16,11 +16,14 @@ use std::marker::Model;
 #[derive(Drop)]
 pub(crate) struct Cursor<'a> {
     text: &'a [u8],
-    line: usize,
+    // Where the token before begins, on whose line the place is.
+    before: Position,
     room: usize,
-    // The next token, its line and the text after it.
+    // How many octets the whole text has.
+    whole: usize,
+    // The next token, where it begins, and the text after it.
     token: Token<'a>,
-    token_line: usize,
+    position: Position,
     rest: &'a [u8],
 }
 
@@ -30,9 +33,9 @@ impl<'a> Model for Cursor<'a> {
 
     ghost Value = { Place };
 
-    ghost view = { λ c. record { text = c.text.now; line = c.line; room = c.room } };
+    ghost view = { λ c. record { text = c.text.now; line = c.before.line; room = c.room } };
 
-    ghost invariant = { λ c. IsAhead c.text.now c.line c.token c.token_line c.rest.now };
+    ghost invariant = { λ c. IsAhead c.text.now c.before.line c.token c.position.line c.rest.now };
 }
 
 /// What a reader answers: what it read, and the place after it.
@@ -53,8 +56,8 @@ fn passed(line: usize, comment: bool, octet: u8) -> Option<(usize, bool)>
     }
 }
 
-// The line and the text where the next token begins.
-fn skipped(line: usize, text: &[u8]) -> (usize, &[u8])
+/// The line and the text where the next token begins.
+pub(crate) fn skipped(line: usize, text: &[u8]) -> (usize, &[u8])
     requires { line + length text.now < 2 ^ 64 }
     ensures skipped { (result.0, result.1.now) ≡ skipped line false text.now }
     ensures counted { result.0 + length result.1.now ≤ line + length text.now }
@@ -80,19 +83,21 @@ fn skipped(line: usize, text: &[u8]) -> (usize, &[u8])
 pub(crate) const MAX_SIZE: usize = 65_535;
 
 impl<'a> Cursor<'a> {
-    // A place from its text on.
-    fn at(text: &'a [u8], line: usize, room: usize) -> Cursor<'a>
-        requires { line + length text.now < 2 ^ 64 }
-        ensures { result ≡ record { text = text.now; line = line; room = room } }
+    // A place from its text on, in a text of so many octets.
+    fn at(text: &'a [u8], before: Position, room: usize, whole: usize) -> Cursor<'a>
+        requires { before.line + length text.now < 2 ^ 64 }
+        ensures { result ≡ record { text = text.now; line = before.line; room = room } }
     {
-        let (token_line, start) = skipped(line, text);
+        let (line, start) = skipped(before.line, text);
+        let offset = whole.saturating_sub(start.len());
         let (token, rest) = token_at(start);
         Cursor {
             text,
-            line,
+            before,
             room,
+            whole,
             token,
-            token_line,
+            position: Position { line, offset },
             rest,
         }
     }
@@ -101,7 +106,8 @@ impl<'a> Cursor<'a> {
     pub(crate) fn new(text: &'a [u8]) -> Cursor<'a>
         ensures { result ≡ start_of text.now }
     {
-        Cursor::at(text, 1, MAX_SIZE)
+        let start = Position { line: 1, offset: 0 };
+        Cursor::at(text, start, MAX_SIZE, text.len())
     }
 
     /// How much may still be added to the size.
@@ -124,22 +130,22 @@ impl<'a> Cursor<'a> {
         Some(Cursor { room, ..self })
     }
 
-    /// The same place after so much is added to the size. A fault is at this line.
-    pub(crate) fn count(self, count: usize, line: usize) -> Result<Cursor<'a>, PolicyFault>
+    /// The same place after so much is added to the size. A fault is at this token.
+    pub(crate) fn count(self, count: usize, token: Position) -> Result<Cursor<'a>, PolicyFault>
         ensures taken { Takes (Counts count self.entry) result }
         ensures same { IfOk result (λ start. start.text ≡ self.entry.text) }
     {
         match self.counted(count) {
             Some(start) => Ok(start),
-            None => Err(fault_at(line, PolicyKind::TooLarge)),
+            None => Err(fault_at(token, PolicyKind::TooLarge)),
         }
     }
 
-    /// The line, from 1. After [`Cursor::next`] it is that of the token.
-    pub(crate) fn line(&self) -> usize
-        ensures { result ≡ self.now.line }
+    /// Where the token before begins, on whose line the place is. After [`Cursor::next`] it is that token.
+    pub(crate) fn before(&self) -> Position
+        ensures { result.line ≡ self.now.line }
     {
-        self.line
+        self.before
     }
 
     /// The next token.
@@ -150,12 +156,12 @@ impl<'a> Cursor<'a> {
         &self.token
     }
 
-    /// The line of the next token.
+    /// Where the next token begins.
     #[tactic(auto, unfolding(crate::specs::Tokens::next_token))]
-    pub(crate) fn token_line(&self) -> usize
-        ensures { result ≡ (next_token self.now).1.line }
+    pub(crate) fn position(&self) -> Position
+        ensures { result.line ≡ (next_token self.now).1.line }
     {
-        self.token_line
+        self.position
     }
 
     /// The place after the next token. It finds the token that follows.
@@ -166,7 +172,7 @@ impl<'a> Cursor<'a> {
         ensures shorter { (next_token self.now).0 ≢ End
             → length result.text < length self.now.text }
     {
-        Cursor::at(self.rest, self.token_line, self.room)
+        Cursor::at(self.rest, self.position, self.room, self.whole)
     }
 
     /// The next token, and the place after it.
@@ -219,13 +225,13 @@ impl<'a> Cursor<'a> {
             Token::Unreadable => PolicyKind::Unreadable,
             _ => PolicyKind::Misplaced,
         };
-        fault_at(self.token_line, kind)
+        fault_at(self.position, kind)
     }
 
-    /// A fault at this line.
+    /// A fault at the token before.
     pub(crate) fn fault(&self, kind: PolicyKind) -> PolicyFault
         ensures { result.kind ≡ kind }
     {
-        fault_at(self.line, kind)
+        fault_at(self.before, kind)
     }
 }

@@ -75,13 +75,13 @@ fn line<'a>(alloc: Global, dictionary: &Dictionary, own: List, at: Cursor<'a>) -
     ensures read { Reads (LineIs dictionary.now own at.entry) result }
     ensures shorter { IfOk result (λ x. length x.1.text < length at.entry.text) }
 {
-    let first = at.token_line();
+    let first = at.position();
     let start = at.count(1, first)?;
     let (target, mid) = target(dictionary, own, start)?;
     let (op, end) = operator(&mid)?;
-    let (source, rest) = source(alloc, dictionary, op, target.named, mid.line(), &end)?;
+    let (source, rest) = source(alloc, dictionary, op, target.named, mid.before(), &end)?;
     let found = Line {
-        line: first,
+        line: first.line,
         list: target.list,
         id: target.named.id,
         op,

@@ -5,7 +5,7 @@ ghost use Rattle.avp_unlang.specs.Forms.{Reads, ReadsAll, While};
 ghost use Rattle.avp_unlang.specs.declared.text.references.Reference.{Reference as Referred};
 ghost use Rattle.avp_unlang.specs.Parts.{InstanceIs, OctetIs, PartIs, PartsAre, after_opening, begins_octet, braced, is_left, octet_at};
 
-use crate::faults::{PolicyFault, PolicyKind};
+use crate::faults::{PolicyFault, PolicyKind, Position, fault_at};
 use crate::items::Items;
 use crate::text::references::{Reference, readable};
 use crate::text::tokens::{Excerpt, word_length};
@@ -101,7 +101,7 @@ fn part<'a>(
     alloc: Global,
     dictionary: &Dictionary,
     text: Excerpt<'a>,
-    line: usize,
+    quoted: Position,
 ) -> Result<(Part, Excerpt<'a>), PolicyFault>
     ensures read { Reads (PartIs dictionary.now text.entry) result }
     ensures shorter { IfOk result (λ x. length x.1 < length text.entry) }
@@ -112,7 +112,7 @@ fn part<'a>(
     }
     match instance(dictionary, &text) {
         Ok((found, rest)) => Ok((Part::Instance(found.list, found.named.id), rest)),
-        Err(kind) => Err(PolicyFault { line, kind }),
+        Err(kind) => Err(fault_at(quoted, kind)),
     }
 }
 
@@ -122,19 +122,19 @@ fn is_left(text: &Excerpt) -> bool
     !text.as_slice().is_empty()
 }
 
-/// The parts of a text between double quotes on this line. The first refused place of the text is reported.
+/// The parts of a text between double quotes, which begins here. The first refused place of the text is reported.
 pub(crate) fn parts(
     alloc: Global,
     dictionary: &Dictionary,
     text: Excerpt,
-    line: usize,
+    quoted: Position,
 ) -> Result<Parts, PolicyFault>
     ensures { ReadsAll (PartsAre dictionary.now text.entry) result }
 {
     let mut parts = Vec::new(alloc);
     let mut rest = text;
     while is_left(&rest) {
-        let (found, end) = part(alloc, dictionary, rest, line)?;
+        let (found, end) = part(alloc, dictionary, rest, quoted)?;
         parts.push(found)?;
         rest = end;
     }

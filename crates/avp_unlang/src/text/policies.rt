@@ -1,9 +1,11 @@
 //! Whole policies.
 
-ghost use Rattle.std.specs.Prelude.{◌≡◌, ◌≤◌, ℕ, List, IfOk, IsTrue};
+ghost use Rattle.std.specs.Prelude.{◌≡◌, ◌≢◌, ◌≤◌, ℕ, List, length, take, IfErr, IfOk, IsTrue};
 ghost use Rattle.avp_dict.specs.Dictionary.{Dictionary};
+ghost use Rattle.avp_unlang.specs.declared.faults.PolicyKind.TheVariants.{Memory};
 ghost use Rattle.avp_unlang.specs.declared.tree.Statement.{Statement as Tree};
 ghost use Rattle.avp_unlang.specs.Cleanness.{KeepsReplyClean};
+ghost use Rattle.avp_unlang.specs.Faults.{BeginsToken, line_after};
 ghost use Rattle.avp_unlang.specs.Forms.{ReadsAll};
 ghost use Rattle.avp_unlang.specs.Places.{max_size};
 ghost use Rattle.avp_unlang.specs.Policies.{SpellsPolicy};
@@ -70,25 +72,9 @@ pub fn size(policy: &Policy) -> usize
     policy.size
 }
 
-/// The policy that a text spells, by a dictionary. The first refused place of the text is reported. A fault has the line
-/// of the token that was refused; that of a name has the name's line. Where no value may be written under the name of an
-/// update line or a comparison, this is found at the operator or the source, but has the line of the name.
-///
-/// ```rust
-/// let text = b"update reply { Session-Timeout := 600 }\nreject";
-/// let policy = read_policy(alloc, dictionary, text)?;
-/// assert_eq!(rt; policy.statements().len(), 2);
-/// let refused = read_policy(alloc, dictionary, b"rejected").err();
-/// let (line, kind) = (1, PolicyKind::Misplaced);
-/// assert_eq!(rt; refused, Some(PolicyFault { line, kind }));
-/// ```
-pub fn read_policy(
-    alloc: Global,
-    dictionary: &Dictionary,
-    text: &[u8],
-) -> Result<Policy, PolicyFault>
+// The policy that a text spells. A fault has the place of the token that was refused.
+fn policy_of(alloc: Global, dictionary: &Dictionary, text: &[u8]) -> Result<Policy, PolicyFault>
     ensures read { ReadsAll (SpellsPolicy dictionary.now text.now) result }
-    // Its attributes are known, its literals fit, and what it compares is of one type.
     ensures suits { IfOk result (λ policy. IsTrue (policy_suits dictionary.now policy)) }
 {
     dictionary.is_sound();
@@ -99,6 +85,41 @@ pub fn read_policy(
             size: MAX_SIZE - end.room(),
         }),
         _ => Err(end.misplaced()),
+    }
+}
+
+/// The policy that a text spells, by a dictionary. The first refused place of the text is reported. A fault is at the
+/// token that was refused: at a name, or at a value, of which a text between quotes is one, whatever is in it. Where no
+/// value may be written under the name of an update line or a comparison, this is found at the operator or the source,
+/// but the fault is at the name.
+///
+/// ```rust
+/// let text = b"update reply { Session-Timeout := 600 }\nreject";
+/// let policy = read_policy(alloc, dictionary, text)?;
+/// assert_eq!(rt; policy.statements().len(), 2);
+/// let refused = read_policy(alloc, dictionary, b"rejected").err();
+/// let (line, offset, kind) = (1, 0, PolicyKind::Misplaced);
+/// assert_eq!(rt; refused, Some(PolicyFault { line, offset, kind }));
+/// ```
+pub fn read_policy(
+    alloc: Global,
+    dictionary: &Dictionary,
+    text: &[u8],
+) -> Result<Policy, PolicyFault>
+    ensures read { ReadsAll (SpellsPolicy dictionary.now text.now) result }
+    // Its attributes are known, its literals fit, and what it compares is of one type.
+    ensures suits { IfOk result (λ policy. IsTrue (policy_suits dictionary.now policy)) }
+
+    // A refusal has its place in the text, where a token begins.
+    ensures within { IfErr result (λ fault. fault.offset ≤ length text.now) }
+    ensures line { IfErr result (λ fault. fault.kind ≢ Memory
+        → fault.line ≡ line_after (take fault.offset text.now)) }
+    ensures token { IfErr result (λ fault. fault.kind ≢ Memory
+        → BeginsToken fault.offset text.now) }
+{
+    match policy_of(alloc, dictionary, text) {
+        Ok(policy) => Ok(policy),
+        Err(fault) => Err(fault.placed(text)),
     }
 }
 

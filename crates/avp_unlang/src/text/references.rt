@@ -76,7 +76,7 @@ pub(crate) fn readable(dictionary: &Dictionary, word: &[u8]) -> Result<Reference
     }
 }
 
-/// The reference after an `&`. Its faults have the line of its word.
+/// The reference after an `&`. Its faults are at its word.
 pub(crate) fn referred<'a>(dictionary: &Dictionary, at: &Cursor<'a>) -> Read<'a, Reference>
     ensures read { Reads (ReadableIs dictionary.now at.now) result }
     ensures shorter { IfOk result (λ x. length x.1.text < length at.now.text) }
@@ -101,7 +101,7 @@ pub(crate) fn type_of(dictionary: &Dictionary, id: AttrId) -> Kind
     }
 }
 
-/// The reference after an `&` to values of the same type as this attribute's. Its faults have the line of its word.
+/// The reference after an `&` to values of the same type as this attribute's. Its faults are at its word.
 pub(crate) fn alike<'a>(dictionary: &Dictionary, id: AttrId, at: &Cursor<'a>) -> Read<'a, Reference>
     ensures read { Reads (AlikeIs dictionary.now id at.now) result }
     ensures shorter { IfOk result (λ x. length x.1.text < length at.now.text) }

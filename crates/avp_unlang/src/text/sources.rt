@@ -5,11 +5,11 @@ ghost use Rattle.avp_unlang.specs.Forms.{Reads, ReadsAll, Takes};
 ghost use Rattle.avp_unlang.specs.Sources.{FilledIs, IgnoredIs, SourceIs, SourceOf, filled_source, is_removal, whole_text};
 ghost use Rattle.avp_unlang.specs.declared.faults.PolicyKind.TheVariants.{Memory};
 
-use crate::faults::{PolicyFault, PolicyKind, fault_at};
+use crate::faults::{PolicyFault, PolicyKind, Position, fault_at};
 use crate::text::cursors::{Cursor, Read};
 use crate::text::parts::parts;
 use crate::text::tokens::{Excerpt, Sign, Token};
-use crate::text::values::{ValueLines, Written, literal, value_written};
+use crate::text::values::{ValuePositions, Written, literal, value_written};
 use crate::tree::{Part, Parts, Source};
 use avp_dict::{Dictionary, Named, is_container};
 use avp_lists::Op;
@@ -33,7 +33,7 @@ fn filled_source(
     dictionary: &Dictionary,
     named: Named,
     parts: Parts,
-    lines: ValueLines,
+    positions: ValuePositions,
 ) -> Result<Source, PolicyFault>
     ensures ok { IfOk result (λ source. filled_source dictionary.now named parts ≡ Some source) }
     ensures err { IfErr result (λ fault. fault.kind ≢ Memory
@@ -42,7 +42,7 @@ fn filled_source(
     match whole_text(&parts) {
         None => Ok(Source::Text(named.raw, parts)),
         Some(text) => {
-            let value = literal(alloc, dictionary, named, text, lines)?;
+            let value = literal(alloc, dictionary, named, text, positions)?;
             Ok(Source::Literal(value))
         }
     }
@@ -54,15 +54,15 @@ fn filled_text(
     dictionary: &Dictionary,
     named: Named,
     text: Excerpt,
-    lines: ValueLines,
+    positions: ValuePositions,
 ) -> Result<Source, PolicyFault>
     ensures { ReadsAll (FilledIs dictionary.now named text.entry) result }
 {
     if dictionary.is_barred(named) {
-        return Err(fault_at(lines.name, PolicyKind::NotWritable));
+        return Err(fault_at(positions.name, PolicyKind::NotWritable));
     }
-    let parts = parts(alloc, dictionary, text, lines.value)?;
-    filled_source(alloc, dictionary, named, parts, lines)
+    let parts = parts(alloc, dictionary, text, positions.value)?;
+    filled_source(alloc, dictionary, named, parts, positions)
 }
 
 // The source that a written value is.
@@ -71,13 +71,13 @@ fn source_of(
     dictionary: &Dictionary,
     named: Named,
     written: Written,
-    lines: ValueLines,
+    positions: ValuePositions,
 ) -> Result<Source, PolicyFault>
     ensures { ReadsAll (SourceOf dictionary.now named written.entry) result }
 {
     match written {
         Written::Literal(value) => Ok(Source::Literal(value)),
-        Written::Double(text) => filled_text(alloc, dictionary, named, text, lines),
+        Written::Double(text) => filled_text(alloc, dictionary, named, text, positions),
         Written::Instance(list, id) => Ok(Source::Instance(list, id)),
     }
 }
@@ -104,13 +104,13 @@ fn is_removal(operation: Op) -> bool
     matches!(operation, Op::RemoveAll)
 }
 
-/// The source that follows an operator, for a name on this line.
+/// The source that follows an operator, for a name that begins here.
 pub(crate) fn source<'a>(
     alloc: Global,
     dictionary: &Dictionary,
     operation: Op,
     named: Named,
-    name_line: usize,
+    name: Position,
     at: &Cursor<'a>,
 ) -> Read<'a, Source>
     ensures read { Reads (SourceIs dictionary.now operation named at.now) result }
@@ -121,13 +121,13 @@ pub(crate) fn source<'a>(
         return Ok((Source::Any, rest));
     }
     if is_container(named.id) {
-        return Err(fault_at(name_line, PolicyKind::NotWritable));
+        return Err(fault_at(name, PolicyKind::NotWritable));
     }
-    let lines = ValueLines {
-        name: name_line,
-        value: at.token_line(),
+    let positions = ValuePositions {
+        name,
+        value: at.position(),
     };
-    let (written, rest) = value_written(alloc, dictionary, named, lines, at)?;
-    let source = source_of(alloc, dictionary, named, written, lines)?;
+    let (written, rest) = value_written(alloc, dictionary, named, positions, at)?;
+    let source = source_of(alloc, dictionary, named, written, positions)?;
     Ok((source, rest))
 }

@@ -97,7 +97,7 @@ fn line_block<'a>(
     Ok((found, rest))
 }
 
-// What follows the word `update`, which is on the line of this place.
+// What follows the word `update`, which is the token before this place.
 fn update<'a>(
     alloc: Global,
     dictionary: &Dictionary,
@@ -108,20 +108,20 @@ fn update<'a>(
         keyword.Update at.entry) result }
     ensures shorter { IfOk result (λ x. length x.1.text < length at.entry.text) }
 {
-    let line = at.line();
+    let begin = at.before();
     let (own, start) = list_at(at);
     let (found, rest) = line_block(alloc, dictionary, depth, own, start)?;
-    Ok((Statement::Update(line, found), rest))
+    Ok((Statement::Update(begin.line, found), rest))
 }
 
-// A code, which is on the line of this place.
+// A code, which is the token before this place.
 fn word<'a>(code: Code, at: Cursor<'a>) -> Read<'a, Statement>
     ensures read { Reads (WordOn code at.entry.line at.entry) result }
     ensures shorter { IfOk result (λ x. length x.1.text ≤ length at.entry.text) }
 {
-    let line = at.line();
-    let rest = at.count(1, line)?;
-    Ok((Statement::Word(line, code), rest))
+    let begin = at.before();
+    let rest = at.count(1, begin)?;
+    Ok((Statement::Word(begin.line, code), rest))
 }
 
 /// A statement. At most `depth` signs are nested in it.
@@ -145,7 +145,7 @@ fn statement<'a>(
     }
 }
 
-// What follows the word `transaction`, which is on the line of this place.
+// What follows the word `transaction`, which is the token before this place.
 #[cycle(statements)]
 fn transaction<'a>(
     alloc: Global,
@@ -157,13 +157,13 @@ fn transaction<'a>(
         result }
     ensures shorter { IfOk result (λ x. length x.1.text < length at.entry.text) }
 {
-    let line = at.line();
-    let start = at.count(2, line)?;
+    let begin = at.before();
+    let start = at.count(2, begin)?;
     let (found, rest) = block(alloc, dictionary, depth, start)?;
-    Ok((Statement::Transaction(line, found), rest))
+    Ok((Statement::Transaction(begin.line, found), rest))
 }
 
-// What follows the word `if`, which is on the line of this place.
+// What follows the word `if`, which is the token before this place.
 #[cycle(statements)]
 fn conditional<'a>(
     alloc: Global,
@@ -202,7 +202,7 @@ fn branches<'a>(
     Ok((Items::from_vec(branches), rest))
 }
 
-// A condition in brackets and a block; the word before them is on the line of this place.
+// A condition in brackets and a block; the word before them is the token before this place.
 #[cycle(statements)]
 fn branch<'a>(
     alloc: Global,
@@ -214,11 +214,12 @@ fn branch<'a>(
         result }
     ensures shorter { IfOk result (λ x. length x.1.text < length at.entry.text) }
 {
-    let line = at.line();
-    let start = at.count(1, line)?;
+    let begin = at.before();
+    let start = at.count(1, begin)?;
     let opened = start.expect(Sign::Open)?;
     let (cond, next) = closed(alloc, dictionary, depth, opened)?;
     let (block, rest) = block(alloc, dictionary, depth, next)?;
+    let line = begin.line;
     Ok((Branch { line, cond, block }, rest))
 }
 

@@ -7,7 +7,7 @@ ghost use Rattle.avp_unlang.specs.Forms.{Reads};
 ghost use Rattle.avp_unlang.specs.Values.{WrittenIs, literal};
 ghost use Rattle.avp_unlang.specs.declared.faults.PolicyKind.TheVariants.{Memory};
 
-use crate::faults::{PolicyFault, PolicyKind, fault_at};
+use crate::faults::{PolicyFault, PolicyKind, Position, fault_at};
 use crate::text::cursors::{Cursor, Read};
 use crate::text::references::alike;
 use crate::text::tokens::{Excerpt, Sign, Token};
@@ -27,21 +27,21 @@ pub(crate) enum Written<'a> {
     Instance(List, AttrId),
 }
 
-/// The lines of a name and of the value that is written for it.
+/// Where a name begins, and the value that is written for it.
 #[derive(Clone, Copy)]
-pub(crate) struct ValueLines {
-    pub name: usize,
-    pub value: usize,
+pub(crate) struct ValuePositions {
+    pub name: Position,
+    pub value: Position,
 }
 
 // The fault of a value's text; want of memory belongs to no line.
-fn value_fault(fault: ValueFault, lines: ValueLines) -> PolicyFault
+fn value_fault(fault: ValueFault, positions: ValuePositions) -> PolicyFault
     ensures { fault ≡ value_faults.Memory → result.kind ≡ Memory }
 {
     match fault {
-        ValueFault::NotWritable => fault_at(lines.name, PolicyKind::NotWritable),
-        ValueFault::NotValue => fault_at(lines.value, PolicyKind::NotValue),
-        ValueFault::TooLong => fault_at(lines.value, PolicyKind::TooLong),
+        ValueFault::NotWritable => fault_at(positions.name, PolicyKind::NotWritable),
+        ValueFault::NotValue => fault_at(positions.value, PolicyKind::NotValue),
+        ValueFault::TooLong => fault_at(positions.value, PolicyKind::TooLong),
         ValueFault::Memory => PolicyFault::from(AllocError),
     }
 }
@@ -53,7 +53,7 @@ pub(crate) fn literal(
     dictionary: &Dictionary,
     named: Named,
     text: &[u8],
-    lines: ValueLines,
+    positions: ValuePositions,
 ) -> Result<Value, PolicyFault>
     ensures ok { IfOk result (λ value. literal dictionary.now named text.now ≡ Some value) }
     ensures err { IfErr result (λ fault. fault.kind ≢ Memory
@@ -68,10 +68,10 @@ pub(crate) fn literal(
             if dictionary.fits(&pair) {
                 Ok(pair.value)
             } else {
-                Err(fault_at(lines.value, PolicyKind::NotValue))
+                Err(fault_at(positions.value, PolicyKind::NotValue))
             }
         }
-        Err(fault) => Err(value_fault(fault, lines)),
+        Err(fault) => Err(value_fault(fault, positions)),
     }
 }
 
@@ -82,7 +82,7 @@ pub(crate) fn quoted_literal(
     named: Named,
     mark: QuoteMark,
     text: &Excerpt,
-    lines: ValueLines,
+    positions: ValuePositions,
 ) -> Result<Value, PolicyFault>
     ensures ok { IfOk result (λ value. literal dictionary.now named (octets_between mark text.now)
         ≡ Some value) }
@@ -90,7 +90,7 @@ pub(crate) fn quoted_literal(
         → literal dictionary.now named (octets_between mark text.now) ≡ None) }
 {
     let octets = octets_between(alloc, mark, text.as_slice())?;
-    literal(alloc, dictionary, named, &octets, lines)
+    literal(alloc, dictionary, named, &octets, positions)
 }
 
 /// What is written for the attribute of a name.
@@ -98,7 +98,7 @@ pub(crate) fn value_written<'a>(
     alloc: Global,
     dictionary: &Dictionary,
     named: Named,
-    lines: ValueLines,
+    positions: ValuePositions,
     at: &Cursor<'a>,
 ) -> Read<'a, Written<'a>>
     ensures read { Reads (WrittenIs dictionary.now named at.now) result }
@@ -107,11 +107,18 @@ pub(crate) fn value_written<'a>(
     let (token, after) = at.next();
     match token {
         Token::Word(text) => {
-            let value = literal(alloc, dictionary, named, text.as_slice(), lines)?;
+            let value = literal(alloc, dictionary, named, text.as_slice(), positions)?;
             Ok((Written::Literal(value), after))
         }
         Token::Quoted(QuoteMark::Single, text) => {
-            let value = quoted_literal(alloc, dictionary, named, QuoteMark::Single, &text, lines)?;
+            let value = quoted_literal(
+                alloc,
+                dictionary,
+                named,
+                QuoteMark::Single,
+                &text,
+                positions,
+            )?;
             Ok((Written::Literal(value), after))
         }
         Token::Quoted(QuoteMark::Double, text) => Ok((Written::Double(text), after)),
