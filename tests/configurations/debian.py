@@ -4,7 +4,7 @@ from pathlib import Path
 
 from common.program import run
 from common.report import Report
-from common.subject import Subject
+from common.subject import Subject, new_folder
 
 INSTALLED = "/etc/freeradius/3.0"
 SECONDS = 2.0
@@ -15,6 +15,25 @@ def files_of(output: bytes) -> int:
     """How many files were read, by the last line."""
     words = output.splitlines()[-1].split()
     return int(words[0]) if words[1:2] == [b"files,"] else 0
+
+
+# What `radiusd.conf` says before it includes other files, and where it includes those of each folder.
+BEFORE = "confdir = {0}\nmodconfdir = {0}/mods-config\ncertdir = {0}/certs\ncadir = {0}/certs\n"
+PLACES = {
+    "sites-available": "{}",
+    # `sqlcounter` asks what `sql` says.
+    "mods-available": "modules {{\nsql {{\ndialect = sqlite\n}}\n{}}}\n",
+    "policy.d": "policy {{\n{}}}\n",
+}
+
+
+def faults_of_part(subject: Subject, part: Path) -> "list[str]":
+    """The same of a file that the server reads as a part of its configuration."""
+    included = PLACES[part.parent.name].format(f"$INCLUDE {part}\n")
+    with new_folder() as folder:
+        main = folder / "main"
+        main.write_text(BEFORE.format(part.parent.parent) + included)
+        return faults_of(subject, main)
 
 
 def faults_of(subject: Subject, path: Path) -> "list[str]":
@@ -34,7 +53,6 @@ def check(subject: Subject, report: Report) -> None:
     if not os.access(folder / "radiusd.conf", os.R_OK):
         report.say(f"configurations of Debian: left out, {folder}/radiusd.conf is not there")
         return
-    kinds = ("sites-available", "mods-available", "policy.d")
-    parts = [path for kind in kinds for path in sorted((folder / kind).iterdir()) if path.suffix != ".rst"]
+    parts = [path for kind in PLACES for path in sorted((folder / kind).iterdir()) if path.stem != "README"]
     report.check("configuration of Debian", faults_of(subject, folder / "radiusd.conf"))
-    report.check(f"{len(parts)} files of Debian", [fault for part in parts for fault in faults_of(subject, part)])
+    report.check(f"{len(parts)} files of Debian", [fault for part in parts for fault in faults_of_part(subject, part)])
