@@ -1,10 +1,10 @@
 -- What is shown of a chunk of octets: of the text at the front, and of the octets after it that are no UTF-8.
-use Rattle.std.proofs.Common.{◌≡◌, ◌∙◌, ℕ, zero, suc, ◌+◌, ◌<◌, ◌≤◌, Bool, true, false, if◌then◌else◌, List, [], ◌∷◌, ◌++◌, length, take, drop, slice_index, nat_lt, Option, Some, None, IsUtf8, sym, ap, subst, refl, arith, append_assoc, length-append}
+use Rattle.std.proofs.Common.{◌≡◌, ◌∙◌, ℕ, zero, suc, ◌+◌, ◌<◌, ◌≤◌, true, false, if◌then◌else◌, List, [], ◌∷◌, ◌++◌, length, take, drop, slice_index, nat_lt, Option, Some, None, IsUtf8, sym, ap, subst, refl, arith, append_assoc, length-append}
 use Rattle.std.proofs.lemmas.Bool.{and_parts, ltb-true, ne_eqb}
 use Rattle.std.proofs.lemmas.Bool.Decides.{nat_tests}
-use Rattle.std.proofs.lemmas.List.{drop_at, get_or_append_left, length-take-le, take_at, take_all}
+use Rattle.std.proofs.lemmas.List.{drop_at, get_or_append_left, take_at}
 use Rattle.std.proofs.lemmas.Str.{IsCharBoundary-start, IsUtf8-append, IsUtf8-encode, encodes-chars, is_utf8-from_IsUtf8, len_utf8_bounds, length-encode, scalars-chars}
-use Rattle.std.specs.Char.{IsScalar, encode_utf8, len_utf8}
+use Rattle.std.specs.Char.{encode_utf8}
 use Rattle.std.specs.Int.{is_in_range}
 use Rattle.std.specs.List.{flat_map}
 use Rattle.std.specs.Option.{unwrap_or}
@@ -12,7 +12,7 @@ use Rattle.std.specs.Str.{StartsWithNoChar, all_scalars, chars, encode_utf8_all,
 use Rattle.std.specs.Str.Lossy.{error_len_after_one, error_len_after_two, error_len_of_some, second_byte_max, second_byte_min, utf8_error_len, utf8_invalid_len, utf8_valid_len, valid_len_up_to}
 use Rattle.radpolicy_common.specs.declared.terminals.LineBreaks.{LineBreaks}
 use Rattle.radpolicy_common.specs.VisibleText.{IsVisibleText, char_shown, octal_text, text_shown}
-use Rattle.radpolicy_common.specs.VisibleText.IsVisibleText.{nothing, character, octet}
+use Rattle.radpolicy_common.specs.VisibleText.IsVisibleText.{character, octet}
 
 -- ---- texts
 

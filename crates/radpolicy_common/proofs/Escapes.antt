@@ -3,7 +3,7 @@ use Rattle.std.proofs.Common.{◌≡◌, ◌∙◌, ℕ, zero, suc, ◌/◌, ◌
 use Rattle.std.specs.declared.alloc.AllocError.{AllocError}
 use Rattle.std.specs.Char.{IsScalar, encode_utf8}
 use Rattle.std.specs.List.{flat_map, list_all}
-use Rattle.std.specs.Str.{IsAscii, all_scalars, chars}
+use Rattle.std.specs.Str.{IsAscii, chars}
 use Rattle.std.proofs.lemmas.Bool.{and_parts, cases_lt, ltb-true}
 use Rattle.std.proofs.lemmas.Bool.Decides.{nat_tests}
 use Rattle.std.proofs.lemmas.List.{drop_at}
@@ -16,7 +16,7 @@ use Rattle.hex.proofs.HexLemmas.{IsAscii-encode_with}
 use Rattle.json.proofs.Printed.Utf8.{IsUtf8-quoted}
 use Rattle.radpolicy_common.specs.declared.json_strings.Escaping.{Escaping}
 use Rattle.radpolicy_common.specs.declared.json_strings.Escaping.TheVariants.{ForMarkup, Plain}
-use Rattle.radpolicy_common.specs.JsonStrings.{char_text, is_no_markup, is_no_separator, json_octets, json_string, markup_text, with_escapes}
+use Rattle.radpolicy_common.specs.JsonStrings.{char_text, is_no_markup, is_no_separator, json_octets, json_string, markup_text}
 use Rattle.radpolicy_common.proofs.TextsOf.{IsTextOf, text-ascii, text-char, text-flat_map}
 
 -- ---- a text

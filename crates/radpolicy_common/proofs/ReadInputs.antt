@@ -63,17 +63,64 @@ pub read_one : (known : Option Contents) (a : Contents → List Input) (octets :
 read_one None a octets held = held
 read_one (Some c) a octets held = held_read (a c) octets held
 
-pub read_more : (known : Option Contents) (a b : Contents → List Input) → AllRead known a → AllRead known b → AllRead known (λ c. a c ++ b c)
+read_more : (known : Option Contents) (a b : Contents → List Input) → AllRead known a → AllRead known b → AllRead known (λ c. a c ++ b c)
 read_more None a b read more = read
 read_more (Some c) a b read more = read_both (a c) (b c) read more
 
-pub unread_last : (known : Option Contents) (a b : Contents → List Input) (unread : Unread) → AllRead known a → WhereKnown known (λ c. AreUnread (b c) unread) → WhereKnown known (λ c. AreUnread (a c ++ b c) unread)
+unread_last : (known : Option Contents) (a b : Contents → List Input) (unread : Unread) → AllRead known a → WhereKnown known (λ c. AreUnread (b c) unread) → WhereKnown known (λ c. AreUnread (a c ++ b c) unread)
 unread_last None a b unread read u = u
 unread_last (Some c) a b unread read u = after_none (a c) (b c) unread read u
 
-pub unread_first : (known : Option Contents) (a b : Contents → List Input) (unread : Unread) → WhereKnown known (λ c. AreUnread (a c) unread) → WhereKnown known (λ c. AreUnread (a c ++ b c) unread)
+unread_first : (known : Option Contents) (a b : Contents → List Input) (unread : Unread) → WhereKnown known (λ c. AreUnread (a c) unread) → WhereKnown known (λ c. AreUnread (a c ++ b c) unread)
 unread_first None a b unread u = u
 unread_first (Some c) a b unread u = unread_before (a c) (b c) unread u
+
+-- five inputs or lists of them, one after another, and the first of them that was not read
+module _ (known : Option Contents) (a b c d e : Contents → List Input) (unread : Unread) where
+  abbrev ab : Contents → List Input
+  ab c' = a c' ++ b c'
+
+  abbrev abc : Contents → List Input
+  abc c' = ab c' ++ c c'
+
+  abbrev abcd : Contents → List Input
+  abcd c' = abc c' ++ d c'
+
+  abbrev pub IsUnread : (Contents → List Input) → Type 0
+  IsUnread inputs = WhereKnown known (λ c'. AreUnread (inputs c') unread)
+
+  abbrev pub IsUnreadInAll : Type 0
+  IsUnreadInAll = WhereKnown known (λ c'. AreUnread (a c' ++ b c' ++ c c' ++ d c' ++ e c') unread)
+
+  from_fourth : IsUnread abcd → IsUnreadInAll
+  from_fourth u = unread_first known abcd e unread u
+
+  from_third : IsUnread abc → IsUnreadInAll
+  from_third u = from_fourth (unread_first known abc d unread u)
+
+  from_second : IsUnread ab → IsUnreadInAll
+  from_second u = from_third (unread_first known ab c unread u)
+
+  pub first_of_five : IsUnread a → IsUnreadInAll
+  first_of_five u = from_second (unread_first known a b unread u)
+
+  pub second_of_five : AllRead known a → IsUnread b → IsUnreadInAll
+  second_of_five ra u = from_second (unread_last known a b unread ra u)
+
+  read_ab : AllRead known a → AllRead known b → AllRead known ab
+  read_ab ra rb = read_more known a b ra rb
+
+  read_abc : AllRead known a → AllRead known b → AllRead known c → AllRead known abc
+  read_abc ra rb rc = read_more known ab c (read_ab ra rb) rc
+
+  pub third_of_five : AllRead known a → AllRead known b → IsUnread c → IsUnreadInAll
+  third_of_five ra rb u = from_third (unread_last known ab c unread (read_ab ra rb) u)
+
+  pub fourth_of_five : AllRead known a → AllRead known b → AllRead known c → IsUnread d → IsUnreadInAll
+  fourth_of_five ra rb rc u = from_fourth (unread_last known abc d unread (read_abc ra rb rc) u)
+
+  pub fifth_of_five : AllRead known a → AllRead known b → AllRead known c → AllRead known d → IsUnread e → IsUnreadInAll
+  fifth_of_five ra rb rc rd u = unread_last known abcd e unread (read_more known abc d (read_abc ra rb rc) rd) u
 
 held_more : (c : Contents) (paths : List (Bor (List ℕ))) (path : Bor (List ℕ)) → held_by (files_of c (paths ++ path ∷ [])) ≡ held_by (files_of c paths) ++ c.file path.now ∷ []
 held_more c [] path = refl

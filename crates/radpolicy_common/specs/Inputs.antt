@@ -3,7 +3,7 @@ use Rattle.std.specs.Prelude.{◌≡◌, ◌++◌, ℕ, List, [], ◌∷◌, Opt
 use Rattle.std.specs.Borrow.{Bor}
 use Rattle.avp_dict.specs.declared.file.files.NamedFile.{NamedFile}
 use Rattle.radpolicy.specs.declared.jobs.Command.{Command}
-use Rattle.radpolicy.specs.declared.jobs.Command.TheVariants.{Run, Step, Encode, Decode, Check}
+use Rattle.radpolicy.specs.declared.jobs.Command.TheVariants.{Check}
 use Rattle.radpolicy.specs.declared.jobs.Job.{Job}
 use Rattle.radpolicy.specs.declared.plans.Plan.{Plan}
 use Rattle.radpolicy.specs.Plans.{names_of_files, names_of_paths}

@@ -1,4 +1,4 @@
-use Rattle.std.proofs.Common.{rules, ℕ, [], ◌∷◌, ◌++◌, ◌+◌, Some, take, ◌≡◌, ◌∙◌, Bor, List, Option, get_or, refl, subst, ap, sym, arith, length, ◌<◌}
+use Rattle.std.proofs.Common.{rules, ℕ, [], ◌∷◌, ◌++◌, ◌+◌, Some, take, ◌≡◌, ◌∙◌, Bor, List, Option, get_or, subst, ap, sym}
 use Rattle.std.proofs.lemmas.Result.{err_from_is_err_and}
 use Rattle.radpolicy.specs.Plans.{names_of_files, names_of_paths}
 use Rattle.radpolicy_common.specs.declared.files.Unread.{Unread}

@@ -1,10 +1,34 @@
-use Rattle.std.proofs.Common.{◌++◌, ℕ, List, Option, subst}
+use Rattle.std.proofs.Common.{◌≡◌, ℕ, List, Option, subst}
 use Rattle.std.proofs.lemmas.Result.{err_from_is_err_and}
 use Rattle.std.specs.Borrow.{Bor}
+use Rattle.radpolicy.specs.declared.plans.Plan.{Plan}
 use Rattle.radpolicy_common.specs.declared.files.Unread.{Unread}
-use Rattle.radpolicy_common.specs.Inputs.{Contents, Input, AreRead, AreUnread, WhereKnown, files_of, inputs_of, named_file, octets_of, octets_of_files, request_of}
-use Rattle.radpolicy_common.proofs.ReadInputs.{AllRead, read_files, read_more, read_one, unread_first, unread_last}
+use Rattle.radpolicy_common.specs.Inputs.{Contents, Input, AreRead, AreUnread, WhereKnown, files_of, inputs_of, named_file, request_of}
+use Rattle.radpolicy_common.proofs.ReadInputs.{AllRead, fifth_of_five, first_of_five, fourth_of_five, read_files, read_one, second_of_five, third_of_five}
 use Rattle.radpolicy_common.proofs.jobs.job_of.Goals as goal
+
+abbrev dictionaries : Plan → Contents → List Input
+dictionaries plan c = files_of c plan.dictionaries.items
+
+abbrev request : Plan → Contents → List Input
+request plan c = request_of c plan.command plan.request
+
+abbrev policy : Plan → Contents → List Input
+policy plan c = named_file c plan.policy
+
+abbrev secret : Plan → Contents → List Input
+secret plan c = named_file c plan.secret
+
+abbrev script : Plan → Contents → List Input
+script plan c = named_file c plan.script
+
+-- the paths were lent from the plan
+module _ (known : Option Contents) (plan : Plan) (paths : List (Bor (List ℕ))) (same : paths ≡ plan.dictionaries.items) where
+  were_read : (octets : List (List ℕ)) → WhereKnown known (λ c. AreRead (files_of c paths) octets) → AllRead known (dictionaries plan)
+  were_read octets read = read_files known (dictionaries plan) octets (subst (λ paths. WhereKnown known (λ c. AreRead (files_of c paths) octets)) same read)
+
+  were_unread : (unread : Unread) → WhereKnown known (λ c. AreUnread (files_of c paths) unread) → WhereKnown known (λ c. AreUnread (dictionaries plan c) unread)
+  were_unread unread u = subst (λ paths. WhereKnown known (λ c. AreUnread (files_of c paths) unread)) same u
 
 pub returns-in_err-files-clause-unread : goal.returns-in_err-files-clause-unread
 returns-in_err-files-clause-unread g c =
@@ -12,13 +36,8 @@ returns-in_err-files-clause-unread g c =
     let plan = c.args.plan.now in
     let known : Option Contents = g.I.Inputs.contents c.args.inputs.now in
     let unread : Unread = c.in_err-files.field-0.0 in
-    let here : WhereKnown known (λ c'. AreUnread (files_of c' plan.dictionaries.items) unread) =
-    subst (λ (paths : List (Bor (List ℕ))). WhereKnown known (λ c'. AreUnread (files_of c' paths) unread)) c.as_slice.ensures.value c.in_err-files.ensures.unread in
-    let to_request : WhereKnown known (λ c'. AreUnread (files_of c' plan.dictionaries.items ++ request_of c' plan.command plan.request) unread) = unread_first known (λ c'. files_of c' plan.dictionaries.items) (λ c'. request_of c' plan.command plan.request) unread here in
-    let to_policy : WhereKnown known (λ c'. AreUnread (files_of c' plan.dictionaries.items ++ request_of c' plan.command plan.request ++ named_file c' plan.policy) unread) = unread_first known (λ c'. files_of c' plan.dictionaries.items ++ request_of c' plan.command plan.request) (λ c'. named_file c' plan.policy) unread to_request in
-    let to_secret : WhereKnown known (λ c'. AreUnread (files_of c' plan.dictionaries.items ++ request_of c' plan.command plan.request ++ named_file c' plan.policy ++ named_file c' plan.secret) unread) = unread_first known (λ c'. files_of c' plan.dictionaries.items ++ request_of c' plan.command plan.request ++ named_file c' plan.policy) (λ c'. named_file c' plan.secret) unread to_policy in
-    let to_script : WhereKnown known (λ c'. AreUnread (files_of c' plan.dictionaries.items ++ request_of c' plan.command plan.request ++ named_file c' plan.policy ++ named_file c' plan.secret ++ named_file c' plan.script) unread) = unread_first known (λ c'. files_of c' plan.dictionaries.items ++ request_of c' plan.command plan.request ++ named_file c' plan.policy ++ named_file c' plan.secret) (λ c'. named_file c' plan.script) unread to_secret in
-    let all : WhereKnown known (λ c'. AreUnread (inputs_of c' plan) unread) = to_script in
+    let all : WhereKnown known (λ c'. AreUnread (inputs_of c' plan) unread) =
+    first_of_five known (dictionaries plan) (request plan) (policy plan) (secret plan) (script plan) unread (were_unread known plan _ c.as_slice.ensures.value unread c.in_err-files.ensures.unread) in
     rw (p.1, p.2) all
 
 pub returns-in_err-request-clause-unread : goal.returns-in_err-request-clause-unread
@@ -27,13 +46,8 @@ returns-in_err-request-clause-unread g c =
     let plan = c.args.plan.now in
     let known : Option Contents = g.I.Inputs.contents c.args.inputs.now in
     let unread : Unread = c.in_err-request.field-0.0 in
-    let files : AllRead known (λ c'. files_of c' plan.dictionaries.items) = read_files known (λ c'. files_of c' plan.dictionaries.items) _
-    (subst (λ (paths : List (Bor (List ℕ))). WhereKnown known (λ c'. AreRead (files_of c' paths) (octets_of_files c.in_ok-files.files))) c.as_slice.ensures.value c.in_ok-files.ensures.read) in
-    let here : WhereKnown known (λ c'. AreUnread (files_of c' plan.dictionaries.items ++ request_of c' plan.command plan.request) unread) = unread_last known (λ c'. files_of c' plan.dictionaries.items) (λ c'. request_of c' plan.command plan.request) unread files c.in_err-request.ensures.unread in
-    let to_policy : WhereKnown known (λ c'. AreUnread (files_of c' plan.dictionaries.items ++ request_of c' plan.command plan.request ++ named_file c' plan.policy) unread) = unread_first known (λ c'. files_of c' plan.dictionaries.items ++ request_of c' plan.command plan.request) (λ c'. named_file c' plan.policy) unread here in
-    let to_secret : WhereKnown known (λ c'. AreUnread (files_of c' plan.dictionaries.items ++ request_of c' plan.command plan.request ++ named_file c' plan.policy ++ named_file c' plan.secret) unread) = unread_first known (λ c'. files_of c' plan.dictionaries.items ++ request_of c' plan.command plan.request ++ named_file c' plan.policy) (λ c'. named_file c' plan.secret) unread to_policy in
-    let to_script : WhereKnown known (λ c'. AreUnread (files_of c' plan.dictionaries.items ++ request_of c' plan.command plan.request ++ named_file c' plan.policy ++ named_file c' plan.secret ++ named_file c' plan.script) unread) = unread_first known (λ c'. files_of c' plan.dictionaries.items ++ request_of c' plan.command plan.request ++ named_file c' plan.policy ++ named_file c' plan.secret) (λ c'. named_file c' plan.script) unread to_secret in
-    let all : WhereKnown known (λ c'. AreUnread (inputs_of c' plan) unread) = to_script in
+    let all : WhereKnown known (λ c'. AreUnread (inputs_of c' plan) unread) =
+    second_of_five known (dictionaries plan) (request plan) (policy plan) (secret plan) (script plan) unread (were_read known plan _ c.as_slice.ensures.value _ c.in_ok-files.ensures.read) c.in_err-request.ensures.unread in
     rw (p.1, p.2) all
 
 pub returns-in_err-policy-clause-unread : goal.returns-in_err-policy-clause-unread
@@ -42,13 +56,8 @@ returns-in_err-policy-clause-unread g c =
     let plan = c.args.plan.now in
     let known : Option Contents = g.I.Inputs.contents c.args.inputs.now in
     let unread : Unread = c.in_err-policy.field-0.0 in
-    let files : AllRead known (λ c'. files_of c' plan.dictionaries.items) = read_files known (λ c'. files_of c' plan.dictionaries.items) _
-    (subst (λ (paths : List (Bor (List ℕ))). WhereKnown known (λ c'. AreRead (files_of c' paths) (octets_of_files c.in_ok-files.files))) c.as_slice.ensures.value c.in_ok-files.ensures.read) in
-    let request : AllRead known (λ c'. files_of c' plan.dictionaries.items ++ request_of c' plan.command plan.request) = read_more known (λ c'. files_of c' plan.dictionaries.items) (λ c'. request_of c' plan.command plan.request) files (read_one known (λ c'. request_of c' plan.command plan.request) _ c.in_ok-request.ensures.held) in
-    let here : WhereKnown known (λ c'. AreUnread (files_of c' plan.dictionaries.items ++ request_of c' plan.command plan.request ++ named_file c' plan.policy) unread) = unread_last known (λ c'. files_of c' plan.dictionaries.items ++ request_of c' plan.command plan.request) (λ c'. named_file c' plan.policy) unread request c.in_err-policy.ensures.unread in
-    let to_secret : WhereKnown known (λ c'. AreUnread (files_of c' plan.dictionaries.items ++ request_of c' plan.command plan.request ++ named_file c' plan.policy ++ named_file c' plan.secret) unread) = unread_first known (λ c'. files_of c' plan.dictionaries.items ++ request_of c' plan.command plan.request ++ named_file c' plan.policy) (λ c'. named_file c' plan.secret) unread here in
-    let to_script : WhereKnown known (λ c'. AreUnread (files_of c' plan.dictionaries.items ++ request_of c' plan.command plan.request ++ named_file c' plan.policy ++ named_file c' plan.secret ++ named_file c' plan.script) unread) = unread_first known (λ c'. files_of c' plan.dictionaries.items ++ request_of c' plan.command plan.request ++ named_file c' plan.policy ++ named_file c' plan.secret) (λ c'. named_file c' plan.script) unread to_secret in
-    let all : WhereKnown known (λ c'. AreUnread (inputs_of c' plan) unread) = to_script in
+    let all : WhereKnown known (λ c'. AreUnread (inputs_of c' plan) unread) =
+    third_of_five known (dictionaries plan) (request plan) (policy plan) (secret plan) (script plan) unread (were_read known plan _ c.as_slice.ensures.value _ c.in_ok-files.ensures.read) (read_one known (request plan) _ c.in_ok-request.ensures.held) c.in_err-policy.ensures.unread in
     rw (p.1, p.2) all
 
 pub returns-in_err-secret-clause-unread : goal.returns-in_err-secret-clause-unread
@@ -57,13 +66,8 @@ returns-in_err-secret-clause-unread g c =
     let plan = c.args.plan.now in
     let known : Option Contents = g.I.Inputs.contents c.args.inputs.now in
     let unread : Unread = c.in_err-secret.field-0.0 in
-    let files : AllRead known (λ c'. files_of c' plan.dictionaries.items) = read_files known (λ c'. files_of c' plan.dictionaries.items) _
-    (subst (λ (paths : List (Bor (List ℕ))). WhereKnown known (λ c'. AreRead (files_of c' paths) (octets_of_files c.in_ok-files.files))) c.as_slice.ensures.value c.in_ok-files.ensures.read) in
-    let request : AllRead known (λ c'. files_of c' plan.dictionaries.items ++ request_of c' plan.command plan.request) = read_more known (λ c'. files_of c' plan.dictionaries.items) (λ c'. request_of c' plan.command plan.request) files (read_one known (λ c'. request_of c' plan.command plan.request) _ c.in_ok-request.ensures.held) in
-    let policy : AllRead known (λ c'. files_of c' plan.dictionaries.items ++ request_of c' plan.command plan.request ++ named_file c' plan.policy) = read_more known (λ c'. files_of c' plan.dictionaries.items ++ request_of c' plan.command plan.request) (λ c'. named_file c' plan.policy) request (read_files known (λ c'. named_file c' plan.policy) _ c.in_ok-policy.ensures.read) in
-    let here : WhereKnown known (λ c'. AreUnread (files_of c' plan.dictionaries.items ++ request_of c' plan.command plan.request ++ named_file c' plan.policy ++ named_file c' plan.secret) unread) = unread_last known (λ c'. files_of c' plan.dictionaries.items ++ request_of c' plan.command plan.request ++ named_file c' plan.policy) (λ c'. named_file c' plan.secret) unread policy c.in_err-secret.ensures.unread in
-    let to_script : WhereKnown known (λ c'. AreUnread (files_of c' plan.dictionaries.items ++ request_of c' plan.command plan.request ++ named_file c' plan.policy ++ named_file c' plan.secret ++ named_file c' plan.script) unread) = unread_first known (λ c'. files_of c' plan.dictionaries.items ++ request_of c' plan.command plan.request ++ named_file c' plan.policy ++ named_file c' plan.secret) (λ c'. named_file c' plan.script) unread here in
-    let all : WhereKnown known (λ c'. AreUnread (inputs_of c' plan) unread) = to_script in
+    let all : WhereKnown known (λ c'. AreUnread (inputs_of c' plan) unread) =
+    fourth_of_five known (dictionaries plan) (request plan) (policy plan) (secret plan) (script plan) unread (were_read known plan _ c.as_slice.ensures.value _ c.in_ok-files.ensures.read) (read_one known (request plan) _ c.in_ok-request.ensures.held) (read_files known (policy plan) _ c.in_ok-policy.ensures.read) c.in_err-secret.ensures.unread in
     rw (p.1, p.2) all
 
 pub returns-in_err-script-clause-unread : goal.returns-in_err-script-clause-unread
@@ -72,11 +76,6 @@ returns-in_err-script-clause-unread g c =
     let plan = c.args.plan.now in
     let known : Option Contents = g.I.Inputs.contents c.args.inputs.now in
     let unread : Unread = c.in_err-script.field-0.0 in
-    let files : AllRead known (λ c'. files_of c' plan.dictionaries.items) = read_files known (λ c'. files_of c' plan.dictionaries.items) _
-    (subst (λ (paths : List (Bor (List ℕ))). WhereKnown known (λ c'. AreRead (files_of c' paths) (octets_of_files c.in_ok-files.files))) c.as_slice.ensures.value c.in_ok-files.ensures.read) in
-    let request : AllRead known (λ c'. files_of c' plan.dictionaries.items ++ request_of c' plan.command plan.request) = read_more known (λ c'. files_of c' plan.dictionaries.items) (λ c'. request_of c' plan.command plan.request) files (read_one known (λ c'. request_of c' plan.command plan.request) _ c.in_ok-request.ensures.held) in
-    let policy : AllRead known (λ c'. files_of c' plan.dictionaries.items ++ request_of c' plan.command plan.request ++ named_file c' plan.policy) = read_more known (λ c'. files_of c' plan.dictionaries.items ++ request_of c' plan.command plan.request) (λ c'. named_file c' plan.policy) request (read_files known (λ c'. named_file c' plan.policy) _ c.in_ok-policy.ensures.read) in
-    let secret : AllRead known (λ c'. files_of c' plan.dictionaries.items ++ request_of c' plan.command plan.request ++ named_file c' plan.policy ++ named_file c' plan.secret) = read_more known (λ c'. files_of c' plan.dictionaries.items ++ request_of c' plan.command plan.request ++ named_file c' plan.policy) (λ c'. named_file c' plan.secret) policy (read_files known (λ c'. named_file c' plan.secret) _ c.in_ok-secret.ensures.read) in
-    let here : WhereKnown known (λ c'. AreUnread (files_of c' plan.dictionaries.items ++ request_of c' plan.command plan.request ++ named_file c' plan.policy ++ named_file c' plan.secret ++ named_file c' plan.script) unread) = unread_last known (λ c'. files_of c' plan.dictionaries.items ++ request_of c' plan.command plan.request ++ named_file c' plan.policy ++ named_file c' plan.secret) (λ c'. named_file c' plan.script) unread secret c.in_err-script.ensures.unread in
-    let all : WhereKnown known (λ c'. AreUnread (inputs_of c' plan) unread) = here in
+    let all : WhereKnown known (λ c'. AreUnread (inputs_of c' plan) unread) =
+    fifth_of_five known (dictionaries plan) (request plan) (policy plan) (secret plan) (script plan) unread (were_read known plan _ c.as_slice.ensures.value _ c.in_ok-files.ensures.read) (read_one known (request plan) _ c.in_ok-request.ensures.held) (read_files known (policy plan) _ c.in_ok-policy.ensures.read) (read_files known (secret plan) _ c.in_ok-secret.ensures.read) c.in_err-script.ensures.unread in
     rw (p.1, p.2) all

@@ -1,8 +1,8 @@
-use Rattle.std.proofs.Common.{◌≡◌, ◌++◌, ◌∙◌, ap, chars, map-id, sym}
+use Rattle.std.proofs.Common.{◌++◌, ◌∙◌, ap, map-id, sym}
 use Rattle.std.proofs.lemmas.Iterator.{YieldsList-from_chars}
 use Rattle.std.proofs.lemmas.Iterator.Consumers.{YieldsList-end}
 use Rattle.std.specs.List.{flat_map}
-use Rattle.radpolicy_common.specs.VisibleText.{char_shown, text_shown}
+use Rattle.radpolicy_common.specs.VisibleText.{char_shown}
 use Rattle.radpolicy_common.proofs.terminals.push_text.Goals as goal
 
 pub returns : goal.returns
