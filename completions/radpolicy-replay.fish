@@ -1,7 +1,7 @@
 # Completes the words of radpolicy-replay in fish.
 complete -c radpolicy-replay -s h -l help -f -d 'Print help'
 complete -c radpolicy-replay -l policy -r -F -d 'Policy file'
-complete -c radpolicy-replay -l against -r -F -d 'Policy file to compare with'
+complete -c radpolicy-replay -l against -r -F -a captured -d 'Policy file to compare with, or the replies that were captured'
 complete -c radpolicy-replay -l ordered -d 'The order of different attributes counts'
 complete -c radpolicy-replay -l ignore -x -d 'Attribute to leave out'
 complete -c radpolicy-replay -l all -d 'Tell records that are answered alike too'

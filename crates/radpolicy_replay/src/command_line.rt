@@ -29,10 +29,22 @@ const SHOW_SECRETS: &str = "show-secrets";
 
 const DICTIONARY: &str = "dictionary";
 
-/// What answers are compared with, and how.
+/// The word for the replies that were captured; a file of this name is `./captured`.
+const CAPTURED: &str = "captured";
+
+/// With what answers are compared.
+#[derive(Clone, Copy)]
+pub enum AgainstPlan<'a> {
+    /// The answers of the policy in this file.
+    File(&'a str),
+    /// The replies that were captured.
+    Captured,
+}
+
+/// With what answers are compared, and how.
 #[derive(Drop)]
 pub struct ComparisonPlan<'a> {
-    pub against: &'a str,
+    pub against: AgainstPlan<'a>,
     pub order: Order,
     pub ignored: Vec<&'a str>,
     pub told: Told,
@@ -63,7 +75,10 @@ fn against_option<'a>(alloc: Global) -> Arg<'a> {
         .long(AGAINST)
         .value_name("OLD")
         .action(ArgAction::Set)
-        .help("Compares with the answers of this policy, and tells those that differ")
+        .help(
+            "Compares with the answers of this policy, or by `captured` with the replies in the records, and tells \
+            those that differ",
+        )
 }
 
 fn ordered_option<'a>(alloc: Global) -> Arg<'a> {
@@ -183,6 +198,14 @@ fn ignored_names<'a>(alloc: Global, found: &ArgMatches<'a>) -> Result<Vec<&'a st
     }
 }
 
+fn against_plan(word: &str) -> AgainstPlan<'_> {
+    if word == CAPTURED {
+        AgainstPlan::Captured
+    } else {
+        AgainstPlan::File(word)
+    }
+}
+
 // How answers are compared has no meaning where they are not.
 fn comparison_of<'a>(
     alloc: Global,
@@ -194,7 +217,7 @@ fn comparison_of<'a>(
     let ignored = ignored_names(alloc, found)?;
     match found.get_str(AGAINST) {
         Some(against) => Ok(Some(ComparisonPlan {
-            against,
+            against: against_plan(against),
             order,
             ignored,
             told,

@@ -7,14 +7,14 @@ ghost use Rattle.std.specs.Prelude.{◌<◌, IfErr, IfOk, length};
 ghost use Rattle.avp_dict.specs.Lines.{HasDistinctNames};
 ghost use Rattle.radpolicy.specs.Faults.{IsPrintedAnywhere, IsPrintedWith};
 
-use crate::command_line::{Plan, help_text, read_words};
+use crate::command_line::{AgainstPlan, Plan, help_text, read_words};
 use avp_dict::{Dictionary, FileSet};
 use avp_lists::{AttrId, Octets};
 use radpolicy::{Fault, PreparedPolicy, Secret, status};
 use radpolicy_common::{
     Unread, read_dictionary_set, read_file, refuse, refuse_early, refuse_unread,
 };
-use radpolicy_replay_records::{Comparison, Replay, ReplayFault, Summary};
+use radpolicy_replay_records::{Against, Comparison, Replay, ReplayFault, Summary};
 use std::alloc::{AllocError, Global};
 use std::io;
 use std::io::BufWriter;
@@ -25,7 +25,7 @@ use std::process::ExitCode;
 struct Files {
     dictionary: FileSet,
     policy: Octets,
-    // Empty where answers are not compared.
+    // Empty where answers are compared with no policy's.
     against: Octets,
     secret: Octets,
 }
@@ -33,10 +33,18 @@ struct Files {
 // The status where a record is answered otherwise, or by --strict refused.
 const DIFFERENT: u8 = 1;
 
+// The file of the policy with which answers are compared, if they are compared with one.
+fn old_policy_path<'a>(plan: &Plan<'a>) -> Option<&'a str> {
+    match plan.comparison.as_ref()?.against {
+        AgainstPlan::File(path) => Some(path),
+        AgainstPlan::Captured => None,
+    }
+}
+
 // What the old policy's file holds; nothing where there is none.
 fn read_old_policy<'a>(rt: &HostRuntime, plan: &Plan<'a>) -> Result<Octets, Unread<'a>> {
-    match &plan.comparison {
-        Some(comparison) => read_file(rt, comparison.against),
+    match old_policy_path(plan) {
+        Some(path) => read_file(rt, path),
         None => Ok(Octets::from_vec(Vec::new(rt.alloc()))),
     }
 }
@@ -54,14 +62,23 @@ fn read_files<'a>(rt: &HostRuntime, plan: &Plan<'a>) -> Result<Files, Unread<'a>
     })
 }
 
-// How many records there were, those that were answered alike and otherwise where answers were compared.
-fn show_summary(rt: &HostRuntime, compares: bool, summary: Summary) {
+// How many records there were, and of which kinds.
+fn show_summary(rt: &HostRuntime, comparison: &Option<Comparison<'_>>, summary: Summary) {
     let (read, refused) = (summary.read, summary.refused);
+    let Some(comparison) = comparison else {
+        let _ = eprintln!(rt; "{read} read, {refused} refused");
+        return;
+    };
     let (same, different) = (summary.same, summary.different);
-    let _ = if compares {
-        eprintln!(rt; "{read} read, {same} same, {different} different, {refused} refused")
-    } else {
-        eprintln!(rt; "{read} read, {refused} refused")
+    let (unanswered, challenged) = (summary.unanswered, summary.challenged);
+    let _ = match comparison.against {
+        Against::Policy(_) => {
+            eprintln!(rt; "{read} read, {same} same, {different} different, {refused} refused")
+        }
+        Against::Captured => eprintln!(rt;
+            "{read} read, {same} same, {different} different, {unanswered} unanswered, \
+            {challenged} challenged, {refused} refused"
+        ),
     };
 }
 
@@ -88,7 +105,7 @@ fn replay_input(rt: &HostRuntime, strict: bool, replay: &Replay<'_>) -> u8 {
     };
     match replay.run(rt.alloc(), &mut rt.stdin(), &mut out) {
         Ok(summary) => {
-            show_summary(rt, replay.comparison.is_some(), summary);
+            show_summary(rt, &replay.comparison, summary);
             status_of(strict, summary)
         }
         Err(fault) => refuse_replay(rt, fault),
@@ -127,13 +144,12 @@ fn read_against<'a>(
 ) -> Result<Option<PreparedPolicy<'a>>, Fault>
     ensures { IfErr result IsPrintedAnywhere }
 {
-    let Some(asked) = &plan.comparison else {
+    let Some(path) = old_policy_path(plan) else {
         return Ok(None);
     };
     match PreparedPolicy::read(rt.alloc(), dictionary, text) {
         Ok(policy) => Ok(Some(policy)),
         Err(fault) => {
-            let path = asked.against;
             let _ = eprintln!(rt; "radpolicy-replay: {path}:");
             Err(fault)
         }
@@ -153,7 +169,10 @@ fn comparison_of<'a>(
     ignored: &'a [AttrId],
 ) -> Option<Comparison<'a>> {
     let asked = plan.comparison.as_ref()?;
-    let against = against.as_ref()?;
+    let against = match against {
+        Some(policy) => Against::Policy(policy),
+        None => Against::Captured,
+    };
     Some(Comparison {
         against,
         order: asked.order,

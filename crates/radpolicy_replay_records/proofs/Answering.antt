@@ -1,5 +1,5 @@
 -- What a policy answers, by how its packet is read and what its run comes to.
-use Rattle.std.proofs.Common.{◌≡◌, ◌∙◌, ◌⊎◌, inl, inr, List, ℕ, Option, None, Some, Result, Ok, Err, refl, ap, subst, sym}
+use Rattle.std.proofs.Common.{◌≡◌, ◌∙◌, inl, inr, List, ℕ, Option, None, Some, Result, Ok, Err, refl, ap, subst, sym}
 use Rattle.avp_packet.specs.Decoded.{decoded}
 use Rattle.avp_packet.specs.declared.faults.PacketFault.{PacketFault}
 use Rattle.avp_packet.specs.declared.packets.Packet.{Packet}

@@ -1,9 +1,9 @@
 -- Records of a text, from its front on, and where the front is cut.
-use Rattle.std.proofs.Common.{◌-◌, ◌≤◌, min, subst, ◌≡◌, ◌∙◌, ℕ, zero, suc, ◌+◌, Bool, true, false, List, [], ◌∷◌, ◌++◌, All, refl, sym, ap, cond, length, map, take, filter, arith, append-nil}
+use Rattle.std.proofs.Common.{◌-◌, ◌≤◌, min, subst, ◌≡◌, ◌∙◌, ℕ, zero, suc, ◌+◌, true, false, List, [], ◌∷◌, ◌++◌, refl, sym, ap, cond, length, map, take, filter, arith}
 use Rattle.std.specs.List.{join_with_byte, onto_first, slice_split}
 use Rattle.std.proofs.Math.Seq.{take-append-add}
 use Rattle.std.proofs.lemmas.List.{length-take, take_min}
-use Rattle.std.proofs.lemmas.List.Elements.{All-head, All-tail, All-cons, All-nil, All-append}
+use Rattle.std.proofs.lemmas.List.Elements.{All-head, All-tail, All-cons, All-nil}
 use Rattle.std.proofs.lemmas.List.Splits.{join_with_byte-slice_split, slice_split-cons_no, slice_split_at, slice_split_none}
 use Rattle.avp_dict.specs.Lines.{is_line_end}
 use Rattle.radpolicy_replay_records.specs.Lines.{all_but_last, cut, ended_records_of, is_record, records_of}

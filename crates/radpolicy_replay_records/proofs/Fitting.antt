@@ -1,7 +1,7 @@
 -- The pairs of lists that are compared fit the dictionary that those of the lists fit.
-use Rattle.std.proofs.Common.{◌≡◌, ◌∙◌, ◌≤◌, ◌-◌, ℕ, Bool, List, ◌∷◌, [], ◌++◌, ap, append_assoc, arith, drop, get_or, length, subst, sym, take}
+use Rattle.std.proofs.Common.{◌≡◌, ◌∙◌, ◌≤◌, ◌-◌, ℕ, List, ◌∷◌, [], ◌++◌, ap, append_assoc, arith, drop, get_or, length, subst, sym, take}
 use Rattle.std.specs.Borrow.{Bor}
-use Rattle.std.specs.List.{All, flat_map}
+use Rattle.std.specs.List.{flat_map}
 use Rattle.std.proofs.lemmas.List.{take_all}
 use Rattle.std.proofs.lemmas.List.Elements.{All-filter, All-tail}
 use Rattle.avp_lists.specs.Instances.{has_id, instances}
@@ -13,6 +13,8 @@ use Rattle.avp_lists.specs.declared.pairs.Pair.{Pair}
 use Rattle.avp_dict.specs.Dictionary.{Dictionary}
 use Rattle.avp_unlang.specs.Resolutions.{StateFits}
 use Rattle.radpolicy_common.specs.ChangeTexts.{AllFit, Fits}
+use Rattle.radpolicy_replay_records.specs.Captured.{compared_pairs, left_out}
+use Rattle.radpolicy_replay_records.specs.declared.comparisons.Comparison.{Comparison}
 use Rattle.radpolicy_replay_records.specs.Comparisons.{compared, is_compared, pairs_of}
 
 pub instances_fit : (dictionary : Dictionary) (id : AttrId) (pairs found : List Pair) → found ≡ instances id pairs → AllFit dictionary pairs → AllFit dictionary found
@@ -23,6 +25,10 @@ pub compared_fit : (dictionary own : Dictionary) (ignored : List AttrId) (list :
 compared_fit dictionary own ignored list shown state pairs found kept copied is same fit =
     let whole : AllFit dictionary pairs = subst (AllFit dictionary) (sym (copied ∙ ap (list_of list) is)) (subst (λ (d : Dictionary). AllFit d (list_of list state)) same (fit list)) in
     subst (AllFit dictionary) (sym kept) (All-filter (is_compared ignored) (Fits dictionary) pairs whole)
+
+pub compared_pairs_fit : (dictionary : Dictionary) (comparison : Comparison) (pairs found : List Pair) → found ≡ compared_pairs comparison pairs → AllFit dictionary pairs → AllFit dictionary found
+compared_pairs_fit dictionary comparison pairs found same fit =
+    subst (AllFit dictionary) (sym same) (All-filter (is_compared (left_out comparison.order ++ comparison.ignored.now)) (Fits dictionary) pairs fit)
 
 -- ---- pairs that are gone over, from the first on
 

@@ -2,5 +2,6 @@ pub mod Answering
 pub mod Cutting
 pub mod Fitting
 pub mod Progress
+pub mod Replying
 pub mod SameLists
 pub mod Writing

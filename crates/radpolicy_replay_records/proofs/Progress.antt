@@ -1,6 +1,6 @@
 -- How far a replay has come: nothing yet, a part of a line, a line.
-use Rattle.std.proofs.Common.{◌≡◌, ◌∙◌, ℕ, ◌+◌, ◌^◌, ◌≤◌, Bool, true, false, if◌then◌else◌, List, [], ◌∷◌, ◌++◌, Option, None, Some, IfSome, append_assoc, append-nil, cond, refl, sym, ap, subst, length, take, arith}
-use Rattle.std.specs.List.{enumerate_from, flat_map, fold, slice_split}
+use Rattle.std.proofs.Common.{◌≡◌, ◌∙◌, ℕ, ◌+◌, ◌^◌, ◌≤◌, Bool, true, false, if◌then◌else◌, List, [], ◌∷◌, ◌++◌, Option, None, Some, IfSome, append_assoc, append-nil, cond, refl, sym, ap, subst, length, arith}
+use Rattle.std.specs.List.{fold, slice_split}
 use Rattle.std.specs.Io.KnownBytes.{Appends, Consumes, IsAtEnd, Keeps}
 use Rattle.std.proofs.lemmas.List.{take-take, take_all}
 use Rattle.std.proofs.lemmas.List.Elements.{All-append}
@@ -14,7 +14,7 @@ use Rattle.radpolicy_replay_records.specs.declared.replays.ReplayFault.{ReplayFa
 use Rattle.radpolicy_replay_records.specs.declared.replays.ReplayFault.TheVariants.{Input, Memory, Output, TooManyRecords}
 use Rattle.radpolicy_replay_records.specs.declared.summaries.Summary.{Summary}
 use Rattle.radpolicy_replay_records.specs.declared.summaries.Verdict.{Verdict}
-use Rattle.radpolicy_replay_records.specs.declared.summaries.Verdict.TheVariants.{Answered, Different, Refused, Same}
+use Rattle.radpolicy_replay_records.specs.declared.summaries.Verdict.TheVariants.{Answered, Challenged, Different, Refused, Same, Unanswered}
 use Rattle.radpolicy_replay_records.specs.internal.Positions.{Continues, CountsWithin, HasCome, HasNoEnd, IsLineReason, IsOctetsReason, Writes, WritesFront, line_counted, line_text}
 use Rattle.radpolicy_replay_records.proofs.Cutting.{NoEnd, cut_has_no_end, ended_records_cut, ended_records_line, ended_records_none, first_clean, parts_joined, records_cut, records_last, records_line}
 
@@ -27,6 +27,8 @@ counted_read : (summary : Summary) (verdict : Verdict) → (counted summary verd
 counted_read summary Answered = refl
 counted_read summary Same = refl
 counted_read summary Different = refl
+counted_read summary Unanswered = refl
+counted_read summary Challenged = refl
 counted_read summary Refused = refl
 
 -- the text of a line and of those after it
@@ -40,14 +42,48 @@ count_first replay summary line records true = refl
 count_first replay summary line records false = refl
 
 counted_within : (summary : Summary) (verdict : Verdict) → CountsWithin summary → CountsWithin (counted summary verdict)
-counted_within summary Answered (same, different, refused) =
-    (omega (arith, same), omega (arith, different), omega (arith, refused))
-counted_within summary Same (same, different, refused) =
-    (omega (arith, same), omega (arith, different), omega (arith, refused))
-counted_within summary Different (same, different, refused) =
-    (omega (arith, same), omega (arith, different), omega (arith, refused))
-counted_within summary Refused (same, different, refused) =
-    (omega (arith, same), omega (arith, different), omega (arith, refused))
+counted_within summary Answered (same, different, unanswered, challenged, refused) = (
+  omega (arith, same),
+  omega (arith, different),
+  omega (arith, unanswered),
+  omega (arith, challenged),
+  omega (arith, refused),
+)
+counted_within summary Same (same, different, unanswered, challenged, refused) = (
+  omega (arith, same),
+  omega (arith, different),
+  omega (arith, unanswered),
+  omega (arith, challenged),
+  omega (arith, refused),
+)
+counted_within summary Different (same, different, unanswered, challenged, refused) = (
+  omega (arith, same),
+  omega (arith, different),
+  omega (arith, unanswered),
+  omega (arith, challenged),
+  omega (arith, refused),
+)
+counted_within summary Unanswered (same, different, unanswered, challenged, refused) = (
+  omega (arith, same),
+  omega (arith, different),
+  omega (arith, unanswered),
+  omega (arith, challenged),
+  omega (arith, refused),
+)
+counted_within summary Challenged (same, different, unanswered, challenged, refused) = (
+  omega (arith, same),
+  omega (arith, different),
+  omega (arith, unanswered),
+  omega (arith, challenged),
+  omega (arith, refused),
+)
+counted_within summary Refused (same, different, unanswered, challenged, refused) = (
+  omega (arith, same),
+  omega (arith, different),
+  omega (arith, unanswered),
+  omega (arith, challenged),
+  omega (arith, refused),
+)
 
 pub line_counted_within : (replay : Replay) (summary : Summary) (line : List ℕ) → CountsWithin summary → CountsWithin (line_counted replay summary line)
 line_counted_within replay summary line within =

@@ -1,5 +1,5 @@
 -- What was written of a text, a front after a front.
-use Rattle.std.proofs.Common.{◌≡◌, ◌∙◌, ℕ, List, [], ◌++◌, Option, None, Some, IfSome, append_assoc, append-nil, refl, sym, ap, length, take, drop, take-append-drop, ◌-◌, arith}
+use Rattle.std.proofs.Common.{◌≡◌, ◌∙◌, ℕ, List, [], ◌++◌, Option, None, Some, IfSome, append_assoc, append-nil, sym, ap, length, take, drop, take-append-drop, ◌-◌, arith}
 use Rattle.std.specs.Io.KnownBytes.{Appends, Keeps}
 use Rattle.std.proofs.lemmas.List.{length-drop, take_all}
 use Rattle.std.proofs.KnownBytes.{Appends-kept, Appends-trans}

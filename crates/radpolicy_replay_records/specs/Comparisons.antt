@@ -7,7 +7,6 @@ use Rattle.avp_lists.specs.Pairs.{id_eq, pair_eq}
 use Rattle.avp_lists.specs.States.{list_of}
 use Rattle.avp_lists.specs.declared.lists.List.{List as Name}
 use Rattle.avp_lists.specs.declared.lists.List.TheVariants.{Control, Reply}
-use Rattle.avp_lists.specs.declared.lists.State.{State}
 use Rattle.avp_lists.specs.declared.pairs.AttrId.{AttrId}
 use Rattle.avp_lists.specs.declared.pairs.Pair.{Pair}
 use Rattle.avp_unlang.specs.Meaning.{Outcome as End}

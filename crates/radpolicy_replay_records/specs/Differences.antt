@@ -1,5 +1,5 @@
 -- What is said of two answers to a record that were compared.
-use Rattle.std.specs.Prelude.{ℕ, Bool, if◌then◌else◌, List, [], ◌∷◌, ◌++◌, codes, Result, Ok, Err}
+use Rattle.std.specs.Prelude.{ℕ, if◌then◌else◌, List, [], ◌∷◌, ◌++◌, codes, Result, Ok, Err}
 use Rattle.std.specs.List.{flat_map}
 use Rattle.avp_lists.specs.Instances.{instances}
 use Rattle.avp_lists.specs.declared.lists.List.{List as Name}

@@ -1,4 +1,5 @@
 pub mod Answers
+pub mod Captured
 pub mod Comparisons
 pub mod Differences
 pub mod Lines

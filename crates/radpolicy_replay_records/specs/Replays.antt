@@ -1,21 +1,25 @@
 -- What a replay writes of a text of records, and how many there were.
-use Rattle.std.specs.Prelude.{◌≡◌, ◌≤◌, ℕ, ◌+◌, ◌^◌, List, [], ◌++◌, codes, Option, None, Some, Result, Ok, Err, ⊤}
+use Rattle.std.specs.Prelude.{◌≡◌, ◌≤◌, ℕ, ◌+◌, ◌^◌, List, ◌++◌, codes, Option, None, Some, Result, Ok, Err, ⊤}
 use Rattle.std.specs.Io.KnownBytes.{Appends, Consumes}
 use Rattle.std.specs.List.{enumerate_from, flat_map, fold}
 use Rattle.radpolicy.specs.RunOutcomes.{RunOutcome}
 use Rattle.radpolicy.specs.Starts.{Prepared}
 use Rattle.radpolicy.specs.declared.faults.Fault.{Fault}
 use Rattle.radpolicy_replay_records.specs.Answers.{answer_shown, answered}
+use Rattle.radpolicy_replay_records.specs.Captured.{replies_by, replies_told, reply_word, verdict_of_replies}
 use Rattle.radpolicy_replay_records.specs.Differences.{answers_told, verdict_of_answers}
 use Rattle.radpolicy_replay_records.specs.Lines.{ended_records_of, records_of}
 use Rattle.radpolicy_replay_records.specs.Records.{name_shown, request_octets}
+use Rattle.radpolicy_replay_records.specs.declared.captured.Replies.{Replies}
+use Rattle.radpolicy_replay_records.specs.declared.comparisons.Against.{Against}
+use Rattle.radpolicy_replay_records.specs.declared.comparisons.Against.TheVariants.{Captured, Policy}
 use Rattle.radpolicy_replay_records.specs.declared.comparisons.Comparison.{Comparison}
 use Rattle.radpolicy_replay_records.specs.declared.replays.Replay.{Replay}
 use Rattle.radpolicy_replay_records.specs.declared.replays.ReplayFault.{ReplayFault}
 use Rattle.radpolicy_replay_records.specs.declared.replays.ReplayFault.TheVariants.{Input, TooManyRecords}
 use Rattle.radpolicy_replay_records.specs.declared.summaries.Summary.{Summary}
 use Rattle.radpolicy_replay_records.specs.declared.summaries.Verdict.{Verdict}
-use Rattle.radpolicy_replay_records.specs.declared.summaries.Verdict.TheVariants.{Answered, Different, Refused, Same}
+use Rattle.radpolicy_replay_records.specs.declared.summaries.Verdict.TheVariants.{Answered, Challenged, Different, Refused, Same, Unanswered}
 
 -- ---- one record
 
@@ -29,10 +33,23 @@ abbrev pub record_answer : Replay → List ℕ → Result RunOutcome Fault
 record_answer replay line =
     answer_by replay.policy.now replay.secret.now (request_octets line)
 
--- what the policy answers to it with which the other is compared
-abbrev pub old_answer : Replay → Comparison → List ℕ → Result RunOutcome Fault
-old_answer replay comparison line =
-    answer_by comparison.against.now replay.secret.now (request_octets line)
+-- what this policy answers to it
+abbrev pub old_answer : Replay → Prepared → List ℕ → Result RunOutcome Fault
+old_answer replay against line = answer_by against replay.secret.now (request_octets line)
+
+-- the reply to it that was captured, and the policy's own
+abbrev pub record_replies : Replay → List ℕ → Replies
+record_replies replay line = replies_by replay.policy.now replay.secret.now (reply_word line)
+    (request_octets line)
+
+-- what is written for a record with this number whose answer is compared with these
+abbrev pub compared_text : Replay → Comparison → Against → ℕ → List ℕ → List ℕ
+compared_text replay comparison (Policy against) number line =
+    answers_told replay.secrets comparison (name_shown number line)
+    (old_answer replay against.now line) (record_answer replay line)
+compared_text replay comparison Captured number line =
+    replies_told replay.secrets replay.policy.now.dictionary comparison (name_shown number line)
+    (record_replies replay line)
 
 -- what is written for a record with this number, where its answer is compared and where it is not
 abbrev pub text_by : Replay → Option Comparison → ℕ → List ℕ → List ℕ
@@ -40,8 +57,7 @@ text_by replay None number line = name_shown number line
     ++ answer_shown replay.policy.now.dictionary replay.secrets (record_answer replay line)
     ++ codes "\n"
 text_by replay (Some comparison) number line =
-    answers_told replay.secrets comparison (name_shown number line)
-    (old_answer replay comparison line) (record_answer replay line)
+    compared_text replay comparison comparison.against number line
 
 -- what is written for a record with this number
 unfoldable pub record_text : Replay → ℕ → List ℕ → List ℕ
@@ -51,10 +67,16 @@ abbrev pub verdict_by : Result RunOutcome Fault → Verdict
 verdict_by (Ok _) = Answered
 verdict_by (Err _) = Refused
 
+abbrev pub compared_verdict : Replay → Comparison → Against → List ℕ → Verdict
+compared_verdict replay comparison (Policy against) line =
+    verdict_of_answers comparison (old_answer replay against.now line) (record_answer replay line)
+compared_verdict replay comparison Captured line =
+    verdict_of_replies comparison (record_replies replay line)
+
 abbrev pub verdict_on : Replay → Option Comparison → List ℕ → Verdict
 verdict_on replay None line = verdict_by (record_answer replay line)
 verdict_on replay (Some comparison) line =
-    verdict_of_answers comparison (old_answer replay comparison line) (record_answer replay line)
+    compared_verdict replay comparison comparison.against line
 
 -- what became of a record
 unfoldable pub verdict_of : Replay → List ℕ → Verdict
@@ -80,11 +102,22 @@ counted summary Answered = record summary { read = summary.read + 1 }
 counted summary Same = record summary { read = summary.read + 1; same = summary.same + 1 }
 counted summary Different =
     record summary { read = summary.read + 1; different = summary.different + 1 }
+counted summary Unanswered =
+    record summary { read = summary.read + 1; unanswered = summary.unanswered + 1 }
+counted summary Challenged =
+    record summary { read = summary.read + 1; challenged = summary.challenged + 1 }
 counted summary Refused =
     record summary { read = summary.read + 1; refused = summary.refused + 1 }
 
 abbrev pub no_records : Summary
-no_records = record { read = 0; same = 0; different = 0; refused = 0 }
+no_records = record {
+  read = 0;
+  same = 0;
+  different = 0;
+  unanswered = 0;
+  challenged = 0;
+  refused = 0;
+}
 
 -- the counts with those of the records of a text
 abbrev pub summary_from : Replay → Summary → List ℕ → Summary

@@ -31,11 +31,19 @@ pub enum Told {
     All,
 }
 
-/// What the answers of a policy are compared with, and how.
+/// With what the answers of a policy are compared.
+#[derive(Drop)]
+pub enum Against<'a> {
+    /// The answers of this policy, which count as the old ones.
+    Policy(&'a PreparedPolicy<'a>),
+    /// The replies that were really sent: the second packets of the records.
+    Captured,
+}
+
+/// With what the answers of a policy are compared, and how.
 #[derive(Drop)]
 pub struct Comparison<'a> {
-    /// The policy whose answers count as the old ones.
-    pub against: &'a PreparedPolicy<'a>,
+    pub against: Against<'a>,
     pub order: Order,
     /// The attributes that are left out of the lists.
     pub ignored: &'a [AttrId],

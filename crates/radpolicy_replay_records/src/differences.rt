@@ -139,9 +139,9 @@ impl Printer<'_> {
         Ok(())
     }
 
-    // Two lists, where they are not the same.
+    /// Two lists, where they are not the same.
     #[tactic(auto, unfolding(crate::specs::Differences::list_change))]
-    fn push_lists(
+    pub(crate) fn push_lists(
         &self,
         text: &mut Vec<u8>,
         order: Order,
@@ -165,8 +165,8 @@ impl Printer<'_> {
     }
 }
 
-// The lines of a list's change below its name, where there are any.
-fn push_named(text: &mut Vec<u8>, name: &[u8], lines: &[u8]) -> Result<(), AllocError>
+/// The lines of a list's change below its name, where there are any.
+pub(crate) fn push_named(text: &mut Vec<u8>, name: &[u8], lines: &[u8]) -> Result<(), AllocError>
     ensures { OnOk result (text.new.items ≡ text.old.items ++ named_change name.now lines.now) }
 {
     if let [] = lines {

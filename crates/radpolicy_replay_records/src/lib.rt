@@ -2,6 +2,7 @@
 #![tactic(auto)]
 
 mod answers;
+mod captured;
 mod comparisons;
 mod differences;
 mod lines;
@@ -10,7 +11,8 @@ mod replays;
 mod summaries;
 
 pub use answers::answer;
-pub use comparisons::{Comparison, Order, Told, compared, same_lists};
+pub use captured::{CapturedFault, Replies, replies_to};
+pub use comparisons::{Against, Comparison, Order, Told, compared, same_lists};
 pub use lines::MAX_LINE_OCTETS;
 pub use records::request_octets;
 pub use replays::{Replay, ReplayFault};

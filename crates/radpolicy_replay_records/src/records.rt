@@ -3,11 +3,12 @@
 ghost use Rattle.std.specs.Prelude.{◌≡◌, ◌==◌, ◌++◌, ◌+◌, ◌≤◌, Err, IfErr, IfOk, None, OnOk, Ok, Some, filter, find, length};
 ghost use Rattle.std.specs.List.{count_by, flat_map, list_all};
 ghost use Rattle.std.specs.Option.{option_copied};
-ghost use Rattle.hex.specs.Hex.{is_hex_digit};
+ghost use Rattle.hex.specs.Hex.{decode_of, is_hex_digit};
 ghost use Rattle.avp_dict.specs.Quotes.{octal_escape};
 ghost use Rattle.avp_dict.specs.internal.Views.{views};
 ghost use Rattle.radpolicy.specs.Faults.{MemoryOr};
-ghost use Rattle.radpolicy_replay_records.specs.Records.{begins_source, has_double_colon, identifier_shown, is_address, is_address_octet, is_packet_word, is_source, line_words, name_shown, octet_shown, or_number, request_octets, word_shown};
+ghost use Rattle.radpolicy_replay_records.specs.Captured.{reply_word, words_after};
+ghost use Rattle.radpolicy_replay_records.specs.Records.{begins_source, has_double_colon, identifier_shown, is_address, is_address_octet, is_packet_word, is_source, line_words, name_shown, octet_shown, octets_decoded, or_number, request_octets, word_shown};
 
 use crate::lines::MAX_LINE_OCTETS;
 use avp_dict::words_between_blanks;
@@ -188,6 +189,20 @@ fn first_packet<'a>(words: &[&'a [u8]]) -> Option<&'a [u8]>
     None
 }
 
+/// The octets of a packet's digits.
+pub(crate) fn octets_of_digits(alloc: Global, digits: &[u8]) -> Result<Vec<u8>, Fault>
+    ensures ok { IfOk result (λ octets.
+        octets_decoded (decode_of digits.now) ≡ Ok octets.items) }
+    ensures refused { IfErr result (MemoryOr (λ f.
+        octets_decoded (decode_of digits.now) ≡ Err f)) }
+{
+    match hex::decode(alloc, digits) {
+        Ok(octets) => Ok(octets),
+        Err(FromHexError::OutOfMemory) => Err(Fault::Memory),
+        Err(_) => Err(Fault::NotHex),
+    }
+}
+
 /// The octets of the request of a record's line: those of its first word of 40 hexadecimal digits or more. `NotHex`
 /// where there is none or its digits are an odd number, and `PacketTooLong` for a line of too many octets.
 #[tactic(auto, unfolding(crate::specs::Records::request_octets))]
@@ -202,9 +217,27 @@ pub fn request_octets(alloc: Global, line: &[u8]) -> Result<Vec<u8>, Fault>
     let Some(word) = first_packet(&words) else {
         return Err(Fault::NotHex);
     };
-    match hex::decode(alloc, word) {
-        Ok(octets) => Ok(octets),
-        Err(FromHexError::OutOfMemory) => Err(Fault::Memory),
-        Err(_) => Err(Fault::NotHex),
+    octets_of_digits(alloc, word)
+}
+
+// The second packet of the words.
+fn second_packet<'a>(words: &[&'a [u8]]) -> Option<&'a [u8]>
+    ensures { option_copied result ≡ find is_packet_word (words_after (views words.now)) }
+{
+    let mut rest = words;
+    while let [word, later @ ..] = rest {
+        if is_packet_word(word) {
+            return first_packet(later);
+        }
+        rest = later;
     }
+    None
+}
+
+/// The digits of the reply that was captured.
+pub(crate) fn reply_word(alloc: Global, line: &[u8]) -> Result<Option<&[u8]>, AllocError>
+    ensures { IfOk result (λ word. option_copied word ≡ reply_word line.now) }
+{
+    let words = line_words(alloc, line)?;
+    Ok(second_packet(&words))
 }

@@ -5,14 +5,16 @@ ghost use Rattle.std.specs.Io.KnownBytes.{Appends, Consumes, IsAtEnd, Keeps};
 ghost use Rattle.radpolicy_replay_records.specs.Lines.{cut};
 ghost use Rattle.radpolicy.specs.Faults.{MemoryOr};
 ghost use Rattle.radpolicy_replay_records.specs.Answers.{answer_shown};
-ghost use Rattle.radpolicy_replay_records.specs.Replays.{AppendsFront, IsReason, answer_by, record_answer, record_text, replayed_text, summary_of, text_by, verdict_by, verdict_of, verdict_on};
+ghost use Rattle.radpolicy_replay_records.specs.Replays.{AppendsFront, IsReason, answer_by, compared_text, compared_verdict, record_answer, record_text, replayed_text, summary_of, text_by, verdict_by, verdict_of, verdict_on};
 ghost use Rattle.radpolicy_replay_records.specs.Records.{request_octets};
 ghost use Rattle.radpolicy_replay_records.specs.internal.Over.{IsOver};
+ghost use Rattle.radpolicy_replay_records.specs.declared.comparisons.Against.TheVariants.{Captured, Policy};
 ghost use Rattle.radpolicy_replay_records.specs.declared.replays.ReplayFault.TheVariants.{Input as NotRead, Memory as OutOfMemory, Output as NotWritten};
 ghost use Rattle.radpolicy_replay_records.specs.internal.Positions.{CountsWithin, HasNoEnd, IsLineReason, IsOctetsReason, Writes, WritesFront, line_counted, line_text};
 
 use crate::answers::{answer, push_fault, push_outcome};
-use crate::comparisons::Comparison;
+use crate::captured::replies_to;
+use crate::comparisons::{Against, Comparison};
 use crate::differences::Printer;
 use crate::lines::{MAX_LINE_OCTETS, first_line_end, is_record, keep};
 use crate::records::{push_name, request_octets};
@@ -220,6 +222,54 @@ impl<'a> Replay<'a> {
         Ok(verdict)
     }
 
+    // What is said of a record whose answer is compared with that of another policy.
+    fn push_beside_policy(
+        &self,
+        text: &mut Vec<u8>,
+        comparison: &Comparison<'a>,
+        against: &'a PreparedPolicy<'a>,
+        number: u64,
+        line: &[u8],
+    ) -> Result<Verdict, AllocError>
+        ensures text { OnOk result (text.new.items ≡ text.old.items
+            ++ compared_text self.now comparison.now (Policy against.entry) number line.now) }
+        ensures verdict { IfOk result (λ verdict. verdict
+            ≡ compared_verdict self.now comparison.now (Policy against.entry) line.now) }
+    {
+        let alloc = *text.allocator();
+        let mut name = Vec::new(alloc);
+        push_name(&mut name, number, line)?;
+        let old = answer_over(alloc, against, self.secret, line)?;
+        let new = answer_over(alloc, self.policy, self.secret, line)?;
+        let printer = Printer {
+            old: against.dictionary(),
+            new: self.policy.dictionary(),
+            secrets: self.secrets,
+        };
+        comparison.push_answers(text, &printer, &name, &old, &new)
+    }
+
+    // What is said of a record whose answer is compared with the reply that was captured.
+    fn push_beside_captured(
+        &self,
+        text: &mut Vec<u8>,
+        comparison: &Comparison<'a>,
+        number: u64,
+        line: &[u8],
+    ) -> Result<Verdict, AllocError>
+        ensures text { OnOk result (text.new.items ≡ text.old.items
+            ++ compared_text self.now comparison.now Captured number line.now) }
+        ensures verdict { IfOk result (λ verdict. verdict
+            ≡ compared_verdict self.now comparison.now Captured line.now) }
+    {
+        let alloc = *text.allocator();
+        let mut name = Vec::new(alloc);
+        push_name(&mut name, number, line)?;
+        let replies = replies_to(alloc, self.policy, self.secret, line)?;
+        let dictionary = self.policy.dictionary();
+        comparison.push_replies(text, dictionary, self.secrets, &name, &replies)
+    }
+
     // What is said of a record whose answer is compared.
     fn push_compared(
         &self,
@@ -233,17 +283,12 @@ impl<'a> Replay<'a> {
         ensures verdict { IfOk result (λ verdict.
             verdict ≡ verdict_on self.now (Some comparison.now) line.now) }
     {
-        let alloc = *text.allocator();
-        let mut name = Vec::new(alloc);
-        push_name(&mut name, number, line)?;
-        let old = answer_over(alloc, comparison.against, self.secret, line)?;
-        let new = answer_over(alloc, self.policy, self.secret, line)?;
-        let printer = Printer {
-            old: comparison.against.dictionary(),
-            new: self.policy.dictionary(),
-            secrets: self.secrets,
-        };
-        comparison.push_answers(text, &printer, &name, &old, &new)
+        match &comparison.against {
+            Against::Policy(against) => {
+                self.push_beside_policy(text, comparison, *against, number, line)
+            }
+            Against::Captured => self.push_beside_captured(text, comparison, number, line),
+        }
     }
 
     // What is said of a record.

@@ -9,11 +9,16 @@ ghost use Rattle.radpolicy_replay_records.specs.internal.Positions.{CountsWithin
 pub enum Verdict {
     /// The policy ran, and its answer was compared with none.
     Answered,
-    /// Both policies ran, and came to the same.
+    /// Both policies ran, and came to the same; or the reply that was captured is the policy's.
     Same,
-    /// Two policies answer it otherwise.
+    /// Two policies answer it otherwise, or another reply was captured.
     Different,
-    /// The line has no packet, or the packet was not taken, by both policies where two are compared.
+    /// No reply was captured with which the policy's is compared.
+    Unanswered,
+    /// An Access-Challenge was captured, with which nothing is compared.
+    Challenged,
+    /// The line has no packet, or the packet was not taken, by both policies where two are compared; or what was
+    /// captured is no reply to it.
     Refused,
 }
 
@@ -23,6 +28,8 @@ pub struct Summary {
     pub read: u64,
     pub same: u64,
     pub different: u64,
+    pub unanswered: u64,
+    pub challenged: u64,
     pub refused: u64,
 }
 
@@ -34,6 +41,8 @@ impl Summary {
             read: 0,
             same: 0,
             different: 0,
+            unanswered: 0,
+            challenged: 0,
             refused: 0,
         }
     }
@@ -55,6 +64,16 @@ impl Summary {
             Verdict::Different => Summary {
                 read,
                 different: self.different + 1,
+                ..self
+            },
+            Verdict::Unanswered => Summary {
+                read,
+                unanswered: self.unanswered + 1,
+                ..self
+            },
+            Verdict::Challenged => Summary {
+                read,
+                challenged: self.challenged + 1,
                 ..self
             },
             Verdict::Refused => Summary {

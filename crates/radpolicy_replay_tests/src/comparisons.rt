@@ -4,7 +4,7 @@ use avp_dict::Dictionary;
 use avp_lists::AttrId;
 use radpolicy::{PreparedPolicy, Secret};
 use radpolicy_common::SecretValues;
-use radpolicy_replay_records::{Comparison, Order, Replay, Summary, Told};
+use radpolicy_replay_records::{Against, Comparison, Order, Replay, Summary, Told};
 use samples::test_dictionary;
 use std::alloc::Global;
 use std::test::Fail;
@@ -47,7 +47,7 @@ fn told(alloc: Global, asked: Asked) -> Result<(Vec<u8>, Summary), Fail> {
     let against = PreparedPolicy::read(alloc, &dictionary, OLD)?;
     let secret = Secret::new(b"testing123")?;
     let comparison = Comparison {
-        against: &against,
+        against: Against::Policy(&against),
         order: asked.order,
         ignored: asked.ignored,
         told: asked.told,
@@ -81,12 +81,13 @@ fn what_differs_is_told(rt: HostRuntime) -> Result<(), Fail> {
     };
     let (text, summary) = told(rt.alloc(), asked)?;
     assert_eq!(&rt; text.as_slice(), DIFFERENCE);
-    let (read, same, different, refused) = (3, 1, 1, 1);
     let counts = Summary {
-        read,
-        same,
-        different,
-        refused,
+        read: 3,
+        same: 1,
+        different: 1,
+        unanswered: 0,
+        challenged: 0,
+        refused: 1,
     };
     assert_eq!(&rt; summary, counts);
     Ok(())

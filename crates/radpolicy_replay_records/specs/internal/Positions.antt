@@ -1,5 +1,5 @@
 -- How far a replay has come: the octets that are left, those that are kept of a line before them, and the counts.
-use Rattle.std.specs.Prelude.{◌≡◌, ◌≤◌, ℕ, ◌+◌, ◌^◌, Bool, true, false, if◌then◌else◌, List, [], ◌++◌, Option, None, Some, All, ⊤}
+use Rattle.std.specs.Prelude.{◌≡◌, ◌≤◌, ℕ, ◌+◌, ◌^◌, true, false, if◌then◌else◌, List, [], ◌++◌, Option, None, Some, All, ⊤}
 use Rattle.std.specs.Io.KnownBytes.{Appends}
 use Rattle.avp_dict.specs.Lines.{is_line_end}
 use Rattle.radpolicy_replay_records.specs.Lines.{is_record}
@@ -24,6 +24,7 @@ line_counted replay summary line =
 -- no count is above that of the records
 abbrev pub CountsWithin : Summary → Type 0
 CountsWithin summary = (summary.same ≤ summary.read) × (summary.different ≤ summary.read)
+    × (summary.unanswered ≤ summary.read) × (summary.challenged ≤ summary.read)
     × (summary.refused ≤ summary.read)
 
 -- Where `before` was left before, `after` is left now, and this was written: what is to be written for the one,

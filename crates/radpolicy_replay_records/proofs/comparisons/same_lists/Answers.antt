@@ -1,4 +1,3 @@
-use Rattle.avp_lists.specs.declared.pairs.Pair.{Pair}
 use Rattle.radpolicy_replay_records.specs.Comparisons.{pairs_of}
 use Rattle.radpolicy_replay_records.proofs.SameLists.{lists_law}
 use Rattle.radpolicy_replay_records.proofs.comparisons.same_lists.Goals as goal

@@ -8,7 +8,7 @@ use Rattle.radpolicy_replay_records.specs.Lines.{cut}
 use Rattle.radpolicy_replay_records.specs.Replays.{AppendsFront}
 use Rattle.radpolicy_replay_records.specs.internal.Positions.{CountsWithin, HasNoEnd, IsLineReason, line_counted, line_text}
 use Rattle.radpolicy_replay_records.proofs.Cutting.{NoEnd, cut_is_short, first_clean}
-use Rattle.radpolicy_replay_records.proofs.Progress.{cut_is_clean, front_of_writes, line_broken, line_counted_within, line_kept, next_line, octets_reason, start_of_writes}
+use Rattle.radpolicy_replay_records.proofs.Progress.{cut_is_clean, front_of_writes, line_broken, line_counted_within, line_kept, next_line, octets_reason}
 use Rattle.radpolicy_replay_records.proofs.replays.Replay.tell_block.Goals as goal
 
 pub loop-end-preserved : goal.loop-end-preserved
