@@ -1,0 +1,6 @@
+pub mod AddressLaws
+pub mod AddressTexts
+pub mod GreatNumbers
+pub mod GroupTexts
+pub mod Segments
+pub mod TooManyParts
