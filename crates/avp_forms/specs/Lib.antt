@@ -1,7 +1,9 @@
 pub mod AddressLaws
 pub mod Comparisons
+pub mod Dates
 pub mod InterfaceIds
 pub mod Ipv6Addresses
 pub mod Numerals
 pub mod Prefixes
+pub mod Texts
 pub mod Values

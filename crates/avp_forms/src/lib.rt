@@ -5,6 +5,7 @@
 //! such a value.
 #![tactic(auto)]
 
+mod dates;
 mod interface_ids;
 mod ipv6_addresses;
 mod laws;
