@@ -1,5 +1,5 @@
 -- The days of the calendar by their numbers, and jiff's dates.
-use Rattle.std.proofs.Common.{◌≡◌, ◌∙◌, ℕ, zero, suc, ◌+◌, ◌<◌, ◌≤◌, Bool, true, ltb, leb, ℤ, pos, neg_ℤ, ◌+ℤ◌, ◌-ℤ◌, ◌*ℤ◌, ◌≤ℤ◌, ◌<ℤ◌, refl, sym, ap, subst, arith, inl, inr, lt-ltb, le-ltb, le-leb, unsigned_abs}
+use Rattle.std.proofs.Common.{◌≡◌, ◌∙◌, ℕ, zero, suc, ◌+◌, ◌*◌, ◌^◌, ◌<◌, ◌≤◌, Bool, true, ltb, leb, ℤ, pos, neg_ℤ, ◌+ℤ◌, ◌-ℤ◌, ◌*ℤ◌, ◌≤ℤ◌, ◌<ℤ◌, refl, sym, ap, subst, arith, inl, inr, lt-ltb, le-ltb, le-leb, unsigned_abs, Some}
 use Rattle.std.specs.Int.{IsInRange}
 use Rattle.std.proofs.lemmas.Bool.{cases_lt}
 use Rattle.jiff_core.specs.declared.civil.date.Date.{Date}
@@ -115,3 +115,13 @@ moment_of_date date y m d seconds offset ey em ed =
     let there = is_day date y m d ey em ed in
     let same : epoch_day date ≡ days_from_civil (pos y) m d = rw (ey, em, ed) refl in
     rw (there, same) refl
+
+-- ---- a moment of a day
+
+pub moment_of_day : (n : ℕ) (d : Day) (s : ℕ) → IsDay n d → n * 86400 + s < 2 ^ 32 → date_of_moment d.year d.month d.day s (pos 0) ≡ Some (n * 86400 + s)
+unfolding date_of_moment
+moment_of_day n d s is low =
+    let there : has_day d.year d.month d.day ≡ true = rw (le-leb 1 d.month is.month.0, le-leb d.month 12 is.month.1, le-leb 1 d.day is.day.0, le-leb d.day (days_in_month (pos d.year) d.month) is.day.1) in
+    let day : days_from_civil (pos d.year) d.month d.day ≡ pos n = omega (arith, signed_arith, days_from_civil-day_count (pos d.year) d.month d.day, is.count) in
+    let moment : n * 86400 + s + 0 ≡ n * 86400 + s = omega arith in
+    rw (there, day, moment, le-leb 0 (n * 86400 + s) (omega arith), le-leb (n * 86400 + s) 4294967295 (omega arith))

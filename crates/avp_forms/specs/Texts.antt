@@ -38,20 +38,20 @@ tagged_number_spelled id text dictionary =
     option_or (number_up_to max_tagged_number text)
     (up_to max_tagged_number (number_named id text dictionary.values))
 
--- the value that a text stands for, with the tag 0; zone is what `date_spelled` says
+-- the value that a text stands for, with the tag 0; offset is that of zones other than UTC, as for `date_spelled`
 unfoldable pub form_spelled : Form → AttrId → Option ℤ → List ℕ → Dictionary → Option FormValue
-form_spelled forms.AsTyped id zone text dictionary = None
-form_spelled forms.Ipv6Address id zone text dictionary = option_map Ipv6Address (ipv6_spelled text)
-form_spelled forms.Ipv6Prefix id zone text dictionary =
+form_spelled forms.AsTyped id offset text dictionary = None
+form_spelled forms.Ipv6Address id offset text dictionary = option_map Ipv6Address (ipv6_spelled text)
+form_spelled forms.Ipv6Prefix id offset text dictionary =
     option_map ipv6_prefix_value (ipv6_prefix_spelled text)
-form_spelled forms.Ipv4Prefix id zone text dictionary =
+form_spelled forms.Ipv4Prefix id offset text dictionary =
     option_map ipv4_prefix_value (ipv4_prefix_spelled text)
-form_spelled forms.InterfaceId id zone text dictionary =
+form_spelled forms.InterfaceId id offset text dictionary =
     option_map InterfaceId (interface_id_spelled text)
-form_spelled forms.Date id zone text dictionary = option_map Date (date_spelled zone text)
-form_spelled forms.TaggedInteger id zone text dictionary =
+form_spelled forms.Date id offset text dictionary = option_map Date (date_spelled offset text)
+form_spelled forms.TaggedInteger id offset text dictionary =
     option_map untagged_number (tagged_number_spelled id text dictionary)
-form_spelled forms.TaggedString id zone text dictionary = Some (TaggedText 0 text)
+form_spelled forms.TaggedString id offset text dictionary = Some (TaggedText 0 text)
 
 abbrev pub unless_long : ℕ → Option FormValue → Result FormValue ValueFault
 unless_long most None = Err NotValue
@@ -61,10 +61,10 @@ unless_long most (Some value) = if nat_le (length (octets_of value)) most then O
 -- values, and its octets are no more than the attribute may have
 unfoldable pub value_spelled : AttrId → ℕ → Option ℤ → List ℕ → Dictionary
     → Result FormValue ValueFault
-value_spelled id tag zone text dictionary =
+value_spelled id tag offset text dictionary =
     unless_long (greatest_length id dictionary)
     (option_map (with_tag tag)
-    (option_and_then (λ form. form_spelled form id zone text dictionary) (form_of id dictionary)))
+    (option_and_then (λ form. form_spelled form id offset text dictionary) (form_of id dictionary)))
 
 -- ---- printed
 

@@ -14,5 +14,5 @@ mod parts;
 mod prefixes;
 mod values;
 
-pub use laws::reads_addresses;
+pub use laws::{octets_read_back, reads_addresses};
 pub use values::{FormValue, MAX_TAG};
