@@ -15,4 +15,4 @@ mod prefixes;
 mod values;
 
 pub use laws::{octets_read_back, reads_addresses};
-pub use values::{FormValue, MAX_TAG};
+pub use values::{FormValue, MAX_TAG, printed_octets};

@@ -13,7 +13,7 @@ use std::alloc::{AllocError, Global};
 use std::cmp::Ordering;
 use std::net::Ipv4Addr;
 
-/// An octet with its first bits, the others cleared.
+// An octet with its first bits, the others cleared.
 fn first_bits(length: u8, octet: u8) -> u8
     ensures { result ≡ first_bits length octet }
 {
@@ -68,7 +68,7 @@ pub fn masked_16(length: u8, octets: [u8; 16]) -> [u8; 16]
     ]
 }
 
-/// The IPv4 address that a text stands for.
+// The IPv4 address that a text stands for.
 fn ipv4_spelled(text: &[u8]) -> Option<[u8; 4]>
     ensures { result ≡ ipv4_spelled text.now }
 {

@@ -5,10 +5,11 @@ ghost use Rattle.std.specs.Option.{option_map, unwrap_or};
 ghost use Rattle.avp_lists.specs.Meets.{Meets};
 ghost use Rattle.avp_dict.specs.Dictionary.{name_numbered};
 ghost use Rattle.avp_dict.specs.Outcomes.{is_memory_value};
+ghost use Rattle.avp_dict.specs.Printing.{hexadecimal};
 ghost use Rattle.avp_forms.specs.Comparisons.{compared};
 ghost use Rattle.avp_forms.specs.Prefixes.{ipv4_prefix_spelled, ipv6_prefix_spelled};
-ghost use Rattle.avp_forms.specs.Texts.{form_spelled, ipv4_prefix_value, ipv6_prefix_value, printed_text, tagged_number_spelled, text_of, untagged_number, value_spelled};
-ghost use Rattle.avp_forms.specs.Values.{date_of, ipv4_prefix_meant, ipv6_prefix_meant, max_tag, meaning, meaning_of_value, octets_of, of_length, padded, tag_of, tagged_number_meant, tagged_text_meant, value_of, with_tag};
+ghost use Rattle.avp_forms.specs.Texts.{form_spelled, ipv4_prefix_value, ipv6_prefix_value, printed_octets, printed_text, tagged_number_spelled, text_of, untagged_number, value_spelled};
+ghost use Rattle.avp_forms.specs.Values.{date_of, ipv4_prefix_meant, ipv6_prefix_meant, is_proper, max_tag, meaning, meaning_of_value, octets_of, of_length, padded, tag_of, tagged_number_meant, tagged_text_meant, value_of, with_tag};
 ghost use Rattle.avp_forms.specs.declared.values.FormValue.TheVariants.{InterfaceId, Ipv6Address};
 
 use crate::dates::{date_spelled, date_text};
@@ -237,16 +238,36 @@ fn tagged_number_text(
     }
 }
 
+// `0x` and the octets in lower case.
+fn hexadecimal(alloc: Global, octets: &[u8]) -> Result<Vec<u8>, AllocError>
+    ensures { IfOk result (λ text. text.items ≡ hexadecimal octets.now) }
+{
+    let digits = hex::encode(alloc, octets)?;
+    let mut text = Vec::from_slice(alloc, b"0x")?;
+    text.extend_from_slice(digits.as_str().as_bytes())?;
+    Ok(text)
+}
+
+/// The text that is printed for octets: that of the value which they mean, else `0x` and the octets.
+#[tactic(auto, unfolding(crate::specs::Texts::printed_octets))]
+pub fn printed_octets(
+    alloc: Global,
+    dictionary: &Dictionary,
+    form: Form,
+    id: AttrId,
+    octets: &[u8],
+) -> Result<Vec<u8>, AllocError>
+    ensures { IfOk result (λ text. text.items ≡ printed_octets form id octets.now dictionary.now) }
+{
+    match FormValue::of_octets(alloc, form, octets)? {
+        Some(value) => value.printed_text(alloc, dictionary, id),
+        None => hexadecimal(alloc, octets),
+    }
+}
+
 impl FormValue {
     /// The value that octets mean, by what the attribute's values stand for: shorter octets of a prefix are taken as
     /// those of the whole one with zeros after them, and bits past its length as cleared.
-    ///
-    /// ```rust
-    /// let octets = [0, 32, 0x20, 0x01, 0x0d, 0xb8];
-    /// let prefix = FormValue::of_octets(alloc, Form::Ipv6Prefix, &octets)?;
-    /// let prefix = prefix.ok_or("no prefix")?;
-    /// assert_eq!(rt; prefix.to_octets(alloc)?.len(), 18);
-    /// ```
     #[tactic(auto, unfolding(crate::specs::Values::meaning))]
     pub fn of_octets(
         alloc: Global,
@@ -317,6 +338,27 @@ impl FormValue {
         }
     }
 
+    /// Whether the value is within the bounds of its form, as each is that octets or a text stand for: a length of no
+    /// more bits than the address has, no bit past it, a tag of at most [`MAX_TAG`], and a number of three octets.
+    #[tactic(auto, unfolding(crate::specs::Values::is_proper))]
+    pub fn is_proper(&self) -> bool
+        ensures { result ≡ is_proper self.now }
+    {
+        match self {
+            FormValue::Ipv6Prefix(address, length) => {
+                *length <= 128 && masked_16(*length, *address) == *address
+            }
+            FormValue::Ipv4Prefix(address, length) => {
+                *length <= 32 && masked_4(*length, *address) == *address
+            }
+            FormValue::TaggedNumber(tag, number) => {
+                *tag <= MAX_TAG && u64::from(*number) <= MAX_TAGGED_NUMBER
+            }
+            FormValue::TaggedText(tag, _) => *tag <= MAX_TAG,
+            _ => true,
+        }
+    }
+
     /// The tag, where the form has one.
     #[tactic(auto, unfolding(crate::specs::Values::tag_of))]
     pub fn tag(&self) -> Option<u8>
@@ -361,16 +403,6 @@ impl FormValue {
     /// The value that a text stands for under an attribute's name, with a tag, which is dropped where the attribute's
     /// values have none. Whether the text is a value is asked first, then its length. `zone` says how many minutes the
     /// clocks of the zone that a date names are before UTC's, where the date names a zone other than `UTC`.
-    ///
-    /// ```rust
-    /// // `ATTRIBUTE NAS-IPv6-Address 95 ipv6addr`
-    /// let (id, text) = (AttrId::Plain(95), b"2001:0db8:0:0::0001");
-    /// let value = FormValue::of_text(alloc, &dictionary, id, 0, None, text)?;
-    /// assert_eq!(rt;
-    ///     value.text(alloc, &dictionary, id)?.as_slice(),
-    ///     b"2001:db8::1".as_slice()
-    /// );
-    /// ```
     #[tactic(auto, unfolding(crate::specs::Texts::value_spelled))]
     pub fn of_text(
         alloc: Global,
