@@ -1,0 +1,11 @@
+pub mod AddressLaws
+pub mod AddressTexts
+pub mod Calendar
+pub mod DateTexts
+pub mod GreatNumbers
+pub mod GroupTexts
+pub mod OctetsMeant
+pub mod PrefixTexts
+pub mod Segments
+pub mod TextsBack
+pub mod TooManyParts

@@ -1,0 +1,11 @@
+pub mod AddressLaws
+pub mod Comparisons
+pub mod Dates
+pub mod InterfaceIds
+pub mod Ipv6Addresses
+pub mod Laws
+pub mod Numerals
+pub mod Prefixes
+pub mod Texts
+pub mod Values
+pub mod internal

@@ -1,0 +1,9 @@
+//! What octets of forms mean, which texts stand for them, and what is printed.
+#![tactic(auto)]
+
+#[cfg(test)]
+mod comparisons;
+#[cfg(test)]
+mod octets;
+#[cfg(test)]
+mod texts;
