@@ -29,23 +29,34 @@ digest 0107001a00112233445566778899aabbccddeeff050600000003 0307001483111e9861b8
 request 0207001400112233445566778899aabbccddeeff 0307001483111e9861b83e3085b2622fa3f4a8e7
 ";
 
+// The replay by a policy that is compared with what was captured.
+fn replay_captured<'a>(
+    policy: &'a PreparedPolicy<'a>,
+    secret: &'a Secret<'a>,
+    order: Order,
+    told: Told,
+) -> Replay<'a> {
+    let against = Against::Captured;
+    let comparison = Some(Comparison {
+        against,
+        order,
+        ignored: &[],
+        told,
+    });
+    Replay {
+        policy,
+        secret,
+        comparison,
+        secrets: SecretValues::Hidden,
+    }
+}
+
 // What is written of the records, and the counts.
 fn told(alloc: Global, order: Order, told: Told) -> Result<(Vec<u8>, Summary), Fail> {
     let dictionary: Dictionary = test_dictionary(alloc)?;
     let policy = PreparedPolicy::read(alloc, &dictionary, POLICY)?;
     let secret = Secret::new(b"testing123")?;
-    let comparison = Comparison {
-        against: Against::Captured,
-        order,
-        ignored: &[],
-        told,
-    };
-    let replay = Replay {
-        policy: &policy,
-        secret: &secret,
-        comparison: Some(comparison),
-        secrets: SecretValues::Hidden,
-    };
+    let replay = replay_captured(&policy, &secret, order, told);
     let mut input = RECORDS;
     let mut out = Vec::new(alloc);
     let summary = replay.run(alloc, &mut input, &mut out)?;

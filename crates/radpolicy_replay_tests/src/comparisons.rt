@@ -40,24 +40,35 @@ struct Asked {
     told: Told,
 }
 
+// The replay by a policy that is compared with an old one.
+fn replay_against<'a>(
+    policy: &'a PreparedPolicy<'a>,
+    old: &'a PreparedPolicy<'a>,
+    secret: &'a Secret<'a>,
+    asked: Asked,
+) -> Replay<'a> {
+    let against = Against::Policy(old);
+    let comparison = Some(Comparison {
+        against,
+        order: asked.order,
+        ignored: asked.ignored,
+        told: asked.told,
+    });
+    Replay {
+        policy,
+        secret,
+        comparison,
+        secrets: SecretValues::Hidden,
+    }
+}
+
 // What is written of the records, and the counts.
 fn told(alloc: Global, asked: Asked) -> Result<(Vec<u8>, Summary), Fail> {
     let dictionary: Dictionary = test_dictionary(alloc)?;
     let policy = PreparedPolicy::read(alloc, &dictionary, NEW)?;
-    let against = PreparedPolicy::read(alloc, &dictionary, OLD)?;
+    let old = PreparedPolicy::read(alloc, &dictionary, OLD)?;
     let secret = Secret::new(b"testing123")?;
-    let comparison = Comparison {
-        against: Against::Policy(&against),
-        order: asked.order,
-        ignored: asked.ignored,
-        told: asked.told,
-    };
-    let replay = Replay {
-        policy: &policy,
-        secret: &secret,
-        comparison: Some(comparison),
-        secrets: SecretValues::Hidden,
-    };
+    let replay = replay_against(&policy, &old, &secret, asked);
     let mut input = RECORDS;
     let mut out = Vec::new(alloc);
     let summary = replay.run(alloc, &mut input, &mut out)?;

@@ -1,0 +1,5 @@
+pub mod Addresses
+pub mod Clients
+pub mod Faults
+pub mod Lines
+pub mod internal

@@ -1,0 +1,7 @@
+//! Tests of clients: which of them an address is of, and how they are read.
+#![tactic(auto)]
+
+#[cfg(test)]
+mod addresses;
+#[cfg(test)]
+mod files;
