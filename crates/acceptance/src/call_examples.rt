@@ -9,7 +9,7 @@ use avp_lists::{List, Store};
 use avp_unlang::{Code, PolicyFault, PolicyKind};
 use radpolicy::{
     Command, Fault, Job, OwnedPolicy, PreparedPolicy, RequestHead, RequestKind, Secret, Start,
-    WriteOutput, answer, help_text, print_fault, read_input, read_words, status,
+    WriteOutput, answer, help_text, option_text, print_fault, read_input, read_words, status,
 };
 use samples::{TEST_DICTIONARY, test_dictionary};
 use std::alloc::Global;
@@ -24,6 +24,24 @@ fn reads_words(rt: &impl Abort, alloc: Global) -> Result<(), Fail> {
     assert_eq!(rt; plan.policy, Some("policy"));
     let refused = read_words(alloc, &["radpolicy", "walk"]).err();
     assert_eq!(rt; refused, Some(Fault::Usage));
+    Ok(())
+}
+
+// Example: option_text
+fn says_which_option(rt: &impl Abort, alloc: Global) -> Result<(), Fail> {
+    let words = [
+        "radpolicy",
+        "run",
+        "-i",
+        "256",
+        "--policy",
+        "policy",
+        "dictionary",
+    ];
+    assert_eq!(rt;
+        option_text(alloc, &words)?,
+        "-i takes a number from 0 to 255"
+    );
     Ok(())
 }
 
@@ -82,8 +100,11 @@ fn prepares(rt: &impl Abort, alloc: Global, dictionary: &Dictionary) -> Result<(
     let prepared = PreparedPolicy::read(alloc, dictionary, b"update reply { Class := 0x01 }")?;
     assert_eq!(rt; prepared.policy().statements().len(), 1);
     let refused = PreparedPolicy::read(alloc, dictionary, b"rejected").err();
-    let (line, kind) = (1, PolicyKind::Misplaced);
-    assert_eq!(rt; refused, Some(Fault::Policy(PolicyFault { line, kind })));
+    let (line, offset, kind) = (1, 0, PolicyKind::Misplaced);
+    assert_eq!(rt;
+        refused,
+        Some(Fault::Policy(PolicyFault { line, offset, kind }))
+    );
     Ok(())
 }
 
@@ -137,6 +158,7 @@ fn prepared_policies(rt: HostRuntime) -> Result<(), Fail> {
 #[test]
 fn texts(rt: HostRuntime) -> Result<(), Fail> {
     reads_words(&rt, rt.alloc())?;
+    says_which_option(&rt, rt.alloc())?;
     helps(&rt, rt.alloc())?;
     prints_a_fault(&rt, rt.alloc());
     gives_statuses(&rt);

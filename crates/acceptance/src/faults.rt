@@ -124,6 +124,7 @@ const FAULTS: [(Fault, u8, &str); 18] = [
     (
         Fault::Policy(PolicyFault {
             line: 12,
+            offset: 0,
             kind: PolicyKind::NotWritable,
         }),
         2,
@@ -132,6 +133,7 @@ const FAULTS: [(Fault, u8, &str); 18] = [
     (
         Fault::Policy(PolicyFault {
             line: 1,
+            offset: 0,
             kind: PolicyKind::OtherType,
         }),
         2,
@@ -140,6 +142,7 @@ const FAULTS: [(Fault, u8, &str); 18] = [
     (
         Fault::Policy(PolicyFault {
             line: 1,
+            offset: 0,
             kind: PolicyKind::Memory,
         }),
         4,

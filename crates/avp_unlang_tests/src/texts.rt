@@ -38,6 +38,43 @@ fn expect_answers(rt: &impl Abort, alloc: Global, rows: &[Row]) -> Result<(), Fa
     Ok(())
 }
 
+// Texts, cut at the token that is refused.
+const STOPS: [(&str, &str); 16] = [
+    ("", "rejct"),
+    ("ok # comment\n\t", "authorize { }"),
+    ("if (&User-Name ", "=~ /x/) { }"),
+    ("if (&User-Name ", "= \"bob\") { reject }"),
+    ("if (&User-Name == \"bob\" ", "{ reject }"),
+    ("if (&Class) {\n  reject\n", ""),
+    ("if (&NAS-Port == &", "User-Name) { }"),
+    ("update ", "replay { }"),
+    ("update { ", "Nosuch := 1 }"),
+    ("update { ", "Attr-2 := abc }"),
+    ("update reply {\n\t", "Vendor-Specific := 0x01 }"),
+    ("update { NAS-Port := ", "abc }"),
+    ("update { Reply-Message := ", "\"a %{Nosuch}\" }"),
+    ("update { Class ", "^ 0x01 }"),
+    ("update { User-Name := ", "'a }\n"),
+    ("update ", "else { }"),
+];
+
+#[test]
+fn stops_at_tokens(rt: HostRuntime) -> Result<(), Fail> {
+    let alloc = rt.alloc();
+    let dictionary = test_dictionary(alloc)?;
+    for (front, back) in STOPS {
+        let mut text = String::from_str(alloc, front)?;
+        text.push_str(back)?;
+        let refused = read_policy(alloc, &dictionary, text.as_bytes()).err();
+        assert_eq!(rt;
+            refused.map(|fault| fault.offset),
+            Some(front.len()),
+            "{text}"
+        );
+    }
+    Ok(())
+}
+
 const SMALL: [Row; 17] = [
     // Small policies.
     ("", Ok(0)),

@@ -11,27 +11,27 @@ use Rattle.avp_unlang.specs.Policies.{SpellsPolicy}
 use Rattle.radpolicy.specs.Faults.{fault_of_policy}
 use Rattle.radpolicy.specs.JobReports.{IsCheckedPolicyRefusal, IsPolicy, IsPolicyFault, IsUnspelled, dictionary_for}
 
-is_policy_fault : (line : ℕ) (k : PolicyKind) → let f : PolicyFault = record { line = line; kind = k } in (fault_of_policy f ≡ Memory) ⊎ (IsPolicyFault (fault_of_policy f) × (k ≢ kind.Memory))
-is_policy_fault line kind.NotValue = inr ((λ e. cc), (λ e. cc))
-is_policy_fault line kind.TooLong = inr ((λ e. cc), (λ e. cc))
-is_policy_fault line kind.Unknown = inr ((λ e. cc), (λ e. cc))
-is_policy_fault line kind.NotWritable = inr ((λ e. cc), (λ e. cc))
-is_policy_fault line kind.Unreadable = inr ((λ e. cc), (λ e. cc))
-is_policy_fault line kind.Misplaced = inr ((λ e. cc), (λ e. cc))
-is_policy_fault line kind.TooDeep = inr ((λ e. cc), (λ e. cc))
-is_policy_fault line kind.TooLarge = inr ((λ e. cc), (λ e. cc))
-is_policy_fault line kind.OtherType = inr ((λ e. cc), (λ e. cc))
-is_policy_fault line kind.Memory = inl refl
+is_policy_fault : (line offset : ℕ) (k : PolicyKind) → let f : PolicyFault = record { line = line; offset = offset; kind = k } in (fault_of_policy f ≡ Memory) ⊎ (IsPolicyFault (fault_of_policy f) × (k ≢ kind.Memory))
+is_policy_fault line offset kind.NotValue = inr ((λ e. cc), (λ e. cc))
+is_policy_fault line offset kind.TooLong = inr ((λ e. cc), (λ e. cc))
+is_policy_fault line offset kind.Unknown = inr ((λ e. cc), (λ e. cc))
+is_policy_fault line offset kind.NotWritable = inr ((λ e. cc), (λ e. cc))
+is_policy_fault line offset kind.Unreadable = inr ((λ e. cc), (λ e. cc))
+is_policy_fault line offset kind.Misplaced = inr ((λ e. cc), (λ e. cc))
+is_policy_fault line offset kind.TooDeep = inr ((λ e. cc), (λ e. cc))
+is_policy_fault line offset kind.TooLarge = inr ((λ e. cc), (λ e. cc))
+is_policy_fault line offset kind.OtherType = inr ((λ e. cc), (λ e. cc))
+is_policy_fault line offset kind.Memory = inl refl
 
 -- a policy's fault is want of memory, or the fault of a text that spells none
 pub unspelled : (dictionary : Dictionary) (text : List ℕ) (f : PolicyFault) → (f.kind ≢ kind.Memory → (statements : List Statement) → SpellsPolicy dictionary text statements → ⊥) → (fault_of_policy f ≡ Memory) ⊎ IsUnspelled dictionary text (fault_of_policy f)
-unspelled dictionary text f none = elim (is_policy_fault f.line f.kind) [
+unspelled dictionary text f none = elim (is_policy_fault f.line f.offset f.kind) [
   | inl memory ↦ inl memory
   | inr found ↦ inr (record { none = none found.1; fault = found.0 })
 ]
 
 pub checked_refused : (job : Job) (f : PolicyFault) (d : Dictionary) → dictionary_for job ≡ Ok d → job.policy ≢ None → (f.kind ≢ kind.Memory → (statements : List Statement) → IsPolicy job d statements → ⊥) → (fault_of_policy f ≡ Memory) ⊎ IsCheckedPolicyRefusal job (fault_of_policy f)
-checked_refused job f d read given none = elim (is_policy_fault f.line f.kind) [
+checked_refused job f d read given none = elim (is_policy_fault f.line f.offset f.kind) [
   | inl memory ↦ inl memory
   | inr found ↦ inr (record { dictionary = d; read = read; given = given; none = none found.1; fault = found.0 })
 ]

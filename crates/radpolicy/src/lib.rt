@@ -21,13 +21,13 @@ mod secrets;
 mod starts;
 
 pub use answers::answer;
-pub use command_line::{help_text, read_words};
+pub use command_line::{help_text, option_text, read_words};
 pub use fault_lines::print_fault;
 pub use faults::{Fault, status};
 pub use heads::{RequestHead, RequestKind};
 pub use inputs::{MAX_INPUT_OCTETS, read_input};
 pub use jobs::{Command, Form, Job, Outcome};
-pub use outputs::{Output, OutputError, WriteOutput};
+pub use outputs::{Output, OutputError, WriteOutput, put_all};
 pub use plans::Plan;
 pub use prepared::{OwnedPolicy, PreparedPolicy};
 pub use reports::texts::code_text;

@@ -74,8 +74,8 @@ impl<'a> PreparedPolicy<'a> {
     /// let prepared = PreparedPolicy::read(alloc, dictionary, b"update reply { Class := 0x01 }")?;
     /// assert_eq!(rt; prepared.policy().statements().len(), 1);
     /// let refused = PreparedPolicy::read(alloc, dictionary, b"rejected").err();
-    /// let (line, kind) = (1, PolicyKind::Misplaced);
-    /// assert_eq!(rt; refused, Some(Fault::Policy(PolicyFault { line, kind })));
+    /// let (line, offset, kind) = (1, 0, PolicyKind::Misplaced);
+    /// assert_eq!(rt; refused, Some(Fault::Policy(PolicyFault { line, offset, kind })));
     /// ```
     pub fn read(
         alloc: Global,
