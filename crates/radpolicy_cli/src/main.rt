@@ -1,12 +1,79 @@
 //! The program: its words, the files that they name, and what it prints.
 #![tactic(auto)]
 
+ghost use Rattle.std.specs.Prelude.{◌≡◌, []};
+ghost use Rattle.radpolicy.specs.Faults.{IsPrintedWith, status_of};
 ghost use Rattle.radpolicy.specs.Plans.{IsSound, asked_by_job, asked_by_plan};
+ghost use Rattle.radpolicy_common.specs.Refusals.{fault_of_unread};
 
+use avp_dict::FileSet;
 use radpolicy::{Fault, Job, Plan, WriteOutput, answer, help_text, read_words, status};
-use radpolicy_common::{job_of, refuse, refuse_early, refuse_unread};
-use std::io;
+use radpolicy_common::{Unread, job_of, refuse, refuse_early, refuse_unread};
+use radpolicy_help::{
+    Sources, explain, explain_unread, explain_words, is_help_wanted, print_with_help,
+};
+use std::alloc::AllocError;
 use std::process::ExitCode;
+use std::{fs, io};
+
+// Prints a fault's line and its help, if that is wanted and there was memory for it, and gives the fault's status.
+fn refuse_with_help(
+    rt: &HostRuntime,
+    fault: &Fault,
+    files: &FileSet,
+    help: Result<Vec<u8>, AllocError>,
+) -> u8
+    requires { IsPrintedWith files.now fault.now }
+    ensures { result ≡ status_of fault.now }
+{
+    if let Ok(help) = help {
+        let mut out = WriteOutput::new(rt.stderr());
+        let _ = print_with_help(fault, files, &help, &mut out);
+        status(fault)
+    } else {
+        refuse(rt, fault, files)
+    }
+}
+
+// Refuses a job.
+fn refuse_job(rt: &HostRuntime, fault: &Fault, plan: &Plan, job: &Job) -> u8
+    requires { IsPrintedWith job.now.files fault.now }
+    ensures { result ≡ status_of fault.now }
+{
+    if !is_help_wanted(rt) {
+        return refuse(rt, fault, &job.files);
+    }
+    let help = explain(rt.alloc(), fault, &Sources::of_job(plan, job));
+    refuse_with_help(rt, fault, &job.files, help)
+}
+
+// Refuses the words of the command line.
+fn refuse_words(rt: &HostRuntime, fault: &Fault, words: &[String]) -> u8
+    requires { IsPrintedWith [] fault.now }
+    ensures { result ≡ status_of fault.now }
+{
+    if !is_help_wanted(rt) {
+        return refuse_early(rt, fault);
+    }
+    let help = explain_words(rt.alloc(), fault, words);
+    refuse_with_help(rt, fault, &FileSet::from_vec(Vec::new(rt.alloc())), help)
+}
+
+// Refuses files that were not all read. The help for one that was not readable follows its line.
+fn refuse_files(rt: &HostRuntime, unread: Unread<'_>) -> u8
+    ensures { result ≡ status_of (fault_of_unread unread.entry) }
+{
+    let code = refuse_unread(rt, unread);
+    if let Unread::File(path) = unread
+        && is_help_wanted(rt)
+    {
+        let is_folder = fs::metadata(rt, path).is_ok_and(|found| found.is_dir());
+        if let Ok(help) = explain_unread(rt.alloc(), path, is_folder) {
+            let _ = rt.stderr().write_all(&help);
+        }
+    }
+    code
+}
 
 fn show_help(rt: &HostRuntime, words: &[String]) -> u8 {
     match help_text(rt.alloc(), words) {
@@ -18,13 +85,13 @@ fn show_help(rt: &HostRuntime, words: &[String]) -> u8 {
     }
 }
 
-fn run_job(rt: &HostRuntime, job: &Job) -> u8
+fn run_job(rt: &HostRuntime, plan: &Plan, job: &Job) -> u8
     requires { IsSound (asked_by_job job.now) }
 {
     let mut out = WriteOutput::new(rt.stdout());
     match answer(rt.alloc(), job, &mut out) {
         Ok(_) => 0,
-        Err(fault) => refuse(rt, &fault, &job.files),
+        Err(fault) => refuse_job(rt, &fault, plan, job),
     }
 }
 
@@ -32,8 +99,8 @@ fn run_plan(rt: &HostRuntime, plan: &Plan) -> u8
     requires { IsSound (asked_by_plan plan.now) }
 {
     match job_of(rt, plan) {
-        Ok(job) => run_job(rt, &job),
-        Err(unread) => refuse_unread(rt, unread),
+        Ok(job) => run_job(rt, plan, &job),
+        Err(unread) => refuse_files(rt, unread),
     }
 }
 
@@ -41,7 +108,7 @@ fn run_words(rt: &HostRuntime, words: &[String]) -> u8 {
     match read_words(rt.alloc(), words) {
         Ok(plan) => run_plan(rt, &plan),
         Err(Fault::Help) => show_help(rt, words),
-        Err(fault) => refuse_early(rt, &fault),
+        Err(fault) => refuse_words(rt, &fault, words),
     }
 }
 

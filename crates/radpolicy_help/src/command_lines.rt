@@ -1,0 +1,102 @@
+//! Help for a command line, and for files that could not be read.
+
+ghost use Rattle.std.specs.Prelude.{◌≡◌, true, IfOk};
+ghost use Rattle.radpolicy_common.specs.VisibleText.{all_visible};
+ghost use Rattle.radpolicy_common.specs.declared.terminals.LineBreaks.TheVariants.{Kept};
+
+use crate::nearest::nearest_of;
+use crate::texts::{push_all, push_choices};
+use radpolicy::{Fault, help_text, option_text};
+use radpolicy_common::{LineBreaks, visible_text};
+use std::alloc::{AllocError, Global};
+
+const COMMANDS: [&str; 5] = ["run", "step", "encode", "decode", "check"];
+
+// Adds the commands that may have been meant.
+fn push_commands(alloc: Global, help: &mut Vec<u8>, word: &str) -> Result<(), AllocError> {
+    let names = nearest_of(alloc, word, &COMMANDS)?;
+    if !names.is_empty() && !COMMANDS.contains(&word) {
+        push_all(help, &["write "])?;
+        push_choices(help, &names)?;
+        push_all(help, &["\n"])?;
+    }
+    Ok(())
+}
+
+// What is said of words that ask for nothing that there is; without words, the whole help.
+fn usage_help(alloc: Global, words: &[String]) -> Result<Vec<u8>, AllocError> {
+    let mut help = Vec::new(alloc);
+    match words {
+        [_, command, ..] => {
+            push_all(&mut help, &[help_text(alloc, words)?.as_str()])?;
+            push_commands(alloc, &mut help, command.as_str())?;
+        }
+        _ => push_all(
+            &mut help,
+            &[help_text(alloc, &["radpolicy", "--help"])?.as_str()],
+        )?,
+    }
+    Ok(help)
+}
+
+fn option_help(alloc: Global, words: &[String]) -> Result<Vec<u8>, AllocError> {
+    let mut help = Vec::new(alloc);
+    let text = option_text(alloc, words)?;
+    if !text.is_empty() {
+        push_all(
+            &mut help,
+            &[
+                text,
+                "\nradpolicy COMMAND --help lists a command's options\n",
+            ],
+        )?;
+    }
+    Ok(help)
+}
+
+/// What is said of the words of a command line that were refused for this: which word or option, what it takes, and how
+/// to ask for the help. It is empty where there is nothing to say.
+pub fn explain_words(alloc: Global, fault: &Fault, words: &[String]) -> Result<Vec<u8>, AllocError>
+    ensures visible { IfOk result (λ text. all_visible Kept text.items ≡ true) }
+{
+    let help = match fault {
+        Fault::Usage => usage_help(alloc, words)?,
+        Fault::OptionValue => option_help(alloc, words)?,
+        _ => Vec::new(alloc),
+    };
+    visible_text(alloc, &help, LineBreaks::Kept)
+}
+
+/// What is said of a file that could not be read.
+pub fn explain_unread(alloc: Global, path: &str, is_folder: bool) -> Result<Vec<u8>, AllocError>
+    ensures visible { IfOk result (λ text. all_visible Kept text.items ≡ true) }
+{
+    let mut help = Vec::new(alloc);
+    if is_folder {
+        push_all(
+            &mut help,
+            &[
+                path,
+                " is a folder\nfor dictionaries write its files: ",
+                path.trim_end_matches('/'),
+                "/dictionary*\n",
+            ],
+        )?;
+    } else if path == "-" {
+        push_all(
+            &mut help,
+            &["standard input could not be read, or has more than 16777216 octets\n"],
+        )?;
+    } else {
+        push_all(
+            &mut help,
+            &[
+                "there is no such file, or you may not read it, or it has more than 16777216 octets\n\
+            look at it: ls -l ",
+                path,
+                "\n",
+            ],
+        )?;
+    }
+    visible_text(alloc, &help, LineBreaks::Kept)
+}

@@ -1,0 +1,30 @@
+//! Help for a person who reads a fault: the place in the file, what was found there, and what to do.
+//!
+//! [`explain`] makes the help for a fault, and [`print_with_help`] prints it after the fault's line.
+#![tactic(auto)]
+
+mod command_lines;
+mod contexts;
+mod dictionaries;
+mod explanations;
+mod names;
+mod nearest;
+mod packets;
+mod places;
+mod pointing;
+mod policies;
+mod policy_tokens;
+mod printing;
+mod requests;
+mod sources;
+mod texts;
+mod values;
+mod wishes;
+mod written_pairs;
+
+pub use command_lines::{explain_unread, explain_words};
+pub use explanations::explain;
+pub use pointing::{Pointed, point_at};
+pub use printing::print_with_help;
+pub use sources::{Source, Sources};
+pub use wishes::is_help_wanted;

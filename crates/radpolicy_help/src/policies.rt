@@ -1,0 +1,413 @@
+//! Help for faults of policies.
+
+use crate::contexts::{Context, Expected, context_after, expected_text, is_code};
+use crate::names::nearest_attributes;
+use crate::nearest::nearest_of;
+use crate::places::push_place;
+use crate::policy_tokens::{from_token, text_of, token_of};
+use crate::sources::Sources;
+use crate::texts::{push_all, push_choices};
+use crate::values::push_not_value;
+use avp_unlang::{PolicyFault, PolicyKind};
+use std::alloc::{AllocError, Global};
+
+const STATEMENT_WORDS: [&str; 10] = [
+    "update",
+    "if",
+    "elsif",
+    "else",
+    "transaction",
+    "ok",
+    "noop",
+    "updated",
+    "fail",
+    "reject",
+];
+
+const LISTS: [&str; 3] = ["request", "reply", "control"];
+
+const CODES: [&str; 5] = ["ok", "noop", "updated", "fail", "reject"];
+
+// What to do where a statement begins with a word of the server's language.
+fn statement_hint(word: &str) -> Option<&'static str> {
+    match word {
+        "switch" | "case" => {
+            Some("switch is left out here: write if (&Name == value) { .. } elsif (..) { .. }")
+        }
+        "foreach" | "break" => Some("loops are left out here: write a statement for each value"),
+        "authorize"
+        | "authenticate"
+        | "preacct"
+        | "accounting"
+        | "session"
+        | "post-auth"
+        | "pre-proxy"
+        | "post-proxy"
+        | "server"
+        | "policy"
+        | "Post-Auth-Type"
+        | "Auth-Type" => {
+            Some("a section's own line is left out here: write only what is between its { and }")
+        }
+        "else" | "elsif" => Some("else and elsif follow the } of an if"),
+        "return" | "handled" | "invalid" | "userlock" | "notfound" | "disallow" => {
+            Some("of the server's codes there are ok, noop, updated, fail and reject")
+        }
+        "group"
+        | "redundant"
+        | "load-balance"
+        | "redundant-load-balance"
+        | "parallel"
+        | "limit"
+        | "actions" => Some("this block is left out here: write only what it would run"),
+        _ => None,
+    }
+}
+
+// What to do where no statement begins with a word.
+fn push_statement_hint(
+    alloc: Global,
+    help: &mut Vec<u8>,
+    word: &str,
+    next: &str,
+) -> Result<(), AllocError> {
+    if let Some(hint) = statement_hint(word) {
+        return push_all(help, &[hint, "\n"]);
+    }
+    let names = nearest_of(alloc, word, &STATEMENT_WORDS)?;
+    if !names.is_empty() {
+        push_all(help, &["write "])?;
+        push_choices(help, &names)?;
+        push_all(help, &["\n"])
+    } else if next == "{" {
+        push_all(
+            help,
+            &[
+                "a section's or policy's own line is left out here: write only what is between its { \
+            and }\n",
+            ],
+        )
+    } else {
+        push_all(
+            help,
+            &["modules are left out here: write what it would set, as update control { .. }\n"],
+        )
+    }
+}
+
+// What to do where a condition goes on otherwise.
+fn condition_hint(context: &Context<'_>, found: &str) -> &'static str {
+    match (context.expected, found) {
+        (_, "=~" | "!~") => {
+            "regular expressions are left out here: write == and the whole text, or for a \
+            beginning &Name >= \"02-00\" && &Name < \"02-01\""
+        }
+        (Expected::Relation, "=" | ":=") => "to compare, write ==; = and := set attributes",
+        (Expected::Relation, "===" | "!==") => "to compare, write == or !=",
+        (Expected::Relation | Expected::Joint, "{") => "a ) is missing before it",
+        (Expected::Operand | Expected::Comparand, ")" | "{") => "what is compared is missing",
+        (Expected::Comparand, "(") => "write a value, not a cast or an expression",
+        (Expected::Operand, "<") => "casts are left out here: write &Name alone",
+        (Expected::Operand, _) => "write &Name to test or compare an attribute",
+        (Expected::Relation | Expected::Joint, _) => {
+            "put a text with blanks into quotes, and && or || between two conditions"
+        }
+        _ => "write the attribute's name after the &",
+    }
+}
+
+fn update_hint(context: &Context<'_>, found: &str) -> &'static str {
+    match (context.expected, found) {
+        (Expected::Operator, "=~" | "!~" | "!=" | "<=" | ">=" | "<" | ">") => {
+            "to set an attribute, write :=; comparisons belong into if ( .. )"
+        }
+        (Expected::Operator, "[") => "instances by number are left out here: write the name alone",
+        (Expected::Operator, _) => "write := between the attribute and its value",
+        (Expected::Value, "}") => "the value is missing",
+        (Expected::Value, _) => "put a text with other signs or blanks into quotes",
+        (Expected::Line, "if" | "else" | "elsif") => "an update has only lines that set attributes",
+        (Expected::Line, _) =>
+            "end the update with } before it, or put a text with blanks into quotes",
+        _ => "write the attribute's name after the &",
+    }
+}
+
+fn push_list_hint(alloc: Global, help: &mut Vec<u8>, found: &str) -> Result<(), AllocError> {
+    if found.starts_with("outer.") || found.contains("proxy") || found == "session-state" {
+        return push_all(
+            help,
+            &["of the server's lists there are request, reply and control\n"],
+        );
+    }
+    let names = nearest_of(alloc, found, &LISTS)?;
+    if names.is_empty() {
+        return push_all(
+            help,
+            &["write update reply { .. } to set what the reply has\n"],
+        );
+    }
+    push_all(help, &["write "])?;
+    push_choices(help, &names)?;
+    push_all(help, &["\n"])
+}
+
+// What to do about a token that does not fit.
+fn push_misplaced_hint(
+    alloc: Global,
+    help: &mut Vec<u8>,
+    context: &Context<'_>,
+    found: &str,
+    next: &str,
+) -> Result<(), AllocError> {
+    let hint = match context.expected {
+        Expected::Statement if found == "}" => "no block is open: take this } out",
+        Expected::Statement => return push_statement_hint(alloc, help, found, next),
+        Expected::UpdateList => return push_list_hint(alloc, help, found),
+        Expected::StatementBlock if context.keyword == "else" && found == "if" => "write elsif",
+        Expected::StatementBlock | Expected::LineBlock => "a { is missing before it",
+        Expected::Condition => "write the condition between ( and )",
+        Expected::Line | Expected::Operator | Expected::Value | Expected::Source => {
+            update_hint(context, found)
+        }
+        Expected::Operand
+        | Expected::Reference
+        | Expected::Relation
+        | Expected::Comparand
+        | Expected::ComparedReference
+        | Expected::Joint => condition_hint(context, found),
+    };
+    push_all(help, &[hint, "\n"])
+}
+
+// What to do about a text that ends too early.
+fn push_end_hint(
+    alloc: Global,
+    help: &mut Vec<u8>,
+    context: &Context<'_>,
+    sources: &Sources<'_>,
+) -> Result<(), AllocError> {
+    if context.brackets > 0 {
+        push_all(
+            help,
+            &["a ( is open: write ) for it; its condition begins here:\n"],
+        )?;
+        return push_place(alloc, help, sources.policy, context.begin);
+    }
+    match context.blocks.as_slice().last() {
+        Some(block) => {
+            push_all(
+                help,
+                &["a block is open: write } for it; it begins here:\n"],
+            )?;
+            push_place(alloc, help, sources.policy, block.offset)
+        }
+        None => push_all(help, &["what is begun on the last line is not ended\n"]),
+    }
+}
+
+fn push_misplaced(
+    alloc: Global,
+    help: &mut Vec<u8>,
+    context: &Context<'_>,
+    sources: &Sources<'_>,
+    found: &str,
+    next: &str,
+) -> Result<(), AllocError> {
+    let expected = expected_text(context.expected, !context.blocks.is_empty());
+    if found.is_empty() {
+        push_all(help, &["the text ends; here may be ", expected, "\n"])?;
+        return push_end_hint(alloc, help, context, sources);
+    }
+    push_all(help, &["found ", found, "; here may be ", expected, "\n"])?;
+    push_misplaced_hint(alloc, help, context, found, next)
+}
+
+// What to do about a text between double quotes with an expansion that is none.
+fn expansion_hint(text: &str) -> &'static str {
+    if text.contains("%{%{") {
+        "defaults in expansions are left out here: write if (&Name) { .. } else { .. }"
+    } else if text.contains("%{") && text.contains(":") {
+        "%{Name}, %{reply:Name} and %{control:Name} may be put into a text; modules, as sql, and \
+        counts, casts and functions are left out here"
+    } else if text.contains("%{") {
+        "in an update %{Name} is put into a text; in a condition compare with &Name"
+    } else {
+        "write %% for a % in a text between double quotes"
+    }
+}
+
+// What to do about what is no token, by its first octets.
+fn unreadable_hint(found: &str) -> &'static str {
+    if found.starts_with("\"") || found.starts_with("'") {
+        let is_ended = found.len() > 1
+            && found.ends_with(if found.starts_with("'") { "'" } else { "\"" });
+        if is_ended {
+            expansion_hint(found)
+        } else {
+            "the text has no closing quote on its line"
+        }
+    } else if found.starts_with("[") {
+        "instances by number are left out here: &Name is the first one"
+    } else if found.starts_with("$") {
+        "variables of the server's configuration are left out here: write the value"
+    } else if found.starts_with("%") {
+        "an expansion may be in double quotes only: \"%{Name}\""
+    } else if found.starts_with("\\") {
+        "lines that go on are left out here: write the line in one piece"
+    } else if found.starts_with("~") || found.starts_with("*") {
+        "regular expressions and patterns are left out here: write == and the whole text"
+    } else {
+        "put a text with other signs than letters, digits and - _ . / : @ into quotes"
+    }
+}
+
+// The name of an attribute in a word: without its list, and without the quotes and signs of an expansion.
+fn name_in(found: &str) -> &str {
+    let word = match found.split_once("%{") {
+        Some((_, rest)) => match rest.split_once("}") {
+            Some((word, _)) => word,
+            None => rest,
+        },
+        None => found,
+    };
+    match word.split_once(":") {
+        Some(("request" | "reply" | "control", name)) => name,
+        _ => word,
+    }
+}
+
+fn push_unknown_hint(
+    alloc: Global,
+    help: &mut Vec<u8>,
+    sources: &Sources<'_>,
+    context: &Context<'_>,
+    name: &str,
+) -> Result<(), AllocError> {
+    if name.starts_with("outer.")
+        || name.starts_with("proxy-")
+        || name.starts_with("session-state")
+    {
+        return push_all(
+            help,
+            &["of the server's lists there are request, reply and control\n"],
+        );
+    }
+    if context.expected == Expected::Operand {
+        let codes = nearest_of(alloc, name, &CODES)?;
+        if !codes.is_empty() && !is_code(name) {
+            push_all(help, &["write "])?;
+            push_choices(help, &codes)?;
+            return push_all(help, &["\n"]);
+        }
+    }
+    if let Some((_, tag)) = name.split_once(":") {
+        if tag.len() <= 2 {
+            return push_all(
+                help,
+                &["write the name without its tag, and 0x, the tag and the number as the value\n"],
+            );
+        }
+    }
+    let Some(dictionary) = &sources.dictionary(alloc) else {
+        return Ok(());
+    };
+    push_nearest_attributes(help, &nearest_attributes(alloc, dictionary, name)?)
+}
+
+/// Adds the names that may have been meant.
+pub(crate) fn push_nearest_attributes(
+    help: &mut Vec<u8>,
+    names: &[&str],
+) -> Result<(), AllocError> {
+    if names.is_empty() {
+        return push_all(
+            help,
+            &["give the dictionary file that has its ATTRIBUTE line, and include it\n"],
+        );
+    }
+    push_all(help, &["write "])?;
+    push_choices(help, names)?;
+    push_all(help, &["\n"])
+}
+
+// What was found, and what to do, by the fault's kind.
+fn push_sentences(
+    alloc: Global,
+    help: &mut Vec<u8>,
+    kind: PolicyKind,
+    context: &Context<'_>,
+    sources: &Sources<'_>,
+    found: &str,
+    next: &str,
+) -> Result<(), AllocError> {
+    match kind {
+        PolicyKind::Misplaced => push_misplaced(alloc, help, context, sources, found, next),
+        PolicyKind::Unreadable => {
+            push_all(help, &["found ", found, "\n", unreadable_hint(found), "\n"])
+        }
+        PolicyKind::Unknown => {
+            let name = name_in(found);
+            push_all(help, &["no attribute has the name ", name, "\n"])?;
+            push_unknown_hint(alloc, help, sources, context, name)
+        }
+        PolicyKind::NotValue => {
+            push_not_value(alloc, help, sources, name_in(context.name), found)
+        }
+        PolicyKind::TooLong => push_all(
+            help,
+            &[
+                "a value of ",
+                name_in(context.name),
+                " has fewer octets than this text\nshorten it\n",
+            ],
+        ),
+        PolicyKind::NotWritable => push_all(
+            help,
+            &[
+                name_in(found),
+                " is not written under this name\nwrite the attribute's own name: that \
+            of the vendor's attribute, or User-Password\n",
+            ],
+        ),
+        PolicyKind::TooDeep => push_all(help, &["64 signs { ( and ! are open here already\n"]),
+        PolicyKind::TooLarge => push_all(help, &["a policy has at most 65535 lines and words\n"]),
+        PolicyKind::OtherType => push_all(
+            help,
+            &[
+                "both attributes have to be of one type, and ",
+                name_in(context.name),
+                " and ",
+                name_in(found),
+                " are not\nput it into a text: \"%{",
+                found,
+                "}\"\n",
+            ],
+        ),
+        PolicyKind::Memory => Ok(()),
+    }
+}
+
+/// What is said of a policy's fault.
+pub(crate) fn policy_help(
+    alloc: Global,
+    fault: PolicyFault,
+    sources: &Sources<'_>,
+) -> Result<Vec<u8>, AllocError> {
+    let text = sources.policy.text;
+    let (front, back) = text.split_at(fault.offset.min(text.len()));
+    let context = context_after(alloc, front)?;
+    let found = token_of(back);
+    let next = text_of(token_of(from_token(back.get(found.len()..).unwrap_or(&[]))));
+    let mut help = Vec::new(alloc);
+    push_place(alloc, &mut help, sources.policy, fault.offset)?;
+    push_sentences(
+        alloc,
+        &mut help,
+        fault.kind,
+        &context,
+        sources,
+        text_of(found),
+        next,
+    )?;
+    Ok(help)
+}

@@ -1,0 +1,118 @@
+//! The tokens of a policy's text, for what is said of a place in it.
+
+use std::alloc::{AllocError, Global};
+use std::str;
+
+/// A token, and how many octets of the text are before it.
+#[derive(Clone, Copy)]
+pub(crate) struct Token<'a> {
+    pub offset: usize,
+    pub octets: &'a [u8],
+}
+
+fn is_blank(octet: u8) -> bool {
+    matches!(octet, b' ' | b'\t' | b'\r' | b'\n')
+}
+
+fn is_word_octet(octet: u8) -> bool {
+    octet.is_ascii_alphanumeric() || matches!(octet, b'-' | b'_' | b'.' | b'/' | b':' | b'@')
+}
+
+/// Octets as text; what is no UTF-8 is none.
+pub(crate) fn text_of(octets: &[u8]) -> &str {
+    str::from_utf8(octets).unwrap_or("")
+}
+
+impl<'a> Token<'a> {
+    pub(crate) fn text(&self) -> &'a str {
+        text_of(self.octets)
+    }
+
+    pub(crate) fn is_word(&self) -> bool {
+        match self.octets {
+            [first, ..] => is_word_octet(*first),
+            [] => false,
+        }
+    }
+}
+
+/// What is left of a text after the blanks and comments that it begins with.
+pub(crate) fn from_token(text: &[u8]) -> &[u8] {
+    let mut in_comment = false;
+    for (at, octet) in text.iter().enumerate() {
+        in_comment = (in_comment || *octet == b'#') && *octet != b'\n';
+        if !in_comment && !is_blank(*octet) {
+            return &text[at..];
+        }
+    }
+    &[]
+}
+
+fn word_length(text: &[u8]) -> usize {
+    for (at, octet) in text.iter().enumerate() {
+        let is_sign = matches!(*octet, b':' | b'-') && text.get(at + 1) == Some(&b'=');
+        if is_sign || !is_word_octet(*octet) {
+            return at;
+        }
+    }
+    text.len()
+}
+
+// The octets of a text between quotes, the quotes included. It ends on its line.
+fn quoted_length(text: &[u8]) -> usize {
+    let mark = text.first();
+    let mut is_escaped = true;
+    for (at, octet) in text.iter().enumerate() {
+        if *octet == b'\n' {
+            return at;
+        }
+        if !is_escaped && mark == Some(octet) {
+            return at + 1;
+        }
+        is_escaped = !is_escaped && *octet == b'\\';
+    }
+    text.len()
+}
+
+// The signs of two octets, those included that only a server's language has.
+fn is_double(first: u8, second: u8) -> bool {
+    match first {
+        b'|' | b'&' => first == second,
+        b'=' | b'!' => matches!(second, b'=' | b'~' | b'*'),
+        b':' | b'+' | b'^' | b'-' | b'<' | b'>' => second == b'=',
+        _ => false,
+    }
+}
+
+/// How many octets has the token that begins a text.
+pub(crate) fn token_length(text: &[u8]) -> usize {
+    match text {
+        [] => 0,
+        [b'"' | b'\'', ..] => quoted_length(text),
+        [first, second, ..] if is_double(*first, *second) => 2,
+        _ => word_length(text).max(1),
+    }
+}
+
+/// The token that begins a text; none at its end.
+pub(crate) fn token_of(text: &[u8]) -> &[u8] {
+    text.get(..token_length(text)).unwrap_or(text)
+}
+
+/// The tokens of a text.
+pub(crate) fn tokens(alloc: Global, text: &[u8]) -> Result<Vec<Token<'_>>, AllocError> {
+    let mut tokens = Vec::new(alloc);
+    let mut rest = from_token(text);
+    for _ in 0..text.len() {
+        let octets = token_of(rest);
+        if octets.is_empty() {
+            break;
+        }
+        tokens.push(Token {
+            offset: text.len().saturating_sub(rest.len()),
+            octets,
+        })?;
+        rest = from_token(rest.get(octets.len()..).unwrap_or(&[]));
+    }
+    Ok(tokens)
+}

@@ -1,0 +1,119 @@
+//! Help for faults of request lines.
+
+use crate::names::nearest_attributes;
+use crate::places::{first_line, line_start, push_place};
+use crate::policies::push_nearest_attributes;
+use crate::policy_tokens::text_of;
+use crate::sources::{Source, Sources};
+use crate::texts::push_all;
+use crate::values::push_not_value;
+use crate::written_pairs::{WrittenPair, refused_pair};
+use avp_dict::{LineFault, LineKind};
+use std::alloc::{AllocError, Global};
+
+// What to do about a line that is none, by what is at the place.
+fn unreadable_hint(rest: &str) -> &'static str {
+    if rest.starts_with("\"") || rest.starts_with("'") {
+        "a text in quotes follows an =, and its closing quote is on the same line"
+    } else if rest.starts_with(":=") || rest.starts_with("+=") || rest.starts_with("==") {
+        "in a request write = between an attribute and its value"
+    } else if rest.is_empty() {
+        "write = and a value after the attribute"
+    } else if rest.starts_with("=") || rest.starts_with(",") {
+        "write the attribute before the =, and its value after it"
+    } else {
+        "put a text with blanks into quotes, and a comma or a line end between pairs"
+    }
+}
+
+fn push_unknown(
+    alloc: Global,
+    help: &mut Vec<u8>,
+    sources: &Sources<'_>,
+    name: &str,
+) -> Result<(), AllocError> {
+    push_all(help, &["no attribute has the name ", name, "\n"])?;
+    if name.ends_with(":") {
+        return push_all(
+            help,
+            &["in a request write = between an attribute and its value\n"],
+        );
+    }
+    if name.contains(":") {
+        return push_all(
+            help,
+            &["write the name without its tag, and 0x, the tag and the number as the value\n"],
+        );
+    }
+    if let Some(dictionary) = &sources.dictionary(alloc) {
+        push_nearest_attributes(help, &nearest_attributes(alloc, dictionary, name)?)?;
+    }
+    Ok(())
+}
+
+// What was found, and what to do, by the fault's kind.
+fn push_sentences(
+    alloc: Global,
+    help: &mut Vec<u8>,
+    kind: LineKind,
+    sources: &Sources<'_>,
+    pair: &WrittenPair<'_>,
+    rest: &str,
+) -> Result<(), AllocError> {
+    let (name, value) = (text_of(pair.name), text_of(pair.value));
+    match kind {
+        LineKind::Unknown => push_unknown(alloc, help, sources, name),
+        LineKind::NotValue => push_not_value(alloc, help, sources, name, value),
+        LineKind::TooLong => push_all(
+            help,
+            &[
+                "a value of ",
+                name,
+                " has fewer octets than this text\nshorten it\n",
+            ],
+        ),
+        LineKind::NotWritable => push_all(
+            help,
+            &[
+                name,
+                " is not written under this name\nwrite the attribute's own name: that of the \
+            vendor's attribute, or User-Password\n",
+            ],
+        ),
+        LineKind::SecondPacket => push_all(
+            help,
+            &[
+                "a blank line ended the request, and another one begins\ntake the blank line out, or \
+            give each request a file of its own\n",
+            ],
+        ),
+        LineKind::TooMany => push_all(help, &["a request has at most 4096 attributes\n"]),
+        LineKind::Unreadable => push_all(
+            help,
+            &[
+                "a line is Name = value, with a comma between two pairs\n",
+                unreadable_hint(rest),
+                "\n",
+            ],
+        ),
+        LineKind::Memory => Ok(()),
+    }
+}
+
+/// What is said of a fault of lines.
+pub(crate) fn line_help(
+    alloc: Global,
+    fault: LineFault,
+    source: Source<'_>,
+    sources: &Sources<'_>,
+) -> Result<Vec<u8>, AllocError> {
+    let start = line_start(source.text, fault.line);
+    let line = first_line(source.text.get(start..).unwrap_or(&[]));
+    let dictionary = sources.dictionary(alloc);
+    let (pair, offset) = refused_pair(alloc, fault.kind, line, dictionary.as_ref())?;
+    let rest = text_of(line.get(offset..).unwrap_or(&[]));
+    let mut help = Vec::new(alloc);
+    push_place(alloc, &mut help, source, start.saturating_add(offset))?;
+    push_sentences(alloc, &mut help, fault.kind, sources, &pair, rest)?;
+    Ok(help)
+}

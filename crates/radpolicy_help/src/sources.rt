@@ -1,0 +1,61 @@
+//! The files that a fault may be in.
+
+use avp_dict::{Dictionary, FileSet};
+use avp_lists::Octets;
+use radpolicy::{Job, Plan};
+use std::alloc::Global;
+
+/// A file, as it was named on the command line, and what it holds.
+#[derive(Clone, Copy)]
+pub struct Source<'a> {
+    pub path: &'a str,
+    pub text: &'a [u8],
+}
+
+/// The files of a job.
+#[derive(Drop)]
+pub struct Sources<'a> {
+    pub files: &'a FileSet,
+    /// The paths of the dictionary files.
+    pub dictionaries: &'a [&'a str],
+    pub request: Source<'a>,
+    pub policy: Source<'a>,
+    pub script: Source<'a>,
+    /// The path of the secret's file.
+    pub secret: &'a str,
+}
+
+// The name of what has no path.
+const STANDARD_INPUT: &str = "<stdin>";
+
+fn source_at<'a>(path: Option<&'a str>, octets: Option<&'a Octets>) -> Source<'a> {
+    Source {
+        path: path.unwrap_or(STANDARD_INPUT),
+        text: match octets {
+            Some(octets) => octets.as_slice(),
+            None => &[],
+        },
+    }
+}
+
+impl<'a> Sources<'a> {
+    /// The files of a job that was made by a plan.
+    pub fn of_job(plan: &'a Plan<'a>, job: &'a Job) -> Sources<'a> {
+        Sources {
+            files: &job.files,
+            dictionaries: plan.dictionaries.as_slice(),
+            request: source_at(plan.request, Some(&job.request)),
+            policy: source_at(plan.policy, job.policy.as_ref()),
+            script: source_at(plan.script, job.script.as_ref()),
+            secret: plan.secret.unwrap_or(""),
+        }
+    }
+
+    /// The dictionary; none where it is refused.
+    pub(crate) fn dictionary(&self, alloc: Global) -> Option<Dictionary> {
+        if self.files.is_empty() || !self.files.has_distinct_names() {
+            return None;
+        }
+        Dictionary::read(alloc, self.files).ok()
+    }
+}

@@ -1,0 +1,5 @@
+//! Tests of the public calls of `radpolicy_help`.
+#![tactic(auto)]
+
+#[cfg(test)]
+mod helps;

@@ -1,0 +1,98 @@
+"""The help after a fault's line: each folder here has files, a command, and in `wanted` the texts that a terminal has to
+show. In a pipe the fault's line stays alone."""
+import glob
+import os
+import pty
+import subprocess
+from pathlib import Path
+from typing import Dict, List, Optional, Sequence, Tuple
+
+from common.report import Report
+from common.subject import Subject, on_all
+
+HERE = Path(__file__).parent
+DEADLINE = 120
+
+
+def environment(wish: Optional[str]) -> Dict[str, str]:
+    """The environment of a run, in which the caller's wishes play no part."""
+    kept = {name: value for name, value in os.environ.items() if name not in ("RADPOLICY_HELP", "NO_COLOR")}
+    return kept if wish is None else {**kept, "RADPOLICY_HELP": wish}
+
+
+def words_of(folder: Path) -> List[str]:
+    """The command's words; one that a shell would take for paths of files becomes these."""
+    words: List[str] = []
+    for word in (folder / "command").read_text().split():
+        found = sorted(glob.glob(str(folder / word))) if "*" in word else []
+        words += [os.path.relpath(path, folder) for path in found] or [word]
+    return words
+
+
+def in_pipe(program: Path, folder: Path, words: Sequence[str], wish: Optional[str]) -> Tuple[int, bytes, bytes]:
+    """Status, output and errors of a run whose errors go into a pipe."""
+    ended = subprocess.run(
+        [program, *words], cwd=folder, stdin=subprocess.DEVNULL, capture_output=True, env=environment(wish),
+        timeout=DEADLINE, check=False)
+    return ended.returncode, ended.stdout, ended.stderr
+
+
+def read_all(terminal: int) -> bytes:
+    """What comes from a terminal until its other side is closed."""
+    parts = []
+    while True:
+        try:
+            part = os.read(terminal, 65536)
+        except OSError:
+            break
+        if not part:
+            break
+        parts.append(part)
+    return b"".join(parts)
+
+
+def on_terminal(program: Path, folder: Path, words: Sequence[str], wish: Optional[str]) -> Tuple[int, bytes, bytes]:
+    """The same of a run whose errors go to a terminal."""
+    own, other = pty.openpty()
+    try:
+        with subprocess.Popen(
+                [program, *words], cwd=folder, stdin=subprocess.DEVNULL, stdout=subprocess.PIPE, stderr=other,
+                env=environment(wish)) as process:
+            os.close(other)
+            errors = read_all(own)
+            output = process.stdout.read()
+            status = process.wait(DEADLINE)
+    finally:
+        os.close(own)
+    return status, output, errors.replace(b"\r\n", b"\n")
+
+
+def is_shown(text: str, shown: str) -> bool:
+    """Whether a text is somewhere in what is shown; a caret with the blanks before it has to be a whole line."""
+    return text in (shown.splitlines() if text.strip() == "^" else shown)
+
+
+def faults_of(program: Path, folder: Path) -> List[str]:
+    """What is wrong with the help of a folder's command."""
+    words = words_of(folder)
+    wanted = (folder / "wanted").read_text().splitlines()
+    line = (wanted[0] + "\n").encode()
+    status, output, errors = on_terminal(program, folder, words, None)
+    shown = errors.decode("utf-8", "replace")
+    wrong = [f"not shown: {text!r} in {shown!r}" for text in wanted if not is_shown(text, shown)]
+    if output or not errors.startswith(line):
+        wrong.append(f"output {output!r}, errors {errors!r}")
+    for run, wish, lines in [
+            (in_pipe, "always", errors), (in_pipe, None, line), (in_pipe, "never", line), (on_terminal, "never", line)]:
+        found = run(program, folder, words, wish)
+        if found != (status, b"", lines):
+            wrong.append(f"{run.__name__} with {wish}: {found!r}, not {(status, b'', lines)!r}")
+    controls = [octet for octet in errors if octet < 32 and octet != 10 or octet == 127]
+    return wrong + ([f"control characters {controls}"] if controls else [])
+
+
+def check(subject: Subject, report: Report) -> None:
+    folders = sorted(path.parent for path in HERE.glob("*/wanted"))
+    found = on_all(lambda folder: faults_of(subject.program, folder), folders)
+    for folder, wrong in zip(folders, found):
+        report.check(f"help: {folder.name}", wrong)
