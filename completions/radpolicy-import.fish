@@ -1,0 +1,11 @@
+# Completes the words of radpolicy-import in fish.
+complete -c radpolicy-import -s h -l help -f -d 'Print help'
+complete -c radpolicy-import -l server -x -d 'Virtual server'
+complete -c radpolicy-import -l section -x -a 'authorize authenticate preacct accounting session post-auth' -d 'Section'
+complete -c radpolicy-import -l policy -x -d 'Named policy in place of a section'
+complete -c radpolicy-import -l module -r -F -d 'Code or policy file for a module'
+complete -c radpolicy-import -l dict -r -F -d 'Dictionary file'
+complete -c radpolicy-import -s o -r -F -d 'File for the policy'
+complete -c radpolicy-import -l plain -d 'Keep conditions and updates as they are written'
+complete -c radpolicy-import -l check -d 'Write the report alone'
+complete -c radpolicy-import -l strict -d 'Status 1 if a part is left out'

@@ -1,0 +1,205 @@
+//! The words of the command line.
+
+ghost use Rattle.std.specs.Prelude.{IfErr};
+ghost use Rattle.radpolicy.specs.Faults.{IsWordFault};
+
+use clap::error::ErrorKind;
+use clap::{Arg, ArgAction, ArgMatches};
+use radpolicy::Fault;
+use radpolicy_import_policies::Meaning;
+use std::alloc::{AllocError, Global};
+use std::convert::AsStr;
+
+const SERVER: &str = "server";
+
+const SECTION: &str = "section";
+
+const POLICY: &str = "policy";
+
+const MODULE: &str = "module";
+
+const DICTIONARY: &str = "dict";
+
+const OUTPUT: &str = "output";
+
+const PLAIN: &str = "plain";
+
+const CHECK: &str = "check";
+
+const STRICT: &str = "strict";
+
+const CONFIGURATION: &str = "configuration";
+
+/// What a command line asks for.
+#[derive(Drop)]
+pub struct Plan<'a> {
+    pub server: Option<&'a str>,
+    /// A section, and after a `/` the type of one in it.
+    pub section: Option<&'a str>,
+    pub policy: Option<&'a str>,
+    /// `NAME=CODE` or `NAME=FILE` each.
+    pub modules: Vec<&'a str>,
+    /// Dictionary files, the main one first; none for those of a server.
+    pub dictionaries: Vec<&'a str>,
+    pub output: Option<&'a str>,
+    pub meaning: Meaning,
+    pub only_checks: bool,
+    pub strict: bool,
+    /// A server's folder, or files.
+    pub configuration: Vec<&'a str>,
+}
+
+fn valued<'a>(alloc: Global, name: &'a str, value: &'a str, help: &'a str) -> Arg<'a> {
+    Arg::new(alloc, name)
+        .long(name)
+        .value_name(value)
+        .action(ArgAction::Set)
+        .help(help)
+}
+
+fn repeated<'a>(alloc: Global, name: &'a str, value: &'a str, help: &'a str) -> Arg<'a> {
+    Arg::new(alloc, name)
+        .long(name)
+        .value_name(value)
+        .action(ArgAction::Append)
+        .help(help)
+}
+
+fn flag<'a>(alloc: Global, name: &'a str, help: &'a str) -> Arg<'a> {
+    Arg::new(alloc, name)
+        .long(name)
+        .action(ArgAction::SetTrue)
+        .help(help)
+}
+
+fn output_option<'a>(alloc: Global) -> Arg<'a> {
+    Arg::new(alloc, OUTPUT)
+        .short('o')
+        .value_name("POLICY")
+        .action(ArgAction::Set)
+        .help("Writes the policy to this file")
+}
+
+fn configuration_files<'a>(alloc: Global) -> Arg<'a> {
+    Arg::new(alloc, CONFIGURATION)
+        .required(true)
+        .value_name("RADDB|FILE")
+        .num_args(1..)
+        .action(ArgAction::Append)
+        .help("A server's folder, as /etc/freeradius/3.0, or files of one")
+}
+
+fn program<'a>(alloc: Global) -> Result<clap::Command<'a>, AllocError> {
+    clap::Command::new(alloc, "radpolicy-import")
+        .bin_name("radpolicy-import")?
+        .about("Makes a policy of what a FreeRADIUS server's configuration does in a section")
+        .arg(valued(
+            alloc,
+            SERVER,
+            "NAME",
+            "The virtual server; without it default, or the first",
+        ))?
+        .arg(valued(
+            alloc,
+            SECTION,
+            "SECTION[/TYPE]",
+            "The section, as authorize, post-auth, post-auth/REJECT",
+        ))?
+        .arg(valued(
+            alloc,
+            POLICY,
+            "NAME",
+            "A named policy in place of a section",
+        ))?
+        .arg(repeated(
+            alloc,
+            MODULE,
+            "NAME=CODE|FILE",
+            "What stands for the calls of a module: a code, or a policy's file",
+        ))?
+        .arg(repeated(
+            alloc,
+            DICTIONARY,
+            "DICTIONARY",
+            "A dictionary file, the main one first; without it those in /usr/share/freeradius",
+        ))?
+        .arg(output_option(alloc))?
+        .arg(flag(
+            alloc,
+            PLAIN,
+            "Keeps conditions and updates as they are written",
+        ))?
+        .arg(flag(alloc, CHECK, "Writes the report alone"))?
+        .arg(flag(alloc, STRICT, "Ends with status 1 where a part is left out"))?
+        .arg(configuration_files(alloc))
+}
+
+// The fault of a parse that failed.
+fn fault_of(error: &clap::Error) -> Fault
+    ensures { IsWordFault result }
+{
+    match error.kind() {
+        ErrorKind::DisplayHelp => Fault::Help,
+        ErrorKind::OutOfMemory => Fault::Memory,
+        _ => Fault::Usage,
+    }
+}
+
+fn all_of<'a>(
+    alloc: Global,
+    found: &ArgMatches<'a>,
+    name: &str,
+) -> Result<Vec<&'a str>, AllocError> {
+    match found.get_strs(name) {
+        Some(words) => Vec::from_slice(alloc, words),
+        None => Ok(Vec::new(alloc)),
+    }
+}
+
+fn meaning(found: &ArgMatches<'_>) -> Meaning {
+    if found.get_flag(PLAIN) {
+        Meaning::Plain
+    } else {
+        Meaning::Server
+    }
+}
+
+// A policy is no part of a server, and has no section.
+fn plan_of<'a>(alloc: Global, found: &ArgMatches<'a>) -> Result<Plan<'a>, Fault>
+    ensures { IfErr result IsWordFault }
+{
+    let plan = Plan {
+        server: found.get_str(SERVER),
+        section: found.get_str(SECTION),
+        policy: found.get_str(POLICY),
+        modules: all_of(alloc, found, MODULE)?,
+        dictionaries: all_of(alloc, found, DICTIONARY)?,
+        output: found.get_str(OUTPUT),
+        meaning: meaning(found),
+        only_checks: found.get_flag(CHECK),
+        strict: found.get_flag(STRICT),
+        configuration: all_of(alloc, found, CONFIGURATION)?,
+    };
+    if plan.only_checks && plan.output.is_some() || plan.policy.is_some() && plan.server.is_some() {
+        return Err(Fault::Usage);
+    }
+    Ok(plan)
+}
+
+/// What the words of a command line ask for; the program's name is the first word.
+pub fn read_words<'a, S: AsStr>(alloc: Global, words: &'a [S]) -> Result<Plan<'a>, Fault>
+    ensures { IfErr result IsWordFault }
+{
+    let matches = program(alloc)?
+        .try_get_matches_from(words)
+        .map_err(|error| fault_of(&error))?;
+    plan_of(alloc, &matches)
+}
+
+/// The help that the words of a command line ask for, or what is wrong with them.
+pub fn help_text<'a, S: AsStr>(alloc: Global, words: &'a [S]) -> Result<String, AllocError> {
+    match program(alloc)?.try_get_matches_from(words) {
+        Ok(_) => String::from_str(alloc, ""),
+        Err(error) => error.to_string(alloc),
+    }
+}

@@ -1,0 +1,133 @@
+//! The files that the words of the command line name.
+
+use crate::command_line::Plan;
+use avp_unlang::Code;
+use radpolicy_common::{Unread, read_file};
+use radpolicy_import_policies::{Module, ModuleAnswer};
+use server_configuration::{Files, SystemFiles, Unread as UnreadFile};
+use std::alloc::{AllocError, Global};
+
+/// Where Debian's packages have a server's dictionaries.
+const DICTIONARIES: &[u8] = b"/usr/share/freeradius/";
+
+/// The system's files, and a first one that includes those that were named.
+#[derive(Clone, Copy)]
+pub struct NamedFiles<'a> {
+    pub system: SystemFiles<'a>,
+    pub first: &'a [u8],
+}
+
+/// The name of the first file: no file of the system has it.
+pub const FIRST: &[u8] = b"";
+
+impl Files for NamedFiles<'_> {
+    fn octets(&self, alloc: Global, path: &[u8], limit: usize) -> Result<Vec<u8>, UnreadFile> {
+        if path == FIRST {
+            return Ok(Vec::from_slice(alloc, self.first)?);
+        }
+        self.system.octets(alloc, path, limit)
+    }
+
+    fn names(&self, alloc: Global, folder: &[u8]) -> Result<Vec<Vec<u8>>, UnreadFile> {
+        self.system.names(alloc, folder)
+    }
+
+    fn is_folder(&self, path: &[u8]) -> bool {
+        self.system.is_folder(path)
+    }
+}
+
+/// The path of a server's main file, where its folder is named alone.
+pub fn main_file<F: Files>(
+    alloc: Global,
+    files: &F,
+    plan: &Plan<'_>,
+) -> Result<Option<Vec<u8>>, AllocError> {
+    let [path] = plan.configuration.as_slice() else {
+        return Ok(None);
+    };
+    if !files.is_folder(path.as_bytes()) {
+        return Ok(None);
+    }
+    let mut main = Vec::from_slice(alloc, path.as_bytes())?;
+    if main.last() != Some(&b'/') {
+        main.push(b'/')?;
+    }
+    main.extend_from_slice(b"radiusd.conf")?;
+    Ok(Some(main))
+}
+
+/// What the first file holds, where files are named.
+pub fn first_file(alloc: Global, plan: &Plan<'_>) -> Result<Vec<u8>, AllocError> {
+    let mut text = Vec::new(alloc);
+    for path in &plan.configuration {
+        text.extend_from_slice(b"$INCLUDE \"")?;
+        text.extend_from_slice(path.as_bytes())?;
+        text.extend_from_slice(b"\"\n")?;
+    }
+    Ok(text)
+}
+
+// The path of a dictionary of the system.
+fn dictionary_path(alloc: Global, name: &[u8]) -> Result<Option<String>, AllocError> {
+    let mut path = Vec::from_slice(alloc, DICTIONARIES)?;
+    path.extend_from_slice(name)?;
+    match str::from_utf8(&path) {
+        Ok(path) => Ok(Some(String::from_str(alloc, path)?)),
+        Err(_) => Ok(None),
+    }
+}
+
+/// The dictionaries of the system, the main one first; none where they are not there.
+pub fn system_dictionaries<F: Files>(alloc: Global, files: &F) -> Result<Vec<String>, AllocError> {
+    let mut paths = Vec::new(alloc);
+    let Ok(names) = files.names(alloc, DICTIONARIES) else {
+        return Ok(paths);
+    };
+    if let Some(path) = dictionary_path(alloc, b"dictionary")? {
+        paths.push(path)?;
+    }
+    for name in &names {
+        if name.starts_with(b"dictionary.")
+            && let Some(path) = dictionary_path(alloc, name)?
+        {
+            paths.push(path)?;
+        }
+    }
+    Ok(paths)
+}
+
+fn code_named(word: &str) -> Option<Code> {
+    match word {
+        "ok" => Some(Code::Ok),
+        "noop" => Some(Code::Noop),
+        "updated" => Some(Code::Updated),
+        "fail" => Some(Code::Fail),
+        "reject" => Some(Code::Reject),
+        _ => None,
+    }
+}
+
+// What stands for the calls of a module.
+fn read_answer<'a>(rt: &HostRuntime, word: &'a str) -> Result<ModuleAnswer, Unread<'a>> {
+    match code_named(word) {
+        Some(code) => Ok(ModuleAnswer::Code(code)),
+        None => {
+            let octets = read_file(rt, word)?;
+            let policy = Vec::from_slice(rt.alloc(), octets.as_slice())?;
+            Ok(ModuleAnswer::Policy(policy))
+        }
+    }
+}
+
+/// What stands for the calls of modules. A word without `=` names a module whose calls do nothing.
+pub fn read_modules<'a>(rt: &HostRuntime, plan: &Plan<'a>) -> Result<Vec<Module>, Unread<'a>> {
+    let mut modules = Vec::new(rt.alloc());
+    for word in &plan.modules {
+        let (name, answer) = word.split_once('=').unwrap_or((word, "noop"));
+        let answer = read_answer(rt, answer)?;
+        let name = Vec::from_slice(rt.alloc(), name.as_bytes())?;
+        modules.push(Module { name, answer })?;
+    }
+    Ok(modules)
+}

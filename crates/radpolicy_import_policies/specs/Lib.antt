@@ -1,0 +1,6 @@
+pub mod Conditions
+pub mod Imports
+pub mod Origins
+pub mod Statements
+pub mod Switches
+pub mod internal

@@ -1,0 +1,150 @@
+//! Lines of updates.
+
+use crate::reasons::{Reason, Refusal};
+use crate::references::{Reference, has_texts, list_name, reference_in};
+use crate::texts::{has_expansion, push_double, push_octets, push_reference, single_octets};
+use avp_dict::{Dictionary, Kind};
+use avp_lists::List;
+use server_configuration::{Operator, Quote, Text};
+use std::alloc::{AllocError, Global};
+
+/// A line of an update in a policy.
+#[derive(Drop)]
+pub(crate) struct UpdateLine {
+    pub(crate) text: Vec<u8>,
+    /// The attribute without which a server skips the line, with its `&`.
+    pub(crate) needs: Option<Vec<u8>>,
+}
+
+/// What is known where a line stands.
+#[derive(Clone, Copy)]
+pub(crate) struct LineReader<'a> {
+    pub(crate) alloc: Global,
+    pub(crate) dictionary: &'a Dictionary,
+    /// The list of the update.
+    pub(crate) own: List,
+    /// Whether a line with an absent source is skipped, as a server does.
+    pub(crate) skips: bool,
+}
+
+// The operator of an update, as it is written.
+fn sign(operator: Operator) -> Option<&'static [u8]> {
+    match operator {
+        Operator::Equals => Some(b"="),
+        Operator::Set => Some(b":="),
+        Operator::Add => Some(b"+="),
+        Operator::Subtract => Some(b"-="),
+        Operator::Prepend => Some(b"^="),
+        Operator::IsEqual => Some(b"=="),
+        Operator::IsAbsent => Some(b"!*"),
+        _ => None,
+    }
+}
+
+// Whether octets are one word of a policy.
+fn is_word(octets: &[u8]) -> bool {
+    !octets.is_empty()
+        && octets.iter().all(|octet| {
+            octet.is_ascii_alphanumeric()
+                || matches!(*octet, b'-' | b'_' | b'.' | b'/' | b':' | b'@')
+        })
+}
+
+impl<'a> LineReader<'a> {
+    // Whether a text with expansions may be put into an attribute: into others a server puts numbers that a policy
+    // would refuse.
+    fn takes_expansions(&self, target: &Reference<'_>) -> bool {
+        match self.dictionary.by_id(target.named.id) {
+            Some(entry) => matches!(entry.kind, Kind::Text | Kind::Bytes),
+            None => true,
+        }
+    }
+
+    fn push_text(
+        &self,
+        out: &mut Vec<u8>,
+        target: &Reference<'_>,
+        text: &[u8],
+    ) -> Result<(), Refusal> {
+        let expands = push_double(out, self.dictionary, text)?;
+        if expands && !self.takes_expansions(target) {
+            return Err(Refusal::LeftOut(Reason::ExpandedValue));
+        }
+        Ok(())
+    }
+
+    fn push_value(
+        &self,
+        out: &mut Vec<u8>,
+        target: &Reference<'_>,
+        value: &Text,
+    ) -> Result<(), Refusal> {
+        let octets = value.octets.as_slice();
+        match value.quote {
+            Quote::Double => self.push_text(out, target, octets),
+            Quote::Single => Ok(push_octets(out, &single_octets(self.alloc, octets)?)?),
+            Quote::Back => Err(Refusal::LeftOut(Reason::Command)),
+            Quote::Bare if has_expansion(octets) => self.push_text(out, target, octets),
+            Quote::Bare if is_word(octets) => Ok(out.extend_from_slice(octets)?),
+            Quote::Bare => Ok(push_octets(out, octets)?),
+        }
+    }
+
+    // `&` and the source's name, which the line needs.
+    fn source(&self, word: &[u8]) -> Result<Vec<u8>, Refusal> {
+        let found = reference_in(self.dictionary, List::Request, word)?;
+        if !has_texts(self.dictionary, found.named) {
+            return Err(Refusal::LeftOut(Reason::OctetsHere));
+        }
+        let mut text = Vec::new(self.alloc);
+        push_reference(&mut text, &found)?;
+        Ok(text)
+    }
+
+    fn target(&self, out: &mut Vec<u8>, target: &Reference<'_>) -> Result<(), AllocError> {
+        if target.list != self.own {
+            out.extend_from_slice(list_name(target.list))?;
+            out.push(b':')?;
+        }
+        out.extend_from_slice(target.name)
+    }
+
+    /// The line of a name, an operator and a value, whose references to the configuration are filled in.
+    pub(crate) fn line(
+        &self,
+        name: &[u8],
+        operator: Operator,
+        value: Option<&Text>,
+    ) -> Result<UpdateLine, Refusal> {
+        let Some(sign) = sign(operator) else {
+            return Err(Refusal::LeftOut(Reason::Operator));
+        };
+        let name = name.strip_prefix(b"&").unwrap_or(name);
+        let target = reference_in(self.dictionary, self.own, name)?;
+        let mut text = Vec::new(self.alloc);
+        self.target(&mut text, &target)?;
+        text.push(b' ')?;
+        text.extend_from_slice(sign)?;
+        text.push(b' ')?;
+        if operator == Operator::IsAbsent {
+            text.extend_from_slice(b"ANY")?;
+            return Ok(UpdateLine { text, needs: None });
+        }
+        let Some(value) = value else {
+            return Err(Refusal::LeftOut(Reason::NotValue));
+        };
+        if !has_texts(self.dictionary, target.named) {
+            return Err(Refusal::LeftOut(Reason::OctetsHere));
+        }
+        if value.quote == Quote::Bare
+            && let Some(word) = value.octets.strip_prefix(b"&")
+        {
+            let source = self.source(word)?;
+            text.extend_from_slice(&source)?;
+            let needs = if self.skips { Some(source) } else { None };
+            return Ok(UpdateLine { text, needs });
+        }
+        self.push_value(&mut text, &target, value)?;
+        Ok(UpdateLine { text, needs: None })
+    }
+}

@@ -1,0 +1,206 @@
+//! What statements of a server become.
+
+use crate::memory_files::{MemoryFile, MemoryFiles};
+use avp_dict::Dictionary;
+use radpolicy_import_policies::{
+    Imported, Meaning, Module, ModuleAnswer, Settings, Wanted, import_statements, section_of,
+    statements_of,
+};
+use samples::test_dictionary;
+use server_configuration::{Configuration, read_configuration};
+use std::alloc::Global;
+use std::test::Fail;
+
+fn configuration(alloc: Global, text: &[u8]) -> Result<Configuration, Fail> {
+    let files = [MemoryFile {
+        path: b"r/main",
+        octets: text,
+    }];
+    match read_configuration(alloc, &MemoryFiles { files: &files }, b"r/main") {
+        Ok(read) => Ok(read),
+        Err(_) => Err(Fail::new("no configuration")),
+    }
+}
+
+// What the section `authorize` becomes.
+fn imported(
+    alloc: Global,
+    dictionary: &Dictionary,
+    settings: Settings<'_>,
+    text: &[u8],
+) -> Result<Imported, Fail> {
+    let configuration = configuration(alloc, text)?;
+    let wanted = Wanted {
+        server: None,
+        section: b"authorize",
+        second: None,
+    };
+    let Some(place) = section_of(&configuration, wanted) else {
+        return Err(Fail::new("no section"));
+    };
+    let Ok(statements) = statements_of(alloc, &configuration, Some(place), b"authorize") else {
+        return Err(Fail::new("no statements"));
+    };
+    match import_statements(
+        alloc,
+        &configuration,
+        dictionary,
+        settings,
+        statements.as_slice(),
+    ) {
+        Ok(imported) => Ok(imported),
+        Err(_) => Err(Fail::new("no policy")),
+    }
+}
+
+fn is_imported_by(
+    alloc: Global,
+    settings: Settings<'_>,
+    text: &[u8],
+    wanted: &[u8],
+    counts: (usize, usize, usize),
+) -> Result<bool, Fail> {
+    let dictionary = test_dictionary(alloc)?;
+    let imported = imported(alloc, &dictionary, settings, text)?;
+    Ok(
+        imported.text.as_slice() == wanted
+            && (imported.kept, imported.read, imported.calls) == counts,
+    )
+}
+
+// Whether this becomes that, with so many statements kept, read, and calls of modules.
+fn becomes(
+    alloc: Global,
+    text: &[u8],
+    wanted: &[u8],
+    counts: (usize, usize, usize),
+) -> Result<bool, Fail> {
+    let settings = Settings {
+        meaning: Meaning::Server,
+        modules: &[],
+    };
+    is_imported_by(alloc, settings, text, wanted, counts)
+}
+
+#[test]
+fn lines_and_modules(rt: HostRuntime) -> Result<(), Fail> {
+    assert!(rt;
+        becomes(
+            rt.alloc(),
+            b"authorize {\n update reply {\n Session-Timeout := 60\n Class =~ 1\n }\n sql\n}",
+            b"update reply {  # main:2\n\tSession-Timeout := 60  # main:3\n\
+          \t# left out, an operator that policies do not have: Class =~ 1  # main:4\n\
+          }  # main:2\n# module sql  # main:6\n",
+            (1, 2, 1),
+        )?
+    );
+    Ok(())
+}
+
+#[test]
+fn a_source_that_may_be_absent(rt: HostRuntime) -> Result<(), Fail> {
+    assert!(rt;
+        becomes(
+            rt.alloc(),
+            b"authorize {\n update control {\n User-Name := &reply:Reply-Message\n }\n}",
+            b"if (&reply:Reply-Message) {  # main:3\n\tupdate control {  # main:3\n\
+          \t\tUser-Name := &reply:Reply-Message  # main:3\n\t}  # main:3\n}  # main:3\n",
+            (1, 1, 0),
+        )?
+    );
+    Ok(())
+}
+
+#[test]
+fn absent_attributes_in_conditions(rt: HostRuntime) -> Result<(), Fail> {
+    assert!(rt;
+        becomes(
+            rt.alloc(),
+            b"authorize {\n if (!(\"%{User-Name}\" == 'bob') || 3 < &NAS-Port) {\n reject\n }\n}",
+            b"if ((&User-Name && !(&User-Name == \"bob\")) || \
+          (&User-Name == \"bob\" && &NAS-Port > 3)) {  # main:2\n\
+          \treject  # main:3\n}  # main:2\n",
+            (2, 2, 0),
+        )?
+    );
+    Ok(())
+}
+
+#[test]
+fn alternatives_of_one_attribute(rt: HostRuntime) -> Result<(), Fail> {
+    assert!(rt;
+        becomes(
+            rt.alloc(),
+            b"authorize {\n if (&NAS-Port == 1 || &NAS-Port == 2) {\n ok\n }\n else {\n noop\n }\n}",
+            b"if (&NAS-Port == 1 || &NAS-Port == 2) {  # main:2\n\tok  # main:3\n}  # main:2\n\
+          else {  # main:5\n\tnoop  # main:6\n}  # main:5\n",
+            (4, 4, 0),
+        )?
+    );
+    Ok(())
+}
+
+#[test]
+fn the_cases_of_a_switch(rt: HostRuntime) -> Result<(), Fail> {
+    assert!(rt;
+        becomes(
+            rt.alloc(),
+            b"authorize {\n switch &Service-Type {\n case {\n ok\n }\n case Login-User {\n reject\n }\n }\n}",
+            b"if (&Service-Type == Login-User) {  # main:6\n\treject  # main:7\n}  # main:6\n\
+          else {  # main:3\n\tok  # main:4\n}  # main:3\n",
+            (5, 5, 0),
+        )?
+    );
+    Ok(())
+}
+
+#[test]
+fn a_policy_in_its_place(rt: HostRuntime) -> Result<(), Fail> {
+    assert!(rt;
+        becomes(
+            rt.alloc(),
+            b"policy {\n p {\n reject\n p\n }\n}\nauthorize {\n p\n}",
+            b"# policy p  # main:8\nreject  # main:3 (p)\n\
+          # left out, a policy that calls itself: p  # main:4 (p)\n",
+            (2, 3, 0),
+        )?
+    );
+    Ok(())
+}
+
+#[test]
+fn a_chain_goes_whole(rt: HostRuntime) -> Result<(), Fail> {
+    assert!(rt;
+        becomes(
+            rt.alloc(),
+            b"authorize {\n if (&NAS-Port) {\n ok\n }\n elsif (&User-Name =~ /x/) {\n noop\n }\n}",
+            b"# left out, a regular expression: if (&NAS-Port)  # main:2\n",
+            (0, 4, 0),
+        )?
+    );
+    Ok(())
+}
+
+#[test]
+fn an_answer_for_a_module(rt: HostRuntime) -> Result<(), Fail> {
+    let modules = vec![in rt.alloc();
+        Module {
+            name: Vec::from_slice(rt.alloc(), b"ldap")?,
+            answer: ModuleAnswer::Code(avp_unlang::Code::Updated),
+        },
+    ]?;
+    let settings = Settings {
+        meaning: Meaning::Server,
+        modules: &modules,
+    };
+    assert!(rt;
+        is_imported_by(
+            rt.alloc(),
+            settings,
+            b"authorize {\n -ldap\n if (updated) {\n ok\n }\n}",
+            b"updated  # main:2\nif (updated) {  # main:3\n\tok  # main:4\n}  # main:3\n",
+            (2, 2, 0),
+        )?
+    );
+    Ok(())
+}

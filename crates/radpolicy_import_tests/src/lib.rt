@@ -1,0 +1,7 @@
+//! Tests of the public calls of `radpolicy_import_policies`.
+#![tactic(auto)]
+
+#[cfg(test)]
+mod imports;
+#[cfg(test)]
+mod memory_files;
