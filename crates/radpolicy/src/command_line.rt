@@ -416,8 +416,10 @@ fn refusal_of(
         return Ok("--authenticator takes 32 hexadecimal digits");
     }
     if !has_distinct_names(alloc, found.get_strs(DICTIONARY).unwrap_or(&[]))? {
-        return Ok("two dictionary files have one name, the last part of their paths: copy one to \
-            another name, and include it by that");
+        return Ok(
+            "two dictionary files have one name, the last part of their paths: copy one to \
+            another name, and include it by that",
+        );
     }
     let (secret, authenticator) = (found.get_str(SECRET), found.get_str(AUTHENTICATOR));
     Ok(rules_text(command, form, secret.is_some(), authenticator.is_some()))
@@ -427,8 +429,19 @@ fn refusal_of(
 /// are not.
 ///
 /// ```rust
-/// let words = ["radpolicy", "run", "-i", "256", "--policy", "policy", "dictionary"];
-/// assert_eq!(rt; option_text(alloc, &words)?, "-i takes a number from 0 to 255");
+/// let words = [
+///     "radpolicy",
+///     "run",
+///     "-i",
+///     "256",
+///     "--policy",
+///     "policy",
+///     "dictionary",
+/// ];
+/// assert_eq!(rt;
+///     option_text(alloc, &words)?,
+///     "-i takes a number from 0 to 255"
+/// );
 /// ```
 pub fn option_text<'a, S: AsStr>(
     alloc: Global,

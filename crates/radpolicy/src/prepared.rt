@@ -75,7 +75,10 @@ impl<'a> PreparedPolicy<'a> {
     /// assert_eq!(rt; prepared.policy().statements().len(), 1);
     /// let refused = PreparedPolicy::read(alloc, dictionary, b"rejected").err();
     /// let (line, offset, kind) = (1, 0, PolicyKind::Misplaced);
-    /// assert_eq!(rt; refused, Some(Fault::Policy(PolicyFault { line, offset, kind })));
+    /// assert_eq!(rt;
+    ///     refused,
+    ///     Some(Fault::Policy(PolicyFault { line, offset, kind }))
+    /// );
     /// ```
     pub fn read(
         alloc: Global,

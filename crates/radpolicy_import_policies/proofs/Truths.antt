@@ -231,7 +231,7 @@ pub right_present : (k : Comparison) (l list : Name) (i id : AttrId) (s : State)
     → l ≡ list → i ≡ id → IsTrue (is_true (comparison_answer k s)) → IsTrue (has_instance id (list_of list s))
 right_present k l list i id s g e f h =
     let there : IsTrue (is_some (compared_with k.comparand s)) =
-        second_there k.kind k.relation (first_value k.list k.id s) (compared_with k.comparand s) h in
+    second_there k.kind k.relation (first_value k.list k.id s) (compared_with k.comparand s) h in
     moved_present l list i id s e f
     (moved_here _ _ (ap (λ x. is_some (compared_with x s)) g ∙ sym (found_value l i s)) there)
 

@@ -82,12 +82,7 @@ fn reason_of(refusal: Refusal) -> Result<Reason, ImportFault> {
 }
 
 // A text with another before it and one after it.
-fn between(
-    alloc: Global,
-    before: &[u8],
-    text: &[u8],
-    after: &[u8],
-) -> Result<Vec<u8>, AllocError> {
+fn between(alloc: Global, before: &[u8], text: &[u8], after: &[u8]) -> Result<Vec<u8>, AllocError> {
     let mut joined = Vec::from_slice(alloc, before)?;
     joined.extend_from_slice(text)?;
     joined.extend_from_slice(after)?;
@@ -240,9 +235,7 @@ impl<'a> Importer<'a> {
             [] => return Err(Refusal::LeftOut(Reason::Condition)),
         };
         let condition = self.reader().condition(&text)?;
-        if self.settings.meaning == Meaning::Plain
-            && self.check(b"if ", &text, b" { }").is_ok()
-        {
+        if self.settings.meaning == Meaning::Plain && self.check(b"if ", &text, b" { }").is_ok() {
             return Ok(text);
         }
         let cond = rewritten(self.alloc, &condition)?;

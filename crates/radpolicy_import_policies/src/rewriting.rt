@@ -176,9 +176,7 @@ fn is_same_list(list: List, other: List) -> bool
 {
     matches!(
         (list, other),
-        (List::Request, List::Request)
-            | (List::Reply, List::Reply)
-            | (List::Control, List::Control)
+        (List::Request, List::Request) | (List::Reply, List::Reply) | (List::Control, List::Control)
     )
 }
 
