@@ -1,7 +1,6 @@
 -- What texts are read as addresses, and that printed ones are.
-use Rattle.std.proofs.Common.{◌≡◌, ◌∙◌, ℕ, List, Option, Some, option_map, ap, sym, length}
+use Rattle.std.proofs.Common.{◌≡◌, ◌∙◌, ℕ, List, Some, option_map, ap, sym, length}
 use Rattle.std.specs.Net.Addr.{octets_of, segments_of}
-use Rattle.std.specs.Net.Grammar.{IsColonHex}
 use Rattle.std.specs.Net.Reader.{read_ipv6, whole_value}
 use Rattle.std.proofs.NetLemmas.Options.{map_some}
 use Rattle.std.proofs.NetLemmas.Texts.{IsColonHex-ipv6_text}

@@ -1,5 +1,5 @@
 -- Numbers that are too great.
-use Rattle.std.proofs.Common.{◌≡◌, ℕ, ◌+◌, ◌*◌, ◌<◌, ◌≤◌, Bool, true, false, ltb, leb, cond, List, [], ◌∷◌, Option, Some, None, refl, arith, le-mul_of_pos_right}
+use Rattle.std.proofs.Common.{◌≡◌, ℕ, ◌+◌, ◌*◌, ◌<◌, ◌≤◌, Bool, true, false, ltb, cond, List, [], ◌∷◌, Option, None, refl, arith, le-mul_of_pos_right}
 use Rattle.std.specs.Char.{digit_value}
 use Rattle.avp_dict.specs.Spellings.{up_to}
 use Rattle.avp_dict.specs.Words.{number_after}

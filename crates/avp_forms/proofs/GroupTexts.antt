@@ -1,5 +1,5 @@
 -- Printed interface ids are read back.
-use Rattle.std.proofs.Common.{◌≡◌, ◌∙◌, ℕ, suc, ◌+◌, ◌*◌, ◌/◌, ◌%◌, ◌^◌, ◌<◌, ◌≤◌, Bool, true, false, ltb, leb, ◌==◌, List, [], ◌∷◌, ◌++◌, length, map, get_or, Option, Some, option_map, refl, sym, ap, subst, arith, ne_eqb, eq-eqb, inl, inr}
+use Rattle.std.proofs.Common.{◌≡◌, ◌∙◌, ℕ, suc, ◌+◌, ◌*◌, ◌/◌, ◌%◌, ◌<◌, ◌≤◌, true, false, ltb, leb, ◌==◌, List, [], ◌∷◌, ◌++◌, length, map, Some, option_map, refl, sym, ap, subst, arith, ne_eqb, eq-eqb, inl, inr}
 use Rattle.std.specs.List.{All, flat_map, join_by, slice_split}
 use Rattle.std.specs.Char.{digit_value}
 use Rattle.std.specs.Fmt.{digit_glyph, digits as printed_digits, digits_onto}
@@ -10,7 +10,7 @@ use Rattle.std.proofs.lemmas.Fmt.{hex_one_digit, hex_two_digits}
 use Rattle.std.proofs.lemmas.List.{append-nil, length-map}
 use Rattle.std.proofs.lemmas.List.Elements.{All-nil, All-cons, All-head, All-tail, All-from_get_or}
 use Rattle.std.proofs.lemmas.List.Splits.{slice_split_at, slice_split_none}
-use Rattle.avp_dict.specs.Spellings.{each_number, in_parts, is_colon, up_to}
+use Rattle.avp_dict.specs.Spellings.{each_number, in_parts, is_colon}
 use Rattle.avp_dict.specs.Words.{digits, number_after}
 use Rattle.avp_forms.specs.InterfaceIds.{group, group_text, interface_id_spelled, interface_id_text}
 use Rattle.avp_forms.specs.Numerals.{number_within, short_number}

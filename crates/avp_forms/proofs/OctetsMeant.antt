@@ -1,7 +1,7 @@
 -- What octets mean has the form, is within its bounds, and is sent as the same octets where they are the form's own.
-use Rattle.std.proofs.Common.{◌≡◌, ◌∙◌, ℕ, zero, suc, ◌+◌, ◌-◌, ◌*◌, ◌%◌, ◌^◌, ◌<◌, ◌≤◌, Bool, true, false, not, ◌&&◌, leb, cond, ◌==◌, List, [], ◌∷◌, ◌++◌, drop, length, get_or, replicate, Option, Some, None, refl, sym, ap, subst, arith, inl, inr, append-nil, eq-eqb, ne_eqb, eqb-true, le-leb, leb-true, length-append}
+use Rattle.std.proofs.Common.{◌≡◌, ◌∙◌, ℕ, zero, suc, ◌-◌, ◌^◌, ◌<◌, ◌≤◌, true, false, ◌&&◌, leb, ◌==◌, List, [], ◌∷◌, ◌++◌, drop, length, get_or, replicate, Some, refl, ap, subst, arith, inl, inr, append-nil, eq-eqb, ne_eqb, eqb-true, le-leb, leb-true, length-append}
 use Rattle.std.specs.Str.{bytes_eq}
-use Rattle.std.specs.Int.{to_be_bytes, from_be_bytes, w32}
+use Rattle.std.specs.Int.{to_be_bytes, w32}
 use Rattle.std.specs.Int.Digits.{number_from_digits}
 use Rattle.std.proofs.lemmas.Bool.{and_parts, cases_eq, cases_lt, false_from_ne_true}
 use Rattle.std.proofs.lemmas.Nat.{be_bytes_4}
@@ -13,7 +13,7 @@ use Rattle.avp_forms.specs.Prefixes.{first_bits, masked}
 use Rattle.avp_forms.specs.Values.{date_of, is_own, is_proper, max_tag, max_tagged_number, meaning, octets_of, padded, tagged_text_meant}
 use Rattle.avp_forms.specs.internal.Ranges.{IsInRange}
 use Rattle.avp_forms.specs.declared.values.FormValue.{FormValue}
-use Rattle.avp_forms.specs.declared.values.FormValue.TheVariants.{Date, InterfaceId, Ipv4Prefix, Ipv6Address, Ipv6Prefix, TaggedNumber, TaggedText}
+use Rattle.avp_forms.specs.declared.values.FormValue.TheVariants.{InterfaceId, Ipv4Prefix, Ipv6Address, Ipv6Prefix, TaggedNumber}
 use Rattle.avp_forms.proofs.PrefixTexts.{same_octets}
 use Rattle.avp_forms.proofs.Segments.{AreOctets}
 

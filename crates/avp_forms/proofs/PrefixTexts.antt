@@ -1,5 +1,5 @@
 -- Printed prefixes are read back.
-use Rattle.std.proofs.Common.{◌≡◌, ◌∙◌, ℕ, zero, suc, ◌+◌, ◌/◌, ◌%◌, ◌^◌, ◌<◌, ◌≤◌, ◌⊎◌, Bool, true, false, leb, cond, ◌==◌, List, [], ◌∷◌, ◌++◌, drop, take, length, get_or, Option, Some, option_map, option_and_then, decimal, refl, sym, ap, subst, arith, inl, inr, le-leb}
+use Rattle.std.proofs.Common.{◌≡◌, ◌∙◌, ℕ, zero, suc, ◌<◌, ◌≤◌, true, false, leb, ◌==◌, List, [], ◌∷◌, ◌++◌, drop, take, length, Option, Some, decimal, refl, ap, arith, inl, inr, le-leb}
 use Rattle.std.specs.List.{All, slice_split}
 use Rattle.std.specs.Str.{bytes_eq}
 use Rattle.std.specs.Net.Addr.{octets_of, segments_of}

@@ -1,12 +1,11 @@
 -- The text of a value, read with its tag, is the value.
-use Rattle.std.proofs.Common.{◌≡◌, ◌∙◌, ℕ, ◌^◌, ◌<◌, ◌≤◌, ℤ, Bool, true, leb, List, [], ◌∷◌, Option, Some, None, option_map, decimal, refl, ap, arith, le-leb, leb-true}
-use Rattle.std.specs.Option.{option_or, unwrap_or}
+use Rattle.std.proofs.Common.{◌≡◌, ℕ, ◌≤◌, ℤ, true, leb, List, Option, Some, None, option_map, decimal, refl, ap, arith, le-leb, leb-true}
+use Rattle.std.specs.Option.{unwrap_or}
 use Rattle.std.specs.Str.{bytes_eq}
 use Rattle.std.proofs.lemmas.Bool.{and_parts}
 use Rattle.avp_lists.specs.declared.pairs.AttrId.{AttrId}
 use Rattle.avp_dict.specs.Dictionary.{Dictionary, name_numbered}
 use Rattle.avp_dict.specs.Soundness.{IsSound}
-use Rattle.avp_dict.specs.Spellings.{up_to}
 use Rattle.avp_dict.proofs.Numerals.{decimal_numeral, number_of_numeral}
 use Rattle.avp_dict.proofs.PrintedNames.{is_named_number}
 use Rattle.avp_dict.proofs.Unescaping.{quoted_back}

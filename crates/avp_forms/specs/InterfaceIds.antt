@@ -1,5 +1,5 @@
 -- Interface ids: four groups of 16 bits, as `1:2:3:4`.
-use Rattle.std.specs.Prelude.{codes, ℕ, Bool, false, List, Option}
+use Rattle.std.specs.Prelude.{codes, ℕ, false, List, Option}
 use Rattle.std.specs.Option.{option_map}
 use Rattle.std.specs.Fmt.{digits}
 use Rattle.std.specs.List.{join_by, slice_split}

@@ -1,5 +1,5 @@
 -- Prefixes of addresses: `ADDRESS/N`, where N is how many bits belong to the prefix.
-use Rattle.std.specs.Prelude.{codes, ℕ, ◌-◌, ◌%◌, ◌^◌, Bool, ◌==◌, List, [], ◌∷◌, ◌++◌, decimal, Option, Some, None}
+use Rattle.std.specs.Prelude.{codes, ℕ, ◌-◌, ◌%◌, ◌^◌, Bool, ◌==◌, List, [], ◌∷◌, ◌++◌, decimal, Option, None}
 use Rattle.std.specs.Option.{option_and_then, option_map}
 use Rattle.std.specs.List.{slice_split}
 use Rattle.std.specs.Net.Reader.{read_ipv4, whole_value}

@@ -1,5 +1,5 @@
 -- What the octets of a form mean, and the octets of a value.
-use Rattle.std.specs.Prelude.{ℕ, ◌-◌, Bool, true, false, not, ◌&&◌, ◌==◌, nat_le, if◌then◌else◌, List, [], ◌∷◌, ◌++◌, bytes_eq, drop, length, replicate, slice_index, Option, Some, None}
+use Rattle.std.specs.Prelude.{ℕ, ◌-◌, Bool, true, not, ◌&&◌, ◌==◌, nat_le, if◌then◌else◌, List, [], ◌∷◌, ◌++◌, bytes_eq, drop, length, replicate, slice_index, Option, Some, None}
 use Rattle.std.specs.Int.{to_be_bytes, w32}
 use Rattle.std.specs.Int.Digits.{number_from_digits}
 use Rattle.avp_lists.specs.declared.pairs.Value.{Value}

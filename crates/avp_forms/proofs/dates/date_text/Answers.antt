@@ -1,4 +1,4 @@
-use Rattle.std.proofs.Common.{◌≡◌, ◌∙◌, ℕ, ◌+◌, ◌/◌, ◌%◌, ◌≤◌, ℤ, pos, unsigned_abs, IfOk, ap, subst, arith, FitsSigned, to_z-of_z, w16}
+use Rattle.std.proofs.Common.{◌≡◌, ◌∙◌, ℕ, ◌/◌, ◌%◌, ℤ, unsigned_abs, IfOk, ap, subst, arith, FitsSigned, to_z-of_z, w16}
 use Rattle.jiff_core.proofs.SignedLemmas.{signed_casts}
 use Rattle.avp_forms.specs.Dates.{Day, date_text, day_numbered, moment_text}
 use Rattle.avp_forms.proofs.Calendar.{same_date}

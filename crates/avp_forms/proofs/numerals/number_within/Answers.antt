@@ -1,9 +1,9 @@
-use Rattle.std.proofs.Common.{◌≡◌, ◌∙◌, ◌+◌, ◌*◌, ◌<◌, refl, sym, ap, drop, None, ◌∷◌, get_or, arith, ltb, true}
+use Rattle.std.proofs.Common.{◌≡◌, ◌∙◌, ◌+◌, ◌*◌, ◌<◌, refl, sym, ap, drop, get_or, arith, ltb, true}
 use Rattle.std.proofs.lemmas.Grind.{common_steps}
 use Rattle.std.proofs.lemmas.List.{drop_more}
 use Rattle.std.specs.Char.{digit_value}
 use Rattle.avp_dict.specs.Spellings.{up_to}
-use Rattle.avp_dict.specs.Words.{digits, number_after}
+use Rattle.avp_dict.specs.Words.{number_after}
 use Rattle.avp_forms.specs.Numerals.{number_within}
 use Rattle.avp_forms.proofs.GreatNumbers.{too_great}
 use Rattle.avp_forms.proofs.numerals.number_within.Goals as goal

@@ -1,4 +1,4 @@
-use Rattle.std.proofs.Common.{◌≡◌, ◌∙◌, ℕ, ◌+◌, ◌-◌, List, [], ◌∷◌, rules, ap, sym, arith}
+use Rattle.std.proofs.Common.{◌≡◌, ◌∙◌, ℕ, ◌+◌, ◌-◌, [], ◌∷◌, rules, ap, sym, arith}
 use Rattle.std.proofs.NetLemmas.Arrays.{sixteen_items}
 use Rattle.avp_forms.specs.Prefixes.{first_bits, masked}
 use Rattle.avp_forms.proofs.prefixes.masked_16.Goals as goal
