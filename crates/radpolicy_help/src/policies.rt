@@ -218,7 +218,8 @@ fn push_misplaced(
         push_all(help, &["the text ends; here may be ", expected, "\n"])?;
         return push_end_hint(alloc, help, context, sources);
     }
-    push_all(help, &["found ", found, "; here may be ", expected, "\n"])?;
+    push_all(help, &["found ", found, "; here may be "])?;
+    push_all(help, &[expected, "\n"])?;
     push_misplaced_hint(alloc, help, context, found, next)
 }
 
@@ -343,7 +344,8 @@ fn push_sentences(
     match kind {
         PolicyKind::Misplaced => push_misplaced(alloc, help, context, sources, found, next),
         PolicyKind::Unreadable => {
-            push_all(help, &["found ", found, "\n", unreadable_hint(found), "\n"])
+            push_all(help, &["found ", found, "\n"])?;
+            push_all(help, &[unreadable_hint(found), "\n"])
         }
         PolicyKind::Unknown => {
             let name = name_in(found);
@@ -371,20 +373,29 @@ fn push_sentences(
         ),
         PolicyKind::TooDeep => push_all(help, &["64 signs { ( and ! are open here already\n"]),
         PolicyKind::TooLarge => push_all(help, &["a policy has at most 65535 lines and words\n"]),
-        PolicyKind::OtherType => push_all(
-            help,
-            &[
-                "both attributes have to be of one type, and ",
-                name_in(context.name),
-                " and ",
-                name_in(found),
-                " are not\nput it into a text: \"%{",
-                found,
-                "}\"\n",
-            ],
-        ),
+        PolicyKind::OtherType => push_other_type(help, name_in(context.name), found),
         PolicyKind::Memory => Ok(()),
     }
+}
+
+fn push_other_type(help: &mut Vec<u8>, name: &str, found: &str) -> Result<(), AllocError> {
+    push_all(
+        help,
+        &[
+            "both attributes have to be of one type, and ",
+            name,
+            " and ",
+        ],
+    )?;
+    push_all(
+        help,
+        &[
+            name_in(found),
+            " are not\nput it into a text: \"%{",
+            found,
+            "}\"\n",
+        ],
+    )
 }
 
 /// What is said of a policy's fault.

@@ -2,7 +2,9 @@ use Rattle.std.proofs.Common.{◌≡◌, true, rules}
 use Rattle.std.proofs.KnownBytes.{Appends-trans}
 use Rattle.radpolicy_help.proofs.printing.print_with_help.Goals as goal
 
-pub returns-in-Ok-clause-both : goal.returns-in-Ok-clause-both
-returns-in-Ok-clause-both g c = λ _.
+pub returns-in-Ok : goal.returns-in-Ok
+returns-in-Ok g c = record {
+  both = λ _.
     let printed : c.print_fault.result ≡ true = search rules in
-    Appends-trans _ _ _ _ _ (c.print_fault.ensures.line printed) c.in-Ok.ensures.takes
+    Appends-trans _ _ _ _ _ (c.print_fault.ensures.line printed) c.in-Ok.ensures.takes;
+}
