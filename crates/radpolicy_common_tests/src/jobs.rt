@@ -1,5 +1,7 @@
 //! Jobs of command lines, over files that are in memory.
 
+ghost use Rattle.std.specs.Prelude.{None};
+
 use avp_lists::Octets;
 use radpolicy::{Job, read_words};
 use radpolicy_common::{Inputs, Unread, job_of};
