@@ -161,7 +161,7 @@ fn import_by(
     }
 }
 
-fn import_with<'a>(rt: &HostRuntime, plan: &Plan<'a>, dictionaries: &[&'a str]) -> u8 {
+fn import_with<'p, 'd>(rt: &HostRuntime, plan: &Plan<'p>, dictionaries: &[&'d str]) -> u8 {
     let modules = match read_modules(rt, plan) {
         Ok(modules) => modules,
         Err(unread) => return refuse_unread(rt, unread),
