@@ -1,6 +1,6 @@
 //! Jobs of command lines, over files that are in memory.
 
-ghost use Rattle.std.specs.Prelude.{None};
+ghost use Rattle.std.specs.Prelude.{◌≡◌, ◌⊎◌, None, IfErr};
 
 use avp_lists::Octets;
 use radpolicy::{Job, read_words};
@@ -12,7 +12,10 @@ use std::test::Fail;
 #[derive(Drop)]
 struct PathsAsFiles(Global);
 
-fn held<'a>(alloc: Global, name: &'a str) -> Result<Octets, Unread<'a>> {
+fn held<'a>(alloc: Global, name: &'a str) -> Result<Octets, Unread<'a>>
+    ensures { IfErr result (λ unread.
+        (unread ≡ Unread.Memory) ⊎ (unread ≡ Unread.File name.entry)) }
+{
     if name.contains('x') {
         return Err(Unread::File(name));
     }
