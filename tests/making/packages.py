@@ -97,8 +97,10 @@ def new_folder_beside(copy: Copy, name: str) -> Path:
 
 def check_install(subject: Subject, report: Report) -> None:
     """`make install` with one more program, used, and `make uninstall`."""
-    if not (subject.root / LIBRARY).is_file():
-        report.say(f"make install: not tried, there is no {LIBRARY}")
+    absent = [command for command in ("cc", "ld", "objcopy", "ar", "nm") if not shutil.which(command, path=SYSTEM_PATH)]
+    absent += [] if (subject.root / LIBRARY).is_file() else [LIBRARY]
+    if absent:
+        report.say(f"make install: not tried, there is no {', no '.join(absent)}")
         return
     with new_copy(subject) as copy:
         with open(copy.root / "programs.txt", "a") as programs:
