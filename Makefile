@@ -42,7 +42,7 @@ documents:
 	@scripts/check-documents $(PROGRAM)
 
 install: build
-	@scripts/install "$(DESTDIR)$(PREFIX)"
+	@RT="$(RT)" scripts/install "$(DESTDIR)$(PREFIX)"
 	@echo "The program is $(DESTDIR)$(PREFIX)/bin/radpolicy; 'man radpolicy' and 'radpolicy --help' tell how to use it."
 
 uninstall:
@@ -50,4 +50,4 @@ uninstall:
 	@echo "Removed from $(DESTDIR)$(PREFIX): the programs and what was installed with them."
 
 package: build
-	@scripts/package out
+	@RT="$(RT)" scripts/package out
