@@ -5,10 +5,10 @@
 # make fuzz       changed cases through the built program, for so many SECONDS
 # make documents  the documents' links and commands, the examples in doc comments, the completions and the manual
 #                 pages, with the built program
-# make install    puts the programs of programs.txt, their manual pages and completions, the dictionaries, the examples
-#                 and the documents below PREFIX
+# make install    puts what programs.txt lists, programs with their manual pages and completions and the library for C,
+#                 the dictionaries, the examples and the documents below PREFIX
 # make uninstall  removes them
-# make package    makes a Debian package and a tarball of the same files in out/
+# make package    makes Debian packages and a tarball of the same files in out/
 
 RT ?= $(shell command -v rt || echo /opt/rattle/bin/rt)
 PREFIX ?= /usr/local

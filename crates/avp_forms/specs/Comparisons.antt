@@ -1,5 +1,6 @@
 -- How two values compare: addresses, interface ids, dates and the numbers beside tags as numbers, texts beside tags by
--- their octets, and tags not at all. A prefix is below another that holds it, and an address is a prefix of all its bits.
+-- their octets, and tags not at all. A prefix is below another that holds it, and an address is a prefix of all its
+-- bits.
 use Rattle.std.specs.Prelude.{ℕ, Bool, ◌&&◌, nat_le, if◌then◌else◌, List, bytes_eq, Option, Some, None}
 use Rattle.std.specs.Cmp.Lexicographic.{slice_cmp}
 use Rattle.std.specs.Ordering.{nat_cmp}

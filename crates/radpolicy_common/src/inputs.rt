@@ -20,7 +20,8 @@ pub trait Inputs {
     fn file<'a>(&self, path: &'a str) -> Result<Octets, Unread<'a>>
         ensures refused { IfErr result (λ unread.
             (unread ≡ Unread.Memory) ⊎ (unread ≡ Unread.File path.entry)) }
-        ensures read { WhereKnown (contents self.now) (λ c. IsReading (file_of c path.entry) result) };
+        ensures read { WhereKnown (contents self.now) (λ c.
+            IsReading (file_of c path.entry) result) };
 
     /// What standard input holds, at most 16,777,216 octets.
     fn standard_input(&self) -> Result<Octets, Unread<'static>>

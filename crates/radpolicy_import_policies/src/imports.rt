@@ -272,7 +272,7 @@ pub fn import_statements(
     // What is written is a policy.
     ensures policy { IfOk result (λ imported.
         SpellsPolicy dictionary.now imported.text.items imported.policy) }
-    // Each statement is kept or left out.
+    // The statements that are kept and those that are left out are as many as were read.
     ensures read { IfOk result (λ imported. imported.read ≡ count_of statements.now) }
     ensures kept { IfOk result (λ imported. imported.kept + left_in imported.left_out.items
         ≡ imported.read) }
