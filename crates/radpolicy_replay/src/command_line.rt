@@ -25,6 +25,8 @@ const STRICT: &str = "strict";
 
 const SECRET: &str = "secret";
 
+const CLIENTS: &str = "clients";
+
 const SHOW_SECRETS: &str = "show-secrets";
 
 const DICTIONARY: &str = "dictionary";
@@ -39,6 +41,15 @@ pub enum AgainstPlan<'a> {
     File(&'a str),
     /// The replies that were captured.
     Captured,
+}
+
+/// Where the shared secrets are.
+#[derive(Clone, Copy)]
+pub enum SecretPlan<'a> {
+    /// One, in this file.
+    File(&'a str),
+    /// One for each client of this file.
+    Clients(&'a str),
 }
 
 /// With what answers are compared, and how.
@@ -56,7 +67,7 @@ pub struct Plan<'a> {
     pub policy: &'a str,
     pub comparison: Option<ComparisonPlan<'a>>,
     pub strict: bool,
-    pub secret: &'a str,
+    pub secret: SecretPlan<'a>,
     pub secrets: SecretValues,
     pub dictionaries: Vec<&'a str>,
 }
@@ -114,9 +125,16 @@ fn secret_option<'a>(alloc: Global) -> Arg<'a> {
     Arg::new(alloc, SECRET)
         .short('S')
         .value_name("SECRET-FILE")
-        .required(true)
         .action(ArgAction::Set)
         .help("The file whose first line is the shared secret")
+}
+
+fn clients_option<'a>(alloc: Global) -> Arg<'a> {
+    Arg::new(alloc, CLIENTS)
+        .long(CLIENTS)
+        .value_name("CLIENTS-FILE")
+        .action(ArgAction::Set)
+        .help("The file of the clients and their secrets: lines, or a server's clients.conf")
 }
 
 fn show_secrets_option<'a>(alloc: Global) -> Arg<'a> {
@@ -152,6 +170,7 @@ fn program<'a>(alloc: Global) -> Result<clap::Command<'a>, AllocError> {
         .arg(all_option(alloc))?
         .arg(strict_option(alloc))?
         .arg(secret_option(alloc))?
+        .arg(clients_option(alloc))?
         .arg(show_secrets_option(alloc))?
         .arg(dictionary_files(alloc))
 }
@@ -229,6 +248,17 @@ fn comparison_of<'a>(
     }
 }
 
+// One of the two.
+fn secret_plan<'a>(found: &ArgMatches<'a>) -> Result<SecretPlan<'a>, Fault>
+    ensures { IfErr result IsWordFault }
+{
+    match (found.get_str(SECRET), found.get_str(CLIENTS)) {
+        (Some(path), None) => Ok(SecretPlan::File(path)),
+        (None, Some(path)) => Ok(SecretPlan::Clients(path)),
+        _ => Err(Fault::Usage),
+    }
+}
+
 fn plan_of<'a>(alloc: Global, found: &ArgMatches<'a>) -> Result<Plan<'a>, Fault>
     ensures { IfErr result IsWordFault }
 {
@@ -237,7 +267,7 @@ fn plan_of<'a>(alloc: Global, found: &ArgMatches<'a>) -> Result<Plan<'a>, Fault>
         policy: found.get_str(POLICY).ok_or(Fault::Usage)?,
         comparison: comparison_of(alloc, found)?,
         strict: found.get_flag(STRICT),
-        secret: found.get_str(SECRET).ok_or(Fault::Usage)?,
+        secret: secret_plan(found)?,
         secrets: shown_secrets(found),
         dictionaries: Vec::from_slice(alloc, files)?,
     })

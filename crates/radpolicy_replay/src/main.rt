@@ -7,14 +7,16 @@ ghost use Rattle.std.specs.Prelude.{◌<◌, IfErr, IfOk, length};
 ghost use Rattle.avp_dict.specs.Lines.{HasDistinctNames};
 ghost use Rattle.radpolicy.specs.Faults.{IsPrintedAnywhere, IsPrintedWith};
 
-use crate::command_line::{AgainstPlan, Plan, help_text, read_words};
+use crate::command_line::{AgainstPlan, Plan, SecretPlan, help_text, read_words};
 use avp_dict::{Dictionary, FileSet};
 use avp_lists::{AttrId, Octets};
 use radpolicy::{Fault, PreparedPolicy, Secret, status};
+use radpolicy_clients::{ClientFault, Clients, ClientsFault, read_clients};
 use radpolicy_common::{
     Unread, read_dictionary_set, read_file, refuse, refuse_early, refuse_unread,
 };
-use radpolicy_replay_records::{Against, Comparison, Replay, ReplayFault, Summary};
+use radpolicy_replay_records::{Against, Comparison, Replay, ReplayFault, SharedSecrets, Summary};
+use server_configuration::SystemFiles;
 use std::alloc::{AllocError, Global};
 use std::io;
 use std::io::BufWriter;
@@ -27,6 +29,7 @@ struct Files {
     policy: Octets,
     // Empty where answers are compared with no policy's.
     against: Octets,
+    // Empty where there are clients.
     secret: Octets,
 }
 
@@ -49,6 +52,14 @@ fn read_old_policy<'a>(rt: &HostRuntime, plan: &Plan<'a>) -> Result<Octets, Unre
     }
 }
 
+// What the secret's file holds; nothing where there are clients.
+fn read_secret<'a>(rt: &HostRuntime, plan: &Plan<'a>) -> Result<Octets, Unread<'a>> {
+    match plan.secret {
+        SecretPlan::File(path) => read_file(rt, path),
+        SecretPlan::Clients(_) => Ok(Octets::from_vec(Vec::new(rt.alloc()))),
+    }
+}
+
 // The files are read in the order dictionaries, policy, old policy, secret, up to the first that cannot be read.
 fn read_files<'a>(rt: &HostRuntime, plan: &Plan<'a>) -> Result<Files, Unread<'a>>
     ensures first { IfOk result (λ files. 0 < length files.dictionary) }
@@ -58,7 +69,7 @@ fn read_files<'a>(rt: &HostRuntime, plan: &Plan<'a>) -> Result<Files, Unread<'a>
         dictionary: read_dictionary_set(rt, plan.dictionaries.as_slice())?,
         policy: read_file(rt, plan.policy)?,
         against: read_old_policy(rt, plan)?,
-        secret: read_file(rt, plan.secret)?,
+        secret: read_secret(rt, plan)?,
     })
 }
 
@@ -181,6 +192,90 @@ fn comparison_of<'a>(
     })
 }
 
+// Why the clients are not read, and where. No secret is said.
+fn refuse_clients<'a>(rt: &HostRuntime, path: &'a str, refused: &ClientsFault) -> u8 {
+    match refused.fault {
+        ClientFault::Memory => refuse_early(rt, &Fault::Memory),
+        ClientFault::Unreadable => refuse_unread(rt, Unread::File(path)),
+        fault => {
+            let line = refused.line;
+            let _ = match String::from_utf8_lossy(rt.alloc(), &refused.path) {
+                Ok(file) => eprintln!(rt; "radpolicy: E02 {file}:{line}: {fault}"),
+                Err(_) => eprintln!(rt; "radpolicy: E02 {path}: {fault}"),
+            };
+            status(&Fault::OptionValue)
+        }
+    }
+}
+
+// The secret of a file, or those of clients.
+#[derive(Drop)]
+enum HeldSecrets<'a> {
+    One(Secret<'a>),
+    ByClient(Clients),
+}
+
+fn shared_by<'a>(held: &'a HeldSecrets<'a>) -> SharedSecrets<'a> {
+    match held {
+        HeldSecrets::One(secret) => SharedSecrets::One(secret),
+        HeldSecrets::ByClient(clients) => SharedSecrets::ByClient(clients),
+    }
+}
+
+// The secrets of a plan; or the status, where clients were refused and it was said why.
+fn held_secrets<'a>(
+    rt: &HostRuntime,
+    plan: &Plan<'_>,
+    octets: &'a [u8],
+) -> Result<Result<HeldSecrets<'a>, u8>, Fault>
+    ensures { IfErr result IsPrintedAnywhere }
+{
+    match plan.secret {
+        SecretPlan::File(_) => Ok(Ok(HeldSecrets::One(Secret::in_file(octets)?))),
+        SecretPlan::Clients(path) => {
+            match read_clients(rt.alloc(), &SystemFiles::new(rt), path.as_bytes()) {
+                Ok(clients) => Ok(Ok(HeldSecrets::ByClient(clients))),
+                Err(refused) => Ok(Err(refuse_clients(rt, path, &refused))),
+            }
+        }
+    }
+}
+
+// What a plan says beside its policies: the secrets, and the attributes that are left out where replies are compared.
+struct Settings<'a> {
+    secrets: HeldSecrets<'a>,
+    ignored: Vec<AttrId>,
+}
+
+// As a function, so that where settings are dropped a proof sees one step.
+impl<'a> Drop for Settings<'a> {
+    fn drop(self) {
+        let Settings {
+            secrets: _,
+            ignored: _,
+        } = self;
+    }
+}
+
+// The settings of a plan; or the status, where it was said why there are none.
+fn settings_of<'a>(
+    rt: &HostRuntime,
+    plan: &Plan<'_>,
+    dictionary: &Dictionary,
+    octets: &'a [u8],
+) -> Result<Result<Settings<'a>, u8>, Fault>
+    ensures { IfErr result IsPrintedAnywhere }
+{
+    let secrets = match held_secrets(rt, plan, octets)? {
+        Ok(secrets) => secrets,
+        Err(status) => return Ok(Err(status)),
+    };
+    match named_attributes(rt.alloc(), dictionary, ignored_names(plan))? {
+        Ok(ignored) => Ok(Ok(Settings { secrets, ignored })),
+        Err(name) => Ok(Err(refuse_name(rt, name))),
+    }
+}
+
 // What is read of the files, and the replay by it.
 fn replay_by(rt: &HostRuntime, plan: &Plan<'_>, files: &Files) -> Result<u8, Fault>
     requires first { 0 < length files.now.dictionary }
@@ -190,15 +285,14 @@ fn replay_by(rt: &HostRuntime, plan: &Plan<'_>, files: &Files) -> Result<u8, Fau
     let dictionary = Dictionary::read(rt.alloc(), &files.dictionary)?;
     let policy = PreparedPolicy::read(rt.alloc(), &dictionary, files.policy.as_slice())?;
     let against = read_against(rt, &dictionary, plan, files.against.as_slice())?;
-    let secret = Secret::in_file(files.secret.as_slice())?;
-    let ignored = match named_attributes(rt.alloc(), &dictionary, ignored_names(plan))? {
-        Ok(ids) => ids,
-        Err(name) => return Ok(refuse_name(rt, name)),
+    let settings = match settings_of(rt, plan, &dictionary, files.secret.as_slice())? {
+        Ok(settings) => settings,
+        Err(status) => return Ok(status),
     };
     let replay = Replay {
         policy: &policy,
-        secret: &secret,
-        comparison: comparison_of(plan, &against, &ignored),
+        shared: shared_by(&settings.secrets),
+        comparison: comparison_of(plan, &against, &settings.ignored),
         secrets: plan.secrets,
     };
     Ok(replay_input(rt, plan.strict, &replay))

@@ -1,5 +1,5 @@
 -- What a policy answers, by how its packet is read and what its run comes to.
-use Rattle.std.proofs.Common.{◌≡◌, ◌∙◌, inl, inr, List, ℕ, Option, None, Some, Result, Ok, Err, refl, ap, subst, sym}
+use Rattle.std.proofs.Common.{◌≡◌, ◌∙◌, ◌⊎◌, inl, inr, List, ℕ, Option, None, Some, Result, Ok, Err, refl, ap, subst, sym}
 use Rattle.avp_packet.specs.Decoded.{decoded}
 use Rattle.avp_packet.specs.declared.faults.PacketFault.{PacketFault}
 use Rattle.avp_packet.specs.declared.packets.Packet.{Packet}
@@ -15,8 +15,9 @@ use Rattle.avp_unlang.specs.Meaning.{Outcome as End}
 use Rattle.std.specs.Option.{option_map}
 use Rattle.radpolicy.specs.RunOutcomes.{end_of, outcome_with, sent_reply}
 use Rattle.radpolicy.specs.declared.run_outcomes.Reply.{Reply}
-use Rattle.radpolicy_replay_records.specs.Answers.{answer_to, answered, outcome_or_fault}
+use Rattle.radpolicy_replay_records.specs.Answers.{answer_to, answered, answered_record, outcome_or_fault}
 use Rattle.radpolicy_replay_records.specs.Replays.{answer_by}
+use Rattle.radpolicy_replay_records.specs.declared.answers.RecordFault.{RecordFault}
 use Rattle.radpolicy_replay_records.specs.internal.Over.{IsOver}
 
 -- a packet that is not read
@@ -59,20 +60,21 @@ run_refused prepared secret octets start read is f (inr (too_long, none)) =
 
 -- ---- whose dictionary an answer is over
 
-over_run : (dictionary : Dictionary) (end : End) (sent : Option Reply) → IsOver dictionary (outcome_or_fault (option_map (outcome_with dictionary end) sent))
+over_run : (dictionary : Dictionary) (end : End) (sent : Option Reply) → IsOver dictionary (answered_record (outcome_or_fault (option_map (outcome_with dictionary end) sent)))
 over_run dictionary end None = tt
 over_run dictionary end (Some reply) = refl
 
-over_read : (prepared : Prepared) (secret : List ℕ) (read : Result Packet PacketFault) → IsOver prepared.dictionary (answer_to prepared secret read)
+over_read : (prepared : Prepared) (secret : List ℕ) (read : Result Packet PacketFault) → IsOver prepared.dictionary (answered_record (answer_to prepared secret read))
 over_read prepared secret (Err f) = tt
 over_read prepared secret (Ok request) =
     let start = start_of prepared (Some secret) Hex request in
     over_run prepared.dictionary (end_of start) (sent_reply start (end_of start))
 
-over_answer : (prepared : Prepared) (secret : List ℕ) (request : Result (List ℕ) Fault) → IsOver prepared.dictionary (answer_by prepared secret request)
+over_answer : (prepared : Prepared) (secret : Option (List ℕ)) (request : Result (List ℕ) Fault) → IsOver prepared.dictionary (answer_by prepared secret request)
 unfolding answered
 over_answer prepared secret (Err f) = tt
-over_answer prepared secret (Ok octets) = over_read prepared secret (decoded prepared.dictionary secret octets)
+over_answer prepared None (Ok octets) = tt
+over_answer prepared (Some secret) (Ok octets) = over_read prepared secret (decoded prepared.dictionary secret octets)
 
-pub answer_is_over : (prepared : Prepared) (secret : List ℕ) (request : Result (List ℕ) Fault) (answer : Result RunOutcome Fault) → answer ≡ answer_by prepared secret request → IsOver prepared.dictionary answer
+pub answer_is_over : (prepared : Prepared) (secret : Option (List ℕ)) (request : Result (List ℕ) Fault) (answer : Result RunOutcome RecordFault) → answer ≡ answer_by prepared secret request → IsOver prepared.dictionary answer
 answer_is_over prepared secret request answer same = subst (IsOver prepared.dictionary) (sym same) (over_answer prepared secret request)

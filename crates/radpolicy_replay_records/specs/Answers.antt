@@ -21,6 +21,8 @@ use Rattle.radpolicy.specs.declared.run_outcomes.Reply.TheVariants as reply
 use Rattle.radpolicy_common.specs.declared.change_texts.SecretValues.{SecretValues}
 use Rattle.radpolicy_common.specs.declared.change_texts.SecretValues.TheVariants.{Hidden, Shown}
 use Rattle.radpolicy_common.specs.SecretAttributes.{is_secret}
+use Rattle.radpolicy_replay_records.specs.declared.answers.RecordFault.{RecordFault}
+use Rattle.radpolicy_replay_records.specs.declared.answers.RecordFault.TheVariants.{NoClient, Request}
 
 -- ---- answers
 
@@ -39,6 +41,11 @@ answer_to prepared secret (Ok request) =
 unfoldable pub answered : Prepared → List ℕ → List ℕ → Result RunOutcome Fault
 answered prepared secret octets =
     answer_to prepared secret (decoded prepared.dictionary secret octets)
+
+-- why a record is refused whose request is
+abbrev pub answered_record : Result RunOutcome Fault → Result RunOutcome RecordFault
+answered_record (Ok outcome) = Ok outcome
+answered_record (Err f) = Err (Request f)
 
 -- ---- what is said of them
 
@@ -69,7 +76,12 @@ outcome_shown dictionary secrets outcome = result_shown outcome.end ++ codes " "
 abbrev pub fault_shown : Fault → List ℕ
 fault_shown f = fault_code_text (fault_number f) ++ codes " " ++ fault_text f
 
+-- why a record is refused
+abbrev pub refusal_shown : RecordFault → List ℕ
+refusal_shown (Request f) = fault_shown f
+refusal_shown NoClient = codes "no client"
+
 -- what is said of an answer
-abbrev pub answer_shown : Dictionary → SecretValues → Result RunOutcome Fault → List ℕ
+abbrev pub answer_shown : Dictionary → SecretValues → Result RunOutcome RecordFault → List ℕ
 answer_shown dictionary secrets (Ok outcome) = outcome_shown dictionary secrets outcome
-answer_shown dictionary secrets (Err f) = fault_shown f
+answer_shown dictionary secrets (Err f) = refusal_shown f

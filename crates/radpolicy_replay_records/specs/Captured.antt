@@ -18,10 +18,11 @@ use Rattle.radpolicy.specs.declared.faults.Fault.TheVariants as fault
 use Rattle.radpolicy.specs.declared.run_outcomes.Reply.{Reply}
 use Rattle.radpolicy.specs.declared.run_outcomes.Reply.TheVariants as reply
 use Rattle.radpolicy_common.specs.declared.change_texts.SecretValues.{SecretValues}
-use Rattle.radpolicy_replay_records.specs.Answers.{answered, fault_shown}
+use Rattle.radpolicy_replay_records.specs.Answers.{answered, fault_shown, refusal_shown}
 use Rattle.radpolicy_replay_records.specs.Comparisons.{AreSame, compared, same_lists}
 use Rattle.radpolicy_replay_records.specs.Differences.{added_line, list_change, named_change, removed_line}
 use Rattle.radpolicy_replay_records.specs.Records.{is_packet_word, line_words, octets_decoded}
+use Rattle.radpolicy_replay_records.specs.declared.answers.RecordFault.TheVariants.{NoClient, Request}
 use Rattle.radpolicy_replay_records.specs.declared.captured.CapturedFault.{CapturedFault}
 use Rattle.radpolicy_replay_records.specs.declared.captured.CapturedFault.TheVariants.{NoReply, OtherRequest}
 use Rattle.radpolicy_replay_records.specs.declared.captured.Replies.{Replies}
@@ -89,7 +90,7 @@ own_reply dictionary secret request _ = Ok None
 
 abbrev pub with_own : Packet → Result (Option Packet) Fault → Replies
 with_own captured (Ok own) = Both captured own
-with_own captured (Err f) = Refused f
+with_own captured (Err f) = Refused (Request f)
 
 -- a challenge is compared with nothing: a policy sends none (RFC 2865, section 4.4)
 abbrev pub beside : Dictionary → List ℕ → List ℕ → Reply → Result Packet CapturedFault → Replies
@@ -105,14 +106,16 @@ beside_word dictionary secret request sent (Some word) =
 
 abbrev pub replies_of : Dictionary → List ℕ → List ℕ → Option (List ℕ) → Result RunOutcome Fault
     → Replies
-replies_of dictionary secret request word (Err f) = Refused f
+replies_of dictionary secret request word (Err f) = Refused (Request f)
 replies_of dictionary secret request word (Ok outcome) =
     beside_word dictionary secret request outcome.reply word
 
--- the replies to a request that is given so, with this word as the one that was captured
-abbrev pub replies_by : Prepared → List ℕ → Option (List ℕ) → Result (List ℕ) Fault → Replies
-replies_by prepared secret word (Err f) = Refused f
-replies_by prepared secret word (Ok request) =
+-- the replies to a request that is given so, by the secret if there is one, with this word as the one that was captured
+abbrev pub replies_by : Prepared → Option (List ℕ) → Option (List ℕ) → Result (List ℕ) Fault
+    → Replies
+replies_by prepared secret word (Err f) = Refused (Request f)
+replies_by prepared None word (Ok request) = Refused NoClient
+replies_by prepared (Some secret) word (Ok request) =
     replies_of prepared.dictionary secret request word (answered prepared secret request)
 
 -- ---- the same
@@ -193,7 +196,7 @@ other_reply_told secrets dictionary comparison name captured own =
 -- what is said of the replies to the record of this name
 unfoldable pub replies_told : SecretValues → Dictionary → Comparison → List ℕ → Replies → List ℕ
 replies_told secrets dictionary comparison name (Refused f) =
-    quietly_told comparison.told name (fault_shown f)
+    quietly_told comparison.told name (refusal_shown f)
 replies_told secrets dictionary comparison name Unanswered =
     quietly_told comparison.told name (codes "unanswered")
 replies_told secrets dictionary comparison name (Unread f) =

@@ -1,5 +1,5 @@
 -- How two lists of pairs are compared, and two answers.
-use Rattle.std.specs.Prelude.{◌≡◌, ℕ, ◌==◌, Bool, true, false, not, ◌&&◌, if◌then◌else◌, List, [], ◌∷◌, ◌++◌, Result, Ok, Err, filter, map}
+use Rattle.std.specs.Prelude.{◌≡◌, ℕ, ◌==◌, Bool, true, false, not, ◌&&◌, if◌then◌else◌, List, [], ◌∷◌, ◌++◌, Result, Ok, Err, filter, map, ⊤}
 use Rattle.std.specs.Borrow.{Bor}
 use Rattle.std.specs.List.{fold, list_all, list_any}
 use Rattle.avp_lists.specs.Instances.{instances}
@@ -7,6 +7,7 @@ use Rattle.avp_lists.specs.Pairs.{id_eq, pair_eq}
 use Rattle.avp_lists.specs.States.{list_of}
 use Rattle.avp_lists.specs.declared.lists.List.{List as Name}
 use Rattle.avp_lists.specs.declared.lists.List.TheVariants.{Control, Reply}
+use Rattle.avp_lists.specs.declared.lists.State.{State}
 use Rattle.avp_lists.specs.declared.pairs.AttrId.{AttrId}
 use Rattle.avp_lists.specs.declared.pairs.Pair.{Pair}
 use Rattle.avp_unlang.specs.Meaning.{Outcome as End}
@@ -14,7 +15,8 @@ use Rattle.avp_unlang.specs.declared.codes.Code.{Code}
 use Rattle.avp_unlang.specs.declared.codes.Code.TheVariants as code
 use Rattle.radpolicy.specs.Faults.{fault_number}
 use Rattle.radpolicy.specs.RunOutcomes.{RunOutcome}
-use Rattle.radpolicy.specs.declared.faults.Fault.{Fault}
+use Rattle.radpolicy_replay_records.specs.declared.answers.RecordFault.{RecordFault}
+use Rattle.radpolicy_replay_records.specs.declared.answers.RecordFault.TheVariants.{NoClient, Request}
 use Rattle.radpolicy_replay_records.specs.declared.comparisons.Comparison.{Comparison}
 use Rattle.radpolicy_replay_records.specs.declared.comparisons.Order.{Order}
 use Rattle.radpolicy_replay_records.specs.declared.comparisons.Order.TheVariants.{ByName, Ordered}
@@ -78,10 +80,17 @@ pub record AreSameEnds (comparison : Comparison) (old new : End) : Type 0 where
   pub control : AreSame comparison.order (compared_list comparison Control old)
       (compared_list comparison Control new)
 
--- two answers are the same: both are refused by a fault of one number, or both runs came to the same
-abbrev pub AreSameAnswers : Comparison → Result RunOutcome Fault → Result RunOutcome Fault → Type 0
+-- both records are refused by a fault of one number, or both are of no client
+abbrev pub AreSameFaults : RecordFault → RecordFault → Type 0
+AreSameFaults (Request f) (Request g) = fault_number f ≡ fault_number g
+AreSameFaults NoClient NoClient = ⊤
+AreSameFaults _ _ = ⊥
+
+-- two answers are the same: both are refused alike, or both runs came to the same
+abbrev pub AreSameAnswers : Comparison → Result RunOutcome RecordFault
+    → Result RunOutcome RecordFault → Type 0
 AreSameAnswers comparison (Ok old) (Ok new) = AreSameEnds comparison old.end new.end
-AreSameAnswers comparison (Err f) (Err g) = fault_number f ≡ fault_number g
+AreSameAnswers comparison (Err f) (Err g) = AreSameFaults f g
 AreSameAnswers comparison _ _ = ⊥
 
 -- ---- the same, as a test
@@ -109,7 +118,13 @@ unfoldable pub same_ends : Comparison → End → End → Bool
 same_ends comparison old new = same_code old.code new.code && same_stop old.stopped new.stopped
     && same_list comparison Reply old new && same_list comparison Control old new
 
-abbrev pub same_answers : Comparison → Result RunOutcome Fault → Result RunOutcome Fault → Bool
+abbrev pub same_faults : RecordFault → RecordFault → Bool
+same_faults (Request f) (Request g) = fault_number f == fault_number g
+same_faults NoClient NoClient = true
+same_faults _ _ = false
+
+abbrev pub same_answers : Comparison → Result RunOutcome RecordFault
+    → Result RunOutcome RecordFault → Bool
 same_answers comparison (Ok old) (Ok new) = same_ends comparison old.end new.end
-same_answers comparison (Err f) (Err g) = fault_number f == fault_number g
+same_answers comparison (Err f) (Err g) = same_faults f g
 same_answers comparison _ _ = false

@@ -1,5 +1,5 @@
 -- What is said of two answers to a record that were compared.
-use Rattle.std.specs.Prelude.{ℕ, if◌then◌else◌, List, [], ◌∷◌, ◌++◌, codes, Result, Ok, Err}
+use Rattle.std.specs.Prelude.{ℕ, Bool, if◌then◌else◌, List, [], ◌∷◌, ◌++◌, codes, Result, Ok, Err}
 use Rattle.std.specs.List.{flat_map}
 use Rattle.avp_lists.specs.Instances.{instances}
 use Rattle.avp_lists.specs.declared.lists.List.{List as Name}
@@ -8,11 +8,11 @@ use Rattle.avp_lists.specs.declared.pairs.AttrId.{AttrId}
 use Rattle.avp_lists.specs.declared.pairs.Pair.{Pair}
 use Rattle.avp_dict.specs.Dictionary.{Dictionary}
 use Rattle.radpolicy.specs.RunOutcomes.{RunOutcome}
-use Rattle.radpolicy.specs.declared.faults.Fault.{Fault}
 use Rattle.radpolicy_common.specs.ChangeTexts.{pair_text}
 use Rattle.radpolicy_common.specs.declared.change_texts.SecretValues.{SecretValues}
-use Rattle.radpolicy_replay_records.specs.Answers.{fault_shown, result_shown}
+use Rattle.radpolicy_replay_records.specs.Answers.{refusal_shown, result_shown}
 use Rattle.radpolicy_replay_records.specs.Comparisons.{compared_list, ids_of, pairs_eq, same_answers}
+use Rattle.radpolicy_replay_records.specs.declared.answers.RecordFault.{RecordFault}
 use Rattle.radpolicy_replay_records.specs.declared.comparisons.Comparison.{Comparison}
 use Rattle.radpolicy_replay_records.specs.declared.comparisons.Order.{Order}
 use Rattle.radpolicy_replay_records.specs.declared.comparisons.Order.TheVariants.{ByName, Ordered}
@@ -53,10 +53,10 @@ list_change removed added ByName old new =
 
 -- ---- answers
 
--- the result, and whether the run was stopped; or the number of a fault, and its words
-abbrev pub result_or_fault : Result RunOutcome Fault → List ℕ
+-- the result, and whether the run was stopped; or why the record is refused
+abbrev pub result_or_fault : Result RunOutcome RecordFault → List ℕ
 result_or_fault (Ok outcome) = result_shown outcome.end
-result_or_fault (Err f) = fault_shown f
+result_or_fault (Err f) = refusal_shown f
 
 -- the lines of a list's change below its name, where there are any
 abbrev pub named_change : List ℕ → List ℕ → List ℕ
@@ -70,38 +70,38 @@ change_of secrets comparison list old new =
     comparison.order (compared_list comparison list old.end) (compared_list comparison list new.end)
 
 -- how the reply and control lists differ, where both ran
-abbrev pub changes_of : SecretValues → Comparison → Result RunOutcome Fault
-    → Result RunOutcome Fault → List ℕ
+abbrev pub changes_of : SecretValues → Comparison → Result RunOutcome RecordFault
+    → Result RunOutcome RecordFault → List ℕ
 changes_of secrets comparison (Ok old) (Ok new) =
     named_change (codes "reply") (change_of secrets comparison Reply old new)
     ++ named_change (codes "control") (change_of secrets comparison Control old new)
 changes_of secrets comparison _ _ = []
 
 -- a record that is answered alike, which has no line unless all are told
-abbrev pub same_told : Told → List ℕ → Result RunOutcome Fault → List ℕ
+abbrev pub same_told : Told → List ℕ → Result RunOutcome RecordFault → List ℕ
 same_told Different name answer = []
 same_told All name answer = name ++ result_or_fault answer ++ codes "\n"
 
 -- a record that is not
-abbrev pub difference_told : SecretValues → Comparison → List ℕ → Result RunOutcome Fault
-    → Result RunOutcome Fault → List ℕ
+abbrev pub difference_told : SecretValues → Comparison → List ℕ → Result RunOutcome RecordFault
+    → Result RunOutcome RecordFault → List ℕ
 difference_told secrets comparison name old new =
     name ++ result_or_fault old ++ codes " -> " ++ result_or_fault new ++ codes "\n"
     ++ changes_of secrets comparison old new
 
 -- what is said of the answers to the record of this name
-unfoldable pub answers_told : SecretValues → Comparison → List ℕ → Result RunOutcome Fault
-    → Result RunOutcome Fault → List ℕ
+unfoldable pub answers_told : SecretValues → Comparison → List ℕ → Result RunOutcome RecordFault
+    → Result RunOutcome RecordFault → List ℕ
 answers_told secrets comparison name old new =
     if same_answers comparison old new then same_told comparison.told name new
     else difference_told secrets comparison name old new
 
-abbrev pub verdict_of_same : Result RunOutcome Fault → Verdict
+abbrev pub verdict_of_same : Result RunOutcome RecordFault → Verdict
 verdict_of_same (Ok _) = verdict.Same
 verdict_of_same (Err _) = verdict.Refused
 
 -- what became of a record that was answered so: one that both refuse by one fault is refused
-unfoldable pub verdict_of_answers : Comparison → Result RunOutcome Fault
-    → Result RunOutcome Fault → Verdict
+unfoldable pub verdict_of_answers : Comparison → Result RunOutcome RecordFault
+    → Result RunOutcome RecordFault → Verdict
 verdict_of_answers comparison old new =
     if same_answers comparison old new then verdict_of_same new else verdict.Different

@@ -1,6 +1,8 @@
 -- What the line of a record says: words that name it, the request's packet, and the reply that was sent.
-use Rattle.std.specs.Prelude.{ℕ, ◌==◌, Bool, false, not, ◌&&◌, ◌||◌, nat_le, nat_lt, if◌then◌else◌, List, [], ◌∷◌, ◌++◌, codes, decimal, filter, find, length, slice_index, Option, None, Some, Result, Ok, Err}
+use Rattle.std.specs.Prelude.{ℕ, ◌==◌, Bool, true, false, not, ◌&&◌, ◌||◌, nat_le, nat_lt, if◌then◌else◌, List, [], ◌∷◌, ◌++◌, codes, decimal, drop, filter, find, length, slice_index, Option, None, Some, Result, Ok, Err}
 use Rattle.std.specs.List.{count_by, flat_map, list_all, slice_split}
+use Rattle.std.specs.Option.{option_and_then}
+use Rattle.std.specs.declared.net.ip_addr.IpAddr.{IpAddr}
 use Rattle.hex.specs.Hex.{decode_of, is_hex_digit}
 use Rattle.hex.specs.declared.error.FromHexError.{FromHexError}
 use Rattle.avp_dict.specs.Ascii.{colon, full_stop}
@@ -8,6 +10,7 @@ use Rattle.avp_dict.specs.Quotes.{octal_escape}
 use Rattle.avp_dict.specs.Words.{is_blank, is_word}
 use Rattle.radpolicy.specs.declared.faults.Fault.{Fault}
 use Rattle.radpolicy.specs.declared.faults.Fault.TheVariants as fault
+use Rattle.radpolicy_clients.specs.Addresses.{address_of}
 use Rattle.radpolicy_replay_records.specs.declared.lines.TheConstants.{MAX_LINE_OCTETS}
 
 -- ---- words
@@ -59,6 +62,15 @@ is_source word = begins_source word || is_address word
 
 abbrev pub is_no_source : List ℕ → Bool
 is_no_source word = not (is_source word)
+
+-- the text of a source's address
+unfoldable pub source_text : List ℕ → List ℕ
+source_text word = if begins_source word then drop 4 word else word
+
+-- the address of a record's source: of the first word before the packet that is one
+abbrev pub source_of : List ℕ → Option IpAddr
+source_of line = option_and_then (λ word. address_of (source_text word))
+    (find is_source (words_before (line_words line)))
 
 -- ---- the name of a record
 

@@ -1,15 +1,19 @@
 -- What a replay writes of a text of records, and how many there were.
-use Rattle.std.specs.Prelude.{◌≡◌, ◌≤◌, ℕ, ◌+◌, ◌^◌, List, ◌++◌, codes, Option, None, Some, Result, Ok, Err, ⊤}
+use Rattle.std.specs.Prelude.{◌≡◌, ◌≤◌, ℕ, ◌+◌, ◌^◌, List, [], ◌++◌, codes, Option, None, Some, Result, Ok, Err, ⊤}
 use Rattle.std.specs.Io.KnownBytes.{Appends, Consumes}
 use Rattle.std.specs.List.{enumerate_from, flat_map, fold}
+use Rattle.std.specs.Option.{option_and_then}
 use Rattle.radpolicy.specs.RunOutcomes.{RunOutcome}
 use Rattle.radpolicy.specs.Starts.{Prepared}
 use Rattle.radpolicy.specs.declared.faults.Fault.{Fault}
-use Rattle.radpolicy_replay_records.specs.Answers.{answer_shown, answered}
+use Rattle.radpolicy_clients.specs.Clients.{secret_for}
+use Rattle.radpolicy_replay_records.specs.Answers.{answer_shown, answered, answered_record}
 use Rattle.radpolicy_replay_records.specs.Captured.{replies_by, replies_told, reply_word, verdict_of_replies}
 use Rattle.radpolicy_replay_records.specs.Differences.{answers_told, verdict_of_answers}
 use Rattle.radpolicy_replay_records.specs.Lines.{ended_records_of, records_of}
-use Rattle.radpolicy_replay_records.specs.Records.{name_shown, request_octets}
+use Rattle.radpolicy_replay_records.specs.Records.{name_shown, request_octets, source_of}
+use Rattle.radpolicy_replay_records.specs.declared.answers.RecordFault.{RecordFault}
+use Rattle.radpolicy_replay_records.specs.declared.answers.RecordFault.TheVariants.{NoClient, Request}
 use Rattle.radpolicy_replay_records.specs.declared.captured.Replies.{Replies}
 use Rattle.radpolicy_replay_records.specs.declared.comparisons.Against.{Against}
 use Rattle.radpolicy_replay_records.specs.declared.comparisons.Against.TheVariants.{Captured, Policy}
@@ -17,36 +21,42 @@ use Rattle.radpolicy_replay_records.specs.declared.comparisons.Comparison.{Compa
 use Rattle.radpolicy_replay_records.specs.declared.replays.Replay.{Replay}
 use Rattle.radpolicy_replay_records.specs.declared.replays.ReplayFault.{ReplayFault}
 use Rattle.radpolicy_replay_records.specs.declared.replays.ReplayFault.TheVariants.{Input, TooManyRecords}
+use Rattle.radpolicy_replay_records.specs.declared.replays.SharedSecrets.{SharedSecrets}
+use Rattle.radpolicy_replay_records.specs.declared.replays.SharedSecrets.TheVariants.{ByClient, One}
 use Rattle.radpolicy_replay_records.specs.declared.summaries.Summary.{Summary}
 use Rattle.radpolicy_replay_records.specs.declared.summaries.Verdict.{Verdict}
 use Rattle.radpolicy_replay_records.specs.declared.summaries.Verdict.TheVariants.{Answered, Challenged, Different, Refused, Same, Unanswered}
 
 -- ---- one record
 
--- what a policy answers to a request
-abbrev pub answer_by : Prepared → List ℕ → Result (List ℕ) Fault → Result RunOutcome Fault
-answer_by prepared secret (Ok octets) = answered prepared secret octets
-answer_by prepared secret (Err f) = Err f
+-- the secret that is shared with the source of a record
+abbrev pub record_secret : SharedSecrets → List ℕ → Option (List ℕ)
+record_secret (One secret) line = Some secret.now
+record_secret (ByClient clients) line = option_and_then (secret_for clients.now) (source_of line)
 
--- what the policy answers to a record
-abbrev pub record_answer : Replay → List ℕ → Result RunOutcome Fault
-record_answer replay line =
-    answer_by replay.policy.now replay.secret.now (request_octets line)
+-- what a policy answers to a request, by the secret if there is one
+abbrev pub answer_by : Prepared → Option (List ℕ) → Result (List ℕ) Fault
+    → Result RunOutcome RecordFault
+answer_by prepared secret (Err f) = Err (Request f)
+answer_by prepared None (Ok octets) = Err NoClient
+answer_by prepared (Some secret) (Ok octets) = answered_record (answered prepared secret octets)
 
--- what this policy answers to it
-abbrev pub old_answer : Replay → Prepared → List ℕ → Result RunOutcome Fault
-old_answer replay against line = answer_by against replay.secret.now (request_octets line)
+-- what this policy answers to a record
+abbrev pub record_answer : SharedSecrets → Prepared → List ℕ → Result RunOutcome RecordFault
+record_answer shared prepared line =
+    answer_by prepared (record_secret shared line) (request_octets line)
 
 -- the reply to it that was captured, and the policy's own
 abbrev pub record_replies : Replay → List ℕ → Replies
-record_replies replay line = replies_by replay.policy.now replay.secret.now (reply_word line)
-    (request_octets line)
+record_replies replay line = replies_by replay.policy.now (record_secret replay.shared line)
+    (reply_word line) (request_octets line)
 
 -- what is written for a record with this number whose answer is compared with these
 abbrev pub compared_text : Replay → Comparison → Against → ℕ → List ℕ → List ℕ
 compared_text replay comparison (Policy against) number line =
     answers_told replay.secrets comparison (name_shown number line)
-    (old_answer replay against.now line) (record_answer replay line)
+    (record_answer replay.shared against.now line)
+    (record_answer replay.shared replay.policy.now line)
 compared_text replay comparison Captured number line =
     replies_told replay.secrets replay.policy.now.dictionary comparison (name_shown number line)
     (record_replies replay line)
@@ -54,7 +64,8 @@ compared_text replay comparison Captured number line =
 -- what is written for a record with this number, where its answer is compared and where it is not
 abbrev pub text_by : Replay → Option Comparison → ℕ → List ℕ → List ℕ
 text_by replay None number line = name_shown number line
-    ++ answer_shown replay.policy.now.dictionary replay.secrets (record_answer replay line)
+    ++ answer_shown replay.policy.now.dictionary replay.secrets
+    (record_answer replay.shared replay.policy.now line)
     ++ codes "\n"
 text_by replay (Some comparison) number line =
     compared_text replay comparison comparison.against number line
@@ -63,18 +74,20 @@ text_by replay (Some comparison) number line =
 unfoldable pub record_text : Replay → ℕ → List ℕ → List ℕ
 record_text replay number line = text_by replay replay.comparison number line
 
-abbrev pub verdict_by : Result RunOutcome Fault → Verdict
+abbrev pub verdict_by : Result RunOutcome RecordFault → Verdict
 verdict_by (Ok _) = Answered
 verdict_by (Err _) = Refused
 
 abbrev pub compared_verdict : Replay → Comparison → Against → List ℕ → Verdict
 compared_verdict replay comparison (Policy against) line =
-    verdict_of_answers comparison (old_answer replay against.now line) (record_answer replay line)
+    verdict_of_answers comparison (record_answer replay.shared against.now line)
+    (record_answer replay.shared replay.policy.now line)
 compared_verdict replay comparison Captured line =
     verdict_of_replies comparison (record_replies replay line)
 
 abbrev pub verdict_on : Replay → Option Comparison → List ℕ → Verdict
-verdict_on replay None line = verdict_by (record_answer replay line)
+verdict_on replay None line =
+    verdict_by (record_answer replay.shared replay.policy.now line)
 verdict_on replay (Some comparison) line =
     compared_verdict replay comparison comparison.against line
 

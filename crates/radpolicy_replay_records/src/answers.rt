@@ -4,7 +4,7 @@ ghost use Rattle.std.specs.Prelude.{◌≡◌, ◌++◌, Err, IfErr, IfOk, Ok, O
 ghost use Rattle.avp_lists.specs.History.{present};
 ghost use Rattle.avp_unlang.specs.Meaning.{Outcome as End};
 ghost use Rattle.radpolicy.specs.Faults.{MemoryOr};
-ghost use Rattle.radpolicy_replay_records.specs.Answers.{answered, fault_shown, has_secret, hides_reply, outcome_shown, reply_shown, result_shown};
+ghost use Rattle.radpolicy_replay_records.specs.Answers.{answered, fault_shown, has_secret, hides_reply, outcome_shown, refusal_shown, reply_shown, result_shown};
 
 use avp_dict::Dictionary;
 use avp_lists::{List, Pair, Store};
@@ -12,6 +12,15 @@ use avp_unlang::Code;
 use radpolicy::{Fault, PreparedPolicy, Reply, RunOutcome, Secret, Start, code_text};
 use radpolicy_common::{SecretValues, is_secret};
 use std::alloc::{AllocError, Global};
+
+/// Why a record is refused.
+#[derive(Clone, Copy, Debug, PartialEq, Eq)]
+pub enum RecordFault {
+    /// Its request is.
+    Request(Fault),
+    /// Its source is no client's, or it has none.
+    NoClient,
+}
 
 /// What a policy answers to the octets of a packet: the outcome of its run, or why there is none.
 pub fn answer<'a>(
@@ -107,4 +116,17 @@ pub(crate) fn push_fault(text: &mut Vec<u8>, fault: Fault) -> Result<(), AllocEr
     text.extend_from_slice(b" ")?;
     text.extend_from_slice(fault.text().as_bytes())?;
     Ok(())
+}
+
+/// Why a record is refused.
+pub(crate) fn push_refusal(text: &mut Vec<u8>, fault: RecordFault) -> Result<(), AllocError>
+    ensures { OnOk result (text.new.items ≡ text.old.items ++ refusal_shown fault) }
+{
+    match fault {
+        RecordFault::Request(fault) => push_fault(text, fault),
+        RecordFault::NoClient => {
+            text.extend_from_slice(b"no client")?;
+            Ok(())
+        }
+    }
 }

@@ -9,7 +9,7 @@ ghost use Rattle.radpolicy.specs.Faults.{MemoryOr};
 ghost use Rattle.radpolicy.specs.StartRefusals.{IsUnreadPacket};
 ghost use Rattle.radpolicy_common.specs.ChangeTexts.{AllFit};
 ghost use Rattle.radpolicy_replay_records.specs.Captured.{AreSameReplies, answers, beside, beside_word, captured_fault_shown, captured_reply, compared_pairs, is_reply_code, left_out, other_reply_told, own_name, packets_change, own_reply, quietly_told, replies_by, replies_change, replies_told, reply_name, reply_read, reply_to, reply_word, same_packets, same_replies, unless_other, verdict_of_replies, with_own};
-ghost use Rattle.radpolicy_replay_records.specs.Answers.{fault_shown};
+ghost use Rattle.radpolicy_replay_records.specs.Answers.{fault_shown, refusal_shown};
 ghost use Rattle.radpolicy_replay_records.specs.Comparisons.{pairs_of};
 ghost use Rattle.radpolicy_replay_records.specs.Differences.{added_line, removed_line};
 ghost use Rattle.radpolicy_replay_records.specs.declared.captured.Replies.TheVariants.{Both};
@@ -17,7 +17,7 @@ ghost use Rattle.radpolicy_replay_records.specs.declared.summaries.Verdict.TheVa
 ghost use Rattle.radpolicy_replay_records.specs.Records.{octets_decoded, request_octets};
 ghost use Rattle.radpolicy_replay_records.specs.internal.Fitting.{HasHead, OwnFits, PacketFits, RepliesFit};
 
-use crate::answers::{answer, push_fault};
+use crate::answers::{RecordFault, answer, push_fault, push_refusal};
 use crate::comparisons::{Comparison, Order, Told, compared, same_lists};
 use crate::differences::{Printer, push_named};
 use crate::records::{octets_of_digits, reply_word, request_octets};
@@ -44,8 +44,8 @@ pub enum CapturedFault {
 /// The replies to a record, or why they are not compared.
 #[derive(Drop)]
 pub enum Replies {
-    /// The policy does not take the request, or its own reply is not read.
-    Refused(Fault),
+    /// The record is refused, or the policy's own reply is not read.
+    Refused(RecordFault),
     /// No reply was captured.
     Unanswered,
     /// What was captured is no reply to the request.
@@ -219,7 +219,7 @@ fn with_own(
     match own_reply(alloc, dictionary, secret, request, reply) {
         Ok(own) => Ok(Replies::Both { captured, own }),
         Err(Fault::Memory) => Err(AllocError),
-        Err(fault) => Ok(Replies::Refused(fault)),
+        Err(fault) => Ok(Replies::Refused(RecordFault::Request(fault))),
     }
 }
 
@@ -278,7 +278,7 @@ fn replies_of<'a>(
     word: Option<&[u8]>,
 ) -> Result<Replies, AllocError>
     ensures replies { IfOk result (λ replies. replies ≡ replies_by policy.entry.now
-        secret.entry.now (option_copied word.entry) (Ok request.now)) }
+        (Some secret.entry.now) (option_copied word.entry) (Ok request.now)) }
     ensures fit { IfOk result (RepliesFit policy.entry.now.dictionary) }
 {
     match answer(alloc, policy, secret, request) {
@@ -287,16 +287,33 @@ fn replies_of<'a>(
             beside_word(alloc, dictionary, secret, request, outcome.reply(), word)
         }
         Err(Fault::Memory) => Err(AllocError),
-        Err(fault) => Ok(Replies::Refused(fault)),
+        Err(fault) => Ok(Replies::Refused(RecordFault::Request(fault))),
+    }
+}
+
+fn replies_by<'a>(
+    alloc: Global,
+    policy: &'a PreparedPolicy<'a>,
+    secret: &'a Option<Secret<'a>>,
+    request: &[u8],
+    word: Option<&[u8]>,
+) -> Result<Replies, AllocError>
+    ensures replies { IfOk result (λ replies. replies ≡ replies_by policy.entry.now
+        secret.entry.now (option_copied word.entry) (Ok request.now)) }
+    ensures fit { IfOk result (RepliesFit policy.entry.now.dictionary) }
+{
+    match secret {
+        Some(secret) => replies_of(alloc, policy, secret, request, word),
+        None => Ok(Replies::Refused(RecordFault::NoClient)),
     }
 }
 
 /// The reply that was captured for a record, and the policy's own: both are read as [`decode_reply`] reads them, by the
-/// request's authenticator. A record whose request is refused has none.
+/// request's authenticator. A record that is refused has none, as all have without a secret.
 pub fn replies_to<'a>(
     alloc: Global,
     policy: &'a PreparedPolicy<'a>,
-    secret: &'a Secret<'a>,
+    secret: &'a Option<Secret<'a>>,
     line: &[u8],
 ) -> Result<Replies, AllocError>
     ensures replies { IfOk result (λ replies. replies ≡ replies_by policy.entry.now
@@ -306,10 +323,10 @@ pub fn replies_to<'a>(
     match request_octets(alloc, line) {
         Ok(request) => {
             let word = reply_word(alloc, line)?;
-            replies_of(alloc, policy, secret, &request, word)
+            replies_by(alloc, policy, secret, &request, word)
         }
         Err(Fault::Memory) => Err(AllocError),
-        Err(fault) => Ok(Replies::Refused(fault)),
+        Err(fault) => Ok(Replies::Refused(RecordFault::Request(fault))),
     }
 }
 
@@ -552,14 +569,14 @@ impl Comparison<'_> {
         &self,
         text: &mut Vec<u8>,
         name: &[u8],
-        fault: Fault,
+        fault: RecordFault,
     ) -> Result<Verdict, AllocError>
         ensures text { OnOk result (text.new.items
-            ≡ text.old.items ++ quietly_told self.now.told name.now (fault_shown fault)) }
+            ≡ text.old.items ++ quietly_told self.now.told name.now (refusal_shown fault)) }
         ensures verdict { IfOk result (λ verdict. verdict ≡ RefusedRecord) }
     {
         let mut words = Vec::new(*text.allocator());
-        push_fault(&mut words, fault)?;
+        push_refusal(&mut words, fault)?;
         push_quietly(text, self.told, name, &words)?;
         Ok(Verdict::Refused)
     }

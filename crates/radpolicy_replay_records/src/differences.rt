@@ -3,16 +3,16 @@
 ghost use Rattle.std.specs.Prelude.{◌≡◌, ◌++◌, IfOk, Ok, OnOk, codes};
 ghost use Rattle.std.specs.List.{flat_map};
 ghost use Rattle.radpolicy_common.specs.ChangeTexts.{AllFit, Fits};
-ghost use Rattle.radpolicy_replay_records.specs.Comparisons.{ids_of, pairs_of, same_answers};
+ghost use Rattle.radpolicy_replay_records.specs.Comparisons.{ids_of, pairs_of, same_answers, same_faults};
 ghost use Rattle.radpolicy_replay_records.specs.Differences.{added_line, answers_told, change_of, changes_of, difference_told, instances_change, list_change, named_change, pairs_change, removed_line, result_or_fault, same_told, verdict_of_answers, verdict_of_same};
 ghost use Rattle.radpolicy_replay_records.specs.internal.Over.{IsOver};
 
-use crate::answers::{push_fault, push_result};
+use crate::answers::{RecordFault, push_refusal, push_result};
 use crate::comparisons::{Comparison, Order, Told, compared, ids_of, instances, same_pairs};
 use crate::summaries::Verdict;
 use avp_dict::Dictionary;
 use avp_lists::{AttrId, List, Pair, Store};
-use radpolicy::{Fault, RunOutcome};
+use radpolicy::RunOutcome;
 use radpolicy_common::{Change, SecretValues, change_lines};
 use std::alloc::{AllocError, Global};
 
@@ -179,16 +179,26 @@ pub(crate) fn push_named(text: &mut Vec<u8>, name: &[u8], lines: &[u8]) -> Resul
     Ok(())
 }
 
+fn same_faults(old: RecordFault, new: RecordFault) -> bool
+    ensures { result ≡ same_faults old new }
+{
+    match (old, new) {
+        (RecordFault::Request(old), RecordFault::Request(new)) => old.number() == new.number(),
+        (RecordFault::NoClient, RecordFault::NoClient) => true,
+        _ => false,
+    }
+}
+
 // The result of an answer, or its fault.
 fn push_result_or_fault(
     text: &mut Vec<u8>,
-    answer: &Result<RunOutcome<'_>, Fault>,
+    answer: &Result<RunOutcome<'_>, RecordFault>,
 ) -> Result<(), AllocError>
     ensures { OnOk result (text.new.items ≡ text.old.items ++ result_or_fault answer.now) }
 {
     match answer {
         Ok(outcome) => push_result(text, outcome),
-        Err(fault) => push_fault(text, *fault),
+        Err(fault) => push_refusal(text, *fault),
     }
 }
 
@@ -196,7 +206,7 @@ fn push_same(
     text: &mut Vec<u8>,
     told: Told,
     name: &[u8],
-    answer: &Result<RunOutcome<'_>, Fault>,
+    answer: &Result<RunOutcome<'_>, RecordFault>,
 ) -> Result<(), AllocError>
     ensures { OnOk result (text.new.items ≡ text.old.items ++ same_told told name.now answer.now) }
 {
@@ -209,7 +219,7 @@ fn push_same(
     Ok(())
 }
 
-fn verdict_of_same(answer: &Result<RunOutcome<'_>, Fault>) -> Verdict
+fn verdict_of_same(answer: &Result<RunOutcome<'_>, RecordFault>) -> Verdict
     ensures { result ≡ verdict_of_same answer.now }
 {
     match answer {
@@ -267,8 +277,8 @@ impl Comparison<'_> {
         &self,
         text: &mut Vec<u8>,
         printer: &Printer<'_>,
-        old: &Result<RunOutcome<'_>, Fault>,
-        new: &Result<RunOutcome<'_>, Fault>,
+        old: &Result<RunOutcome<'_>, RecordFault>,
+        new: &Result<RunOutcome<'_>, RecordFault>,
     ) -> Result<(), AllocError>
         requires old { IsOver printer.now.old.now old.now }
         requires new { IsOver printer.now.new.now new.now }
@@ -288,8 +298,8 @@ impl Comparison<'_> {
         text: &mut Vec<u8>,
         printer: &Printer<'_>,
         name: &[u8],
-        old: &Result<RunOutcome<'_>, Fault>,
-        new: &Result<RunOutcome<'_>, Fault>,
+        old: &Result<RunOutcome<'_>, RecordFault>,
+        new: &Result<RunOutcome<'_>, RecordFault>,
     ) -> Result<(), AllocError>
         requires old { IsOver printer.now.old.now old.now }
         requires new { IsOver printer.now.new.now new.now }
@@ -307,8 +317,8 @@ impl Comparison<'_> {
     fn same_answers(
         &self,
         alloc: Global,
-        old: &Result<RunOutcome<'_>, Fault>,
-        new: &Result<RunOutcome<'_>, Fault>,
+        old: &Result<RunOutcome<'_>, RecordFault>,
+        new: &Result<RunOutcome<'_>, RecordFault>,
     ) -> Result<bool, AllocError>
         ensures { IfOk result (λ same. same ≡ same_answers self.now old.now new.now) }
     {
@@ -319,7 +329,7 @@ impl Comparison<'_> {
             },
             Err(old) => match new {
                 Ok(_) => Ok(false),
-                Err(new) => Ok(old.number() == new.number()),
+                Err(new) => Ok(same_faults(*old, *new)),
             },
         }
     }
@@ -331,8 +341,8 @@ impl Comparison<'_> {
         text: &mut Vec<u8>,
         printer: &Printer<'_>,
         name: &[u8],
-        old: &Result<RunOutcome<'_>, Fault>,
-        new: &Result<RunOutcome<'_>, Fault>,
+        old: &Result<RunOutcome<'_>, RecordFault>,
+        new: &Result<RunOutcome<'_>, RecordFault>,
     ) -> Result<Verdict, AllocError>
         requires old { IsOver printer.now.old.now old.now }
         requires new { IsOver printer.now.new.now new.now }

@@ -10,10 +10,10 @@ mod records;
 mod replays;
 mod summaries;
 
-pub use answers::answer;
+pub use answers::{RecordFault, answer};
 pub use captured::{CapturedFault, Replies, replies_to};
 pub use comparisons::{Against, Comparison, Order, Told, compared, same_lists};
 pub use lines::MAX_LINE_OCTETS;
 pub use records::request_octets;
-pub use replays::{Replay, ReplayFault};
+pub use replays::{Replay, ReplayFault, SharedSecrets};
 pub use summaries::{Summary, Verdict};

@@ -8,14 +8,16 @@ ghost use Rattle.avp_dict.specs.Quotes.{octal_escape};
 ghost use Rattle.avp_dict.specs.internal.Views.{views};
 ghost use Rattle.radpolicy.specs.Faults.{MemoryOr};
 ghost use Rattle.radpolicy_replay_records.specs.Captured.{reply_word, words_after};
-ghost use Rattle.radpolicy_replay_records.specs.Records.{begins_source, has_double_colon, identifier_shown, is_address, is_address_octet, is_packet_word, is_source, line_words, name_shown, octet_shown, octets_decoded, or_number, request_octets, word_shown};
+ghost use Rattle.radpolicy_replay_records.specs.Records.{begins_source, has_double_colon, identifier_shown, is_address, is_address_octet, is_packet_word, is_source, line_words, name_shown, octet_shown, octets_decoded, or_number, request_octets, source_of, source_text, word_shown, words_before};
 
 use crate::lines::MAX_LINE_OCTETS;
 use avp_dict::words_between_blanks;
 use hex::FromHexError;
 use itoa::Buffer;
 use radpolicy::Fault;
+use radpolicy_clients::address_of;
 use std::alloc::{AllocError, Global};
+use std::net::IpAddr;
 
 fn is_hex_digit(octet: u8) -> bool
     ensures { result ≡ is_hex_digit octet }
@@ -98,6 +100,44 @@ fn line_words(alloc: Global, line: &[u8]) -> Result<Vec<&[u8]>, AllocError>
     ensures { IfOk result (λ words. views words.items ≡ line_words line.now) }
 {
     words_between_blanks(alloc, line)
+}
+
+#[tactic(auto, unfolding(crate::specs::Records::source_text))]
+fn source_text(word: &[u8]) -> &[u8]
+    ensures { result.now ≡ source_text word.now }
+{
+    match word {
+        [b's', b'r', b'c', b'=', text @ ..] => text,
+        _ => word,
+    }
+}
+
+// The first of the words before the packet that is a source.
+fn source_word<'a>(words: &[&'a [u8]]) -> Option<&'a [u8]>
+    ensures { option_copied result ≡ find is_source (words_before (views words.now)) }
+{
+    let mut rest = words;
+    while let [word, later @ ..] = rest {
+        if is_packet_word(word) {
+            return None;
+        }
+        if is_source(word) {
+            return Some(*word);
+        }
+        rest = later;
+    }
+    None
+}
+
+/// The address of a record's source.
+pub(crate) fn source_of(alloc: Global, line: &[u8]) -> Result<Option<IpAddr>, AllocError>
+    ensures { IfOk result (λ address. address ≡ source_of line.now) }
+{
+    let words = line_words(alloc, line)?;
+    match source_word(&words) {
+        Some(word) => Ok(address_of(source_text(word))),
+        None => Ok(None),
+    }
 }
 
 // ---- the name of a record

@@ -3,23 +3,23 @@
 ghost use Rattle.std.specs.Prelude.{◌≡◌, ◌<◌, ◌≤◌, ◌+◌, ◌++◌, Err, IfErr, IfOk, IfSome, None, Ok, OnErr, OnOk, Some, length, take};
 ghost use Rattle.std.specs.Io.KnownBytes.{Appends, Consumes, IsAtEnd, Keeps};
 ghost use Rattle.radpolicy_replay_records.specs.Lines.{cut};
-ghost use Rattle.radpolicy.specs.Faults.{MemoryOr};
 ghost use Rattle.radpolicy_replay_records.specs.Answers.{answer_shown};
-ghost use Rattle.radpolicy_replay_records.specs.Replays.{AppendsFront, IsReason, answer_by, compared_text, compared_verdict, record_answer, record_text, replayed_text, summary_of, text_by, verdict_by, verdict_of, verdict_on};
+ghost use Rattle.radpolicy_replay_records.specs.Replays.{AppendsFront, IsReason, answer_by, compared_text, compared_verdict, record_answer, record_secret, record_text, replayed_text, summary_of, text_by, verdict_by, verdict_of, verdict_on};
 ghost use Rattle.radpolicy_replay_records.specs.Records.{request_octets};
 ghost use Rattle.radpolicy_replay_records.specs.internal.Over.{IsOver};
 ghost use Rattle.radpolicy_replay_records.specs.declared.comparisons.Against.TheVariants.{Captured, Policy};
 ghost use Rattle.radpolicy_replay_records.specs.declared.replays.ReplayFault.TheVariants.{Input as NotRead, Memory as OutOfMemory, Output as NotWritten};
 ghost use Rattle.radpolicy_replay_records.specs.internal.Positions.{CountsWithin, HasNoEnd, IsLineReason, IsOctetsReason, Writes, WritesFront, line_counted, line_text};
 
-use crate::answers::{answer, push_fault, push_outcome};
+use crate::answers::{RecordFault, answer, push_outcome, push_refusal};
 use crate::captured::replies_to;
 use crate::comparisons::{Against, Comparison};
 use crate::differences::Printer;
 use crate::lines::{MAX_LINE_OCTETS, first_line_end, is_record, keep};
-use crate::records::{push_name, request_octets};
+use crate::records::{push_name, request_octets, source_of};
 use crate::summaries::{Summary, Verdict};
 use radpolicy::{Fault, PreparedPolicy, RunOutcome, Secret};
+use radpolicy_clients::Clients;
 use radpolicy_common::SecretValues;
 use std::alloc::{AllocError, AllocFailed, Global};
 use std::io::{ErrorKind, Read, Write};
@@ -55,12 +55,21 @@ impl<T: Drop> From<AllocFailed<T>> for ReplayFault {
     }
 }
 
-/// What is asked of records: which policy answers them, by which secret, what its answers are compared with, and what
+/// The secrets that are shared with the sources of records.
+#[derive(Drop)]
+pub enum SharedSecrets<'a> {
+    /// One with all.
+    One(&'a Secret<'a>),
+    /// One with each client.
+    ByClient(&'a Clients),
+}
+
+/// What is asked of records: which policy answers them, by which secrets, what its answers are compared with, and what
 /// is shown of secret values.
 #[derive(Drop)]
 pub struct Replay<'a> {
     pub policy: &'a PreparedPolicy<'a>,
-    pub secret: &'a Secret<'a>,
+    pub shared: SharedSecrets<'a>,
     /// `None`: each record is answered.
     pub comparison: Option<Comparison<'a>>,
     pub secrets: SecretValues,
@@ -134,36 +143,40 @@ fn flush<W: Write>(out: &mut W) -> Result<(), ReplayFault>
     }
 }
 
-// What a policy answers to a record.
-fn record_answer<'a>(
+// What a policy answers to a request.
+fn answer_to_request<'a>(
     alloc: Global,
     policy: &'a PreparedPolicy<'a>,
-    secret: &'a Secret<'a>,
-    line: &[u8],
-) -> Result<RunOutcome<'a>, Fault>
-    ensures ok { IfOk result (λ outcome.
-        answer_by policy.entry.now secret.entry.now (request_octets line.now) ≡ Ok outcome) }
-    ensures refused { IfErr result (MemoryOr (λ f.
-        answer_by policy.entry.now secret.entry.now (request_octets line.now) ≡ Err f)) }
+    secret: &'a Option<Secret<'a>>,
+    octets: &[u8],
+) -> Result<Result<RunOutcome<'a>, RecordFault>, AllocError>
+    ensures { IfOk result (λ answer.
+        answer ≡ answer_by policy.entry.now secret.entry.now (Ok octets.now)) }
 {
-    let octets = request_octets(alloc, line)?;
-    answer(alloc, policy, secret, &octets)
+    let Some(secret) = secret else {
+        return Ok(Err(RecordFault::NoClient));
+    };
+    match answer(alloc, policy, secret, octets) {
+        Ok(outcome) => Ok(Ok(outcome)),
+        Err(Fault::Memory) => Err(AllocError),
+        Err(fault) => Ok(Err(RecordFault::Request(fault))),
+    }
 }
 
-// The same as a value, so that only want of memory is an error.
-fn answer_or_fault<'a>(
+// What a policy answers to a record.
+fn answer_by<'a>(
     alloc: Global,
     policy: &'a PreparedPolicy<'a>,
-    secret: &'a Secret<'a>,
+    secret: &'a Option<Secret<'a>>,
     line: &[u8],
-) -> Result<Result<RunOutcome<'a>, Fault>, AllocError>
+) -> Result<Result<RunOutcome<'a>, RecordFault>, AllocError>
     ensures { IfOk result (λ answer.
         answer ≡ answer_by policy.entry.now secret.entry.now (request_octets line.now)) }
 {
-    match record_answer(alloc, policy, secret, line) {
-        Ok(outcome) => Ok(Ok(outcome)),
+    match request_octets(alloc, line) {
+        Ok(octets) => answer_to_request(alloc, policy, secret, &octets),
         Err(Fault::Memory) => Err(AllocError),
-        Err(fault) => Ok(Err(fault)),
+        Err(fault) => Ok(Err(RecordFault::Request(fault))),
     }
 }
 
@@ -171,15 +184,30 @@ fn answer_or_fault<'a>(
 fn answer_over<'a>(
     alloc: Global,
     policy: &'a PreparedPolicy<'a>,
-    secret: &'a Secret<'a>,
+    secret: &'a Option<Secret<'a>>,
     line: &[u8],
-) -> Result<Result<RunOutcome<'a>, Fault>, AllocError>
+) -> Result<Result<RunOutcome<'a>, RecordFault>, AllocError>
     ensures answer { IfOk result (λ answer.
         answer ≡ answer_by policy.entry.now secret.entry.now (request_octets line.now)) }
     ensures over { IfOk result (IsOver policy.entry.now.dictionary) }
 {
-    let answer = answer_or_fault(alloc, policy, secret, line)?;
+    let answer = answer_by(alloc, policy, secret, line)?;
     Ok(answer)
+}
+
+impl SharedSecrets<'_> {
+    // The secret that is shared with the source of a record.
+    fn of_record(&self, alloc: Global, line: &[u8]) -> Result<Option<Secret<'_>>, AllocError>
+        ensures { IfOk result (λ secret. secret ≡ record_secret self.now line.now) }
+    {
+        match self {
+            SharedSecrets::One(secret) => Ok(Secret::new(secret.as_slice()).ok()),
+            SharedSecrets::ByClient(clients) => match source_of(alloc, line)? {
+                Some(address) => Ok(clients.secret_for(address)),
+                None => Ok(None),
+            },
+        }
+    }
 }
 
 impl<'a> Replay<'a> {
@@ -187,19 +215,19 @@ impl<'a> Replay<'a> {
     fn push_answer(&self, text: &mut Vec<u8>, line: &[u8]) -> Result<Verdict, AllocError>
         ensures text { OnOk result (text.new.items ≡ text.old.items
             ++ answer_shown self.now.policy.now.dictionary self.now.secrets
-            (record_answer self.now line.now)) }
-        ensures verdict { IfOk result (λ verdict.
-            verdict ≡ verdict_by (record_answer self.now line.now)) }
+            (record_answer self.now.shared self.now.policy.now line.now)) }
+        ensures verdict { IfOk result (λ verdict. verdict
+            ≡ verdict_by (record_answer self.now.shared self.now.policy.now line.now)) }
     {
         let alloc = *text.allocator();
-        match record_answer(alloc, self.policy, self.secret, line) {
+        let secret = self.shared.of_record(alloc, line)?;
+        match answer_by(alloc, self.policy, &secret, line)? {
             Ok(outcome) => {
                 push_outcome(text, self.policy.dictionary(), self.secrets, &outcome)?;
                 Ok(Verdict::Answered)
             }
-            Err(Fault::Memory) => Err(AllocError),
             Err(fault) => {
-                push_fault(text, fault)?;
+                push_refusal(text, fault)?;
                 Ok(Verdict::Refused)
             }
         }
@@ -239,8 +267,9 @@ impl<'a> Replay<'a> {
         let alloc = *text.allocator();
         let mut name = Vec::new(alloc);
         push_name(&mut name, number, line)?;
-        let old = answer_over(alloc, against, self.secret, line)?;
-        let new = answer_over(alloc, self.policy, self.secret, line)?;
+        let secret = self.shared.of_record(alloc, line)?;
+        let old = answer_over(alloc, against, &secret, line)?;
+        let new = answer_over(alloc, self.policy, &secret, line)?;
         let printer = Printer {
             old: against.dictionary(),
             new: self.policy.dictionary(),
@@ -265,7 +294,8 @@ impl<'a> Replay<'a> {
         let alloc = *text.allocator();
         let mut name = Vec::new(alloc);
         push_name(&mut name, number, line)?;
-        let replies = replies_to(alloc, self.policy, self.secret, line)?;
+        let secret = self.shared.of_record(alloc, line)?;
+        let replies = replies_to(alloc, self.policy, &secret, line)?;
         let dictionary = self.policy.dictionary();
         comparison.push_replies(text, dictionary, self.secrets, &name, &replies)
     }

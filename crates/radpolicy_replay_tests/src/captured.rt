@@ -3,7 +3,7 @@
 use avp_dict::Dictionary;
 use radpolicy::{PreparedPolicy, Secret};
 use radpolicy_common::SecretValues;
-use radpolicy_replay_records::{Against, Comparison, Order, Replay, Summary, Told};
+use radpolicy_replay_records::{Against, Comparison, Order, Replay, SharedSecrets, Summary, Told};
 use samples::test_dictionary;
 use std::alloc::Global;
 use std::test::Fail;
@@ -43,9 +43,10 @@ fn replay_captured<'a>(
         ignored: &[],
         told,
     });
+    let shared = SharedSecrets::One(secret);
     Replay {
         policy,
-        secret,
+        shared,
         comparison,
         secrets: SecretValues::Hidden,
     }

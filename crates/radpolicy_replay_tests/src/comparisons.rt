@@ -4,7 +4,7 @@ use avp_dict::Dictionary;
 use avp_lists::AttrId;
 use radpolicy::{PreparedPolicy, Secret};
 use radpolicy_common::SecretValues;
-use radpolicy_replay_records::{Against, Comparison, Order, Replay, Summary, Told};
+use radpolicy_replay_records::{Against, Comparison, Order, Replay, SharedSecrets, Summary, Told};
 use samples::test_dictionary;
 use std::alloc::Global;
 use std::test::Fail;
@@ -54,9 +54,10 @@ fn replay_against<'a>(
         ignored: asked.ignored,
         told: asked.told,
     });
+    let shared = SharedSecrets::One(secret);
     Replay {
         policy,
-        secret,
+        shared,
         comparison,
         secrets: SecretValues::Hidden,
     }

@@ -11,3 +11,5 @@ mod faults;
 mod records;
 #[cfg(test)]
 mod replays;
+#[cfg(test)]
+mod sources;

@@ -3,7 +3,7 @@
 use avp_dict::Dictionary;
 use radpolicy::{PreparedPolicy, Secret};
 use radpolicy_common::SecretValues;
-use radpolicy_replay_records::{MAX_LINE_OCTETS, Replay, Summary};
+use radpolicy_replay_records::{MAX_LINE_OCTETS, Replay, SharedSecrets, Summary};
 use samples::test_dictionary;
 use std::alloc::Global;
 use std::test::Fail;
@@ -34,9 +34,10 @@ pub(crate) fn replay_alone<'a>(
     secret: &'a Secret<'a>,
     secrets: SecretValues,
 ) -> Replay<'a> {
+    let shared = SharedSecrets::One(secret);
     Replay {
         policy,
-        secret,
+        shared,
         comparison: None,
         secrets,
     }

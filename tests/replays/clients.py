@@ -1,0 +1,116 @@
+"""Records of several clients by `radpolicy-replay --clients`: each as by the secret of its client alone."""
+import ipaddress
+import re
+from pathlib import Path
+from random import Random
+from typing import Dict, List, NamedTuple, Optional, Sequence
+
+from common.program import run
+from common.report import Report
+from common.subject import Subject, new_folder
+from fuzz.vocabulary import DICTIONARY
+from replays.records import SECRET, Place, records
+
+RECORDS = 300
+
+
+class Client(NamedTuple):
+    """A client, as a file has it."""
+
+    prefix: str
+    secret: bytes
+
+
+CLIENTS = [
+    Client("192.0.2.0/24", SECRET),
+    Client("192.0.2.128/25", b"another"),
+    Client("192.0.2.200", b"one-alone"),
+    Client("192.0.2.0/24", b"too-late"),
+    Client("2001:db8::/32", SECRET),
+    Client("2001:db8:0:8000::/49", b"half"),
+]
+SOURCES = ["192.0.2.1", "192.0.2.127", "192.0.2.128", "192.0.2.200", "192.0.3.1"]
+SOURCES += ["2001:db8::1", "2001:db8:0:8000::1", "2001:db8:0:7fff::1", "2001:db9::", "::ffff:192.0.2.1"]
+LINES = "".join(f"{client.prefix} {client.secret.decode()}\n" for client in CLIENTS)
+SECTIONS = "".join(
+    f"client c{at} {{\n\tip{'v6' if ':' in client.prefix else ''}addr = {client.prefix}\n"
+    f"\tsecret = {client.secret.decode()}\n\tshortname = nas\n}}\n"
+    for at, client in enumerate(CLIENTS)
+)
+
+
+def client_of(source: str) -> Optional[Client]:
+    """The client of an address, by Python's own networks."""
+    address = ipaddress.ip_address(source)
+    networks = [(ipaddress.ip_network(client.prefix), client) for client in CLIENTS]
+    held = [(network.prefixlen, client) for network, client in networks if address in network]
+    return max(held, key=lambda each: each[0])[1] if held else None
+
+
+def with_sources(text: bytes) -> Dict[bytes, str]:
+    """A source for each name of a record, none for some."""
+    names = [line.split()[0] for line in text.splitlines() if line.strip()]
+    return {name: Random(repr(name)).choice([*SOURCES, ""]) for name in names}
+
+
+def sourced(text: bytes, sources: Dict[bytes, str]) -> bytes:
+    """The same records, each with its own source alone."""
+    lines = []
+    for line in filter(bytes.strip, text.splitlines()):
+        name, *words = line.split()
+        others = [word for word in words if not re.fullmatch(rb"192\.0\.2\.1|src=2001:db8::1", word)]
+        source = sources[name].encode()
+        lines.append(b" ".join([name, *([b"src=" + source] if source else []), *others]) + b"\n")
+    return b"".join(lines)
+
+
+def said_by(place: Place, text: bytes, words: Sequence[str]) -> Dict[bytes, bytes]:
+    program = place.subject.driver("radpolicy_replay")
+    command = [str(program), "--policy", place.policy, *words, "--show-secrets", str(DICTIONARY)]
+    ended = run(command, place.folder, text)
+    return {line.split()[0]: line for line in ended.output.splitlines()}
+
+
+def wanted_lines(place: Place, text: bytes, sources: Dict[bytes, str]) -> Dict[bytes, bytes]:
+    """What each record's line has to be, by the secret of its client."""
+    by_secret = {}
+    for secret in {client.secret for client in CLIENTS}:
+        (place.folder / "one").write_bytes(secret + b"\n")
+        by_secret[secret] = said_by(place, text, ["-S", "one"])
+    wanted = {}
+    for name, source in sources.items():
+        client = client_of(source) if source else None
+        line = by_secret[client.secret if client else SECRET][name]
+        is_read = not re.search(rb" E05 | E46 packet too long", line)
+        wanted[name] = line if client or not is_read else name + b" no client"
+    return wanted
+
+
+def check_clients(place: Place, report: Report) -> None:
+    text = records(RECORDS)
+    sources = with_sources(text)
+    text = sourced(text, sources)
+    wanted = wanted_lines(place, text, sources)
+    for name, octets in (("lines", LINES), ("sections", SECTIONS)):
+        (place.folder / name).write_text(octets)
+        said = said_by(place, text, ["--clients", name])
+        wrong = [f"{said.get(each)!r}, not {line!r}" for each, line in wanted.items() if said.get(each) != line]
+        report.check(f"replay: clients of {name}", wrong)
+
+
+def check_refused(place: Place, report: Report) -> None:
+    (place.folder / "wrong").write_text("192.0.2.1 testing123\n192.0.2.300 very-secret\n")
+    program = place.subject.driver("radpolicy_replay")
+    command: List[str] = [str(program), "--policy", place.policy, "--clients", "wrong", str(DICTIONARY)]
+    ended = run(command, place.folder, b"")
+    is_right = (ended.status, ended.errors) == (2, b"radpolicy: E02 wrong:2: not an address\n")
+    report.check("replay: a client that is not read", [] if is_right else [f"{ended}"])
+    both = run([*command[:-1], "-S", "secret", command[-1]], place.folder, b"")
+    report.check("replay: clients and a secret", [] if both.status == 2 and b"E01" in both.errors else [f"{both}"])
+
+
+def check(subject: Subject, report: Report) -> None:
+    with new_folder() as folder:
+        place = Place(subject, Path(folder))
+        for part in (check_clients, check_refused):
+            part(place, report)
