@@ -1,12 +1,13 @@
 //! The dialogue: commands are read, and what they come to is shown.
 
-use avp_dict::next_line;
-use radpolicy::Start;
+use avp_dict::{LineFault, LineKind, next_line};
+use avp_lists::{EditFault, List, Pair};
+use radpolicy::{Fault, PreparedPolicy, RequestHead, Start};
 use radpolicy_common::{LineBreaks, PLAIN_STYLE, SecretValues, Stream, Style, visible_text};
 use radpolicy_walk_commands::{
     Asked, Command, HELP_TEXT, Session, SourceLines, around_text, breaks_text, has_step_on,
     history_text, instances_text, lists_text, nearest_line, read_command, source_text, trace_text,
-    why_text,
+    why_text, with_set,
 };
 use std::alloc::{AllocError, AllocFailed, Global};
 use std::io;
@@ -39,6 +40,9 @@ impl<T: Drop> From<AllocFailed<T>> for Ending {
 /// A session with the policy's text, and how it is shown.
 #[derive(Drop)]
 pub struct Dialogue<'a> {
+    policy: &'a PreparedPolicy<'a>,
+    // With it the run begins anew.
+    head: RequestHead,
     session: Session<'a>,
     sources: SourceLines<'a>,
     secrets: SecretValues,
@@ -96,7 +100,7 @@ fn coloured(alloc: Global, text: &[u8]) -> Result<Vec<u8>, AllocError> {
 // Says why a line is no command.
 fn complain(rt: &HostRuntime, asked: Asked<'_>) {
     let _ = match asked {
-        Asked::Make(_) | Asked::Again => Ok(()),
+        Asked::Make(_) | Asked::Set(_, _) | Asked::Again => Ok(()),
         Asked::Unknown(word, nearest) => {
             eprintln!(rt; "no command {word:?}; the nearest is {nearest}")
         }
@@ -109,17 +113,32 @@ fn complain(rt: &HostRuntime, asked: Asked<'_>) {
     };
 }
 
+// Why an attribute is not set; none where memory is short.
+fn refused(rt: &HostRuntime, fault: Fault) -> Result<(), Ending> {
+    match fault {
+        Fault::Memory => Err(Ending::Memory),
+        fault => {
+            let _ = eprintln!(rt; "not set: {fault}");
+            Ok(())
+        }
+    }
+}
+
 impl<'a> Dialogue<'a> {
-    /// A dialogue over the run from a start.
+    /// A dialogue over the run from a start of this policy.
     pub fn new(
         rt: &HostRuntime,
+        policy: &'a PreparedPolicy<'a>,
+        head: RequestHead,
         start: Start<'a>,
-        policy: &'a [u8],
+        text: &'a [u8],
         secrets: SecretValues,
     ) -> Result<Dialogue<'a>, AllocError> {
         Ok(Dialogue {
+            policy,
+            head,
             session: Session::new(rt.alloc(), start)?,
-            sources: SourceLines::new(rt.alloc(), policy)?,
+            sources: SourceLines::new(rt.alloc(), text)?,
             secrets,
             last: Command::Show(None),
             is_coloured: Stream::Output.is_coloured(rt),
@@ -211,11 +230,62 @@ impl<'a> Dialogue<'a> {
         Ok(())
     }
 
+    // The one pair of a request line.
+    fn pair_of(&self, alloc: Global, line: &str) -> Result<Pair, Fault> {
+        let mut pairs = self
+            .session
+            .dictionary()
+            .read_request(alloc, line.as_bytes())?;
+        match (pairs.pop(), pairs.is_empty()) {
+            (Some(pair), true) => Ok(pair),
+            _ => Err(Fault::Request(LineFault {
+                line: 1,
+                kind: LineKind::Unreadable,
+            })),
+        }
+    }
+
+    // The start of the run with an attribute set in an initial list.
+    fn start_with(&mut self, alloc: Global, list: List, line: &str) -> Result<Start<'a>, Fault> {
+        let pair = self.pair_of(alloc, line)?;
+        let position = self.session.position();
+        self.session.make(Command::Start)?;
+        let lists = self.session.lists()?;
+        self.session.make(Command::Goto(position))?;
+        let lists = match with_set(alloc, lists, list, pair) {
+            Ok(lists) => lists,
+            Err(EditFault::Memory) => return Err(Fault::Memory),
+            Err(EditFault::Full) => {
+                return Err(Fault::Request(LineFault {
+                    line: 1,
+                    kind: LineKind::TooMany,
+                }));
+            }
+        };
+        Start::of_pairs(alloc, self.policy, None, self.head, lists.request)?
+            .with_reply(lists.reply)?
+            .with_control(lists.control)
+    }
+
+    // Sets an attribute in an initial list, begins the run anew, and shows the list. A line that is refused changes
+    // nothing.
+    fn set(&mut self, rt: &HostRuntime, list: List, line: &str) -> Result<(), Ending> {
+        match self.start_with(rt.alloc(), list, line) {
+            Ok(start) => {
+                self.session.begin_anew(rt.alloc(), start)?;
+                let text = self.lists_text(rt.alloc(), Command::Show(Some(list)))?;
+                self.show(rt, &text)
+            }
+            Err(fault) => refused(rt, fault),
+        }
+    }
+
     // Makes what a line asks for; false at the command to end.
     fn obey(&mut self, rt: &HostRuntime, line: &str) -> Result<bool, Ending> {
         match read_command(rt.alloc(), self.session.dictionary(), line)? {
             Asked::Make(Command::Quit) => return Ok(false),
             Asked::Make(command) => self.make(rt, command)?,
+            Asked::Set(list, line) => self.set(rt, list, line)?,
             Asked::Again => self.make(rt, self.last)?,
             asked => complain(rt, asked),
         }

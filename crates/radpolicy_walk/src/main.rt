@@ -166,7 +166,14 @@ fn walk_by(rt: &HostRuntime, plan: &Plan<'_>, files: &Files) -> Result<u8, Fault
         files.request.as_slice(),
     )?;
     let start = with_lists(alloc, start, files)?;
-    let mut dialogue = Dialogue::new(rt, start, files.policy.as_slice(), plan.secrets)?;
+    let mut dialogue = Dialogue::new(
+        rt,
+        &policy,
+        head_by(plan.form),
+        start,
+        files.policy.as_slice(),
+        plan.secrets,
+    )?;
     let ending = match &files.script {
         Some(script) => dialogue.follow_script(rt, script.as_slice()),
         None => dialogue.follow_input(rt),

@@ -1,4 +1,5 @@
 pub mod Histories
 pub mod Sessions
+pub mod Settings
 pub mod Showings
 pub mod Steps

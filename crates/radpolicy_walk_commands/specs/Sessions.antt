@@ -26,6 +26,10 @@ session_of walk = record {
   breaks = [];
 }
 
+-- another run at its start, with the breaks of this one
+abbrev pub begun_anew : Walk → Session → Session
+begun_anew walk session = record (session_of walk) { breaks = session.breaks }
+
 -- what each position did, from the start's
 abbrev pub steps_of : Session → List Step
 steps_of session = map step_of session.trace

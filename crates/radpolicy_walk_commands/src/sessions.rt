@@ -1,10 +1,10 @@
 //! A run with a place in it, moved by commands.
 
-ghost use Rattle.std.specs.Prelude.{◌≡◌, ◌<◌, IfOk, OnOk, length, map};
+ghost use Rattle.std.specs.Prelude.{◌≡◌, ◌<◌, IfOk, OnErr, OnOk, length, map};
 ghost use Rattle.avp_step.specs.Walk.{walk_from};
 ghost use Rattle.avp_unlang.specs.Resolutions.{StateFits};
 ghost use Rattle.radpolicy.specs.Starts.{entry_of as lists_of_start};
-ghost use Rattle.radpolicy_walk_commands.specs.Sessions.{after, after_all, breaks_after, entry_of, last_position, lists_of, position_after, session_of, steps_of, with_break, without_break};
+ghost use Rattle.radpolicy_walk_commands.specs.Sessions.{after, after_all, begun_anew, breaks_after, entry_of, last_position, lists_of, position_after, session_of, steps_of, with_break, without_break};
 ghost use Rattle.radpolicy_walk_commands.specs.Showings.{AreChanges, step_text};
 ghost use Rattle.radpolicy_walk_commands.specs.Steps.{step_of};
 
@@ -100,6 +100,25 @@ impl<'a> Session<'a> {
             steps,
             breaks: Vec::new(alloc),
         })
+    }
+
+    /// A session over another run, at its start; the breaks stay. Where memory is short nothing changes.
+    pub fn begin_anew(&mut self, alloc: Global, start: Start<'a>) -> Result<(), AllocError>
+        ensures begun { OnOk result (self.new ≡ begun_anew
+            (walk_from start.entry.prepared.dictionary start.entry.prepared.statements
+            (lists_of_start start.entry)) self.old) }
+        ensures unchanged { OnErr result (self.new ≡ self.old) }
+    {
+        let Session {
+            dictionary,
+            stepper,
+            steps,
+            breaks: _,
+        } = Session::new(alloc, start)?;
+        self.dictionary = dictionary;
+        self.stepper = stepper;
+        self.steps = steps;
+        Ok(())
     }
 
     /// The dictionary of the policy.

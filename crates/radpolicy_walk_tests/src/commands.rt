@@ -33,6 +33,10 @@ fn commands_are_read(rt: HostRuntime) -> Result<(), Fail> {
         asked(alloc, "p class")?,
         Asked::Make(Command::Print(AttrId::Plain(25)))
     );
+    assert_eq!(&rt;
+        asked(alloc, "set reply  Class = 0x01\r")?,
+        Asked::Set(List::Reply, "Class = 0x01")
+    );
     assert_eq!(&rt; asked(alloc, "")?, Asked::Again);
     Ok(())
 }
@@ -48,6 +52,11 @@ fn others_are_told(rt: HostRuntime) -> Result<(), Fail> {
     assert_eq!(&rt; asked(alloc, "goto x")?, Asked::NoNumber("x"));
     assert_eq!(&rt; asked(alloc, "print Clas")?, Asked::NoAttribute("Clas"));
     assert_eq!(&rt; asked(alloc, "show lists")?, Asked::NoList("lists"));
+    assert_eq!(&rt; asked(alloc, "set lists X = 1")?, Asked::NoList("lists"));
+    assert_eq!(&rt;
+        asked(alloc, "set reply")?,
+        Asked::Misused("set LIST NAME = VALUE")
+    );
     assert_eq!(&rt; asked(alloc, "until reject")?, Asked::Misused("until fail"));
     Ok(())
 }

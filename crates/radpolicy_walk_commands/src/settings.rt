@@ -1,0 +1,56 @@
+//! Lists with one attribute set, for a run that is begun anew.
+
+ghost use Rattle.std.specs.Prelude.{◌≡◌, ◌⊎◌, IfOk, IsErrOf};
+ghost use Rattle.avp_lists.specs.History.{present, starting};
+ghost use Rattle.avp_lists.specs.States.{IsFull};
+ghost use Rattle.radpolicy_walk_commands.specs.Settings.{HasLongList, setting, with_set};
+
+use avp_lists::{Edit, EditFault, List, MAX_PAIRS, Op, Pair, Pairs, SlotStore, State, Store};
+use std::alloc::{AllocError, Global};
+
+// A store that begins with these lists.
+fn store_of(alloc: Global, lists: State) -> Result<SlotStore, EditFault>
+    ensures ok { IfOk result (λ store. ⟦<SlotStore as Store>⟧.history store ≡ starting lists) }
+    ensures full { IsErrOf result EditFault.Full → HasLongList lists }
+{
+    let (request, reply) = (lists.request.into_vec(), lists.reply.into_vec());
+    let control = lists.control.into_vec();
+    if request.len() > MAX_PAIRS || reply.len() > MAX_PAIRS || control.len() > MAX_PAIRS {
+        return Err(EditFault::Full);
+    }
+    match SlotStore::new(alloc, request, reply, control) {
+        Ok(store) => Ok(store),
+        Err(_) => Err(EditFault::Memory),
+    }
+}
+
+// The present lists of a store.
+fn lists_of(store: &SlotStore) -> Result<State, AllocError>
+    ensures { IfOk result (λ lists. lists
+        ≡ present (⟦<SlotStore as Store>⟧.history store.now)) }
+{
+    Ok(State {
+        request: Pairs::from_vec(store.list(List::Request)?),
+        reply: Pairs::from_vec(store.list(List::Reply)?),
+        control: Pairs::from_vec(store.list(List::Control)?),
+    })
+}
+
+/// The lists with this pair set in one of them: in the place of the first instance of its attribute, whose other
+/// instances go, or at the end. Refused where the list would have more than 4,096 pairs.
+pub fn with_set(alloc: Global, lists: State, list: List, pair: Pair) -> Result<State, EditFault>
+    ensures ok { IfOk result (λ set. set ≡ with_set list pair lists) }
+    ensures full { IsErrOf result EditFault.Full
+        → HasLongList lists ⊎ IsFull (setting list pair) lists }
+{
+    let mut store = store_of(alloc, lists)?;
+    store.edit(Edit {
+        list,
+        op: Op::Replace,
+        pair,
+    })?;
+    match lists_of(&store) {
+        Ok(lists) => Ok(lists),
+        Err(_) => Err(EditFault::Memory),
+    }
+}
