@@ -1,6 +1,7 @@
 # Completes the words of radpolicy-walk in fish.
 complete -c radpolicy-walk -s h -l help -f -d 'Print help'
 complete -c radpolicy-walk -s f -r -F -d 'Request file'
+complete -c radpolicy-walk -l record -x -d 'Number of the request in a log or a file of several'
 complete -c radpolicy-walk -l policy -r -F -d 'Policy file'
 complete -c radpolicy-walk -l hex -d 'The request is a packet in hexadecimal digits'
 complete -c radpolicy-walk -s S -r -F -d 'File with the shared secret'

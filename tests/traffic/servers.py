@@ -174,6 +174,17 @@ def is_sniffed(path: Path) -> bool:
     return has_said(path, b"Accounting-Response")
 
 
+def check_walk(subject: Subject, report: Report, folder: Path, log: Path) -> None:
+    """The debugger walks over a request of the log."""
+    (folder / "policy").write_text('if (&User-Name == "eve") { reject }\n')
+    dictionaries = sorted((subject.root / "dictionaries").glob("dictionary*"))
+    words = ["-f", log, "--record", "2", "--policy", "policy"]
+    ended = run([subject.driver("radpolicy_walk"), *words, *dictionaries], folder, b"end\nshow request\n")
+    wanted = b'request\n  User-Name = "eve"\n  NAS-Port = 2\n'
+    is_wanted = ended.status == 0 and wanted in ended.output and b" reject\n" in ended.output
+    report.check("traffic: a walk over a request of a log", [] if is_wanted else [repr(ended)])
+
+
 def check_installed(subject: Subject, report: Report, folder: Path) -> None:
     auth, acct = ports()
     text = CONFIGURATION.format(folder=folder, secret=SECRET, auth=auth, acct=acct)
@@ -190,6 +201,7 @@ def check_installed(subject: Subject, report: Report, folder: Path) -> None:
             said += ask(acct, "acct", ACCOUNTING)
             sniffs = sniffs and is_sniffed(sniffed)
     compare(subject, report, "what a server prints", "DebugLog", log.read_bytes(), SENT)
+    check_walk(subject, report, folder, log)
     compare(subject, report, "what radclient prints", "Radclient", said.encode(), SENT)
     unanswered = [(user, kind, "-") for user, kind, _ in SENT]
     compare(subject, report, "a detail file", "Detail", detail.read_bytes() if detail.exists() else b"", unanswered)

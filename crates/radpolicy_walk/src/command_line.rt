@@ -12,6 +12,8 @@ use std::convert::AsStr;
 
 const REQUEST: &str = "request";
 
+const RECORD: &str = "record";
+
 const POLICY: &str = "policy";
 
 const HEX: &str = "hex";
@@ -36,6 +38,8 @@ pub struct Plan<'a> {
     pub form: Form,
     /// The request's file; standard input where there is none.
     pub request: Option<&'a str>,
+    /// The number of the record that is the request, from 1 on, where the file is a log or has several requests.
+    pub record: Option<usize>,
     pub policy: &'a str,
     pub secret: Option<&'a str>,
     pub reply: Option<&'a str>,
@@ -63,6 +67,11 @@ fn flag<'a>(alloc: Global, name: &'a str, help: &'a str) -> Arg<'a> {
 fn request_option<'a>(alloc: Global) -> Arg<'a> {
     let help = "The request [default: standard input, where --script is given]";
     file_option(alloc, REQUEST, "REQUEST", help).short('f')
+}
+
+fn record_option<'a>(alloc: Global) -> Arg<'a> {
+    let help = "The request is the N-th of a log, a detail file or a file of several requests";
+    file_option(alloc, RECORD, "N", help).long(RECORD)
 }
 
 fn policy_option<'a>(alloc: Global) -> Arg<'a> {
@@ -104,6 +113,7 @@ fn program<'a>(alloc: Global) -> Result<clap::Command<'a>, AllocError> {
         .about("Walks through the run of a policy, forward and back")
         .after_help("Commands are read from standard input, a line each; `help` lists them.")
         .arg(request_option(alloc))?
+        .arg(record_option(alloc))?
         .arg(policy_option(alloc))?
         .arg(flag(
             alloc,
@@ -147,6 +157,19 @@ fn form_of(found: &ArgMatches<'_>) -> Result<Form, Fault>
     }
 }
 
+// The number of the record that is the request. What the request is, and how it is given, is in the record.
+fn record_of(found: &ArgMatches<'_>, form: Form) -> Result<Option<usize>, Fault>
+    ensures { IfErr result IsWordFault }
+{
+    let Some(word) = found.get_str(RECORD) else {
+        return Ok(None);
+    };
+    match word.parse::<usize>() {
+        Ok(number) if number > 0 && form == Form::Access => Ok(Some(number)),
+        _ => Err(Fault::OptionValue),
+    }
+}
+
 fn shown_secrets(found: &ArgMatches<'_>) -> SecretValues {
     if found.get_flag(SHOW_SECRETS) {
         SecretValues::Shown
@@ -164,9 +187,11 @@ fn plan_of<'a>(alloc: Global, found: &ArgMatches<'a>) -> Result<Plan<'a>, Fault>
     if request.is_none() && script.is_none() {
         return Err(Fault::OptionValue);
     }
+    let form = form_of(found)?;
     Ok(Plan {
-        form: form_of(found)?,
+        form,
         request,
+        record: record_of(found, form)?,
         policy: found.get_str(POLICY).ok_or(Fault::Usage)?,
         secret: found.get_str(SECRET),
         reply: found.get_str(REPLY),

@@ -3,13 +3,15 @@
 
 mod command_line;
 mod dialogues;
+mod records;
 
-ghost use Rattle.std.specs.Prelude.{◌<◌, IfErr, IfOk, length};
+ghost use Rattle.std.specs.Prelude.{◌≡◌, ◌<◌, IfErr, IfOk, length};
 ghost use Rattle.avp_dict.specs.Lines.{HasDistinctNames};
 ghost use Rattle.radpolicy.specs.Faults.{IsPrintedAnywhere, IsPrintedWith};
 
 use crate::command_line::{Plan, help_text, read_words};
 use crate::dialogues::{Dialogue, Ending};
+use crate::records::{form_of_record, read_record};
 use avp_dict::{Dictionary, FileSet};
 use avp_lists::Octets;
 use hex::FromHexError;
@@ -18,6 +20,7 @@ use radpolicy_common::{
     Unread, read_dictionary_set, read_file, read_optional, read_standard_input, refuse,
     refuse_early, refuse_unread,
 };
+use radpolicy_traffic::Record;
 use std::alloc::{AllocError, Global};
 use std::io;
 use std::process::ExitCode;
@@ -56,6 +59,30 @@ fn read_files<'a>(rt: &HostRuntime, plan: &Plan<'a>) -> Result<Files, Unread<'a>
         control: read_optional(rt, plan.control)?,
         script: read_optional(rt, plan.script)?,
     })
+}
+
+// Puts the request of a record in the place of the file's text, and the lists that it begins with where no file has
+// them; and says how the request is given.
+fn take_record(alloc: Global, files: &mut Files, number: usize) -> Result<Form, Fault>
+    ensures dictionary { files.new.dictionary ≡ files.old.dictionary }
+    ensures refused { IfErr result IsPrintedAnywhere }
+{
+    let record = read_record(alloc, files.request.as_slice(), number)?;
+    let form = form_of_record(&record)?;
+    let Record {
+        request,
+        initial_reply,
+        initial_control,
+        ..
+    } = record;
+    files.request = Octets::from_vec(request);
+    if files.reply.is_none() {
+        files.reply = Some(Octets::from_vec(initial_reply));
+    }
+    if files.control.is_none() {
+        files.control = Some(Octets::from_vec(initial_control));
+    }
+    Ok(form)
 }
 
 fn without_white_space(alloc: Global, text: &[u8]) -> Result<Vec<u8>, AllocError> {
@@ -149,7 +176,7 @@ fn status_of_ending(rt: &HostRuntime, ending: Ending) -> u8 {
 }
 
 // What is read of the files, and the walk by it.
-fn walk_by(rt: &HostRuntime, plan: &Plan<'_>, files: &Files) -> Result<u8, Fault>
+fn walk_by(rt: &HostRuntime, plan: &Plan<'_>, form: Form, files: &Files) -> Result<u8, Fault>
     requires first { 0 < length files.now.dictionary }
     requires distinct { HasDistinctNames files.now.dictionary }
     ensures { IfErr result (IsPrintedWith files.now.dictionary) }
@@ -162,14 +189,14 @@ fn walk_by(rt: &HostRuntime, plan: &Plan<'_>, files: &Files) -> Result<u8, Fault
         alloc,
         &policy,
         secret.as_ref(),
-        plan.form,
+        form,
         files.request.as_slice(),
     )?;
     let start = with_lists(alloc, start, files)?;
     let mut dialogue = Dialogue::new(
         rt,
         &policy,
-        head_by(plan.form),
+        head_by(form),
         start,
         files.policy.as_slice(),
         plan.secrets,
@@ -182,11 +209,18 @@ fn walk_by(rt: &HostRuntime, plan: &Plan<'_>, files: &Files) -> Result<u8, Fault
 }
 
 fn walk_plan(rt: &HostRuntime, plan: &Plan<'_>) -> u8 {
-    let files = match read_files(rt, plan) {
+    let mut files = match read_files(rt, plan) {
         Ok(files) => files,
         Err(unread) => return refuse_unread(rt, unread),
     };
-    match walk_by(rt, plan, &files) {
+    let form = match plan.record {
+        Some(number) => match take_record(rt.alloc(), &mut files, number) {
+            Ok(form) => form,
+            Err(fault) => return refuse_early(rt, &fault),
+        },
+        None => plan.form,
+    };
+    match walk_by(rt, plan, form, &files) {
         Ok(status) => status,
         Err(fault) => refuse(rt, &fault, &files.dictionary),
     }
