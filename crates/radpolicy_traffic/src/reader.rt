@@ -17,8 +17,8 @@ use std::alloc::{AllocError, Global};
 pub const MAX_OPEN: usize = 256;
 
 /// Joins requests and their replies. Lines are given one after another, without their LF. A record comes out when it is
-/// whole, and a request without a reply when it is over by what is printed, when it is the oldest of too many, or at the
-/// end. Without memory a record may be cut or missing: do not use the reader any more.
+/// whole, and a request without a reply when it is over by what is printed, when it is the oldest of too many, or at
+/// the end. Without memory a record may be cut or missing: do not use the reader any more.
 #[derive(Drop)]
 pub struct Reader {
     format: Format,
