@@ -7,8 +7,8 @@ use Rattle.avp_lists.specs.declared.lists.List.{List as WhichList}
 use Rattle.avp_lists.specs.declared.lists.State.{State}
 use Rattle.avp_lists.specs.declared.pairs.Pair.{Pair}
 
--- to set an attribute is what `:=` does: the pair takes the place of its attribute's first instance and the others go, or
--- it is added at the end
+-- to set an attribute is what `:=` does: the pair takes the place of its attribute's first instance and the others go,
+-- or it is added at the end
 abbrev pub setting : WhichList → Pair → Edit
 setting list pair = record { list = list; op = Replace; pair = pair }
 

@@ -1,6 +1,7 @@
 //! A run with a place in it, moved by commands.
 
 ghost use Rattle.std.specs.Prelude.{◌≡◌, ◌<◌, IfOk, OnErr, OnOk, length, map};
+ghost use Rattle.avp_lists.specs.History.{present};
 ghost use Rattle.avp_step.specs.Walk.{walk_from};
 ghost use Rattle.avp_unlang.specs.Resolutions.{StateFits};
 ghost use Rattle.radpolicy.specs.Starts.{entry_of as lists_of_start};
@@ -81,6 +82,18 @@ fn set_breaks(breaks: &mut Vec<usize>, command: Command) -> Result<(), AllocErro
         }
         _ => Ok(()),
     }
+}
+
+/// Copies of the present lists of a store.
+pub(crate) fn present_lists(store: &SlotStore) -> Result<State, AllocError>
+    ensures { IfOk result (λ lists. lists
+        ≡ present (⟦<SlotStore as Store>⟧.history store.now)) }
+{
+    Ok(State {
+        request: Pairs::from_vec(store.list(List::Request)?),
+        reply: Pairs::from_vec(store.list(List::Reply)?),
+        control: Pairs::from_vec(store.list(List::Control)?),
+    })
 }
 
 impl<'a> Session<'a> {
@@ -172,12 +185,7 @@ impl<'a> Session<'a> {
         ensures lists { IfOk result (λ lists. lists ≡ lists_of self.now) }
         ensures fits { IfOk result (λ lists. StateFits self.now.dictionary lists) }
     {
-        let store = self.stepper.store();
-        Ok(State {
-            request: Pairs::from_vec(store.list(List::Request)?),
-            reply: Pairs::from_vec(store.list(List::Reply)?),
-            control: Pairs::from_vec(store.list(List::Control)?),
-        })
+        present_lists(self.stepper.store())
     }
 
     // The position that a command leads to.

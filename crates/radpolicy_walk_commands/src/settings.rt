@@ -1,12 +1,13 @@
 //! Lists with one attribute set, for a run that is begun anew.
 
 ghost use Rattle.std.specs.Prelude.{◌≡◌, ◌⊎◌, IfOk, IsErrOf};
-ghost use Rattle.avp_lists.specs.History.{present, starting};
+ghost use Rattle.avp_lists.specs.History.{starting};
 ghost use Rattle.avp_lists.specs.States.{IsFull};
 ghost use Rattle.radpolicy_walk_commands.specs.Settings.{HasLongList, setting, with_set};
 
-use avp_lists::{Edit, EditFault, List, MAX_PAIRS, Op, Pair, Pairs, SlotStore, State, Store};
-use std::alloc::{AllocError, Global};
+use crate::sessions::present_lists;
+use avp_lists::{Edit, EditFault, List, MAX_PAIRS, Op, Pair, SlotStore, State, Store};
+use std::alloc::Global;
 
 // A store that begins with these lists.
 fn store_of(alloc: Global, lists: State) -> Result<SlotStore, EditFault>
@@ -24,18 +25,6 @@ fn store_of(alloc: Global, lists: State) -> Result<SlotStore, EditFault>
     }
 }
 
-// The present lists of a store.
-fn lists_of(store: &SlotStore) -> Result<State, AllocError>
-    ensures { IfOk result (λ lists. lists
-        ≡ present (⟦<SlotStore as Store>⟧.history store.now)) }
-{
-    Ok(State {
-        request: Pairs::from_vec(store.list(List::Request)?),
-        reply: Pairs::from_vec(store.list(List::Reply)?),
-        control: Pairs::from_vec(store.list(List::Control)?),
-    })
-}
-
 /// The lists with this pair set in one of them: in the place of the first instance of its attribute, whose other
 /// instances go, or at the end. Refused where the list would have more than 4,096 pairs.
 pub fn with_set(alloc: Global, lists: State, list: List, pair: Pair) -> Result<State, EditFault>
@@ -49,7 +38,7 @@ pub fn with_set(alloc: Global, lists: State, list: List, pair: Pair) -> Result<S
         op: Op::Replace,
         pair,
     })?;
-    match lists_of(&store) {
+    match present_lists(&store) {
         Ok(lists) => Ok(lists),
         Err(_) => Err(EditFault::Memory),
     }
