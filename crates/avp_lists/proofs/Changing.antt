@@ -14,8 +14,10 @@ use Rattle.avp_lists.specs.internal.Plans.{widened, planned, enters, pooled, IsP
 use Rattle.avp_lists.specs.internal.Shown.{shown_state}
 use Rattle.avp_lists.specs.internal.SlotLaws.{length-shown_states}
 use Rattle.avp_lists.specs.internal.Slots.{slot_at, at_initial, PairsWithin}
-use Rattle.avp_lists.specs.States.{empty_state, edited, IsLimited}
+use Rattle.avp_lists.specs.States.{empty_state, IsLimited}
 use Rattle.avp_lists.specs.internal.Steps.{slots_at, shown_states, step_at, max_kept, BacksBelow, AllCounted, CountsWithin, CountsGrow, AllHoused, StatesLimited}
+use Rattle.avp_lists.specs.declared.tags.Selection.{Selection}
+use Rattle.avp_lists.specs.Selections.{edited_selected}
 use Rattle.avp_lists.proofs.Adding.{long-few, long-pairs, state-few, standing-new, states-new, below-new, counted-new, counts-new, grow-new, housed-new}
 use Rattle.avp_lists.proofs.Continuing.{limited-continued}
 use Rattle.avp_lists.proofs.ShownPairs.{present-shown}
@@ -39,7 +41,7 @@ entering p pair = cond (enters p) (pair ∷ []) []
 pooled-entering : (p : Plan) (pair : Pair) (pool : List Pair) → pooled p pair pool ≡ pool ++ entering p pair
 pooled-entering p pair pool = elim (enters p) as (λ b. cond b (pool ++ pair ∷ []) pool ≡ pool ++ cond b (pair ∷ []) []) [ true ↦ refl | false ↦ sym (append-nil pool) ]
 
-module _ (e : Edit) (pool : List Pair) (slots : List Slot) (steps : List Step) (k : ℕ) (placed : k < length steps) (counted : AllCounted steps) (counts : CountsWithin (length slots) (length pool) steps) (grow : CountsGrow steps) (housed : AllHoused slots steps) (standing : slots_at slots steps k ≡ slots) (p : Plan) (plan : IsPlan e (take (step_at steps k).pairs pool) (take (step_at steps k).slots slots) p) (step : Step) (new_pool : List Pair) (new_slots : List Slot) (new_steps : List Step) (P : new_pool ≡ pooled p e.pair (take (step_at steps k).pairs pool)) (N : new_slots ≡ planned p (take (step_at steps k).slots slots)) (S : new_steps ≡ take (k + 1) steps ++ step ∷ []) (T : step.change ≡ Turned p.turned p.swap) (es : step.slots ≡ length new_slots) (ep : step.pairs ≡ length new_pool) where
+module _ (selection : Selection) (e : Edit) (pool : List Pair) (slots : List Slot) (steps : List Step) (k : ℕ) (placed : k < length steps) (counted : AllCounted steps) (counts : CountsWithin (length slots) (length pool) steps) (grow : CountsGrow steps) (housed : AllHoused slots steps) (standing : slots_at slots steps k ≡ slots) (p : Plan) (plan : IsPlan selection e (take (step_at steps k).pairs pool) (take (step_at steps k).slots slots) p) (step : Step) (new_pool : List Pair) (new_slots : List Slot) (new_steps : List Step) (P : new_pool ≡ pooled p e.pair (take (step_at steps k).pairs pool)) (N : new_slots ≡ planned p (take (step_at steps k).slots slots)) (S : new_steps ≡ take (k + 1) steps ++ step ∷ []) (T : step.change ≡ Turned p.turned p.swap) (es : step.slots ≡ length new_slots) (ep : step.pairs ≡ length new_pool) where
   pool_is : new_pool ≡ take (step_at steps k).pairs pool ++ entering p e.pair
   pool_is = P ∙ pooled-entering p e.pair (take (step_at steps k).pairs pool)
 
@@ -103,14 +105,14 @@ module _ (e : Edit) (pool : List Pair) (slots : List Slot) (steps : List Step) (
       ap (λ (x : List Step). slots_at new_slots x (k + 1)) S
       ∙ standing-new pool slots steps k placed counted counts grow housed standing (option_to_list p.added) initials dark (entering p e.pair) p.turned p.swap step new_slots N T
 
-  now_is : shown_state new_pool new_slots ≡ edited e (get_or (shown_states pool slots steps) k empty_state)
+  now_is : shown_state new_pool new_slots ≡ edited_selected selection e (get_or (shown_states pool slots steps) k empty_state)
   now_is =
       ap (λ (x : List Pair). shown_state x new_slots) P
       ∙ ap (shown_state (pooled p e.pair (take (step_at steps k).pairs pool))) N
       ∙ plan.state
-      ∙ ap (edited e) (state-few pool slots steps k placed counted counts grow housed standing ∙ sym (present-shown pool slots steps k placed standing))
+      ∙ ap (edited_selected selection e) (state-few pool slots steps k placed counted counts grow housed standing ∙ sym (present-shown pool slots steps k placed standing))
 
-  pub states-changed : shown_states new_pool new_slots new_steps ≡ take (k + 1) (shown_states pool slots steps) ++ edited e (get_or (shown_states pool slots steps) k empty_state) ∷ []
+  pub states-changed : shown_states new_pool new_slots new_steps ≡ take (k + 1) (shown_states pool slots steps) ++ edited_selected selection e (get_or (shown_states pool slots steps) k empty_state) ∷ []
   states-changed =
       let other = take (step_at steps k).pairs pool ++ entering p e.pair in
       ap (λ (x : List Pair). shown_states x new_slots new_steps) pool_is
@@ -118,9 +120,9 @@ module _ (e : Edit) (pool : List Pair) (slots : List Slot) (steps : List Step) (
       ∙ states-new pool slots steps k placed counted counts grow housed standing (option_to_list p.added) initials dark (entering p e.pair) p.turned p.swap step new_slots N T
       ∙ ap (λ (x : State). take (k + 1) (shown_states pool slots steps) ++ x ∷ []) (ap (λ (x : List Pair). shown_state x new_slots) (sym pool_is) ∙ now_is)
 
-  pub limited-changed : StatesLimited pool slots steps → IsLimited (edited e (get_or (shown_states pool slots steps) k empty_state)) → StatesLimited new_pool new_slots new_steps
+  pub limited-changed : StatesLimited pool slots steps → IsLimited (edited_selected selection e (get_or (shown_states pool slots steps) k empty_state)) → StatesLimited new_pool new_slots new_steps
   limited-changed limited new j =
       let all = shown_states pool slots steps in
       let within : k + 1 ≤ length all = omega (arith, length-shown_states pool slots steps, placed) in
       let Q : List State → Type 0 = λ xs. IsLimited (get_or xs j empty_state) in
-      subst Q (sym states-changed) (limited-continued all (k + 1) (edited e (get_or all k empty_state)) within limited new j)
+      subst Q (sym states-changed) (limited-continued all (k + 1) (edited_selected selection e (get_or all k empty_state)) within limited new j)

@@ -3,7 +3,6 @@ use Rattle.std.proofs.Common.{◌≡◌, ℕ, zero, suc, ◌+◌, ◌<◌, ◌�
 use Rattle.std.specs.List.{filter, list_any, position_or_len}
 use Rattle.std.proofs.lemmas.Bool.{cases_lt}
 use Rattle.std.proofs.lemmas.List.{get_or_past, get_or_append_left, get_or-map, length-map, take_all, drop_all}
-use Rattle.avp_lists.specs.declared.pairs.AttrId.{AttrId}
 use Rattle.avp_lists.specs.declared.pairs.Pair.{Pair}
 use Rattle.avp_lists.specs.declared.edits.Edit.{Edit}
 use Rattle.avp_lists.specs.declared.edits.Op.{Op}
@@ -12,13 +11,13 @@ use Rattle.avp_lists.specs.declared.lists.List.{List as WhichList}
 use Rattle.avp_lists.specs.declared.lists.List.TheVariants.{Request, Reply, Control}
 use Rattle.avp_lists.specs.declared.slots.Slot.{Slot}
 use Rattle.avp_lists.specs.internal.Growth.{adds_one, removes}
-use Rattle.avp_lists.specs.Instances.{has_id, is_other}
-use Rattle.avp_lists.specs.Operators.{agrees, replace, apply}
-use Rattle.avp_lists.specs.Pairs.{pair_eq}
+use Rattle.avp_lists.specs.Selections.{agrees_selected, replace_selected, apply_selected, edited_list_selected, edited_selected, is_unselected}
 use Rattle.avp_lists.specs.internal.Plans.{end_for, is_removed, is_taken, places_in}
-use Rattle.avp_lists.specs.internal.Shown.{same_list, shows, shows_id, no_pair, slot_pair, shown_pairs, shown_state}
+use Rattle.avp_lists.specs.internal.Shown.{same_list, shows, shows_passing, no_pair, slot_pair, shown_pairs, shown_state}
 use Rattle.avp_lists.specs.internal.Slots.{no_slot, slot_at, flipped, PairsWithin}
-use Rattle.avp_lists.specs.States.{with_list, edited, edited_list}
+use Rattle.avp_lists.specs.States.{with_list}
+use Rattle.avp_lists.specs.declared.tags.Selection.{Selection}
+use Rattle.avp_lists.specs.Tags.{is_selected, is_same}
 use Rattle.avp_lists.proofs.Editing.{turned_if, end-turned, taken_away}
 use Rattle.avp_lists.proofs.InOrder.{in_order, shown_of, in_order-map, any-in_order, shown_pairs-in_order}
 use Rattle.avp_lists.proofs.Lengths.{none_first}
@@ -30,9 +29,9 @@ by_list Request L pool other c d own others = rw (own, others Reply refl, others
 by_list Reply L pool other c d own others = rw (own, others Request refl, others Control refl) refl
 by_list Control L pool other c d own others = rw (own, others Request refl, others Reply refl) refl
 
-pub state_edited : (e : Edit) (pool other : List Pair) (c d : List Slot) → shown_pairs e.list other d ≡ apply e.op e.pair (shown_pairs e.list pool c) → ((which : WhichList) → same_list which e.list ≡ false → shown_pairs which other d ≡ shown_pairs which pool c) → shown_state other d ≡ edited e (shown_state pool c)
-state_edited e pool other c d own others =
-    by_list e.list (edited_list e (shown_state pool c)) pool other c d (own ∙ ap (apply e.op e.pair) (sym (list_of-shown_state e.list pool c))) others
+pub state_edited : (selection : Selection) (e : Edit) (pool other : List Pair) (c d : List Slot) → shown_pairs e.list other d ≡ apply_selected selection e.op e.pair (shown_pairs e.list pool c) → ((which : WhichList) → same_list which e.list ≡ false → shown_pairs which other d ≡ shown_pairs which pool c) → shown_state other d ≡ edited_selected selection e (shown_state pool c)
+state_edited selection e pool other c d own others =
+    by_list e.list (edited_list_selected selection e (shown_state pool c)) pool other c d (own ∙ ap (apply_selected selection e.op e.pair) (sym (list_of-shown_state e.list pool c))) others
 
 pub same_itself : (which : WhichList) → same_list which which ≡ true
 same_itself Request = refl
@@ -108,8 +107,8 @@ turned-within n p c off pooled i =
           subst P (sym (get_or_past (map (turned_if p) c) i no_slot far)) (λ live. cc)
     ]
 
-pub taken-within : (e : Edit) (pool : List Pair) (n : ℕ) (c : List Slot) → PairsWithin n c → PairsWithin n (map (turned_if (is_taken e pool)) c)
-taken-within e pool n c pooled = turned-within n (is_taken e pool) c (λ s h. and_first s.mark.live (same_list e.list s.list) (and_first (shows e.list s) (is_removed e.op e.pair (slot_pair pool s)) h)) pooled
+pub taken-within : (selection : Selection) (e : Edit) (pool : List Pair) (n : ℕ) (c : List Slot) → PairsWithin n c → PairsWithin n (map (turned_if (is_taken selection e pool)) c)
+taken-within selection e pool n c pooled = turned-within n (is_taken selection e pool) c (λ s h. and_first s.mark.live (same_list e.list s.list) (and_first (shows e.list s) (is_removed selection e.op e.pair (slot_pair pool s)) h)) pooled
 
 pub places_in-within : (p : Slot → Bool) (n : ℕ) (c : List Slot) (i : ℕ) → i < length (places_in p n c) → get_or (places_in p n c) i 0 < n + length c
 places_in-within p n [] i h = absurd (omega (arith, h))
@@ -139,54 +138,54 @@ not_and true true = refl
 not_and true false = refl
 not_and false b = refl
 
-taken-applied : (op : Op) (p : Pair) (xs : List Pair) → removes op ≡ true → filter (λ x. not (is_removed op p x)) xs ≡ apply op p xs
-taken-applied RemoveEqual p xs h = refl
-taken-applied KeepEqual p xs h = filter_same (λ x. not (is_removed KeepEqual p x)) (agrees p) xs (λ x. not_and (has_id p.id x) (pair_eq x p))
-taken-applied RemoveAll p xs h = refl
-taken-applied Append p xs h = cc
-taken-applied Prepend p xs h = cc
-taken-applied AddNew p xs h = cc
-taken-applied Replace p xs h = cc
+taken-applied : (selection : Selection) (op : Op) (p : Pair) (xs : List Pair) → removes op ≡ true → filter (λ x. not (is_removed selection op p x)) xs ≡ apply_selected selection op p xs
+taken-applied selection RemoveEqual p xs h = refl
+taken-applied selection KeepEqual p xs h = filter_same (λ x. not (is_removed selection KeepEqual p x)) (agrees_selected selection p) xs (λ x. not_and (is_selected selection p.id x) (is_same selection x p))
+taken-applied selection RemoveAll p xs h = refl
+taken-applied selection Append p xs h = cc
+taken-applied selection Prepend p xs h = cc
+taken-applied selection AddNew p xs h = cc
+taken-applied selection Replace p xs h = cc
 
-pub state-removed : (e : Edit) (pool : List Pair) (c : List Slot) → removes e.op ≡ true → shown_state pool (map (turned_if (is_taken e pool)) c) ≡ edited e (shown_state pool c)
-state-removed e pool c h =
-    let d = map (turned_if (is_taken e pool)) c in
-    state_edited e pool pool c d
-    (taken_away e.list pool (is_removed e.op e.pair) c ∙ taken-applied e.op e.pair (shown_pairs e.list pool c) h)
-    (λ which ne. others_stay which e.list pool (λ s. is_removed e.op e.pair (slot_pair pool s)) c ne)
+pub state-removed : (selection : Selection) (e : Edit) (pool : List Pair) (c : List Slot) → removes e.op ≡ true → shown_state pool (map (turned_if (is_taken selection e pool)) c) ≡ edited_selected selection e (shown_state pool c)
+state-removed selection e pool c h =
+    let d = map (turned_if (is_taken selection e pool)) c in
+    state_edited selection e pool pool c d
+    (taken_away e.list pool (is_removed selection e.op e.pair) c ∙ taken-applied selection e.op e.pair (shown_pairs e.list pool c) h)
+    (λ which ne. others_stay which e.list pool (λ s. is_removed selection e.op e.pair (slot_pair pool s)) c ne)
 
--- whether there is an instance
-pub any_of_shown : (w : WhichList) (id : AttrId) (pool : List Pair) (c : List Slot) → list_any (shows_id w id pool) c ≡ list_any (has_id id) (shown_of w pool c)
-any_of_shown w id pool [] = refl
-any_of_shown w id pool (s ∷ ss) =
-    let rest = any_of_shown w id pool ss in
-    elim (shows w s) as (λ b. ((b && has_id id (slot_pair pool s)) || list_any (shows_id w id pool) ss) ≡ list_any (has_id id) (map (slot_pair pool) (cond b (s ∷ filter (shows w) ss) (filter (shows w) ss)))) [
-      | true ↦ ap (λ (t : Bool). has_id id (slot_pair pool s) || t) rest
+-- whether one passes
+pub any_of_shown : (w : WhichList) (test : Pair → Bool) (pool : List Pair) (c : List Slot) → list_any (shows_passing w test pool) c ≡ list_any test (shown_of w pool c)
+any_of_shown w test pool [] = refl
+any_of_shown w test pool (s ∷ ss) =
+    let rest = any_of_shown w test pool ss in
+    elim (shows w s) as (λ b. ((b && test (slot_pair pool s)) || list_any (shows_passing w test pool) ss) ≡ list_any test (map (slot_pair pool) (cond b (s ∷ filter (shows w) ss) (filter (shows w) ss)))) [
+      | true ↦ ap (λ (t : Bool). test (slot_pair pool s) || t) rest
       | false ↦ rest
     ]
 
-pub any-shown : (w : WhichList) (id : AttrId) (pool : List Pair) (c : List Slot) → list_any (shows_id w id pool) c ≡ list_any (has_id id) (shown_pairs w pool c)
-any-shown w id pool c =
-    sym (any-in_order (shows_id w id pool) c)
-    ∙ any_of_shown w id pool (in_order c)
-    ∙ sym (ap (list_any (has_id id)) (shown_pairs-in_order w pool c))
+pub any-shown : (w : WhichList) (test : Pair → Bool) (pool : List Pair) (c : List Slot) → list_any (shows_passing w test pool) c ≡ list_any test (shown_pairs w pool c)
+any-shown w test pool c =
+    sym (any-in_order (shows_passing w test pool) c)
+    ∙ any_of_shown w test pool (in_order c)
+    ∙ sym (ap (list_any test) (shown_pairs-in_order w pool c))
 
 -- an operator that adds one adds it at its end
-replace-none : (p : Pair) (xs : List Pair) → list_any (has_id p.id) xs ≡ false → replace p xs ≡ xs ++ p ∷ []
-replace-none p xs h =
-    let first = none_first (has_id p.id) xs h in
-    let all : length xs ≤ position_or_len (has_id p.id) xs = omega (arith, first) in
-    let past : length xs ≤ position_or_len (has_id p.id) xs + 1 = omega (arith, first) in
-    ap₂ (λ (a b : List Pair). a ++ p ∷ filter (is_other p.id) b) (take_all (position_or_len (has_id p.id) xs) xs all) (drop_all (position_or_len (has_id p.id) xs + 1) xs past)
+replace-none : (selection : Selection) (p : Pair) (xs : List Pair) → list_any (is_selected selection p.id) xs ≡ false → replace_selected selection p xs ≡ xs ++ p ∷ []
+replace-none selection p xs h =
+    let first = none_first (is_selected selection p.id) xs h in
+    let all : length xs ≤ position_or_len (is_selected selection p.id) xs = omega (arith, first) in
+    let past : length xs ≤ position_or_len (is_selected selection p.id) xs + 1 = omega (arith, first) in
+    ap₂ (λ (a b : List Pair). a ++ p ∷ filter (is_unselected selection p.id) b) (take_all (position_or_len (is_selected selection p.id) xs) xs all) (drop_all (position_or_len (is_selected selection p.id) xs + 1) xs past)
 
-pub added-applied : (op : Op) (p : Pair) (xs : List Pair) → adds_one op p.id xs ≡ true → apply op p xs ≡ beside (end_for op) (p ∷ []) xs
-added-applied AddNew p xs h = elim (list_any (has_id p.id) xs) as (λ b. not b ≡ true → cond b xs (xs ++ p ∷ []) ≡ xs ++ p ∷ []) [ true ↦ λ e. cc | false ↦ λ e. refl ] h
-added-applied Replace p xs h = replace-none p xs (elim (list_any (has_id p.id) xs) as (λ b. not b ≡ true → b ≡ false) [ true ↦ λ e. cc | false ↦ λ e. refl ] h)
-added-applied Append p xs h = refl
-added-applied Prepend p xs h = refl
-added-applied RemoveEqual p xs h = cc
-added-applied KeepEqual p xs h = cc
-added-applied RemoveAll p xs h = cc
+pub added-applied : (selection : Selection) (op : Op) (p : Pair) (xs : List Pair) → adds_one op (is_selected selection p.id) xs ≡ true → apply_selected selection op p xs ≡ beside (end_for op) (p ∷ []) xs
+added-applied selection AddNew p xs h = elim (list_any (is_selected selection p.id) xs) as (λ b. not b ≡ true → cond b xs (xs ++ p ∷ []) ≡ xs ++ p ∷ []) [ true ↦ λ e. cc | false ↦ λ e. refl ] h
+added-applied selection Replace p xs h = replace-none selection p xs (elim (list_any (is_selected selection p.id) xs) as (λ b. not b ≡ true → b ≡ false) [ true ↦ λ e. cc | false ↦ λ e. refl ] h)
+added-applied selection Append p xs h = refl
+added-applied selection Prepend p xs h = refl
+added-applied selection RemoveEqual p xs h = cc
+added-applied selection KeepEqual p xs h = cc
+added-applied selection RemoveAll p xs h = cc
 
 -- a pool with one more agrees on what was shown
 pub agree-more : (pool : List Pair) (p : Pair) (c : List Slot) → PairsWithin (length pool) c → (i : ℕ) → (slot_at c i).mark.live ≡ true → slot_pair (pool ++ p ∷ []) (slot_at c i) ≡ slot_pair pool (slot_at c i)

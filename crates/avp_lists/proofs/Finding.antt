@@ -1,18 +1,16 @@
--- The first instance of an id, in the order of the slots.
+-- The first that passes a test, in the order of the slots.
 use Rattle.std.proofs.Common.{◌≡◌, ℕ, zero, suc, ◌+◌, ◌-◌, ◌<◌, ◌≤◌, Bool, true, false, ◌||◌, cond, Some, None, List, [], ◌∷◌, ◌++◌, length, get_or, take, drop, map, refl, sym, ap, ◌∙◌, arith}
 use Rattle.std.specs.Prelude.{reverse, slice_get}
 use Rattle.std.specs.List.{filter, find, list_any}
 use Rattle.std.proofs.lemmas.List.{take-append-drop, drop_more, get_or-reverse, length-map, length-reverse}
 use Rattle.std.proofs.lemmas.List.Folds.{list_any-append}
 use Rattle.std.proofs.lemmas.Option.{slice_get-get_or}
-use Rattle.avp_lists.specs.declared.pairs.AttrId.{AttrId}
 use Rattle.avp_lists.specs.declared.pairs.Pair.{Pair}
 use Rattle.avp_lists.specs.declared.lists.List.{List as WhichList}
 use Rattle.avp_lists.specs.declared.slots.End.{End}
 use Rattle.avp_lists.specs.declared.slots.End.TheVariants.{Head, Tail}
 use Rattle.avp_lists.specs.declared.slots.Slot.{Slot}
-use Rattle.avp_lists.specs.Instances.{has_id}
-use Rattle.avp_lists.specs.internal.Shown.{shows, shows_at, shows_id, shows_id_at, same_end, entered_at, no_pair, slot_pair, shown_pairs_at, shown_pairs, ahead, ahead_at}
+use Rattle.avp_lists.specs.internal.Shown.{shows, shows_at, shows_passing, shows_passing_at, same_end, entered_at, no_pair, slot_pair, shown_pairs_at, shown_pairs, ahead, ahead_at}
 use Rattle.avp_lists.specs.internal.Slots.{no_slot, slot_at}
 use Rattle.avp_lists.proofs.Edited.{any-shown, any_of_shown, and_first, and_second}
 use Rattle.avp_lists.proofs.InOrder.{in_order, shown_of, any-reverse, any_filter, any-ends, in_order-middle, behind, shown_pairs-in_order}
@@ -66,9 +64,9 @@ find_after p (b ∷ bs) after x none h =
       | false ↦ λ e. find_after p bs after x e h
     ] none
 
--- the first slot that shows an instance shows the first instance
-pub found-first : (which : WhichList) (id : AttrId) (pool : List Pair) (c : List Slot) (at : ℕ) → at < length c → shows_id which id pool (slot_at c at) ≡ true → list_any (shows_id which id pool) (ahead_at at c) ≡ false → find (has_id id) (shown_pairs which pool c) ≡ Some (slot_pair pool (slot_at c at))
-found-first which id pool c at within shown none =
+-- the first slot that shows one that passes shows the first that passes
+pub found-first : (which : WhichList) (test : Pair → Bool) (pool : List Pair) (c : List Slot) (at : ℕ) → at < length c → shows_passing which test pool (slot_at c at) ≡ true → list_any (shows_passing which test pool) (ahead_at at c) ≡ false → find test (shown_pairs which pool c) ≡ Some (slot_pair pool (slot_at c at))
+found-first which test pool c at within shown none =
     let before = take at c in
     let s = slot_at c at in
     let after = drop (at + 1) c in
@@ -76,17 +74,17 @@ found-first which id pool c at within shown none =
     let last = behind s.end before after in
     let whole : c ≡ before ++ s ∷ after = sym (take-append-drop at c) ∙ ap (λ (xs : List Slot). before ++ xs) (drop_more c at no_slot within) in
     let order : in_order c ≡ first ++ s ∷ last = ap in_order whole ∙ in_order-middle before after s in
-    let here : shows which s ≡ true = and_first (shows which s) (has_id id (slot_pair pool s)) shown in
+    let here : shows which s ≡ true = and_first (shows which s) (test (slot_pair pool s)) shown in
     let parts : shown_pairs which pool c ≡ shown_of which pool first ++ slot_pair pool s ∷ shown_of which pool last =
     shown_pairs-in_order which pool c
     ∙ ap (shown_of which pool) order
     ∙ shown-append which pool first (s ∷ last)
     ∙ ap (λ (b : Bool). shown_of which pool first ++ map (slot_pair pool) (cond b (s ∷ filter (shows which) last) (filter (shows which) last))) here in
-    ap (find (has_id id)) parts
-    ∙ find_after (has_id id) (shown_of which pool first) (shown_of which pool last) (slot_pair pool s) (sym (any_of_shown which id pool first) ∙ none) (and_second (shows which s) (has_id id (slot_pair pool s)) shown)
+    ap (find test) parts
+    ∙ find_after test (shown_of which pool first) (shown_of which pool last) (slot_pair pool s) (sym (any_of_shown which test pool first) ∙ none) (and_second (shows which s) (test (slot_pair pool s)) shown)
 
-pub found-none : (which : WhichList) (id : AttrId) (pool : List Pair) (c : List Slot) → list_any (shows_id which id pool) c ≡ false → find (has_id id) (shown_pairs which pool c) ≡ None
-found-none which id pool c none = find_none (has_id id) (shown_pairs which pool c) (sym (any-shown which id pool c) ∙ none)
+pub found-none : (which : WhichList) (test : Pair → Bool) (pool : List Pair) (c : List Slot) → list_any (shows_passing which test pool) c ≡ false → find test (shown_pairs which pool c) ≡ None
+found-none which test pool c none = find_none test (shown_pairs which pool c) (sym (any-shown which test pool c) ∙ none)
 
 -- the last one at the head, or else the first one at the tail, is the first
 pub end_is : (a b : End) → same_end a b ≡ true → b ≡ a
@@ -106,20 +104,20 @@ or_right : (a b : Bool) → (a || b) ≡ false → b ≡ false
 or_right false b h = h
 or_right true b h = cc
 
-pub first-head : (which : WhichList) (id : AttrId) (pool : List Pair) (c : List Slot) (at : ℕ) → shows_id_at Head which id pool (slot_at c at) ≡ true → list_any (shows_id_at Head which id pool) (drop (at + 1) c) ≡ false → (shows_id which id pool (slot_at c at) ≡ true) × (list_any (shows_id which id pool) (ahead_at at c) ≡ false)
-first-head which id pool c at shown none =
+pub first-head : (which : WhichList) (test : Pair → Bool) (pool : List Pair) (c : List Slot) (at : ℕ) → shows_passing_at Head which test pool (slot_at c at) ≡ true → list_any (shows_passing_at Head which test pool) (drop (at + 1) c) ≡ false → (shows_passing which test pool (slot_at c at) ≡ true) × (list_any (shows_passing which test pool) (ahead_at at c) ≡ false)
+first-head which test pool c at shown none =
     let s = slot_at c at in
-    let f = shows_id which id pool in
+    let f = shows_passing which test pool in
     let before = take at c in
     let after = drop (at + 1) c in
     let end : s.end ≡ Head = end_is Head s.end (and_first (entered_at Head s) (f s) shown) in
     (and_second (entered_at Head s) (f s) shown, ap (λ (e : End). list_any f (ahead e before after)) end ∙ any-reverse f (filter (entered_at Head) after) ∙ any_filter f (entered_at Head) after ∙ none)
 
-pub first-tail : (which : WhichList) (id : AttrId) (pool : List Pair) (c : List Slot) (at : ℕ) → at < length c → shows_id_at Tail which id pool (slot_at c at) ≡ true → list_any (shows_id_at Tail which id pool) (take at c) ≡ false → list_any (shows_id_at Head which id pool) c ≡ false → (shows_id which id pool (slot_at c at) ≡ true) × (list_any (shows_id which id pool) (ahead_at at c) ≡ false)
-first-tail which id pool c at within shown none heads =
+pub first-tail : (which : WhichList) (test : Pair → Bool) (pool : List Pair) (c : List Slot) (at : ℕ) → at < length c → shows_passing_at Tail which test pool (slot_at c at) ≡ true → list_any (shows_passing_at Tail which test pool) (take at c) ≡ false → list_any (shows_passing_at Head which test pool) c ≡ false → (shows_passing which test pool (slot_at c at) ≡ true) × (list_any (shows_passing which test pool) (ahead_at at c) ≡ false)
+first-tail which test pool c at within shown none heads =
     let s = slot_at c at in
-    let f = shows_id which id pool in
-    let h = shows_id_at Head which id pool in
+    let f = shows_passing which test pool in
+    let h = shows_passing_at Head which test pool in
     let before = take at c in
     let after = drop (at + 1) c in
     let end : s.end ≡ Tail = end_is Tail s.end (and_first (entered_at Tail s) (f s) shown) in
@@ -139,8 +137,8 @@ first-tail which id pool c at within shown none heads =
           ∙ or_none (list_any f (reverse (filter (entered_at Head) (before ++ after)))) (list_any f (filter (entered_at Tail) before)) none_head none_tail,
     )
 
-pub none-at_all : (which : WhichList) (id : AttrId) (pool : List Pair) (c : List Slot) → list_any (shows_id_at Head which id pool) c ≡ false → list_any (shows_id_at Tail which id pool) c ≡ false → list_any (shows_id which id pool) c ≡ false
-none-at_all which id pool c heads tails =
-    let f = shows_id which id pool in
+pub none-at_all : (which : WhichList) (test : Pair → Bool) (pool : List Pair) (c : List Slot) → list_any (shows_passing_at Head which test pool) c ≡ false → list_any (shows_passing_at Tail which test pool) c ≡ false → list_any (shows_passing which test pool) c ≡ false
+none-at_all which test pool c heads tails =
+    let f = shows_passing which test pool in
     sym (any-ends f c)
     ∙ or_none (list_any f (filter (entered_at Head) c)) (list_any f (filter (entered_at Tail) c)) (any_filter f (entered_at Head) c ∙ heads) (any_filter f (entered_at Tail) c ∙ tails)

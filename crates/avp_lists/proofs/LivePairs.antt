@@ -1,19 +1,17 @@
--- The pairs at the places that are kept, and which of them is the first instance of an id.
+-- The pairs at the places that are kept, and which of them is the first that passes a test.
 use Rattle.std.proofs.Common.{◌≡◌, ℕ, ◌+◌, ◌<◌, Bool, true, false, ◌&&◌, List, [], ◌∷◌, ◌++◌, length, get_or, take, drop, map, refl, sym, ap, ◌∙◌, arith, append-nil, length-append}
 use Rattle.std.specs.Prelude.{reverse}
 use Rattle.std.specs.List.{filter, list_any}
 use Rattle.std.proofs.lemmas.List.{length-map, length-reverse, length-take-le, take-append-drop}
-use Rattle.avp_lists.specs.declared.pairs.AttrId.{AttrId}
 use Rattle.avp_lists.specs.declared.pairs.Pair.{Pair}
 use Rattle.avp_lists.specs.declared.lists.List.{List as WhichList}
 use Rattle.avp_lists.specs.declared.live.Live.{Live}
 use Rattle.avp_lists.specs.declared.slots.End.{End}
 use Rattle.avp_lists.specs.declared.slots.End.TheVariants.{Head, Tail}
 use Rattle.avp_lists.specs.declared.slots.Slot.{Slot}
-use Rattle.avp_lists.specs.Instances.{has_id}
 use Rattle.avp_lists.specs.internal.Live.{live_at, AreLive, AllLive}
 use Rattle.avp_lists.specs.internal.Plans.{places_in}
-use Rattle.avp_lists.specs.internal.Shown.{entered_at, shows, shows_at, shows_id_at, pair_at, has_id_at, slot_pair, shown_pairs_at, shown_pairs}
+use Rattle.avp_lists.specs.internal.Shown.{entered_at, shows, shows_at, shows_passing_at, pair_at, passes_at, slot_pair, shown_pairs_at, shown_pairs}
 use Rattle.avp_lists.specs.internal.Slots.{slot_at}
 use Rattle.avp_lists.proofs.LivePlaces.{length-places}
 use Rattle.avp_lists.proofs.LiveTurns.{live_where}
@@ -45,48 +43,48 @@ count-live which pool c l live =
     let t : length tails ≡ length (live_at Tail which l).items = length-map (filter (shows_at Tail which) c) (slot_pair pool) ∙ sym (count-end Tail which c l live) in
     omega (arith, h, t, length-append (reverse heads) tails, length-reverse heads)
 
--- an instance of an id
+-- one that passes a test
 and_assoc : (a b x : Bool) → ((a && b) && x) ≡ (a && (b && x))
 and_assoc true b x = refl
 and_assoc false b x = refl
 
-with-id : (end : End) (which : WhichList) (id : AttrId) (pool : List Pair) (s : Slot) → (shows_at end which s && has_id id (slot_pair pool s)) ≡ shows_id_at end which id pool s
-with-id end which id pool s = and_assoc (entered_at end s) (shows which s) (has_id id (slot_pair pool s))
+with-test : (end : End) (which : WhichList) (test : Pair → Bool) (pool : List Pair) (s : Slot) → (shows_at end which s && test (slot_pair pool s)) ≡ shows_passing_at end which test pool s
+with-test end which test pool s = and_assoc (entered_at end s) (shows which s) (test (slot_pair pool s))
 
 both : (a b : Bool) → a ≡ true → b ≡ true → (a && b) ≡ true
 both a b ha hb = rw (ha, hb) refl
 
-module _ (end : End) (which : WhichList) (id : AttrId) (pool : List Pair) (c : List Slot) where
+module _ (end : End) (which : WhichList) (test : Pair → Bool) (pool : List Pair) (c : List Slot) where
   abbrev pub p : Slot → Bool
   p = shows_at end which
 
   abbrev pub h : Slot → Bool
-  h s = has_id id (slot_pair pool s)
+  h s = test (slot_pair pool s)
 
   abbrev pub g : Slot → Bool
-  g = shows_id_at end which id pool
+  g = shows_passing_at end which test pool
 
-  pub any-all : list_any (has_id_at id pool c) (places_in p 0 c) ≡ list_any g c
-  any-all = any-part p h g (with-id end which id pool) [] c [] c (append-nil c)
+  pub any-all : list_any (passes_at test pool c) (places_in p 0 c) ≡ list_any g c
+  any-all = any-part p h g (with-test end which test pool) [] c [] c (append-nil c)
 
-  pub found-at : (k : ℕ) → k < length (places_in p 0 c) → has_id_at id pool c (get_or (places_in p 0 c) k 0) ≡ true → g (slot_at c (get_or (places_in p 0 c) k 0)) ≡ true
+  pub found-at : (k : ℕ) → k < length (places_in p 0 c) → passes_at test pool c (get_or (places_in p 0 c) k 0) ≡ true → g (slot_at c (get_or (places_in p 0 c) k 0)) ≡ true
   found-at k lt found =
       let s = slot_at c (get_or (places_in p 0 c) k 0) in
-      sym (with-id end which id pool s) ∙ both (p s) (h s) (place-passes p c k lt) found
+      sym (with-test end which test pool s) ∙ both (p s) (h s) (place-passes p c k lt) found
 
-  pub any-front : (k : ℕ) → k < length (places_in p 0 c) → list_any (has_id_at id pool c) (take k (places_in p 0 c)) ≡ list_any g (take (get_or (places_in p 0 c) k 0) c)
+  pub any-front : (k : ℕ) → k < length (places_in p 0 c) → list_any (passes_at test pool c) (take k (places_in p 0 c)) ≡ list_any g (take (get_or (places_in p 0 c) k 0) c)
   any-front k lt =
       let at = get_or (places_in p 0 c) k 0 in
-      ap (list_any (has_id_at id pool c)) (place-front p c k lt)
-      ∙ any-part p h g (with-id end which id pool) [] (take at c) (drop at c) c (take-append-drop at c)
+      ap (list_any (passes_at test pool c)) (place-front p c k lt)
+      ∙ any-part p h g (with-test end which test pool) [] (take at c) (drop at c) c (take-append-drop at c)
 
-  pub any-back : (k : ℕ) → k < length (places_in p 0 c) → list_any (has_id_at id pool c) (drop (k + 1) (places_in p 0 c)) ≡ list_any g (drop (get_or (places_in p 0 c) k 0 + 1) c)
+  pub any-back : (k : ℕ) → k < length (places_in p 0 c) → list_any (passes_at test pool c) (drop (k + 1) (places_in p 0 c)) ≡ list_any g (drop (get_or (places_in p 0 c) k 0 + 1) c)
   any-back k lt =
       let at = get_or (places_in p 0 c) k 0 in
       let d = drop (at + 1) c in
       let f = take (at + 1) c in
       let within : at < length c = place-within p c k lt in
       let long : length f ≡ at + 1 = length-take-le (at + 1) c (omega (arith, within)) in
-      ap (list_any (has_id_at id pool c)) (place-back p c k lt)
-      ∙ ap (λ (n : ℕ). list_any (has_id_at id pool c) (places_in p n d)) (sym long)
-      ∙ any-part p h g (with-id end which id pool) f d [] c (ap (λ (xs : List Slot). f ++ xs) (append-nil d) ∙ take-append-drop (at + 1) c)
+      ap (list_any (passes_at test pool c)) (place-back p c k lt)
+      ∙ ap (λ (n : ℕ). list_any (passes_at test pool c) (places_in p n d)) (sym long)
+      ∙ any-part p h g (with-test end which test pool) f d [] c (ap (λ (xs : List Slot). f ++ xs) (append-nil d) ∙ take-append-drop (at + 1) c)

@@ -1,10 +1,9 @@
 -- The pairs that slots show.
-use Rattle.std.proofs.Common.{◌≡◌, ℕ, suc, ◌<◌, ◌≤◌, true, false, ◌&&◌, cond, Option, Some, None, List, [], ◌∷◌, ◌++◌, length, get_or, map, refl, sym, ap, ap₂, ◌∙◌, subst, arith}
+use Rattle.std.proofs.Common.{◌≡◌, ℕ, suc, ◌<◌, ◌≤◌, true, false, ◌&&◌, cond, Option, Some, None, List, [], ◌∷◌, ◌++◌, length, get_or, map, refl, sym, ap, ap₂, ◌∙◌, subst, arith, Bool}
 use Rattle.std.specs.Prelude.{reverse}
 use Rattle.std.specs.List.{filter, list_any}
 use Rattle.std.specs.Option.{is_some, IfSome, IfNone}
 use Rattle.std.proofs.lemmas.List.Folds.{list_any_at}
-use Rattle.avp_lists.specs.declared.pairs.AttrId.{AttrId}
 use Rattle.std.proofs.lemmas.List.{append-nil, get_or-map, map-append}
 use Rattle.std.proofs.lemmas.List.Elements.{filter-append}
 use Rattle.avp_lists.specs.declared.pairs.Pair.{Pair}
@@ -17,7 +16,7 @@ use Rattle.avp_lists.specs.declared.steps.Step.{Step}
 use Rattle.avp_lists.specs.internal.Slots.{no_slot, slot_at, Housed, PairsWithin}
 use Rattle.avp_lists.specs.States.{empty_state, list_of}
 use Rattle.avp_lists.specs.internal.Steps.{every, slots_at, shown_states, step_at, AllHoused, CountsWithin}
-use Rattle.avp_lists.specs.internal.Shown.{same_list, shows, shows_id, slot_pair, same_end, entered_at, shown_pairs, shown_state}
+use Rattle.avp_lists.specs.internal.Shown.{same_list, shows, shows_passing, slot_pair, same_end, entered_at, shown_pairs, shown_state}
 use Rattle.avp_lists.specs.internal.SlotLaws.{length-every}
 use Rattle.avp_lists.proofs.InOrder.{in_order, shown_of, in_order-append, all-filter, all-reverse, all-in_order, shown_pairs-in_order}
 
@@ -83,9 +82,9 @@ shown_pairs-tails which pool c d heads tails =
     ∙ ap (λ (xs : List Pair). xs ++ shown_of which pool d) (sym (shown_pairs-in_order which pool c))
 
 -- whether a slot was found
-pub found_where : (which : WhichList) (id : AttrId) (pool : List Pair) (c : List Slot) (o : Option ℕ) → IfSome o (λ at. (at < length c) × (shows_id which id pool (slot_at c at) ≡ true)) → IfNone o (list_any (shows_id which id pool) c ≡ false) → is_some o ≡ list_any (shows_id which id pool) c
-found_where which id pool c None some none = rw none refl
-found_where which id pool c (Some at) some none = rw (list_any_at (shows_id which id pool) c at no_slot some.0 some.1) refl
+pub found_where : (which : WhichList) (test : Pair → Bool) (pool : List Pair) (c : List Slot) (o : Option ℕ) → IfSome o (λ at. (at < length c) × (shows_passing which test pool (slot_at c at) ≡ true)) → IfNone o (list_any (shows_passing which test pool) c ≡ false) → is_some o ≡ list_any (shows_passing which test pool) c
+found_where which test pool c None some none = rw none refl
+found_where which test pool c (Some at) some none = rw (list_any_at (shows_passing which test pool) c at no_slot some.0 some.1) refl
 
 -- slots that show nothing
 pub shown-dark : (which : WhichList) (pool : List Pair) (c : List Slot) → ((i : ℕ) → (slot_at c i).mark.live ≡ true → ⊥) → shown_of which pool c ≡ []

@@ -18,6 +18,7 @@ mod slots;
 mod snapshots;
 mod steps;
 mod store;
+mod tags;
 mod undoing;
 mod vectors;
 
@@ -28,4 +29,5 @@ pub use pairs::{AttrId, Pair, Value, copy_pair};
 pub use slot_store::SlotStore;
 pub use snapshots::SnapshotStore;
 pub use store::{ListsRefused, Store};
+pub use tags::{Selection, Tagging, beside_tag, selects_all, tag_of};
 pub use undoing::{edit_and_undo, undo_by};

@@ -1,5 +1,5 @@
 ghost use Rattle.std.specs.Prelude.{◌≡◌, ◌↔◌, IsTrue, IfOk};
-ghost use Rattle.avp_lists.specs.Pairs.{id_eq, pair_eq};
+ghost use Rattle.avp_lists.specs.Pairs.{id_eq, pair_eq, value_eq};
 
 use crate::bytes::Octets;
 use std::alloc::{AllocError, Global};
@@ -52,6 +52,12 @@ impl AttrId {
 }
 
 impl Value {
+    pub(crate) fn equals(&self, other: &Value) -> bool
+        ensures { result ≡ value_eq self.now other.now }
+    {
+        self.eq(other)
+    }
+
     /// The same value, in memory of this allocator.
     pub fn copy(&self, alloc: Global) -> Result<Value, AllocError>
         ensures { IfOk result (λ copy. copy ≡ self.now) }

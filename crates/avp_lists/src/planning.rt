@@ -2,7 +2,8 @@
 ghost use Rattle.std.specs.Prelude.{◌≡◌, ◌<◌, ◌++◌, true, false, IfOk, OnOk, length, filter};
 ghost use Rattle.std.specs.List.{list_any};
 ghost use Rattle.avp_lists.specs.internal.Slots.{slot_at, PairsWithin};
-ghost use Rattle.avp_lists.specs.internal.Shown.{shows_id, ahead_at, shown_pairs};
+ghost use Rattle.avp_lists.specs.Tags.{is_selected};
+ghost use Rattle.avp_lists.specs.internal.Shown.{shows_passing, ahead_at, shown_pairs};
 ghost use Rattle.avp_lists.specs.internal.Live.{AreLive, AllLive};
 ghost use Rattle.avp_lists.specs.internal.Growth.{adds_one, removes};
 ghost use Rattle.avp_lists.specs.internal.Plans.{enters, end_for, is_removed, is_taken, is_taken_at, taken_places, IsPlan};
@@ -13,6 +14,7 @@ use crate::live::Live;
 use crate::pairs::Pair;
 use crate::showing::{first_slot, shows};
 use crate::slots::{End, Mark, Slot, Swap};
+use crate::tags::Selection;
 use std::alloc::{AllocError, Global};
 
 // What an edit turns, by the places of slots.
@@ -20,7 +22,7 @@ use std::alloc::{AllocError, Global};
 pub(crate) struct Plan {
     // The slots that start or stop showing their pairs.
     pub turned: Vec<usize>,
-    // The slot where the edit's pair takes the place of the first instance.
+    // The slot where the edit's pair takes the place of the first that is selected.
     pub swap: Option<Swap>,
     // A slot for the edit's pair, which shows nothing yet.
     pub added: Option<Slot>,
@@ -35,41 +37,46 @@ impl Plan {
     }
 }
 
-// Whether the operator takes the other pair away, where it is not the first instance.
-fn is_removed(op: Op, pair: &Pair, other: &Pair) -> bool
-    ensures { result ≡ is_removed op pair.now other.now }
+// Whether the operator takes the other pair away, where it is not the first that is selected.
+#[inline(always)]
+fn is_removed(selection: Selection, op: Op, pair: &Pair, other: &Pair) -> bool
+    ensures { result ≡ is_removed selection op pair.now other.now }
 {
     match op {
         Op::AddNew | Op::Append | Op::Prepend => false,
-        Op::RemoveEqual => other.equals(pair),
-        Op::KeepEqual => other.id.equals(pair.id) && !other.equals(pair),
-        Op::Replace | Op::RemoveAll => other.id.equals(pair.id),
+        Op::RemoveEqual => selection.is_same(other, pair),
+        Op::KeepEqual => selection.is_selected(pair.id, other) && !selection.is_same(other, pair),
+        Op::Replace | Op::RemoveAll => selection.is_selected(pair.id, other),
     }
 }
 
 // Whether an edit takes the pair of the slot away.
-fn is_taken(slot: &Slot, pool: &[Pair], edit: &Edit) -> bool
+#[inline(always)]
+fn is_taken(slot: &Slot, pool: &[Pair], edit: &Edit, selection: Selection) -> bool
     requires { slot.now.mark.live ≡ true → slot.now.mark.pair < length pool.now }
-    ensures { result ≡ is_taken edit.now pool.now slot.now }
+    ensures { result ≡ is_taken selection edit.now pool.now slot.now }
 {
-    shows(slot, edit.list) && is_removed(edit.op, &edit.pair, &pool[slot.mark.pair])
+    shows(slot, edit.list) && is_removed(selection, edit.op, &edit.pair, &pool[slot.mark.pair])
 }
 
 // Those of these places whose slots' pairs an edit takes away.
+#[inline(always)]
 fn push_taken(
     taken: &mut Vec<usize>,
     places: &[usize],
     slots: &[Slot],
     pool: &[Pair],
     edit: &Edit,
+    selection: Selection,
 ) -> Result<(), AllocError>
     requires pooled { PairsWithin (length pool.now) slots.now }
     requires live { AllLive slots.now places.now }
     ensures { OnOk result (taken.new.items
-        ≡ taken.old.items ++ filter (is_taken_at edit.now pool.now slots.now) places.now) }
+        ≡ taken.old.items
+        ++ filter (is_taken_at selection edit.now pool.now slots.now) places.now) }
 {
     for place in places {
-        if is_taken(&slots[*place], pool, edit) {
+        if is_taken(&slots[*place], pool, edit, selection) {
             taken.push(*place)?;
         }
     }
@@ -77,22 +84,47 @@ fn push_taken(
 }
 
 // The places of the slots whose pairs an edit takes away: first those that entered at the head.
+#[inline(always)]
+fn find_taken_places(
+    alloc: Global,
+    slots: &[Slot],
+    live: &Live,
+    pool: &[Pair],
+    edit: &Edit,
+    selection: Selection,
+) -> Result<Vec<usize>, AllocError>
+    requires pooled { PairsWithin (length pool.now) slots.now }
+    requires live { AreLive slots.now live.now }
+    ensures { IfOk result (λ taken. taken.items
+        ≡ taken_places selection edit.now pool.now slots.now) }
+{
+    let places = live.of(edit.list);
+    let mut taken = Vec::new(alloc);
+    push_taken(&mut taken, &places.head, slots, pool, edit, selection)?;
+    push_taken(&mut taken, &places.tail, slots, pool, edit, selection)?;
+    Ok(taken)
+}
+
+// Most edits ask for no tag: theirs is a loop of its own, which looks at no selection.
 fn taken_places(
     alloc: Global,
     slots: &[Slot],
     live: &Live,
     pool: &[Pair],
     edit: &Edit,
+    selection: Selection,
 ) -> Result<Vec<usize>, AllocError>
     requires pooled { PairsWithin (length pool.now) slots.now }
     requires live { AreLive slots.now live.now }
-    ensures { IfOk result (λ taken. taken.items ≡ taken_places edit.now pool.now slots.now) }
+    ensures { IfOk result (λ taken. taken.items
+        ≡ taken_places selection edit.now pool.now slots.now) }
 {
-    let places = live.of(edit.list);
-    let mut taken = Vec::new(alloc);
-    push_taken(&mut taken, &places.head, slots, pool, edit)?;
-    push_taken(&mut taken, &places.tail, slots, pool, edit)?;
-    Ok(taken)
+    match selection {
+        Selection::All => find_taken_places(alloc, slots, live, pool, edit, Selection::All),
+        Selection::EachTag(_) | Selection::Tag(_, _) => {
+            find_taken_places(alloc, slots, live, pool, edit, selection)
+        }
+    }
 }
 
 // The end at which an operator adds its pair.
@@ -105,7 +137,7 @@ fn end_for(op: Op) -> End
     }
 }
 
-// The pair gets a slot of its own.
+// The pair gets a slot of its own, whatever is selected.
 fn plan_addition(
     alloc: Global,
     slots: &[Slot],
@@ -113,9 +145,10 @@ fn plan_addition(
     edit: &Edit,
 ) -> Result<Plan, AllocError>
     requires pooled { PairsWithin (length pool.now) slots.now }
-    requires adds { adds_one edit.now.op edit.now.pair.id
-        (shown_pairs edit.now.list pool.now slots.now) ≡ true }
-    ensures { IfOk result (λ plan. IsPlan edit.now pool.now slots.now plan) }
+    ensures { (selection : Selection)
+        → adds_one edit.now.op (is_selected selection edit.now.pair.id)
+        (shown_pairs edit.now.list pool.now slots.now) ≡ true
+        → IfOk result (λ plan. IsPlan selection edit.now pool.now slots.now plan) }
 {
     let mut turned = Vec::new(alloc);
     turned.push(slots.len())?;
@@ -136,25 +169,28 @@ fn plan_addition(
     })
 }
 
-// The pair takes the place of the first instance, and the others go.
+// The pair takes the place of the first that is selected, and the others go.
 fn plan_replacement(
     alloc: Global,
     slots: &[Slot],
     live: &Live,
     pool: &[Pair],
     edit: &Edit,
+    selection: Selection,
     first: usize,
 ) -> Result<Plan, AllocError>
     requires pooled { PairsWithin (length pool.now) slots.now }
     requires live { AreLive slots.now live.now }
     requires op { edit.now.op ≡ Replace }
     requires first { (first < length slots.now)
-        × (shows_id edit.now.list edit.now.pair.id pool.now (slot_at slots.now first) ≡ true) }
-    requires none_before { list_any (shows_id edit.now.list edit.now.pair.id pool.now)
+        × (shows_passing edit.now.list
+        (is_selected selection edit.now.pair.id) pool.now (slot_at slots.now first) ≡ true) }
+    requires none_before { list_any (shows_passing edit.now.list
+        (is_selected selection edit.now.pair.id) pool.now)
         (ahead_at first slots.now) ≡ false }
-    ensures { IfOk result (λ plan. IsPlan edit.now pool.now slots.now plan) }
+    ensures { IfOk result (λ plan. IsPlan selection edit.now pool.now slots.now plan) }
 {
-    let mut turned = taken_places(alloc, slots, live, pool, edit)?;
+    let mut turned = taken_places(alloc, slots, live, pool, edit, selection)?;
     turned.retain(|place| *place != first);
     let swap = Swap {
         slot: first,
@@ -175,13 +211,14 @@ fn plan_removal(
     live: &Live,
     pool: &[Pair],
     edit: &Edit,
+    selection: Selection,
 ) -> Result<Plan, AllocError>
     requires pooled { PairsWithin (length pool.now) slots.now }
     requires live { AreLive slots.now live.now }
     requires removes { removes edit.now.op ≡ true }
-    ensures { IfOk result (λ plan. IsPlan edit.now pool.now slots.now plan) }
+    ensures { IfOk result (λ plan. IsPlan selection edit.now pool.now slots.now plan) }
 {
-    let turned = taken_places(alloc, slots, live, pool, edit)?;
+    let turned = taken_places(alloc, slots, live, pool, edit, selection)?;
     Ok(Plan {
         turned,
         swap: None,
@@ -196,14 +233,16 @@ pub(crate) fn plan_edit(
     live: &Live,
     pool: &[Pair],
     edit: &Edit,
+    selection: Selection,
 ) -> Result<Plan, AllocError>
     requires pooled { PairsWithin (length pool.now) slots.now }
     requires live { AreLive slots.now live.now }
-    ensures { IfOk result (λ plan. IsPlan edit.now pool.now slots.now plan) }
+    ensures { IfOk result (λ plan. IsPlan selection edit.now pool.now slots.now plan) }
 {
+    let (list, id) = (edit.list, edit.pair.id);
     match edit.op {
         Op::Append | Op::Prepend => plan_addition(alloc, slots, pool, edit),
-        Op::AddNew => match first_slot(slots, live, pool, edit.list, edit.pair.id) {
+        Op::AddNew => match first_slot(slots, live, pool, list, id, selection) {
             None => plan_addition(alloc, slots, pool, edit),
             Some(_) => Ok(Plan {
                 turned: Vec::new(alloc),
@@ -211,12 +250,12 @@ pub(crate) fn plan_edit(
                 added: None,
             }),
         },
-        Op::Replace => match first_slot(slots, live, pool, edit.list, edit.pair.id) {
+        Op::Replace => match first_slot(slots, live, pool, list, id, selection) {
             None => plan_addition(alloc, slots, pool, edit),
-            Some(first) => plan_replacement(alloc, slots, live, pool, edit, first),
+            Some(first) => plan_replacement(alloc, slots, live, pool, edit, selection, first),
         },
         Op::RemoveEqual | Op::KeepEqual | Op::RemoveAll => plan_removal(
-            alloc, slots, live, pool, edit,
+            alloc, slots, live, pool, edit, selection,
         ),
     }
 }

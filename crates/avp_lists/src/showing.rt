@@ -2,16 +2,17 @@
 ghost use Rattle.std.specs.Prelude.{◌≡◌, ◌<◌, ◌+◌, ◌++◌, OnOk, IfOk, true, false, length, map, take, drop, find, slice_get, slice_index_or};
 ghost use Rattle.std.specs.Option.{option_copied, IfSome, IfNone};
 ghost use Rattle.std.specs.List.{list_any};
-ghost use Rattle.avp_lists.specs.Instances.{has_id};
+ghost use Rattle.avp_lists.specs.Tags.{is_selected};
 ghost use Rattle.avp_lists.specs.internal.Slots.{slot_at, PairsWithin};
 ghost use Rattle.avp_lists.specs.declared.slots.End.TheVariants.{Head, Tail};
-ghost use Rattle.avp_lists.specs.internal.Shown.{shows, pair_at, has_id_at, shows_id, shows_id_at, ahead_at, shown_pairs};
+ghost use Rattle.avp_lists.specs.internal.Shown.{shows, pair_at, passes_at, shows_passing, shows_passing_at, ahead_at, shown_pairs};
 ghost use Rattle.avp_lists.specs.internal.Live.{AreLive, AllLive};
 
 use crate::lists::List;
 use crate::live::Live;
 use crate::pairs::{AttrId, Pair, copy_pair};
 use crate::slots::{Slot, same_list};
+use crate::tags::Selection;
 use std::alloc::{AllocError, Global};
 
 pub(crate) fn shows(slot: &Slot, list: List) -> bool
@@ -20,19 +21,21 @@ pub(crate) fn shows(slot: &Slot, list: List) -> bool
     slot.mark.live && same_list(list, slot.list)
 }
 
-// The first instance of an id in a list.
+// The first that is selected in a list.
 pub(crate) fn first_shown<'a>(
     slots: &[Slot],
     live: &Live,
     pool: &'a [Pair],
     list: List,
     id: AttrId,
+    selection: Selection,
 ) -> Option<&'a Pair>
     requires pooled { PairsWithin (length pool.now) slots.now }
     requires live { AreLive slots.now live.now }
-    ensures { option_copied result ≡ find (has_id id) (shown_pairs list pool.now slots.now) }
+    ensures { option_copied result ≡ find (is_selected selection id)
+        (shown_pairs list pool.now slots.now) }
 {
-    let place = first_slot(slots, live, pool, list, id)?;
+    let place = first_slot(slots, live, pool, list, id, selection)?;
     Some(&pool[slots[place].mark.pair])
 }
 
@@ -108,50 +111,81 @@ pub(crate) fn pair_shown<'a>(
     }
 }
 
-// The last slot that shows an instance of the id which entered at the head.
-fn last_head(slots: &[Slot], live: &Live, pool: &[Pair], list: List, id: AttrId) -> Option<usize>
+// The last slot that shows a selected pair which entered at the head.
+fn last_head(
+    slots: &[Slot],
+    live: &Live,
+    pool: &[Pair],
+    list: List,
+    id: AttrId,
+    selection: Selection,
+) -> Option<usize>
     requires pooled { PairsWithin (length pool.now) slots.now }
     requires live { AreLive slots.now live.now }
     ensures shown { IfSome result (λ at. (at < length slots.now)
-        × (shows_id_at Head list id pool.now (slot_at slots.now at) ≡ true)) }
+        × (shows_passing_at Head list (is_selected selection id) pool.now (slot_at slots.now at)
+        ≡ true)) }
     ensures none_after { IfSome result (λ at.
-        list_any (shows_id_at Head list id pool.now) (drop (at + 1) slots.now) ≡ false) }
-    ensures none { IfNone result (list_any (shows_id_at Head list id pool.now) slots.now ≡ false) }
+        list_any
+        (shows_passing_at Head list (is_selected selection id) pool.now) (drop (at + 1) slots.now)
+        ≡ false) }
+    ensures none { IfNone result (list_any
+        (shows_passing_at Head list (is_selected selection id) pool.now) slots.now ≡ false) }
 {
     let places = live.of(list).head.as_slice();
-    let at = last_with(slots, pool, places, id)?;
+    let at = last_with(slots, pool, places, id, selection)?;
     Some(places[at])
 }
 
-// The first slot that shows an instance of the id which entered at the tail.
-fn first_tail(slots: &[Slot], live: &Live, pool: &[Pair], list: List, id: AttrId) -> Option<usize>
+// The first slot that shows a selected pair which entered at the tail.
+fn first_tail(
+    slots: &[Slot],
+    live: &Live,
+    pool: &[Pair],
+    list: List,
+    id: AttrId,
+    selection: Selection,
+) -> Option<usize>
     requires pooled { PairsWithin (length pool.now) slots.now }
     requires live { AreLive slots.now live.now }
     ensures shown { IfSome result (λ at. (at < length slots.now)
-        × (shows_id_at Tail list id pool.now (slot_at slots.now at) ≡ true)) }
+        × (shows_passing_at Tail list (is_selected selection id) pool.now (slot_at slots.now at)
+        ≡ true)) }
     ensures none_before { IfSome result (λ at.
-        list_any (shows_id_at Tail list id pool.now) (take at slots.now) ≡ false) }
-    ensures none { IfNone result (list_any (shows_id_at Tail list id pool.now) slots.now ≡ false) }
+        list_any
+        (shows_passing_at Tail list (is_selected selection id) pool.now) (take at slots.now)
+        ≡ false) }
+    ensures none { IfNone result (list_any
+        (shows_passing_at Tail list (is_selected selection id) pool.now) slots.now ≡ false) }
 {
     let places = live.of(list).tail.as_slice();
-    let at = first_with(slots, pool, places, id)?;
+    let at = first_with(slots, pool, places, id, selection)?;
     Some(places[at])
 }
 
-// Which is the last of these places where a slot shows an instance of the id.
-fn last_with(slots: &[Slot], pool: &[Pair], places: &[usize], id: AttrId) -> Option<usize>
+// Which is the last of these places where a slot shows a selected pair.
+fn last_with(
+    slots: &[Slot],
+    pool: &[Pair],
+    places: &[usize],
+    id: AttrId,
+    selection: Selection,
+) -> Option<usize>
     requires pooled { PairsWithin (length pool.now) slots.now }
     requires live { AllLive slots.now places.now }
     ensures found { IfSome result (λ at. (at < length places.now)
-        × (has_id_at id pool.now slots.now (slice_index_or places.now at 0) ≡ true)) }
+        × (passes_at (is_selected selection id) pool.now slots.now (slice_index_or places.now at 0)
+        ≡ true)) }
     ensures none_after { IfSome result (λ at.
-        list_any (has_id_at id pool.now slots.now) (drop (at + 1) places.now) ≡ false) }
-    ensures none { IfNone result (list_any (has_id_at id pool.now slots.now) places.now ≡ false) }
+        list_any (passes_at (is_selected selection id) pool.now slots.now)
+        (drop (at + 1) places.now) ≡ false) }
+    ensures none { IfNone result (list_any
+        (passes_at (is_selected selection id) pool.now slots.now) places.now ≡ false) }
 {
     let mut end = places.len();
     while end > 0 {
         let at = end - 1;
-        if pool[slots[places[at]].mark.pair].id.equals(id) {
+        if selection.is_selected(id, &pool[slots[places[at]].mark.pair]) {
             return Some(at);
         }
         end = at;
@@ -160,41 +194,53 @@ fn last_with(slots: &[Slot], pool: &[Pair], places: &[usize], id: AttrId) -> Opt
 }
 
 // Which is the first.
-fn first_with(slots: &[Slot], pool: &[Pair], places: &[usize], id: AttrId) -> Option<usize>
+fn first_with(
+    slots: &[Slot],
+    pool: &[Pair],
+    places: &[usize],
+    id: AttrId,
+    selection: Selection,
+) -> Option<usize>
     requires pooled { PairsWithin (length pool.now) slots.now }
     requires live { AllLive slots.now places.now }
     ensures found { IfSome result (λ at. (at < length places.now)
-        × (has_id_at id pool.now slots.now (slice_index_or places.now at 0) ≡ true)) }
+        × (passes_at (is_selected selection id) pool.now slots.now (slice_index_or places.now at 0)
+        ≡ true)) }
     ensures none_before { IfSome result (λ at.
-        list_any (has_id_at id pool.now slots.now) (take at places.now) ≡ false) }
-    ensures none { IfNone result (list_any (has_id_at id pool.now slots.now) places.now ≡ false) }
+        list_any (passes_at (is_selected selection id) pool.now slots.now)
+        (take at places.now) ≡ false) }
+    ensures none { IfNone result (list_any
+        (passes_at (is_selected selection id) pool.now slots.now) places.now ≡ false) }
 {
     for at in 0..places.len() {
-        if pool[slots[places[at]].mark.pair].id.equals(id) {
+        if selection.is_selected(id, &pool[slots[places[at]].mark.pair]) {
             return Some(at);
         }
     }
     None
 }
 
-// The slot that shows the first instance of the id in a list.
+// The slot that shows the first that is selected in a list.
 pub(crate) fn first_slot(
     slots: &[Slot],
     live: &Live,
     pool: &[Pair],
     list: List,
     id: AttrId,
+    selection: Selection,
 ) -> Option<usize>
     requires pooled { PairsWithin (length pool.now) slots.now }
     requires live { AreLive slots.now live.now }
     ensures shown { IfSome result (λ at. (at < length slots.now)
-        × (shows_id list id pool.now (slot_at slots.now at) ≡ true)) }
+        × (shows_passing list (is_selected selection id) pool.now (slot_at slots.now at) ≡ true)) }
     ensures none_before { IfSome result (λ at.
-        list_any (shows_id list id pool.now) (ahead_at at slots.now) ≡ false) }
-    ensures none { IfNone result (list_any (shows_id list id pool.now) slots.now ≡ false) }
+        list_any
+        (shows_passing list (is_selected selection id) pool.now) (ahead_at at slots.now) ≡ false) }
+    ensures none { IfNone result (list_any
+        (shows_passing list (is_selected selection id) pool.now) slots.now ≡ false) }
 {
-    match last_head(slots, live, pool, list, id) {
+    match last_head(slots, live, pool, list, id, selection) {
         Some(place) => Some(place),
-        None => first_tail(slots, live, pool, list, id),
+        None => first_tail(slots, live, pool, list, id, selection),
     }
 }

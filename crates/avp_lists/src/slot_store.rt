@@ -1,8 +1,8 @@
 //! A store that keeps one set of lists, and a journal of what each step turned in them.
 ghost use Rattle.std.specs.Prelude.{◌≡◌, ◌↔◌, IsTrue, ◌+◌, ◌-◌, ◌≤◌, ◌<◌, ◌++◌, [], OnOk, OnErr, IfOk, IfErr, length, take, min, vec_capacity};
-ghost use Rattle.avp_lists.specs.Instances.{has_instance};
-ghost use Rattle.avp_lists.specs.History.{starting, present, after_edit, at_place};
-ghost use Rattle.avp_lists.specs.States.{list_of, edited, IsFull, IsLimited};
+ghost use Rattle.avp_lists.specs.History.{starting, present, at_place};
+ghost use Rattle.avp_lists.specs.Selections.{IsFullSelected, after_edit_selected, edited_selected, has_selected};
+ghost use Rattle.avp_lists.specs.States.{list_of, IsLimited};
 ghost use Rattle.avp_lists.specs.internal.Slots.{PlacesWithin, SwapWithin};
 ghost use Rattle.avp_lists.specs.internal.Steps.{slots_at, max_kept, BacksBelow, AllCounted, CountsWithin, CountsGrow, AllHoused, StatesLimited};
 ghost use Rattle.avp_lists.specs.internal.Live.{NoneLive, HasTailRoom, HasRoomFor, AllBelow, AddsDark};
@@ -17,6 +17,7 @@ use crate::showing::{first_shown, first_slot, pair_shown, shown_pairs};
 use crate::slots::{End, Mark, Slot, Slots};
 use crate::steps::{Change, Step, cut_and_push, make_room_beside, move_to, origin};
 use crate::store::{ListsRefused, Store};
+use crate::tags::Selection;
 use crate::vectors::{cut_and_add, make_room};
 use std::alloc::{AllocError, Global};
 
@@ -249,23 +250,30 @@ impl SlotStore {
         })
     }
 
-    // Whether the list has an instance of the id.
-    fn has_instance(&self, list: List, id: AttrId) -> bool
-        ensures { result ≡ has_instance id
+    fn has_selected(&self, list: List, id: AttrId, selection: Selection) -> bool
+        ensures { result ≡ has_selected selection id
             (list_of list (present (⟦<SlotStore as Store>⟧.history self.now))) }
     {
-        first_slot(&self.slots.all, &self.slots.live, &self.pool, list, id).is_some()
+        first_slot(
+            &self.slots.all,
+            &self.slots.live,
+            &self.pool,
+            list,
+            id,
+            selection,
+        )
+        .is_some()
     }
 
     // Whether the edit would make its list too long.
-    fn is_full(&self, edit: &Edit) -> bool
-        ensures { IsTrue result ↔ IsFull edit.now
+    fn is_full(&self, edit: &Edit, selection: Selection) -> bool
+        ensures { IsTrue result ↔ IsFullSelected selection edit.now
             (present (⟦<SlotStore as Store>⟧.history self.now)) }
     {
         self.count(edit.list) == MAX_PAIRS
             && edit
                 .op
-                .lengthens(self.has_instance(edit.list, edit.pair.id))
+                .lengthens(self.has_selected(edit.list, edit.pair.id, selection))
     }
 
     // Goes to the state at a place.
@@ -287,11 +295,11 @@ impl SlotStore {
     }
 
     // Cuts off what is after the place, and edits.
-    fn change(&mut self, edit: Edit) -> Result<(), AllocError>
-        requires fits { IsLimited (edited edit
+    fn change(&mut self, edit: Edit, selection: Selection) -> Result<(), AllocError>
+        requires fits { IsLimited (edited_selected selection edit
             (present (⟦<SlotStore as Store>⟧.history self.old))) }
         ensures ok { OnOk result (⟦<SlotStore as Store>⟧.history self.new
-            ≡ after_edit edit (⟦<SlotStore as Store>⟧.history self.old)) }
+            ≡ after_edit_selected selection edit (⟦<SlotStore as Store>⟧.history self.old)) }
         ensures err { OnErr result (⟦<SlotStore as Store>⟧.history self.new
             ≡ ⟦<SlotStore as Store>⟧.history self.old) }
         // What was cut off is given up: at most the edit's own pair is kept besides those that were there at the place.
@@ -312,6 +320,7 @@ impl SlotStore {
             &self.slots.live,
             &self.pool[..ends.pairs],
             &edit,
+            selection,
         )?;
         make_room_after(
             &mut self.steps,
@@ -354,8 +363,15 @@ impl Store for SlotStore {
         self.slots.live.of(list).len()
     }
 
-    fn first(&self, list: List, id: AttrId) -> Option<&Pair> {
-        first_shown(&self.slots.all, &self.slots.live, &self.pool, list, id)
+    fn first_selected(&self, list: List, id: AttrId, selection: Selection) -> Option<&Pair> {
+        first_shown(
+            &self.slots.all,
+            &self.slots.live,
+            &self.pool,
+            list,
+            id,
+            selection,
+        )
     }
 
     fn list(&self, list: List) -> Result<Vec<Pair>, AllocError> {
@@ -390,11 +406,11 @@ impl Store for SlotStore {
         self.nexts.reserve(n.saturating_sub(ahead))
     }
 
-    fn edit(&mut self, edit: Edit) -> Result<(), EditFault> {
-        if self.is_full(&edit) {
+    fn edit_selected(&mut self, edit: Edit, selection: Selection) -> Result<(), EditFault> {
+        if self.is_full(&edit, selection) {
             return Err(EditFault::Full);
         }
-        self.change(edit).map_err(|_| EditFault::Memory)
+        self.change(edit, selection).map_err(|_| EditFault::Memory)
     }
 
     fn undo(&mut self) -> bool {

@@ -5,9 +5,10 @@ ghost use Rattle.avp_lists.specs.internal.Snapshots.{snapshot_at, state_of, stat
 
 use crate::edits::{Edit, EditFault};
 use crate::lists::{List, MAX_PAIRS, Pairs, State, copies};
-use crate::operators::{edited, find_instance, is_full};
+use crate::operators::{edited_selected, find_selected, is_full};
 use crate::pairs::{AttrId, Pair};
 use crate::store::{ListsRefused, Store};
+use crate::tags::Selection;
 use crate::vectors::make_room;
 use std::alloc::{AllocError, Global};
 
@@ -155,8 +156,8 @@ impl Store for SnapshotStore {
         self.present().list(list).len()
     }
 
-    fn first(&self, list: List, id: AttrId) -> Option<&Pair> {
-        find_instance(self.present().list(list), id)
+    fn first_selected(&self, list: List, id: AttrId, selection: Selection) -> Option<&Pair> {
+        find_selected(self.present().list(list), id, selection)
     }
 
     fn list(&self, list: List) -> Result<Vec<Pair>, AllocError> {
@@ -184,12 +185,12 @@ impl Store for SnapshotStore {
         self.snapshots.reserve(n.saturating_sub(ahead))
     }
 
-    fn edit(&mut self, edit: Edit) -> Result<(), EditFault> {
+    fn edit_selected(&mut self, edit: Edit, selection: Selection) -> Result<(), EditFault> {
         let state = self.present();
-        if is_full(state, &edit) {
+        if is_full(state, &edit, selection) {
             return Err(EditFault::Full);
         }
-        let Ok(next) = edited(self.alloc, state, edit) else {
+        let Ok(next) = edited_selected(self.alloc, state, edit, selection) else {
             return Err(EditFault::Memory);
         };
         self.add(Snapshot::Whole(next))

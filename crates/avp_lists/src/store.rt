@@ -2,12 +2,14 @@ ghost use Rattle.std.specs.Prelude.{◌≡◌, ◌+◌, ◌-◌, ◌≤◌, ◌<
 ghost use Rattle.std.specs.Bool.{OnTrue, OnFalse};
 ghost use Rattle.std.specs.Option.{option_copied};
 ghost use Rattle.avp_lists.specs.Instances.{first_instance};
+ghost use Rattle.avp_lists.specs.Selections.{IsFullSelected, after_edit_selected, edited_list_selected, first_selected_instance};
 ghost use Rattle.avp_lists.specs.States.{list_of, edited_list, IsFull, IsLimited};
 ghost use Rattle.avp_lists.specs.History.{History, state_at, present, at_place, after_edit, after_rollback, settled};
 
 use crate::edits::{Edit, EditFault};
 use crate::lists::{List, MAX_PAIRS};
 use crate::pairs::{AttrId, Pair};
+use crate::tags::Selection;
 use std::alloc::AllocError;
 
 /// The lists of a store for which there was no memory.
@@ -45,7 +47,25 @@ pub trait Store: Drop {
     /// ```
     fn first(&self, list: List, id: AttrId) -> Option<&Pair>
         ensures { option_copied result
-            ≡ first_instance id (list_of list (present (history self.now))) };
+            ≡ first_instance id (list_of list (present (history self.now))) }
+    {
+        self.first_selected(list, id, Selection::All)
+    }
+
+    /// The first instance of an id in a present list that the selection means, borrowed; `None` exactly where it means
+    /// none.
+    ///
+    /// ```rust
+    /// // The reply is `Tunnel-Type:1 = VLAN`, `Tunnel-Type:2 = GRE`.
+    /// let second = Selection::Tag(Tagging::Number, 2);
+    /// let tunnel = store
+    ///     .first_selected(List::Reply, AttrId::Plain(64), second)
+    ///     .ok_or("no tunnel")?;
+    /// assert_eq!(rt; tag_of(Tagging::Number, &tunnel.value), Some(2));
+    /// ```
+    fn first_selected(&self, list: List, id: AttrId, selection: Selection) -> Option<&Pair>
+        ensures { option_copied result
+            ≡ first_selected_instance selection id (list_of list (present (history self.now))) };
 
     /// A copy of a present list.
     fn list(&self, list: List) -> Result<Vec<Pair>, AllocError>
@@ -102,6 +122,36 @@ pub trait Store: Drop {
         ensures fits { OnOk result (length (edited_list edit (present (history self.old)))
             ≤ MAX_PAIRS) }
         ensures full { IsErrOf result EditFault.Full ↔ IsFull edit (present (history self.old)) }
+        ensures err { OnErr result (history self.new ≡ history self.old) }
+        ensures kept { (history self.old).place + room self.old
+            ≤ (history self.new).place + room self.new }
+    {
+        self.edit_selected(edit, Selection::All)
+    }
+
+    /// Edits the present state as `edit` does, but of the instances of the pair's id only those that the selection
+    /// means are looked for, compared, replaced or dropped. The pair is added as it is, whatever its tag.
+    ///
+    /// ```rust
+    /// // The reply is `Tunnel-Type:1 = VLAN`, and GRE is the number 10.
+    /// let id = AttrId::Plain(64);
+    /// let value = Value::Bytes(Octets::from_slice(alloc, &[2, 0, 0, 10])?);
+    /// let gre = Edit {
+    ///     list: List::Reply,
+    ///     op: Op::Replace,
+    ///     pair: Pair { id, value },
+    /// };
+    /// store.edit_selected(gre, Selection::Tag(Tagging::Number, 2))?;
+    /// assert_eq!(rt; store.count(List::Reply), 2);
+    /// ```
+    fn edit_selected(&mut self, edit: Edit, selection: Selection) -> Result<(), EditFault>
+        ensures ok { OnOk result (history self.new
+            ≡ after_edit_selected selection edit (history self.old)) }
+        ensures fits { OnOk result
+            (length (edited_list_selected selection edit (present (history self.old)))
+            ≤ MAX_PAIRS) }
+        ensures full { IsErrOf result EditFault.Full
+            ↔ IsFullSelected selection edit (present (history self.old)) }
         ensures err { OnErr result (history self.new ≡ history self.old) }
         ensures kept { (history self.old).place + room self.old
             ≤ (history self.new).place + room self.new };

@@ -5,6 +5,7 @@ ghost use Rattle.std.specs.Prelude.{◌≤◌, length};
 use crate::rows::{
     FOUR_PAIRS, OF_FOUR_PAIRS, OF_FULL_LISTS, ONES, THERE_AND_BACK, Table, pairs_of, play,
 };
+use crate::tunnels::{LOOK_UPS, LOOKED_AT, TUNNELS, Tunnel, look_up, play_tunnels, tunnels_of};
 use avp_lists::{MAX_PAIRS, Pair, SlotStore, SnapshotStore, Store};
 use std::alloc::Global;
 use std::process::Abort;
@@ -34,6 +35,30 @@ fn store_of<S: WithReply>(rt: &impl Abort, alloc: Global, letters: &[u8]) -> Res
     let reply = pairs_of(alloc, letters)?;
     assert!(rt; reply.len() <= MAX_PAIRS);
     S::with_reply(alloc, reply)
+}
+
+fn tunnel_store<S: WithReply>(rt: &impl Abort, alloc: Global, reply: &[Tunnel]) -> Result<S, Fail> {
+    let reply = tunnels_of(alloc, reply)?;
+    assert!(rt; reply.len() <= MAX_PAIRS);
+    S::with_reply(alloc, reply)
+}
+
+// Plays each table of tunnel attributes.
+fn play_tags<S: WithReply>(rt: &impl Abort, alloc: Global) -> Result<(), Fail> {
+    for table in &TUNNELS {
+        let mut store: S = tunnel_store(rt, alloc, table.1)?;
+        play_tunnels(rt, alloc, &mut store, table)?;
+    }
+    Ok(())
+}
+
+// Looks for tunnel attributes.
+fn look_for_tags<S: WithReply>(rt: &impl Abort, alloc: Global) -> Result<(), Fail> {
+    let store: S = tunnel_store(rt, alloc, LOOKED_AT)?;
+    for row in LOOK_UPS {
+        look_up(rt, alloc, &store, row)?;
+    }
+    Ok(())
 }
 
 // Plays each table over a store with this reply.
@@ -87,4 +112,24 @@ fn slots_take_no_pair_past_the_limit(rt: HostRuntime) -> Result<(), Fail> {
 #[test]
 fn snapshots_take_no_pair_past_the_limit(rt: HostRuntime) -> Result<(), Fail> {
     play_all::<SnapshotStore>(&rt, rt.alloc(), ONES, &OF_FULL_LISTS)
+}
+
+#[test]
+fn slots_edit_the_instances_with_a_tag(rt: HostRuntime) -> Result<(), Fail> {
+    play_tags::<SlotStore>(&rt, rt.alloc())
+}
+
+#[test]
+fn snapshots_edit_the_instances_with_a_tag(rt: HostRuntime) -> Result<(), Fail> {
+    play_tags::<SnapshotStore>(&rt, rt.alloc())
+}
+
+#[test]
+fn slots_find_the_instances_with_a_tag(rt: HostRuntime) -> Result<(), Fail> {
+    look_for_tags::<SlotStore>(&rt, rt.alloc())
+}
+
+#[test]
+fn snapshots_find_the_instances_with_a_tag(rt: HostRuntime) -> Result<(), Fail> {
+    look_for_tags::<SnapshotStore>(&rt, rt.alloc())
 }

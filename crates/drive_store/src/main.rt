@@ -1,12 +1,12 @@
 //! Makes the calls of its words on a store, and prints what each answers and the state after it, also after a
 //! refusal. The tests run it with allocations refused. The first word names the store; each other word is a call, as
-//! `reply += 25 1`.
+//! `reply += 25 1`, `reply -= 25 1 each` beside the tags of texts, or `reply := 25 1 2` of those with the tag 2.
 #![tactic(auto)]
 
 mod calls;
 
 use avp_lists::{
-    AttrId, EditFault, List, ListsRefused, MAX_PAIRS, SlotStore, SnapshotStore, Store,
+    AttrId, EditFault, List, ListsRefused, MAX_PAIRS, Selection, SlotStore, SnapshotStore, Store,
 };
 use calls::{Call, call_of, pair_of};
 use std::alloc::{AllocError, Global};
@@ -16,10 +16,10 @@ use std::{env, io};
 fn first_lists(alloc: Global) -> Result<ListsRefused, AllocError> {
     let mut reply = Vec::new(alloc);
     for (number, octet) in [(25, 1), (18, 97), (25, 2), (25, 1)] {
-        reply.push(pair_of(alloc, number, octet)?)?;
+        reply.push(pair_of(alloc, number, &[octet])?)?;
     }
     Ok(ListsRefused {
-        request: vec![in alloc; pair_of(alloc, 1, 7)?]?,
+        request: vec![in alloc; pair_of(alloc, 1, &[7])?]?,
         reply,
         control: Vec::new(alloc),
     })
@@ -68,7 +68,8 @@ fn make<S: Store>(rt: &HostRuntime, store: &mut S, call: Call) -> io::Result<()>
         Call::Reserve(count) => told(store.reserve(count)),
         Call::Rollback(to) if to > store.place() => "beyond",
         Call::Rollback(to) => told(store.rollback(to)),
-        Call::Edit(edit) => edited(store.edit(edit)),
+        Call::Edit(edit, Selection::All) => edited(store.edit(edit)),
+        Call::Edit(edit, selection) => edited(store.edit_selected(edit, selection)),
         Call::List(list) => match store.list(list) {
             Ok(pairs) => return println!(rt; "{pairs:?}"),
             Err(_) => "refused",

@@ -10,28 +10,29 @@ use Rattle.avp_lists.specs.declared.planning.Plan.{Plan}
 use Rattle.avp_lists.specs.declared.slots.End.{End}
 use Rattle.avp_lists.specs.declared.slots.End.TheVariants.{Head, Tail}
 use Rattle.avp_lists.specs.declared.slots.Slot.{Slot}
-use Rattle.avp_lists.specs.Instances.{has_id}
-use Rattle.avp_lists.specs.Pairs.{pair_eq}
+use Rattle.avp_lists.specs.declared.tags.Selection.{Selection}
+use Rattle.avp_lists.specs.Selections.{edited_selected}
+use Rattle.avp_lists.specs.Tags.{is_same, is_selected}
 use Rattle.avp_lists.specs.internal.Shown.{shows, shows_at, slot_pair, shown_state}
 use Rattle.avp_lists.specs.internal.Slots.{slot_at, forward, PlacesWithin, SwapWithin, PairsWithin}
-use Rattle.avp_lists.specs.States.{edited}
 
 -- the end at which an operator adds its pair
 abbrev pub end_for : Op → End
 end_for Prepend = Head
 end_for _ = Tail
 
--- an operator takes the other pair away, where it is not the first instance
-abbrev pub is_removed : Op → Pair → Pair → Bool
-is_removed RemoveEqual p q = pair_eq q p
-is_removed KeepEqual p q = has_id p.id q && not (pair_eq q p)
-is_removed RemoveAll p q = has_id p.id q
-is_removed Replace p q = has_id p.id q
-is_removed _ p q = false
+-- an operator takes the other pair away, where it is not the first that is selected
+abbrev pub is_removed : Selection → Op → Pair → Pair → Bool
+is_removed selection RemoveEqual p q = is_same selection q p
+is_removed selection KeepEqual p q = is_selected selection p.id q && not (is_same selection q p)
+is_removed selection RemoveAll p q = is_selected selection p.id q
+is_removed selection Replace p q = is_selected selection p.id q
+is_removed selection _ p q = false
 
 -- the pair of the slot is taken away
-abbrev pub is_taken : Edit → List Pair → Slot → Bool
-is_taken e pool s = shows e.list s && is_removed e.op e.pair (slot_pair pool s)
+abbrev pub is_taken : Selection → Edit → List Pair → Slot → Bool
+is_taken selection e pool s =
+    shows e.list s && is_removed selection e.op e.pair (slot_pair pool s)
 
 -- the places of the slots that pass, the first of these slots at n
 abbrev pub places_in : (Slot → Bool) → ℕ → List Slot → List ℕ
@@ -39,15 +40,17 @@ places_in p n [] = []
 places_in p n (s ∷ ss) = if p s then n ∷ places_in p (n + 1) ss else places_in p (n + 1) ss
 
 -- the pair of the slot at a place is taken away
-abbrev pub is_taken_at : Edit → List Pair → List Slot → ℕ → Bool
-is_taken_at e pool c i = is_taken e pool (slot_at c i)
+abbrev pub is_taken_at : Selection → Edit → List Pair → List Slot → ℕ → Bool
+is_taken_at selection e pool c i = is_taken selection e pool (slot_at c i)
 
 -- the places of the slots whose pairs are taken away, by the end at which they entered
-abbrev pub taken_at_end : End → Edit → List Pair → List Slot → List ℕ
-taken_at_end end e pool c = filter (is_taken_at e pool c) (places_in (shows_at end e.list) 0 c)
+abbrev pub taken_at_end : End → Selection → Edit → List Pair → List Slot → List ℕ
+taken_at_end end selection e pool c =
+    filter (is_taken_at selection e pool c) (places_in (shows_at end e.list) 0 c)
 
-abbrev pub taken_places : Edit → List Pair → List Slot → List ℕ
-taken_places e pool c = taken_at_end Head e pool c ++ taken_at_end Tail e pool c
+abbrev pub taken_places : Selection → Edit → List Pair → List Slot → List ℕ
+taken_places selection e pool c =
+    taken_at_end Head selection e pool c ++ taken_at_end Tail selection e pool c
 
 -- the slots before a plan's marks are turned, and after it
 abbrev pub widened : Plan → List Slot → List Slot
@@ -64,12 +67,15 @@ abbrev pub pooled : Plan → Pair → List Pair → List Pair
 pooled p pair pool = if enters p then pool ++ pair ∷ [] else pool
 
 -- the plan makes of the slots what the edit makes of the state that they show
-pub record IsPlan (e : Edit) (pool : List Pair) (c : List Slot) (p : Plan) : Type 0 where
+pub record IsPlan (selection : Selection) (e : Edit) (pool : List Pair) (c : List Slot) (p : Plan)
+    : Type 0 where
   pub places : PlacesWithin (length (widened p c)) p.turned.items
   pub swap : SwapWithin (length (widened p c)) p.swap
   pub added : (s : Slot) → p.added ≡ Some s → (s.mark.live ≡ false) × (s.initial ≡ s.mark)
   pub within : PairsWithin (length (pooled p e.pair pool)) (planned p c)
-  pub state : shown_state (pooled p e.pair pool) (planned p c) ≡ edited e (shown_state pool c)
+  pub state :
+      shown_state (pooled p e.pair pool) (planned p c)
+      ≡ edited_selected selection e (shown_state pool c)
 
 -- n slots of the first state, from a place in the pool on
 abbrev pub fresh_slot : WhichList → ℕ → Slot

@@ -1,6 +1,5 @@
 -- The pairs and the lists that slots show.
 use Rattle.std.specs.Prelude.{ℕ, ◌+◌, Bool, true, false, ◌&&◌, List, ◌++◌, map, filter, reverse, take, drop, slice_index_or}
-use Rattle.avp_lists.specs.declared.pairs.AttrId.{AttrId}
 use Rattle.avp_lists.specs.declared.pairs.AttrId.TheVariants.{Plain}
 use Rattle.avp_lists.specs.declared.pairs.Value.TheVariants.{Int}
 use Rattle.avp_lists.specs.declared.pairs.Pair.{Pair}
@@ -10,7 +9,6 @@ use Rattle.avp_lists.specs.declared.lists.State.{State}
 use Rattle.avp_lists.specs.declared.slots.End.{End}
 use Rattle.avp_lists.specs.declared.slots.End.TheVariants.{Head, Tail}
 use Rattle.avp_lists.specs.declared.slots.Slot.{Slot}
-use Rattle.avp_lists.specs.Instances.{has_id}
 use Rattle.avp_lists.specs.internal.Slots.{slot_at}
 
 abbrev pub same_list : WhichList → WhichList → Bool
@@ -30,16 +28,16 @@ no_pair = record { id = Plain 0; value = Int 0 }
 abbrev pub slot_pair : List Pair → Slot → Pair
 slot_pair pool s = slice_index_or pool s.mark.pair no_pair
 
--- the pair that the slot at a place shows, and whether it is an instance of the id
+-- the pair that the slot at a place shows, and whether it passes a test
 abbrev pub pair_at : List Pair → List Slot → ℕ → Pair
 pair_at pool c i = slot_pair pool (slot_at c i)
 
-abbrev pub has_id_at : AttrId → List Pair → List Slot → ℕ → Bool
-has_id_at id pool c i = has_id id (pair_at pool c i)
+abbrev pub passes_at : (Pair → Bool) → List Pair → List Slot → ℕ → Bool
+passes_at test pool c i = test (pair_at pool c i)
 
--- it shows an instance of the id, in that list
-abbrev pub shows_id : WhichList → AttrId → List Pair → Slot → Bool
-shows_id which id pool s = shows which s && has_id id (slot_pair pool s)
+-- it shows a pair that passes, in that list
+abbrev pub shows_passing : WhichList → (Pair → Bool) → List Pair → Slot → Bool
+shows_passing which test pool s = shows which s && test (slot_pair pool s)
 
 abbrev pub same_end : End → End → Bool
 same_end Head Head = true
@@ -50,12 +48,12 @@ same_end _ _ = false
 abbrev pub entered_at : End → Slot → Bool
 entered_at end s = same_end end s.end
 
--- it shows a pair that entered the list at that end, or an instance of the id
+-- it shows a pair that entered the list at that end, or one that passes too
 abbrev pub shows_at : End → WhichList → Slot → Bool
 shows_at end which s = entered_at end s && shows which s
 
-abbrev pub shows_id_at : End → WhichList → AttrId → List Pair → Slot → Bool
-shows_id_at end which id pool s = entered_at end s && shows_id which id pool s
+abbrev pub shows_passing_at : End → WhichList → (Pair → Bool) → List Pair → Slot → Bool
+shows_passing_at end which test pool s = entered_at end s && shows_passing which test pool s
 
 -- the pairs of a list that entered at one end, in the order of their slots
 abbrev pub shown_pairs_at : End → WhichList → List Pair → List Slot → List Pair

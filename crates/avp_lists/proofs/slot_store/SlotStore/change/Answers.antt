@@ -70,6 +70,7 @@ invariant_of-self-in-Break-branch-2 c =
 pub invariant_of-self-2 : goal.invariant_of-self-2
 invariant_of-self-2 c =
     let s = c.args.self.now in
+    let selection = c.args.selection in
     let e = c.args.edit in
     let pool = s.pool.items in
     let slots = s.slots.all.items in
@@ -83,33 +84,34 @@ invariant_of-self-2 c =
     let new_slots = c.slots_for.new.slots.all.items in
     let new_steps = c.cut_and_push.new.steps.items in
     let step : Step = record { change = Turned p.turned p.swap; slots = c.len.result; pairs = c.len-2.result } in
-    let made : IsPlan e (take last.pairs c.deref-2.result.now) (take last.slots c.deref.result.now) p = c.in_ok-plan.ensures in
-    let H : Step → List Pair → List Slot → Type 0 = λ x a b. IsPlan e (take x.pairs a) (take x.slots b) p in
+    let made : IsPlan selection e (take last.pairs c.deref-2.result.now) (take last.slots c.deref.result.now) p = c.in_ok-plan.ensures in
+    let H : Step → List Pair → List Slot → Type 0 = λ x a b. IsPlan selection e (take x.pairs a) (take x.slots b) p in
     let H1 : List Pair → Type 0 = λ a. H last a c.deref.result.now in
     let H2 : List Slot → Type 0 = λ b. H last pool b in
     let H3 : Step → Type 0 = λ x. H x pool slots in
-    let plan : IsPlan e (take (step_at steps k).pairs pool) (take (step_at steps k).slots slots) p = subst H3 count (subst H2 c.deref.ensures.value (subst H1 c.deref-2.ensures.value made)) in
+    let plan : IsPlan selection e (take (step_at steps k).pairs pool) (take (step_at steps k).slots slots) p = subst H3 count (subst H2 c.deref.ensures.value (subst H1 c.deref-2.ensures.value made)) in
     let P : new_pool ≡ pooled p e.pair (take (step_at steps k).pairs pool) = c.pool_for.ensures ∙ ap₂ (λ (x : Step) (a : List Pair). pooled p e.pair (take x.pairs a)) count room.pool in
     let N : new_slots ≡ planned p (take (step_at steps k).slots slots) = c.slots_for.ensures ∙ ap₂ (λ (x : Step) (a : List Slot). planned p (take x.slots a)) count room.slots in
     let S : new_steps ≡ take (k + 1) steps ++ step ∷ [] = c.cut_and_push.ensures.steps ∙ ap (λ (xs : List Step). take (k + 1) xs ++ step ∷ []) room.steps in
     let es : c.len.result ≡ length new_slots = omega (arith, c.len.ensures, c.slots_for.new.slots.all.ok.0) in
     let ep : c.len-2.result ≡ length new_pool = omega (arith, c.len-2.ensures, c.pool_for.new.pool.ok.0) in
-    let long = length-changed e pool slots steps k s.placed s.counted s.counts s.grow s.housed s.standing p plan step new_pool new_slots new_steps P N S refl es ep in
+    let long = length-changed selection e pool slots steps k s.placed s.counted s.counts s.grow s.housed s.standing p plan step new_pool new_slots new_steps P N S refl es ep in
     record {
       placed = omega (arith, long);
       beside = c.cut_and_push.ensures.nexts ∙ (let t : k + 1 + 1 ≡ length new_steps = omega (arith, long) in t);
-      below = below-changed e pool slots steps k s.placed s.counted s.counts s.grow s.housed s.standing p plan step new_pool new_slots new_steps P N S refl es ep s.below;
-      counted = counted-changed e pool slots steps k s.placed s.counted s.counts s.grow s.housed s.standing p plan step new_pool new_slots new_steps P N S refl es ep;
-      counts = counts-changed e pool slots steps k s.placed s.counted s.counts s.grow s.housed s.standing p plan step new_pool new_slots new_steps P N S refl es ep;
-      grow = grow-changed e pool slots steps k s.placed s.counted s.counts s.grow s.housed s.standing p plan step new_pool new_slots new_steps P N S refl es ep;
-      housed = housed-changed e pool slots steps k s.placed s.counted s.counts s.grow s.housed s.standing p plan step new_pool new_slots new_steps P N S refl es ep;
-      standing = standing-changed e pool slots steps k s.placed s.counted s.counts s.grow s.housed s.standing p plan step new_pool new_slots new_steps P N S refl es ep;
-      limited = limited-changed e pool slots steps k s.placed s.counted s.counts s.grow s.housed s.standing p plan step new_pool new_slots new_steps P N S refl es ep s.limited c.requires.fits;
+      below = below-changed selection e pool slots steps k s.placed s.counted s.counts s.grow s.housed s.standing p plan step new_pool new_slots new_steps P N S refl es ep s.below;
+      counted = counted-changed selection e pool slots steps k s.placed s.counted s.counts s.grow s.housed s.standing p plan step new_pool new_slots new_steps P N S refl es ep;
+      counts = counts-changed selection e pool slots steps k s.placed s.counted s.counts s.grow s.housed s.standing p plan step new_pool new_slots new_steps P N S refl es ep;
+      grow = grow-changed selection e pool slots steps k s.placed s.counted s.counts s.grow s.housed s.standing p plan step new_pool new_slots new_steps P N S refl es ep;
+      housed = housed-changed selection e pool slots steps k s.placed s.counted s.counts s.grow s.housed s.standing p plan step new_pool new_slots new_steps P N S refl es ep;
+      standing = standing-changed selection e pool slots steps k s.placed s.counted s.counts s.grow s.housed s.standing p plan step new_pool new_slots new_steps P N S refl es ep;
+      limited = limited-changed selection e pool slots steps k s.placed s.counted s.counts s.grow s.housed s.standing p plan step new_pool new_slots new_steps P N S refl es ep s.limited c.requires.fits;
     }
 
 pub returns : goal.returns
 returns c =
     let s = c.args.self.now in
+    let selection = c.args.selection in
     let e = c.args.edit in
     let pool = s.pool.items in
     let slots = s.slots.all.items in
@@ -123,12 +125,12 @@ returns c =
     let new_slots = c.slots_for.new.slots.all.items in
     let new_steps = c.cut_and_push.new.steps.items in
     let step : Step = record { change = Turned p.turned p.swap; slots = c.len.result; pairs = c.len-2.result } in
-    let made : IsPlan e (take last.pairs c.deref-2.result.now) (take last.slots c.deref.result.now) p = c.in_ok-plan.ensures in
-    let H : Step → List Pair → List Slot → Type 0 = λ x a b. IsPlan e (take x.pairs a) (take x.slots b) p in
+    let made : IsPlan selection e (take last.pairs c.deref-2.result.now) (take last.slots c.deref.result.now) p = c.in_ok-plan.ensures in
+    let H : Step → List Pair → List Slot → Type 0 = λ x a b. IsPlan selection e (take x.pairs a) (take x.slots b) p in
     let H1 : List Pair → Type 0 = λ a. H last a c.deref.result.now in
     let H2 : List Slot → Type 0 = λ b. H last pool b in
     let H3 : Step → Type 0 = λ x. H x pool slots in
-    let plan : IsPlan e (take (step_at steps k).pairs pool) (take (step_at steps k).slots slots) p = subst H3 count (subst H2 c.deref.ensures.value (subst H1 c.deref-2.ensures.value made)) in
+    let plan : IsPlan selection e (take (step_at steps k).pairs pool) (take (step_at steps k).slots slots) p = subst H3 count (subst H2 c.deref.ensures.value (subst H1 c.deref-2.ensures.value made)) in
     let P : new_pool ≡ pooled p e.pair (take (step_at steps k).pairs pool) = c.pool_for.ensures ∙ ap₂ (λ (x : Step) (a : List Pair). pooled p e.pair (take x.pairs a)) count room.pool in
     let N : new_slots ≡ planned p (take (step_at steps k).slots slots) = c.slots_for.ensures ∙ ap₂ (λ (x : Step) (a : List Slot). planned p (take x.slots a)) count room.slots in
     let S : new_steps ≡ take (k + 1) steps ++ step ∷ [] = c.cut_and_push.ensures.steps ∙ ap (λ (xs : List Step). take (k + 1) xs ++ step ∷ []) room.steps in
@@ -136,8 +138,8 @@ returns c =
     let ep : c.len-2.result ≡ length new_pool = omega (arith, c.len-2.ensures, c.pool_for.new.pool.ok.0) in
     record {
       ok = ap (λ (xs : List State). let h : History = record { states = xs; place = k + 1 } in h)
-          (states-changed e pool slots steps k s.placed s.counted s.counts s.grow s.housed s.standing p plan step new_pool new_slots new_steps P N S refl es ep);
+          (states-changed selection e pool slots steps k s.placed s.counted s.counts s.grow s.housed s.standing p plan step new_pool new_slots new_steps P N S refl es ep);
       err = search rules;
-      slim = slim-changed e pool slots steps k s.placed s.counted s.counts s.grow s.housed s.standing p plan step new_pool new_slots new_steps P N S refl es ep;
+      slim = slim-changed selection e pool slots steps k s.placed s.counted s.counts s.grow s.housed s.standing p plan step new_pool new_slots new_steps P N S refl es ep;
       kept = search rules;
     }

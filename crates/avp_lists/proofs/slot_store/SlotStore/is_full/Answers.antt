@@ -11,8 +11,8 @@ returns-then-count-eq-MAX_PAIRS c =
     let s = c.args.self.now in
     let e = c.args.edit.now in
     let xs = list_of e.list (get_or (shown_states s.pool.items s.slots.all.items s.steps.items) s.place empty_state) in
-    let test = c.lengthens.ensures ∙ ap (lengthens e.op) c.has_instance.ensures in
-    let grows = grows_past e.op e.pair xs 4096 (sym c.count.ensures ∙ c.if-count-eq-MAX_PAIRS.true) in
+    let test = c.lengthens.ensures ∙ ap (lengthens e.op) c.has_selected.ensures in
+    let grows = grows_past c.args.selection e.op e.pair xs 4096 (sym c.count.ensures ∙ c.if-count-eq-MAX_PAIRS.true) in
     (λ h. grows.0 (sym test ∙ h), λ h. test ∙ grows.1 h)
 
 -- a shorter list has room for one more
@@ -22,5 +22,5 @@ returns-else-count-eq-MAX_PAIRS c =
     let e = c.args.edit.now in
     let xs = list_of e.list (get_or (shown_states s.pool.items s.slots.all.items s.steps.items) s.place empty_state) in
     let most = s.limited s.place e.list in
-    let grown = length-apply e.op e.pair xs in
+    let grown = length-apply c.args.selection e.op e.pair xs in
     grind (arith, c.count.ensures, most, grown, c.if-count-eq-MAX_PAIRS.false)

@@ -4,7 +4,7 @@ use Rattle.avp_lists.specs.declared.live.LivePlaces.{LivePlaces}
 use Rattle.avp_lists.specs.declared.slots.End.TheVariants.{Head, Tail}
 use Rattle.avp_lists.specs.internal.Plans.{is_taken_at}
 use Rattle.avp_lists.proofs.LivePairs.{at-live}
-use Rattle.avp_lists.proofs.planning.taken_places.Goals as goal
+use Rattle.avp_lists.proofs.planning.find_taken_places.Goals as goal
 
 pub push_taken-requires-clause-live : goal.push_taken-requires-clause-live
 push_taken-requires-clause-live c =
@@ -19,7 +19,7 @@ push_taken-requires-2-clause-live c =
 pub returns : goal.returns
 returns c =
     let which = c.args.edit.now.list in
-    let q = is_taken_at c.args.edit.now c.args.pool.now c.args.slots.now in
+    let q = is_taken_at c.args.selection c.args.edit.now c.args.pool.now c.args.slots.now in
     let heads = c.deref.ensures.value ∙ ap (λ (p : LivePlaces). p.head.items) c.of-places.ensures ∙ c.requires.live Head which in
     let tails = c.deref-2.ensures.value ∙ ap (λ (p : LivePlaces). p.tail.items) c.of-places.ensures ∙ c.requires.live Tail which in
     c.in_ok-push_taken-2.ensures
