@@ -21,7 +21,7 @@ use Rattle.avp_dict.specs.Outcomes.{is_memory, is_memory_kind}
 use Rattle.avp_dict.specs.Readings.{read_line, read_lines, within}
 use Rattle.avp_dict.specs.Settled.{skipped_names}
 use Rattle.avp_dict.specs.Refusals.{refused_at, ◌>>=◌}
-use Rattle.avp_dict.specs.Values.{is_noted, note_of, resolve, value_of, with_line, with_note, with_value}
+use Rattle.avp_dict.specs.Values.{is_noted, note_of, resolve, tagged_value, value_of, with_line, with_note, with_tagged, with_value}
 use Rattle.avp_dict.specs.Words.{words_of}
 
 abbrev pub IsLineIn : ℕ → Line → Type 0
@@ -107,14 +107,18 @@ module _ (n : ℕ) where
   note_in : (dictionary : Dictionary) (r : Reading) → All (IsNoteIn n) dictionary.notes → IsIn n r → All (IsNoteIn n) (with_note dictionary r).notes
   note_in dictionary r were is = All-push (IsNoteIn n) dictionary.notes (note_of r) were is
 
-  value_in : (value : Result (Option ValueLine) DictKind) (dictionary : Dictionary) (r : Reading) → All (IsNoteIn n) dictionary.notes → IsIn n r → IsDictionaryIn n (refused_at r.file r.line value >>= λ v. Ok (with_value dictionary r v))
-  value_in (Ok None) dictionary r were is = note_in dictionary r were is
-  value_in (Ok (Some v)) dictionary r were is = were
-  value_in (Err kind) dictionary r were is = is
+  tagged_in : (dictionary : Dictionary) (tagged : Option ValueLine) → All (IsNoteIn n) dictionary.notes → All (IsNoteIn n) (with_tagged dictionary tagged).notes
+  tagged_in dictionary None were = were
+  tagged_in dictionary (Some v) were = were
+
+  value_in : (value : Result (Option ValueLine) DictKind) (tagged : Option ValueLine) (dictionary : Dictionary) (r : Reading) → All (IsNoteIn n) dictionary.notes → IsIn n r → IsDictionaryIn n (refused_at r.file r.line value >>= λ v. Ok (with_tagged (with_value dictionary r v) tagged))
+  value_in (Ok None) tagged dictionary r were is = tagged_in (with_note dictionary r) tagged (note_in dictionary r were is)
+  value_in (Ok (Some v)) tagged dictionary r were is = tagged_in (with_value dictionary r (Some v)) tagged were
+  value_in (Err kind) tagged dictionary r were is = is
 
   with_line_in : (skipped : List (List ℕ)) (dictionary : Dictionary) (r : Reading) (m : Meaning) → r.meaning ≡ m → All (IsNoteIn n) dictionary.notes → IsIn n r → IsDictionaryIn n (with_line skipped dictionary r)
   unfolding with_line
-  with_line_in skipped dictionary r (Value attribute name v) e were is = rw e (value_in (value_of skipped dictionary attribute name v (id_named attribute dictionary.attributes)) dictionary r were is)
+  with_line_in skipped dictionary r (Value attribute name v) e were is = rw e (value_in (value_of skipped dictionary attribute name v (id_named attribute dictionary.attributes)) (tagged_value dictionary name v (id_named attribute dictionary.attributes)) dictionary r were is)
   with_line_in skipped dictionary r m e were is =
       rw e (cond_both (is_noted dictionary.vendors m) (with_note dictionary r) dictionary (λ (d : Dictionary). All (IsNoteIn n) d.notes)
       (λ noted. note_in dictionary r were is) (λ other. were))

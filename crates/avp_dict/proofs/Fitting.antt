@@ -35,7 +35,7 @@ use Rattle.avp_dict.specs.Limits.{fits, is_known, is_typed, is_within}
 use Rattle.avp_dict.specs.Names.{Described, described, described_by, extended_numbered, id_numbered, is_vendor_specific, named, named_by, plain_numbered, unless_three, vendor_format, vendor_id_numbered}
 use Rattle.avp_dict.specs.Octets.{is_hideable, kind_described, kind_of, number_value, read_by, read_value, signed_value, value_of_octets, value_read}
 use Rattle.avp_dict.specs.RequestLines.{Assignment, assignments_of, joined}
-use Rattle.avp_dict.specs.Requests.{few_enough, pair_named, pair_spelled, pair_with, pairs_spelled, request_spelled}
+use Rattle.avp_dict.specs.Requests.{each_pair, few_enough, pair_named, pair_spelled, pair_with, request_by, request_spelled}
 use Rattle.avp_dict.specs.Settled.{is_in_format}
 use Rattle.avp_dict.specs.Soundness.{IsSound, IsSoundAttribute, IsSoundVendor}
 use Rattle.avp_dict.specs.Spellings.{address_spelled, bytes_spelled, ether_spelled, is_barred, number_spelled, signed_spelled, octets_spelled, octets_value, spelled, spelled_as, spelled_by, unless_long, up_to, value_spelled}
@@ -71,7 +71,7 @@ weaker P Q f (Some x) h = f x h
 -- ---- requests
 
 -- a test that each pair passes that is spelled is one that the pairs of a request pass
-module _ (d : Dictionary) (test : Pair → Bool) (passes : (a : Assignment) → IfSome (pair_spelled d a) (λ p. test p ≡ true)) where
+module _ (one : Assignment → Option Pair) (test : Pair → Bool) (passes : (a : Assignment) → IfSome (one a) (λ p. test p ≡ true)) where
   abbrev ArePassing : List Pair → Type 0
   ArePassing pairs = list_all test pairs ≡ true
 
@@ -79,20 +79,20 @@ module _ (d : Dictionary) (test : Pair → Bool) (passes : (a : Assignment) → 
   first_passes (Some pair) (Some pairs) h rest = rw (h, rest)
   first_passes _ _ h rest = tt
 
-  pairs_pass : (as_ : List Assignment) → IfSome (pairs_spelled d as_) ArePassing
-  unfolding pairs_spelled
+  pairs_pass : (as_ : List Assignment) → IfSome (each_pair one as_) ArePassing
+  unfolding each_pair
   pairs_pass [] = refl
-  pairs_pass (a ∷ as_) = first_passes (pair_spelled d a) (pairs_spelled d as_) (passes a) (pairs_pass as_)
+  pairs_pass (a ∷ as_) = first_passes (one a) (each_pair one as_) (passes a) (pairs_pass as_)
 
   few_pass : (pairs : List Pair) → ArePassing pairs → IfSome (few_enough pairs) ArePassing
   few_pass pairs h = cond_both (nat_le (length pairs) max_pairs) _ _ (λ o. IfSome o ArePassing) (λ few. h) (λ many. tt)
 
-  pub request_passes : (text : List ℕ) (pairs : List Pair) → request_spelled text d ≡ Some pairs → list_all test pairs ≡ true
-  unfolding request_spelled
+  pub request_passes : (text : List ℕ) (pairs : List Pair) → request_by one text ≡ Some pairs → list_all test pairs ≡ true
+  unfolding request_by
   request_passes text pairs e =
       let P : Option (List Pair) → Type 0 = λ o. IfSome o ArePassing in
-      let assigned = then_holds ArePassing (pairs_spelled d) pairs_pass (assignments_of text) in
-      subst P e (then_keeps ArePassing ArePassing few_enough few_pass (option_and_then (pairs_spelled d) (assignments_of text)) assigned)
+      let assigned = then_holds ArePassing (each_pair one) pairs_pass (assignments_of text) in
+      subst P e (then_keeps ArePassing ArePassing few_enough few_pass (option_and_then (each_pair one) (assignments_of text)) assigned)
 
 -- ---- lines
 
@@ -288,4 +288,5 @@ module _ (d : Dictionary) where
 
   -- the pairs of a request fit
   pub request_fits : IsSound d → (text : List ℕ) (pairs : List Pair) → request_spelled text d ≡ Some pairs → All (λ pair. fits pair d ≡ true) pairs
-  request_fits sound text pairs e = AllPass-from_list_all (λ pair. fits pair d) pairs (request_passes d (λ pair. fits pair d) (pair_fits sound) text pairs e)
+  unfolding request_spelled
+  request_fits sound text pairs e = AllPass-from_list_all (λ pair. fits pair d) pairs (request_passes (pair_spelled d) (λ pair. fits pair d) (pair_fits sound) text pairs e)

@@ -6,6 +6,7 @@ pub mod CountedNames
 pub mod FaultPlaces
 pub mod Fitting
 pub mod Folding
+pub mod FormedTypings
 pub mod FoundPositions
 pub mod Gathering
 pub mod LastPlaces

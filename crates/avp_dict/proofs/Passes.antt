@@ -53,7 +53,7 @@ pub open_refuses : (opened : Option Reading) (readings : List Reading) (fault : 
 open_refuses opened readings fault read h e = rw (open_certain opened readings fault h) e
 
 -- the lines by what they define before the names of values
-pub settled_by : (lines : List Reading) (context : Context) (attributes : List AttributeLine) (values : List ValueLine) (notes : List Note) → context ≡ context_of lines → attributes ≡ used context.vendors context.attributes → values ≡ [] → notes ≡ []
-    → settled_dictionary lines ≡ resolve (skipped_names context.vendors lines) (record { attributes = attributes; values = values; vendors = context.vendors; notes = notes }) lines
+pub settled_by : (lines : List Reading) (context : Context) (attributes : List AttributeLine) (values tagged : List ValueLine) (notes : List Note) → context ≡ context_of lines → attributes ≡ used context.vendors context.attributes → values ≡ [] → tagged ≡ [] → notes ≡ []
+    → settled_dictionary lines ≡ resolve (skipped_names context.vendors lines) (record { attributes = attributes; values = values; tagged_values = tagged; vendors = context.vendors; notes = notes }) lines
 unfolding settled_dictionary
-settled_by lines context attributes values notes is are none unnoted = rw (are, none, unnoted, is)
+settled_by lines context attributes values tagged notes is are none untagged unnoted = rw (are, none, untagged, unnoted, is)

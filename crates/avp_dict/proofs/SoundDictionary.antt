@@ -1,5 +1,5 @@
 -- A dictionary that was read is sound.
-use Rattle.std.proofs.Common.{◌≡◌, ℕ, true, false, not, ◌&&◌, ◌==◌, nat_le, List, [], ◌∷◌, ◌++◌, filter, length, get_or, Option, Some, None, Result, Ok, Err, refl, subst, arith, option_and_then}
+use Rattle.std.proofs.Common.{◌≡◌, ℕ, true, false, not, ◌&&◌, ◌==◌, nat_le, List, [], ◌∷◌, ◌++◌, filter, length, get_or, Option, Some, None, Result, Ok, Err, refl, subst, arith, option_and_then, IfSome}
 use Rattle.std.specs.List.{All, list_all, list_any}
 use Rattle.std.proofs.Math.Bool.{and-false}
 use Rattle.std.proofs.lemmas.Bool.{and_parts, cond_both, not-false, not-true}
@@ -9,6 +9,7 @@ use Rattle.avp_lists.specs.declared.pairs.AttrId.TheVariants as ids
 use Rattle.avp_lists.specs.Pairs.{id_eq}
 use Rattle.avp_dict.specs.declared.entries.AttributeLine.{AttributeLine}
 use Rattle.avp_dict.specs.declared.entries.ValueLine.{ValueLine}
+use Rattle.avp_dict.specs.declared.entries.Typing.{Typing}
 use Rattle.avp_dict.specs.declared.faults.DictFault.{DictFault}
 use Rattle.avp_dict.specs.declared.faults.DictKind.{DictKind}
 use Rattle.avp_dict.specs.declared.file.files.NamedFile.{NamedFile}
@@ -25,9 +26,9 @@ use Rattle.avp_dict.specs.Lines.{lines_of}
 use Rattle.avp_dict.specs.Meanings.{Meaning, Value, Reading, Context, context_of}
 use Rattle.avp_dict.specs.Readings.{read_lines}
 use Rattle.avp_dict.specs.Settled.{is_kept, is_kept_line, skipped_names, used}
-use Rattle.avp_dict.specs.Soundness.{IsSound, IsSoundAttribute, IsSoundValue, IsSoundVendor, names_other_id, names_other_value}
+use Rattle.avp_dict.specs.Soundness.{IsSound, IsSoundAttribute, IsSoundTagged, IsSoundValue, IsSoundVendor, names_other_id, names_other_value}
 use Rattle.avp_dict.specs.Refusals.{refused_at, ◌>>=◌}
-use Rattle.avp_dict.specs.Values.{is_noted, is_of_other_number, is_same_name, is_value_name, max_of_typing, reads_as_number, resolve, value_of, value_up_to, with_line, with_note, with_value}
+use Rattle.avp_dict.specs.Values.{is_noted, is_of_other_number, is_same_name, is_tagged_integer, is_value_name, max_of_typing, max_tagged_number, reads_as_number, resolve, tagged_line, tagged_value, value_of, value_up_to, with_line, with_note, with_tagged, with_value}
 use Rattle.avp_dict.specs.Words.{same_name}
 
 -- ---- the used attributes and the vendors
@@ -47,16 +48,19 @@ module _ (context : Context) where
       let held = All-filter test (IsReadAttribute context.attributes) context.attributes are.attributes k d lt in
       let a : AttributeLine = get_or (filter test context.attributes) k d in
       record {
+        spelled = held.spelled;
         named = held.named;
         alone = All-filter test (λ b. names_other_id a.name a.id b ≡ false) context.attributes held.alone;
         known = known_kept a.id held.ranged (filter_passes test context.attributes k d lt);
         hides = held.hides;
+        formed = held.formed;
       }
 
   outline_sound : AreRead context → IsSound (outline_of context)
   outline_sound are = record {
     attributes = outline_attributes are;
     values = All-nil (IsSoundValue []);
+    tagged_values = All-nil IsSoundTagged;
     vendors = λ k d lt. (are.vendors k d lt).format;
   }
 
@@ -100,18 +104,21 @@ known_by_vendors (ids.Vendor v n) d e h = rw h
 known_by_vendors _ d e h = refl
 
 -- with the same attributes and vendors, and sound values
-same_but_values : (d e : Dictionary) → d.attributes ≡ e.attributes → d.vendors ≡ e.vendors → All (IsSoundValue e.values) e.values → IsSound d → IsSound e
-same_but_values d e attributes vendors values sound = record {
+same_but_values : (d e : Dictionary) → d.attributes ≡ e.attributes → d.vendors ≡ e.vendors → All (IsSoundValue e.values) e.values → All IsSoundTagged e.tagged_values → IsSound d → IsSound e
+same_but_values d e attributes vendors values tagged sound = record {
   attributes = subst (All (IsSoundAttribute e)) attributes (λ k x lt.
       let held = sound.attributes k x lt in
       let a : AttributeLine = get_or d.attributes k x in
       record {
+        spelled = held.spelled;
         named = held.named;
         alone = subst (All (λ b. names_other_id a.name a.id b ≡ false)) attributes held.alone;
         known = subst (λ known. known ≡ true) (known_by_vendors a.id d e vendors) held.known;
         hides = held.hides;
+        formed = held.formed;
       });
   values = values;
+  tagged_values = tagged;
   vendors = subst (All IsSoundVendor) vendors sound.vendors;
 }
 
@@ -131,16 +138,32 @@ module _ (skipped : List (List ℕ)) (d : Dictionary) (sound : IsSound d) where
   value_of_adds attribute name number None = cond_both (list_any (is_same_name attribute) skipped) _ _ (AddsSound d.values) (λ h. tt) (λ h. tt)
 
   note_sound : (r : Reading) → IsSound (with_note d r)
-  note_sound r = same_but_values d (with_note d r) refl refl sound.values sound
+  note_sound r = same_but_values d (with_note d r) refl refl sound.values sound.tagged_values sound
 
-  value_sound : (value : Result (Option ValueLine) DictKind) (r : Reading) → AddsSound d.values value → AllSound (refused_at r.file r.line value >>= λ v. Ok (with_value d r v))
-  value_sound (Ok None) r h = note_sound r
-  value_sound (Ok (Some v)) r h = same_but_values d (with_value d r (Some v)) refl refl (value_more d.values v sound.values h) sound
-  value_sound (Err kind) r h = tt
+  tagged_line_adds : (id : AttrId) (name : List ℕ) (number : ℕ) (typing : Option Typing) → IfSome (tagged_line id name number typing) IsSoundTagged
+  tagged_line_adds id name number None = tt
+  tagged_line_adds id name number (Some typing) =
+      cond_both (is_tagged_integer typing.form && is_value_name name && nat_le number max_tagged_number) _ _ (λ o. IfSome o IsSoundTagged)
+      (λ h. no_number name (let named = (and_parts (is_tagged_integer typing.form) (is_value_name name) (and_parts (is_tagged_integer typing.form && is_value_name name) (nat_le number max_tagged_number) h).0).1 in rw named)) (λ h. tt)
+
+  tagged_value_adds : (name : List ℕ) (number : ℕ) (id : Option AttrId) → IfSome (tagged_value d name number id) IsSoundTagged
+  unfolding tagged_value
+  tagged_value_adds name number None = tt
+  tagged_value_adds name number (Some id) = tagged_line_adds id name number (typing_of_id id d.attributes)
+
+  with_tagged_sound : (e : Dictionary) (tagged : Option ValueLine) → IfSome tagged IsSoundTagged → IsSound e → IsSound (with_tagged e tagged)
+  with_tagged_sound e None h is = is
+  with_tagged_sound e (Some v) h is = same_but_values e (with_tagged e (Some v)) refl refl is.values (All-push IsSoundTagged e.tagged_values v is.tagged_values h) is
+
+  value_sound : (value : Result (Option ValueLine) DictKind) (tagged : Option ValueLine) (r : Reading) → AddsSound d.values value → IfSome tagged IsSoundTagged → AllSound (refused_at r.file r.line value >>= λ v. Ok (with_tagged (with_value d r v) tagged))
+  value_sound (Ok None) tagged r h t = with_tagged_sound (with_note d r) tagged t (note_sound r)
+  value_sound (Ok (Some v)) tagged r h t =
+      with_tagged_sound (with_value d r (Some v)) tagged t (same_but_values d (with_value d r (Some v)) refl refl (value_more d.values v sound.values h) sound.tagged_values sound)
+  value_sound (Err kind) tagged r h t = tt
 
   line_sound : (r : Reading) (m : Meaning) → r.meaning ≡ m → AllSound (with_line skipped d r)
   unfolding with_line
-  line_sound r (Value attribute name v) e = rw e (value_sound (value_of skipped d attribute name v (id_named attribute d.attributes)) r (value_of_adds attribute name v (id_named attribute d.attributes)))
+  line_sound r (Value attribute name v) e = rw e (value_sound (value_of skipped d attribute name v (id_named attribute d.attributes)) (tagged_value d name v (id_named attribute d.attributes)) r (value_of_adds attribute name v (id_named attribute d.attributes)) (tagged_value_adds name v (id_named attribute d.attributes)))
   line_sound r m e = rw e (cond_both (is_noted d.vendors m) _ _ IsSound (λ noted. note_sound r) (λ other. sound))
 
 resolve_sound : (skipped : List (List ℕ)) (d : Dictionary) (readings : List Reading) → IsSound d → AllSound (resolve skipped d readings)

@@ -23,6 +23,7 @@ use Rattle.avp_dict.specs.declared.file.meanings.Meaning.{Meaning as CodeMeaning
 use Rattle.avp_dict.specs.declared.file.meanings.Meaning.TheVariants as code
 use Rattle.avp_dict.proofs.Agreement.{other_id_sym, same_name_refl}
 use Rattle.avp_dict.proofs.AgreeingLines.{AreAloneNames, alone_by_id}
+use Rattle.avp_dict.proofs.FormedTypings.{typing_formed}
 use Rattle.avp_dict.proofs.LinesRead.{context_of_push, context_of_none, then_both}
 use Rattle.avp_dict.specs.AttributeNumbers.{greatest_number, greatest_value}
 use Rattle.avp_dict.specs.Attributes.{attribute, attribute_line, attribute_of, id_of_dotted, id_of_parts, is_attribute_name, is_extended_id, is_held, is_number, is_of_other_id, number_id, id_of_number, vendor_id}
@@ -34,7 +35,7 @@ use Rattle.avp_dict.specs.Meanings.{Meaning, Vendor, Attribute, BeginVendor, Rea
 use Rattle.avp_dict.specs.Readings.{include, plain_line, read_head, read_line, read_lines, read_words, skipped_line, value, within}
 use Rattle.avp_dict.specs.Soundness.{IsSoundVendor, names_other_id}
 use Rattle.avp_dict.specs.Refusals.{refused_at, ◌>>=◌}
-use Rattle.avp_dict.specs.Types.{are_flags, form_by, is_fixed, is_hiding, is_marked, is_opaque, is_text_kind, kind_word, typing_by, typing_of}
+use Rattle.avp_dict.specs.Types.{are_flags, form_by, is_fixed, is_formed, is_hiding, is_marked, is_opaque, is_text_kind, kind_word, typing_by, typing_of}
 use Rattle.avp_dict.specs.Vendors.{bounded, format_parts, format_word, is_format, is_other_vendor, is_vendor_name, standard_format, two_parts, vendor, vendor_line, vendor_numbered}
 use Rattle.avp_dict.specs.Words.{number_of, same_name, words_of}
 use Rattle.avp_dict.specs.internal.Meanings.{IsShort, meaning_view}
@@ -47,11 +48,13 @@ is_ranged _ = true
 
 -- of an ATTRIBUTE line, by the lines that are there
 pub record IsReadAttribute (lines : List AttributeLine) (a : AttributeLine) : Type 0 where
+  pub spelled : list_all is_name_octet a.name ≡ true
   pub named : begins_as_attr a.name ≡ false
   pub short : length a.name ≤ max_name
   pub alone : All (λ b. names_other_id a.name a.id b ≡ false) lines
   pub ranged : is_ranged a.id ≡ true
   pub hides : a.typing.hidden ≡ true → is_text_kind (Some a.typing.kind) ≡ true
+  pub formed : is_formed a.typing ≡ true
 
 -- of a VENDOR line
 pub record IsReadVendor (v : VendorLine) : Type 0 where
@@ -77,11 +80,13 @@ agrees_itself n i = rw (same_name_refl n, id_eq-same i)
 
 one_line_more : (lines : List AttributeLine) (new a : AttributeLine) → IsReadAttribute lines a → names_other_id a.name a.id new ≡ false → IsReadAttribute (lines ++ new ∷ []) a
 one_line_more lines new a h apart = record {
+  spelled = h.spelled;
   named = h.named;
   short = h.short;
   alone = All-push (λ b. names_other_id a.name a.id b ≡ false) lines new h.alone apart;
   ranged = h.ranged;
   hides = h.hides;
+  formed = h.formed;
 }
 
 attribute_more : (lines : List AttributeLine) (new : AttributeLine) → All (IsReadAttribute lines) lines → IsNewAttribute lines new → All (IsReadAttribute (lines ++ new ∷ [])) (lines ++ new ∷ [])
@@ -124,6 +129,13 @@ good_name name flags h =
     let short = nat_le (length name) max_name in
     let parts = and_parts (list_all is_name_octet name && short) (not (begins_as_attr name)) (and_parts (is_attribute_name name) flags h).0 in
     (not-true (begins_as_attr name) parts.1, leb-true (length name) max_name (and_parts (list_all is_name_octet name) short parts.0).1)
+
+name_octets : (name : List ℕ) (flags : Bool) → (is_attribute_name name && flags) ≡ true → list_all is_name_octet name ≡ true
+unfolding is_attribute_name
+name_octets name flags h =
+    let short = nat_le (length name) max_name in
+    let parts = and_parts (list_all is_name_octet name && short) (not (begins_as_attr name)) (and_parts (is_attribute_name name) flags h).0 in
+    (and_parts (list_all is_name_octet name) short parts.0).0
 
 short_vendor : (name : List ℕ) → is_vendor_name name ≡ true → length name ≤ max_name
 unfolding is_vendor_name
@@ -263,7 +275,7 @@ module _ (before : Context) where
       let good = good_name name (are_flags flags) named in
       cond_both (is_of_other_id id (id_named name before.attributes)) _ _ (Reads before) (λ other. tt) (λ alone. record {
         short = good.1;
-        read = λ are. record { named = good.0; short = good.1; alone = alone_by_id before.attributes name id are alone; ranged = ranged; hides = hides_text id kind flags };
+        read = λ are. record { spelled = name_octets name (are_flags flags) named; named = good.0; short = good.1; alone = alone_by_id before.attributes name id are alone; ranged = ranged; hides = hides_text id kind flags; formed = typing_formed id kind flags };
       }))
       (λ other. tt)
 

@@ -159,5 +159,5 @@ module _ (d : Dictionary) where
 
   -- the list of a request is clean
   pub request_clean : IsSound d → (text : List ℕ) (pairs : List Pair) → request_spelled text d ≡ Some pairs → is_clean pairs d ≡ true
-  unfolding is_clean
-  request_clean sound text pairs e = request_passes d (is_clean_pair d) (pair_clean sound) text pairs e
+  unfolding is_clean request_spelled
+  request_clean sound text pairs e = request_passes (pair_spelled d) (is_clean_pair d) (pair_clean sound) text pairs e

@@ -1,6 +1,6 @@
 -- What dictionary files define: attributes, the names of their values, and vendors, each by a line of its own; and how
 -- they are found.
-use Rattle.std.specs.Prelude.{ℕ, Bool, ◌&&◌, ◌==◌, if◌then◌else◌, List, [], ◌∷◌, ◌++◌, map, reverse, Option}
+use Rattle.std.specs.Prelude.{ℕ, Bool, false, ◌&&◌, ◌==◌, if◌then◌else◌, List, [], ◌∷◌, ◌++◌, map, reverse, Option, Some, None}
 use Rattle.std.specs.Option.{option_map}
 use Rattle.std.specs.List.{find, fold, list_any}
 use Rattle.std.specs.Str.{bytes_eq}
@@ -14,11 +14,12 @@ use Rattle.avp_dict.specs.declared.entries.Typing.{Typing}
 use Rattle.avp_dict.specs.declared.entries.Note.{Note}
 use Rattle.avp_dict.specs.Words.{lower, same_name}
 
--- the used ATTRIBUTE lines, the used VALUE lines, the VENDOR lines outside skipped blocks, and where the skipped lines
--- are, each in the order of the lines
+-- the used ATTRIBUTE lines, the used VALUE lines, those of numbers beside tags, the VENDOR lines outside skipped
+-- blocks, and where the skipped lines are, each in the order of the lines
 pub record Dictionary : Type 0 where
   pub attributes : List AttributeLine
   pub values : List ValueLine
+  pub tagged_values : List ValueLine
   pub vendors : List VendorLine
   pub notes : List Note
 
@@ -90,6 +91,21 @@ number_named id name values = option_map number_of_line (last_where (is_value_na
 unfoldable pub name_numbered : AttrId → ℕ → List ValueLine → Option (List ℕ)
 name_numbered id number values =
     option_map name_of_line (last_where (is_value_numbered id number) values)
+
+-- some number, and this one
+abbrev pub is_number_found : ℕ → Option ℕ → Bool
+is_number_found number None = false
+is_number_found number (Some other) = other == number
+
+abbrev pub name_standing : AttrId → ℕ → List ValueLine → Option (List ℕ) → Option (List ℕ)
+name_standing id number values None = None
+name_standing id number values (Some name) =
+    if is_number_found number (number_named id name values) then Some name else None
+
+-- the printed name of a number beside a tag: the last one, unless a later line gives that name another number
+unfoldable pub tagged_name_numbered : AttrId → ℕ → List ValueLine → Option (List ℕ)
+tagged_name_numbered id number values =
+    name_standing id number values (name_numbered id number values)
 
 -- ---- vendors
 

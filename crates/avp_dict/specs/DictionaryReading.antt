@@ -27,6 +27,7 @@ outline_of context =
     record {
       attributes = used context.vendors context.attributes;
       values = [];
+      tagged_values = [];
       vendors = context.vendors;
       notes = [];
     }

@@ -19,22 +19,31 @@ abbrev pub pair_named : Dictionary → List ℕ → Named → Option Pair
 pair_named dictionary text name =
     option_map (pair_with name) (result_ok (value_spelled name text dictionary))
 
+-- the pair of an assignment, by what names stand for, and by what texts stand for under them
+abbrev pub pair_assigned : {T : Type 0} → (List ℕ → Option T) → (T → List ℕ → Option Pair)
+    → Assignment → Option Pair
+pair_assigned target_of pair_of a =
+    option_and_then (λ target. pair_of target a.text) (target_of a.name)
+
 -- the pair that an assignment spells
 unfoldable pub pair_spelled : Dictionary → Assignment → Option Pair
 pair_spelled dictionary a = option_and_then (pair_named dictionary a.text) (named a.name dictionary)
 
 -- the pairs of all, where each has one
-unfoldable pub pairs_spelled : Dictionary → List Assignment → Option (List Pair)
-pairs_spelled dictionary [] = Some []
-pairs_spelled dictionary (a ∷ as_) =
-    joined (option_map (λ pair. pair ∷ []) (pair_spelled dictionary a))
-    (pairs_spelled dictionary as_)
+unfoldable pub each_pair : (Assignment → Option Pair) → List Assignment → Option (List Pair)
+each_pair pair_of [] = Some []
+each_pair pair_of (a ∷ as_) =
+    joined (option_map (λ pair. pair ∷ []) (pair_of a)) (each_pair pair_of as_)
 
 -- no more pairs than a list may have
 abbrev pub few_enough : List Pair → Option (List Pair)
 few_enough pairs = if nat_le (length pairs) max_pairs then Some pairs else None
 
+-- the pairs that the lines of a text assign
+unfoldable pub request_by : (Assignment → Option Pair) → List ℕ → Option (List Pair)
+request_by pair_of text =
+    option_and_then few_enough (option_and_then (each_pair pair_of) (assignments_of text))
+
 -- the request of a text: the pairs that its lines assign
 unfoldable pub request_spelled : List ℕ → Dictionary → Option (List Pair)
-request_spelled text dictionary =
-    option_and_then few_enough (option_and_then (pairs_spelled dictionary) (assignments_of text))
+request_spelled text dictionary = request_by (pair_spelled dictionary) text

@@ -94,6 +94,22 @@ form_by w flags = if is_encrypted flags then forms.AsTyped
     else if has_flag (codes "has_tag") flags then unwrap_or (tagged_form w) forms.AsTyped
     else unwrap_or (own_form w) forms.AsTyped
 
+-- the type in which values that stand for this are held
+abbrev pub is_kind_of_form : Form → Kind → Bool
+is_kind_of_form forms.Date kinds.Date = true
+is_kind_of_form forms.Date _ = false
+is_kind_of_form form kinds.Bytes = true
+is_kind_of_form form _ = false
+
+abbrev pub is_as_typed : Form → Bool
+is_as_typed forms.AsTyped = true
+is_as_typed _ = false
+
+-- values that stand for more than their type are held in the type for it, and not hidden
+abbrev pub is_formed : Typing → Bool
+is_formed typing =
+    is_as_typed typing.form || (not typing.hidden && is_kind_of_form typing.form typing.kind)
+
 -- ---- together
 
 abbrev pub typing_by : Option Kind → Bool → Bool → Form → Bool → Typing

@@ -10,6 +10,8 @@ use Rattle.avp_dict.specs.declared.entries.Note.{Note}
 use Rattle.avp_dict.specs.declared.entries.Typing.{Typing}
 use Rattle.avp_dict.specs.declared.entries.ValueLine.{ValueLine}
 use Rattle.avp_dict.specs.declared.entries.VendorLine.{VendorLine}
+use Rattle.avp_dict.specs.declared.forms.Form.{Form}
+use Rattle.avp_dict.specs.declared.forms.Form.TheVariants.{TaggedInteger}
 use Rattle.avp_dict.specs.declared.faults.DictKind.{DictKind}
 use Rattle.avp_dict.specs.declared.faults.DictKind.TheVariants.{OutOfRange, NoAttribute, OtherValue}
 use Rattle.avp_dict.specs.declared.faults.DictFault.{DictFault}
@@ -78,6 +80,28 @@ value_of skipped dictionary attribute name number (Some id) =
 value_of skipped dictionary attribute name number None =
     if list_any (is_same_name attribute) skipped then Ok None else Err NoAttribute
 
+-- ---- the names of numbers beside tags
+
+-- the greatest number beside a tag, of three octets (RFC 2868, section 3.1)
+abbrev pub max_tagged_number : ℕ
+max_tagged_number = 16777215
+
+abbrev pub is_tagged_integer : Form → Bool
+is_tagged_integer TaggedInteger = true
+is_tagged_integer _ = false
+
+abbrev pub tagged_line : AttrId → List ℕ → ℕ → Option Typing → Option ValueLine
+tagged_line id name number None = None
+tagged_line id name number (Some typing) =
+    if is_tagged_integer typing.form && is_value_name name && nat_le number max_tagged_number
+    then Some (record { id = id; name = name; number = number }) else None
+
+-- the name that a VALUE line gives to a number beside a tag: the line itself only gives a note
+unfoldable pub tagged_value : Dictionary → List ℕ → ℕ → Option AttrId → Option ValueLine
+tagged_value dictionary name number None = None
+tagged_value dictionary name number (Some id) =
+    tagged_line id name number (typing_of_id id dictionary.attributes)
+
 -- ---- notes
 
 -- a line other than a VALUE line that is skipped, or that begins or ends a skipped block
@@ -103,6 +127,11 @@ abbrev pub with_value : Dictionary → Reading → Option ValueLine → Dictiona
 with_value dictionary r None = with_note dictionary r
 with_value dictionary r (Some v) = record dictionary { values = dictionary.values ++ v ∷ [] }
 
+abbrev pub with_tagged : Dictionary → Option ValueLine → Dictionary
+with_tagged dictionary None = dictionary
+with_tagged dictionary (Some v) =
+    record dictionary { tagged_values = dictionary.tagged_values ++ v ∷ [] }
+
 -- the dictionary with what a line adds; skipped are the names on skipped ATTRIBUTE lines
 unfoldable pub with_line : List (List ℕ) → Dictionary → Reading → Result Dictionary DictFault
 with_line skipped dictionary r = elim r.meaning [
@@ -110,7 +139,8 @@ with_line skipped dictionary r = elim r.meaning [
       refused_at r.file r.line
       (value_of skipped dictionary attribute name number
       (id_named attribute dictionary.attributes))
-      >>= λ value. Ok (with_value dictionary r value)
+      >>= λ value. Ok (with_tagged (with_value dictionary r value)
+      (tagged_value dictionary name number (id_named attribute dictionary.attributes)))
   | m ↦ Ok (if is_noted dictionary.vendors m then with_note dictionary r else dictionary)
 ]
 

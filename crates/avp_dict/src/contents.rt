@@ -8,6 +8,8 @@ use crate::tables::{Attributes, Values, Vendors};
 pub struct Contents {
     pub attributes: Attributes,
     pub values: Values,
+    /// The names of numbers beside tags.
+    pub tagged_values: Values,
     pub vendors: Vendors,
     pub notes: Vec<Note>,
 }

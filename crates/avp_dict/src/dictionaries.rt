@@ -3,7 +3,7 @@ ghost use Rattle.std.specs.Option.{option_map, option_copied};
 ghost use Rattle.std.specs.Result.{result_map_both};
 ghost use Rattle.avp_lists.specs.Meets.{Meets};
 ghost use Rattle.avp_dict.specs.Counts.{counts_of};
-ghost use Rattle.avp_dict.specs.Dictionary.{first_names, name_numbered, number_named, typing_of_id};
+ghost use Rattle.avp_dict.specs.Dictionary.{first_names, name_numbered, number_named, tagged_name_numbered, typing_of_id};
 ghost use Rattle.avp_dict.specs.DictionaryReading.{dictionary_of, max_lines};
 ghost use Rattle.avp_dict.specs.Lines.{HasDistinctNames};
 ghost use Rattle.avp_dict.specs.Names.{described, form_of, is_marked_secret, named, unless_three, vendor_format};
@@ -250,6 +250,34 @@ impl Dictionary {
         ensures { option_copied result ≡ name_numbered id number self.now.values }
     {
         self.contents.values.name_numbered(id, number)
+    }
+
+    /// The number beside a tag that a VALUE line gives to a name of this attribute's values.
+    ///
+    /// ```rust
+    /// // `ATTRIBUTE Tunnel-Type 64 integer has_tag` and `VALUE Tunnel-Type VLAN 13`
+    /// let tunnel_type = AttrId::Plain(64);
+    /// assert_eq!(rt; dictionary.tagged_number(tunnel_type, b"vlan"), Some(13));
+    /// assert_eq!(rt; dictionary.value_number(tunnel_type, b"vlan"), None);
+    /// ```
+    pub fn tagged_number(&self, id: AttrId, name: &[u8]) -> Option<u64>
+        ensures { result ≡ number_named id name.now self.now.tagged_values }
+    {
+        self.contents.tagged_values.number_named(id, name)
+    }
+
+    /// The printed name of a number beside a tag: the last one that a VALUE line gives, unless a later line gives that
+    /// name another number.
+    ///
+    /// ```rust
+    /// let tunnel_type = AttrId::Plain(64);
+    /// let name = dictionary.tagged_name(tunnel_type, 13).ok_or("no name")?;
+    /// assert_eq!(rt; name, b"VLAN".as_slice());
+    /// ```
+    pub fn tagged_name(&self, id: AttrId, number: u64) -> Option<&[u8]>
+        ensures { option_copied result ≡ tagged_name_numbered id number self.now.tagged_values }
+    {
+        self.contents.tagged_values.tagged_name_numbered(id, number)
     }
 
     // How the values of an id are read.

@@ -2,4 +2,5 @@
 
 pub mod faults;
 pub mod lines;
+pub mod readers;
 pub mod tokens;

@@ -200,3 +200,31 @@ fn hidden_attributes_are_marked(rt: HostRuntime) -> Result<(), Fail> {
     assert!(rt; dictionary.form(AttrId::Plain(3)).is_none());
     Ok(())
 }
+
+// Lines that name numbers beside tags give notes, and no names of other numbers.
+#[test]
+fn numbers_beside_tags_have_names(rt: HostRuntime) -> Result<(), Fail> {
+    let lines = b"ATTRIBUTE Tunnel-Type 64 integer has_tag
+VALUE Tunnel-Type VLAN 13
+VALUE Tunnel-Type Virtual-LAN 13
+VALUE Tunnel-Type Same 14
+VALUE Tunnel-Type Same 15
+VALUE Tunnel-Type Great 16777216
+VALUE Tunnel-Type 16 16
+";
+    let dictionary = read_dictionary(rt.alloc(), lines)?;
+    let id = AttrId::Plain(64);
+    assert_eq!(rt; dictionary.tagged_number(id, b"vlan"), Some(13));
+    assert_eq!(rt; dictionary.tagged_number(id, b"same"), Some(15));
+    assert_eq!(rt; dictionary.tagged_number(id, b"Great"), None);
+    let name = dictionary.tagged_name(id, 13).ok_or("no name")?;
+    assert_eq!(rt; name, b"Virtual-LAN".as_slice());
+    assert!(rt; dictionary.tagged_name(id, 14).is_none());
+    assert!(rt; dictionary.tagged_name(id, 16).is_none());
+    assert_eq!(rt; dictionary.value_number(id, b"VLAN"), None);
+    assert_eq!(rt;
+        (dictionary.notes().len(), dictionary.counts().values),
+        (6, 0)
+    );
+    Ok(())
+}

@@ -7,6 +7,7 @@ contents_view c =
     record {
       attributes = c.attributes;
       values = c.values;
+      tagged_values = c.tagged_values;
       vendors = c.vendors;
       notes = c.notes.items;
     }

@@ -2,14 +2,12 @@
 use Rattle.std.specs.Prelude.{◌≡◌, ℕ, List, [], ◌∷◌, Option, Some, None}
 use Rattle.std.specs.Option.{option_and_then}
 use Rattle.avp_lists.specs.declared.pairs.Pair.{Pair}
-use Rattle.avp_dict.specs.declared.entries.Named.{Named}
 use Rattle.avp_dict.specs.declared.request.faults.LineKind.{LineKind}
 use Rattle.avp_dict.specs.declared.request.faults.LineKind.TheVariants as kinds
-use Rattle.avp_dict.specs.Dictionary.{Dictionary}
 use Rattle.avp_dict.specs.declared.value.faults.ValueFault.{ValueFault}
 use Rattle.avp_dict.specs.declared.value.faults.ValueFault.TheVariants as faults
 use Rattle.avp_dict.specs.RequestLines.{Assignment, Token, Comma, joined, packet_assignments, pairs_of, value_text}
-use Rattle.avp_dict.specs.Requests.{few_enough, pair_named, pairs_spelled}
+use Rattle.avp_dict.specs.Requests.{each_pair, few_enough}
 
 -- the fault of a line whose value has this one
 abbrev pub line_kind : ValueFault → LineKind
@@ -18,10 +16,9 @@ line_kind faults.NotValue = kinds.NotValue
 line_kind faults.TooLong = kinds.TooLong
 line_kind faults.Memory = kinds.Memory
 
--- the pair of a name and the token of its value
-abbrev pub pair_of_token : Dictionary → Named → Token → Option Pair
-pair_of_token dictionary name token =
-    option_and_then (λ text. pair_named dictionary text name) (value_text token)
+-- the pair of what a name stands for and the token of its value
+abbrev pub pair_of_token : {T : Type 0} → (T → List ℕ → Option Pair) → T → Token → Option Pair
+pair_of_token pair_of target token = option_and_then (pair_of target) (value_text token)
 
 -- what is assigned after a pair
 abbrev pub assigned_after : List Token → Option (List Assignment)
@@ -30,16 +27,15 @@ assigned_after (Comma ∷ tokens) = pairs_of tokens
 assigned_after _ = None
 
 -- the pairs that tokens spell, and those that tokens after a pair do
-unfoldable pub pairs_at : Dictionary → List Token → Option (List Pair)
-pairs_at dictionary tokens = option_and_then (pairs_spelled dictionary) (pairs_of tokens)
+unfoldable pub pairs_at : (Assignment → Option Pair) → List Token → Option (List Pair)
+pairs_at pair_of tokens = option_and_then (each_pair pair_of) (pairs_of tokens)
 
-unfoldable pub pairs_after : Dictionary → List Token → Option (List Pair)
-pairs_after dictionary tokens = option_and_then (pairs_spelled dictionary) (assigned_after tokens)
+unfoldable pub pairs_after : (Assignment → Option Pair) → List Token → Option (List Pair)
+pairs_after pair_of tokens = option_and_then (each_pair pair_of) (assigned_after tokens)
 
 -- the pairs that the lines of a packet spell
-unfoldable pub packet_pairs : Dictionary → List (List ℕ) → Option (List Pair)
-packet_pairs dictionary texts =
-    option_and_then (pairs_spelled dictionary) (packet_assignments texts)
+unfoldable pub packet_pairs : (Assignment → Option Pair) → List (List ℕ) → Option (List Pair)
+packet_pairs pair_of texts = option_and_then (each_pair pair_of) (packet_assignments texts)
 
 -- pairs that were read, before others
 unfoldable pub after_pairs : List Pair → Option (List Pair) → Option (List Pair)

@@ -174,6 +174,7 @@ pub(crate) fn settle(
     let mut contents = Contents {
         attributes,
         values: Values::new(alloc),
+        tagged_values: Values::new(alloc),
         vendors,
         notes: Vec::new(alloc),
     };

@@ -5,23 +5,27 @@ ghost use Rattle.std.specs.Option.{option_and_then};
 ghost use Rattle.std.specs.List.{list_all};
 ghost use Rattle.avp_lists.specs.Meets.{Meets, Unless};
 ghost use Rattle.avp_dict.specs.Letters.{is_value_name_octet, max_name};
-ghost use Rattle.avp_dict.specs.Values.{is_noted, is_of_other_number, is_value_name, max_of, max_of_typing, reads_as_number, resolve, value_of, value_up_to, with_line, with_note, with_value};
+ghost use Rattle.avp_dict.specs.Values.{is_noted, is_of_other_number, is_tagged_integer, is_value_name, max_of, max_of_typing, reads_as_number, resolve, tagged_line, tagged_value, value_of, value_up_to, with_line, with_note, with_tagged, with_value};
 ghost use Rattle.avp_dict.specs.Dictionary.{typing_of_id};
 ghost use Rattle.avp_dict.specs.Outcomes.{is_memory, is_memory_kind};
 ghost use Rattle.avp_dict.specs.internal.Contents.{contents_view};
 ghost use Rattle.avp_dict.specs.internal.Meanings.{meaning_view, reading_view, reading_views};
 
 use crate::contents::Contents;
-use crate::entries::{Kind, Note, ValueLine};
+use crate::entries::{Kind, Note, Typing, ValueLine};
 use crate::faults::{DictFault, DictKind};
 use crate::file::attributes::is_name_octet;
 use crate::file::meanings::{Meaning, Reading};
 use crate::file::numbers::digits;
 use crate::file::settling::is_kept;
 use crate::file::words::MAX_NAME;
+use crate::forms::Form;
 use crate::tables::{Attributes, NameSet, Values, Vendors};
 use avp_lists::{AttrId, Octets};
 use std::alloc::{AllocError, Global};
+
+// The greatest number beside a tag, of three octets (RFC 2868, section 3.1).
+const MAX_TAGGED_NUMBER: u64 = 16_777_215;
 
 fn is_value_name_octet(octet: u8) -> bool
     ensures { result ≡ is_value_name_octet octet }
@@ -140,6 +144,59 @@ fn value_of(
     }
 }
 
+fn is_tagged_integer(form: Form) -> bool
+    ensures { result ≡ is_tagged_integer form }
+{
+    matches!(form, Form::TaggedInteger)
+}
+
+fn tagged_line(
+    alloc: Global,
+    id: AttrId,
+    name: &[u8],
+    number: u64,
+    typing: Option<Typing>,
+) -> Result<Option<ValueLine>, AllocError>
+    ensures value { IfOk result (λ value. value ≡ tagged_line id name.now number typing) }
+    ensures short { IfOk result (λ value. IfSome value (λ v. length v.name ≤ max_name)) }
+{
+    match typing {
+        Some(typing)
+            if is_tagged_integer(typing.form)
+                && is_value_name(name)
+                && number <= MAX_TAGGED_NUMBER => {
+            let name = Octets::from_slice(alloc, name)?;
+            Ok(Some(ValueLine { id, name, number }))
+        }
+        _ => Ok(None),
+    }
+}
+
+// The name of a number beside a tag that a VALUE line gives.
+#[tactic(auto, unfolding(crate::specs::Values::tagged_value))]
+fn tagged_value(
+    alloc: Global,
+    contents: &Contents,
+    name: &[u8],
+    number: u64,
+    id: Option<AttrId>,
+) -> Result<Option<ValueLine>, AllocError>
+    ensures value { IfOk result (λ value. value
+        ≡ tagged_value (contents_view contents.now) name.now number id) }
+    ensures short { IfOk result (λ value. IfSome value (λ v. length v.name ≤ max_name)) }
+{
+    match id {
+        Some(id) => tagged_line(
+            alloc,
+            id,
+            name,
+            number,
+            contents.attributes.typing_of_id(id),
+        ),
+        None => Ok(None),
+    }
+}
+
 fn is_noted(vendors: &Vendors, meaning: Meaning<'_>) -> bool
     ensures { result ≡ is_noted vendors.now (meaning_view meaning.entry) }
 {
@@ -183,6 +240,17 @@ impl Contents {
         }
     }
 
+    fn add_tagged(&mut self, value: Option<ValueLine>) -> Result<(), AllocError>
+        requires { IfSome value (λ v. length v.name ≤ max_name) }
+        ensures { OnOk result (contents_view self.new
+            ≡ with_tagged (contents_view self.old) value) }
+    {
+        match value {
+            Some(value) => self.tagged_values.push(value),
+            None => Ok(()),
+        }
+    }
+
     // What a line adds.
     #[tactic(auto, unfolding(crate::specs::Values::with_line))]
     fn add_line(
@@ -200,7 +268,11 @@ impl Contents {
         if let Meaning::Value(attribute, name, number) = reading.meaning {
             let id = self.attributes.id_named(attribute);
             match value_of(alloc, skipped, self, attribute, name, number, id) {
-                Ok(value) => self.add_value(reading, value)?,
+                Ok(value) => {
+                    let tagged = tagged_value(alloc, self, name, number, id)?;
+                    self.add_value(reading, value)?;
+                    self.add_tagged(tagged)?;
+                }
                 Err(error) => return Err(error.at(reading.file, reading.line)),
             }
         } else if is_noted(&self.vendors, reading.meaning) {

@@ -25,6 +25,7 @@ pub(crate) fn without_comment(text: &[u8]) -> &[u8]
     }
 }
 
+/// Whether an octet is a space, a tab or a CR.
 pub fn is_blank(octet: u8) -> bool
     ensures { result ≡ is_blank octet }
 {
@@ -38,8 +39,8 @@ fn blank_at(text: &[u8]) -> Option<usize>
     text.iter().position(|octet| is_blank(*octet))
 }
 
-// What is before the first blank, and after it.
-fn first_part(text: &[u8]) -> Option<(&[u8], &[u8])>
+/// What is before the first blank, and after it.
+pub fn first_part(text: &[u8]) -> Option<(&[u8], &[u8])>
     ensures cut { IfSome result (λ x. slice_split is_blank text.now
         ≡ x.0.now ∷ slice_split is_blank x.1.now) }
     ensures shorter { IfSome result (λ x. length x.1.now < length text.now) }
@@ -92,9 +93,9 @@ pub(crate) fn lower(octet: u8) -> u8
     }
 }
 
-/// Whether two words are the same, without regard to ASCII case.
+/// Whether two words are the same, letters in either case.
 #[tactic(auto, using(crate::proofs::Folding::other_length))]
-pub(crate) fn same_name(a: &[u8], b: &[u8]) -> bool
+pub fn same_name(a: &[u8], b: &[u8]) -> bool
     ensures { result ≡ same_name a.now b.now }
 {
     // Most names differ in length, and many begin alike.

@@ -9,16 +9,16 @@ ghost use Rattle.avp_dict.specs.Limits.{fits};
 ghost use Rattle.avp_dict.specs.Lines.{is_line_end, texts_of};
 ghost use Rattle.avp_dict.specs.Outcomes.{is_memory_line};
 ghost use Rattle.avp_dict.specs.RequestLines.{is_blank_line, is_idle_line, pairs_of, tokens_at, without_front};
-ghost use Rattle.avp_dict.specs.Requests.{pair_named, request_spelled};
+ghost use Rattle.avp_dict.specs.Requests.{pair_assigned, request_by, request_spelled};
 ghost use Rattle.avp_dict.specs.Sent.{is_clean};
 ghost use Rattle.avp_dict.specs.internal.LineReading.{IsNoRequest, after_pairs, assigned_after, pair_of_token, pairs_after, pairs_at};
 ghost use Rattle.avp_dict.specs.internal.RequestTokens.{side_after, token_view};
 
 use crate::dictionaries::Dictionary;
-use crate::entries::Named;
 use crate::file::lines::split_line;
 use crate::file::words::{is_blank, without_comment};
 use crate::request::faults::{LineFault, LineKind};
+use crate::request::readers::PairReader;
 use crate::request::tokens::{Side, Token, next_token};
 use crate::value::quotes::octets_between;
 use avp_lists::{MAX_PAIRS, Pair};
@@ -116,86 +116,127 @@ fn push_pair(pairs: &mut Vec<Pair>, pair: Pair) -> Result<(), LineKind>
     Ok(())
 }
 
+// The pair of what a name stands for and the token of its value.
+fn pair_of_token<R: PairReader>(
+    reader: &R,
+    alloc: Global,
+    target: R::Target,
+    token: Token,
+) -> Result<Pair, LineKind>
+    ensures { Finds is_memory_line result
+        (pair_of_token (R.pair_of reader.now) target (token_view token.entry)) }
+{
+    match token {
+        Token::Run([b'=', ..]) => Err(LineKind::Unreadable),
+        Token::Run(text) => reader.pair(alloc, target, text),
+        Token::Quoted(mark, text) => {
+            let octets = octets_between(alloc, mark, text)?;
+            reader.pair(alloc, target, &octets)
+        }
+        Token::Comma | Token::Sign | Token::Unended => Err(LineKind::Unreadable),
+    }
+}
+
+// The pair of a name, the first token, and a value, and what follows it.
+#[tactic(auto, unfolding(crate::specs::RequestLines::pairs_of, crate::specs::internal::LineReading::pairs_at))]
+fn read_pair<'a, R: PairReader>(
+    reader: &R,
+    alloc: Global,
+    first: Token,
+    rest: &'a [u8],
+) -> Result<(Pair, &'a [u8]), LineKind>
+    ensures read { IfOk result (λ x.
+        pairs_at (pair_assigned (R.target_of reader.now) (R.pair_of reader.now))
+        (token_view first.entry ∷ tokens_at (side_after Side.Name first.entry) rest.now)
+        ≡ after_pairs (x.0 ∷ [])
+        (pairs_after (pair_assigned (R.target_of reader.now) (R.pair_of reader.now))
+        (tokens_at Side.Value x.1.now))) }
+    ensures shorter { IfOk result (λ x. length x.1.now ≤ length rest.now) }
+    ensures refused { IfErr result (λ kind.
+        Unless (is_memory_line kind)
+        (pairs_at (pair_assigned (R.target_of reader.now) (R.pair_of reader.now))
+        (token_view first.entry ∷ tokens_at (side_after Side.Name first.entry) rest.now)
+        ≡ None)) }
+{
+    let Token::Run(name) = first else {
+        return Err(LineKind::Unreadable);
+    };
+    let Some(target) = reader.target(name) else {
+        return Err(LineKind::Unknown);
+    };
+    let Some((Token::Sign, rest)) = next_token(Side::Name, rest) else {
+        return Err(LineKind::Unreadable);
+    };
+    let Some((value, rest)) = next_token(Side::Value, rest) else {
+        return Err(LineKind::Unreadable);
+    };
+    let pair = pair_of_token(reader, alloc, target, value)?;
+    Ok((pair, rest))
+}
+
+// Adds the pairs of a line to those of the lines before it.
+fn read_line<R: PairReader>(
+    reader: &R,
+    alloc: Global,
+    line: &[u8],
+    pairs: &mut Vec<Pair>,
+) -> Result<(), LineKind>
+    requires { length pairs.old.items ≤ max_pairs }
+    ensures read { OnOk result (after_pairs pairs.old.items
+        (pairs_at (pair_assigned (R.target_of reader.now) (R.pair_of reader.now))
+        (tokens_at Side.Name line.now)) ≡ Some pairs.new.items) }
+    ensures few { OnOk result (length pairs.new.items ≤ max_pairs) }
+    ensures refused { IfErr result (λ kind. kind ≢ LineKind.Memory
+        → IsNoRequest pairs.old.items
+        (pairs_at (pair_assigned (R.target_of reader.now) (R.pair_of reader.now))
+        (tokens_at Side.Name line.now))) }
+{
+    let mut rest = line;
+    while let Some((first, after)) = next_token(Side::Name, rest) {
+        let (pair, after) = read_pair(reader, alloc, first, after)?;
+        push_pair(pairs, pair)?;
+        rest = after_pair(after)?;
+    }
+    Ok(())
+}
+
+/// The pairs that the lines of a text assign, as [`read_request`](Dictionary::read_request) has them, with names and
+/// texts read by `reader`.
+///
+/// ```rust
+/// let pairs = read_pairs(dictionary, alloc, b"User-Name = \"bob\", NAS-Port = 3")?;
+/// assert_eq!(rt; pairs.len(), 2);
+/// ```
+pub fn read_pairs<R: PairReader>(
+    reader: &R,
+    alloc: Global,
+    text: &[u8],
+) -> Result<Vec<Pair>, LineFault>
+    ensures read { IfOk result (λ pairs.
+        request_by (pair_assigned (R.target_of reader.now) (R.pair_of reader.now)) text.now
+        ≡ Some pairs.items) }
+    ensures few { IfOk result (λ pairs. length pairs.items ≤ max_pairs) }
+    ensures refused { IfErr result (λ fault. fault.kind ≢ LineKind.Memory
+        → request_by (pair_assigned (R.target_of reader.now) (R.pair_of reader.now)) text.now
+        ≡ None) }
+{
+    let mut pairs = Vec::new(alloc);
+    let (mut number, mut rest) = without_idle_lines(text);
+    while let Some((line, after)) = next_line(rest) {
+        number += 1;
+        if is_blank_line(line) {
+            end_of_packet(number, after)?;
+            return Ok(pairs);
+        }
+        if let Err(kind) = read_line(reader, alloc, line, &mut pairs) {
+            return Err(LineFault { line: number, kind });
+        }
+        rest = after;
+    }
+    Ok(pairs)
+}
+
 impl Dictionary {
-    // The pair of a text under a name.
-    fn pair_named(&self, alloc: Global, named: Named, text: &[u8]) -> Result<Pair, LineKind>
-        ensures { Finds is_memory_line result (pair_named self.now text.now named) }
-    {
-        let value = self.value_of_text(alloc, named, text)?;
-        Ok(Pair {
-            id: named.id,
-            value,
-        })
-    }
-
-    // The pair of a name and the token of its value.
-    fn pair_of_token(&self, alloc: Global, named: Named, token: Token) -> Result<Pair, LineKind>
-        ensures { Finds is_memory_line result
-            (pair_of_token self.now named (token_view token.entry)) }
-    {
-        match token {
-            Token::Run([b'=', ..]) => Err(LineKind::Unreadable),
-            Token::Run(text) => self.pair_named(alloc, named, text),
-            Token::Quoted(mark, text) => {
-                let octets = octets_between(alloc, mark, text)?;
-                self.pair_named(alloc, named, &octets)
-            }
-            Token::Comma | Token::Sign | Token::Unended => Err(LineKind::Unreadable),
-        }
-    }
-
-    // The pair of a name, the first token, and a value, and what follows it.
-    #[tactic(auto, unfolding(crate::specs::RequestLines::pairs_of, crate::specs::internal::LineReading::pairs_at))]
-    fn read_pair<'a>(
-        &self,
-        alloc: Global,
-        first: Token,
-        rest: &'a [u8],
-    ) -> Result<(Pair, &'a [u8]), LineKind>
-        ensures read { IfOk result (λ x.
-            pairs_at self.now (token_view first.entry
-            ∷ tokens_at (side_after Side.Name first.entry) rest.now)
-            ≡ after_pairs (x.0 ∷ []) (pairs_after self.now (tokens_at Side.Value x.1.now))) }
-        ensures shorter { IfOk result (λ x. length x.1.now ≤ length rest.now) }
-        ensures refused { IfErr result (λ kind.
-            Unless (is_memory_line kind) (pairs_at self.now
-            (token_view first.entry ∷ tokens_at (side_after Side.Name first.entry) rest.now)
-            ≡ None)) }
-    {
-        let Token::Run(name) = first else {
-            return Err(LineKind::Unreadable);
-        };
-        let Some(named) = self.by_name(name) else {
-            return Err(LineKind::Unknown);
-        };
-        let Some((Token::Sign, rest)) = next_token(Side::Name, rest) else {
-            return Err(LineKind::Unreadable);
-        };
-        let Some((value, rest)) = next_token(Side::Value, rest) else {
-            return Err(LineKind::Unreadable);
-        };
-        let pair = self.pair_of_token(alloc, named, value)?;
-        Ok((pair, rest))
-    }
-
-    // Adds the pairs of a line to those of the lines before it.
-    fn read_line(&self, alloc: Global, line: &[u8], pairs: &mut Vec<Pair>) -> Result<(), LineKind>
-        requires { length pairs.old.items ≤ max_pairs }
-        ensures read { OnOk result (after_pairs pairs.old.items
-            (pairs_at self.now (tokens_at Side.Name line.now)) ≡ Some pairs.new.items) }
-        ensures few { OnOk result (length pairs.new.items ≤ max_pairs) }
-        ensures refused { IfErr result (λ kind. kind ≢ LineKind.Memory
-            → IsNoRequest pairs.old.items (pairs_at self.now (tokens_at Side.Name line.now))) }
-    {
-        let mut rest = line;
-        while let Some((first, after)) = next_token(Side::Name, rest) {
-            let (pair, after) = self.read_pair(alloc, first, after)?;
-            push_pair(pairs, pair)?;
-            rest = after_pair(after)?;
-        }
-        Ok(())
-    }
-
     /// The request that the lines of a text spell: pairs `Name = value` with commas or line ends between them. The first
     /// blank line after a pair ends the request; only blanks and comments may follow. The first refused place of the
     /// text is reported.
@@ -222,19 +263,6 @@ impl Dictionary {
     {
         // That each pair fits rests on what holds of the lines of every dictionary.
         self.sound();
-        let mut pairs = Vec::new(alloc);
-        let (mut number, mut rest) = without_idle_lines(text);
-        while let Some((line, after)) = next_line(rest) {
-            number += 1;
-            if is_blank_line(line) {
-                end_of_packet(number, after)?;
-                return Ok(pairs);
-            }
-            if let Err(kind) = self.read_line(alloc, line, &mut pairs) {
-                return Err(LineFault { line: number, kind });
-            }
-            rest = after;
-        }
-        Ok(pairs)
+        read_pairs(self, alloc, text)
     }
 }

@@ -1,6 +1,6 @@
 ghost use Rattle.std.specs.Prelude.{◌≡◌};
 ghost use Rattle.std.specs.Option.{option_copied};
-ghost use Rattle.avp_dict.specs.Dictionary.{is_value_named, is_value_numbered, last_where, name_numbered, number_named};
+ghost use Rattle.avp_dict.specs.Dictionary.{is_number_found, is_value_named, is_value_numbered, last_where, name_numbered, number_named, tagged_name_numbered};
 
 use crate::entries::ValueLine;
 use crate::tables::keyed::{Keyed, KeyedLines};
@@ -26,6 +26,15 @@ impl Keyed for ValueLine {
 
     fn number_key(&self) -> (IdKey, u64) {
         (id_key(self.id), self.number)
+    }
+}
+
+fn is_number_found(number: u64, found: Option<u64>) -> bool
+    ensures { result ≡ is_number_found number found }
+{
+    match found {
+        Some(other) => other == number,
+        None => false,
     }
 }
 
@@ -66,5 +75,18 @@ impl KeyedLines<ValueLine> {
     {
         let line = self.by_number(id, number)?;
         Some(line.name.as_slice())
+    }
+
+    /// The printed name of a number beside a tag: the last one, unless a later line gives that name another number.
+    #[tactic(auto, unfolding(crate::specs::Dictionary::tagged_name_numbered))]
+    pub fn tagged_name_numbered(&self, id: AttrId, number: u64) -> Option<&[u8]>
+        ensures { option_copied result ≡ tagged_name_numbered id number self.now }
+    {
+        let name = self.name_numbered(id, number)?;
+        if is_number_found(number, self.number_named(id, name)) {
+            Some(name)
+        } else {
+            None
+        }
     }
 }

@@ -1,71 +1,38 @@
-use Rattle.std.proofs.Common.{◌≡◌, ◌∙◌, ap, sym, true, false, rules, arith}
-use Rattle.std.proofs.lemmas.Result.{err_from_is_err_and}
-use Rattle.avp_dict.specs.Lines.{texts_of}
+use Rattle.std.proofs.Common.{◌≡◌, true, List, Some, All, IsTrue}
+use Rattle.std.proofs.lemmas.Result.{IfOk-weaker}
+use Rattle.avp_lists.specs.declared.pairs.Pair.{Pair}
+use Rattle.avp_dict.specs.Limits.{fits}
 use Rattle.avp_dict.specs.Requests.{request_spelled}
-use Rattle.avp_dict.specs.RequestLines.{is_blank_line, is_idle_line, without_front}
-use Rattle.avp_dict.specs.internal.LineReading.{after_pairs, packet_pairs}
+use Rattle.avp_dict.specs.Sent.{is_clean}
 use Rattle.avp_dict.proofs.Fitting.{request_fits}
-use Rattle.avp_dict.proofs.PairSteps.{line_read, none_before, only_one, packet_ends, packet_goes_on, packet_none, request_ends, request_fails, request_refused}
+use Rattle.avp_dict.proofs.PairSteps.{only_one, spelled_by_pairs}
 use Rattle.avp_dict.proofs.SpelledClean.{request_clean}
 use Rattle.avp_dict.proofs.dictionaries.Dictionary.read_request.Goals as goal
 
-pub loop-line-init : goal.loop-line-init
-loop-line-init c = record {
-  read = rw (c.new-pairs.ensures.items, c.without_idle_lines-number.ensures.lines) (none_before (packet_pairs c.args.self.now (without_front is_idle_line (texts_of c.args.text.now))));
-  few = search rules;
-  count = search rules;
-}
-
-pub returns-in_err-end_of_packet-clause-refused : goal.returns-in_err-end_of_packet-clause-refused
-returns-in_err-end_of_packet-clause-refused c =
-    let p = err_from_is_err_and c.from_residual.result c.from_residual.ensures.1 in
-    let blank : is_blank_line c.in-Some.line.now ≡ true = search rules in
-    let end = packet_goes_on c.args.self.now c.in-Some.line.now (texts_of c.in-Some.after.now) blank c.in_err-end_of_packet.ensures.err in
-    rw p.1 (λ _. request_fails c.args.text.now c.args.self.now c.loop-line.pairs.items (texts_of c.loop-line.rest.now) c.loop-line.invariant.read (ap (packet_pairs c.args.self.now) c.in-Some.ensures.cut ∙ end))
-
-pub returns-then-is_blank_line-clause-read : goal.returns-then-is_blank_line-clause-read
-returns-then-is_blank_line-clause-read c =
-    let blank : is_blank_line c.in-Some.line.now ≡ true = search rules in
-    let end = packet_ends c.args.self.now c.in-Some.line.now (texts_of c.in-Some.after.now) blank c.in_ok-end_of_packet.ensures.ok in
-    request_ends c.args.text.now c.args.self.now c.loop-line.pairs.items (texts_of c.loop-line.rest.now) c.loop-line.invariant.read (ap (packet_pairs c.args.self.now) c.in-Some.ensures.cut ∙ end) c.loop-line.invariant.few
-
-pub returns-then-is_blank_line-clause-fits : goal.returns-then-is_blank_line-clause-fits
-returns-then-is_blank_line-clause-fits c =
-    request_fits c.args.self.now c.sound.ensures c.args.text.now c.loop-line.pairs.items (returns-then-is_blank_line-clause-read c)
-
-pub returns-then-is_blank_line-clause-clean : goal.returns-then-is_blank_line-clause-clean
-returns-then-is_blank_line-clause-clean c =
-    request_clean c.args.self.now c.sound.ensures c.args.text.now c.loop-line.pairs.items (returns-then-is_blank_line-clause-read c)
-
-pub returns-then-is_blank_line-clause-only : goal.returns-then-is_blank_line-clause-only
-returns-then-is_blank_line-clause-only c = λ other spelled.
-    only_one (request_spelled c.args.text.now c.args.self.now) c.loop-line.pairs.items other (returns-then-is_blank_line-clause-read c) spelled
-
-pub returns-in-Err-clause-refused : goal.returns-in-Err-clause-refused
-returns-in-Err-clause-refused c = λ kept.
-    let filled : is_blank_line c.in-Some.line.now ≡ false = search rules in
-    let read = rw c.in-Some.ensures.cut at c.loop-line.invariant.read in
-    request_refused c.args.text.now c.args.self.now c.loop-line.pairs.items c.in-Some.line.now (texts_of c.in-Some.after.now) read filled (c.in-Err.ensures.refused kept)
-
-pub loop-line-preserved : goal.loop-line-preserved
-loop-line-preserved c =
-    let filled : is_blank_line c.in-Some.line.now ≡ false = search rules in
-    record {
-      read = sym (line_read c.args.self.now c.loop-line.pairs.items c.read_line.new.pairs.items c.in-Some.line.now (texts_of c.in-Some.after.now) filled c.in_default-read_line.ensures.read)
-          ∙ ap (λ lines. after_pairs c.loop-line.pairs.items (packet_pairs c.args.self.now lines)) (sym c.in-Some.ensures.cut) ∙ c.loop-line.invariant.read;
-      few = c.in_default-read_line.ensures.few;
-      count = omega (arith, c.in-Some.ensures.shorter);
-    }
-
 pub returns-clause-read : goal.returns-clause-read
-returns-clause-read c =
-    request_ends c.args.text.now c.args.self.now c.loop-line.pairs.items (texts_of c.loop-line.rest.now) c.loop-line.invariant.read (ap (packet_pairs c.args.self.now) c.in_default.ensures.cut ∙ packet_none c.args.self.now) c.loop-line.invariant.few
+returns-clause-read c = rw (spelled_by_pairs c.args.self.now c.args.text.now) c.read_pairs.ensures.read
 
 pub returns-clause-fits : goal.returns-clause-fits
-returns-clause-fits c = request_fits c.args.self.now c.sound.ensures c.args.text.now c.loop-line.pairs.items (returns-clause-read c)
+returns-clause-fits c =
+    let d = c.args.self.now in
+    let text = c.args.text.now in
+    IfOk-weaker c.read_pairs.result (λ pairs. request_spelled text d ≡ Some pairs.items) (λ pairs. All (λ pair. IsTrue (fits pair d)) pairs.items)
+    (λ pairs e. request_fits d c.sound.ensures text pairs.items e) (returns-clause-read c)
 
 pub returns-clause-clean : goal.returns-clause-clean
-returns-clause-clean c = request_clean c.args.self.now c.sound.ensures c.args.text.now c.loop-line.pairs.items (returns-clause-read c)
+returns-clause-clean c =
+    let d = c.args.self.now in
+    let text = c.args.text.now in
+    IfOk-weaker c.read_pairs.result (λ pairs. request_spelled text d ≡ Some pairs.items) (λ pairs. is_clean pairs.items d ≡ true)
+    (λ pairs e. request_clean d c.sound.ensures text pairs.items e) (returns-clause-read c)
 
 pub returns-clause-only : goal.returns-clause-only
-returns-clause-only c = λ other spelled. only_one (request_spelled c.args.text.now c.args.self.now) c.loop-line.pairs.items other (returns-clause-read c) spelled
+returns-clause-only c =
+    let d = c.args.self.now in
+    let text = c.args.text.now in
+    IfOk-weaker c.read_pairs.result (λ pairs. request_spelled text d ≡ Some pairs.items)
+    (λ pairs. (other : List Pair) → request_spelled text d ≡ Some other → other ≡ pairs.items)
+    (λ pairs e other spelled. only_one (request_spelled text d) pairs.items other e spelled) (returns-clause-read c)
+
+pub returns-clause-refused : goal.returns-clause-refused
+returns-clause-refused c = rw (spelled_by_pairs c.args.self.now c.args.text.now) c.read_pairs.ensures.refused

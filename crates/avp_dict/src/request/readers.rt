@@ -1,0 +1,55 @@
+//! How names and texts of request lines are read.
+
+use crate::dictionaries::Dictionary;
+use crate::entries::Named;
+use crate::request::faults::LineKind;
+use avp_lists::Pair;
+use std::alloc::Global;
+
+/// What reads the names and the texts of request lines: a [`Dictionary`], or what reads more of them by one.
+pub trait PairReader {
+    /// What a name stands for.
+    type Target: Copy;
+
+    ghost use Rattle.std.specs.Prelude.{◌≡◌, ℕ, List, Option};
+    ghost use Rattle.avp_lists.specs.Meets.{Finds};
+    ghost use Rattle.avp_lists.specs.declared.pairs.Pair.{Pair};
+    ghost use Rattle.avp_dict.specs.Outcomes.{is_memory_line};
+
+    /// What names stand for.
+    ghost target_of: { Self → List ℕ → Option Self.Target };
+
+    /// The pairs of texts.
+    ghost pair_of: { Self → Self.Target → List ℕ → Option Pair };
+
+    /// What a name stands for.
+    fn target(&self, name: &[u8]) -> Option<Self::Target>
+        ensures { result ≡ target_of self.now name.now };
+
+    /// The pair of what a name stands for and a text.
+    fn pair(&self, alloc: Global, target: Self::Target, text: &[u8]) -> Result<Pair, LineKind>
+        ensures { Finds is_memory_line result (pair_of self.now target text.now) };
+}
+
+impl PairReader for Dictionary {
+    type Target = Named;
+
+    ghost use Rattle.avp_dict.specs.Names.{named};
+    ghost use Rattle.avp_dict.specs.Requests.{pair_named};
+
+    ghost target_of = { λ dictionary name. named name dictionary };
+
+    ghost pair_of = { λ dictionary target text. pair_named dictionary text target };
+
+    fn target(&self, name: &[u8]) -> Option<Named> {
+        self.by_name(name)
+    }
+
+    fn pair(&self, alloc: Global, target: Named, text: &[u8]) -> Result<Pair, LineKind> {
+        let value = self.value_of_text(alloc, target, text)?;
+        Ok(Pair {
+            id: target.id,
+            value,
+        })
+    }
+}
