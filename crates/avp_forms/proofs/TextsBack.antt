@@ -4,10 +4,9 @@ use Rattle.std.specs.Option.{unwrap_or}
 use Rattle.std.specs.Str.{bytes_eq}
 use Rattle.std.proofs.lemmas.Bool.{and_parts}
 use Rattle.avp_lists.specs.declared.pairs.AttrId.{AttrId}
-use Rattle.avp_dict.specs.Dictionary.{Dictionary, name_numbered}
+use Rattle.avp_dict.specs.Dictionary.{Dictionary, tagged_name_numbered}
 use Rattle.avp_dict.specs.Soundness.{IsSound}
 use Rattle.avp_dict.proofs.Numerals.{decimal_numeral, number_of_numeral}
-use Rattle.avp_dict.proofs.PrintedNames.{is_named_number}
 use Rattle.avp_dict.proofs.Unescaping.{quoted_back}
 use Rattle.avp_forms.specs.Laws.{PrintsOctets, ReadsBack, form_of_value, own_tag, unquoted}
 use Rattle.avp_forms.specs.Numerals.{number_up_to}
@@ -22,16 +21,17 @@ use Rattle.avp_forms.proofs.DateTexts.{date_back}
 use Rattle.avp_forms.proofs.GroupTexts.{interface_id_back}
 use Rattle.avp_forms.proofs.OctetsMeant.{is_meant}
 use Rattle.avp_forms.proofs.Segments.{AreOctets}
+use Rattle.avp_forms.proofs.TaggedNames.{tagged_name_back}
 use Rattle.avp_dict.specs.declared.forms.Form.{Form}
 use Rattle.avp_forms.proofs.PrefixTexts.{ipv4_prefix_back, ipv6_prefix_back, same_octets}
 
 module _ (dictionary : Dictionary) (sound : IsSound dictionary) where
-  number_or : (id : AttrId) (n : ℕ) → n ≤ max_tagged_number → (name : Option (List ℕ)) → name_numbered id n dictionary.values ≡ name → tagged_number_spelled id (unwrap_or name (decimal n)) dictionary ≡ Some n
+  number_or : (id : AttrId) (n : ℕ) → n ≤ max_tagged_number → (name : Option (List ℕ)) → tagged_name_numbered id n dictionary.tagged_values ≡ name → tagged_number_spelled id (unwrap_or name (decimal n)) dictionary ≡ Some n
   unfolding tagged_number_spelled number_up_to
   number_or id n h None e = rw (number_of_numeral n (decimal n) (decimal_numeral n (omega arith)), le-leb n max_tagged_number h)
   number_or id n h (Some name) e =
-      let is = is_named_number dictionary sound id n name e in
-      rw (is.apart, is.numbered, le-leb n max_tagged_number h)
+      let is = tagged_name_back dictionary sound id n name e in
+      rw (is.0, is.1, le-leb n max_tagged_number h)
 
   pub text_back : (value : FormValue) (id : AttrId) → IsInRange value → is_proper value ≡ true → (offset : Option ℤ) → option_map (with_tag (own_tag value)) (form_spelled (form_of_value value) id offset (text_of id value dictionary) dictionary) ≡ Some value
   unfolding with_tag tag_of form_spelled text_of is_proper
@@ -49,7 +49,7 @@ module _ (dictionary : Dictionary) (sound : IsSound dictionary) where
   text_back (TaggedNumber tag n) id h proper offset =
       let parts = and_parts (leb tag 31) (leb n max_tagged_number) proper in
       ap (λ (o : Option ℕ). option_map (with_tag tag) (option_map untagged_number o))
-      (number_or id n (leb-true n max_tagged_number parts.1) (name_numbered id n dictionary.values) refl)
+      (number_or id n (leb-true n max_tagged_number parts.1) (tagged_name_numbered id n dictionary.tagged_values) refl)
   text_back (TaggedText tag os) id h proper offset = refl
 
   printed_back : (value : FormValue) (id : AttrId) → IsInRange value → is_proper value ≡ true → (offset : Option ℤ) → option_map (with_tag (own_tag value)) (form_spelled (form_of_value value) id offset (unquoted value (printed_text id value dictionary)) dictionary) ≡ Some value

@@ -1,14 +1,21 @@
 -- What holds of all values and octets.
-use Rattle.std.specs.Prelude.{◌≡◌, ℕ, ℤ, List, bytes_eq, Option, Some, None}
+use Rattle.std.specs.Prelude.{◌≡◌, IsTrue, ℕ, ℤ, List, bytes_eq, Option, Some, None, Ok}
 use Rattle.std.specs.Option.{option_map, unwrap_or}
 use Rattle.avp_lists.specs.declared.pairs.AttrId.{AttrId}
+use Rattle.avp_lists.specs.declared.pairs.Value.{Value}
 use Rattle.avp_dict.specs.Dictionary.{Dictionary}
+use Rattle.avp_dict.specs.Limits.{fits}
 use Rattle.avp_dict.specs.Printing.{hexadecimal}
 use Rattle.avp_dict.specs.Quotes.{between_quotes, double_quoted_octets}
+use Rattle.avp_dict.specs.Requests.{pair_with}
 use Rattle.avp_dict.specs.declared.forms.Form.{Form}
 use Rattle.avp_dict.specs.declared.forms.Form.TheVariants as forms
+use Rattle.avp_forms.specs.Targets.{target_of}
 use Rattle.avp_forms.specs.Texts.{form_spelled, printed_octets, printed_text, text_of}
 use Rattle.avp_forms.specs.Values.{is_own, meaning, octets_of, tag_of, with_tag}
+use Rattle.avp_forms.specs.Written.{value_written}
+use Rattle.avp_forms.specs.declared.profiles.Profile.{Profile}
+use Rattle.avp_forms.specs.declared.targets.Target.{Target}
 use Rattle.avp_forms.specs.declared.values.FormValue.{FormValue}
 use Rattle.avp_forms.specs.declared.values.FormValue.TheVariants.{Date, InterfaceId, Ipv4Prefix, Ipv6Address, Ipv6Prefix, TaggedNumber, TaggedText}
 
@@ -42,6 +49,14 @@ pub record ReadsBack (value : FormValue) (id : AttrId) (dictionary : Dictionary)
       (form_spelled (form_of_value value) id offset
       (unquoted value (printed_text id value dictionary)) dictionary)
       ≡ Some value
+
+-- the pair of a name and a text that stands for a value under it fits
+abbrev pub WrittenValuesFit : Dictionary → Type 0
+WrittenValuesFit dictionary =
+    (profile : Profile) (name text : List ℕ) (offset : Option ℤ) (target : Target) (value : Value)
+    → target_of profile dictionary name ≡ Some target
+    → value_written profile target text offset dictionary ≡ Ok value
+    → IsTrue (fits (pair_with target.named value) dictionary)
 
 -- what is printed for octets: of those with a meaning a text that is read as the value they mean, whose octets are the
 -- same ones exactly where they are the form's own; of those without one `0x` and the octets

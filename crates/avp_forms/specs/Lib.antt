@@ -5,7 +5,14 @@ pub mod InterfaceIds
 pub mod Ipv6Addresses
 pub mod Laws
 pub mod Numerals
+pub mod Orders
+pub mod PairLaws
 pub mod Prefixes
+pub mod Printing
+pub mod Profiles
+pub mod Requests
+pub mod Targets
 pub mod Texts
 pub mod Values
+pub mod Written
 pub mod internal

@@ -2,7 +2,7 @@
 use Rattle.std.specs.Prelude.{ℕ, ℤ, nat_le, if◌then◌else◌, List, decimal, length, Option, Some, None, Result, Ok, Err}
 use Rattle.std.specs.Option.{option_and_then, option_map, option_map_or, option_or, unwrap_or}
 use Rattle.avp_lists.specs.declared.pairs.AttrId.{AttrId}
-use Rattle.avp_dict.specs.Dictionary.{Dictionary, name_numbered, number_named}
+use Rattle.avp_dict.specs.Dictionary.{Dictionary, number_named, tagged_name_numbered}
 use Rattle.avp_dict.specs.Limits.{greatest_length}
 use Rattle.avp_dict.specs.Names.{form_of}
 use Rattle.avp_dict.specs.Printing.{hexadecimal}
@@ -36,7 +36,7 @@ untagged_number n = TaggedNumber 0 n
 unfoldable pub tagged_number_spelled : AttrId → List ℕ → Dictionary → Option ℕ
 tagged_number_spelled id text dictionary =
     option_or (number_up_to max_tagged_number text)
-    (up_to max_tagged_number (number_named id text dictionary.values))
+    (up_to max_tagged_number (number_named id text dictionary.tagged_values))
 
 -- the value that a text stands for, with the tag 0; offset is that of zones other than UTC, as for `date_spelled`
 unfoldable pub form_spelled : Form → AttrId → Option ℤ → List ℕ → Dictionary → Option FormValue
@@ -76,7 +76,7 @@ text_of id (Ipv4Prefix os n) dictionary = ipv4_prefix_text os n
 text_of id (InterfaceId os) dictionary = interface_id_text os
 text_of id (Date n) dictionary = date_text n
 text_of id (TaggedNumber tag n) dictionary =
-    unwrap_or (name_numbered id n dictionary.values) (decimal n)
+    unwrap_or (tagged_name_numbered id n dictionary.tagged_values) (decimal n)
 text_of id (TaggedText tag os) dictionary = os
 
 -- the same with a text in double quotes

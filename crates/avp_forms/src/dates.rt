@@ -88,9 +88,9 @@ fn signed_offset(sign: u8, minutes: u32) -> Option<i16>
     }
 }
 
-// `Z`, or a sign and HH:MM.
+/// How many minutes the clocks of a zone are before UTC's: `Z`, or a sign and HH:MM (RFC 3339, section 5.6).
 #[tactic(auto, unfolding(crate::specs::Dates::offset_spelled))]
-fn offset_spelled(text: &[u8]) -> Option<i16>
+pub fn offset_spelled(text: &[u8]) -> Option<i16>
     ensures { result ≡ offset_spelled text.now }
 {
     if text == b"Z".as_slice() {

@@ -1,14 +1,16 @@
 //! Laws of all texts, values and octets, as calls that do nothing: their contracts are what they are for.
 
 ghost use Rattle.std.specs.Prelude.{IsTrue};
+ghost use Rattle.avp_dict.specs.Laws.{is_writable};
 ghost use Rattle.avp_forms.specs.AddressLaws.{ReadsEachAddress, ReadsNoOther};
-ghost use Rattle.avp_forms.specs.Laws.{PrintsOctets, ReadsBack};
+ghost use Rattle.avp_forms.specs.Laws.{PrintsOctets, ReadsBack, WrittenValuesFit};
+ghost use Rattle.avp_forms.specs.PairLaws.{PairReadsBack};
 ghost use Rattle.avp_forms.specs.Values.{is_proper};
-ghost use Rattle.avp_forms.specs.internal.Ranges.{AreOctets, IsInRange};
+ghost use Rattle.avp_forms.specs.internal.Ranges.{AreBytesInRange, AreOctets, IsInRange};
 
 use crate::values::FormValue;
 use avp_dict::{Dictionary, Form};
-use avp_lists::AttrId;
+use avp_lists::{AttrId, Pair, Value};
 
 /// An IPv6 address is read from the texts of RFC 4291, section 2.2, and from no others.
 #[tactic(auto, using(crate::proofs::AddressLaws::reads_each_address, crate::proofs::AddressLaws::reads_no_other))]
@@ -40,6 +42,16 @@ fn value_in_range(value: &FormValue)
     }
 }
 
+// What the type of a pair's value keeps octets within.
+fn bytes_in_range(value: &Value)
+    ensures { AreBytesInRange value.now }
+{
+    match value {
+        Value::Bytes(octets) => octets_in_range(octets.as_slice()),
+        _ => {}
+    }
+}
+
 impl FormValue {
     /// What is printed for a value within the bounds of its form is read, with its tag, as the value.
     pub fn read_back(&self, dictionary: &Dictionary, id: AttrId)
@@ -58,4 +70,23 @@ pub fn octets_read_back(dictionary: &Dictionary, form: Form, id: AttrId, octets:
 {
     dictionary.is_sound();
     octets_in_range(octets);
+}
+
+/// The pair of a name and a text that stands for a value under it fits.
+#[tactic(auto, using(crate::proofs::WrittenValues::written_fits))]
+pub fn written_values_fit(dictionary: &Dictionary)
+    ensures { WrittenValuesFit dictionary.now }
+{
+    dictionary.is_sound();
+}
+
+/// What is printed for a pair in the wider profile is read back in it: as the pair, or where it is printed by what its
+/// value means, as the value that is sent for that.
+pub fn pair_read_back(dictionary: &Dictionary, pair: &Pair)
+    requires { IsTrue (is_writable pair.now dictionary.now) }
+    ensures { PairReadsBack pair.now dictionary.now }
+{
+    dictionary.is_sound();
+    dictionary.printed_back(pair);
+    bytes_in_range(&pair.value);
 }

@@ -3,7 +3,7 @@
 ghost use Rattle.std.specs.Prelude.{◌≡◌, ◌≤◌, ◌∷◌, IfOk, decimal, length};
 ghost use Rattle.std.specs.Option.{option_map, unwrap_or};
 ghost use Rattle.avp_lists.specs.Meets.{Meets};
-ghost use Rattle.avp_dict.specs.Dictionary.{name_numbered};
+ghost use Rattle.avp_dict.specs.Dictionary.{tagged_name_numbered};
 ghost use Rattle.avp_dict.specs.Outcomes.{is_memory_value};
 ghost use Rattle.avp_dict.specs.Printing.{hexadecimal};
 ghost use Rattle.avp_forms.specs.Comparisons.{compared};
@@ -50,7 +50,7 @@ pub enum FormValue {
     TaggedText(u8, Octets),
 }
 
-fn ipv6_address_meant(octets: &[u8]) -> Option<FormValue>
+pub(crate) fn ipv6_address_meant(octets: &[u8]) -> Option<FormValue>
     ensures { result ≡ of_length 16 Ipv6Address octets.now }
 {
     if octets.len() != 16 {
@@ -61,7 +61,7 @@ fn ipv6_address_meant(octets: &[u8]) -> Option<FormValue>
     Some(FormValue::Ipv6Address(address))
 }
 
-fn interface_id_meant(octets: &[u8]) -> Option<FormValue>
+pub(crate) fn interface_id_meant(octets: &[u8]) -> Option<FormValue>
     ensures { result ≡ of_length 8 InterfaceId octets.now }
 {
     if octets.len() != 8 {
@@ -82,7 +82,7 @@ fn padded(octets: &[u8]) -> [u8; 16]
     address
 }
 
-fn ipv6_prefix_meant(octets: &[u8]) -> Option<FormValue>
+pub(crate) fn ipv6_prefix_meant(octets: &[u8]) -> Option<FormValue>
     ensures { result ≡ ipv6_prefix_meant octets.now }
 {
     match octets {
@@ -94,7 +94,7 @@ fn ipv6_prefix_meant(octets: &[u8]) -> Option<FormValue>
     }
 }
 
-fn ipv4_prefix_meant(octets: &[u8]) -> Option<FormValue>
+pub(crate) fn ipv4_prefix_meant(octets: &[u8]) -> Option<FormValue>
     ensures { result ≡ ipv4_prefix_meant octets.now }
 {
     match octets {
@@ -106,7 +106,7 @@ fn ipv4_prefix_meant(octets: &[u8]) -> Option<FormValue>
     }
 }
 
-fn date_meant(octets: &[u8]) -> Option<FormValue>
+pub(crate) fn date_meant(octets: &[u8]) -> Option<FormValue>
     ensures { result ≡ of_length 4 date_of octets.now }
 {
     match octets {
@@ -115,7 +115,7 @@ fn date_meant(octets: &[u8]) -> Option<FormValue>
     }
 }
 
-fn tagged_number_meant(octets: &[u8]) -> Option<FormValue>
+pub(crate) fn tagged_number_meant(octets: &[u8]) -> Option<FormValue>
     ensures { result ≡ tagged_number_meant octets.now }
 {
     match octets {
@@ -166,7 +166,7 @@ fn tagged_number_spelled(dictionary: &Dictionary, id: AttrId, text: &[u8]) -> Op
 {
     match number_up_to(MAX_TAGGED_NUMBER, text) {
         Some(number) => Some(number as u32),
-        None => match dictionary.value_number(id, text) {
+        None => match dictionary.tagged_number(id, text) {
             Some(number) if number <= MAX_TAGGED_NUMBER => Some(number as u32),
             _ => None,
         },
@@ -194,6 +194,28 @@ fn form_spelled(
         Form::Date => Ok(date_spelled(zone, text).map(FormValue::Date)),
         Form::TaggedInteger => Ok(tagged_number_value(dictionary, id, text)),
         Form::TaggedString => Ok(Some(FormValue::TaggedText(0, Octets::from_slice(alloc, text)?))),
+    }
+}
+
+// The value with a tag of a text under an attribute's name.
+#[tactic(auto, unfolding(crate::specs::Texts::value_spelled))]
+pub(crate) fn value_spelled(
+    alloc: Global,
+    dictionary: &Dictionary,
+    id: AttrId,
+    tag: u8,
+    zone: Option<i16>,
+    text: &[u8],
+) -> Result<FormValue, ValueFault>
+    ensures { Meets is_memory_value result (value_spelled id tag zone text.now dictionary.now) }
+{
+    let form = dictionary.form(id).ok_or(ValueFault::NotValue)?;
+    let value = form_spelled(alloc, dictionary, form, id, zone, text)?;
+    let value = value.ok_or(ValueFault::NotValue)?.with_tag(tag);
+    if value.count_of_octets() <= dictionary.greatest_length(id) {
+        Ok(value)
+    } else {
+        Err(ValueFault::TooLong)
     }
 }
 
@@ -227,9 +249,10 @@ fn tagged_number_text(
     number: u32,
 ) -> Result<Vec<u8>, AllocError>
     ensures { IfOk result (λ text. text.items
-        ≡ unwrap_or (name_numbered id number dictionary.now.values) (decimal number)) }
+        ≡ unwrap_or (tagged_name_numbered id number dictionary.now.tagged_values)
+        (decimal number)) }
 {
-    match dictionary.value_name(id, u64::from(number)) {
+    match dictionary.tagged_name(id, u64::from(number)) {
         Some(name) => Vec::from_slice(alloc, name),
         None => {
             let mut buffer = Buffer::new();
@@ -403,7 +426,6 @@ impl FormValue {
     /// The value that a text stands for under an attribute's name, with a tag, which is dropped where the attribute's
     /// values have none. Whether the text is a value is asked first, then its length. `zone` says how many minutes the
     /// clocks of the zone that a date names are before UTC's, where the date names a zone other than `UTC`.
-    #[tactic(auto, unfolding(crate::specs::Texts::value_spelled))]
     pub fn of_text(
         alloc: Global,
         dictionary: &Dictionary,
@@ -415,14 +437,7 @@ impl FormValue {
         requires { tag ≤ MAX_TAG }
         ensures { Meets is_memory_value result (value_spelled id tag zone text.now dictionary.now) }
     {
-        let form = dictionary.form(id).ok_or(ValueFault::NotValue)?;
-        let value = form_spelled(alloc, dictionary, form, id, zone, text)?;
-        let value = value.ok_or(ValueFault::NotValue)?.with_tag(tag);
-        if value.count_of_octets() <= dictionary.greatest_length(id) {
-            Ok(value)
-        } else {
-            Err(ValueFault::TooLong)
-        }
+        value_spelled(alloc, dictionary, id, tag, zone, text)
     }
 
     /// The text of the value, without its tag and without quotes: the number beside a tag by the last name that a VALUE

@@ -6,4 +6,6 @@ mod comparisons;
 #[cfg(test)]
 mod octets;
 #[cfg(test)]
+mod profiles;
+#[cfg(test)]
 mod texts;

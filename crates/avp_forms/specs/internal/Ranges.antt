@@ -1,5 +1,7 @@
 -- What the types of values keep their octets and numbers within.
 use Rattle.std.specs.Prelude.{◌≡◌, ℕ, ◌<◌, ◌^◌, List, length, slice_index}
+use Rattle.avp_lists.specs.declared.pairs.Value.{Value}
+use Rattle.avp_lists.specs.declared.pairs.Value.TheVariants as values
 use Rattle.avp_forms.specs.declared.values.FormValue.{FormValue}
 use Rattle.avp_forms.specs.declared.values.FormValue.TheVariants.{Date, InterfaceId, Ipv4Prefix, Ipv6Address, Ipv6Prefix, TaggedNumber, TaggedText}
 
@@ -17,3 +19,8 @@ IsInRange (InterfaceId os) = AreSoMany 8 os
 IsInRange (Date n) = n < 2 ^ 32
 IsInRange (TaggedNumber tag n) = n < 2 ^ 32
 IsInRange (TaggedText tag os) = AreOctets os
+
+-- the same of a pair's value that is octets
+abbrev pub AreBytesInRange : Value → Type 0
+AreBytesInRange (values.Bytes os) = AreOctets os
+AreBytesInRange value = Unit {0}
