@@ -82,7 +82,9 @@ enum radpolicy_form {
     /* The octets of a packet, an Access-Request or an Accounting-Request. The secret is needed: without one it is
      * refused as an option's value (E02). Its digests are checked. */
     RADPOLICY_PACKET = 0,
-    /* The lines of an Access-Request or an Accounting-Request, as "User-Name = bob, NAS-Port = 3\n". */
+    /* The lines of an Access-Request or an Accounting-Request, as "User-Name = bob, NAS-Port = 3\n". Below a first
+     * line "# profile: wider" tags, IPv6 addresses and prefixes, interface ids and dates are read as a server prints
+     * them; so they are in the lines of the initial lists, each by its own first line. */
     RADPOLICY_ACCESS_LINES = 1,
     RADPOLICY_ACCOUNTING_LINES = 2,
 };

@@ -5,6 +5,7 @@ ghost use Rattle.radpolicy.specs.Plans.{IsSound, asked_by_job};
 use crate::commands::RUN;
 use crate::program::{Source, job_of};
 use avp_dict::{Dictionary, FileSet};
+use avp_forms::Profile;
 use avp_lists::{List, Store};
 use avp_unlang::{Code, PolicyFault, PolicyKind};
 use radpolicy::{
@@ -118,7 +119,16 @@ fn lends(rt: &impl Abort, alloc: Global, owned: &OwnedPolicy) -> Result<(), Fail
         id,
         authenticator,
     };
-    let outcome = Start::of_lines(alloc, &prepared, None, head, b"NAS-Port = 3")?.run(alloc)?;
+    let outcome = Start::of_lines(
+        alloc,
+        &prepared,
+        None,
+        head,
+        Profile::Plain,
+        None,
+        b"NAS-Port = 3",
+    )?
+    .run(alloc)?;
     assert_eq!(rt; (outcome.code(), outcome.stopped()), (Code::Reject, true));
     Ok(())
 }
@@ -132,8 +142,18 @@ fn runs(rt: &impl Abort, alloc: Global, prepared: &PreparedPolicy<'_>) -> Result
         id,
         authenticator,
     };
-    let start = Start::of_lines(alloc, prepared, None, head, b"NAS-Port = 3")?;
-    let outcome = start.with_reply_lines(alloc, b"Class = 0x01")?.run(alloc)?;
+    let start = Start::of_lines(
+        alloc,
+        prepared,
+        None,
+        head,
+        Profile::Plain,
+        None,
+        b"NAS-Port = 3",
+    )?;
+    let outcome = start
+        .with_reply_lines(alloc, Profile::Plain, None, b"Class = 0x01")?
+        .run(alloc)?;
     assert_eq!(rt; outcome.store().count(List::Reply), 2);
     let report = outcome.text(alloc)?;
     assert!(rt; report.ends_with(b"  Session-Timeout = 600\ncontrol\nresult ok\n"));

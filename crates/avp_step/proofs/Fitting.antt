@@ -4,12 +4,14 @@ use Rattle.std.specs.List.{All}
 use Rattle.std.proofs.Math.Seq.{get_or-append_seam}
 use Rattle.std.proofs.lemmas.List.Elements.{All-append, All-take}
 use Rattle.avp_lists.specs.History.{History, continued, present, state_at}
-use Rattle.avp_lists.specs.States.{IsFull, edited, edited_list, empty_state, list_of, max_pairs, with_list}
+use Rattle.avp_lists.specs.Selections.{IsFullSelected, edited_list_selected, edited_selected}
+use Rattle.avp_lists.specs.States.{empty_state, list_of, max_pairs, with_list}
 use Rattle.avp_lists.specs.declared.pairs.Pair.{Pair}
 use Rattle.avp_lists.specs.declared.edits.Edit.{Edit}
 use Rattle.avp_lists.specs.declared.lists.List.{List as Name}
 use Rattle.avp_lists.specs.declared.lists.List.TheVariants.{Control, Reply, Request}
 use Rattle.avp_lists.specs.declared.lists.State.{State}
+use Rattle.avp_lists.specs.declared.tags.Selection.{Selection}
 use Rattle.avp_dict.specs.Dictionary.{Dictionary}
 use Rattle.avp_dict.specs.Limits.{fits}
 use Rattle.avp_unlang.specs.Meaning.{Edited, Failed, edit_of, line_result, reason, result_from}
@@ -22,7 +24,7 @@ use Rattle.avp_step.specs.internal.Courses.{IsLineDone, StatesFit}
 use Rattle.std.specs.Borrow.{Bor}
 use Rattle.std.specs.Prelude.{◌&&◌}
 use Rattle.avp_unlang.proofs.Comparing.{and_left, and_right, testable}
-use Rattle.avp_unlang.proofs.KeptReplies.{applied}
+use Rattle.avp_unlang.proofs.KeptEdits.{applied}
 use Rattle.avp_unlang.specs.Suiting.{branch_suits, branches_suit, cond_suits, else_suits, policy_suits, statement_suits}
 use Rattle.avp_unlang.specs.internal.Depth.{depth, depth_of, depth_of_branch, depth_of_branches, else_depth, statement_depth, branch_depth}
 use Rattle.avp_unlang.specs.declared.tree.Statement.TheVariants.{If, Transaction}
@@ -72,33 +74,34 @@ module _ (d : Dictionary) where
   replaced Control pairs s h all Reply = all Reply
   replaced Control pairs s h all Control = h
 
-  pub edited_fits : (e : Edit) (s : State) → IsTrue (fits e.pair d) → StateFits d s → StateFits d (edited e s)
-  edited_fits e s h all = replaced e.list (edited_list e s) s (applied (λ q. IsTrue (fits q d)) e.op e.pair (list_of e.list s) (λ _. h) (all e.list)) all
+  pub edited_fits : (selection : Selection) (e : Edit) (s : State) → IsTrue (fits e.pair d) → StateFits d s → StateFits d (edited_selected selection e s)
+  edited_fits selection e s h all =
+      replaced e.list (edited_list_selected selection e s) s (applied (λ q. IsTrue (fits q d)) selection e.op e.pair (list_of e.list s) (λ _. h) (all e.list)) all
 
   -- an edit of the present state by a pair that fits
-  pub edit_fits : (e : Edit) (old new : History) → old.place < length old.states → new ≡ continued (edited e (present old)) old → IsTrue (fits e.pair d) → StatesFit d old → StatesFit d new
-  edit_fits e old new has is h all =
-      continued_fits d old new (edited e (present old)) is (edited_fits e (present old) h (earlier_fits d old old.place has all)) all
+  pub edit_fits : (selection : Selection) (e : Edit) (old new : History) → old.place < length old.states → new ≡ continued (edited_selected selection e (present old)) old → IsTrue (fits e.pair d) → StatesFit d old → StatesFit d new
+  edit_fits selection e old new has is h all =
+      continued_fits d old new (edited_selected selection e (present old)) is (edited_fits selection e (present old) h (earlier_fits d old old.place has all)) all
 
 -- ---- lines
 
 module _ (d : Dictionary) (line : Line) (old : History) where
   -- a line whose pair is edited in
-  pub line_edited : (new : History) (pair : Pair) → old.place < length old.states → resolution d line (present old) ≡ Ok pair → length (edited_list (edit_of line pair) (present old)) ≤ max_pairs → new ≡ continued (edited (edit_of line pair) (present old)) old → IsLineDone d line old new None
+  pub line_edited : (new : History) (pair : Pair) → old.place < length old.states → resolution d line (present old) ≡ Ok pair → length (edited_list_selected line.selection (edit_of line pair) (present old)) ≤ max_pairs → new ≡ continued (edited_selected line.selection (edit_of line pair) (present old)) old → IsLineDone d line old new None
   unfolding line_result
   line_edited new pair has resolved within is =
-      let p = added_present old new (edited (edit_of line pair) (present old)) has is in (
+      let p = added_present old new (edited_selected line.selection (edit_of line pair) (present old)) has is in (
         ap (result_from line (present old)) resolved
-            ∙ ap (λ b. cond b (Edited (edited (edit_of line pair) (present old))) (Failed Full)) (le-leb _ _ within)
+            ∙ ap (λ b. cond b (Edited (edited_selected line.selection (edit_of line pair) (present old))) (Failed Full)) (le-leb _ _ within)
             ∙ ap Edited (sym p),
         is ∙ ap (λ s. continued s old) (sym p),
       )
 
   -- a line whose list is full
-  pub line_full : (new : History) (pair : Pair) → resolution d line (present old) ≡ Ok pair → IsFull (edit_of line pair) (present old) → new ≡ old → IsLineDone d line old new (Some Full)
+  pub line_full : (new : History) (pair : Pair) → resolution d line (present old) ≡ Ok pair → IsFullSelected line.selection (edit_of line pair) (present old) → new ≡ old → IsLineDone d line old new (Some Full)
   unfolding line_result
   line_full new pair resolved full is =
-      (ap (result_from line (present old)) resolved ∙ ap (λ b. cond b (Edited (edited (edit_of line pair) (present old))) (Failed Full)) (lt-leb _ _ full), is)
+      (ap (result_from line (present old)) resolved ∙ ap (λ b. cond b (Edited (edited_selected line.selection (edit_of line pair) (present old))) (Failed Full)) (lt-leb _ _ full), is)
 
   -- a line with no pair
   pub line_unresolved : (why : Unresolved) → resolution d line (present old) ≡ Err why → IsLineDone d line old old (Some (reason why))

@@ -45,7 +45,7 @@ pub fn edit_by<S: Store>(
                 op: line.op,
                 pair,
             };
-            match store.edit(edit) {
+            match store.edit_selected(edit, line.selection) {
                 Ok(()) => Ok(None),
                 Err(EditFault::Full) => Ok(Some(Reason::Full)),
                 Err(EditFault::Memory) => Err(AllocError),

@@ -7,6 +7,7 @@ use Rattle.avp_lists.specs.declared.pairs.Pair.{Pair}
 use Rattle.avp_dict.specs.Limits.{fits}
 use Rattle.avp_dict.specs.Sent.{is_clean, is_clean_pair}
 use Rattle.avp_dict.specs.Laws.{SpelledValuesClean}
+use Rattle.avp_dict.specs.Soundness.{IsSound}
 use Rattle.avp_dict.specs.Dictionary.{Dictionary}
 use Rattle.avp_unlang.specs.Cleanness.{KeepsReplyClean}
 use Rattle.avp_unlang.specs.Meaning.{meaning_of}
@@ -30,8 +31,8 @@ module _ (dictionary : Dictionary) where
       let others = clean_all pairs (All-tail (CleanWhereFits dictionary) p pairs kept) (All-tail P p pairs fit) in
       ap₂ (λ x y. x && y) first others
 
-  pub keeps_reply_clean : (statements : List Statement) → IsSpelled dictionary statements → SpelledValuesClean dictionary → KeepsReplyClean dictionary statements
+  pub keeps_reply_clean : (statements : List Statement) → IsSpelled dictionary statements → IsSound dictionary → SpelledValuesClean dictionary → KeepsReplyClean dictionary statements
   unfolding is_clean
-  keeps_reply_clean statements spelled clean s code before fit =
-      let kept = policy_keeps dictionary (CleanWhereFits dictionary) (lines_clean dictionary clean) spelled.0 statements spelled.1 s code (all_clean s.reply before) in
+  keeps_reply_clean statements spelled sound clean s code before fit =
+      let kept = policy_keeps dictionary (CleanWhereFits dictionary) (lines_clean dictionary sound clean) spelled.0 statements spelled.1 s code (all_clean s.reply before) in
       clean_all (meaning_of dictionary statements s code).state.reply kept fit

@@ -25,7 +25,7 @@ use Rattle.avp_unlang.specs.declared.tree.Comparand.TheVariants.{Literal, Instan
 use Rattle.avp_unlang.specs.declared.tree.Comparison.{Comparison}
 use Rattle.avp_unlang.specs.declared.tree.Cond.{Cond}
 use Rattle.avp_unlang.specs.declared.tree.Cond.TheFolds.{fold-roll-Cond, ind-Cond, map-Cond}
-use Rattle.avp_unlang.specs.declared.tree.Cond.TheOpen.{Cond-F, Any, All, Not, Last, Present, Compare}
+use Rattle.avp_unlang.specs.declared.tree.Cond.TheOpen.{Cond-F, Any, All, Not, Last, Present, PresentSelected, Compare, CompareMeant}
 use Rattle.avp_unlang.specs.declared.tree.Cond.TheViews.{roll-Cond}
 use Rattle.std.proofs.lemmas.List.Elements.{All-head, All-tail}
 use Rattle.avp_lists.proofs.Equality.{same_id}
@@ -132,6 +132,8 @@ module _ (dictionary : Dictionary) where
     layer_testable (Not part) h = part.1 h
     layer_testable (Last word) h = refl
     layer_testable (Present list id) h = refl
+    layer_testable (PresentSelected list id selection) h = refl
+    layer_testable (CompareMeant c) h = refl
     layer_testable (Compare c) h = comparison_comparable s c fit h
 
     rolled : (x : Cond-F Cond) → (cond_layer_suits dictionary (map-Cond Cond Bool (cond_suits dictionary) x) ≡ true → cond_comparable (map-Cond Cond (State → Bool) comparable x) s ≡ true) → IsTestable (roll-Cond x)

@@ -1,31 +1,36 @@
 -- A place spells at most one condition, and how refusals inside one are refusals of it.
-use Rattle.std.proofs.Common.{◌≡◌, ℕ, zero, suc, List, Option, Some, None, Result, refl, sym, subst, ◌∙◌}
-use Rattle.std.specs.Option.{option_map}
-use Rattle.avp_dict.specs.declared.entries.Named.{Named}
+use Rattle.std.proofs.Common.{◌≡◌, ℕ, zero, suc, Bool, true, false, List, ap, Option, Some, None, Result, refl, sym, subst, ◌∙◌}
+use Rattle.std.specs.Option.{option_and_then, option_map}
 use Rattle.avp_dict.specs.Dictionary.{Dictionary}
+use Rattle.avp_dict.specs.declared.value.quotes.QuoteMark.TheVariants.{Double, Single}
+use Rattle.avp_dict.specs.Quotes.{single_quoted_octets}
+use Rattle.avp_forms.specs.declared.profiles.Profile.TheVariants.{Wider}
+use Rattle.avp_forms.specs.declared.targets.Target.{Target}
+use Rattle.avp_forms.specs.declared.profiles.Profile.{Profile}
 use Rattle.avp_unlang.specs.declared.codes.Code.{Code}
 use Rattle.avp_unlang.specs.declared.faults.PolicyFault.{PolicyFault}
 use Rattle.avp_unlang.specs.declared.text.references.Reference.{Reference}
 use Rattle.avp_unlang.specs.declared.text.tokens.Sign.TheVariants as sign
 use Rattle.avp_unlang.specs.declared.text.tokens.Token.{Token}
-use Rattle.avp_unlang.specs.declared.text.tokens.Token.TheVariants.{Operator, Word}
+use Rattle.avp_unlang.specs.declared.text.tokens.Token.TheVariants.{Operator, Quoted, Word}
 use Rattle.avp_unlang.specs.declared.text.values.Written.{Written}
 use Rattle.avp_unlang.specs.declared.text.values.Written.TheVariants as written
 use Rattle.avp_unlang.specs.declared.tree.Comparand.{Comparand}
 use Rattle.avp_unlang.specs.declared.tree.Comparand.TheVariants.{Literal}
 use Rattle.avp_unlang.specs.declared.tree.Cond.{Cond}
-use Rattle.avp_unlang.specs.declared.tree.Cond.TheVariants.{Not, Last, Present, Compare}
+use Rattle.avp_unlang.specs.declared.tree.Cond.TheVariants.{Not, Last, Compare, CompareMeant}
+use Rattle.avp_unlang.specs.declared.tree.MeantComparand.{MeantComparand}
 use Rattle.avp_unlang.specs.declared.tree.Relation.{Relation}
-use Rattle.avp_unlang.specs.Conditions.{relation_of, plain_literal, ComparandOf, ComparandIs, comparison_of, ComparedFrom, ComparedIs, WordFrom, any_of, all_of, Both, Either, Negated, Closed, OperandFrom, OperandIs, Within}
+use Rattle.avp_unlang.specs.Conditions.{relation_of, plain_literal, plain_octets, ComparandOf, ComparandIs, comparison_of, ComparedBy, ComparedFrom, ComparedIs, MeantBy, MeantFrom, MeantIs, RelatedBy, RelatedIs, WordFrom, instance_compared, is_by_meaning, meant_comparison, meant_literal, present_of, any_of, all_of, Both, Either, Negated, Closed, OperandFrom, OperandIs, Within}
 use Rattle.avp_unlang.specs.Forms.{Form, After, Chain, Gives, Refuses, Reads}
 use Rattle.avp_unlang.specs.Places.{Place}
-use Rattle.avp_unlang.specs.References.{ReadableIs}
+use Rattle.avp_unlang.specs.References.{AlikeIs, ReadableIs, type_of}
 use Rattle.avp_unlang.specs.Between.{Follows}
 use Rattle.avp_unlang.specs.Tokens.{next_token}
 use Rattle.avp_unlang.specs.Words.{code_named}
 use Rattle.avp_unlang.proofs.Chains.{chain_one}
-use Rattle.avp_unlang.proofs.Determined.{IsOne, some_is, gives_one, after_one, then_one, then_stops, then_on, after_stops}
-use Rattle.avp_unlang.proofs.LinesOne.{follows_sure, made_one, readable_one}
+use Rattle.avp_unlang.proofs.Determined.{IsOne, some_is, becomes_one, gives_one, after_one, then_one, then_stops, then_on, after_stops}
+use Rattle.avp_unlang.proofs.LinesOne.{alike_one, follows_sure, made_one, readable_one}
 
 -- ---- operands with a sign between them
 
@@ -49,80 +54,122 @@ closing_one c = after_one (Follows (Operator sign.Close)) (Gives c) (follows_sur
 pub closed_one : (form : Form Place Cond) → IsOne form → IsOne (Closed form)
 closed_one form one = then_one (Either form) Closing (either_one form one) closing_one
 
-module _ (dictionary : Dictionary) where
+module _ (profile : Profile) (dictionary : Dictionary) where
   -- ---- comparisons
 
-  comparand_of_one : (name : Named) (w : Written) (x y : Comparand) → ComparandOf dictionary name w x → ComparandOf dictionary name w y → x ≡ y
+  comparand_of_one : (name : Target) (w : Written) (x y : Comparand) → ComparandOf profile dictionary name w x → ComparandOf profile dictionary name w y → x ≡ y
   comparand_of_one name (written.Literal value) x y h g = h ∙ sym g
   comparand_of_one name (written.Double text) x y h g = some_is x y (sym h ∙ g)
-  comparand_of_one name (written.Instance list id) x y h g = h ∙ sym g
+  comparand_of_one name (written.Instance found) x y h g = h ∙ sym g
 
-  comparand_one : (name : Named) → IsOne (ComparandIs dictionary name)
-  comparand_one name = made_one dictionary name (ComparandOf dictionary name) (comparand_of_one name)
+  comparand_one : (name : Target) → IsOne (ComparandIs profile dictionary name)
+  comparand_one name = made_one profile dictionary name (ComparandOf profile dictionary name) (comparand_of_one name)
 
   none_mapped : {A B : Type 0} (f : A → B) (o : Option A) (y : B) → o ≡ None → option_map f o ≡ Some y → ⊥
   none_mapped f o y none e = cc
 
   -- a refusal of a text between double quotes
-  pub plain_refused : (name : Named) (w : Written) (text : List ℕ) → w ≡ written.Double text → plain_literal dictionary name text ≡ None → (x : Comparand) → ComparandOf dictionary name w x → ⊥
-  plain_refused name w text is none x h = none_mapped Literal (plain_literal dictionary name text) x none (subst (λ (k : Written). ComparandOf dictionary name k x) is h)
+  pub plain_refused : (name : Target) (w : Written) (text : List ℕ) → w ≡ written.Double text → plain_literal profile dictionary name text ≡ None → (x : Comparand) → ComparandOf profile dictionary name w x → ⊥
+  plain_refused name w text is none x h = none_mapped Literal (plain_literal profile dictionary name text) x none (subst (λ (k : Written). ComparandOf profile dictionary name k x) is h)
 
-  compared_from_one : (found : Reference) (o : Option Relation) (p : Place) → IsOne (ComparedFrom dictionary found o p)
-  compared_from_one found None p after x y r s h g = gives_one (Present found.list found.named.id) p x y r s h g
+  abbrev pub Compared : Reference → Relation → Comparand → Form Place Cond
+  Compared found relation c = Gives (Compare (comparison_of dictionary found relation c))
+
+  compared_by_one : (found : Reference) (relation : Relation) → IsOne (ComparedBy profile dictionary found relation)
+  compared_by_one found relation =
+      then_one (ComparandIs profile dictionary found.target) (Compared found relation) (comparand_one found.target) (λ c. gives_one (Compare (comparison_of dictionary found relation c)))
+
+  -- ---- comparisons by meaning
+
+  meant_from_one : (name : Target) (token : Token) → IsOne (MeantFrom dictionary name token)
+  meant_from_one name (Word text) p x y r s h g = becomes_one (meant_literal dictionary name text) p x y r s h g
+  meant_from_one name (Quoted Single text) p x y r s h g = becomes_one (meant_literal dictionary name (single_quoted_octets text)) p x y r s h g
+  meant_from_one name (Quoted Double text) p x y r s h g = becomes_one (option_and_then (meant_literal dictionary name) (plain_octets text)) p x y r s h g
+  meant_from_one name (Operator sign.Reference) p x y r s h g =
+      let at = alike_one Wider dictionary name.named.id p h.0 g.0 r s h.1 g.1 in
+      (h.2 ∙ ap (λ (n : Reference). instance_compared dictionary n) at.0 ∙ sym g.2, at.1)
+  meant_from_one name _ p x y r s h g = absurd h
+
+  meant_one : (name : Target) → IsOne (MeantIs dictionary name)
+  meant_one name p x y r s h g = meant_from_one name (next_token p).0 (next_token p).1 x y r s h g
+
+  -- a refusal of the reference after an `&`
+  pub meant_refused : (name : Target) (p : Place) (q : Token × Place) (e : PolicyFault) → q ≡ next_token p → q.0 ≡ Operator sign.Reference
+      → Refuses (AlikeIs Wider dictionary name.named.id q.1) e → Refuses (MeantIs dictionary name p) e
+  meant_refused name p q e is first refused =
+      let at : Refuses (MeantFrom dictionary name (Operator sign.Reference) q.1) e = λ some x rest h. refused some h.0 rest h.1 in
+      subst (λ (k : Token × Place). Refuses (MeantFrom dictionary name k.0 k.1) e) is (subst (λ k. Refuses (MeantFrom dictionary name k q.1) e) (sym first) at)
+
+  abbrev pub Meant : Reference → Relation → MeantComparand → Form Place Cond
+  Meant found relation c = Gives (CompareMeant (meant_comparison dictionary found relation c))
+
+  meant_by_one : (found : Reference) (relation : Relation) → IsOne (MeantBy dictionary found relation)
+  meant_by_one found relation =
+      then_one (MeantIs dictionary found.target) (Meant found relation) (meant_one found.target) (λ c. gives_one (CompareMeant (meant_comparison dictionary found relation c)))
+
+  related_one : (b : Bool) (found : Reference) (relation : Relation) → IsOne (RelatedBy b profile dictionary found relation)
+  related_one true found relation p x y r s h g = meant_by_one found relation p x y r s h g
+  related_one false found relation p x y r s h g = compared_by_one found relation p x y r s h g
+
+  -- a comparison of the one kind or the other
+  pub related_reads : (found : Reference) (relation : Relation) (p : Place) (b : Bool) → b ≡ is_by_meaning profile (type_of dictionary found.target.named.id) → (r : Result (Cond × Place) PolicyFault)
+      → Reads (RelatedBy b profile dictionary found relation p) r → Reads (RelatedIs profile dictionary found relation p) r
+  related_reads found relation p b by r reads = subst (λ k. Reads (RelatedBy k profile dictionary found relation p) r) by reads
+
+  compared_from_one : (found : Reference) (o : Option Relation) (p : Place) → IsOne (ComparedFrom profile dictionary found o p)
+  compared_from_one found None p after x y r s h g = gives_one (present_of dictionary found found.target.tag) p x y r s h g
   compared_from_one found (Some relation) p after x y r s h g =
-      then_one (ComparandIs dictionary found.named) (λ c. Gives (Compare (comparison_of dictionary found relation c))) (comparand_one found.named) (λ c. gives_one (Compare (comparison_of dictionary found relation c))) after x y r s h g
+      related_one (is_by_meaning profile (type_of dictionary found.target.named.id)) found relation after x y r s h g
 
-  pub compared_one : (found : Reference) → IsOne (ComparedIs dictionary found)
+  pub compared_one : (found : Reference) → IsOne (ComparedIs profile dictionary found)
   compared_one found p x y r s h g = compared_from_one found (relation_of (next_token p).0) p (next_token p).1 x y r s h g
 
-  -- a refusal of what a reference is compared with
-  pub compared_refused : (found : Reference) (relation : Relation) (p : Place) (token : Token) (mid : Place) (e : PolicyFault) → Follows token p mid → relation_of token ≡ Some relation
-      → Refuses (ComparandIs dictionary found.named mid) e → Refuses (ComparedIs dictionary found p) e
-  compared_refused found relation p token mid e follows related refused =
-      let at : Refuses (ComparedFrom dictionary found (Some relation) p mid) e =
-      then_stops (ComparandIs dictionary found.named) (λ c. Gives (Compare (comparison_of dictionary found relation c))) mid e refused in
-      subst (λ (k : Token × Place). Refuses (ComparedFrom dictionary found (relation_of k.0) p k.1) e) (sym follows) (subst (λ o. Refuses (ComparedFrom dictionary found o p mid) e) (sym related) at)
+  -- what follows an operator that compares
+  pub compared_reads : (found : Reference) (relation : Relation) (p : Place) (token : Token) (mid : Place) → Follows token p mid → relation_of token ≡ Some relation → (r : Result (Cond × Place) PolicyFault)
+      → Reads (RelatedIs profile dictionary found relation mid) r → Reads (ComparedIs profile dictionary found p) r
+  compared_reads found relation p token mid follows related r reads =
+      subst (λ (k : Token × Place). Reads (ComparedFrom profile dictionary found (relation_of k.0) p k.1) r) (sym follows) (subst (λ o. Reads (ComparedFrom profile dictionary found o p mid) r) (sym related) reads)
 
-  word_one : (o : Option Code) (word : List ℕ) → IsOne (WordFrom dictionary o word)
+  word_one : (o : Option Code) (word : List ℕ) → IsOne (WordFrom profile dictionary o word)
   word_one (Some code) word p x y r s h g = gives_one (Last code) p x y r s h g
   word_one None word p x y r s h g =
-      compared_one g.0 p x y r s (subst (λ (n : Reference). ComparedIs dictionary n p x r) (some_is h.0 g.0 (sym h.1 ∙ g.1)) h.2) g.2
+      compared_one g.0 p x y r s (subst (λ (n : Reference). ComparedIs profile dictionary n p x r) (some_is h.0 g.0 (sym h.1 ∙ g.1)) h.2) g.2
 
   -- ---- operands
 
-  from_one : (inner : Form Place Cond) → IsOne inner → (token : Token) → IsOne (OperandFrom dictionary inner token)
+  from_one : (inner : Form Place Cond) → IsOne inner → (token : Token) → IsOne (OperandFrom profile dictionary inner token)
   from_one inner one (Operator sign.Not) p x y r s h g = negated_one inner one p x y r s h g
   from_one inner one (Operator sign.Open) p x y r s h g = closed_one inner one p x y r s h g
   from_one inner one (Operator sign.Reference) p x y r s h g =
-      then_one (ReadableIs dictionary) (ComparedIs dictionary) (readable_one dictionary) compared_one p x y r s h g
+      then_one (ReadableIs profile dictionary) (ComparedIs profile dictionary) (readable_one profile dictionary) compared_one p x y r s h g
   from_one inner one (Word word) p x y r s h g = word_one (code_named word) word p x y r s h g
   from_one inner one _ p x y r s h g = absurd h
 
-  pub within_one : (n : ℕ) → IsOne (Within dictionary n)
+  pub within_one : (n : ℕ) → IsOne (Within profile dictionary n)
   within_one zero p x y r s h g = absurd h
-  within_one (suc n) p x y r s h g = from_one (Within dictionary n) (within_one n) (next_token p).0 (next_token p).1 x y r s h g
+  within_one (suc n) p x y r s h g = from_one (Within profile dictionary n) (within_one n) (next_token p).0 (next_token p).1 x y r s h g
 
   -- an operand is read by what stands behind its first token
   pub operand_reads : (inner : Form Place Cond) (p : Place) (q : Token × Place) (token : Token) (r : Result (Cond × Place) PolicyFault) → q ≡ next_token p → q.0 ≡ token
-      → Reads (OperandFrom dictionary inner token q.1) r → Reads (OperandIs dictionary inner p) r
+      → Reads (OperandFrom profile dictionary inner token q.1) r → Reads (OperandIs profile dictionary inner p) r
   operand_reads inner p q token r is first reads =
-      subst (λ (k : Token × Place). Reads (OperandFrom dictionary inner k.0 k.1) r) is (subst (λ k. Reads (OperandFrom dictionary inner k q.1) r) (sym first) reads)
+      subst (λ (k : Token × Place). Reads (OperandFrom profile dictionary inner k.0 k.1) r) is (subst (λ k. Reads (OperandFrom profile dictionary inner k q.1) r) (sym first) reads)
 
   -- ---- refusals inside brackets and after `!`, where one sign fewer may be nested
 
-  pub negated_refused : (n m : ℕ) (p : Place) (e : PolicyFault) → m ≡ n → Refuses (Within dictionary m p) e → Refuses (Negated (Within dictionary n) p) e
+  pub negated_refused : (n m : ℕ) (p : Place) (e : PolicyFault) → m ≡ n → Refuses (Within profile dictionary m p) e → Refuses (Negated (Within profile dictionary n) p) e
   negated_refused n m p e same refused =
-      then_stops (Within dictionary n) (λ c. Gives (Not c)) p e (subst (λ k. Refuses (Within dictionary k p) e) same refused)
+      then_stops (Within profile dictionary n) (λ c. Gives (Not c)) p e (subst (λ k. Refuses (Within profile dictionary k p) e) same refused)
 
-  pub closed_refused : (n m : ℕ) (p : Place) (e : PolicyFault) → m ≡ n → Refuses (Either (Within dictionary m) p) e → Refuses (Closed (Within dictionary n) p) e
+  pub closed_refused : (n m : ℕ) (p : Place) (e : PolicyFault) → m ≡ n → Refuses (Either (Within profile dictionary m) p) e → Refuses (Closed (Within profile dictionary n) p) e
   closed_refused n m p e same refused =
-      then_stops (Either (Within dictionary n)) Closing p e (subst (λ k. Refuses (Either (Within dictionary k) p) e) same refused)
+      then_stops (Either (Within profile dictionary n)) Closing p e (subst (λ k. Refuses (Either (Within profile dictionary k) p) e) same refused)
 
-  pub unclosed_refused : (n m : ℕ) (p : Place) (c : Cond) (end : Place) (e : PolicyFault) → m ≡ n → Either (Within dictionary m) p c end
-      → ((rest : Place) → Follows (Operator sign.Close) end rest → ⊥) → Refuses (Closed (Within dictionary n) p) e
+  pub unclosed_refused : (n m : ℕ) (p : Place) (c : Cond) (end : Place) (e : PolicyFault) → m ≡ n → Either (Within profile dictionary m) p c end
+      → ((rest : Place) → Follows (Operator sign.Close) end rest → ⊥) → Refuses (Closed (Within profile dictionary n) p) e
   unclosed_refused n m p c end e same read open_end =
-      then_on (Either (Within dictionary n)) Closing (either_one (Within dictionary n) (within_one n)) p c end (subst (λ k. Either (Within dictionary k) p c end) same read) e
+      then_on (Either (Within profile dictionary n)) Closing (either_one (Within profile dictionary n) (within_one n)) p c end (subst (λ k. Either (Within profile dictionary k) p c end) same read) e
       (after_stops (Follows (Operator sign.Close)) (Gives c) end e open_end)
 
-  pub closed_reads : (n m : ℕ) (p : Place) (c : Cond) (end rest : Place) → m ≡ n → Either (Within dictionary m) p c end → Follows (Operator sign.Close) end rest → Closed (Within dictionary n) p c rest
-  closed_reads n m p c end rest same read close = (c, end, subst (λ k. Either (Within dictionary k) p c end) same read, (rest, close, (refl, refl)))
+  pub closed_reads : (n m : ℕ) (p : Place) (c : Cond) (end rest : Place) → m ≡ n → Either (Within profile dictionary m) p c end → Follows (Operator sign.Close) end rest → Closed (Within profile dictionary n) p c rest
+  closed_reads n m p c end rest same read close = (c, end, subst (λ k. Either (Within profile dictionary k) p c end) same read, (rest, close, (refl, refl)))

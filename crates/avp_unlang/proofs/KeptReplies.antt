@@ -1,18 +1,15 @@
 -- What statements keep of each pair of a reply list, if each pair that an update line adds has it.
-use Rattle.std.proofs.Common.{◌≡◌, ℕ, zero, suc, ◌+◌, Bool, true, false, cond, List, [], ◌∷◌, ◌++◌, map, Option, Some, None, Result, Ok, Err, filter, take, drop, length, sym, ap, subst, refl, ◌∙◌}
+use Rattle.std.proofs.Common.{◌≡◌, ℕ, zero, suc, Bool, true, false, cond, List, [], ◌∷◌, map, Option, Some, None, Result, Ok, Err, length, sym, ap, subst, refl, ◌∙◌}
 use Rattle.std.specs.Prelude.{codes, nat_le}
-use Rattle.std.specs.List.{All, position_or_len}
-use Rattle.std.proofs.lemmas.List.Elements.{All-append, All-cons, All-drop, All-filter, All-push, All-take}
-use Rattle.avp_lists.specs.Instances.{has_id, has_instance, is_other}
-use Rattle.avp_lists.specs.Operators.{agrees, apply, differs}
-use Rattle.avp_lists.specs.States.{edited, edited_list, max_pairs}
+use Rattle.std.specs.List.{All}
+use Rattle.avp_lists.specs.Selections.{edited_list_selected, edited_selected}
+use Rattle.avp_lists.specs.States.{max_pairs}
 use Rattle.avp_lists.specs.declared.pairs.Pair.{Pair}
-use Rattle.avp_lists.specs.declared.edits.Op.{Op}
-use Rattle.avp_lists.specs.declared.edits.Op.TheVariants.{AddNew, Append, KeepEqual, Prepend, RemoveAll, RemoveEqual, Replace}
 use Rattle.avp_lists.specs.declared.lists.List.{List as Name}
-use Rattle.avp_lists.specs.declared.lists.List.TheVariants.{Control, Reply, Request}
 use Rattle.avp_lists.specs.declared.lists.State.{State}
 use Rattle.avp_dict.specs.Dictionary.{Dictionary}
+use Rattle.avp_forms.specs.Profiles.{profile_of}
+use Rattle.avp_forms.specs.declared.profiles.Profile.{Profile}
 use Rattle.avp_unlang.specs.Forms.{Form, Chain}
 use Rattle.avp_unlang.specs.Lines.{LineIs, begins_line}
 use Rattle.avp_unlang.specs.Meaning.{Choice, Edited, Failed, Meaning, Outcome, after_body, after_line, all_lines, branch_meaning, edit_of, first_true, if_given, line_result, meaning, meaning_of, result_from, running, statement_meaning, unless_stop}
@@ -37,30 +34,8 @@ use Rattle.avp_unlang.specs.declared.tree.Statement.{Statement}
 use Rattle.avp_unlang.specs.declared.tree.Statement.TheFolds.{fold-Branch, fold-roll-Branch, fold-roll-Statement}
 use Rattle.avp_unlang.specs.declared.tree.Statement.TheOpen as layer
 use Rattle.avp_unlang.specs.declared.tree.Statement.TheVariants.{Update, If, Transaction, Word, rolls-Update, rolls-If, rolls-Transaction, rolls-Word}
+use Rattle.avp_unlang.proofs.KeptEdits.{edit_keeps}
 use Rattle.avp_unlang.proofs.SpelledParts.{Holds, block_holds, chain_holds, while_holds}
-
--- ---- edits
-
-module _ (P : Pair → Type 0) where
-  -- what an operator makes of pairs that have it, with one that has it unless the operator removes all
-  pub applied : (op : Op) (p : Pair) (pairs : List Pair) → (is_removal op ≡ false → P p) → All P pairs → All P (apply op p pairs)
-  applied AddNew p pairs h all = elim (has_instance p.id pairs) as (λ b. All P (cond b pairs (pairs ++ p ∷ []))) [ true ↦ all | false ↦ All-push P pairs p all (h refl) ]
-  applied Replace p pairs h all =
-      let n = position_or_len (has_id p.id) pairs in
-      let later = All-filter (is_other p.id) P (drop (n + 1) pairs) (All-drop P (n + 1) pairs all) in
-      All-append P (take n pairs) (p ∷ filter (is_other p.id) (drop (n + 1) pairs)) (All-take P n pairs all)
-      (All-cons P p (filter (is_other p.id) (drop (n + 1) pairs)) (h refl) later)
-  applied Append p pairs h all = All-push P pairs p all (h refl)
-  applied Prepend p pairs h all = All-cons P p pairs (h refl) all
-  applied RemoveEqual p pairs h all = All-filter (differs p) P pairs all
-  applied KeepEqual p pairs h all = All-filter (agrees p) P pairs all
-  applied RemoveAll p pairs h all = All-filter (is_other p.id) P pairs all
-
-  -- an edit of the reply list, or of another one
-  edit_keeps : (list : Name) (op : Op) (p : Pair) (s : State) → (is_removal op ≡ false → P p) → All P s.reply → All P (edited (record { list = list; op = op; pair = p }) s).reply
-  edit_keeps Request op p s h all = all
-  edit_keeps Reply op p s h all = applied op p s.reply h all
-  edit_keeps Control op p s h all = all
 
 module _ (dictionary : Dictionary) (P : Pair → Type 0) where
   -- ---- meanings
@@ -125,7 +100,7 @@ module _ (dictionary : Dictionary) (P : Pair → Type 0) where
     line_followed : (r : Result Pair Unresolved) (s : State) (code : Code) → ((p : Pair) → is_removal line.op ≡ false → r ≡ Ok p → P p) → All P s.reply
         → All P (after_line entry (result_from line s r) code (all_lines dictionary entry ls)).state.reply
     line_followed (Ok p) s code adds all =
-        edit_followed (nat_le (length (edited_list (edit_of line p) s)) max_pairs) (edited (edit_of line p) s) code (edit_keeps P line.list line.op p s (λ stays. adds p stays refl) all)
+        edit_followed (nat_le (length (edited_list_selected line.selection (edit_of line p) s)) max_pairs) (edited_selected line.selection (edit_of line p) s) code (edit_keeps P line.selection line.list line.op p s (λ stays. adds p stays refl) all)
     line_followed (Err why) s code adds all = kept
 
   more_lines : (line : Line) (ls : List Line) → Adds line → LinesKeep ls → LinesKeep (line ∷ ls)
@@ -173,35 +148,37 @@ module _ (dictionary : Dictionary) (P : Pair → Type 0) where
 
   -- ---- what is spelled
 
-  module _ (adds : (own : Name) → Holds Adds (LineIs dictionary own)) where
+  module _ (profile : Profile) (adds : (own : Name) → Holds Adds (LineIs profile dictionary own)) where
     module _ (n : ℕ) (inner : Form Place Statement) (each : Holds StatementKeeps inner) where
       blocks_keep : Holds BlockKeeps (BlockIs n begins_word inner)
       blocks_keep = block_holds StatementKeeps BlockKeeps none_keeps more_keeps inner each n begins_word
 
-      branches_keep : Holds BranchKeeps (BranchIs dictionary n inner)
+      branches_keep : Holds BranchKeeps (BranchIs profile dictionary n inner)
       branches_keep p branch rest h =
           subst BranchKeeps (sym h.2.2.3.3.0) (branch_keeps p.line h.2.2.0 h.2.2.3.0 (blocks_keep h.2.2.1 h.2.2.3.0 h.2.2.3.1 h.2.2.3.2))
 
-      chosen_keep : Holds BranchesKeep (Chain (Follows (token.Word (codes "elsif"))) (BranchIs dictionary n inner))
-      chosen_keep = chain_holds BranchKeeps BranchesKeep no_branches more_branches (BranchIs dictionary n inner) branches_keep (Follows (token.Word (codes "elsif")))
+      chosen_keep : Holds BranchesKeep (Chain (Follows (token.Word (codes "elsif"))) (BranchIs profile dictionary n inner))
+      chosen_keep = chain_holds BranchKeeps BranchesKeep no_branches more_branches (BranchIs profile dictionary n inner) branches_keep (Follows (token.Word (codes "elsif")))
 
       ending_keeps : (o : Option (List Statement)) (p rest : Place) → Otherwise n inner p o rest → Keeps (else_meaning o)
       ending_keeps None p rest h = none_keeps
       ending_keeps (Some block) p rest h = blocks_keep h.0 block rest h.2
 
-      from_keeps : (k : Keyword) → Holds StatementKeeps (StatementFrom dictionary n inner k)
+      from_keeps : (k : Keyword) → Holds StatementKeeps (StatementFrom profile dictionary n inner k)
       from_keeps keyword.Update p s rest h =
           subst StatementKeeps (sym h.3.0)
-          (update_keeps p.line h.0 (block_holds Adds LinesKeep no_lines more_lines (LineIs dictionary (list_at p).0) (adds (list_at p).0) n begins_line (list_at p).1 h.0 h.1 h.2))
+          (update_keeps p.line h.0 (block_holds Adds LinesKeep no_lines more_lines (LineIs profile dictionary (list_at p).0) (adds (list_at p).0) n begins_line (list_at p).1 h.0 h.1 h.2))
       from_keeps keyword.If p s rest h = subst StatementKeeps (sym h.3.3.0) (if_keeps h.0 h.3.0 (chosen_keep p h.0 h.1 h.2) (ending_keeps h.3.0 h.1 h.3.1 h.3.2))
       from_keeps keyword.Transaction p s rest h = subst StatementKeeps (sym h.2.3.0) (transaction_keeps p.line h.2.0 (blocks_keep h.0 h.2.0 h.2.1 h.2.2))
       from_keeps (keyword.Code code) p s rest h = subst StatementKeeps (sym h.2.0) (word_keeps p.line code)
       from_keeps keyword.Other p s rest h = absurd h
 
-    nested_keeps : (n : ℕ) → Holds StatementKeeps (Nested dictionary n)
+    nested_keeps : (n : ℕ) → Holds StatementKeeps (Nested profile dictionary n)
     nested_keeps zero p s rest h = absurd h
-    nested_keeps (suc n) p s rest h = from_keeps n (Nested dictionary n) (nested_keeps n) (keyword_in (next_token p).0) (next_token p).1 s rest h
+    nested_keeps (suc n) p s rest h = from_keeps n (Nested profile dictionary n) (nested_keeps n) (keyword_in (next_token p).0) (next_token p).1 s rest h
 
-    -- the pairs of a reply list go on having it under a policy that was read
-    pub policy_keeps : (text : List ℕ) (statements : List Statement) → SpellsPolicy dictionary text statements → (s : State) (code : Code) → All P s.reply → All P (meaning_of dictionary statements s code).state.reply
-    policy_keeps text statements h = while_holds StatementKeeps BlockKeeps none_keeps more_keeps (Nested dictionary 65) (nested_keeps 65) begins_word (start_of text) statements h.0 h.2
+  -- the pairs of a reply list go on having it under a policy that was read
+  pub policy_keeps : ((profile : Profile) (own : Name) → Holds Adds (LineIs profile dictionary own)) → (text : List ℕ) (statements : List Statement) → SpellsPolicy dictionary text statements
+      → (s : State) (code : Code) → All P s.reply → All P (meaning_of dictionary statements s code).state.reply
+  policy_keeps adds text statements h =
+      while_holds StatementKeeps BlockKeeps none_keeps more_keeps (Nested (profile_of text) dictionary 65) (nested_keeps (profile_of text) (adds (profile_of text)) 65) begins_word (start_of text) statements h.0 h.2

@@ -5,6 +5,7 @@ pub mod Comparing
 pub mod ConditionsOne
 pub mod Determined
 pub mod FirstInstances
+pub mod KeptEdits
 pub mod KeptReplies
 pub mod LinesOne
 pub mod PartsOne

@@ -5,12 +5,13 @@ use Rattle.std.specs.Option.{option_map}
 use Rattle.avp_lists.specs.declared.edits.Op.{Op}
 use Rattle.avp_lists.specs.declared.lists.List.{List as Name}
 use Rattle.avp_lists.specs.declared.pairs.AttrId.{AttrId}
-use Rattle.avp_dict.specs.declared.entries.Named.{Named}
 use Rattle.avp_dict.specs.Dictionary.{Dictionary}
 use Rattle.avp_dict.specs.declared.value.quotes.QuoteMark.TheVariants.{Double, Single}
 use Rattle.avp_dict.specs.Quotes.{single_quoted_octets}
 use Rattle.avp_dict.specs.Sent.{is_container}
 use Rattle.avp_dict.specs.Spellings.{is_barred}
+use Rattle.avp_forms.specs.declared.targets.Target.{Target}
+use Rattle.avp_forms.specs.declared.profiles.Profile.{Profile}
 use Rattle.avp_unlang.specs.declared.faults.PolicyFault.{PolicyFault}
 use Rattle.avp_unlang.specs.declared.faults.PolicyKind.TheVariants.{Memory}
 use Rattle.avp_unlang.specs.declared.text.references.Reference.{Reference}
@@ -27,6 +28,7 @@ use Rattle.avp_unlang.specs.Lines.{TargetIs, OpIs, LineIs, after_reference, op_o
 use Rattle.avp_unlang.specs.Parts.{PartsAre}
 use Rattle.avp_unlang.specs.Places.{Place}
 use Rattle.avp_unlang.specs.References.{ReadableIs, AlikeIs, readable, reference_in}
+use Rattle.avp_unlang.specs.Selecting.{line_selection}
 use Rattle.avp_unlang.specs.Sources.{filled_source, FilledIs, SourceOf, ValueIs, IgnoredFrom, IgnoredIs, SourceBy, SourceIs, is_removal}
 use Rattle.avp_unlang.specs.Between.{Counts, Follows}
 use Rattle.avp_unlang.specs.Tokens.{next_token}
@@ -52,82 +54,82 @@ words_one p w v r s h g = let at = pair_one (next_token p) (Word w) (Word v) r s
 none_some : {A : Type 0} (x : A) (o : Option A) → o ≡ None → o ≡ Some x → ⊥
 none_some x o e f = cc
 
-module _ (dictionary : Dictionary) where
+module _ (profile : Profile) (dictionary : Dictionary) where
   -- ---- references
 
-  pub readable_one : IsOne (ReadableIs dictionary)
+  pub readable_one : IsOne (ReadableIs profile dictionary)
   readable_one p x y r s h g =
       let at = words_one p h.0 g.0 r s h.1 g.1 in
-      (some_is x y (sym (subst (λ w. readable dictionary w ≡ Some x) at.0 h.2) ∙ g.2), at.1)
+      (some_is x y (sym (subst (λ w. readable profile dictionary w ≡ Some x) at.0 h.2) ∙ g.2), at.1)
 
-  pub alike_one : (id : AttrId) → IsOne (AlikeIs dictionary id)
+  pub alike_one : (id : AttrId) → IsOne (AlikeIs profile dictionary id)
   alike_one id p x y r s h g = readable_one p x y r s h.0 g.0
 
-  pub target_one : (own : Name) → IsOne (TargetIs dictionary own)
+  pub target_one : (own : Name) → IsOne (TargetIs profile dictionary own)
   target_one own p x y r s h g =
       let at = words_one (after_reference p) h.0 g.0 r s h.1 g.1 in
-      (some_is x y (sym (subst (λ w. reference_in dictionary own w ≡ Some x) at.0 h.2) ∙ g.2), at.1)
+      (some_is x y (sym (subst (λ w. reference_in profile dictionary own w ≡ Some x) at.0 h.2) ∙ g.2), at.1)
 
   -- ---- written values
 
-  written_from_one : (name : Named) (token : Token) → IsOne (WrittenFrom dictionary name token)
-  written_from_one name (Word text) p x y r s h g = becomes_one (option_map written.Literal (literal dictionary name text)) p x y r s h g
-  written_from_one name (Quoted Single text) p x y r s h g = becomes_one (option_map written.Literal (literal dictionary name (single_quoted_octets text))) p x y r s h g
+  written_from_one : (name : Target) (token : Token) → IsOne (WrittenFrom profile dictionary name token)
+  written_from_one name (Word text) p x y r s h g = becomes_one (option_map written.Literal (literal profile dictionary name text)) p x y r s h g
+  written_from_one name (Quoted Single text) p x y r s h g = becomes_one (option_map written.Literal (literal profile dictionary name (single_quoted_octets text))) p x y r s h g
   written_from_one name (Quoted Double text) p x y r s h g = gives_one (written.Double text) p x y r s h g
   written_from_one name (Operator sign.Reference) p x y r s h g =
-      let at = alike_one name.id p h.0 g.0 r s h.1 g.1 in
-      (h.2 ∙ ap (λ (n : Reference). written.Instance n.list n.named.id) at.0 ∙ sym g.2, at.1)
+      let at = alike_one name.named.id p h.0 g.0 r s h.1 g.1 in
+      (h.2 ∙ ap (λ (n : Reference). written.Instance n) at.0 ∙ sym g.2, at.1)
   written_from_one name _ p x y r s h g = absurd h
 
-  pub written_one : (name : Named) → IsOne (WrittenIs dictionary name)
+  pub written_one : (name : Target) → IsOne (WrittenIs profile dictionary name)
   written_one name p x y r s h g = written_from_one name (next_token p).0 (next_token p).1 x y r s h g
 
   -- a refusal of the reference after an `&`
-  pub reference_refused : (name : Named) (p : Place) (q : Token × Place) (e : PolicyFault) → q ≡ next_token p → q.0 ≡ Operator sign.Reference
-      → Refuses (AlikeIs dictionary name.id q.1) e → Refuses (WrittenIs dictionary name p) e
+  pub reference_refused : (name : Target) (p : Place) (q : Token × Place) (e : PolicyFault) → q ≡ next_token p → q.0 ≡ Operator sign.Reference
+      → Refuses (AlikeIs profile dictionary name.named.id q.1) e → Refuses (WrittenIs profile dictionary name p) e
   reference_refused name p q e is first refused =
-      let at : Refuses (WrittenFrom dictionary name (Operator sign.Reference) q.1) e = λ some x rest h. refused some h.0 rest h.1 in
-      subst (λ (k : Token × Place). Refuses (WrittenFrom dictionary name k.0 k.1) e) is (subst (λ k. Refuses (WrittenFrom dictionary name k q.1) e) (sym first) at)
+      let at : Refuses (WrittenFrom profile dictionary name (Operator sign.Reference) q.1) e = λ some x rest h. refused some h.0 rest h.1 in
+      subst (λ (k : Token × Place). Refuses (WrittenFrom profile dictionary name k.0 k.1) e) is (subst (λ k. Refuses (WrittenFrom profile dictionary name k q.1) e) (sym first) at)
 
   -- ---- what is made of a written value
 
-  module _ {A : Type 0} (name : Named) (makes : Written → A → Type 0) where
-    pub made_one : ((w : Written) (x y : A) → makes w x → makes w y → x ≡ y) → IsOne (WrittenAs dictionary name makes)
+  module _ {A : Type 0} (name : Target) (makes : Written → A → Type 0) where
+    pub made_one : ((w : Written) (x y : A) → makes w x → makes w y → x ≡ y) → IsOne (WrittenAs profile dictionary name makes)
     made_one one p x y r s h g =
         let at = written_one name p h.0 g.0 r s h.1 g.1 in
         (one g.0 x y (subst (λ (w : Written). makes w x) at.0 h.2) g.2, at.1)
 
     -- no value is written, or nothing is made of it
-    pub made_stops : (p : Place) (e : PolicyFault) → Refuses (WrittenIs dictionary name p) e → Refuses (WrittenAs dictionary name makes p) e
+    pub made_stops : (p : Place) (e : PolicyFault) → Refuses (WrittenIs profile dictionary name p) e → Refuses (WrittenAs profile dictionary name makes p) e
     made_stops p e refused = λ some x rest h. refused some h.0 rest h.1
 
-    pub made_refused : (p : Place) (w : Written) (mid : Place) (e : PolicyFault) → WrittenIs dictionary name p w mid → (e.kind ≢ Memory → (x : A) → makes w x → ⊥)
-        → Refuses (WrittenAs dictionary name makes p) e
+    pub made_refused : (p : Place) (w : Written) (mid : Place) (e : PolicyFault) → WrittenIs profile dictionary name p w mid → (e.kind ≢ Memory → (x : A) → makes w x → ⊥)
+        → Refuses (WrittenAs profile dictionary name makes p) e
     made_refused p w mid e read refused = λ some x rest h.
         let at = written_one name p h.0 w rest mid h.1 read in refused some x (subst (λ (k : Written). makes k x) at.0 h.2)
 
   -- ---- sources
 
-  pub filled_reads : (name : Named) (text : List ℕ) (parts : List Part) → is_barred name dictionary ≡ false → PartsAre dictionary text parts → (r : Result Source PolicyFault)
-      → IfOk r (λ source. filled_source dictionary name parts ≡ Some source) → IfErr r (λ fault. fault.kind ≢ Memory → filled_source dictionary name parts ≡ None)
-      → ReadsAll (FilledIs dictionary name text) r
+  pub filled_reads : (name : Target) (text : List ℕ) (parts : List Part) → is_barred name.named dictionary ≡ false → PartsAre profile dictionary text parts → (r : Result Source PolicyFault)
+      → IfOk r (λ source. filled_source profile dictionary name parts ≡ Some source) → IfErr r (λ fault. fault.kind ≢ Memory → filled_source profile dictionary name parts ≡ None)
+      → ReadsAll (FilledIs profile dictionary name text) r
   filled_reads name text parts free are (Ok source) ok err = (free, parts, are, ok)
   filled_reads name text parts free are (Err fault) ok err = λ some source h.
-      let same = parts_one dictionary text h.1 parts h.2 are in
-      none_some source (filled_source dictionary name parts) (err some) (subst (λ ps. filled_source dictionary name ps ≡ Some source) same h.3)
+      let same = parts_one profile dictionary text h.1 parts h.2 are in
+      none_some source (filled_source profile dictionary name parts) (err some) (subst (λ ps. filled_source profile dictionary name ps ≡ Some source) same h.3)
 
-  filled_one : (name : Named) (text : List ℕ) (x y : Source) → FilledIs dictionary name text x → FilledIs dictionary name text y → x ≡ y
+  filled_one : (name : Target) (text : List ℕ) (x y : Source) → FilledIs profile dictionary name text x → FilledIs profile dictionary name text y → x ≡ y
   filled_one name text x y h g =
-      let same = parts_one dictionary text h.1 g.1 h.2 g.2 in
-      some_is x y (sym (subst (λ ps. filled_source dictionary name ps ≡ Some x) same h.3) ∙ g.3)
+      let same = parts_one profile dictionary text h.1 g.1 h.2 g.2 in
+      some_is x y (sym (subst (λ ps. filled_source profile dictionary name ps ≡ Some x) same h.3) ∙ g.3)
 
-  source_of_one : (name : Named) (w : Written) (x y : Source) → SourceOf dictionary name w x → SourceOf dictionary name w y → x ≡ y
+  source_of_one : (name : Target) (w : Written) (x y : Source) → SourceOf profile dictionary name w x → SourceOf profile dictionary name w y → x ≡ y
   source_of_one name (written.Literal value) x y h g = h ∙ sym g
   source_of_one name (written.Double text) x y h g = filled_one name text x y h g
-  source_of_one name (written.Instance list id) x y h g = h ∙ sym g
+  source_of_one name (written.Instance found) x y h g = h ∙ sym g
 
-  value_one : (name : Named) → IsOne (ValueIs dictionary name)
-  value_one name = made_one name (SourceOf dictionary name) (source_of_one name)
+  value_one : (name : Target) → IsOne (ValueIs profile dictionary name)
+  value_one name = made_one name (SourceOf profile dictionary name) (source_of_one name)
 
   ignored_from_sure : (token : Token) → IsSure (IgnoredFrom token)
   ignored_from_sure (Word text) p r s h g = h ∙ sym g
@@ -138,21 +140,21 @@ module _ (dictionary : Dictionary) where
   pub ignored_sure : IsSure IgnoredIs
   ignored_sure p r s h g = ignored_from_sure (next_token p).0 (next_token p).1 r s h g
 
-  source_by_one : (b : Bool) (name : Named) → IsOne (SourceBy b dictionary name)
+  source_by_one : (b : Bool) (name : Target) → IsOne (SourceBy b profile dictionary name)
   source_by_one true name p x y r s h g = (h.1 ∙ sym g.1, ignored_sure p r s h.0 g.0)
   source_by_one false name p x y r s h g = value_one name p x y r s h.1 g.1
 
-  pub source_one : (operation : Op) (name : Named) → IsOne (SourceIs dictionary operation name)
+  pub source_one : (operation : Op) (name : Target) → IsOne (SourceIs profile dictionary operation name)
   source_one operation name = source_by_one (is_removal operation) name
 
-  by_value : (name : Named) (p : Place) → is_container name.id ≡ false → (r : Result (Source × Place) PolicyFault) → Reads (ValueIs dictionary name p) r → Reads (SourceBy false dictionary name p) r
+  by_value : (name : Target) (p : Place) → is_container name.named.id ≡ false → (r : Result (Source × Place) PolicyFault) → Reads (ValueIs profile dictionary name p) r → Reads (SourceBy false profile dictionary name p) r
   by_value name p own (Ok x) reads = (own, reads)
   by_value name p own (Err e) reads = λ some x rest h. reads some x rest h.1
 
   -- a source that is looked at
-  pub value_reads : (operation : Op) (name : Named) (p : Place) (r : Result (Source × Place) PolicyFault) → is_removal operation ≡ false → is_container name.id ≡ false
-      → Reads (ValueIs dictionary name p) r → Reads (SourceIs dictionary operation name p) r
-  value_reads operation name p r looked own reads = subst (λ b. Reads (SourceBy b dictionary name p) r) (sym looked) (by_value name p own r reads)
+  pub value_reads : (operation : Op) (name : Target) (p : Place) (r : Result (Source × Place) PolicyFault) → is_removal operation ≡ false → is_container name.named.id ≡ false
+      → Reads (ValueIs profile dictionary name p) r → Reads (SourceIs profile dictionary operation name p) r
+  value_reads operation name p r looked own reads = subst (λ b. Reads (SourceBy b profile dictionary name p) r) (sym looked) (by_value name p own r reads)
 
   -- ---- lines
 
@@ -163,26 +165,26 @@ module _ (dictionary : Dictionary) where
 
   -- what follows each part of a line
   abbrev pub Ending : ℕ → Reference → Op → Source → Form Place Line
-  Ending first target operation source = Gives (line_of first target operation source)
+  Ending first target operation source = Gives (line_of first target operation (line_selection profile dictionary operation target.target) source)
 
   abbrev pub Sourced : ℕ → Reference → Op → Form Place Line
-  Sourced first target operation = Then (SourceIs dictionary operation target.named) (Ending first target operation)
+  Sourced first target operation = Then (SourceIs profile dictionary operation target.target) (Ending first target operation)
 
   abbrev pub Operated : ℕ → Reference → Form Place Line
   Operated first target = Then OpIs (Sourced first target)
 
   abbrev pub Targeted : ℕ → Name → Form Place Line
-  Targeted first own = Then (TargetIs dictionary own) (Operated first)
+  Targeted first own = Then (TargetIs profile dictionary own) (Operated first)
 
   sourced_one : (first : ℕ) (target : Reference) (operation : Op) → IsOne (Sourced first target operation)
   sourced_one first target operation =
-      then_one (SourceIs dictionary operation target.named) (Ending first target operation) (source_one operation target.named) (λ source. gives_one (line_of first target operation source))
+      then_one (SourceIs profile dictionary operation target.target) (Ending first target operation) (source_one operation target.target) (λ source. gives_one (line_of first target operation (line_selection profile dictionary operation target.target) source))
 
   operated_one : (first : ℕ) (target : Reference) → IsOne (Operated first target)
   operated_one first target = then_one OpIs (Sourced first target) op_one (sourced_one first target)
 
   targeted_one : (first : ℕ) (own : Name) → IsOne (Targeted first own)
-  targeted_one first own = then_one (TargetIs dictionary own) (Operated first) (target_one own) (operated_one first)
+  targeted_one first own = then_one (TargetIs profile dictionary own) (Operated first) (target_one own) (operated_one first)
 
-  pub line_one : (own : Name) → IsOne (LineIs dictionary own)
+  pub line_one : (own : Name) → IsOne (LineIs profile dictionary own)
   line_one own p = after_one (Counts 1) (Targeted (next_token p).1.line own) (counts_sure 1) (targeted_one (next_token p).1.line own) p

@@ -1,12 +1,14 @@
 -- A text between double quotes has one list of parts.
 use Rattle.std.proofs.Common.{◌≡◌, ℕ, ◌<◌, ◌⊎◌, inl, inr, Bool, true, false, List, length, Option, Some, None, refl, sym, ap, subst, ◌∙◌, arith}
 use Rattle.std.specs.Prelude.{is_some, IsTrue}
-use Rattle.avp_lists.specs.declared.lists.List.{List as Name}
 use Rattle.avp_dict.specs.Dictionary.{Dictionary}
+use Rattle.avp_forms.specs.declared.profiles.Profile.{Profile}
+use Rattle.avp_forms.specs.declared.profiles.Profile.TheVariants.{Plain, Wider}
 use Rattle.avp_unlang.specs.declared.text.references.Reference.{Reference}
 use Rattle.avp_unlang.specs.declared.tree.Part.{Part}
-use Rattle.avp_unlang.specs.declared.tree.Part.TheVariants.{Text, Instance}
-use Rattle.avp_unlang.specs.Parts.{octet_at, begins_octet, OctetIs, braced, InstanceIs, PartIs, PartsAre, is_left}
+use Rattle.avp_unlang.specs.declared.tree.Part.TheVariants.{Text, Instance, Meant}
+use Rattle.avp_unlang.specs.Forms.{Form}
+use Rattle.avp_unlang.specs.Parts.{octet_at, begins_octet, OctetIs, braced, InstanceIs, PartIs, PartsAre, is_left, part_of}
 use Rattle.avp_unlang.specs.References.{readable}
 use Rattle.avp_unlang.proofs.Determined.{IsOne, some_is}
 use Rattle.avp_unlang.proofs.ValueRuns.{while_one}
@@ -20,26 +22,35 @@ octet_one p x y r s h g = pair_is (octet_at p) x y r s h g
 not_both : (b : Bool) → b ≡ true → b ≡ false → ⊥
 not_both b e f = cc
 
-module _ (dictionary : Dictionary) where
-  pub instance_one : IsOne (InstanceIs dictionary)
+module _ (profile : Profile) (dictionary : Dictionary) where
+  pub instance_one : IsOne (InstanceIs profile dictionary)
   instance_one p x y r s h g =
       let inner = some_is h.0 g.0 (sym h.1 ∙ g.1) in
       let closed = pair_is (braced g.0) h.2 g.2 r s (subst (λ i. braced i ≡ Some (h.2, r)) inner h.3) g.3 in
-      (some_is x y (sym (subst (λ w. readable dictionary w ≡ Some x) closed.0 h.4) ∙ g.4), closed.1)
+      (some_is x y (sym (subst (λ w. readable profile dictionary w ≡ Some x) closed.0 h.4) ∙ g.4), closed.1)
 
-  pub part_one : IsOne (PartIs dictionary)
+  abbrev PutIs : Form (List ℕ) Part
+  PutIs p x r = (found : Reference) × InstanceIs profile dictionary p found r × (x ≡ part_of profile dictionary found)
+
+  put_one : IsOne PutIs
+  put_one p x y r s h g =
+      let at = instance_one p h.0 g.0 r s h.1 g.1 in
+      (h.2 ∙ ap (λ (n : Reference). part_of profile dictionary n) at.0 ∙ sym g.2, at.1)
+
+  pub part_one : IsOne (PartIs profile dictionary)
   part_one p (Text os) (Text qs) r s h g =
       let at = while_one begins_octet OctetIs octet_one p os qs r s h.1 g.1 in (ap Text at.0, at.1)
   part_one p (Text os) (Instance l i) r s h g = absurd (not_both (begins_octet p) h.0 g.0)
+  part_one p (Text os) (Meant l i k) r s h g = absurd (not_both (begins_octet p) h.0 g.0)
   part_one p (Instance l i) (Text qs) r s h g = absurd (not_both (begins_octet p) g.0 h.0)
-  part_one p (Instance l i) (Instance m j) r s h g =
-      let at = instance_one p h.1 g.1 r s h.2 g.2 in
-      let list = h.3 ∙ ap (λ (n : Reference). n.list) at.0 ∙ sym g.3 in
-      let id = h.4 ∙ ap (λ (n : Reference). n.named.id) at.0 ∙ sym g.4 in
-      (ap (λ (k : Name). Instance k i) list ∙ ap (λ k. Instance m k) id, at.1)
+  part_one p (Meant l i k) (Text qs) r s h g = absurd (not_both (begins_octet p) g.0 h.0)
+  part_one p (Instance l i) (Instance m j) r s h g = put_one p (Instance l i) (Instance m j) r s (h.1, h.2, h.3) (g.1, g.2, g.3)
+  part_one p (Instance l i) (Meant m j n) r s h g = put_one p (Instance l i) (Meant m j n) r s (h.1, h.2, h.3) (g.1, g.2, g.3)
+  part_one p (Meant l i k) (Instance m j) r s h g = put_one p (Meant l i k) (Instance m j) r s (h.1, h.2, h.3) (g.1, g.2, g.3)
+  part_one p (Meant l i k) (Meant m j n) r s h g = put_one p (Meant l i k) (Meant m j n) r s (h.1, h.2, h.3) (g.1, g.2, g.3)
 
-  pub parts_one : (text : List ℕ) (xs ys : List Part) → PartsAre dictionary text xs → PartsAre dictionary text ys → xs ≡ ys
-  parts_one text xs ys h g = (while_one is_left (PartIs dictionary) part_one text xs ys h.0 g.0 h.1 g.1).0
+  pub parts_one : (text : List ℕ) (xs ys : List Part) → PartsAre profile dictionary text xs → PartsAre profile dictionary text ys → xs ≡ ys
+  parts_one text xs ys h g = (while_one is_left (PartIs profile dictionary) part_one text xs ys h.0 g.0 h.1 g.1).0
 
 -- where no octet follows any more, the first one was passed
 pub moved_on : (text rest : List ℕ) → (length rest < length text) ⊎ (rest ≡ text) → octet_at rest ≡ None → IsTrue (begins_octet text) → length rest < length text
@@ -51,7 +62,14 @@ moved_more text mid rest h lt =
     inl (elim h as (λ _. length rest < length text) [ inl moved ↦ omega arith | inr stays ↦ subst (λ (k : List ℕ). length rest < length k) stays lt ])
 
 -- a text that begins with no octet and no expansion has no first part
-pub no_part : (dictionary : Dictionary) (text : List ℕ) → begins_octet text ≡ false → ((found : Reference) (rest : List ℕ) → InstanceIs dictionary text found rest → ⊥)
-    → (part : Part) (rest : List ℕ) → PartIs dictionary text part rest → ⊥
-no_part dictionary text none refused (Text os) rest h = not_both (begins_octet text) h.0 none
-no_part dictionary text none refused (Instance l i) rest h = refused h.1 rest h.2
+pub no_part : (profile : Profile) (dictionary : Dictionary) (text : List ℕ) → begins_octet text ≡ false → ((found : Reference) (rest : List ℕ) → InstanceIs profile dictionary text found rest → ⊥)
+    → (part : Part) (rest : List ℕ) → PartIs profile dictionary text part rest → ⊥
+no_part profile dictionary text none refused (Text os) rest h = not_both (begins_octet text) h.0 none
+no_part profile dictionary text none refused (Instance l i) rest h = refused h.1 rest h.2
+no_part profile dictionary text none refused (Meant l i k) rest h = refused h.1 rest h.2
+
+-- a value that is put in is a part of its own
+pub put_reads : (profile : Profile) (dictionary : Dictionary) (text : List ℕ) (found : Reference) (rest : List ℕ) → begins_octet text ≡ false → InstanceIs profile dictionary text found rest
+    → PartIs profile dictionary text (part_of profile dictionary found) rest
+put_reads Plain dictionary text found rest none is = (none, found, is, refl)
+put_reads Wider dictionary text found rest none is = (none, found, is, refl)

@@ -2,9 +2,10 @@
 use Rattle.std.proofs.Common.{◌≡◌, ℕ, ◌+◌, zero, suc, Bool, true, false, List, [], ◌∷◌, length, map, Option, Some, None, refl, sym, ap, ◌∙◌, arith}
 use Rattle.std.proofs.lemmas.Grind.{common_steps}
 use Rattle.avp_lists.specs.declared.lists.List.{List as Name}
-use Rattle.avp_dict.specs.declared.entries.Named.{Named}
 use Rattle.avp_dict.specs.Dictionary.{Dictionary}
 use Rattle.avp_dict.specs.declared.value.quotes.QuoteMark.TheVariants.{Double, Single}
+use Rattle.avp_forms.specs.declared.targets.Target.{Target}
+use Rattle.avp_forms.specs.declared.profiles.Profile.{Profile}
 use Rattle.avp_unlang.specs.declared.codes.Code.{Code}
 use Rattle.avp_unlang.specs.declared.text.statements.Keyword.{Keyword}
 use Rattle.avp_unlang.specs.declared.text.statements.Keyword.TheVariants as keyword
@@ -21,11 +22,11 @@ use Rattle.avp_unlang.specs.declared.tree.Statement.{Statement}
 use Rattle.avp_unlang.specs.declared.tree.Statement.TheFolds.{fold-roll-Statement, fold-roll-Branch}
 use Rattle.avp_unlang.specs.declared.tree.Statement.TheOpen as layer
 use Rattle.avp_unlang.specs.declared.tree.Statement.TheVariants.{Update, If, Transaction, Word, rolls-Update, rolls-If, rolls-Transaction, rolls-Word}
-use Rattle.avp_unlang.specs.Conditions.{relation_of, ComparandOf, ComparedFrom, ComparedIs, WordFrom, Both, Either, Closed, OperandFrom, Within}
+use Rattle.avp_unlang.specs.Conditions.{relation_of, ComparandOf, ComparedFrom, ComparedIs, MeantFrom, MeantIs, RelatedBy, WordFrom, Both, Either, Closed, OperandFrom, Within, is_by_meaning}
 use Rattle.avp_unlang.specs.Forms.{Form, Step, Gives, After, Then, While, Others, Chain}
 use Rattle.avp_unlang.specs.Lines.{TargetIs, OpIs, LineIs, after_reference, begins_line}
 use Rattle.avp_unlang.specs.Places.{Place, counted}
-use Rattle.avp_unlang.specs.References.{ReadableIs}
+use Rattle.avp_unlang.specs.References.{ReadableIs, type_of}
 use Rattle.avp_unlang.specs.Sizes.{total, statement_size, branch_size, size, size_of_branch, size_of}
 use Rattle.avp_unlang.specs.Sources.{SourceOf, IgnoredFrom, SourceBy, is_removal}
 use Rattle.avp_unlang.specs.Statements.{BlockIs, branch_of, BranchIs, Otherwise, StatementFrom, Nested, keyword_in, list_at, begins_word}
@@ -118,29 +119,29 @@ total_ones : {A : Type 0} (xs : List A) → total (map (λ _. 1) xs) ≡ length 
 total_ones [] = refl
 total_ones (x ∷ xs) = let more = total_ones xs in omega arith
 
-module _ (dictionary : Dictionary) where
+module _ (profile : Profile) (dictionary : Dictionary) where
   -- ---- lines
 
-  readable_keeps : Keeps (ReadableIs dictionary)
+  readable_keeps : Keeps (ReadableIs profile dictionary)
   readable_keeps p x rest h = follows_keeps (token.Word h.0) p rest h.1
 
-  target_keeps : (own : Name) → Keeps (TargetIs dictionary own)
+  target_keeps : (own : Name) → Keeps (TargetIs profile dictionary own)
   target_keeps own p x rest h = follows_keeps (token.Word h.0) (after_reference p) rest h.1 ∙ after_reference_room p
 
   op_keeps : Keeps OpIs
   op_keeps p x rest h = follows_keeps h.0 p rest h.1
 
-  written_from_keeps : (name : Named) (t : Token) → Keeps (WrittenFrom dictionary name t)
+  written_from_keeps : (name : Target) (t : Token) → Keeps (WrittenFrom profile dictionary name t)
   written_from_keeps name (token.Word text) p x rest h = ap (λ (q : Place). q.room) h.1
   written_from_keeps name (token.Quoted Single text) p x rest h = ap (λ (q : Place). q.room) h.1
   written_from_keeps name (token.Quoted Double text) p x rest h = ap (λ (q : Place). q.room) h.1
   written_from_keeps name (token.Operator sign.Reference) p x rest h = readable_keeps p h.0 rest h.1.0
   written_from_keeps name _ p x rest h = absurd h
 
-  written_keeps : (name : Named) → Keeps (WrittenIs dictionary name)
+  written_keeps : (name : Target) → Keeps (WrittenIs profile dictionary name)
   written_keeps name p x rest h = written_from_keeps name (next_token p).0 (next_token p).1 x rest h ∙ next_room p
 
-  made_keeps : {A : Type 0} (name : Named) (makes : Written → A → Type 0) → Keeps (WrittenAs dictionary name makes)
+  made_keeps : {A : Type 0} (name : Target) (makes : Written → A → Type 0) → Keeps (WrittenAs profile dictionary name makes)
   made_keeps name makes p x rest h = written_keeps name p h.0 rest h.1
 
   ignored_from_keeps : (t : Token) → StepKeeps (IgnoredFrom t)
@@ -149,30 +150,45 @@ module _ (dictionary : Dictionary) where
   ignored_from_keeps (token.Operator sign.Reference) p rest h = follows_keeps (token.Word h.0) p rest h.1
   ignored_from_keeps _ p rest h = absurd h
 
-  source_by_keeps : (b : Bool) (name : Named) → Keeps (SourceBy b dictionary name)
+  source_by_keeps : (b : Bool) (name : Target) → Keeps (SourceBy b profile dictionary name)
   source_by_keeps true name p x rest h = ignored_from_keeps (next_token p).0 (next_token p).1 rest h.0 ∙ next_room p
-  source_by_keeps false name p x rest h = made_keeps name (SourceOf dictionary name) p x rest h.1
+  source_by_keeps false name p x rest h = made_keeps name (SourceOf profile dictionary name) p x rest h.1
 
-  line_takes : (own : Name) → Takes (λ _. 1) (LineIs dictionary own)
+  line_takes : (own : Name) → Takes (λ _. 1) (LineIs profile dictionary own)
   line_takes own p line rest h =
       let start = counts_room 1 p h.0 h.1 in
       let target = target_keeps own h.0 h.2.0 h.2.1 h.2.2 in
       let op = op_keeps h.2.1 h.2.3.0 h.2.3.1 h.2.3.2 in
-      let source = source_by_keeps (is_removal h.2.3.0) h.2.0.named h.2.3.1 h.2.3.3.0 h.2.3.3.1 h.2.3.3.2 in
+      let source = source_by_keeps (is_removal h.2.3.0) h.2.0.target h.2.3.1 h.2.3.3.0 h.2.3.3.1 h.2.3.3.2 in
       let end = ap (λ (q : Place). q.room) h.2.3.3.3.1 in
       omega arith
 
   -- ---- conditions
 
-  compared_from_keeps : (found : Reference) (o : Option Relation) (p after : Place) → after.room ≡ p.room → (c : Cond) (rest : Place) → ComparedFrom dictionary found o p after c rest → rest.room ≡ p.room
+  meant_from_keeps : (name : Target) (t : Token) → Keeps (MeantFrom dictionary name t)
+  meant_from_keeps name (token.Word text) p x rest h = ap (λ (q : Place). q.room) h.1
+  meant_from_keeps name (token.Quoted Single text) p x rest h = ap (λ (q : Place). q.room) h.1
+  meant_from_keeps name (token.Quoted Double text) p x rest h = ap (λ (q : Place). q.room) h.1
+  meant_from_keeps name (token.Operator sign.Reference) p x rest h = follows_keeps (token.Word h.1.0.0) p rest h.1.0.1
+  meant_from_keeps name _ p x rest h = absurd h
+
+  meant_keeps : (name : Target) → Keeps (MeantIs dictionary name)
+  meant_keeps name p x rest h = meant_from_keeps name (next_token p).0 (next_token p).1 x rest h ∙ next_room p
+
+  related_keeps : (b : Bool) (found : Reference) (relation : Relation) → Keeps (RelatedBy b profile dictionary found relation)
+  related_keeps true found relation p c rest h = ap (λ (q : Place). q.room) h.3.1 ∙ meant_keeps found.target p h.0 h.1 h.2
+  related_keeps false found relation p c rest h =
+      ap (λ (q : Place). q.room) h.3.1 ∙ made_keeps found.target (ComparandOf profile dictionary found.target) p h.0 h.1 h.2
+
+  compared_from_keeps : (found : Reference) (o : Option Relation) (p after : Place) → after.room ≡ p.room → (c : Cond) (rest : Place) → ComparedFrom profile dictionary found o p after c rest → rest.room ≡ p.room
   compared_from_keeps found None p after same c rest h = ap (λ (q : Place). q.room) h.1
   compared_from_keeps found (Some relation) p after same c rest h =
-      ap (λ (q : Place). q.room) h.3.1 ∙ made_keeps found.named (ComparandOf dictionary found.named) after h.0 h.1 h.2 ∙ same
+      related_keeps (is_by_meaning profile (type_of dictionary found.target.named.id)) found relation after c rest h ∙ same
 
-  compared_keeps : (found : Reference) → Keeps (ComparedIs dictionary found)
+  compared_keeps : (found : Reference) → Keeps (ComparedIs profile dictionary found)
   compared_keeps found p c rest h = compared_from_keeps found (relation_of (next_token p).0) p (next_token p).1 (next_room p) c rest h
 
-  word_keeps : (o : Option Code) (word : List ℕ) → Keeps (WordFrom dictionary o word)
+  word_keeps : (o : Option Code) (word : List ℕ) → Keeps (WordFrom profile dictionary o word)
   word_keeps (Some code) word p c rest h = ap (λ (q : Place). q.room) h.1
   word_keeps None word p c rest h = compared_keeps h.0 p c rest h.2
 
@@ -188,16 +204,16 @@ module _ (dictionary : Dictionary) where
   closed_keeps form keeps p c rest h =
       ap (λ (q : Place). q.room) h.3.2.1 ∙ follows_keeps (token.Operator sign.Close) h.1 h.3.0 h.3.1 ∙ either_keeps form keeps p h.0 h.1 h.2
 
-  operand_keeps : (inner : Form Place Cond) → Keeps inner → (t : Token) → Keeps (OperandFrom dictionary inner t)
+  operand_keeps : (inner : Form Place Cond) → Keeps inner → (t : Token) → Keeps (OperandFrom profile dictionary inner t)
   operand_keeps inner keeps (token.Operator sign.Not) p c rest h = ap (λ (q : Place). q.room) h.3.1 ∙ keeps p h.0 h.1 h.2
   operand_keeps inner keeps (token.Operator sign.Open) p c rest h = closed_keeps inner keeps p c rest h
   operand_keeps inner keeps (token.Operator sign.Reference) p c rest h = compared_keeps h.0 h.1 c rest h.3 ∙ readable_keeps p h.0 h.1 h.2
   operand_keeps inner keeps (token.Word word) p c rest h = word_keeps (code_named word) word p c rest h
   operand_keeps inner keeps _ p c rest h = absurd h
 
-  within_keeps : (n : ℕ) → Keeps (Within dictionary n)
+  within_keeps : (n : ℕ) → Keeps (Within profile dictionary n)
   within_keeps zero p c rest h = absurd h
-  within_keeps (suc n) p c rest h = operand_keeps (Within dictionary n) (within_keeps n) (next_token p).0 (next_token p).1 c rest h ∙ next_room p
+  within_keeps (suc n) p c rest h = operand_keeps (Within profile dictionary n) (within_keeps n) (next_token p).0 (next_token p).1 c rest h ∙ next_room p
 
 -- ---- the size of each kind of statement
 
@@ -225,12 +241,12 @@ size_branch : (line : ℕ) (cond : Cond) (block : List Statement) → size_of_br
 unfolding size size_of_branch
 size_branch line cond block = fold-roll-Branch ℕ ℕ statement_size branch_size (record { line = line; cond = cond; block = block })
 
-module _ (dictionary : Dictionary) (n : ℕ) (inner : Form Place Statement) (takes : Takes size inner) where
-  branch_takes : Takes size_of_branch (BranchIs dictionary n inner)
+module _ (profile : Profile) (dictionary : Dictionary) (n : ℕ) (inner : Form Place Statement) (takes : Takes size inner) where
+  branch_takes : Takes size_of_branch (BranchIs profile dictionary n inner)
   branch_takes p branch rest h =
       let start = counts_room 1 p h.0 h.1 in
       let open_sign = follows_keeps (token.Operator sign.Open) h.0 h.2.0 h.2.1 in
-      let cond = closed_keeps dictionary (Within dictionary n) (within_keeps dictionary n) h.2.0 h.2.2.0 h.2.2.1 h.2.2.2 in
+      let cond = closed_keeps profile dictionary (Within profile dictionary n) (within_keeps profile dictionary n) h.2.0 h.2.2.0 h.2.2.1 h.2.2.2 in
       let block = block_takes size n begins_word inner takes h.2.2.1 h.2.2.3.0 h.2.2.3.1 h.2.2.3.2 in
       let end = ap (λ (q : Place). q.room) h.2.2.3.3.1 in
       let is = ap size_of_branch h.2.2.3.3.0 ∙ size_branch p.line h.2.2.0 h.2.2.3.0 in
@@ -244,16 +260,16 @@ module _ (dictionary : Dictionary) (n : ℕ) (inner : Form Place Statement) (tak
       let is = size_If_some bs block in
       omega arith
 
-  from_takes : (k : Keyword) → Takes size (StatementFrom dictionary n inner k)
+  from_takes : (k : Keyword) → Takes size (StatementFrom profile dictionary n inner k)
   from_takes keyword.Update p s rest h =
       let list = list_at_room p in
-      let block = block_takes (λ _. 1) n begins_line (LineIs dictionary (list_at p).0) (line_takes dictionary (list_at p).0) (list_at p).1 h.0 h.1 h.2 in
+      let block = block_takes (λ _. 1) n begins_line (LineIs profile dictionary (list_at p).0) (line_takes profile dictionary (list_at p).0) (list_at p).1 h.0 h.1 h.2 in
       let ones = total_ones h.0 in
       let end = ap (λ (q : Place). q.room) h.3.1 in
       let is = ap size h.3.0 ∙ size_Update p.line h.0 in
       omega arith
   from_takes keyword.If p s rest h =
-      let branches = chain_takes size_of_branch (Follows (token.Word (101 ∷ 108 ∷ 115 ∷ 105 ∷ 102 ∷ []))) (BranchIs dictionary n inner) (follows_keeps (token.Word (101 ∷ 108 ∷ 115 ∷ 105 ∷ 102 ∷ []))) branch_takes p h.0 h.1 h.2 in
+      let branches = chain_takes size_of_branch (Follows (token.Word (101 ∷ 108 ∷ 115 ∷ 105 ∷ 102 ∷ []))) (BranchIs profile dictionary n inner) (follows_keeps (token.Word (101 ∷ 108 ∷ 115 ∷ 105 ∷ 102 ∷ []))) branch_takes p h.0 h.1 h.2 in
       let otherwise = ending_takes h.0 h.3.0 h.1 h.3.1 h.3.2 in
       let end = ap (λ (q : Place). q.room) h.3.3.1 in
       let is = ap size h.3.3.0 in
@@ -271,14 +287,14 @@ module _ (dictionary : Dictionary) (n : ℕ) (inner : Form Place Statement) (tak
       omega arith
   from_takes keyword.Other p s rest h = absurd h
 
-module _ (dictionary : Dictionary) where
-  nested_takes : (n : ℕ) → Takes size (Nested dictionary n)
+module _ (profile : Profile) (dictionary : Dictionary) where
+  nested_takes : (n : ℕ) → Takes size (Nested profile dictionary n)
   nested_takes zero p s rest h = absurd h
   nested_takes (suc n) p s rest h =
       let after = next_room p in
-      let statement = from_takes dictionary n (Nested dictionary n) (nested_takes n) (keyword_in (next_token p).0) (next_token p).1 s rest h in
+      let statement = from_takes profile dictionary n (Nested profile dictionary n) (nested_takes n) (keyword_in (next_token p).0) (next_token p).1 s rest h in
       omega arith
 
   -- the room of a policy that was read
-  pub policy_takes : (n : ℕ) (p : Place) (statements : List Statement) (end : Place) → While begins_word (Nested dictionary n) p statements end → end.room + size_of statements ≡ p.room
-  policy_takes n = while_takes size begins_word (Nested dictionary n) (nested_takes n)
+  pub policy_takes : (n : ℕ) (p : Place) (statements : List Statement) (end : Place) → While begins_word (Nested profile dictionary n) p statements end → end.room + size_of statements ≡ p.room
+  policy_takes n = while_takes size begins_word (Nested profile dictionary n) (nested_takes n)

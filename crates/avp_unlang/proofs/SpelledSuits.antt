@@ -2,12 +2,17 @@
 use Rattle.std.proofs.Common.{◌≡◌, ℕ, zero, suc, Bool, true, false, ◌&&◌, List, [], ◌∷◌, map, Option, Some, None, refl, sym, ap, ap₂, subst, ◌∙◌}
 use Rattle.std.proofs.lemmas.Bool.{and_parts}
 use Rattle.std.specs.Option.{option_and_then, option_map}
-use Rattle.std.specs.Prelude.{codes}
+use Rattle.std.specs.Prelude.{IfSome, codes}
 use Rattle.avp_lists.specs.declared.pairs.AttrId.{AttrId}
 use Rattle.avp_lists.specs.declared.lists.List.{List as Name}
-use Rattle.avp_dict.specs.declared.entries.Named.{Named}
 use Rattle.avp_dict.specs.Dictionary.{Dictionary}
-use Rattle.avp_dict.specs.Soundness.{NamesKnown}
+use Rattle.avp_dict.specs.Soundness.{IsSound}
+use Rattle.avp_lists.specs.declared.tags.Selection.{Selection}
+use Rattle.avp_forms.specs.Targets.{target_of}
+use Rattle.avp_forms.specs.Profiles.{profile_of}
+use Rattle.avp_forms.specs.declared.profiles.Profile.TheVariants.{Plain, Wider}
+use Rattle.avp_forms.specs.declared.targets.Target.{Target}
+use Rattle.avp_forms.specs.declared.profiles.Profile.{Profile}
 use Rattle.avp_unlang.specs.declared.codes.Code.{Code}
 use Rattle.avp_unlang.specs.declared.text.statements.Keyword.{Keyword}
 use Rattle.avp_unlang.specs.declared.text.statements.Keyword.TheVariants as keyword
@@ -24,19 +29,20 @@ use Rattle.avp_unlang.specs.declared.tree.Comparison.{Comparison}
 use Rattle.avp_unlang.specs.declared.tree.Cond.{Cond}
 use Rattle.avp_unlang.specs.declared.tree.Cond.TheFolds.{fold-roll-Cond}
 use Rattle.avp_unlang.specs.declared.tree.Cond.TheOpen as open_cond
-use Rattle.avp_unlang.specs.declared.tree.Cond.TheVariants.{Any, All, Not, Last, Present, Compare, rolls-Any, rolls-All, rolls-Not, rolls-Last, rolls-Present, rolls-Compare}
+use Rattle.avp_unlang.specs.declared.tree.Cond.TheVariants.{Any, All, Not, Last, Present, PresentSelected, Compare, CompareMeant, rolls-Any, rolls-All, rolls-Not, rolls-Last, rolls-Present, rolls-PresentSelected, rolls-Compare, rolls-CompareMeant}
 use Rattle.avp_unlang.specs.declared.tree.Line.{Line}
+use Rattle.avp_unlang.specs.declared.tree.MeantComparison.{MeantComparison}
+use Rattle.avp_unlang.specs.declared.tree.Part.{Part}
 use Rattle.avp_unlang.specs.declared.tree.Relation.{Relation}
 use Rattle.avp_unlang.specs.declared.tree.Statement.{Statement}
 use Rattle.avp_unlang.specs.declared.tree.Statement.TheFolds.{fold-roll-Statement, fold-roll-Branch, fold_out-Branch}
 use Rattle.avp_unlang.specs.declared.tree.Statement.TheOpen as layer
 use Rattle.avp_unlang.specs.declared.tree.Statement.TheVariants.{Update, If, Transaction, Word, rolls-Update, rolls-If, rolls-Transaction, rolls-Word}
-use Rattle.avp_unlang.specs.Conditions.{relation_of, plain_octets, ComparandIs, ComparandOf, comparison_of, ComparedFrom, ComparedIs, WordFrom, any_of, all_of, Both, Either, Closed, OperandFrom, Within}
+use Rattle.avp_unlang.specs.Conditions.{relation_of, plain_octets, ComparandIs, ComparandOf, comparison_of, ComparedFrom, ComparedIs, RelatedBy, WordFrom, is_by_meaning, meant_comparison, present_of, any_of, all_of, Both, Either, Closed, OperandFrom, Within}
 use Rattle.avp_unlang.specs.References.{reference_in, reference_to, target_in, type_of}
 use Rattle.avp_unlang.specs.Resolutions.{line_suits, literal_fits}
 use Rattle.avp_unlang.specs.Suiting.{branch_layer_suits, branches_suit, else_suits, branch_suits, comparand_suits, comparison_suits, cond_layer_suits, cond_suits, itself, policy_suits, same_kind, statement_layer_suits, statement_suits}
 use Rattle.avp_dict.specs.Limits.{is_known}
-use Rattle.avp_dict.specs.Names.{named}
 use Rattle.avp_dict.specs.declared.entries.Kind.{Kind}
 use Rattle.avp_dict.specs.declared.entries.Kind.TheVariants as kinds
 use Rattle.std.specs.List.{list_all}
@@ -44,13 +50,15 @@ use Rattle.avp_unlang.specs.Forms.{Form, Step, While, Chain}
 use Rattle.avp_unlang.specs.Lines.{LineIs, begins_line, line_of}
 use Rattle.avp_unlang.specs.Places.{Place, start_of}
 use Rattle.avp_unlang.specs.Policies.{SpellsPolicy}
-use Rattle.avp_unlang.specs.Sources.{SourceBy, is_removal}
+use Rattle.avp_unlang.specs.Selecting.{line_selection, selection_of}
+use Rattle.avp_unlang.specs.Sources.{SourceBy, instance_source, is_removal, text_source}
 use Rattle.avp_unlang.specs.Statements.{BlockIs, branch_of, BranchIs, Otherwise, StatementFrom, Nested, keyword_in, list_at, begins_word}
 use Rattle.avp_unlang.specs.Between.{Follows}
 use Rattle.avp_unlang.specs.Tokens.{next_token}
 use Rattle.avp_unlang.specs.Values.{literal}
 use Rattle.avp_unlang.specs.Words.{code_named}
 use Rattle.avp_unlang.proofs.Determined.{some_is}
+use Rattle.avp_forms.proofs.WrittenValues.{known_target}
 use Rattle.avp_unlang.proofs.SpelledParts.{Holds, IsWritten, block_holds, chain_holds, literal_is, mapped, value_holds, while_holds, written_holds}
 
 -- ---- lists
@@ -117,33 +125,45 @@ same_kind_self kinds.Signed = refl
 same_kind_self kinds.Integer64 = refl
 same_kind_self kinds.Ether = refl
 
-module _ (dictionary : Dictionary) (known : NamesKnown dictionary) where
+module _ (profile : Profile) (dictionary : Dictionary) (sound : IsSound dictionary) where
   -- ---- update lines
 
-  source_by_fits : (b : Bool) (name : Named) → Suits (literal_fits dictionary name.id) (SourceBy b dictionary name)
-  source_by_fits true name p s rest h = ap (literal_fits dictionary name.id) h.1
+  text_source_fits : (q : Profile) (name : Target) (parts : List Part) → literal_fits dictionary name.named.id (text_source q name parts) ≡ true
+  text_source_fits Plain name parts = refl
+  text_source_fits Wider name parts = refl
+
+  instance_source_fits : (q : Profile) (name : Target) (found : Reference) → literal_fits dictionary name.named.id (instance_source q dictionary name found) ≡ true
+  instance_source_fits Plain name found = refl
+  instance_source_fits Wider name found = refl
+
+  source_by_fits : (b : Bool) (name : Target) → Suits (literal_fits dictionary name.named.id) (SourceBy b profile dictionary name)
+  source_by_fits true name p s rest h = ap (literal_fits dictionary name.named.id) h.1
   source_by_fits false name p s rest h =
-      value_holds dictionary name (λ x. literal_fits dictionary name.id x ≡ true) (λ text v e. (literal_is dictionary name text v e).1) (λ parts. refl) (λ list id. refl)
+      value_holds profile dictionary name (λ x. literal_fits dictionary name.named.id x ≡ true) (λ text v e. (literal_is profile dictionary name text v e).1) (text_source_fits profile name) (instance_source_fits profile name)
       p s rest h.1
 
-  target_known : (o : Option Named) (in_list : Name) (target : Reference) → ((n : Named) → o ≡ Some n → is_known n.id dictionary ≡ true) → option_map (reference_to in_list) o ≡ Some target → is_known target.named.id dictionary ≡ true
-  target_known None in_list target h e = absurd cc
-  target_known (Some n) in_list target h e = ap (λ (t : Reference). is_known t.named.id dictionary) (sym (some_is (reference_to in_list n) target e)) ∙ h n refl
+  target_known : (o : Option Target) (t : Target) → IfSome o (λ t. is_known t.named.id dictionary ≡ true) → o ≡ Some t → is_known t.named.id dictionary ≡ true
+  target_known o t h e = subst (λ k. IfSome k (λ t. is_known t.named.id dictionary ≡ true)) e h
 
-  reference_known : (own : Name) (word : List ℕ) (target : Reference) → reference_in dictionary own word ≡ Some target → is_known target.named.id dictionary ≡ true
+  reference_by : (o : Option Target) (list : Name) (found : Reference) → option_map (reference_to list) o ≡ Some found → o ≡ Some found.target
+  reference_by None list found e = absurd cc
+  reference_by (Some t) list found e = ap (λ (r : Reference). Some r.target) (some_is (reference_to list t) found e)
+
+  reference_known : (own : Name) (word : List ℕ) (found : Reference) → reference_in profile dictionary own word ≡ Some found → is_known found.target.named.id dictionary ≡ true
   unfolding reference_in
-  reference_known own word target e =
-      target_known (named (target_in own word).1 dictionary) (target_in own word).0 target (λ n. known (target_in own word).1 n) e
+  reference_known own word found e =
+      let name = (target_in own word).1 in
+      target_known (target_of profile dictionary name) found.target (known_target dictionary sound profile name) (reference_by (target_of profile dictionary name) (target_in own word).0 found e)
 
   line_parts : (line : Line) → is_known line.id dictionary ≡ true → literal_fits dictionary line.id line.source ≡ true → line_suits dictionary line ≡ true
   unfolding line_suits
   line_parts line k f = both_true (is_known line.id dictionary) (literal_fits dictionary line.id line.source) k f
 
-  lines_suit : (own : Name) → Suits (line_suits dictionary) (LineIs dictionary own)
+  lines_suit : (own : Name) → Suits (line_suits dictionary) (LineIs profile dictionary own)
   lines_suit own p line rest h =
       ap (line_suits dictionary) h.2.3.3.3.0
-      ∙ line_parts (line_of (next_token p).1.line h.2.0 h.2.3.0 h.2.3.3.0) (reference_known own h.2.2.0 h.2.0 h.2.2.2)
-      (source_by_fits (is_removal h.2.3.0) h.2.0.named h.2.3.1 h.2.3.3.0 h.2.3.3.1 h.2.3.3.2)
+      ∙ line_parts (line_of (next_token p).1.line h.2.0 h.2.3.0 (line_selection profile dictionary h.2.3.0 h.2.0.target) h.2.3.3.0) (reference_known own h.2.2.0 h.2.0 h.2.2.2)
+      (source_by_fits (is_removal h.2.3.0) h.2.0.target h.2.3.1 h.2.3.3.0 h.2.3.3.1 h.2.3.3.2)
 
   -- ---- conditions
 
@@ -167,6 +187,15 @@ module _ (dictionary : Dictionary) (known : NamesKnown dictionary) where
   unfolding cond_suits
   fits_Present list id = ap (cond_suits dictionary) (sym (rolls-Present list id)) ∙ fold-roll-Cond Bool (cond_layer_suits dictionary) (open_cond.Present list id)
 
+  fits_PresentSelected : (list : Name) (id : AttrId) (selection : Selection) → cond_suits dictionary (PresentSelected list id selection) ≡ true
+  unfolding cond_suits
+  fits_PresentSelected list id selection =
+      ap (cond_suits dictionary) (sym (rolls-PresentSelected list id selection)) ∙ fold-roll-Cond Bool (cond_layer_suits dictionary) (open_cond.PresentSelected list id selection)
+
+  fits_CompareMeant : (x : MeantComparison) → cond_suits dictionary (CompareMeant x) ≡ true
+  unfolding cond_suits
+  fits_CompareMeant x = ap (cond_suits dictionary) (sym (rolls-CompareMeant x)) ∙ fold-roll-Cond Bool (cond_layer_suits dictionary) (open_cond.CompareMeant x)
+
   fits_Compare : (x : Comparison) → cond_suits dictionary (Compare x) ≡ comparison_suits dictionary x
   unfolding cond_suits
   fits_Compare x = ap (cond_suits dictionary) (sym (rolls-Compare x)) ∙ fold-roll-Cond Bool (cond_layer_suits dictionary) (open_cond.Compare x)
@@ -185,35 +214,44 @@ module _ (dictionary : Dictionary) (known : NamesKnown dictionary) where
     abbrev against : Comparand → Bool
     against x = comparand_suits dictionary (comparison_of dictionary found relation y) x
 
-    literal_suits : (text : List ℕ) (x : Comparand) → option_map comparand.Literal (literal dictionary found.named text) ≡ Some x → against x ≡ true
+    literal_suits : (text : List ℕ) (x : Comparand) → option_map comparand.Literal (literal profile dictionary found.target text) ≡ Some x → against x ≡ true
     literal_suits text x e =
-        let m = mapped comparand.Literal (literal dictionary found.named text) x e in
-        subst (λ (z : Comparand). against z ≡ true) m.2 (literal_is dictionary found.named text m.0 m.1).1
+        let m = mapped comparand.Literal (literal profile dictionary found.target text) x e in
+        subst (λ (z : Comparand). against z ≡ true) m.2 (literal_is profile dictionary found.target text m.0 m.1).1
 
-    plain_suits : (o : Option (List ℕ)) (x : Comparand) → option_map comparand.Literal (option_and_then (literal dictionary found.named) o) ≡ Some x → against x ≡ true
+    plain_suits : (o : Option (List ℕ)) (x : Comparand) → option_map comparand.Literal (option_and_then (literal profile dictionary found.target) o) ≡ Some x → against x ≡ true
     plain_suits None x e = absurd cc
     plain_suits (Some text) x e = literal_suits text x e
 
-    comparand_of_suits : (w : Written) → IsWritten dictionary found.named w → (x : Comparand) → ComparandOf dictionary found.named w x → against x ≡ true
-    comparand_of_suits (written.Literal value) is x h = subst (λ (z : Comparand). against z ≡ true) (sym h) (literal_is dictionary found.named is.0 value is.1).1
+    comparand_of_suits : (w : Written) → IsWritten profile dictionary found.target w → (x : Comparand) → ComparandOf profile dictionary found.target w x → against x ≡ true
+    comparand_of_suits (written.Literal value) is x h = subst (λ (z : Comparand). against z ≡ true) (sym h) (literal_is profile dictionary found.target is.0 value is.1).1
     comparand_of_suits (written.Double text) is x h = plain_suits (plain_octets text) x h
-    comparand_of_suits (written.Instance list id) is x h =
-        ap (λ (z : Comparand). against z) h ∙ ap (same_kind (type_of dictionary found.named.id)) (sym is) ∙ same_kind_self (type_of dictionary found.named.id)
+    comparand_of_suits (written.Instance other) is x h =
+        ap (λ (z : Comparand). against z) h ∙ ap (same_kind (type_of dictionary found.target.named.id)) (sym is) ∙ same_kind_self (type_of dictionary found.target.named.id)
 
-    comparand_fits : Suits (λ x. against x) (ComparandIs dictionary found.named)
-    comparand_fits p x rest h = comparand_of_suits h.0 (written_holds dictionary found.named p h.0 rest h.1) x h.2
+    comparand_fits : Suits (λ x. against x) (ComparandIs profile dictionary found.target)
+    comparand_fits p x rest h = comparand_of_suits h.0 (written_holds profile dictionary found.target p h.0 rest h.1) x h.2
 
-  compared_from_fits : (found : Reference) (o : Option Relation) (p : Place) → Suits (cond_suits dictionary) (ComparedFrom dictionary found o p)
-  compared_from_fits found None p after c rest h = ap (cond_suits dictionary) h.0 ∙ fits_Present found.list found.named.id
-  compared_from_fits found (Some relation) p after c rest h =
+  related_fits : (b : Bool) (found : Reference) (relation : Relation) → Suits (cond_suits dictionary) (RelatedBy b profile dictionary found relation)
+  related_fits true found relation p c rest h = ap (cond_suits dictionary) h.3.0 ∙ fits_CompareMeant (meant_comparison dictionary found relation h.0)
+  related_fits false found relation p c rest h =
       ap (cond_suits dictionary) h.3.0 ∙ fits_Compare (comparison_of dictionary found relation h.0)
-      ∙ both_true (same_kind (type_of dictionary found.named.id) (type_of dictionary found.named.id)) (comparand_suits dictionary (comparison_of dictionary found relation h.0) h.0) (same_kind_self (type_of dictionary found.named.id))
-      (comparand_fits found relation h.0 after h.0 h.1 h.2)
+      ∙ both_true (same_kind (type_of dictionary found.target.named.id) (type_of dictionary found.target.named.id)) (comparand_suits dictionary (comparison_of dictionary found relation h.0) h.0) (same_kind_self (type_of dictionary found.target.named.id))
+      (comparand_fits found relation h.0 p h.0 h.1 h.2)
 
-  compared_fits : (found : Reference) → Suits (cond_suits dictionary) (ComparedIs dictionary found)
+  present_fits : (found : Reference) (tag : Option ℕ) → cond_suits dictionary (present_of dictionary found tag) ≡ true
+  present_fits found None = fits_Present found.list found.target.named.id
+  present_fits found (Some tag) = fits_PresentSelected found.list found.target.named.id (selection_of dictionary found.target)
+
+  compared_from_fits : (found : Reference) (o : Option Relation) (p : Place) → Suits (cond_suits dictionary) (ComparedFrom profile dictionary found o p)
+  compared_from_fits found None p after c rest h = ap (cond_suits dictionary) h.0 ∙ present_fits found found.target.tag
+  compared_from_fits found (Some relation) p after c rest h =
+      related_fits (is_by_meaning profile (type_of dictionary found.target.named.id)) found relation after c rest h
+
+  compared_fits : (found : Reference) → Suits (cond_suits dictionary) (ComparedIs profile dictionary found)
   compared_fits found p c rest h = compared_from_fits found (relation_of (next_token p).0) p (next_token p).1 c rest h
 
-  word_fits : (o : Option Code) (word : List ℕ) → Suits (cond_suits dictionary) (WordFrom dictionary o word)
+  word_fits : (o : Option Code) (word : List ℕ) → Suits (cond_suits dictionary) (WordFrom profile dictionary o word)
   word_fits (Some code) word p c rest h = ap (cond_suits dictionary) h.0 ∙ fits_Last code
   word_fits None word p c rest h = compared_fits h.0 p c rest h.2
 
@@ -228,24 +266,24 @@ module _ (dictionary : Dictionary) (known : NamesKnown dictionary) where
   closed_fits : (form : Form Place Cond) → Suits (cond_suits dictionary) form → Suits (cond_suits dictionary) (Closed form)
   closed_fits form each p c rest h = ap (cond_suits dictionary) h.3.2.0 ∙ either_fits form each p h.0 h.1 h.2
 
-  operand_fits : (inner : Form Place Cond) → Suits (cond_suits dictionary) inner → (t : Token) → Suits (cond_suits dictionary) (OperandFrom dictionary inner t)
+  operand_fits : (inner : Form Place Cond) → Suits (cond_suits dictionary) inner → (t : Token) → Suits (cond_suits dictionary) (OperandFrom profile dictionary inner t)
   operand_fits inner each (token.Operator sign.Not) p c rest h = ap (cond_suits dictionary) h.3.0 ∙ fits_Not h.0 ∙ each p h.0 h.1 h.2
   operand_fits inner each (token.Operator sign.Open) p c rest h = closed_fits inner each p c rest h
   operand_fits inner each (token.Operator sign.Reference) p c rest h = compared_fits h.0 h.1 c rest h.3
   operand_fits inner each (token.Word word) p c rest h = word_fits (code_named word) word p c rest h
   operand_fits inner each _ p c rest h = absurd h
 
-  within_fits : (n : ℕ) → Suits (cond_suits dictionary) (Within dictionary n)
+  within_fits : (n : ℕ) → Suits (cond_suits dictionary) (Within profile dictionary n)
   within_fits zero p c rest h = absurd h
-  within_fits (suc n) p c rest h = operand_fits (Within dictionary n) (within_fits n) (next_token p).0 (next_token p).1 c rest h
+  within_fits (suc n) p c rest h = operand_fits (Within profile dictionary n) (within_fits n) (next_token p).0 (next_token p).1 c rest h
 
   -- ---- statements
 
   module _ (n : ℕ) (inner : Form Place Statement) (each : Suits (statement_suits dictionary) inner) where
-    branches_fit : Suits (branch_suits dictionary) (BranchIs dictionary n inner)
+    branches_fit : Suits (branch_suits dictionary) (BranchIs profile dictionary n inner)
     branches_fit p branch rest h =
         ap (branch_suits dictionary) h.2.2.3.3.0 ∙ suits_branch dictionary p.line h.2.2.0 h.2.2.3.0
-        ∙ both_true (cond_suits dictionary h.2.2.0) (policy_suits dictionary h.2.2.3.0) (closed_fits (Within dictionary n) (within_fits n) h.2.0 h.2.2.0 h.2.2.1 h.2.2.2)
+        ∙ both_true (cond_suits dictionary h.2.2.0) (policy_suits dictionary h.2.2.3.0) (closed_fits (Within profile dictionary n) (within_fits n) h.2.0 h.2.2.0 h.2.2.1 h.2.2.2)
         (block_fits (statement_suits dictionary) n begins_word inner each h.2.2.1 h.2.2.3.0 h.2.2.3.1 h.2.2.3.2)
 
     ending_fits : (bs : List Branch) → list_all (branch_suits dictionary) bs ≡ true → (o : Option (List Statement)) (p rest : Place) → Otherwise n inner p o rest → statement_suits dictionary (If bs o) ≡ true
@@ -253,21 +291,22 @@ module _ (dictionary : Dictionary) (known : NamesKnown dictionary) where
     ending_fits bs fit (Some block) p rest h =
         suits_If dictionary bs (Some block) ∙ both_true (list_all (branch_suits dictionary) bs) (policy_suits dictionary block) fit (block_fits (statement_suits dictionary) n begins_word inner each h.0 block rest h.2)
 
-    from_fits : (k : Keyword) → Suits (statement_suits dictionary) (StatementFrom dictionary n inner k)
+    from_fits : (k : Keyword) → Suits (statement_suits dictionary) (StatementFrom profile dictionary n inner k)
     from_fits keyword.Update p s rest h =
         ap (statement_suits dictionary) h.3.0 ∙ suits_Update dictionary p.line h.0
-        ∙ block_fits (line_suits dictionary) n begins_line (LineIs dictionary (list_at p).0) (lines_suit (list_at p).0) (list_at p).1 h.0 h.1 h.2
+        ∙ block_fits (line_suits dictionary) n begins_line (LineIs profile dictionary (list_at p).0) (lines_suit (list_at p).0) (list_at p).1 h.0 h.1 h.2
     from_fits keyword.If p s rest h =
         ap (statement_suits dictionary) h.3.3.0
-        ∙ ending_fits h.0 (chain_fits (branch_suits dictionary) (Follows (token.Word (codes "elsif"))) (BranchIs dictionary n inner) branches_fit p h.0 h.1 h.2) h.3.0 h.1 h.3.1 h.3.2
+        ∙ ending_fits h.0 (chain_fits (branch_suits dictionary) (Follows (token.Word (codes "elsif"))) (BranchIs profile dictionary n inner) branches_fit p h.0 h.1 h.2) h.3.0 h.1 h.3.1 h.3.2
     from_fits keyword.Transaction p s rest h =
         ap (statement_suits dictionary) h.2.3.0 ∙ suits_Transaction dictionary p.line h.2.0 ∙ block_fits (statement_suits dictionary) n begins_word inner each h.0 h.2.0 h.2.1 h.2.2
     from_fits (keyword.Code code) p s rest h = ap (statement_suits dictionary) h.2.0 ∙ suits_Word dictionary p.line code
     from_fits keyword.Other p s rest h = absurd h
 
-  nested_fits : (n : ℕ) → Suits (statement_suits dictionary) (Nested dictionary n)
+  nested_fits : (n : ℕ) → Suits (statement_suits dictionary) (Nested profile dictionary n)
   nested_fits zero p s rest h = absurd h
-  nested_fits (suc n) p s rest h = from_fits n (Nested dictionary n) (nested_fits n) (keyword_in (next_token p).0) (next_token p).1 s rest h
+  nested_fits (suc n) p s rest h = from_fits n (Nested profile dictionary n) (nested_fits n) (keyword_in (next_token p).0) (next_token p).1 s rest h
 
-  pub spelled_policy_suits : (text : List ℕ) (statements : List Statement) → SpellsPolicy dictionary text statements → policy_suits dictionary statements ≡ true
-  spelled_policy_suits text statements h = while_fits (statement_suits dictionary) begins_word (Nested dictionary 65) (nested_fits 65) (start_of text) statements h.0 h.2
+pub spelled_policy_suits : (dictionary : Dictionary) → IsSound dictionary → (text : List ℕ) (statements : List Statement) → SpellsPolicy dictionary text statements → policy_suits dictionary statements ≡ true
+spelled_policy_suits dictionary sound text statements h =
+    while_fits (statement_suits dictionary) begins_word (Nested (profile_of text) dictionary 65) (nested_fits (profile_of text) dictionary sound 65) (start_of text) statements h.0 h.2

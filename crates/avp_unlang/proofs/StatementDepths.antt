@@ -2,8 +2,10 @@
 use Rattle.std.proofs.Common.{◌≡◌, ℕ, zero, suc, ◌+◌, ◌*◌, ◌≤◌, ◌<◌, max, List, [], ◌∷◌, Option, Some, None, map, ap, sym, ◌∙◌, arith}
 use Rattle.std.specs.Prelude.{Bool, codes}
 use Rattle.avp_dict.specs.Dictionary.{Dictionary}
+use Rattle.avp_forms.specs.declared.profiles.Profile.{Profile}
 use Rattle.avp_unlang.specs.Forms.{Form, Step, While, Chain}
 use Rattle.avp_unlang.specs.Places.{Place, start_of}
+use Rattle.avp_forms.specs.Profiles.{profile_of}
 use Rattle.avp_unlang.specs.Policies.{SpellsPolicy}
 use Rattle.avp_unlang.specs.Statements.{BlockIs, branch_of, BranchIs, Otherwise, StatementFrom, Nested, keyword_in, begins_word}
 use Rattle.avp_unlang.specs.Between.{Follows}
@@ -60,16 +62,16 @@ depth_of_spelled line c block = fold-roll-Branch ℕ ℕ statement_depth branch_
 
 -- ---- statements
 
-module _ (dictionary : Dictionary) where
+module _ (profile : Profile) (dictionary : Dictionary) where
   module _ (n k : ℕ) (inner : Form Place Statement) (each : AtMost depth k inner) where
-    branch_at_most : AtMost depth_of_branch k (BranchIs dictionary n inner)
+    branch_at_most : AtMost depth_of_branch k (BranchIs profile dictionary n inner)
     branch_at_most p branch rest h =
         omega (arith, ap depth_of_branch h.2.2.3.3.0, depth_of_spelled p.line h.2.2.0 h.2.2.3.0, block_at_most depth k n begins_word inner each h.2.2.1 h.2.2.3.0 h.2.2.3.1 h.2.2.3.2)
 
-    branch_nested : (p : Place) (branch : Branch) (rest : Place) → BranchIs dictionary n inner p branch rest → 0 < n
+    branch_nested : (p : Place) (branch : Branch) (rest : Place) → BranchIs profile dictionary n inner p branch rest → 0 < n
     branch_nested p branch rest h = h.2.2.3.2.0
 
-    chain_nested : (p : Place) (bs : List Branch) (rest : Place) → Chain (Follows (token.Word (codes "elsif"))) (BranchIs dictionary n inner) p bs rest → 0 < n
+    chain_nested : (p : Place) (bs : List Branch) (rest : Place) → Chain (Follows (token.Word (codes "elsif"))) (BranchIs profile dictionary n inner) p bs rest → 0 < n
     chain_nested p [] rest h = absurd h
     chain_nested p (b ∷ bs) rest h = branch_nested p b h.0 h.1
 
@@ -77,13 +79,13 @@ module _ (dictionary : Dictionary) where
     else_at_most None p rest h = omega arith
     else_at_most (Some block) p rest h = block_at_most depth k n begins_word inner each h.0 block rest h.2
 
-    from_at_most : (w : Keyword) → (0 < n → k + 2 ≤ 2 * n) → AtMost depth (2 * n) (StatementFrom dictionary n inner w)
+    from_at_most : (w : Keyword) → (0 < n → k + 2 ≤ 2 * n) → AtMost depth (2 * n) (StatementFrom profile dictionary n inner w)
     from_at_most keyword.Update deep p s rest h =
         let some : 0 < n = h.2.0 in
         omega (arith, ap depth h.3.0, depth_Update p.line h.0, deep some)
     from_at_most keyword.If deep p s rest h =
         let some = chain_nested p h.0 h.1 h.2 in
-        omega (arith, ap depth h.3.3.0, depth_If h.0 h.3.0, chain_at_most depth_of_branch k (Follows (token.Word (codes "elsif"))) (BranchIs dictionary n inner) branch_at_most p h.0 h.1 h.2, else_at_most h.3.0 h.1 h.3.1 h.3.2, deep some)
+        omega (arith, ap depth h.3.3.0, depth_If h.0 h.3.0, chain_at_most depth_of_branch k (Follows (token.Word (codes "elsif"))) (BranchIs profile dictionary n inner) branch_at_most p h.0 h.1 h.2, else_at_most h.3.0 h.1 h.3.1 h.3.2, deep some)
     from_at_most keyword.Transaction deep p s rest h =
         let some : 0 < n = h.2.2.0 in
         omega (arith, ap depth h.2.3.0, depth_Transaction p.line h.2.0, block_at_most depth k n begins_word inner each h.0 h.2.0 h.2.1 h.2.2, deep some)
@@ -91,11 +93,12 @@ module _ (dictionary : Dictionary) where
     from_at_most keyword.Other deep p s rest h = absurd h
 
   -- inside a statement of n signs or fewer each adds two frames at most
-  nested_at_most : (n : ℕ) → AtMost depth (2 * n) (Nested dictionary (suc n))
+  nested_at_most : (n : ℕ) → AtMost depth (2 * n) (Nested profile dictionary (suc n))
   nested_at_most zero p s rest h =
-      from_at_most zero 0 (Nested dictionary zero) (λ q x r k. absurd k) (keyword_in (next_token p).0) (λ some. absurd (omega arith)) (next_token p).1 s rest h
+      from_at_most zero 0 (Nested profile dictionary zero) (λ q x r k. absurd k) (keyword_in (next_token p).0) (λ some. absurd (omega arith)) (next_token p).1 s rest h
   nested_at_most (suc n) p s rest h =
-      from_at_most (suc n) (2 * n) (Nested dictionary (suc n)) (nested_at_most n) (keyword_in (next_token p).0) (λ _. omega arith) (next_token p).1 s rest h
+      from_at_most (suc n) (2 * n) (Nested profile dictionary (suc n)) (nested_at_most n) (keyword_in (next_token p).0) (λ _. omega arith) (next_token p).1 s rest h
 
-  pub spelled_depth : (text : List ℕ) (statements : List Statement) → SpellsPolicy dictionary text statements → depth_of statements ≤ 128
-  spelled_depth text statements h = while_at_most depth 128 begins_word (Nested dictionary 65) (nested_at_most 64) (start_of text) statements h.0 h.2
+pub spelled_depth : (dictionary : Dictionary) (text : List ℕ) (statements : List Statement) → SpellsPolicy dictionary text statements → depth_of statements ≤ 128
+spelled_depth dictionary text statements h =
+    while_at_most depth 128 begins_word (Nested (profile_of text) dictionary 65) (nested_at_most (profile_of text) dictionary 64) (start_of text) statements h.0 h.2

@@ -2,6 +2,7 @@
 use Rattle.std.proofs.Common.{◌≡◌, ◌≢◌, ℕ, ◌<◌, zero, suc, Bool, List, Option, Some, None, Result, refl, sym, ap, subst, ◌∙◌}
 use Rattle.std.specs.Prelude.{codes}
 use Rattle.avp_dict.specs.Dictionary.{Dictionary}
+use Rattle.avp_forms.specs.declared.profiles.Profile.{Profile}
 use Rattle.avp_unlang.specs.declared.faults.PolicyFault.{PolicyFault}
 use Rattle.avp_unlang.specs.declared.faults.PolicyKind.TheVariants.{Memory}
 use Rattle.avp_unlang.specs.declared.text.statements.Keyword.{Keyword}
@@ -18,6 +19,7 @@ use Rattle.avp_unlang.specs.Conditions.{Closed, Within}
 use Rattle.avp_unlang.specs.Forms.{Form, After, Chain, Gives, Then, While, Refuses, Reads}
 use Rattle.avp_unlang.specs.Lines.{LineIs, begins_line}
 use Rattle.avp_unlang.specs.Places.{Place, start_of}
+use Rattle.avp_forms.specs.Profiles.{profile_of}
 use Rattle.avp_unlang.specs.Policies.{SpellsPolicy}
 use Rattle.avp_unlang.specs.Statements.{keyword_in, begins_word, list_at, BlockIs, branch_of, BranchIs, Otherwise, StatementFrom, StatementIs, Nested}
 use Rattle.avp_unlang.specs.Between.{Counts, Follows}
@@ -85,14 +87,14 @@ pub block_reads : {A : Type 0} (n : ℕ) (begins : Place → Bool) (inner : Form
     → 0 < n → Follows start_sign p start → While begins inner start xs end → Follows end_sign end rest → BlockIs n begins inner p xs rest
 block_reads n begins inner p start xs end rest some opened read ended = (some, (start, opened, (xs, end, read, (rest, ended, (refl, refl)))))
 
-module _ (dictionary : Dictionary) (n : ℕ) (inner : Form Place Statement) (one : IsOne inner) where
+module _ (profile : Profile) (dictionary : Dictionary) (n : ℕ) (inner : Form Place Statement) (one : IsOne inner) where
   -- ---- branches
 
   abbrev pub Blocked : ℕ → Cond → Form Place Branch
   Blocked line cond = Then (BlockIs n begins_word inner) (λ block. Gives (branch_of line cond block))
 
   abbrev pub Asked : ℕ → Form Place Branch
-  Asked line = Then (Closed (Within dictionary n)) (Blocked line)
+  Asked line = Then (Closed (Within profile dictionary n)) (Blocked line)
 
   abbrev pub Opened : ℕ → Form Place Branch
   Opened line = After (Follows open_sign) (Asked line)
@@ -100,20 +102,20 @@ module _ (dictionary : Dictionary) (n : ℕ) (inner : Form Place Statement) (one
   blocked_one : (line : ℕ) (cond : Cond) → IsOne (Blocked line cond)
   blocked_one line cond = then_one (BlockIs n begins_word inner) (λ block. Gives (branch_of line cond block)) (block_one n begins_word inner one) (λ block. gives_one (branch_of line cond block))
 
-  pub condition_one : IsOne (Closed (Within dictionary n))
-  condition_one = closed_one (Within dictionary n) (within_one dictionary n)
+  pub condition_one : IsOne (Closed (Within profile dictionary n))
+  condition_one = closed_one (Within profile dictionary n) (within_one profile dictionary n)
 
   asked_one : (line : ℕ) → IsOne (Asked line)
-  asked_one line = then_one (Closed (Within dictionary n)) (Blocked line) condition_one (blocked_one line)
+  asked_one line = then_one (Closed (Within profile dictionary n)) (Blocked line) condition_one (blocked_one line)
 
   opened_one : (line : ℕ) → IsOne (Opened line)
   opened_one line = after_one (Follows open_sign) (Asked line) (follows_sure open_sign) (asked_one line)
 
-  pub branch_one : IsOne (BranchIs dictionary n inner)
+  pub branch_one : IsOne (BranchIs profile dictionary n inner)
   branch_one p = after_one (Counts 1) (Opened p.line) (counts_sure 1) (opened_one p.line) p
 
-  pub chained_one : IsOne (Chain (Follows elsif_word) (BranchIs dictionary n inner))
-  chained_one = chain_one (Follows elsif_word) (BranchIs dictionary n inner) (follows_sure elsif_word) branch_one
+  pub chained_one : IsOne (Chain (Follows elsif_word) (BranchIs profile dictionary n inner))
+  chained_one = chain_one (Follows elsif_word) (BranchIs profile dictionary n inner) (follows_sure elsif_word) branch_one
 
   -- ---- statements
 
@@ -147,45 +149,58 @@ module _ (dictionary : Dictionary) (n : ℕ) (inner : Form Place Statement) (one
   enclosed_one : (line : ℕ) → IsOne (Enclosed line)
   enclosed_one line = then_one (BlockIs n begins_word inner) (λ block. Gives (Transaction line block)) (block_one n begins_word inner one) (λ block. gives_one (Transaction line block))
 
-  from_one : (k : Keyword) → IsOne (StatementFrom dictionary n inner k)
+  from_one : (k : Keyword) → IsOne (StatementFrom profile dictionary n inner k)
   from_one keyword.Update p x y r s h g =
-      then_one (BlockIs n begins_line (LineIs dictionary (list_at p).0)) (Updating p.line) (block_one n begins_line (LineIs dictionary (list_at p).0) (line_one dictionary (list_at p).0))
+      then_one (BlockIs n begins_line (LineIs profile dictionary (list_at p).0)) (Updating p.line) (block_one n begins_line (LineIs profile dictionary (list_at p).0) (line_one profile dictionary (list_at p).0))
       (λ ls. gives_one (Update p.line ls)) (list_at p).1 x y r s h g
-  from_one keyword.If p x y r s h g = then_one (Chain (Follows elsif_word) (BranchIs dictionary n inner)) Ending chained_one ending_one p x y r s h g
+  from_one keyword.If p x y r s h g = then_one (Chain (Follows elsif_word) (BranchIs profile dictionary n inner)) Ending chained_one ending_one p x y r s h g
   from_one keyword.Transaction p x y r s h g = after_one (Counts 2) (Enclosed p.line) (counts_sure 2) (enclosed_one p.line) p x y r s h g
   from_one (keyword.Code code) p x y r s h g = after_one (Counts 1) (Gives (Word p.line code)) (counts_sure 1) (gives_one (Word p.line code)) p x y r s h g
   from_one keyword.Other p x y r s h g = absurd h
 
-  statement_one : IsOne (StatementIs dictionary n inner)
+  statement_one : IsOne (StatementIs profile dictionary n inner)
   statement_one p x y r s h g = from_one (keyword_in (next_token p).0) (next_token p).1 x y r s h g
 
-module _ (dictionary : Dictionary) where
-  pub nested_one : (n : ℕ) → IsOne (Nested dictionary n)
+module _ (profile : Profile) (dictionary : Dictionary) where
+  pub nested_one : (n : ℕ) → IsOne (Nested profile dictionary n)
   nested_one zero p x y r s h g = absurd h
-  nested_one (suc n) p x y r s h g = statement_one dictionary n (Nested dictionary n) (nested_one n) p x y r s h g
+  nested_one (suc n) p x y r s h g = statement_one profile dictionary n (Nested profile dictionary n) (nested_one n) p x y r s h g
 
   -- a statement is read by what stands behind its first word
   pub statement_reads : (n : ℕ) (inner : Form Place Statement) (p : Place) (q : Token × Place) (k : Keyword) (r : Result (Statement × Place) PolicyFault)
-      → q ≡ next_token p → keyword_in q.0 ≡ k → Reads (StatementFrom dictionary n inner k q.1) r → Reads (StatementIs dictionary n inner p) r
+      → q ≡ next_token p → keyword_in q.0 ≡ k → Reads (StatementFrom profile dictionary n inner k q.1) r → Reads (StatementIs profile dictionary n inner p) r
   statement_reads n inner p q k r is first reads =
-      subst (λ (t : Token × Place). Reads (StatementFrom dictionary n inner (keyword_in t.0) t.1) r) is (subst (λ j. Reads (StatementFrom dictionary n inner j q.1) r) (sym first) reads)
+      subst (λ (t : Token × Place). Reads (StatementFrom profile dictionary n inner (keyword_in t.0) t.1) r) is (subst (λ j. Reads (StatementFrom profile dictionary n inner j q.1) r) (sym first) reads)
+
+module _ (dictionary : Dictionary) where
+  -- statements up to the end of a text
+  abbrev Read : List ℕ → Place → List Statement → Place → Type 0
+  Read text p statements end = While begins_word (Nested (profile_of text) dictionary 65) p statements end
+
+  as_read : (text : List ℕ) (profile : Profile) → profile ≡ profile_of text → (p : Place) (statements : List Statement) (end : Place) → p ≡ start_of text
+      → While begins_word (Nested profile dictionary 65) p statements end → Read text (start_of text) statements end
+  as_read text profile by p statements end start read =
+      subst (λ q. While begins_word (Nested q dictionary 65) (start_of text) statements end) by (subst (λ k. While begins_word (Nested profile dictionary 65) k statements end) start read)
+
+  read_one : (text : List ℕ) (xs ys : List Statement) (r s : Place) → Read text (start_of text) xs r → Read text (start_of text) ys s → (xs ≡ ys) × (r ≡ s)
+  read_one text xs ys r s h g = while_one begins_word (Nested (profile_of text) dictionary 65) (nested_one (profile_of text) dictionary 65) (start_of text) xs ys r s h g
 
   pub one_policy : (text : List ℕ) (xs ys : List Statement) → SpellsPolicy dictionary text xs → SpellsPolicy dictionary text ys → xs ≡ ys
-  one_policy text xs ys h g = (while_one begins_word (Nested dictionary 65) (nested_one 65) (start_of text) xs ys h.0 g.0 h.2 g.2).0
+  one_policy text xs ys h g = (read_one text xs ys h.0 g.0 h.2 g.2).0
 
-  -- statements up to the end of a text, and up to another token
-  pub policy_ends : (text : List ℕ) (p : Place) (statements : List Statement) (end : Place) (next : Token) → p ≡ start_of text → While begins_word (Nested dictionary 65) p statements end
-      → next ≡ (next_token end).0 → next ≡ token.End → SpellsPolicy dictionary text statements
-  policy_ends text p statements end next start read is last =
-      (end, (next_token end).1, subst (λ k. While begins_word (Nested dictionary 65) k statements end) start read, ap (λ (t : Token). (t, (next_token end).1)) (sym is ∙ last))
+  pub policy_ends : (text : List ℕ) (profile : Profile) → profile ≡ profile_of text → (p : Place) (statements : List Statement) (end : Place) (next : Token) → p ≡ start_of text
+      → While begins_word (Nested profile dictionary 65) p statements end → next ≡ (next_token end).0 → next ≡ token.End → SpellsPolicy dictionary text statements
+  policy_ends text profile by p statements end next start read is last =
+      (end, (next_token end).1, as_read text profile by p statements end start read, ap (λ (t : Token). (t, (next_token end).1)) (sym is ∙ last))
 
-  pub policy_goes_on : (text : List ℕ) (p : Place) (statements : List Statement) (end : Place) (next : Token) → p ≡ start_of text → While begins_word (Nested dictionary 65) p statements end
-      → next ≡ (next_token end).0 → (next ≡ token.End → ⊥) → (others : List Statement) → SpellsPolicy dictionary text others → ⊥
-  policy_goes_on text p statements end next start read is last others h =
-      let mine = subst (λ k. While begins_word (Nested dictionary 65) k statements end) start read in
-      let at = while_one begins_word (Nested dictionary 65) (nested_one 65) (start_of text) others statements h.0 end h.2 mine in
+  -- and up to another token
+  pub policy_goes_on : (text : List ℕ) (profile : Profile) → profile ≡ profile_of text → (p : Place) (statements : List Statement) (end : Place) (next : Token) → p ≡ start_of text
+      → While begins_word (Nested profile dictionary 65) p statements end → next ≡ (next_token end).0 → (next ≡ token.End → ⊥) → (others : List Statement) → SpellsPolicy dictionary text others → ⊥
+  policy_goes_on text profile by p statements end next start read is last others h =
+      let at = read_one text others statements h.0 end h.2 (as_read text profile by p statements end start read) in
       last (is ∙ ap (λ (t : Token × Place). t.0) (subst (λ k. next_token k ≡ (token.End, h.1)) at.1 h.3))
 
-  pub policy_refused : (text : List ℕ) (p : Place) (e : PolicyFault) → p ≡ start_of text → Refuses (While begins_word (Nested dictionary 65) p) e
+  pub policy_refused : (text : List ℕ) (profile : Profile) → profile ≡ profile_of text → (p : Place) (e : PolicyFault) → p ≡ start_of text → Refuses (While begins_word (Nested profile dictionary 65) p) e
       → e.kind ≢ Memory → (statements : List Statement) → SpellsPolicy dictionary text statements → ⊥
-  policy_refused text p e start refused some statements h = refused some statements h.0 (subst (λ k. While begins_word (Nested dictionary 65) k statements h.0) (sym start) h.2)
+  policy_refused text profile by p e start refused some statements h =
+      refused some statements h.0 (subst (λ k. While begins_word (Nested profile dictionary 65) k statements h.0) (sym start) (subst (λ q. While begins_word (Nested q dictionary 65) (start_of text) statements h.0) (sym by) h.2))

@@ -2,18 +2,21 @@
 use Rattle.std.proofs.Common.{◌≡◌, Bool, true, false, not, ◌&&◌, ◌||◌, List, [], ◌∷◌, refl, sym, ap, ◌∙◌, map, cond, filter, is_some}
 use Rattle.std.specs.List.{list_any, list_all}
 use Rattle.avp_lists.specs.Instances.{first_instance, front, has_id, has_instance}
+use Rattle.avp_lists.specs.Selections.{first_selected_instance}
 use Rattle.avp_lists.specs.States.{list_of}
+use Rattle.avp_lists.specs.declared.tags.Selection.{Selection}
 use Rattle.avp_lists.specs.declared.pairs.AttrId.{AttrId}
 use Rattle.avp_lists.specs.declared.pairs.Pair.{Pair}
 use Rattle.avp_lists.specs.declared.lists.List.{List as Name}
 use Rattle.avp_lists.specs.declared.lists.State.{State}
-use Rattle.avp_unlang.specs.Truth.{Test, cond_comparable, cond_truth, comparable, is_comparable, is_met, same_code, truth}
+use Rattle.avp_unlang.specs.Truth.{Test, cond_comparable, cond_truth, comparable, is_comparable, is_met, is_met_by_meaning, same_code, truth}
 use Rattle.avp_unlang.specs.declared.codes.Code.{Code}
 use Rattle.avp_unlang.specs.declared.tree.Comparison.{Comparison}
 use Rattle.avp_unlang.specs.declared.tree.Cond.{Cond}
+use Rattle.avp_unlang.specs.declared.tree.MeantComparison.{MeantComparison}
 use Rattle.avp_unlang.specs.declared.tree.Cond.TheFolds.{fold-roll-Cond}
 use Rattle.avp_unlang.specs.declared.tree.Cond.TheOpen as layer
-use Rattle.avp_unlang.specs.declared.tree.Cond.TheVariants.{Any, All, Not, Last, Present, Compare, rolls-Any, rolls-All, rolls-Not, rolls-Last, rolls-Present, rolls-Compare}
+use Rattle.avp_unlang.specs.declared.tree.Cond.TheVariants.{Any, All, Not, Last, Present, PresentSelected, Compare, CompareMeant, rolls-Any, rolls-All, rolls-Not, rolls-Last, rolls-Present, rolls-PresentSelected, rolls-Compare, rolls-CompareMeant}
 
 any_mapped : {A B : Type 0} (f : A → B) (test : B → Bool) (xs : List A) → list_any test (map f xs) ≡ list_any (λ x. test (f x)) xs
 any_mapped f test [] = refl
@@ -56,6 +59,15 @@ unfolding truth
 truth_present list id s c =
     ap (λ k. truth k s c) (sym (rolls-Present list id)) ∙ ap (λ (t : Test). t s c) (fold-roll-Cond Test cond_truth (layer.Present list id))
     ∙ found_first id (list_of list s)
+
+pub truth_present_selected : (list : Name) (id : AttrId) (selection : Selection) (s : State) (c : Code) → truth (PresentSelected list id selection) s c ≡ is_some (first_selected_instance selection id (list_of list s))
+unfolding truth
+truth_present_selected list id selection s c =
+    ap (λ k. truth k s c) (sym (rolls-PresentSelected list id selection)) ∙ ap (λ (t : Test). t s c) (fold-roll-Cond Test cond_truth (layer.PresentSelected list id selection))
+
+pub truth_compare_meant : (k : MeantComparison) (s : State) (c : Code) → truth (CompareMeant k) s c ≡ is_met_by_meaning k s
+unfolding truth
+truth_compare_meant k s c = ap (λ x. truth x s c) (sym (rolls-CompareMeant k)) ∙ ap (λ (t : Test). t s c) (fold-roll-Cond Test cond_truth (layer.CompareMeant k))
 
 pub truth_compare : (k : Comparison) (s : State) (c : Code) → truth (Compare k) s c ≡ is_met k s
 unfolding truth

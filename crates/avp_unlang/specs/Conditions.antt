@@ -1,30 +1,45 @@
 -- Conditions: how they are spelled. Each case is chosen by the next token.
-use Rattle.std.specs.Prelude.{◌≡◌, ℕ, zero, suc, Bool, false, not, ◌&&◌, ◌||◌, ◌==◌, List, [], ◌∷◌, Option, Some, None, if◌then◌else◌}
-use Rattle.std.specs.Option.{option_and_then, option_map}
+use Rattle.std.specs.Prelude.{◌≡◌, ℕ, zero, suc, Bool, true, false, not, ◌&&◌, ◌||◌, ◌==◌, List, [], ◌∷◌, Option, Some, None, if◌then◌else◌}
+use Rattle.std.specs.Option.{option_and_then, option_map, option_or, unwrap_or}
+use Rattle.avp_lists.specs.declared.pairs.AttrId.{AttrId}
 use Rattle.avp_lists.specs.declared.pairs.Value.{Value}
-use Rattle.avp_dict.specs.declared.entries.Named.{Named}
+use Rattle.avp_dict.specs.declared.entries.Kind.{Kind}
+use Rattle.avp_dict.specs.declared.entries.Kind.TheVariants as kinds
+use Rattle.avp_dict.specs.declared.forms.Form.{Form as ValueForm}
+use Rattle.avp_dict.specs.declared.forms.Form.TheVariants as forms
+use Rattle.avp_dict.specs.declared.value.quotes.QuoteMark.TheVariants as quote
 use Rattle.avp_dict.specs.Dictionary.{Dictionary}
-use Rattle.avp_dict.specs.Quotes.{double_quoted_octets}
+use Rattle.avp_forms.specs.declared.profiles.Profile.{Profile}
+use Rattle.avp_forms.specs.Orders.{other_octets}
+use Rattle.avp_forms.specs.declared.profiles.Profile.TheVariants.{Wider}
+use Rattle.avp_forms.specs.declared.targets.Target.{Target}
+use Rattle.avp_dict.specs.Names.{form_of}
+use Rattle.avp_dict.specs.Quotes.{double_quoted_octets, single_quoted_octets}
 use Rattle.avp_unlang.specs.declared.codes.Code.{Code}
 use Rattle.avp_unlang.specs.declared.text.references.Reference.{Reference}
 use Rattle.avp_unlang.specs.declared.text.tokens.Sign.TheVariants as sign
 use Rattle.avp_unlang.specs.declared.text.tokens.Token.{Token}
-use Rattle.avp_unlang.specs.declared.text.tokens.Token.TheVariants.{Operator, Word}
+use Rattle.avp_unlang.specs.declared.text.tokens.Token.TheVariants.{Operator, Quoted, Word}
 use Rattle.avp_unlang.specs.declared.text.values.Written.{Written}
 use Rattle.avp_unlang.specs.declared.text.values.Written.TheVariants as written
 use Rattle.avp_unlang.specs.declared.tree.Comparand.{Comparand}
 use Rattle.avp_unlang.specs.declared.tree.Comparand.TheVariants.{Literal, Instance}
 use Rattle.avp_unlang.specs.declared.tree.Comparison.{Comparison}
 use Rattle.avp_unlang.specs.declared.tree.Cond.{Cond}
-use Rattle.avp_unlang.specs.declared.tree.Cond.TheVariants.{Any, All, Not, Last, Present, Compare}
+use Rattle.avp_unlang.specs.declared.tree.Cond.TheVariants.{Any, All, Not, Last, Present, PresentSelected, Compare, CompareMeant}
+use Rattle.avp_unlang.specs.declared.tree.MeantComparand.{MeantComparand}
+use Rattle.avp_unlang.specs.declared.tree.MeantComparand.TheVariants as meant
+use Rattle.avp_unlang.specs.declared.tree.MeantComparison.{MeantComparison}
 use Rattle.avp_unlang.specs.declared.tree.Relation.{Relation}
 use Rattle.avp_unlang.specs.declared.tree.Relation.TheVariants as relation
-use Rattle.avp_unlang.specs.Forms.{Form, Chain, Gives, ◌>>◌, ◌>>=◌}
+use Rattle.avp_unlang.specs.Forms.{Form, Becomes, Chain, Gives, ◌>>◌, ◌>>=◌}
 use Rattle.avp_dict.specs.Ascii.{backslash, left_brace, percent}
 use Rattle.avp_unlang.specs.Places.{Place}
-use Rattle.avp_unlang.specs.References.{ReadableIs, readable, type_of}
+use Rattle.avp_unlang.specs.References.{AlikeIs, ReadableIs, readable, type_of}
+use Rattle.avp_unlang.specs.Selecting.{selection_of}
 use Rattle.avp_unlang.specs.Between.{Follows}
 use Rattle.avp_unlang.specs.Tokens.{next_token}
+use Rattle.avp_unlang.specs.Truth.{octets_meant}
 use Rattle.avp_unlang.specs.Values.{WrittenAs, literal}
 use Rattle.avp_unlang.specs.Words.{code_named}
 
@@ -56,57 +71,147 @@ abbrev pub plain_octets : List ℕ → Option (List ℕ)
 plain_octets text = if has_expansion false text then None else Some (double_quoted_octets text)
 
 -- the value that such a text stands for under a name
-abbrev pub plain_literal : Dictionary → Named → List ℕ → Option Value
-plain_literal dictionary name text = option_and_then (literal dictionary name) (plain_octets text)
+abbrev pub plain_literal : Profile → Dictionary → Target → List ℕ → Option Value
+plain_literal profile dictionary target text =
+    option_and_then (literal profile dictionary target) (plain_octets text)
 
 -- what an attribute is compared with: a written value, where no value is put into a text between double quotes
-abbrev pub ComparandOf : Dictionary → Named → Written → Comparand → Type 0
-ComparandOf dictionary name (written.Literal value) x = x ≡ Literal value
-ComparandOf dictionary name (written.Double text) x =
-    option_map Literal (plain_literal dictionary name text) ≡ Some x
-ComparandOf dictionary name (written.Instance list id) x = x ≡ Instance list id
+abbrev pub ComparandOf : Profile → Dictionary → Target → Written → Comparand → Type 0
+ComparandOf profile dictionary target (written.Literal value) x = x ≡ Literal value
+ComparandOf profile dictionary target (written.Double text) x =
+    option_map Literal (plain_literal profile dictionary target text) ≡ Some x
+ComparandOf profile dictionary target (written.Instance found) x =
+    x ≡ Instance found.list found.target.named.id
 
-abbrev pub ComparandIs : Dictionary → Named → Form Place Comparand
-ComparandIs dictionary name = WrittenAs dictionary name (ComparandOf dictionary name)
+abbrev pub ComparandIs : Profile → Dictionary → Target → Form Place Comparand
+ComparandIs profile dictionary target =
+    WrittenAs profile dictionary target (ComparandOf profile dictionary target)
 
 abbrev pub comparison_of : Dictionary → Reference → Relation → Comparand → Comparison
 comparison_of dictionary found relation x = record {
   list = found.list;
-  id = found.named.id;
-  kind = type_of dictionary found.named.id;
+  id = found.target.named.id;
+  kind = type_of dictionary found.target.named.id;
   relation = relation;
   comparand = x;
 }
 
 -- after an operator that compares: what the reference is compared with
-abbrev pub ComparedBy : Dictionary → Reference → Relation → Form Place Cond
-ComparedBy dictionary found relation = do
-  x ← ComparandIs dictionary found.named
+abbrev pub ComparedBy : Profile → Dictionary → Reference → Relation → Form Place Cond
+ComparedBy profile dictionary found relation = do
+  x ← ComparandIs profile dictionary found.target
   Gives (Compare (comparison_of dictionary found relation x))
 
--- after a reference: nothing more, or an operator that compares and what it compares with
-abbrev pub ComparedFrom : Dictionary → Reference → Option Relation → Place → Form Place Cond
-ComparedFrom dictionary found None p after c rest =
-    Gives (Present found.list found.named.id) p c rest
-ComparedFrom dictionary found (Some relation) p after c rest =
-    ComparedBy dictionary found relation after c rest
+-- ---- comparisons by meaning, of a wider policy
 
-abbrev pub ComparedIs : Dictionary → Reference → Form Place Cond
-ComparedIs dictionary found p c rest =
-    ComparedFrom dictionary found (relation_of (next_token p).0) p (next_token p).1 c rest
+-- what octets stand for: their attribute's form
+unfoldable pub meant_form : Dictionary → AttrId → ValueForm
+meant_form dictionary id = unwrap_or (form_of id dictionary) forms.AsTyped
+
+abbrev pub octets_compared : ValueForm × List ℕ → MeantComparand
+octets_compared x = meant.Literal x.0 x.1
+
+-- a prefix under an address's name, and an address under a prefix's; no such text is written under a name by number
+abbrev pub other_literal : Dictionary → Target → List ℕ → Option (ValueForm × List ℕ)
+other_literal dictionary target text =
+    if target.named.raw then None
+    else other_octets (meant_form dictionary target.named.id) text
+
+-- the octets of a value that the text stands for under the attribute's name
+abbrev pub own_literal : Dictionary → Target → List ℕ → Option (ValueForm × List ℕ)
+own_literal dictionary target text =
+    option_and_then (octets_meant (meant_form dictionary target.named.id))
+    (literal Wider dictionary target text)
+
+-- what a text is compared as
+unfoldable pub meant_literal : Dictionary → Target → List ℕ → Option MeantComparand
+meant_literal dictionary target text =
+    option_map octets_compared
+    (option_or (own_literal dictionary target text) (other_literal dictionary target text))
+
+abbrev pub instance_compared : Dictionary → Reference → MeantComparand
+instance_compared dictionary found =
+    meant.Instance found.list found.target.named.id (selection_of dictionary found.target)
+    (meant_form dictionary found.target.named.id)
+
+-- by its first token: a literal, or after `&` a reference to values of the same type
+abbrev pub MeantFrom : Dictionary → Target → Token → Form Place MeantComparand
+MeantFrom dictionary target (Word text) after x rest =
+    Becomes (meant_literal dictionary target text) after x rest
+MeantFrom dictionary target (Quoted quote.Single text) after x rest =
+    Becomes (meant_literal dictionary target (single_quoted_octets text)) after x rest
+MeantFrom dictionary target (Quoted quote.Double text) after x rest =
+    Becomes (option_and_then (meant_literal dictionary target) (plain_octets text)) after x rest
+MeantFrom dictionary target (Operator sign.Reference) after x rest =
+    (found : Reference) × AlikeIs Wider dictionary target.named.id after found rest
+    × (x ≡ instance_compared dictionary found)
+MeantFrom dictionary target _ after x rest = ⊥
+
+abbrev pub MeantIs : Dictionary → Target → Form Place MeantComparand
+MeantIs dictionary target p x rest =
+    MeantFrom dictionary target (next_token p).0 (next_token p).1 x rest
+
+abbrev pub meant_comparison : Dictionary → Reference → Relation → MeantComparand → MeantComparison
+meant_comparison dictionary found relation x = record {
+  list = found.list;
+  id = found.target.named.id;
+  selection = selection_of dictionary found.target;
+  form = meant_form dictionary found.target.named.id;
+  relation = relation;
+  comparand = x;
+}
+
+abbrev pub MeantBy : Dictionary → Reference → Relation → Form Place Cond
+MeantBy dictionary found relation = do
+  x ← MeantIs dictionary found.target
+  Gives (CompareMeant (meant_comparison dictionary found relation x))
+
+-- a wider policy compares values that are octets by what they mean
+abbrev pub is_by_meaning : Profile → Kind → Bool
+is_by_meaning Wider kinds.Bytes = true
+is_by_meaning _ _ = false
+
+abbrev pub RelatedBy : Bool → Profile → Dictionary → Reference → Relation → Form Place Cond
+RelatedBy true profile dictionary found relation = MeantBy dictionary found relation
+RelatedBy false profile dictionary found relation = ComparedBy profile dictionary found relation
+
+abbrev pub RelatedIs : Profile → Dictionary → Reference → Relation → Form Place Cond
+RelatedIs profile dictionary found relation =
+    RelatedBy (is_by_meaning profile (type_of dictionary found.target.named.id)) profile dictionary
+    found relation
+
+-- ---- references
+
+-- a name with a tag asks for an instance with that tag
+abbrev pub present_of : Dictionary → Reference → Option ℕ → Cond
+present_of dictionary found None = Present found.list found.target.named.id
+present_of dictionary found (Some tag) =
+    PresentSelected found.list found.target.named.id (selection_of dictionary found.target)
+
+-- after a reference: nothing more, or an operator that compares and what it compares with
+abbrev pub ComparedFrom : Profile → Dictionary → Reference → Option Relation → Place
+    → Form Place Cond
+ComparedFrom profile dictionary found None p after c rest =
+    Gives (present_of dictionary found found.target.tag) p c rest
+ComparedFrom profile dictionary found (Some relation) p after c rest =
+    RelatedIs profile dictionary found relation after c rest
+
+abbrev pub ComparedIs : Profile → Dictionary → Reference → Form Place Cond
+ComparedIs profile dictionary found p c rest =
+    ComparedFrom profile dictionary found (relation_of (next_token p).0) p (next_token p).1 c rest
 
 -- after an `&`: a reference, and what it is compared with
-abbrev pub ReferredIs : Dictionary → Form Place Cond
-ReferredIs dictionary = do
-  found ← ReadableIs dictionary
-  ComparedIs dictionary found
+abbrev pub ReferredIs : Profile → Dictionary → Form Place Cond
+ReferredIs profile dictionary = do
+  found ← ReadableIs profile dictionary
+  ComparedIs profile dictionary found
 
 -- a word that is a code stands for it, and any other for a reference
-abbrev pub WordFrom : Dictionary → Option Code → List ℕ → Form Place Cond
-WordFrom dictionary (Some code) word p c rest = Gives (Last code) p c rest
-WordFrom dictionary None word p c rest =
-    (found : Reference) × (readable dictionary word ≡ Some found)
-    × ComparedIs dictionary found p c rest
+abbrev pub WordFrom : Profile → Dictionary → Option Code → List ℕ → Form Place Cond
+WordFrom profile dictionary (Some code) word p c rest = Gives (Last code) p c rest
+WordFrom profile dictionary None word p c rest =
+    (found : Reference) × (readable profile dictionary word ≡ Some found)
+    × ComparedIs profile dictionary found p c rest
 
 -- ---- operands
 
@@ -144,20 +249,21 @@ Closed inner = do
   Gives cond
 
 -- an operand by its first token; inner spells the operands inside a `!` or brackets
-abbrev pub OperandFrom : Dictionary → Form Place Cond → Token → Form Place Cond
-OperandFrom dictionary inner (Operator sign.Not) after c rest = Negated inner after c rest
-OperandFrom dictionary inner (Operator sign.Open) after c rest = Closed inner after c rest
-OperandFrom dictionary inner (Operator sign.Reference) after c rest =
-    ReferredIs dictionary after c rest
-OperandFrom dictionary inner (Word word) after c rest =
-    WordFrom dictionary (code_named word) word after c rest
-OperandFrom dictionary inner _ after c rest = ⊥
+abbrev pub OperandFrom : Profile → Dictionary → Form Place Cond → Token → Form Place Cond
+OperandFrom profile dictionary inner (Operator sign.Not) after c rest = Negated inner after c rest
+OperandFrom profile dictionary inner (Operator sign.Open) after c rest = Closed inner after c rest
+OperandFrom profile dictionary inner (Operator sign.Reference) after c rest =
+    ReferredIs profile dictionary after c rest
+OperandFrom profile dictionary inner (Word word) after c rest =
+    WordFrom profile dictionary (code_named word) word after c rest
+OperandFrom profile dictionary inner _ after c rest = ⊥
 
-abbrev pub OperandIs : Dictionary → Form Place Cond → Form Place Cond
-OperandIs dictionary inner p c rest =
-    OperandFrom dictionary inner (next_token p).0 (next_token p).1 c rest
+abbrev pub OperandIs : Profile → Dictionary → Form Place Cond → Form Place Cond
+OperandIs profile dictionary inner p c rest =
+    OperandFrom profile dictionary inner (next_token p).0 (next_token p).1 c rest
 
 -- an operand inside which fewer than n signs `!` and `(` are open at once
-abbrev pub Within : Dictionary → ℕ → Form Place Cond
-Within dictionary zero p c rest = ⊥
-Within dictionary (suc n) p c rest = OperandIs dictionary (Within dictionary n) p c rest
+abbrev pub Within : Profile → Dictionary → ℕ → Form Place Cond
+Within profile dictionary zero p c rest = ⊥
+Within profile dictionary (suc n) p c rest =
+    OperandIs profile dictionary (Within profile dictionary n) p c rest

@@ -10,6 +10,7 @@ pub mod Places
 pub mod Policies
 pub mod References
 pub mod Resolutions
+pub mod Selecting
 pub mod Sizes
 pub mod Sources
 pub mod Statements

@@ -4,6 +4,8 @@ use Rattle.avp_lists.specs.declared.edits.Op.{Op}
 use Rattle.avp_lists.specs.declared.edits.Op.TheVariants as op
 use Rattle.avp_lists.specs.declared.lists.List.{List as Name}
 use Rattle.avp_dict.specs.Dictionary.{Dictionary}
+use Rattle.avp_lists.specs.declared.tags.Selection.{Selection}
+use Rattle.avp_forms.specs.declared.profiles.Profile.{Profile}
 use Rattle.avp_unlang.specs.declared.text.references.Reference.{Reference}
 use Rattle.avp_unlang.specs.declared.text.tokens.Sign.TheVariants as sign
 use Rattle.avp_unlang.specs.declared.text.tokens.Token.{Token}
@@ -13,6 +15,7 @@ use Rattle.avp_unlang.specs.declared.tree.Source.{Source}
 use Rattle.avp_unlang.specs.Forms.{Form, Gives, ◌>>◌, ◌>>=◌}
 use Rattle.avp_unlang.specs.Places.{Place}
 use Rattle.avp_unlang.specs.References.{reference_in}
+use Rattle.avp_unlang.specs.Selecting.{line_selection}
 use Rattle.avp_unlang.specs.Sources.{SourceIs}
 use Rattle.avp_unlang.specs.Between.{Counts, Follows}
 use Rattle.avp_unlang.specs.Tokens.{next_token}
@@ -26,10 +29,10 @@ unfoldable pub after_reference : Place → Place
 after_reference p = after_reference_from p (next_token p)
 
 -- a target, with `&` or without: its list and what its name stands for
-abbrev pub TargetIs : Dictionary → Name → Form Place Reference
-TargetIs dictionary own p target rest =
+abbrev pub TargetIs : Profile → Dictionary → Name → Form Place Reference
+TargetIs profile dictionary own p target rest =
     (word : List ℕ) × Follows (Word word) (after_reference p) rest
-    × (reference_in dictionary own word ≡ Some target)
+    × (reference_in profile dictionary own word ≡ Some target)
 
 -- the edit that an operator stands for
 unfoldable pub op_of : Token → Option Op
@@ -45,27 +48,30 @@ op_of _ = None
 abbrev pub OpIs : Form Place Op
 OpIs p operation rest = (token : Token) × Follows token p rest × (op_of token ≡ Some operation)
 
-abbrev pub line_of : ℕ → Reference → Op → Source → Line
-line_of line target operation source =
+abbrev pub line_of : ℕ → Reference → Op → Selection → Source → Line
+line_of line found operation selection source =
     record {
       line = line;
-      list = target.list;
-      id = target.named.id;
+      list = found.list;
+      id = found.target.named.id;
       op = operation;
+      selection = selection;
       source = source;
     }
 
 -- an update line whose first token is on line n of the text; it adds one to the size
-abbrev pub LineOn : Dictionary → Name → ℕ → Form Place Line
-LineOn dictionary own n = do
+abbrev pub LineOn : Profile → Dictionary → Name → ℕ → Form Place Line
+LineOn profile dictionary own n = do
   Counts 1
-  target ← TargetIs dictionary own
+  found ← TargetIs profile dictionary own
   operation ← OpIs
-  source ← SourceIs dictionary operation target.named
-  Gives (line_of n target operation source)
+  source ← SourceIs profile dictionary operation found.target
+  Gives
+      (line_of n found operation (line_selection profile dictionary operation found.target) source)
 
-abbrev pub LineIs : Dictionary → Name → Form Place Line
-LineIs dictionary own p line rest = LineOn dictionary own (next_token p).1.line p line rest
+abbrev pub LineIs : Profile → Dictionary → Name → Form Place Line
+LineIs profile dictionary own p line rest =
+    LineOn profile dictionary own (next_token p).1.line p line rest
 
 -- an update line begins with `&` or a word
 abbrev pub is_line_start : Token → Bool

@@ -1,9 +1,11 @@
 -- What a policy makes of a state and a code, by recursion over its tree.
 use Rattle.std.specs.Prelude.{Bool, true, false, nat_le, if◌then◌else◌, List, [], ◌∷◌, length, map, Option, Some, None, Result, Ok, Err}
-use Rattle.avp_lists.specs.States.{edited, edited_list, max_pairs}
+use Rattle.avp_lists.specs.Selections.{edited_list_selected, edited_selected}
+use Rattle.avp_lists.specs.States.{max_pairs}
 use Rattle.avp_lists.specs.declared.pairs.Pair.{Pair}
 use Rattle.avp_lists.specs.declared.edits.Edit.{Edit}
 use Rattle.avp_lists.specs.declared.lists.State.{State}
+use Rattle.avp_lists.specs.declared.tags.Selection.{Selection}
 use Rattle.avp_dict.specs.Dictionary.{Dictionary}
 use Rattle.avp_unlang.specs.Resolutions.{resolution}
 use Rattle.avp_unlang.specs.Truth.{truth}
@@ -54,9 +56,11 @@ pub data LineResult : Type 0 where
   Failed : Reason → LineResult
 
 -- the edit of a line, unless its list would have too many pairs
-abbrev pub edit_result : Edit → State → LineResult
-edit_result edit s =
-    if nat_le (length (edited_list edit s)) max_pairs then Edited (edited edit s) else Failed Full
+abbrev pub edit_result : Selection → Edit → State → LineResult
+edit_result selection edit s =
+    if nat_le (length (edited_list_selected selection edit s)) max_pairs
+    then Edited (edited_selected selection edit s)
+    else Failed Full
 
 abbrev pub edit_of : Line → Pair → Edit
 edit_of line pair = record { list = line.list; op = line.op; pair = pair }
@@ -69,7 +73,7 @@ reason unresolved.TooLong = TooLong
 reason unresolved.Memory = NotValue
 
 abbrev pub result_from : Line → State → Result Pair Unresolved → LineResult
-result_from line s (Ok pair) = edit_result (edit_of line pair) s
+result_from line s (Ok pair) = edit_result line.selection (edit_of line pair) s
 result_from line s (Err why) = Failed (reason why)
 
 unfoldable pub line_result : Dictionary → Line → State → LineResult

@@ -1,13 +1,16 @@
 -- Texts between double quotes into which values are put: `%{name}` and `%{list:name}`, with `%%` for a plain `%`.
 use Rattle.std.specs.Prelude.{◌≡◌, ℕ, zero, Bool, true, false, ◌&&◌, ◌==◌, if◌then◌else◌, List, [], ◌∷◌, drop, take, Option, Some, None, is_some}
 use Rattle.avp_dict.specs.Dictionary.{Dictionary}
+use Rattle.avp_forms.specs.declared.profiles.Profile.{Profile}
+use Rattle.avp_forms.specs.declared.profiles.Profile.TheVariants.{Plain, Wider}
 use Rattle.avp_dict.specs.Quotes.{double_escape}
 use Rattle.avp_unlang.specs.declared.text.references.Reference.{Reference}
 use Rattle.avp_unlang.specs.declared.tree.Part.{Part}
-use Rattle.avp_unlang.specs.declared.tree.Part.TheVariants.{Text, Instance}
+use Rattle.avp_unlang.specs.declared.tree.Part.TheVariants.{Text, Instance, Meant}
 use Rattle.avp_unlang.specs.Forms.{Form, While}
 use Rattle.avp_dict.specs.Ascii.{backslash, left_brace, percent, right_brace}
 use Rattle.avp_unlang.specs.References.{readable}
+use Rattle.avp_unlang.specs.Selecting.{selection_of}
 use Rattle.avp_unlang.specs.Tokens.{word_length}
 
 -- after a `%`: a second one
@@ -44,23 +47,32 @@ abbrev pub braced : List ℕ → Option (List ℕ × List ℕ)
 braced text = closed_after (word_length text) text (drop (word_length text) text)
 
 -- `%{`, a word that refers to values, and `}`
-abbrev pub InstanceIs : Dictionary → Form (List ℕ) Reference
-InstanceIs dictionary text found rest =
+abbrev pub InstanceIs : Profile → Dictionary → Form (List ℕ) Reference
+InstanceIs profile dictionary text found rest =
     (inner : List ℕ) × (after_opening text ≡ Some inner)
-    × (word : List ℕ) × (braced inner ≡ Some (word, rest)) × (readable dictionary word ≡ Some found)
+    × (word : List ℕ) × (braced inner ≡ Some (word, rest))
+    × (readable profile dictionary word ≡ Some found)
+
+-- a value that is put in: in a wider policy as what it means
+abbrev pub part_of : Profile → Dictionary → Reference → Part
+part_of Plain dictionary found = Instance found.list found.target.named.id
+part_of Wider dictionary found =
+    Meant found.list found.target.named.id (selection_of dictionary found.target)
 
 -- as many octets as follow one another, or a value that is put in
-abbrev pub PartIs : Dictionary → Form (List ℕ) Part
-PartIs dictionary text (Text octets) rest =
+abbrev pub PartIs : Profile → Dictionary → Form (List ℕ) Part
+PartIs profile dictionary text (Text octets) rest =
     (begins_octet text ≡ true) × While begins_octet OctetIs text octets rest
-PartIs dictionary text (Instance list id) rest =
-    (begins_octet text ≡ false) × (found : Reference) × InstanceIs dictionary text found rest
-    × (list ≡ found.list) × (id ≡ found.named.id)
+PartIs profile dictionary text part rest =
+    (begins_octet text ≡ false)
+    × (found : Reference) × InstanceIs profile dictionary text found rest
+    × (part ≡ part_of profile dictionary found)
 
 abbrev pub is_left : List ℕ → Bool
 is_left [] = false
 is_left (c ∷ cs) = true
 
 -- the parts of a whole text
-abbrev pub PartsAre : Dictionary → List ℕ → List Part → Type 0
-PartsAre dictionary text parts = (end : List ℕ) × While is_left (PartIs dictionary) text parts end
+abbrev pub PartsAre : Profile → Dictionary → List ℕ → List Part → Type 0
+PartsAre profile dictionary text parts =
+    (end : List ℕ) × While is_left (PartIs profile dictionary) text parts end

@@ -4,11 +4,12 @@ use Rattle.std.specs.Option.{option_and_then, option_map}
 use Rattle.avp_lists.specs.declared.pairs.AttrId.{AttrId}
 use Rattle.avp_lists.specs.declared.lists.List.{List as Name}
 use Rattle.avp_lists.specs.declared.lists.List.TheVariants as lists
-use Rattle.avp_dict.specs.declared.entries.Named.{Named}
 use Rattle.avp_dict.specs.declared.entries.Kind.{Kind}
 use Rattle.avp_dict.specs.declared.entries.Kind.TheVariants.{Bytes}
 use Rattle.avp_dict.specs.Dictionary.{Dictionary}
-use Rattle.avp_dict.specs.Names.{named}
+use Rattle.avp_forms.specs.declared.profiles.Profile.{Profile}
+use Rattle.avp_forms.specs.Targets.{target_of}
+use Rattle.avp_forms.specs.declared.targets.Target.{Target}
 use Rattle.avp_dict.specs.Octets.{kind_of}
 use Rattle.avp_dict.specs.Sent.{is_container}
 use Rattle.avp_unlang.specs.declared.text.references.Reference.{Reference}
@@ -31,7 +32,7 @@ after_front front word =
     if bytes_eq (take (length front) word) front then Some (drop (length front) word) else None
 
 -- The list and the name of a word: `list:name`, or a name alone, which is of the list at hand. A `:` that does not
--- follow a list stays in the name, and no attribute has such a name.
+-- follow a list stays in the name: in a wider policy a tag may follow it.
 unfoldable pub target_in : Name → List ℕ → Name × List ℕ
 target_in own word =
     elim (after_front (codes "request:") word) [
@@ -45,33 +46,35 @@ target_in own word =
       ]
     ]
 
-abbrev pub reference_to : Name → Named → Reference
-reference_to list name = record { list = list; named = name }
+abbrev pub reference_to : Name → Target → Reference
+reference_to list target = record { list = list; target = target }
 
 -- the list, and what the name stands for
-unfoldable pub reference_in : Dictionary → Name → List ℕ → Option Reference
-reference_in dictionary own word =
-    option_map (reference_to (target_in own word).0) (named (target_in own word).1 dictionary)
+unfoldable pub reference_in : Profile → Dictionary → Name → List ℕ → Option Reference
+reference_in profile dictionary own word =
+    option_map (reference_to (target_in own word).0)
+    (target_of profile dictionary (target_in own word).1)
 
 -- attributes that only hold others have no values to look at (RFC 2865, section 5.26; RFC 6929, section 2)
 abbrev pub unless_container : Reference → Option Reference
-unless_container r = if is_container r.named.id then None else Some r
+unless_container r = if is_container r.target.named.id then None else Some r
 
 -- a reference to values; without a list it is of the request
-unfoldable pub readable : Dictionary → List ℕ → Option Reference
-readable dictionary word =
-    option_and_then unless_container (reference_in dictionary lists.Request word)
+unfoldable pub readable : Profile → Dictionary → List ℕ → Option Reference
+readable profile dictionary word =
+    option_and_then unless_container (reference_in profile dictionary lists.Request word)
 
 -- a word that refers to values
-abbrev pub ReadableIs : Dictionary → Form Place Reference
-ReadableIs dictionary p found rest =
-    (word : List ℕ) × Follows (Word word) p rest × (readable dictionary word ≡ Some found)
+abbrev pub ReadableIs : Profile → Dictionary → Form Place Reference
+ReadableIs profile dictionary p found rest =
+    (word : List ℕ) × Follows (Word word) p rest × (readable profile dictionary word ≡ Some found)
 
 -- the type of an id's values: octets where no line gives one
 abbrev pub type_of : Dictionary → AttrId → Kind
 type_of dictionary id = unwrap_or (kind_of id dictionary) Bytes
 
 -- a reference to values of the same type as this attribute's
-abbrev pub AlikeIs : Dictionary → AttrId → Form Place Reference
-AlikeIs dictionary id p found rest =
-    ReadableIs dictionary p found rest × (type_of dictionary id ≡ type_of dictionary found.named.id)
+abbrev pub AlikeIs : Profile → Dictionary → AttrId → Form Place Reference
+AlikeIs profile dictionary id p found rest =
+    ReadableIs profile dictionary p found rest
+    × (type_of dictionary id ≡ type_of dictionary found.target.named.id)

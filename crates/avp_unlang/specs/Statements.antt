@@ -3,6 +3,7 @@ use Rattle.std.specs.Prelude.{◌≡◌, ℕ, zero, suc, ◌<◌, Bool, true, fa
 use Rattle.avp_lists.specs.declared.lists.List.{List as Name}
 use Rattle.avp_lists.specs.declared.lists.List.TheVariants.{Request}
 use Rattle.avp_dict.specs.Dictionary.{Dictionary}
+use Rattle.avp_forms.specs.declared.profiles.Profile.{Profile}
 use Rattle.avp_unlang.specs.declared.codes.Code.{Code}
 use Rattle.avp_unlang.specs.declared.text.statements.Keyword.{Keyword}
 use Rattle.avp_unlang.specs.declared.text.statements.Keyword.TheVariants as keyword
@@ -68,16 +69,17 @@ abbrev pub branch_of : ℕ → Cond → List Statement → Branch
 branch_of line cond block = roll-Branch (record { line = line; cond = cond; block = block })
 
 -- after an `if` or `elsif` on this line: a condition in brackets, and a block; it adds one to the size
-abbrev pub BranchOn : Dictionary → ℕ → Form Place Statement → ℕ → Form Place Branch
-BranchOn dictionary n inner line = do
+abbrev pub BranchOn : Profile → Dictionary → ℕ → Form Place Statement → ℕ → Form Place Branch
+BranchOn profile dictionary n inner line = do
   Counts 1
   Follows (token.Operator sign.Open)
-  cond ← Closed (Within dictionary n)
+  cond ← Closed (Within profile dictionary n)
   block ← BlockIs n begins_word inner
   Gives (branch_of line cond block)
 
-abbrev pub BranchIs : Dictionary → ℕ → Form Place Statement → Form Place Branch
-BranchIs dictionary n inner p branch rest = BranchOn dictionary n inner p.line p branch rest
+abbrev pub BranchIs : Profile → Dictionary → ℕ → Form Place Statement → Form Place Branch
+BranchIs profile dictionary n inner p branch rest =
+    BranchOn profile dictionary n inner p.line p branch rest
 
 -- `else` and a block, or nothing
 abbrev pub Otherwise : ℕ → Form Place Statement → Form Place (Option (List Statement))
@@ -87,20 +89,20 @@ Otherwise n inner p (Some block) rest =
     (Follows (token.Word (codes "else")) >> BlockIs n begins_word inner) p block rest
 
 -- after `update` and a list: lines of the list
-abbrev pub UpdateOn : Dictionary → ℕ → Name → ℕ → Form Place Statement
-UpdateOn dictionary n own line = do
-  lines ← BlockIs n begins_line (LineIs dictionary own)
+abbrev pub UpdateOn : Profile → Dictionary → ℕ → Name → ℕ → Form Place Statement
+UpdateOn profile dictionary n own line = do
+  lines ← BlockIs n begins_line (LineIs profile dictionary own)
   Gives (Update line lines)
 
 -- after `if`: its branch, and those of each `elsif`
-abbrev pub BranchesAre : Dictionary → ℕ → Form Place Statement → Form Place (List Branch)
-BranchesAre dictionary n inner =
-    Chain (Follows (token.Word (codes "elsif"))) (BranchIs dictionary n inner)
+abbrev pub BranchesAre : Profile → Dictionary → ℕ → Form Place Statement → Form Place (List Branch)
+BranchesAre profile dictionary n inner =
+    Chain (Follows (token.Word (codes "elsif"))) (BranchIs profile dictionary n inner)
 
 -- the same, and an `else`
-abbrev pub IfIs : Dictionary → ℕ → Form Place Statement → Form Place Statement
-IfIs dictionary n inner = do
-  branches ← BranchesAre dictionary n inner
+abbrev pub IfIs : Profile → Dictionary → ℕ → Form Place Statement → Form Place Statement
+IfIs profile dictionary n inner = do
+  branches ← BranchesAre profile dictionary n inner
   otherwise ← Otherwise n inner
   Gives (If branches otherwise)
 
@@ -118,20 +120,23 @@ WordOn code line = do
   Gives (Word line code)
 
 -- a statement after its first word, on whose line p is
-abbrev pub StatementFrom : Dictionary → ℕ → Form Place Statement → Keyword → Form Place Statement
-StatementFrom dictionary n inner keyword.Update p s rest =
-    UpdateOn dictionary n (list_at p).0 p.line (list_at p).1 s rest
-StatementFrom dictionary n inner keyword.If p s rest = IfIs dictionary n inner p s rest
-StatementFrom dictionary n inner keyword.Transaction p s rest =
+abbrev pub StatementFrom : Profile → Dictionary → ℕ → Form Place Statement → Keyword
+    → Form Place Statement
+StatementFrom profile dictionary n inner keyword.Update p s rest =
+    UpdateOn profile dictionary n (list_at p).0 p.line (list_at p).1 s rest
+StatementFrom profile dictionary n inner keyword.If p s rest =
+    IfIs profile dictionary n inner p s rest
+StatementFrom profile dictionary n inner keyword.Transaction p s rest =
     TransactionOn n inner p.line p s rest
-StatementFrom dictionary n inner (keyword.Code code) p s rest = WordOn code p.line p s rest
-StatementFrom dictionary n inner keyword.Other p s rest = ⊥
+StatementFrom profile dictionary n inner (keyword.Code code) p s rest = WordOn code p.line p s rest
+StatementFrom profile dictionary n inner keyword.Other p s rest = ⊥
 
-abbrev pub StatementIs : Dictionary → ℕ → Form Place Statement → Form Place Statement
-StatementIs dictionary n inner p s rest =
-    StatementFrom dictionary n inner (keyword_in (next_token p).0) (next_token p).1 s rest
+abbrev pub StatementIs : Profile → Dictionary → ℕ → Form Place Statement → Form Place Statement
+StatementIs profile dictionary n inner p s rest =
+    StatementFrom profile dictionary n inner (keyword_in (next_token p).0) (next_token p).1 s rest
 
 -- a statement inside which fewer than n signs `{`, `(` and `!` are open at once
-abbrev pub Nested : Dictionary → ℕ → Form Place Statement
-Nested dictionary zero p s rest = ⊥
-Nested dictionary (suc n) p s rest = StatementIs dictionary n (Nested dictionary n) p s rest
+abbrev pub Nested : Profile → Dictionary → ℕ → Form Place Statement
+Nested profile dictionary zero p s rest = ⊥
+Nested profile dictionary (suc n) p s rest =
+    StatementIs profile dictionary n (Nested profile dictionary n) p s rest

@@ -14,7 +14,7 @@ use Rattle.avp_unlang.specs.declared.tree.Comparison.{Comparison}
 use Rattle.avp_unlang.specs.declared.tree.Branch.{Branch}
 use Rattle.avp_unlang.specs.declared.tree.Cond.{Cond}
 use Rattle.avp_unlang.specs.declared.tree.Cond.TheFolds.{fold-Cond}
-use Rattle.avp_unlang.specs.declared.tree.Cond.TheOpen.{Cond-F, Any, All, Not, Last, Present, Compare}
+use Rattle.avp_unlang.specs.declared.tree.Cond.TheOpen.{Cond-F, Any, All, Not, Last, Present, PresentSelected, Compare, CompareMeant}
 use Rattle.avp_unlang.specs.declared.tree.Statement.{Statement}
 use Rattle.avp_unlang.specs.declared.tree.Statement.TheFolds.{fold-Statement, fold-Branch}
 use Rattle.avp_unlang.specs.declared.tree.Statement.TheOpen.{Statement-F, Branch-F, Update, If, Transaction, Word}
@@ -53,7 +53,9 @@ cond_layer_suits dictionary (All parts) = list_all itself parts
 cond_layer_suits dictionary (Not part) = part
 cond_layer_suits dictionary (Last word) = true
 cond_layer_suits dictionary (Present list id) = true
+cond_layer_suits dictionary (PresentSelected list id selection) = true
 cond_layer_suits dictionary (Compare comparison) = comparison_suits dictionary comparison
+cond_layer_suits dictionary (CompareMeant comparison) = true
 
 unfoldable pub cond_suits : Dictionary → Cond → Bool
 cond_suits dictionary = fold-Cond Bool (cond_layer_suits dictionary)

@@ -1,23 +1,28 @@
 -- Whether a condition is true in a state, after a code.
-use Rattle.std.specs.Prelude.{Bool, true, false, not, ◌&&◌, ◌||◌, if◌then◌else◌, Option, Some, None}
+use Rattle.std.specs.Prelude.{ℕ, Bool, true, false, not, ◌&&◌, ◌||◌, if◌then◌else◌, List, Option, Some, None, is_some}
 use Rattle.std.specs.Cmp.Lexicographic.{slice_cmp}
 use Rattle.std.specs.List.{list_any, list_all}
-use Rattle.std.specs.Option.{option_map, option_map_or}
+use Rattle.std.specs.Option.{option_and_then, option_map, option_map_or}
 use Rattle.std.specs.Ordering.{is_eq, is_ne, is_lt, is_le, is_gt, is_ge, nat_cmp, int_cmp}
 use Rattle.std.specs.declared.cmp.Ordering.{Ordering}
 use Rattle.avp_lists.specs.Instances.{first_instance, has_instance}
+use Rattle.avp_lists.specs.Selections.{first_selected_instance}
 use Rattle.avp_lists.specs.States.{list_of}
 use Rattle.avp_lists.specs.declared.pairs.AttrId.{AttrId}
 use Rattle.avp_lists.specs.declared.pairs.Pair.{Pair}
 use Rattle.avp_lists.specs.declared.pairs.Value.{Value}
-use Rattle.avp_lists.specs.declared.pairs.Value.TheVariants.{Int, Signed}
+use Rattle.avp_lists.specs.declared.pairs.Value.TheVariants.{Bytes, Int, Raw, Signed}
 use Rattle.avp_lists.specs.declared.lists.List.{List as Name}
 use Rattle.avp_lists.specs.declared.lists.State.{State}
+use Rattle.avp_lists.specs.declared.tags.Selection.{Selection}
 use Rattle.avp_dict.specs.Limits.{is_of_kind}
 use Rattle.avp_dict.specs.Octets.{octets_of}
 use Rattle.avp_dict.specs.Sent.{is_raw}
 use Rattle.avp_dict.specs.declared.entries.Kind.{Kind}
 use Rattle.avp_dict.specs.declared.entries.Kind.TheVariants as kinds
+use Rattle.avp_dict.specs.declared.forms.Form.{Form}
+use Rattle.avp_dict.specs.declared.forms.Form.TheVariants.{AsTyped}
+use Rattle.avp_forms.specs.Orders.{order_by_meaning}
 use Rattle.avp_unlang.specs.declared.codes.Code.{Code}
 use Rattle.avp_unlang.specs.declared.codes.Code.TheVariants as code
 use Rattle.avp_unlang.specs.declared.tree.Comparand.{Comparand}
@@ -25,7 +30,10 @@ use Rattle.avp_unlang.specs.declared.tree.Comparand.TheVariants.{Literal, Instan
 use Rattle.avp_unlang.specs.declared.tree.Comparison.{Comparison}
 use Rattle.avp_unlang.specs.declared.tree.Cond.{Cond}
 use Rattle.avp_unlang.specs.declared.tree.Cond.TheFolds.{fold-Cond}
-use Rattle.avp_unlang.specs.declared.tree.Cond.TheOpen.{Cond-F, Any, All, Not, Last, Present, Compare}
+use Rattle.avp_unlang.specs.declared.tree.Cond.TheOpen.{Cond-F, Any, All, Not, Last, Present, PresentSelected, Compare, CompareMeant}
+use Rattle.avp_unlang.specs.declared.tree.MeantComparand.{MeantComparand}
+use Rattle.avp_unlang.specs.declared.tree.MeantComparand.TheVariants as meant
+use Rattle.avp_unlang.specs.declared.tree.MeantComparison.{MeantComparison}
 use Rattle.avp_unlang.specs.declared.tree.Relation.{Relation}
 use Rattle.avp_unlang.specs.declared.tree.Relation.TheVariants.{Equal, Differs, Less, AtMost, Greater, AtLeast}
 
@@ -94,6 +102,45 @@ are_related kind relation _ _ = false
 abbrev pub is_met : Comparison → State → Bool
 is_met c s = are_related c.kind c.relation (first_value c.list c.id s) (compared_with c.comparand s)
 
+-- ---- comparisons by meaning, of a wider policy
+
+-- the octets of a value with the form by which they mean something; raw ones mean nothing
+unfoldable pub octets_meant : Form → Value → Option (Form × List ℕ)
+octets_meant form (Bytes octets) = Some (form, octets)
+octets_meant form (Raw octets) = Some (AsTyped, octets)
+octets_meant form _ = None
+
+-- the first of the instances that are meant
+abbrev pub selected_value : Name → AttrId → Selection → State → Option Value
+selected_value list id selection s =
+    option_map value_in (first_selected_instance selection id (list_of list s))
+
+abbrev pub selected_octets : Name → AttrId → Selection → Form → State → Option (Form × List ℕ)
+selected_octets list id selection form s =
+    option_and_then (octets_meant form) (selected_value list id selection s)
+
+abbrev pub meant_with : MeantComparand → State → Option (Form × List ℕ)
+meant_with (meant.Literal form octets) s = Some (form, octets)
+meant_with (meant.Instance list id selection form) s = selected_octets list id selection form s
+
+-- an order in the relation; values without one, as two prefixes of which neither has the other in it, differ
+abbrev pub meets_if_ordered : Relation → Option Ordering → Bool
+meets_if_ordered relation (Some o) = meets relation o
+meets_if_ordered Differs None = true
+meets_if_ordered _ None = false
+
+-- two values that are there, in the relation by what they mean
+abbrev pub are_related_by_meaning : Relation → Option (Form × List ℕ) → Option (Form × List ℕ)
+    → Bool
+are_related_by_meaning relation (Some v) (Some w) =
+    meets_if_ordered relation (order_by_meaning v.0 v.1 w.0 w.1)
+are_related_by_meaning relation _ _ = false
+
+abbrev pub is_met_by_meaning : MeantComparison → State → Bool
+is_met_by_meaning c s =
+    are_related_by_meaning c.relation (selected_octets c.list c.id c.selection c.form s)
+    (meant_with c.comparand s)
+
 -- ---- conditions
 
 abbrev pub same_code : Code → Code → Bool
@@ -115,7 +162,10 @@ cond_truth (All tests) s c = list_all (λ (test : Test). test s c) tests
 cond_truth (Not test) s c = not (test s c)
 cond_truth (Last word) s c = same_code c word
 cond_truth (Present list id) s c = has_instance id (list_of list s)
+cond_truth (PresentSelected list id selection) s c =
+    is_some (first_selected_instance selection id (list_of list s))
 cond_truth (Compare comparison) s c = is_met comparison s
+cond_truth (CompareMeant comparison) s c = is_met_by_meaning comparison s
 
 -- whether a condition is true
 unfoldable pub truth : Cond → Test
@@ -138,7 +188,9 @@ cond_comparable (All tests) s = list_all (λ (test : State → Bool). test s) te
 cond_comparable (Not test) s = test s
 cond_comparable (Last word) s = true
 cond_comparable (Present list id) s = true
+cond_comparable (PresentSelected list id selection) s = true
 cond_comparable (Compare comparison) s = is_comparable comparison s
+cond_comparable (CompareMeant comparison) s = true
 
 -- what a condition compares in a state is raw, or of the type that the condition keeps for it
 unfoldable pub comparable : Cond → State → Bool

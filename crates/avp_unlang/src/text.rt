@@ -3,10 +3,12 @@
 pub mod conditions;
 pub mod cursors;
 pub mod lines;
+pub mod meanings;
 pub mod parts;
 pub mod policies;
 pub mod positions;
 pub mod references;
+pub mod selecting;
 pub mod sources;
 pub mod statements;
 pub mod tokens;

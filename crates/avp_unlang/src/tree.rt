@@ -1,10 +1,11 @@
-//! A policy as a tree. The numbers of statements, branches and lines are lines of the text, from 1.
+//! A policy as a tree. The numbers of statements, branches and lines are lines of the text, from 1. Variants that are
+//! said to be of a wider policy come from texts of the profile [`Wider`](avp_forms::Profile::Wider) alone.
 
 use crate::boxed::Boxed;
 use crate::codes::Code;
 use crate::items::Items;
-use avp_dict::Kind;
-use avp_lists::{AttrId, List, Octets, Op, Value};
+use avp_dict::{Form, Kind};
+use avp_lists::{AttrId, List, Octets, Op, Selection, Value};
 
 /// A part of a text in which values are put.
 #[derive(Debug, Drop)]
@@ -13,6 +14,8 @@ pub enum Part {
     Text(Octets),
     /// `%{list:name}`: the first instance of the attribute.
     Instance(List, AttrId),
+    /// The same in a wider policy: what the first of these instances means.
+    Meant(List, AttrId, Selection),
 }
 
 pub type Parts = Items<Part>;
@@ -24,8 +27,13 @@ pub enum Source {
     Literal(Value),
     /// A text with values put in, and whether the line's attribute is named by number, as `Attr-26.9.1`.
     Text(bool, Parts),
+    /// The same in a wider policy, with the tag of the name: `Attribute:1`.
+    WiderText(bool, Option<u8>, Parts),
     /// `&list:name`: the first instance of the attribute.
     Instance(List, AttrId),
+    /// The same in a wider policy: the first of these instances. Where its octets are of the form, which is one with
+    /// tags if the line's attribute has it too, they get this tag in place of their own.
+    Tagged(List, AttrId, Selection, Form, u8),
     /// What follows `!*`.
     Any,
 }
@@ -37,6 +45,8 @@ pub struct Line {
     pub list: List,
     pub id: AttrId,
     pub op: Op,
+    /// The instances that are edited; all where no wider policy names a tag.
+    pub selection: Selection,
     pub source: Source,
 }
 
@@ -79,6 +89,28 @@ pub struct Comparison {
     pub comparand: Comparand,
 }
 
+/// What the octets of an instance are compared with in a wider policy.
+#[derive(Debug, Drop)]
+pub enum MeantComparand {
+    /// Octets that are written out, or those of a text, and their form.
+    Literal(Form, Octets),
+    /// The first of these instances, and its form.
+    Instance(List, AttrId, Selection, Form),
+}
+
+/// A comparison in a wider policy, of the first of the instances of an attribute whose values are octets, by what they
+/// mean.
+#[derive(Debug, Drop)]
+pub struct MeantComparison {
+    pub list: List,
+    pub id: AttrId,
+    pub selection: Selection,
+    /// What the octets stand for.
+    pub form: Form,
+    pub relation: Relation,
+    pub comparand: MeantComparand,
+}
+
 /// What an `if` or `elsif` asks for.
 #[derive(Debug, Drop)]
 pub enum Cond {
@@ -91,7 +123,10 @@ pub enum Cond {
     Last(Code),
     /// Whether the attribute has an instance.
     Present(List, AttrId),
+    /// The same in a wider policy: whether there is one of these instances.
+    PresentSelected(List, AttrId, Selection),
     Compare(Comparison),
+    CompareMeant(MeantComparison),
 }
 
 /// A condition, and what is done where it is the first that holds.

@@ -1,6 +1,6 @@
 //! What sources give.
 use crate::store_of;
-use avp_lists::{AttrId, List, Op, Pair, Value};
+use avp_lists::{AttrId, List, Op, Pair, Selection, Value};
 use avp_unlang::{
     Items, Line, Part, Source, Unresolved, keeps_reply_clean, one_policy, read_policy, resolve,
     size,
@@ -27,6 +27,7 @@ fn filled(
         list: List::Control,
         id: AttrId::Plain(number),
         op: Op::Replace,
+        selection: Selection::All,
         source: Source::Text(false, Items::from_vec(parts)),
     };
     Ok(resolve(alloc, &dictionary, &line, &store))
@@ -42,6 +43,7 @@ fn copied(alloc: Global, request: &[u8], number: u32) -> Result<Result<Pair, Unr
         list: List::Control,
         id: AttrId::Plain(number),
         op: Op::Replace,
+        selection: Selection::All,
         source: Source::Instance(List::Request, AttrId::Plain(1)),
     };
     Ok(resolve(alloc, &dictionary, &line, &store))

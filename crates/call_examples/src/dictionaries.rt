@@ -1,6 +1,8 @@
 //! Dictionaries, what is found in them, and texts.
 
-use avp_dict::{Dictionary, FileSet, Form, Kind, LineFault, LineKind, NamedFile, quote};
+use avp_dict::{
+    Dictionary, FileSet, Form, Kind, LineFault, LineKind, NamedFile, quote, read_pairs,
+};
 use avp_lists::{AttrId, Octets};
 use samples::{read_dictionary, test_dictionary};
 use std::alloc::Global;
@@ -40,6 +42,7 @@ fn finds_by_id(rt: &impl Abort, dictionary: &Dictionary) -> Result<(), Fail> {
 const TUNNELS: &[u8] = b"ATTRIBUTE Tunnel-Type 64 integer has_tag
 ATTRIBUTE Tunnel-Password 69 string has_tag,encrypt=2
 ATTRIBUTE Tunnel-Alias 69 string
+VALUE Tunnel-Type VLAN 13
 ";
 
 // Example: Dictionary::form
@@ -75,6 +78,29 @@ fn finds_names(rt: &impl Abort, dictionary: &Dictionary) -> Result<(), Fail> {
     Ok(())
 }
 
+// Example: Dictionary::tagged_number
+fn finds_tagged_numbers(rt: &impl Abort, dictionary: &Dictionary) {
+    // `ATTRIBUTE Tunnel-Type 64 integer has_tag` and `VALUE Tunnel-Type VLAN 13`
+    let tunnel_type = AttrId::Plain(64);
+    assert_eq!(rt; dictionary.tagged_number(tunnel_type, b"vlan"), Some(13));
+    assert_eq!(rt; dictionary.value_number(tunnel_type, b"vlan"), None);
+}
+
+// Example: Dictionary::tagged_name
+fn finds_tagged_names(rt: &impl Abort, dictionary: &Dictionary) -> Result<(), Fail> {
+    let tunnel_type = AttrId::Plain(64);
+    let name = dictionary.tagged_name(tunnel_type, 13).ok_or("no name")?;
+    assert_eq!(rt; name, b"VLAN".as_slice());
+    Ok(())
+}
+
+// Example: read_pairs
+fn reads_pairs(rt: &impl Abort, alloc: Global, dictionary: &Dictionary) -> Result<(), Fail> {
+    let pairs = read_pairs(dictionary, alloc, b"User-Name = \"bob\", NAS-Port = 3")?;
+    assert_eq!(rt; pairs.len(), 2);
+    Ok(())
+}
+
 // Example: Dictionary::read_request
 fn reads_a_request(rt: &impl Abort, alloc: Global, dictionary: &Dictionary) -> Result<(), Fail> {
     let request = dictionary.read_request(alloc, b"User-Name = \"bob\", NAS-Port = 3")?;
@@ -104,6 +130,7 @@ fn look_up(rt: &impl Abort, alloc: Global, dictionary: &Dictionary) -> Result<()
     finds_by_id(rt, dictionary)?;
     finds_numbers(rt, dictionary);
     finds_names(rt, dictionary)?;
+    reads_pairs(rt, alloc, dictionary)?;
     reads_a_request(rt, alloc, dictionary)
 }
 
@@ -112,7 +139,8 @@ fn tunnels(rt: HostRuntime) -> Result<(), Fail> {
     let dictionary = read_dictionary(rt.alloc(), TUNNELS)?;
     finds_forms(&rt, &dictionary);
     finds_marks(&rt, &dictionary);
-    Ok(())
+    finds_tagged_numbers(&rt, &dictionary);
+    finds_tagged_names(&rt, &dictionary)
 }
 
 #[test]

@@ -13,6 +13,8 @@ mod packets;
 #[cfg(test)]
 mod policies;
 #[cfg(test)]
+mod profiles;
+#[cfg(test)]
 mod steps;
 #[cfg(test)]
 mod stores;

@@ -1,6 +1,9 @@
 //! Edits of a store, and the ways back.
 
-use avp_lists::{AttrId, Edit, List, Op, Pair, SlotStore, Store, Value, edit_and_undo, undo_by};
+use avp_lists::{
+    AttrId, Edit, List, Octets, Op, Pair, Selection, SlotStore, Store, Tagging, Value,
+    edit_and_undo, tag_of, undo_by,
+};
 use std::alloc::Global;
 use std::process::Abort;
 use std::test::Fail;
@@ -25,6 +28,32 @@ fn finds_an_instance<S: Store>(rt: &impl Abort, store: &S) -> Result<(), Fail> {
         .first(List::Reply, AttrId::Plain(27))
         .ok_or("no timeout")?;
     assert!(rt; timeout.value == Value::Int(600));
+    Ok(())
+}
+
+// Example: Store::edit_selected
+fn edits_a_tag<S: Store>(rt: &impl Abort, alloc: Global, store: &mut S) -> Result<(), Fail> {
+    // The reply is `Tunnel-Type:1 = VLAN`, and GRE is the number 10.
+    let id = AttrId::Plain(64);
+    let value = Value::Bytes(Octets::from_slice(alloc, &[2, 0, 0, 10])?);
+    let gre = Edit {
+        list: List::Reply,
+        op: Op::Replace,
+        pair: Pair { id, value },
+    };
+    store.edit_selected(gre, Selection::Tag(Tagging::Number, 2))?;
+    assert_eq!(rt; store.count(List::Reply), 2);
+    Ok(())
+}
+
+// Example: Store::first_selected
+fn finds_a_tag<S: Store>(rt: &impl Abort, store: &S) -> Result<(), Fail> {
+    // The reply is `Tunnel-Type:1 = VLAN`, `Tunnel-Type:2 = GRE`.
+    let second = Selection::Tag(Tagging::Number, 2);
+    let tunnel = store
+        .first_selected(List::Reply, AttrId::Plain(64), second)
+        .ok_or("no tunnel")?;
+    assert_eq!(rt; tag_of(Tagging::Number, &tunnel.value), Some(2));
     Ok(())
 }
 
@@ -113,6 +142,25 @@ fn edits_and_looks(rt: HostRuntime) -> Result<(), Fail> {
     edits(&rt, &mut store)?;
     finds_an_instance(&rt, &store)?;
     finds_a_pair(&rt, &store)
+}
+
+// Adds `Tunnel-Type:1 = VLAN`.
+fn tunnel(alloc: Global) -> Result<Edit, Fail> {
+    let id = AttrId::Plain(64);
+    let value = Value::Bytes(Octets::from_slice(alloc, &[1, 0, 0, 13])?);
+    Ok(Edit {
+        list: List::Reply,
+        op: Op::Append,
+        pair: Pair { id, value },
+    })
+}
+
+#[test]
+fn edits_and_finds_a_tag(rt: HostRuntime) -> Result<(), Fail> {
+    let mut store = empty_store(rt.alloc())?;
+    store.edit(tunnel(rt.alloc())?)?;
+    edits_a_tag(&rt, rt.alloc(), &mut store)?;
+    finds_a_tag(&rt, &store)
 }
 
 #[test]

@@ -5,6 +5,7 @@
 #![tactic(auto)]
 
 use avp_dict::{Dictionary, FileSet, NamedFile};
+use avp_forms::Profile;
 use avp_lists::Octets;
 use radpolicy::{Fault, PreparedPolicy, RunOutcome, Secret, Start};
 use std::alloc::Global;
@@ -39,8 +40,8 @@ fn run_once<'a>(
     given: &Given<'_>,
 ) -> Result<RunOutcome<'a>, Fault> {
     Start::of_packet(alloc, prepared, secret, given.packet)?
-        .with_reply_lines(alloc, given.reply)?
-        .with_control_lines(alloc, given.control)?
+        .with_reply_lines(alloc, Profile::Plain, None, given.reply)?
+        .with_control_lines(alloc, Profile::Plain, None, given.control)?
         .run(alloc)
 }
 

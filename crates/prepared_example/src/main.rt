@@ -2,6 +2,7 @@
 #![tactic(auto)]
 
 use avp_dict::{Dictionary, FileSet, NamedFile};
+use avp_forms::Profile;
 use avp_lists::Octets;
 use avp_unlang::Code;
 use radpolicy::{Fault, PreparedPolicy, RequestHead, RequestKind, Secret, Start};
@@ -35,7 +36,15 @@ fn rejected(alloc: Global, dictionary: &Dictionary) -> Result<u32, Fault> {
     let mut rejected = 0;
     for port in 0..1000_u32 {
         let lines = format!(in alloc; "User-Name = bob, NAS-Port = {port}")?;
-        let start = Start::of_lines(alloc, &policy, Some(&secret), head, lines.as_bytes())?;
+        let start = Start::of_lines(
+            alloc,
+            &policy,
+            Some(&secret),
+            head,
+            Profile::Plain,
+            None,
+            lines.as_bytes(),
+        )?;
         if start.run(alloc)?.code() == Code::Reject {
             rejected += 1;
         }

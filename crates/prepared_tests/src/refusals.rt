@@ -5,6 +5,7 @@ ghost use Rattle.radpolicy.specs.Faults.{IsPrintedWith};
 
 use crate::starts::{ACCESS, class, start};
 use avp_dict::FileSet;
+use avp_forms::Profile;
 use avp_lists::{AttrId, Pair, Pairs, Value, copy_pair};
 use radpolicy::{Fault, OwnedPolicy, PreparedPolicy, Secret, Start, WriteOutput, print_fault};
 use samples::test_dictionary;
@@ -38,13 +39,31 @@ fn refuses_lines(rt: HostRuntime) -> Result<(), Fail> {
     let prepared = PreparedPolicy::read(alloc, &dictionary, b"")?;
     let line = refused(
         alloc,
-        Start::of_lines(alloc, &prepared, None, ACCESS, b"\nNosuch = 1"),
+        Start::of_lines(
+            alloc,
+            &prepared,
+            None,
+            ACCESS,
+            Profile::Plain,
+            None,
+            b"\nNosuch = 1",
+        ),
     )?;
     assert!(&rt; line.as_slice() == b"radpolicy: E32 request:2: unknown attribute\n".as_slice());
-    let made = start(alloc, &prepared, b"")?.with_reply_lines(alloc, b"\nNAS-Port = x");
+    let made = start(alloc, &prepared, b"")?.with_reply_lines(
+        alloc,
+        Profile::Plain,
+        None,
+        b"\nNAS-Port = x",
+    );
     let line = refused(alloc, made)?;
     assert!(&rt; line.as_slice() == b"radpolicy: E30 reply:2: not a value\n".as_slice());
-    let made = start(alloc, &prepared, b"")?.with_control_lines(alloc, b"Attr-26 = 0x00");
+    let made = start(alloc, &prepared, b"")?.with_control_lines(
+        alloc,
+        Profile::Plain,
+        None,
+        b"Attr-26 = 0x00",
+    );
     let line = refused(alloc, made)?;
     assert!(&rt; line.as_slice() == b"radpolicy: E33 control:1: not writable\n".as_slice());
     Ok(())

@@ -2,6 +2,7 @@
 
 use crate::starts::{ACCESS, ACCOUNTING, AUTHENTICATOR, class, run_of, start};
 use avp_dict::Dictionary;
+use avp_forms::Profile;
 use avp_lists::{List, Octets, Pairs, Store};
 use avp_packet::check_reply;
 use avp_step::Label;
@@ -143,7 +144,12 @@ fn expect_walk(rt: &impl Abort, alloc: Global, start: Start<'_>) -> Result<(), F
 fn walks_from_the_initial_lists(rt: HostRuntime) -> Result<(), Fail> {
     let dictionary = test_dictionary(rt.alloc())?;
     let prepared = PreparedPolicy::read(rt.alloc(), &dictionary, POST_AUTH)?;
-    let start = start(rt.alloc(), &prepared, b"")?.with_reply_lines(rt.alloc(), b"Class = 0x01")?;
+    let start = start(rt.alloc(), &prepared, b"")?.with_reply_lines(
+        rt.alloc(),
+        Profile::Plain,
+        None,
+        b"Class = 0x01",
+    )?;
     expect_walk(&rt, rt.alloc(), start)
 }
 
@@ -156,7 +162,15 @@ fn reply_of(
 ) -> Result<Option<Octets>, Fail> {
     let prepared = PreparedPolicy::read(alloc, dictionary, policy)?;
     let secret = Secret::new(b"s")?;
-    let start = Start::of_lines(alloc, &prepared, Some(&secret), head, b"Proxy-State = 0x70")?;
+    let start = Start::of_lines(
+        alloc,
+        &prepared,
+        Some(&secret),
+        head,
+        Profile::Plain,
+        None,
+        b"Proxy-State = 0x70",
+    )?;
     let reply = Pairs::from_vec(vec![in alloc; class(alloc, 1)?]?);
     match start.with_reply(reply)?.run(alloc)?.reply() {
         Reply::Packet(octets) => Ok(Some(Octets::from_slice(alloc, octets.as_slice())?)),

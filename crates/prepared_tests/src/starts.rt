@@ -1,5 +1,6 @@
 //! What the tests share: heads of requests, pairs, and runs by lines.
 
+use avp_forms::Profile;
 use avp_lists::{AttrId, Octets, Pair, Value};
 use radpolicy::{PreparedPolicy, RequestHead, RequestKind, Start};
 use std::alloc::{AllocError, Global};
@@ -36,7 +37,7 @@ pub fn start<'a>(
     prepared: &'a PreparedPolicy<'a>,
     lines: &[u8],
 ) -> Result<Start<'a>, Fail> {
-    Ok(Start::of_lines(alloc, prepared, None, ACCESS, lines)?)
+    Ok(Start::of_lines(alloc, prepared, None, ACCESS, Profile::Plain, None, lines)?)
 }
 
 /// The report of a run over these request, reply and control lines.
@@ -47,8 +48,8 @@ pub fn run_of<'a>(
 ) -> Result<Vec<u8>, Fail> {
     let [request, reply, control] = lists;
     let outcome = start(alloc, prepared, request)?
-        .with_reply_lines(alloc, reply)?
-        .with_control_lines(alloc, control)?
+        .with_reply_lines(alloc, Profile::Plain, None, reply)?
+        .with_control_lines(alloc, Profile::Plain, None, control)?
         .run(alloc)?;
     Ok(outcome.text(alloc)?)
 }

@@ -3,9 +3,10 @@ use Rattle.std.proofs.Common.{◌≡◌, ◌∙◌, ℕ, ◌⊎◌, inl, inr, tr
 use Rattle.std.specs.Option.{option_map}
 use Rattle.avp_dict.specs.Dictionary.{Dictionary}
 use Rattle.avp_dict.specs.Sent.{is_clean}
+use Rattle.avp_forms.specs.declared.profiles.Profile.{Profile}
 use Rattle.avp_step.specs.Walk.{walk_from}
 use Rattle.radpolicy.specs.Faults.{MemoryOr}
-use Rattle.radpolicy.specs.JobReports.{IsOpened, IsPolicy, IsPolicyRefusal, IsRequestOrReplyRefusal, IsRunReport, IsScript, IsScriptOrRequestRefusal, IsStepReport, IsUnspelled, opened, policy_of, report_of_run, run_of, script_of, step_report}
+use Rattle.radpolicy.specs.JobReports.{IsOpened, IsPolicy, IsPolicyRefusal, IsRequestOrReplyRefusal, IsRunReport, IsScript, IsScriptOrRequestRefusal, IsStepReport, IsUnspelled, opened, policy_of, profile_for, report_of_run, run_of, script_of, step_report}
 use Rattle.radpolicy.specs.Received.{IsUnreadRequest, request_for}
 use Rattle.radpolicy.specs.Replies.{proxy_states}
 use Rattle.radpolicy.specs.ReplyMeaning.{IsRunRead, ReplyIsRead}
@@ -44,11 +45,11 @@ module _ (job : Job) (d : Dictionary) (secret : Option (List ℕ)) (opens : IsOp
     run_request_refused f (inl memory) = inl memory
     run_request_refused f (inr is) = inr (inr (record { opened = opened d secret; statements = prepared.statements; opens = opens; policy = policy; fault = inl (own_request f is) }))
 
-    module _ (start : Start) (is : start ≡ start_of prepared secret job.form start.request) (received : request_for prepared.dictionary secret job ≡ Ok start.request) where
+    module _ (start : Start) (is : start ≡ start_of prepared secret job.form start.request) (received : request_for prepared.dictionary secret job ≡ Ok start.request) (asked : prepared.profile ≡ profile_for job) where
       own_received : request_for d secret job ≡ Ok start.request
       own_received = subst (λ (own : Dictionary). request_for own secret job ≡ Ok start.request) same received
 
-      pub walk_reported : (script : List ScriptWord) → IsScript job script → (report : Report) → step_report script (walk_from start.prepared.dictionary start.prepared.statements (entry_of start)) ≡ report → IsStepReport job report
+      pub walk_reported : (script : List ScriptWord) → IsScript job script → (report : Report) → step_report start.prepared.profile script (walk_from start.prepared.dictionary start.prepared.statements (entry_of start)) ≡ report → IsStepReport job report
       walk_reported script words report made = record {
         opened = opened d secret;
         statements = prepared.statements;
@@ -59,13 +60,15 @@ module _ (job : Job) (d : Dictionary) (secret : Option (List ℕ)) (opens : IsOp
         words = words;
         received = own_received;
         made =
-            sym made ∙ ap (λ (s : Start). step_report script (walk_from s.prepared.dictionary s.prepared.statements (entry_of s))) is
-            ∙ ap (λ (own : Dictionary). step_report script (walk_from own prepared.statements (entry_of (start_of prepared secret job.form start.request)))) same;
+            sym made ∙ ap (λ (s : Start). step_report s.prepared.profile script (walk_from s.prepared.dictionary s.prepared.statements (entry_of s))) is
+            ∙ ap (λ (own : Dictionary). step_report prepared.profile script (walk_from own prepared.statements (entry_of (start_of prepared secret job.form start.request)))) same
+            ∙ ap (λ (p : Profile). step_report p script (walk_from d prepared.statements (entry_of (start_of prepared secret job.form start.request)))) asked;
       }
 
-      outcome_reported : report_of_run job.form (opened d secret) prepared.statements start.request ≡ option_map outcome_report (outcome_of start)
+      outcome_reported : report_of_run (profile_for job) job.form (opened d secret) prepared.statements start.request ≡ option_map outcome_report (outcome_of start)
       outcome_reported =
-          ap (λ (own : Dictionary). report_of_run job.form (opened own secret) prepared.statements start.request) (sym same)
+          ap (λ (p : Profile). report_of_run p job.form (opened d secret) prepared.statements start.request) (sym asked)
+          ∙ ap (λ (own : Dictionary). report_of_run prepared.profile job.form (opened own secret) prepared.statements start.request) (sym same)
           ∙ report_of_outcome prepared secret job.form start.request ∙ ap (λ (s : Start). option_map outcome_report (outcome_of s)) (sym is)
 
       pub run_reported : (report : Report) → option_map outcome_report (outcome_of start) ≡ Some report → IsRunReport job report

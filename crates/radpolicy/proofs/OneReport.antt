@@ -7,7 +7,7 @@ use Rattle.radpolicy.specs.declared.faults.Fault.TheVariants as fault
 use Rattle.radpolicy.specs.declared.jobs.Command.{Command}
 use Rattle.radpolicy.specs.declared.jobs.Command.TheVariants.{Check, Decode, Encode, Run, Step}
 use Rattle.radpolicy.specs.declared.jobs.Job.{Job}
-use Rattle.radpolicy.specs.JobReports.{IsCheckRefusal, IsCheckReport, IsDictionaryRefusal, IsOpenRefusal, IsOpened, IsPacketRefusal, IsPacketReport, IsPolicy, IsReceived, IsRefused, IsReport, IsRequestRefusal, IsRunRefusal, IsRunReport, IsScript, IsSizeOf, IsStepRefusal, IsStepReport, Opened, RefusalOf, ReportOf, decode_report, dictionary_for, encode_report, policy_of, report_of_run, script_of, step_report, request_walk, opened}
+use Rattle.radpolicy.specs.JobReports.{IsCheckRefusal, IsCheckReport, IsDictionaryRefusal, IsOpenRefusal, IsOpened, IsPacketRefusal, IsPacketReport, IsPolicy, IsReceived, IsRefused, IsReport, IsRequestRefusal, IsRunRefusal, IsRunReport, IsScript, IsSizeOf, IsStepRefusal, IsStepReport, Opened, RefusalOf, ReportOf, decode_report, dictionary_for, encode_report, policy_of, profile_for, report_of_run, script_of, step_report, request_walk, opened}
 use Rattle.radpolicy.specs.Received.{IsUnreadRequest, request_for}
 use Rattle.radpolicy.specs.Reports.{Report, check_report}
 use Rattle.radpolicy.specs.Scripts.{IsUnknownWord, script_spelled}
@@ -46,8 +46,8 @@ module _ (job : Job) where
 
   -- ---- one report
 
-  run_of_other : (o : Opened) (a : Report) (h : IsRunReport job a) → h.opened ≡ o → (statements : List Statement) × (request : Packet) × IsPolicy job o.dictionary statements × IsReceived job o request × (report_of_run job.form o statements request ≡ Some a)
-  run_of_other o a h e = subst (λ (p : Opened). (statements : List Statement) × (request : Packet) × IsPolicy job p.dictionary statements × IsReceived job p request × (report_of_run job.form p statements request ≡ Some a)) e (h.statements, h.request, h.policy, h.received, h.made)
+  run_of_other : (o : Opened) (a : Report) (h : IsRunReport job a) → h.opened ≡ o → (statements : List Statement) × (request : Packet) × IsPolicy job o.dictionary statements × IsReceived job o request × (report_of_run (profile_for job) job.form o statements request ≡ Some a)
+  run_of_other o a h e = subst (λ (p : Opened). (statements : List Statement) × (request : Packet) × IsPolicy job p.dictionary statements × IsReceived job p request × (report_of_run (profile_for job) job.form p statements request ≡ Some a)) e (h.statements, h.request, h.policy, h.received, h.made)
 
   one_run_report : (a b : Report) → IsRunReport job a → IsRunReport job b → a ≡ b
   one_run_report a b h g =
@@ -55,8 +55,8 @@ module _ (job : Job) where
       let r = run_of_other o a h (one_opened h.opened o h.opens g.opens) in
       let statements = one_statements o.dictionary r.0 g.statements r.2 g.policy in
       let request = one_request o r.1 g.request r.3 g.received in
-      let same = ap (λ s. report_of_run job.form o s r.1) statements ∙ ap (report_of_run job.form o g.statements) request in
-      the_some a b (report_of_run job.form o g.statements g.request) (sym same ∙ r.4) g.made
+      let same = ap (λ s. report_of_run (profile_for job) job.form o s r.1) statements ∙ ap (report_of_run (profile_for job) job.form o g.statements) request in
+      the_some a b (report_of_run (profile_for job) job.form o g.statements g.request) (sym same ∙ r.4) g.made
 
   module _ (made_of : Opened → Packet → Option Report) where
     packet_of_other : (o : Opened) (a : Report) (h : IsPacketReport made_of job a) → h.opened ≡ o → (request : Packet) × IsReceived job o request × (made_of o request ≡ Some a)
@@ -81,8 +81,8 @@ module _ (job : Job) where
       let size = one_size job.policy g.dictionary h.size g.size (subst (λ (d : Dictionary). IsSizeOf job.policy job d h.size) same h.policy) g.policy in
       h.text ∙ ap₂ (λ d n. check_report job.files d n) same size ∙ sym g.text
 
-  step_of_other : (o : Opened) (a : Report) (h : IsStepReport job a) → h.opened ≡ o → (statements : List Statement) × (request : Packet) × IsPolicy job o.dictionary statements × IsReceived job o request × (a ≡ step_report h.script (request_walk o.dictionary statements request))
-  step_of_other o a h e = subst (λ (p : Opened). (statements : List Statement) × (request : Packet) × IsPolicy job p.dictionary statements × IsReceived job p request × (a ≡ step_report h.script (request_walk p.dictionary statements request))) e (h.statements, h.request, h.policy, h.received, h.made)
+  step_of_other : (o : Opened) (a : Report) (h : IsStepReport job a) → h.opened ≡ o → (statements : List Statement) × (request : Packet) × IsPolicy job o.dictionary statements × IsReceived job o request × (a ≡ step_report (profile_for job) h.script (request_walk o.dictionary statements request))
+  step_of_other o a h e = subst (λ (p : Opened). (statements : List Statement) × (request : Packet) × IsPolicy job p.dictionary statements × IsReceived job p request × (a ≡ step_report (profile_for job) h.script (request_walk p.dictionary statements request))) e (h.statements, h.request, h.policy, h.received, h.made)
 
   one_step_report : (a b : Report) → IsStepReport job a → IsStepReport job b → a ≡ b
   one_step_report a b h g =
@@ -91,8 +91,8 @@ module _ (job : Job) where
       let statements = one_statements o.dictionary r.0 g.statements r.2 g.policy in
       let request = one_request o r.1 g.request r.3 g.received in
       let script = the_ok h.script g.script (script_spelled (script_of job)) h.words g.words in
-      r.4 ∙ ap (λ w. step_report w (request_walk o.dictionary r.0 r.1)) script ∙ ap (λ s. step_report g.script (request_walk o.dictionary s r.1)) statements
-      ∙ ap (λ q. step_report g.script (request_walk o.dictionary g.statements q)) request ∙ sym g.made
+      r.4 ∙ ap (λ w. step_report (profile_for job) w (request_walk o.dictionary r.0 r.1)) script ∙ ap (λ s. step_report (profile_for job) g.script (request_walk o.dictionary s r.1)) statements
+      ∙ ap (λ q. step_report (profile_for job) g.script (request_walk o.dictionary g.statements q)) request ∙ sym g.made
 
   one_report_of : (command : Command) (a b : Report) → ReportOf command job a → ReportOf command job b → a ≡ b
   one_report_of Run a b h g = one_run_report a b h g
@@ -124,16 +124,16 @@ module _ (job : Job) where
       o : Opened
       o = refused.opened
 
-      r : (statements : List Statement) × (request : Packet) × IsPolicy job o.dictionary statements × IsReceived job o request × (report_of_run job.form o statements request ≡ Some report)
+      r : (statements : List Statement) × (request : Packet) × IsPolicy job o.dictionary statements × IsReceived job o request × (report_of_run (profile_for job) job.form o statements request ≡ Some report)
       r = run_of_other o report h (one_opened h.opened o h.opens refused.opens)
 
-      by_fault : (IsRequestRefusal job o f ⊎ ((request : Packet) × IsReceived job o request × (report_of_run job.form o refused.statements request ≡ None) × (f ≡ fault.PacketTooLong))) → ⊥
+      by_fault : (IsRequestRefusal job o f ⊎ ((request : Packet) × IsReceived job o request × (report_of_run (profile_for job) job.form o refused.statements request ≡ None) × (f ≡ fault.PacketTooLong))) → ⊥
       by_fault (inl unread) = request_read o r.1 f r.3 unread
       by_fault (inr long) =
           let statements = one_statements o.dictionary r.0 refused.statements r.2 refused.policy in
           let request = one_request o r.1 long.0 r.3 long.1 in
-          let same = ap (λ s. report_of_run job.form o s r.1) statements ∙ ap (report_of_run job.form o refused.statements) request in
-          not_both_some report (report_of_run job.form o refused.statements long.0) (sym same ∙ r.4) long.2
+          let same = ap (λ s. report_of_run (profile_for job) job.form o s r.1) statements ∙ ap (report_of_run (profile_for job) job.form o refused.statements) request in
+          not_both_some report (report_of_run (profile_for job) job.form o refused.statements long.0) (sym same ∙ r.4) long.2
 
   step_not : (report : Report) (f : Fault) → IsStepReport job report → IsStepRefusal job f → ⊥
   step_not report f h (inl refused) = opened_not h.opened f h.opens refused

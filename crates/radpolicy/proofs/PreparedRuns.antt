@@ -6,15 +6,14 @@ use Rattle.avp_dict.specs.Dictionary.{Dictionary}
 use Rattle.avp_packet.specs.declared.packets.Packet.{Packet}
 use Rattle.avp_unlang.specs.Meaning.{Outcome as End}
 use Rattle.avp_unlang.specs.declared.tree.Statement.{Statement}
-use Rattle.radpolicy.specs.JobReports.{IsRequestOrReplyRefusal, IsRunReport, Opened, opened, report_of_run, run_of}
+use Rattle.radpolicy.specs.JobReports.{IsRequestOrReplyRefusal, IsRunReport, Opened, opened, profile_for, report_of_run, run_of}
 use Rattle.radpolicy.specs.OutcomeReports.{IsOutcomeRefusal, IsOutcomeReport, prepared_for, start_by, start_for}
 use Rattle.radpolicy.specs.Plans.{IsSound, Rules, RunRulesOf, asked_by_job}
-use Rattle.radpolicy.specs.Received.{lines_for, request_for, request_of}
+use Rattle.radpolicy.specs.Received.{lines_for, lines_spelled, request_for, request_of}
 use Rattle.radpolicy.specs.declared.heads.RequestKind.TheVariants as kind
 use Rattle.radpolicy.specs.declared.jobs.Command.{Command}
 use Rattle.radpolicy.specs.declared.jobs.Command.TheVariants.{Run}
 use Rattle.radpolicy.specs.declared.jobs.Form.TheVariants as form
-use Rattle.avp_dict.specs.Requests.{request_spelled}
 use Rattle.avp_lists.specs.Meets.{Finds}
 use Rattle.avp_lists.specs.declared.pairs.Pair.{Pair}
 use Rattle.avp_packet.specs.Outcomes.{is_memory_encoding}
@@ -35,17 +34,17 @@ use Rattle.avp_packet.specs.declared.faults.EncodeFault.TheVariants as encode
 use Rattle.radpolicy.specs.declared.jobs.Form.{Form}
 
 -- the line of what is sent is that of the answer
-by_answer : (dictionary : Dictionary) (end : End) (answer : Answer) → option_map outcome_report (option_map (outcome_with dictionary end) (reply_of answer)) ≡ option_map (run_report dictionary end) (answer_line answer)
-by_answer dictionary end Nothing = refl
-by_answer dictionary end (Sent octets) = refl
-by_answer dictionary end TooLong = refl
+by_answer : (prepared : Prepared) (end : End) (answer : Answer) → option_map outcome_report (option_map (outcome_with prepared end) (reply_of answer)) ≡ option_map (run_report prepared.profile prepared.dictionary end) (answer_line answer)
+by_answer prepared end Nothing = refl
+by_answer prepared end (Sent octets) = refl
+by_answer prepared end TooLong = refl
 
 -- the report of a run is that of its outcome
-pub report_of_outcome : (prepared : Prepared) (secret : Option (List ℕ)) (form : Form) (request : Packet) → report_of_run form (opened prepared.dictionary secret) prepared.statements request ≡ option_map outcome_report (outcome_of (start_of prepared secret form request))
+pub report_of_outcome : (prepared : Prepared) (secret : Option (List ℕ)) (form : Form) (request : Packet) → report_of_run prepared.profile form (opened prepared.dictionary secret) prepared.statements request ≡ option_map outcome_report (outcome_of (start_of prepared secret form request))
 report_of_outcome prepared None form request = refl
 report_of_outcome prepared (Some secret) form request =
     let end = run_of prepared.dictionary prepared.statements request in
-    sym (by_answer prepared.dictionary end (answer_of form prepared.dictionary secret request end))
+    sym (by_answer prepared end (answer_of form prepared.dictionary secret request end))
 
 mapped : {A B : Type 0} (f : A → B) (o : Option A) (y : B) → option_map f o ≡ Some y → (x : A) × (o ≡ Some x) × (y ≡ f x)
 mapped f None y e = absurd (cc)
@@ -66,20 +65,20 @@ module _ (job : Job) where
   start_is : (f : Form) (prepared : Prepared) (secret : Option (List ℕ)) (request : Packet) → request_of f prepared.dictionary secret job ≡ Ok request → (f ≡ form.Accounting → job.authenticator ≡ None) → start_by f job prepared secret request ≡ start_of prepared secret f request
   start_is form.Hex prepared secret request received made = refl
   start_is form.Access prepared secret request received made =
-      let lines = lines_are access_request (request_spelled job.request prepared.dictionary) request received in
+      let lines = lines_are access_request (lines_spelled job.request prepared.dictionary) request received in
       subst (λ (r : Packet). start_by form.Access job prepared secret r ≡ start_of prepared secret form.Access r) lines.1 refl
   start_is form.Accounting prepared secret request received made =
-      let lines = lines_are accounting_request (request_spelled job.request prepared.dictionary) request received in
+      let lines = lines_are accounting_request (lines_spelled job.request prepared.dictionary) request received in
       let own : form_by kind.Accounting job.authenticator ≡ form.Accounting = ap (form_by kind.Accounting) (made refl) in
       subst (λ (r : Packet). start_by form.Accounting job prepared secret r ≡ start_of prepared secret form.Accounting r) lines.1
       (ap (λ (f : Form). start_of prepared secret f (of_lines accounting_request lines.0)) own)
 
   module _ (made : job.form ≡ form.Accounting → job.authenticator ≡ None) where
     outcome_is : (o : Opened) (statements : List Statement) (request : Packet) → request_for o.dictionary o.secret job ≡ Ok request
-        → report_of_run job.form o statements request ≡ option_map outcome_report (outcome_of (start_for job o statements request))
+        → report_of_run (profile_for job) job.form o statements request ≡ option_map outcome_report (outcome_of (start_for job o statements request))
     outcome_is o statements request received =
-        report_of_outcome (prepared_for o statements) o.secret job.form request
-        ∙ ap (λ (s : Start). option_map outcome_report (outcome_of s)) (sym (start_is job.form (prepared_for o statements) o.secret request received made))
+        report_of_outcome (prepared_for job o statements) o.secret job.form request
+        ∙ ap (λ (s : Start). option_map outcome_report (outcome_of s)) (sym (start_is job.form (prepared_for job o statements) o.secret request received made))
 
     -- the report of a job's run is the text of its outcome
     pub report_is_of_outcome : (report : Report) → IsRunReport job report → IsOutcomeReport job report
@@ -136,12 +135,12 @@ made_of_lines job sound is lines =
 -- ---- what a run comes to, by where it ended and what is sent
 
 module _ (start : Start) (head : Option ReplyHead) (end : End) (ended : end_of start ≡ end) (own : (e : End) → sent_by start.prepared.dictionary head e.code e.state.reply ≡ sent_reply start e) where
-  outcome_by_end : (sent : Option Reply) → sent_by start.prepared.dictionary head end.code end.state.reply ≡ sent → outcome_of start ≡ option_map (outcome_with start.prepared.dictionary end) sent
+  outcome_by_end : (sent : Option Reply) → sent_by start.prepared.dictionary head end.code end.state.reply ≡ sent → outcome_of start ≡ option_map (outcome_with start.prepared end) sent
   outcome_by_end sent is =
-      ap (λ (e : End). option_map (outcome_with start.prepared.dictionary e) (sent_reply start e)) ended
-      ∙ ap (option_map (outcome_with start.prepared.dictionary end)) (sym (own end) ∙ is)
+      ap (λ (e : End). option_map (outcome_with start.prepared e) (sent_reply start e)) ended
+      ∙ ap (option_map (outcome_with start.prepared end)) (sym (own end) ∙ is)
 
-  pub outcome_sent : (sent : Reply) → sent_by start.prepared.dictionary head end.code end.state.reply ≡ Some sent → outcome_of start ≡ Some (outcome_with start.prepared.dictionary end sent)
+  pub outcome_sent : (sent : Reply) → sent_by start.prepared.dictionary head end.code end.state.reply ≡ Some sent → outcome_of start ≡ Some (outcome_with start.prepared end sent)
   outcome_sent sent is = outcome_by_end (Some sent) is
 
   pub outcome_refused : (f : EncodeFault) → Finds is_memory_encoding (Err f) (sent_by start.prepared.dictionary head end.code end.state.reply) → MemoryOr (λ g. (g ≡ fault.PacketTooLong) × (outcome_of start ≡ None)) (fault_of_encode f)

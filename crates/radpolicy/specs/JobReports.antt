@@ -6,6 +6,8 @@ use Rattle.avp_lists.specs.declared.lists.State.{State}
 use Rattle.avp_dict.specs.declared.faults.DictFault.{DictFault}
 use Rattle.avp_dict.specs.Dictionary.{Dictionary}
 use Rattle.avp_dict.specs.DictionaryReading.{dictionary_of, max_lines}
+use Rattle.avp_forms.specs.Profiles.{profile_of}
+use Rattle.avp_forms.specs.declared.profiles.Profile.{Profile}
 use Rattle.avp_packet.specs.declared.packets.Packet.{Packet}
 use Rattle.radpolicy.specs.declared.faults.Fault.{Fault}
 use Rattle.radpolicy.specs.declared.faults.Fault.TheVariants as fault
@@ -57,6 +59,10 @@ IsReceived job opened request = request_for opened.dictionary opened.secret job 
 abbrev pub policy_of : Job → List ℕ
 policy_of job = unwrap_or job.policy []
 
+-- the profile that the policy's first line asks for
+abbrev pub profile_for : Job → Profile
+profile_for job = profile_of (policy_of job)
+
 -- the job's policy spells these statements
 abbrev pub IsPolicy : Job → Dictionary → List Statement → Type 0
 IsPolicy job dictionary statements = SpellsPolicy dictionary (policy_of job) statements
@@ -81,10 +87,10 @@ sent_line form opened request end =
     ]
 
 -- the report of a run; none where its packet is too long
-abbrev pub report_of_run : Form → Opened → List Statement → Packet → Option Report
-report_of_run form opened statements request =
+abbrev pub report_of_run : Profile → Form → Opened → List Statement → Packet → Option Report
+report_of_run profile form opened statements request =
     let end = run_of opened.dictionary statements request in
-    option_map (run_report opened.dictionary end) (sent_line form opened request end)
+    option_map (run_report profile opened.dictionary end) (sent_line form opened request end)
 
 -- the report of a run: that of its policy over its request
 pub record IsRunReport (job : Job) (report : Report) : Type 0 where
@@ -94,7 +100,7 @@ pub record IsRunReport (job : Job) (report : Report) : Type 0 where
   pub opens : IsOpened job opened
   pub policy : IsPolicy job opened.dictionary statements
   pub received : IsReceived job opened request
-  pub made : report_of_run job.form opened statements request ≡ Some report
+  pub made : report_of_run (profile_for job) job.form opened statements request ≡ Some report
 
 -- ---- walks
 
@@ -111,11 +117,11 @@ request_walk dictionary statements request =
     walk_from dictionary statements (entry_state request.list)
 
 -- the report of a walk by a script
-abbrev pub step_report : List ScriptWord → Walk → Report
-step_report script walk =
+abbrev pub step_report : Profile → List ScriptWord → Walk → Report
+step_report profile script walk =
     let end = (entry (after_script script walk)).outcome in
     record {
-      text = script_text script walk;
+      text = script_text profile script walk;
       outcome = record { code = Some end.code; stopped = end.stopped };
     }
 
@@ -129,7 +135,8 @@ pub record IsStepReport (job : Job) (report : Report) : Type 0 where
   pub policy : IsPolicy job opened.dictionary statements
   pub words : IsScript job script
   pub received : IsReceived job opened request
-  pub made : report ≡ step_report script (request_walk opened.dictionary statements request)
+  pub made : report
+      ≡ step_report (profile_for job) script (request_walk opened.dictionary statements request)
 
 -- ---- packets
 
@@ -226,7 +233,8 @@ pub record IsRequestOrReplyRefusal (job : Job) (f : Fault) : Type 0 where
   pub policy : IsPolicy job opened.dictionary statements
   pub fault : IsRequestRefusal job opened f
       ⊎ ((request : Packet) × IsReceived job opened request
-      × (report_of_run job.form opened statements request ≡ None) × (f ≡ fault.PacketTooLong))
+      × (report_of_run (profile_for job) job.form opened statements request ≡ None)
+      × (f ≡ fault.PacketTooLong))
 
 abbrev pub IsRunRefusal : Job → Fault → Type 0
 IsRunRefusal job f = IsOpenRefusal job f ⊎ IsPolicyRefusal job f ⊎ IsRequestOrReplyRefusal job f

@@ -2,7 +2,7 @@
 use Rattle.std.specs.Prelude.{◌≡◌, ℕ, List, Option, None, Some}
 use Rattle.avp_packet.specs.declared.packets.Packet.{Packet}
 use Rattle.avp_unlang.specs.declared.tree.Statement.{Statement}
-use Rattle.radpolicy.specs.JobReports.{IsOpened, IsPolicy, IsReceived, Opened}
+use Rattle.radpolicy.specs.JobReports.{IsOpened, IsPolicy, IsReceived, Opened, profile_for}
 use Rattle.radpolicy.specs.Reports.{Report}
 use Rattle.radpolicy.specs.RunOutcomes.{RunOutcome, outcome_of, outcome_report}
 use Rattle.radpolicy.specs.Starts.{Prepared, Start, start_of, start_with}
@@ -28,13 +28,16 @@ start_by form.Access job prepared secret request =
 start_by form.Accounting job prepared secret request =
     start_with prepared secret (head_of kind.Accounting job) request.list
 
-abbrev pub prepared_for : Opened → List Statement → Prepared
-prepared_for opened statements =
-    record { dictionary = opened.dictionary; statements = statements }
+abbrev pub prepared_for : Job → Opened → List Statement → Prepared
+prepared_for job opened statements = record {
+  dictionary = opened.dictionary;
+  profile = profile_for job;
+  statements = statements;
+}
 
 abbrev pub start_for : Job → Opened → List Statement → Packet → Start
 start_for job opened statements request =
-    start_by job.form job (prepared_for opened statements) opened.secret request
+    start_by job.form job (prepared_for job opened statements) opened.secret request
 
 -- the report is the text of what the run of the job's policy over the job's request comes to
 pub record IsOutcomeReport (job : Job) (report : Report) : Type 0 where

@@ -8,7 +8,8 @@ use Rattle.avp_lists.specs.declared.pairs.Pair.{Pair}
 use Rattle.avp_dict.specs.Ascii.{carriage_return, line_feed, space, tab}
 use Rattle.avp_dict.specs.declared.request.faults.LineKind.TheVariants as line
 use Rattle.avp_dict.specs.Dictionary.{Dictionary}
-use Rattle.avp_dict.specs.Requests.{request_spelled}
+use Rattle.avp_forms.specs.Profiles.{profile_of}
+use Rattle.avp_forms.specs.Requests.{request_written}
 use Rattle.avp_packet.specs.declared.faults.PacketFault.{PacketFault}
 use Rattle.avp_packet.specs.declared.packets.Packet.{Packet}
 use Rattle.avp_packet.specs.Decoded.{decoded}
@@ -45,6 +46,10 @@ abbrev pub packet_for : Dictionary → List ℕ → Option (List ℕ) → Result
 packet_for dictionary secret None = Err NotHex
 packet_for dictionary secret (Some octets) = unread_packet (decoded dictionary secret octets)
 
+-- the pairs that lines spell, as the profile of their own text reads them; of zones UTC alone is known
+abbrev pub lines_spelled : List ℕ → Dictionary → Option (List Pair)
+lines_spelled text dictionary = request_written (profile_of text) None text dictionary
+
 -- lines, as the list of a packet of this code
 abbrev pub lines_for : ℕ → Job → Option (List Pair) → Result Packet Unread
 lines_for code job None = Err BadLines
@@ -61,9 +66,9 @@ abbrev pub request_of : Form → Dictionary → Option (List ℕ) → Job → Re
 request_of Hex dictionary secret job =
     packet_for dictionary (unwrap_or secret []) (hex_octets job.request)
 request_of Access dictionary secret job =
-    lines_for access_request job (request_spelled job.request dictionary)
+    lines_for access_request job (lines_spelled job.request dictionary)
 request_of Accounting dictionary secret job =
-    lines_for accounting_request job (request_spelled job.request dictionary)
+    lines_for accounting_request job (lines_spelled job.request dictionary)
 
 abbrev pub request_for : Dictionary → Option (List ℕ) → Job → Result Packet Unread
 request_for dictionary secret job = request_of job.form dictionary secret job

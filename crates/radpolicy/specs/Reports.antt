@@ -7,7 +7,9 @@ use Rattle.avp_dict.specs.declared.entries.Note.{Note}
 use Rattle.avp_dict.specs.declared.file.files.NamedFile.{NamedFile}
 use Rattle.avp_dict.specs.Dictionary.{Dictionary}
 use Rattle.avp_dict.specs.Counts.{counts_of}
-use Rattle.avp_dict.specs.Printing.{printed_name, printed_text}
+use Rattle.avp_forms.specs.Printing.{printed_pair_name, printed_pair_text}
+use Rattle.avp_forms.specs.declared.profiles.Profile.{Profile}
+use Rattle.avp_forms.specs.declared.profiles.Profile.TheVariants.{Plain}
 use Rattle.avp_unlang.specs.declared.codes.Code.{Code}
 use Rattle.avp_unlang.specs.declared.codes.Code.TheVariants as code
 use Rattle.radpolicy.specs.declared.jobs.Outcome.{Outcome}
@@ -17,22 +19,23 @@ use Rattle.radpolicy.specs.Faults.{name_at}
 use Rattle.radpolicy.specs.Replies.{Answer, Nothing, Sent, TooLong}
 use Rattle.avp_unlang.specs.Meaning.{Outcome as End}
 
--- the line of a pair, by a dictionary
-abbrev pub pair_line : Dictionary → Pair → List ℕ
-pair_line dictionary pair =
-    codes "  " ++ printed_name pair.id pair.value dictionary ++ codes " = "
-    ++ printed_text pair.id pair.value dictionary ++ codes "\n"
+-- the line of a pair, by a dictionary, as a profile prints it
+abbrev pub pair_line : Profile → Dictionary → Pair → List ℕ
+pair_line profile dictionary pair =
+    codes "  " ++ printed_pair_name profile pair.id pair.value dictionary ++ codes " = "
+    ++ printed_pair_text profile pair.id pair.value dictionary ++ codes "\n"
 
 -- a list: its name on a line, then a line for each pair
-abbrev pub list_text : Dictionary → List ℕ → List Pair → List ℕ
-list_text dictionary name pairs = name ++ codes "\n" ++ flat_map (pair_line dictionary) pairs
+abbrev pub list_text : Profile → Dictionary → List ℕ → List Pair → List ℕ
+list_text profile dictionary name pairs =
+    name ++ codes "\n" ++ flat_map (pair_line profile dictionary) pairs
 
 -- the three lists
-abbrev pub state_text : Dictionary → State → List ℕ
-state_text dictionary state =
-    list_text dictionary (codes "request") state.request
-    ++ list_text dictionary (codes "reply") state.reply
-    ++ list_text dictionary (codes "control") state.control
+abbrev pub state_text : Profile → Dictionary → State → List ℕ
+state_text profile dictionary state =
+    list_text profile dictionary (codes "request") state.request
+    ++ list_text profile dictionary (codes "reply") state.reply
+    ++ list_text profile dictionary (codes "control") state.control
 
 abbrev pub code_text : Code → List ℕ
 code_text code.Ok = codes "ok"
@@ -64,9 +67,9 @@ answer_line (Sent octets) = Some (packet_line octets)
 answer_line TooLong = None
 
 -- the report of a run that ended so, with what it sends
-abbrev pub run_report : Dictionary → End → List ℕ → Report
-run_report dictionary end line = record {
-  text = state_text dictionary end.state ++ result_line end.code end.stopped ++ line;
+abbrev pub run_report : Profile → Dictionary → End → List ℕ → Report
+run_report profile dictionary end line = record {
+  text = state_text profile dictionary end.state ++ result_line end.code end.stopped ++ line;
   outcome = record { code = Some end.code; stopped = end.stopped };
 }
 
@@ -80,12 +83,12 @@ count_line name count = name ++ codes " " ++ decimal count ++ codes "\n"
 abbrev pub plain_report : List ℕ → Report
 plain_report text = record { text = text; outcome = record { code = None; stopped = false } }
 
--- a packet's head, and the request list
+-- a packet's head, and the request list, which is printed plainly: there is no policy that asks for more
 abbrev pub packet_text : Dictionary → Packet → List ℕ
 packet_text dictionary packet =
     count_line (codes "code") packet.code ++ count_line (codes "identifier") packet.id
     ++ codes "authenticator " ++ encode_lower packet.authenticator ++ codes "\n"
-    ++ list_text dictionary (codes "request") packet.list
+    ++ list_text Plain dictionary (codes "request") packet.list
 
 -- ---- what a dictionary holds
 

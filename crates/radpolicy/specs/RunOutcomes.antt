@@ -2,12 +2,13 @@
 use Rattle.std.specs.Prelude.{◌≡◌, ℕ, List, [], Option, Some, None, codes}
 use Rattle.std.specs.Option.{option_map}
 use Rattle.avp_dict.specs.Dictionary.{Dictionary}
+use Rattle.avp_forms.specs.declared.profiles.Profile.{Profile}
 use Rattle.avp_unlang.specs.Meaning.{Outcome as End, meaning_of}
 use Rattle.avp_unlang.specs.declared.codes.Code.TheVariants as code
 use Rattle.radpolicy.specs.Replies.{Answer, Nothing, Sent, TooLong, answer_of}
 use Rattle.radpolicy.specs.ReplyMeaning.{ReplyIsRead}
 use Rattle.radpolicy.specs.Reports.{Report, packet_line, run_report}
-use Rattle.radpolicy.specs.Starts.{Start, entry_of}
+use Rattle.radpolicy.specs.Starts.{Prepared, Start, entry_of}
 use Rattle.radpolicy.specs.declared.run_outcomes.Reply.{Reply}
 use Rattle.radpolicy.specs.declared.run_outcomes.Reply.TheVariants as reply
 
@@ -31,19 +32,25 @@ sent_reply start end =
           reply_of (answer_of start.form start.prepared.dictionary secret start.request end)
     ]
 
--- what a run came to, over this dictionary
+-- what a run came to, over this dictionary, by a policy of this profile
 pub record RunOutcome : Type 0 where
   pub dictionary : Dictionary
+  pub profile : Profile
   pub end : End
   pub reply : Reply
 
-abbrev pub outcome_with : Dictionary → End → Reply → RunOutcome
-outcome_with dictionary end sent = record { dictionary = dictionary; end = end; reply = sent }
+abbrev pub outcome_with : Prepared → End → Reply → RunOutcome
+outcome_with prepared end sent = record {
+  dictionary = prepared.dictionary;
+  profile = prepared.profile;
+  end = end;
+  reply = sent;
+}
 
 -- what a run comes to; none where its packet is too long
 abbrev pub outcome_of : Start → Option RunOutcome
 outcome_of start =
-    option_map (outcome_with start.prepared.dictionary (end_of start))
+    option_map (outcome_with start.prepared (end_of start))
     (sent_reply start (end_of start))
 
 -- a packet that the run sends is accepted as the reply to its request, and means what is sent of the final reply list
@@ -63,4 +70,4 @@ reply_line (reply.Packet octets) = packet_line octets
 -- the report of an outcome: its lists, its result, and what is sent
 abbrev pub outcome_report : RunOutcome → Report
 outcome_report outcome =
-    run_report outcome.dictionary outcome.end (reply_line outcome.reply)
+    run_report outcome.profile outcome.dictionary outcome.end (reply_line outcome.reply)

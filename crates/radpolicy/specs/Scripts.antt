@@ -4,6 +4,7 @@ use Rattle.std.specs.List.{slice_split}
 use Rattle.std.specs.Option.{option_and_then, option_map}
 use Rattle.avp_dict.specs.Lines.{texts_of}
 use Rattle.avp_dict.specs.Words.{is_blank, is_word}
+use Rattle.avp_forms.specs.declared.profiles.Profile.{Profile}
 use Rattle.avp_step.specs.Walk.{Walk, entry, moved_back, moved_forward, moved_to_end, moved_to_start}
 use Rattle.avp_step.specs.declared.labels.Label.{Label}
 use Rattle.avp_step.specs.declared.labels.Label.TheVariants as label
@@ -102,12 +103,13 @@ move_line before after =
     ++ code_text (entry after).outcome.code
     ++ stays_text (after.position == before) ++ codes "\n"
 
--- what a word prints: the line of a move, or the three lists
-abbrev pub word_text : ScriptWord → Walk → List ℕ
-word_text (word.Make m) w = move_line w.position (moved m w)
-word_text word.Show w = state_text w.dictionary (entry w).outcome.state
+-- what a word prints: the line of a move, or the three lists as the policy's profile prints them
+abbrev pub word_text : Profile → ScriptWord → Walk → List ℕ
+word_text profile (word.Make m) w = move_line w.position (moved m w)
+word_text profile word.Show w = state_text profile w.dictionary (entry w).outcome.state
 
 -- what a script prints
-unfoldable pub script_text : List ScriptWord → Walk → List ℕ
-script_text [] w = []
-script_text (x ∷ xs) w = word_text x w ++ script_text xs (after_script_word x w)
+unfoldable pub script_text : Profile → List ScriptWord → Walk → List ℕ
+script_text profile [] w = []
+script_text profile (x ∷ xs) w =
+    word_text profile x w ++ script_text profile xs (after_script_word x w)

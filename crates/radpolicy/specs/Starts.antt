@@ -10,6 +10,7 @@ use Rattle.avp_dict.specs.Dictionary.{Dictionary}
 use Rattle.avp_dict.specs.Limits.{fits}
 use Rattle.avp_dict.specs.declared.request.faults.LineFault.{LineFault}
 use Rattle.avp_dict.specs.declared.request.faults.LineKind.TheVariants.{NotValue, TooMany}
+use Rattle.avp_forms.specs.declared.profiles.Profile.{Profile}
 use Rattle.avp_packet.specs.Packets.{access_request, accounting_request, zeros}
 use Rattle.avp_packet.specs.declared.packets.Packet.{Packet}
 use Rattle.avp_unlang.specs.declared.tree.Statement.{Statement}
@@ -19,9 +20,10 @@ use Rattle.radpolicy.specs.declared.heads.RequestKind.TheVariants as kind
 use Rattle.radpolicy.specs.declared.jobs.Form.{Form}
 use Rattle.radpolicy.specs.declared.jobs.Form.TheVariants as form
 
--- a dictionary, and the statements of a policy that was read by it
+-- a dictionary, and the profile and the statements of a policy that was read by it
 pub record Prepared : Type 0 where
   pub dictionary : Dictionary
+  pub profile : Profile
   pub statements : List Statement
 
 -- what a run begins with: a prepared policy, the secret if there is one, the request and how it was given, and the

@@ -4,7 +4,7 @@ ghost use Rattle.std.specs.Prelude.{All, ◌≡◌, ◌≢◌, ◌⊎◌, ◌<�
 ghost use Rattle.std.specs.Io.KnownBytes.{Appends};
 ghost use Rattle.std.specs.Option.{option_copied};
 ghost use Rattle.radpolicy.specs.Faults.{IsPrintedWith, MemoryOr};
-ghost use Rattle.radpolicy.specs.JobReports.{IsCheckRefusal, IsCheckReport, IsCheckedPolicyRefusal, IsDictionaryRefusal, IsOpened, IsMakingRefusal, IsOpenRefusal, IsPacketReport, IsPolicy, IsPolicyRefusal, IsRefused, IsReport, IsRequestOrReplyRefusal, IsRunReport, IsScript, IsScriptOrRequestRefusal, IsSizeOf, IsStepReport, decode_report, dictionary_for, encode_report, opened, policy_of, script_of};
+ghost use Rattle.radpolicy.specs.JobReports.{IsCheckRefusal, IsCheckReport, IsCheckedPolicyRefusal, IsDictionaryRefusal, IsOpened, IsMakingRefusal, IsOpenRefusal, IsPacketReport, IsPolicy, IsPolicyRefusal, IsRefused, IsReport, IsRequestOrReplyRefusal, IsRunReport, IsScript, IsScriptOrRequestRefusal, IsSizeOf, IsStepReport, decode_report, dictionary_for, encode_report, opened, policy_of, profile_for, script_of};
 ghost use Rattle.radpolicy.specs.Scripts.{IsUnknownWord, script_spelled};
 ghost use Rattle.radpolicy.specs.OutcomeReports.{IsOutcomeRefusal, IsOutcomeReport};
 ghost use Rattle.radpolicy.specs.Plans.{IsSound, asked_by_job};
@@ -104,6 +104,7 @@ fn policy_for<'a>(
     requires opened { IsOpened job.now (opened dictionary.now (option_copied secret)) }
     ensures ok { IfOk result (λ policy. IsPolicy job.now dictionary.now policy.statements) }
     ensures dictionary { IfOk result (λ policy. policy.dictionary ≡ dictionary.now) }
+    ensures profile { IfOk result (λ policy. policy.profile ≡ profile_for job.now) }
     ensures refused { IfErr result (MemoryOr (IsPolicyRefusal job.now)) }
     ensures printed { IfErr result (IsPrintedWith job.now.files) }
 {

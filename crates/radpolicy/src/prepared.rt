@@ -1,6 +1,7 @@
 //! A policy that is ready to run: read once with its dictionary, and run on any number of requests.
 
 ghost use Rattle.std.specs.Prelude.{◌≡◌, IfOk, IfErr, List};
+ghost use Rattle.avp_forms.specs.Profiles.{profile_of};
 ghost use Rattle.avp_unlang.specs.Policies.{SpellsPolicy};
 ghost use Rattle.avp_unlang.specs.Suiting.{IsSpelled};
 ghost use Rattle.avp_unlang.specs.declared.tree.Statement.{Statement as Tree};
@@ -10,6 +11,7 @@ ghost use Rattle.radpolicy.specs.internal.Starting.{statements_held};
 
 use crate::faults::Fault;
 use avp_dict::Dictionary;
+use avp_forms::{Profile, profile_of};
 use avp_unlang::{Policy, read_policy};
 use std::alloc::Global;
 use std::marker::Model;
@@ -35,6 +37,7 @@ impl HeldPolicy<'_> {
 /// A policy with the dictionary by which it was read. Any number of runs may begin from it, and none changes it.
 pub struct PreparedPolicy<'a> {
     dictionary: &'a Dictionary,
+    profile: Profile,
     policy: HeldPolicy<'a>,
 }
 
@@ -43,6 +46,7 @@ impl<'a> Drop for PreparedPolicy<'a> {
     fn drop(self) {
         let PreparedPolicy {
             dictionary: _,
+            profile: _,
             policy: _,
         } = self;
     }
@@ -61,6 +65,7 @@ impl<'a> Model for PreparedPolicy<'a> {
 
     ghost view = { λ p. record {
       dictionary = p.dictionary.now;
+      profile = p.profile;
       statements = statements_held p.policy;
     } };
 
@@ -86,6 +91,7 @@ impl<'a> PreparedPolicy<'a> {
         text: &[u8],
     ) -> Result<PreparedPolicy<'a>, Fault>
         ensures dictionary { IfOk result (λ prepared. prepared.dictionary ≡ dictionary.now) }
+        ensures profile { IfOk result (λ prepared. prepared.profile ≡ profile_of text.now) }
         ensures spelled { IfOk result (λ prepared.
             SpellsPolicy dictionary.now text.now prepared.statements) }
         ensures refused { IfErr result (MemoryOr (IsUnspelled dictionary.now text.now)) }
@@ -94,6 +100,7 @@ impl<'a> PreparedPolicy<'a> {
         match read_policy(alloc, dictionary, text) {
             Ok(policy) => Ok(PreparedPolicy {
                 dictionary,
+                profile: profile_of(text),
                 policy: HeldPolicy::Own(policy),
             }),
             Err(fault) => Err(Fault::from(fault)),
@@ -105,6 +112,13 @@ impl<'a> PreparedPolicy<'a> {
         ensures { result.now ≡ self.now.dictionary }
     {
         self.dictionary
+    }
+
+    /// The profile that the policy's first line asks for. Lists are printed by it.
+    pub fn profile(&self) -> Profile
+        ensures { result ≡ self.now.profile }
+    {
+        self.profile
     }
 
     /// The policy.
@@ -120,6 +134,7 @@ impl<'a> PreparedPolicy<'a> {
 #[derive(Drop)]
 pub struct OwnedPolicy {
     dictionary: Dictionary,
+    profile: Profile,
     policy: Policy,
 }
 
@@ -133,7 +148,11 @@ impl Model for OwnedPolicy {
 
     ghost coded = { Prim.hlevel (codes, e.the_row.coded) };
 
-    ghost view = { λ o. record { dictionary = o.dictionary; statements = o.policy } };
+    ghost view = { λ o. record {
+      dictionary = o.dictionary;
+      profile = o.profile;
+      statements = o.policy;
+    } };
 
     ghost invariant = { λ o. IsSpelled o.dictionary o.policy };
 }
@@ -143,13 +162,18 @@ impl OwnedPolicy {
     /// up the dictionary.
     pub fn read(alloc: Global, dictionary: Dictionary, text: &[u8]) -> Result<OwnedPolicy, Fault>
         ensures dictionary { IfOk result (λ owned. owned.dictionary ≡ dictionary) }
+        ensures profile { IfOk result (λ owned. owned.profile ≡ profile_of text.now) }
         ensures spelled { IfOk result (λ owned.
             SpellsPolicy dictionary text.now owned.statements) }
         ensures refused { IfErr result (MemoryOr (IsUnspelled dictionary text.now)) }
         ensures printed { IfErr result IsPrintedAnywhere }
     {
         match read_policy(alloc, &dictionary, text) {
-            Ok(policy) => Ok(OwnedPolicy { dictionary, policy }),
+            Ok(policy) => Ok(OwnedPolicy {
+                dictionary,
+                profile: profile_of(text),
+                policy,
+            }),
             Err(fault) => Err(Fault::from(fault)),
         }
     }
@@ -165,7 +189,16 @@ impl OwnedPolicy {
     ///     id,
     ///     authenticator,
     /// };
-    /// let outcome = Start::of_lines(alloc, &prepared, None, head, b"NAS-Port = 3")?.run(alloc)?;
+    /// let outcome = Start::of_lines(
+    ///     alloc,
+    ///     &prepared,
+    ///     None,
+    ///     head,
+    ///     Profile::Plain,
+    ///     None,
+    ///     b"NAS-Port = 3",
+    /// )?
+    /// .run(alloc)?;
     /// assert_eq!(rt; (outcome.code(), outcome.stopped()), (Code::Reject, true));
     /// ```
     pub fn prepared(&self) -> PreparedPolicy<'_>
@@ -173,6 +206,7 @@ impl OwnedPolicy {
     {
         PreparedPolicy {
             dictionary: &self.dictionary,
+            profile: self.profile,
             policy: HeldPolicy::Lent(&self.policy),
         }
     }

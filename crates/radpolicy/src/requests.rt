@@ -7,10 +7,9 @@ ghost use Rattle.avp_lists.specs.States.{max_pairs};
 ghost use Rattle.avp_packet.specs.Packets.{IsRequestCode};
 ghost use Rattle.radpolicy.specs.Faults.{IsPrintedWith};
 ghost use Rattle.radpolicy.specs.internal.Fitting.{AllFit};
-ghost use Rattle.avp_dict.specs.Requests.{request_spelled};
 ghost use Rattle.avp_dict.specs.Sent.{is_clean};
 ghost use Rattle.radpolicy.specs.Replies.{proxy_states};
-ghost use Rattle.radpolicy.specs.Received.{IsUnreadRequest, hex_octets, is_no_white_space, lines_for, packet_for, request_for};
+ghost use Rattle.radpolicy.specs.Received.{IsUnreadRequest, hex_octets, is_no_white_space, lines_for, lines_spelled, packet_for, request_for};
 ghost use Rattle.radpolicy.specs.declared.faults.Fault.TheVariants as fault;
 ghost use Rattle.radpolicy.specs.declared.jobs.Form.TheVariants.{Hex as InHex};
 
@@ -18,6 +17,7 @@ use crate::faults::Fault;
 use crate::jobs::{Form, Job};
 use crate::secrets::Secret;
 use avp_dict::Dictionary;
+use avp_forms::{profile_of, read_request};
 use avp_lists::Pairs;
 use avp_packet::{ACCESS_REQUEST, ACCOUNTING_REQUEST, Packet, decode};
 use hex::FromHexError;
@@ -83,17 +83,18 @@ fn packet_for(
 // The lines of a request, as the list of a packet of this code.
 fn lines_for(alloc: Global, dictionary: &Dictionary, code: u8, job: &Job) -> Result<Packet, Fault>
     ensures ok { IfOk result (λ packet.
-        lines_for code job.now (request_spelled job.now.request dictionary.now) ≡ Ok packet) }
+        lines_for code job.now (lines_spelled job.now.request dictionary.now) ≡ Ok packet) }
     ensures code { IfOk result (λ packet. packet.code ≡ code) }
     ensures few { IfOk result (λ packet. length packet.list ≤ max_pairs) }
     ensures fit { IfOk result (λ packet. AllFit dictionary.now packet.list) }
     ensures proxies { IfOk result (λ packet. is_clean (proxy_states packet) dictionary.now ≡ true) }
     ensures refused { IfErr result (λ f. (f ≡ fault.Memory)
         ⊎ IsUnreadRequest f
-        (lines_for code job.now (request_spelled job.now.request dictionary.now))) }
+        (lines_for code job.now (lines_spelled job.now.request dictionary.now))) }
     ensures printed { IfErr result (IsPrintedWith job.now.files) }
 {
-    let pairs = dictionary.read_request(alloc, job.request.as_slice())?;
+    let text = job.request.as_slice();
+    let pairs = read_request(alloc, dictionary, profile_of(text), None, text)?;
     Ok(Packet {
         code,
         id: job.identifier,

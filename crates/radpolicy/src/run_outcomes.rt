@@ -5,8 +5,9 @@ ghost use Rattle.avp_lists.specs.History.{present};
 ghost use Rattle.avp_unlang.specs.Resolutions.{StateFits};
 ghost use Rattle.radpolicy.specs.RunOutcomes.{outcome_report, reply_line};
 
-use crate::reports::texts::{push_no_packet, push_packet, text_of_run};
+use crate::reports::texts::{push_lists, push_no_packet, push_packet, push_result};
 use avp_dict::Dictionary;
+use avp_forms::Profile;
 use avp_lists::{Octets, SlotStore, Store};
 use avp_unlang::Code;
 use std::alloc::{AllocError, Global};
@@ -27,6 +28,7 @@ pub enum Reply {
 #[derive(Drop)]
 pub struct RunOutcome<'a> {
     dictionary: &'a Dictionary,
+    profile: Profile,
     store: SlotStore,
     code: Code,
     stopped: bool,
@@ -42,6 +44,7 @@ impl<'a> Model for RunOutcome<'a> {
 
     ghost view = { λ o. record {
       dictionary = o.dictionary.now;
+      profile = o.profile;
       end = record {
         state = present (⟦<SlotStore as Store>⟧.history o.store);
         code = o.code;
@@ -68,6 +71,7 @@ fn push_reply(text: &mut Vec<u8>, reply: &Reply) -> Result<(), AllocError>
 impl<'a> RunOutcome<'a> {
     pub(crate) fn new(
         dictionary: &'a Dictionary,
+        profile: Profile,
         store: SlotStore,
         code: Code,
         stopped: bool,
@@ -76,6 +80,7 @@ impl<'a> RunOutcome<'a> {
         requires { StateFits dictionary.now (present (⟦<SlotStore as Store>⟧.history store)) }
         ensures { result ≡ record {
           dictionary = dictionary.entry.now;
+          profile = profile;
           end = record {
             state = present (⟦<SlotStore as Store>⟧.history store);
             code = code;
@@ -86,6 +91,7 @@ impl<'a> RunOutcome<'a> {
     {
         RunOutcome {
             dictionary,
+            profile,
             store,
             code,
             stopped,
@@ -122,11 +128,13 @@ impl<'a> RunOutcome<'a> {
         &self.reply
     }
 
-    /// The report of the run, as the command `run` prints it.
+    /// The report of the run, as the command `run` prints it: its lists by the policy's profile.
     pub fn text(&self, alloc: Global) -> Result<Vec<u8>, AllocError>
         ensures { IfOk result (λ text. text.items ≡ (outcome_report self.now).text) }
     {
-        let mut text = text_of_run(alloc, self.dictionary, &self.store, self.code, self.stopped)?;
+        let mut text = Vec::new(alloc);
+        push_lists(&mut text, self.dictionary, self.profile, &self.store)?;
+        push_result(&mut text, self.code, self.stopped)?;
         push_reply(&mut text, &self.reply)?;
         Ok(text)
     }

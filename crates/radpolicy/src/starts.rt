@@ -7,8 +7,8 @@ ghost use Rattle.avp_lists.specs.Instances.{instances};
 ghost use Rattle.avp_lists.specs.States.{max_pairs};
 ghost use Rattle.avp_lists.specs.declared.pairs.AttrId.TheVariants.{Plain};
 ghost use Rattle.avp_dict.specs.AttributeNumbers.{proxy_state};
-ghost use Rattle.avp_dict.specs.Requests.{request_spelled};
 ghost use Rattle.avp_dict.specs.Sent.{is_clean};
+ghost use Rattle.avp_forms.specs.Requests.{request_written};
 ghost use Rattle.avp_packet.specs.Decoded.{decoded};
 ghost use Rattle.avp_packet.specs.Packets.{IsRequestCode};
 ghost use Rattle.avp_step.specs.Walk.{last_outcome, walk_from};
@@ -34,6 +34,7 @@ use crate::replies::{ReplyHead, reply_head, sent_by};
 use crate::run_outcomes::RunOutcome;
 use crate::secrets::Secret;
 use avp_dict::{Dictionary, LineFault, LineKind};
+use avp_forms::{Profile, read_request};
 use avp_lists::{MAX_PAIRS, Pair, Pairs, SlotStore, State, Store};
 use avp_packet::{Packet, decode};
 use avp_step::Stepper;
@@ -46,6 +47,7 @@ use std::marker::Model;
 #[derive(Drop)]
 pub struct Start<'a> {
     dictionary: &'a Dictionary,
+    profile: Profile,
     policy: &'a Policy,
     secret: Option<&'a Secret<'a>>,
     form: Form,
@@ -65,10 +67,10 @@ impl<'a> Model for Start<'a> {
 
     ghost coded = { Prim.hlevel (codes, e.the_row.coded) };
 
-    ghost view = { λ s. start_shown s.dictionary.now s.policy.now (option_copied s.secret) s.form
-        s.request s.reply s.control };
+    ghost view = { λ s. start_shown s.dictionary.now s.profile s.policy.now (option_copied s.secret)
+        s.form s.request s.reply s.control };
 
-    ghost invariant = { λ s. IsReady (start_shown s.dictionary.now s.policy.now
+    ghost invariant = { λ s. IsReady (start_shown s.dictionary.now s.profile s.policy.now
         (option_copied s.secret) s.form s.request s.reply s.control) };
 }
 
@@ -94,16 +96,23 @@ fn entry_store(alloc: Global, lists: State) -> Result<SlotStore, AllocError>
 }
 
 // The pairs of lines.
-fn read_lines(alloc: Global, dictionary: &Dictionary, text: &[u8]) -> Result<Pairs, LineFault>
-    ensures read { IfOk result (λ pairs. request_spelled text.now dictionary.now ≡ Some pairs) }
+fn read_lines(
+    alloc: Global,
+    dictionary: &Dictionary,
+    profile: Profile,
+    zone: Option<i16>,
+    text: &[u8],
+) -> Result<Pairs, LineFault>
+    ensures read { IfOk result (λ pairs.
+        request_written profile zone text.now dictionary.now ≡ Some pairs) }
     ensures list { IfOk result (IsFittingList dictionary.now) }
     ensures clean { IfOk result (λ pairs. is_clean pairs dictionary.now ≡ true) }
     ensures proxies { IfOk result (λ pairs.
         is_clean (instances (Plain proxy_state) pairs) dictionary.now ≡ true) }
     ensures refused { IfErr result (λ f. f.kind ≢ LineKind.Memory
-        → request_spelled text.now dictionary.now ≡ None) }
+        → request_written profile zone text.now dictionary.now ≡ None) }
 {
-    Ok(Pairs::from_vec(dictionary.read_request(alloc, text)?))
+    Ok(Pairs::from_vec(read_request(alloc, dictionary, profile, zone, text)?))
 }
 
 // The place of the first pair that does not fit.
@@ -166,6 +175,7 @@ impl<'a> Start<'a> {
     {
         Start {
             dictionary: prepared.dictionary(),
+            profile: prepared.profile(),
             policy: prepared.policy(),
             secret,
             form,
@@ -197,27 +207,30 @@ impl<'a> Start<'a> {
         Ok(Start::new(alloc, prepared, Some(secret), Form::Hex, request))
     }
 
-    /// A run over a request of lines, which are refused as a job's lines are. Without a secret no reply is made. With
-    /// one, the reply to an Access-Request that `head` gives no authenticator is made over 16 zeros, and no digest of
-    /// an Accounting-Request is checked.
+    /// A run over a request of lines, which are read by a profile ([`avp_forms::profile_of`] tells which one their
+    /// first line asks for) and refused as a job's lines are; `zone` is that of [`avp_forms::FormValue::of_text`].
+    /// Without a secret no reply is made. With one, the reply to an Access-Request that `head` gives no authenticator
+    /// is made over 16 zeros, and no digest of an Accounting-Request is checked.
     pub fn of_lines(
         alloc: Global,
         prepared: &'a PreparedPolicy<'a>,
         secret: Option<&'a Secret<'a>>,
         head: RequestHead,
+        profile: Profile,
+        zone: Option<i16>,
         text: &[u8],
     ) -> Result<Start<'a>, Fault>
-        ensures read { IfOk result (λ start.
-            request_spelled text.now prepared.entry.now.dictionary ≡ Some start.request.list) }
+        ensures read { IfOk result (λ start. request_written profile zone text.now
+            prepared.entry.now.dictionary ≡ Some start.request.list) }
         ensures start { IfOk result (λ start. start
             ≡ start_with prepared.entry.now (option_copied secret.entry) head start.request.list) }
         ensures proxies { IfOk result (λ start. is_clean (proxy_states start.request)
             prepared.entry.now.dictionary ≡ true) }
         ensures refused { IfErr result (MemoryOr (AreUnreadRequestLines
-            (request_spelled text.now prepared.entry.now.dictionary))) }
+            (request_written profile zone text.now prepared.entry.now.dictionary))) }
         ensures printed { IfErr result IsPrintedAnywhere }
     {
-        let pairs = read_lines(alloc, prepared.dictionary(), text)?;
+        let pairs = read_lines(alloc, prepared.dictionary(), profile, zone, text)?;
         Ok(Start::new(
             alloc,
             prepared,
@@ -257,34 +270,46 @@ impl<'a> Start<'a> {
     }
 
     /// The same with the reply list of these lines, which are read as a request's. A refusal gives up the start.
-    pub fn with_reply_lines(self, alloc: Global, text: &[u8]) -> Result<Start<'a>, Fault>
-        ensures read { IfOk result (λ start.
-            request_spelled text.now self.entry.prepared.dictionary ≡ Some start.reply) }
+    pub fn with_reply_lines(
+        self,
+        alloc: Global,
+        profile: Profile,
+        zone: Option<i16>,
+        text: &[u8],
+    ) -> Result<Start<'a>, Fault>
+        ensures read { IfOk result (λ start. request_written profile zone text.now
+            self.entry.prepared.dictionary ≡ Some start.reply) }
         ensures start { IfOk result (λ start. start
             ≡ record self.entry { reply = start.reply }) }
         ensures clean { IfOk result (λ start.
             is_clean start.reply self.entry.prepared.dictionary ≡ true) }
         ensures refused { IfErr result (MemoryOr (AreUnreadReplyLines
-            (request_spelled text.now self.entry.prepared.dictionary))) }
+            (request_written profile zone text.now self.entry.prepared.dictionary))) }
         ensures printed { IfErr result IsPrintedAnywhere }
     {
-        match read_lines(alloc, self.dictionary, text) {
+        match read_lines(alloc, self.dictionary, profile, zone, text) {
             Ok(reply) => Ok(Start { reply, ..self }),
             Err(fault) => Err(fault_of_reply_line(fault)),
         }
     }
 
     /// The same with the control list of these lines, which are read as a request's. A refusal gives up the start.
-    pub fn with_control_lines(self, alloc: Global, text: &[u8]) -> Result<Start<'a>, Fault>
-        ensures read { IfOk result (λ start.
-            request_spelled text.now self.entry.prepared.dictionary ≡ Some start.control) }
+    pub fn with_control_lines(
+        self,
+        alloc: Global,
+        profile: Profile,
+        zone: Option<i16>,
+        text: &[u8],
+    ) -> Result<Start<'a>, Fault>
+        ensures read { IfOk result (λ start. request_written profile zone text.now
+            self.entry.prepared.dictionary ≡ Some start.control) }
         ensures start { IfOk result (λ start. start
             ≡ record self.entry { control = start.control }) }
         ensures refused { IfErr result (MemoryOr (AreUnreadControlLines
-            (request_spelled text.now self.entry.prepared.dictionary))) }
+            (request_written profile zone text.now self.entry.prepared.dictionary))) }
         ensures printed { IfErr result IsPrintedAnywhere }
     {
-        match read_lines(alloc, self.dictionary, text) {
+        match read_lines(alloc, self.dictionary, profile, zone, text) {
             Ok(control) => Ok(Start { control, ..self }),
             Err(fault) => Err(fault_of_control_line(fault)),
         }
@@ -316,6 +341,13 @@ impl<'a> Start<'a> {
             Ok(control) => Ok(Start { control, ..self }),
             Err(fault) => Err(Fault::Control(fault)),
         }
+    }
+
+    /// The profile of the policy that is run.
+    pub fn profile(&self) -> Profile
+        ensures { result ≡ self.now.prepared.profile }
+    {
+        self.profile
     }
 
     /// The dictionary of the policy that is run.
@@ -404,8 +436,18 @@ impl<'a> Start<'a> {
     ///     id,
     ///     authenticator,
     /// };
-    /// let start = Start::of_lines(alloc, prepared, None, head, b"NAS-Port = 3")?;
-    /// let outcome = start.with_reply_lines(alloc, b"Class = 0x01")?.run(alloc)?;
+    /// let start = Start::of_lines(
+    ///     alloc,
+    ///     prepared,
+    ///     None,
+    ///     head,
+    ///     Profile::Plain,
+    ///     None,
+    ///     b"NAS-Port = 3",
+    /// )?;
+    /// let outcome = start
+    ///     .with_reply_lines(alloc, Profile::Plain, None, b"Class = 0x01")?
+    ///     .run(alloc)?;
     /// assert_eq!(rt; outcome.store().count(List::Reply), 2);
     /// let report = outcome.text(alloc)?;
     /// assert!(rt; report.ends_with(b"  Session-Timeout = 600\ncontrol\nresult ok\n"));
@@ -425,6 +467,7 @@ impl<'a> Start<'a> {
     {
         self.keeps_reply_clean();
         let dictionary = self.dictionary();
+        let profile = self.profile();
         let head = self.head(alloc)?;
         let ended = self.end_of(alloc)?;
         let reply = sent_by(alloc, dictionary, &head, ended.code, &ended.store)?;
@@ -433,6 +476,6 @@ impl<'a> Start<'a> {
             code,
             stopped,
         } = ended;
-        Ok(RunOutcome::new(dictionary, store, code, stopped, reply))
+        Ok(RunOutcome::new(dictionary, profile, store, code, stopped, reply))
     }
 }

@@ -1,7 +1,7 @@
 -- What the run of a request begins with, as C gives it, and why there is no run.
 use Rattle.std.specs.Prelude.{◌≡◌, ◌⊎◌, ℕ, ◌==◌, if◌then◌else◌, List, Option, None, Some, Ok}
 use Rattle.avp_dict.specs.Dictionary.{Dictionary}
-use Rattle.avp_dict.specs.Requests.{request_spelled}
+use Rattle.radpolicy.specs.Received.{lines_spelled}
 use Rattle.avp_packet.specs.Decoded.{decoded}
 use Rattle.radpolicy.specs.StartRefusals.{AreUnreadControlLines, AreUnreadReplyLines, AreUnreadRequestLines, IsUnreadPacket}
 use Rattle.radpolicy.specs.Starts.{Prepared, Start, start_of, start_with}
@@ -44,7 +44,7 @@ IsBegunByPacket prepared (Some secret) octets start =
 abbrev pub IsBegunByLines
     : RequestKind → Prepared → Option (List ℕ) → RadpolicyRequest → Start → Type 0
 IsBegunByLines kind prepared secret asked start =
-    (request_spelled asked.octets.now prepared.dictionary ≡ Some start.request.list)
+    (lines_spelled asked.octets.now prepared.dictionary ≡ Some start.request.list)
     × (start ≡ start_with prepared secret (head_given kind asked) start.request.list)
 
 abbrev pub IsBegun
@@ -61,8 +61,8 @@ IsBegun (Some form.Accounting) prepared secret asked start =
 
 -- the start is this one with the reply and control lists that their lines spell
 pub record HasLists (plain : Start) (asked : RadpolicyRequest) (start : Start) : Type 0 where
-  pub reply : request_spelled asked.reply.now plain.prepared.dictionary ≡ Some start.reply
-  pub control : request_spelled asked.control.now plain.prepared.dictionary ≡ Some start.control
+  pub reply : lines_spelled asked.reply.now plain.prepared.dictionary ≡ Some start.reply
+  pub control : lines_spelled asked.control.now plain.prepared.dictionary ≡ Some start.control
   pub lists : start ≡ record plain { reply = start.reply; control = start.control }
 
 -- the start of the request's run
@@ -87,13 +87,13 @@ IsNotBegun None prepared secret asked f = f ≡ fault.OptionValue
 IsNotBegun (Some form.Hex) prepared secret asked f =
     IsNotBegunByPacket prepared secret asked.octets.now f
 IsNotBegun (Some _) prepared secret asked f =
-    AreUnreadRequestLines (request_spelled asked.octets.now prepared.dictionary) f
+    AreUnreadRequestLines (lines_spelled asked.octets.now prepared.dictionary) f
 
 -- the lines of an initial list spell none
 abbrev pub AreUnreadLists : Dictionary → RadpolicyRequest → Fault → Type 0
 AreUnreadLists dictionary asked f =
-    AreUnreadReplyLines (request_spelled asked.reply.now dictionary) f
-    ⊎ AreUnreadControlLines (request_spelled asked.control.now dictionary) f
+    AreUnreadReplyLines (lines_spelled asked.reply.now dictionary) f
+    ⊎ AreUnreadControlLines (lines_spelled asked.control.now dictionary) f
 
 -- why no run begins, but for want of memory
 abbrev pub IsStartRefusal : Prepared → Option (List ℕ) → RadpolicyRequest → Fault → Type 0

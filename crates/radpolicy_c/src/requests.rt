@@ -2,11 +2,12 @@
 
 ghost use Rattle.std.specs.Prelude.{◌≡◌, ◌⊎◌, IfOk, IfErr, if◌then◌else◌, Some, None};
 ghost use Rattle.std.specs.Option.{option_copied};
-ghost use Rattle.avp_dict.specs.Requests.{request_spelled};
+ghost use Rattle.radpolicy.specs.Received.{lines_spelled};
 ghost use Rattle.radpolicy.specs.Faults.{IsPrintedAnywhere, MemoryOr};
 ghost use Rattle.radpolicy.specs.StartRefusals.{AreUnreadRequestLines};
 ghost use Rattle.radpolicy_c.specs.Requests.{AreUnreadLists, BeginsRun, HasLists, IsBegun, IsBegunByLines, IsBegunByPacket, IsNotBegun, IsNotBegunByPacket, IsStartRefusal, form_given, head_given};
 
+use avp_forms::profile_of;
 use radpolicy::{Fault, Form, PreparedPolicy, RequestHead, RequestKind, Secret, Start};
 use std::alloc::Global;
 
@@ -86,7 +87,7 @@ fn begun_by_lines<'a>(
     ensures ok { IfOk result
         (IsBegunByLines kind prepared.entry.now (option_copied secret.entry) asked.now) }
     ensures refused { IfErr result (MemoryOr (AreUnreadRequestLines
-        (request_spelled asked.now.octets.now prepared.entry.now.dictionary))) }
+        (lines_spelled asked.now.octets.now prepared.entry.now.dictionary))) }
     ensures printed { IfErr result IsPrintedAnywhere }
 {
     Start::of_lines(
@@ -94,6 +95,8 @@ fn begun_by_lines<'a>(
         prepared,
         secret,
         head_given(kind, asked),
+        profile_of(asked.octets),
+        None,
         asked.octets,
     )
 }
@@ -132,8 +135,13 @@ fn with_lists<'a>(
         (MemoryOr (AreUnreadLists start.entry.prepared.dictionary asked.now)) }
     ensures printed { IfErr result IsPrintedAnywhere }
 {
-    match start.with_reply_lines(alloc, asked.reply) {
-        Ok(start) => start.with_control_lines(alloc, asked.control),
+    match start.with_reply_lines(alloc, profile_of(asked.reply), None, asked.reply) {
+        Ok(start) => start.with_control_lines(
+            alloc,
+            profile_of(asked.control),
+            None,
+            asked.control,
+        ),
         Err(fault) => Err(fault),
     }
 }

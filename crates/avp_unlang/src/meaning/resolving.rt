@@ -6,11 +6,12 @@ ghost use Rattle.avp_lists.specs.Meets.{Meets};
 ghost use Rattle.avp_dict.specs.Limits.{fits, is_known, is_typed};
 ghost use Rattle.avp_dict.specs.Octets.{octets, read_value};
 ghost use Rattle.avp_dict.specs.Spellings.{unless_long, value_spelled};
-ghost use Rattle.avp_unlang.specs.Resolutions.{StateFits, given, instance_value, is_memory, line_suits, literal_fits, pair_of, pair_put, part_text, parts_text, read_by_type, resolution, source_value, unresolved};
+ghost use Rattle.avp_unlang.specs.Resolutions.{StateFits, given, instance_value, is_memory, line_suits, literal_fits, meaning_put, pair_of, pair_put, part_text, parts_text, read_by_type, resolution, retagged, source_value, tagged_value, unresolved, wider_value};
 ghost use Rattle.avp_unlang.specs.declared.meaning.resolving.Unresolved.TheVariants as why;
 
 use crate::tree::{Line, Part, Source};
-use avp_dict::{Dictionary, Kind, Named, ValueFault};
+use avp_dict::{Dictionary, Form, Kind, Named, ValueFault};
+use avp_forms::{FormValue, Profile, Target, text_put, value_written};
 use avp_lists::{AttrId, Octets, Pair, Store, Value};
 use std::alloc::{AllocError, Global};
 use thiserror::Error;
@@ -65,6 +66,17 @@ fn push_instance(text: &mut Vec<u8>, dictionary: &Dictionary, pair: &Pair) -> Re
     }
 }
 
+// Adds what is put in for an instance in a wider policy.
+fn push_meaning(text: &mut Vec<u8>, dictionary: &Dictionary, pair: &Pair) -> Result<(), AllocError>
+    requires { IsTrue (fits pair.now dictionary.now) }
+    ensures { OnOk result (text.new.items
+        ≡ text.old.items ++ meaning_put dictionary.now pair.now) }
+{
+    let alloc = *text.allocator();
+    let put = text_put(alloc, dictionary, Profile::Wider, pair.id, &pair.value)?;
+    text.extend_from_slice(&put)
+}
+
 // Adds the text of a part.
 fn push_part<S: Store>(
     text: &mut Vec<u8>,
@@ -80,6 +92,10 @@ fn push_part<S: Store>(
         Part::Text(octets) => text.extend_from_slice(octets.as_slice()),
         Part::Instance(list, id) => match store.first(*list, *id) {
             Some(pair) => push_instance(text, dictionary, pair),
+            None => Ok(()),
+        },
+        Part::Meant(list, id, selection) => match store.first_selected(*list, *id, *selection) {
+            Some(pair) => push_meaning(text, dictionary, pair),
             None => Ok(()),
         },
     }
@@ -188,6 +204,71 @@ fn instance_value(
     unless_long(dictionary, id, value)
 }
 
+// The octets with this tag in place of their own, where they are a value of a form with tags.
+fn retagged(alloc: Global, form: Form, tag: u8, octets: Vec<u8>) -> Result<Vec<u8>, AllocError>
+    ensures { IfOk result (λ os. os.items ≡ retagged form tag octets.items) }
+{
+    match FormValue::of_octets(alloc, form, &octets)? {
+        Some(value) => value.with_tag(tag).to_octets(alloc),
+        None => Ok(octets),
+    }
+}
+
+// The value of an id with the octets of this instance, with a tag.
+fn tagged_value(
+    alloc: Global,
+    dictionary: &Dictionary,
+    id: AttrId,
+    form: Form,
+    tag: u8,
+    pair: &Pair,
+) -> Result<Value, Unresolved>
+    requires known { IsTrue (is_known id dictionary.now) }
+    requires fits { IsTrue (fits pair.now dictionary.now) }
+    ensures resolves { Meets is_memory result
+        (tagged_value dictionary.now id form tag (Some pair.now)) }
+    ensures fits { IfOk result (λ v. IsTrue (fits (pair_of id v) dictionary.now)) }
+{
+    let octets = dictionary.bytes_of_value(alloc, pair.id, &pair.value)?;
+    let octets = retagged(alloc, form, tag, octets)?;
+    let value = read_by_type(alloc, dictionary, id, &octets)?;
+    unless_long(dictionary, id, value)
+}
+
+// The value that a text of a wider policy stands for.
+fn wider_value(
+    alloc: Global,
+    dictionary: &Dictionary,
+    target: Target,
+    text: &[u8],
+) -> Result<Value, Unresolved>
+    requires known { IsTrue (is_known target.named.id dictionary.now) }
+    ensures resolves { Meets is_memory result (wider_value dictionary.now target text.now) }
+    ensures fits { IfOk result (λ v. IsTrue (fits (pair_of target.named.id v) dictionary.now)) }
+{
+    dictionary.is_sound();
+    let value = value_written(alloc, dictionary, Profile::Wider, target, None, text)?;
+    Ok(value)
+}
+
+// The value that a text of a wider policy with values put in stands for under a name.
+fn wider_text_value<S: Store>(
+    alloc: Global,
+    dictionary: &Dictionary,
+    target: Target,
+    parts: &[Part],
+    store: &S,
+) -> Result<Value, Unresolved>
+    requires known { IsTrue (is_known target.named.id dictionary.now) }
+    requires fits { StateFits dictionary.now (present (S.history store.now)) }
+    ensures resolves { Meets is_memory result (wider_value dictionary.now target
+        (parts_text dictionary.now (present (S.history store.now)) parts.now)) }
+    ensures fits { IfOk result (λ v. IsTrue (fits (pair_of target.named.id v) dictionary.now)) }
+{
+    let text = parts_text(alloc, dictionary, parts, store)?;
+    wider_value(alloc, dictionary, target, &text)
+}
+
 // The value that a text with values put in stands for under a name.
 fn text_value<S: Store>(
     alloc: Global,
@@ -231,10 +312,21 @@ fn source_value<S: Store>(
             parts.as_slice(),
             store,
         ),
+        Source::WiderText(raw, tag, parts) => {
+            let named = Named { id, raw: *raw };
+            let target = Target { named, tag: *tag };
+            wider_text_value(alloc, dictionary, target, parts.as_slice(), store)
+        }
         Source::Instance(list, other) => match store.first(*list, *other) {
             None => Err(Unresolved::Absent),
             Some(pair) => instance_value(alloc, dictionary, id, pair),
         },
+        Source::Tagged(list, other, selection, form, tag) => {
+            match store.first_selected(*list, *other, *selection) {
+                None => Err(Unresolved::Absent),
+                Some(pair) => tagged_value(alloc, dictionary, id, *form, *tag, pair),
+            }
+        }
         Source::Any => Ok(Value::Raw(Octets::from_vec(Vec::new(alloc)))),
     }
 }

@@ -2,16 +2,17 @@
 
 ghost use Rattle.std.specs.Prelude.{◌≡◌, IsTrue, Option, false};
 ghost use Rattle.std.specs.List.{list_all, list_any};
-ghost use Rattle.std.specs.Option.{option_copied};
+ghost use Rattle.std.specs.Option.{option_copied, option_map};
 ghost use Rattle.avp_lists.specs.History.{present};
 ghost use Rattle.avp_dict.specs.Octets.{octets_of};
 ghost use Rattle.avp_dict.specs.declared.entries.Kind.{Kind};
-ghost use Rattle.avp_unlang.specs.Truth.{comparable, compared_with, first_value, is_alike, is_comparable, is_met, is_number_value, is_numeric, meets, number_order, order, relates, same_code, truth};
+ghost use Rattle.avp_unlang.specs.Truth.{comparable, compared_with, first_value, is_alike, is_comparable, is_met, is_met_by_meaning, is_number_value, is_numeric, meant_with, meets, meets_if_ordered, number_order, octets_meant, order, relates, same_code, selected_octets, truth};
 
 use crate::codes::Code;
-use crate::tree::{Comparand, Comparison, Cond, Relation};
-use avp_dict::Kind;
-use avp_lists::{AttrId, List, Store, Value};
+use crate::tree::{Comparand, Comparison, Cond, MeantComparand, MeantComparison, Relation};
+use avp_dict::{Form, Kind};
+use avp_forms::order_by_meaning;
+use avp_lists::{AttrId, List, Selection, Store, Value};
 use std::cmp::Ordering;
 
 fn is_numeric(kind: Kind) -> bool
@@ -118,6 +119,77 @@ fn is_met<S: Store>(comparison: &Comparison, store: &S) -> bool
     }
 }
 
+/// The octets of a value, and the form by which they mean something; raw ones mean nothing.
+#[tactic(auto, unfolding(crate::specs::Truth::octets_meant))]
+pub(crate) fn octets_meant(form: Form, value: &Value) -> Option<(Form, &[u8])>
+    ensures { option_map (λ x. (x.0, x.1.now)) result ≡ octets_meant form value.now }
+{
+    match value {
+        Value::Bytes(octets) => Some((form, octets.as_slice())),
+        Value::Raw(octets) => Some((Form::AsTyped, octets.as_slice())),
+        _ => None,
+    }
+}
+
+fn selected_octets<S: Store>(
+    store: &S,
+    list: List,
+    id: AttrId,
+    selection: Selection,
+    form: Form,
+) -> Option<(Form, &[u8])>
+    ensures { option_map (λ x. (x.0, x.1.now)) result
+        ≡ selected_octets list id selection form (present (S.history store.now)) }
+{
+    let pair = store.first_selected(list, id, selection)?;
+    octets_meant(form, &pair.value)
+}
+
+fn meant_with<'a, S: Store>(comparand: &'a MeantComparand, store: &'a S) -> Option<(Form, &'a [u8])>
+    ensures { option_map (λ x. (x.0, x.1.now)) result
+        ≡ meant_with comparand.now (present (S.history store.now)) }
+{
+    match comparand {
+        MeantComparand::Literal(form, octets) => Some((*form, octets.as_slice())),
+        MeantComparand::Instance(list, id, selection, form) => selected_octets(
+            store, *list, *id, *selection, *form,
+        ),
+    }
+}
+
+fn meets_if_ordered(relation: Relation, order: Option<Ordering>) -> bool
+    ensures { result ≡ meets_if_ordered relation order }
+{
+    match (relation, order) {
+        (relation, Some(order)) => meets(relation, order),
+        (Relation::Differs, None) => true,
+        (_, None) => false,
+    }
+}
+
+fn is_met_by_meaning<S: Store>(comparison: &MeantComparison, store: &S) -> bool
+    ensures { result ≡ is_met_by_meaning comparison.now (present (S.history store.now)) }
+{
+    let MeantComparison {
+        list,
+        id,
+        selection,
+        form,
+        relation,
+        comparand,
+    } = comparison;
+    match (
+        selected_octets(store, *list, *id, *selection, *form),
+        meant_with(comparand, store),
+    ) {
+        (Some((form, octets)), Some((other, others))) => {
+            let order = order_by_meaning(form, octets, other, others);
+            meets_if_ordered(*relation, order)
+        }
+        _ => false,
+    }
+}
+
 #[cycle(conditions)]
 fn any_holds<S: Store>(conds: &[Cond], store: &S, code: Code) -> bool
     requires comparable { IsTrue (list_all (λ cond. comparable cond (present (S.history store.now)))
@@ -150,7 +222,7 @@ fn all_hold<S: Store>(conds: &[Cond], store: &S, code: Code) -> bool
 
 /// Whether a condition is true of a store's present lists, `code` being the last code. It takes no memory.
 #[cycle(conditions)]
-#[tactic(auto, using(crate::proofs::Truths::truth_any, crate::proofs::Truths::truth_all, crate::proofs::Truths::truth_not, crate::proofs::Truths::truth_last, crate::proofs::Truths::truth_present, crate::proofs::Truths::truth_compare, crate::proofs::Truths::comparable_any, crate::proofs::Truths::comparable_all, crate::proofs::Truths::comparable_not, crate::proofs::Truths::comparable_compare))]
+#[tactic(auto, using(crate::proofs::Truths::truth_any, crate::proofs::Truths::truth_all, crate::proofs::Truths::truth_not, crate::proofs::Truths::truth_last, crate::proofs::Truths::truth_present, crate::proofs::Truths::truth_present_selected, crate::proofs::Truths::truth_compare, crate::proofs::Truths::truth_compare_meant, crate::proofs::Truths::comparable_any, crate::proofs::Truths::comparable_all, crate::proofs::Truths::comparable_not, crate::proofs::Truths::comparable_compare))]
 pub fn holds<S: Store>(cond: &Cond, store: &S, code: Code) -> bool
     requires comparable { IsTrue (comparable cond.now (present (S.history store.now))) }
     ensures { result ≡ truth cond.now (present (S.history store.now)) code }
@@ -161,6 +233,10 @@ pub fn holds<S: Store>(cond: &Cond, store: &S, code: Code) -> bool
         Cond::Not(cond) => !holds(cond.get(), store, code),
         Cond::Last(word) => same_code(code, *word),
         Cond::Present(list, id) => store.first(*list, *id).is_some(),
+        Cond::PresentSelected(list, id, selection) => {
+            store.first_selected(*list, *id, *selection).is_some()
+        }
         Cond::Compare(comparison) => is_met(comparison, store),
+        Cond::CompareMeant(comparison) => is_met_by_meaning(comparison, store),
     }
 }

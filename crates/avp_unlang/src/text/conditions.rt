@@ -1,8 +1,9 @@
 //! Conditions, read from a text.
 
 ghost use Rattle.std.specs.Prelude.{◌≡◌, ◌≢◌, ◌≤◌, ◌∷◌, [], suc, length, Some, None, false, IfOk, IfErr};
-ghost use Rattle.avp_unlang.specs.Conditions.{Both, Closed, ComparandOf, ComparedIs, Either, Negated, ReferredIs, Within, WordFrom, all_of, any_of, has_expansion, plain_literal, relation_of};
+ghost use Rattle.avp_unlang.specs.Conditions.{Both, Closed, ComparandOf, ComparedBy, ComparedIs, Either, Negated, ReferredIs, RelatedIs, Within, WordFrom, all_of, any_of, has_expansion, is_by_meaning, plain_literal, present_of, relation_of};
 ghost use Rattle.avp_unlang.specs.Forms.{Reads, ReadsAll};
+ghost use Rattle.avp_unlang.specs.References.{type_of};
 ghost use Rattle.avp_unlang.specs.Words.{code_named};
 ghost use Rattle.avp_unlang.specs.declared.faults.PolicyKind.TheVariants.{Memory};
 
@@ -11,12 +12,15 @@ use crate::codes::code_named;
 use crate::faults::{PolicyFault, PolicyKind, Position, fault_at};
 use crate::items::Items;
 use crate::text::cursors::{Cursor, Read};
+use crate::text::meanings::related_by_meaning;
 use crate::text::references::{Reference, readable, referred, type_of};
+use crate::text::selecting::selection_of;
 use crate::text::tokens::{Excerpt, Sign, Token, front};
-use crate::text::values::{ValuePositions, Written, quoted_literal, value_written};
+use crate::text::values::{ValuePositions, Written, quoted_literal, written_value};
 use crate::tree::{Comparand, Comparison, Cond, Relation};
-use avp_dict::{Dictionary, Named, QuoteMark};
-use avp_lists::Value;
+use avp_dict::{Dictionary, Kind, QuoteMark};
+use avp_forms::{Profile, Target};
+use avp_lists::{AttrId, Value};
 use std::alloc::Global;
 
 #[tactic(auto, unfolding(crate::specs::Conditions::relation_of))]
@@ -34,8 +38,8 @@ fn relation_of(token: &Token) -> Option<Relation>
     }
 }
 
-// Whether there is a `%{` in a text with no `\` before either octet.
-fn has_expansion(text: &[u8]) -> bool
+/// Whether there is a `%{` in a text with no `\` before either octet.
+pub(crate) fn has_expansion(text: &[u8]) -> bool
     ensures { result ≡ has_expansion false text.now }
 {
     let mut escaped = false;
@@ -50,13 +54,13 @@ fn has_expansion(text: &[u8]) -> bool
     false
 }
 
-// The fault of an expansion in a condition; that the name is not writable comes first.
-fn expansion_fault(
+/// The fault of an expansion in a condition; that the name is not writable comes first.
+pub(crate) fn expansion_fault(
     dictionary: &Dictionary,
-    named: Named,
+    target: Target,
     positions: ValuePositions,
 ) -> PolicyFault {
-    if dictionary.is_barred(named) {
+    if dictionary.is_barred(target.named) {
         fault_at(positions.name, PolicyKind::NotWritable)
     } else {
         fault_at(positions.value, PolicyKind::Unreadable)
@@ -66,100 +70,182 @@ fn expansion_fault(
 // The value of a text between double quotes, which may hold no expansion.
 fn plain_literal(
     alloc: Global,
+    profile: Profile,
     dictionary: &Dictionary,
-    named: Named,
+    target: Target,
     text: &Excerpt,
     positions: ValuePositions,
 ) -> Result<Value, PolicyFault>
-    ensures ok { IfOk result (λ value. plain_literal dictionary.now named text.now ≡ Some value) }
+    ensures ok { IfOk result (λ value. plain_literal profile dictionary.now target text.now
+        ≡ Some value) }
     ensures err { IfErr result (λ fault. fault.kind ≢ Memory
-        → plain_literal dictionary.now named text.now ≡ None) }
+        → plain_literal profile dictionary.now target text.now ≡ None) }
 {
     if has_expansion(text.as_slice()) {
-        return Err(expansion_fault(dictionary, named, positions));
+        return Err(expansion_fault(dictionary, target, positions));
     }
-    quoted_literal(alloc, dictionary, named, QuoteMark::Double, text, positions)
+    quoted_literal(
+        alloc,
+        profile,
+        dictionary,
+        target,
+        QuoteMark::Double,
+        text,
+        positions,
+    )
 }
 
 // What an attribute is compared with.
 fn comparand_of(
     alloc: Global,
+    profile: Profile,
     dictionary: &Dictionary,
-    named: Named,
+    target: Target,
     written: Written,
     positions: ValuePositions,
 ) -> Result<Comparand, PolicyFault>
-    ensures { ReadsAll (ComparandOf dictionary.now named written.entry) result }
+    ensures { ReadsAll (ComparandOf profile dictionary.now target written.entry) result }
 {
     match written {
         Written::Literal(value) => Ok(Comparand::Literal(value)),
         Written::Double(text) => {
-            let value = plain_literal(alloc, dictionary, named, &text, positions)?;
+            let value = plain_literal(alloc, profile, dictionary, target, &text, positions)?;
             Ok(Comparand::Literal(value))
         }
-        Written::Instance(list, id) => Ok(Comparand::Instance(list, id)),
+        Written::Instance(found) => Ok(Comparand::Instance(found.list, found.target.named.id)),
     }
 }
 
-// What follows a reference that begins here: nothing of the operand, or a comparison.
-fn compared<'a>(
+// The comparison of a reference by the type of its values: what follows the operator.
+fn related_by_type<'a>(
     alloc: Global,
+    profile: Profile,
     dictionary: &Dictionary,
     found: Reference,
-    name: Position,
-    at: Cursor<'a>,
+    relation: Relation,
+    positions: ValuePositions,
+    at: &Cursor<'a>,
 ) -> Read<'a, Cond>
-    ensures read { Reads (ComparedIs dictionary.now found at.entry) result }
-    ensures shorter { IfOk result (λ x. length x.1.text ≤ length at.entry.text) }
+    ensures read { Reads (ComparedBy profile dictionary.now found relation at.now) result }
+    ensures shorter { IfOk result (λ x. length x.1.text ≤ length at.now.text) }
 {
-    let Some(relation) = relation_of(at.token()) else {
-        return Ok((Cond::Present(found.list, found.named.id), at));
-    };
-    let after = at.after();
-    let positions = ValuePositions {
-        name,
-        value: after.position(),
-    };
-    let (written, rest) = value_written(alloc, dictionary, found.named, positions, &after)?;
-    let comparand = comparand_of(alloc, dictionary, found.named, written, positions)?;
+    let target = found.target;
+    let (written, rest) = written_value(alloc, profile, dictionary, target, positions, at)?;
+    let comparand = comparand_of(alloc, profile, dictionary, target, written, positions)?;
     let comparison = Comparison {
         list: found.list,
-        id: found.named.id,
-        kind: type_of(dictionary, found.named.id),
+        id: target.named.id,
+        kind: type_of(dictionary, target.named.id),
         relation,
         comparand,
     };
     Ok((Cond::Compare(comparison), rest))
 }
 
-// The operand after an `&`.
-fn referred_operand<'a>(alloc: Global, dictionary: &Dictionary, at: &Cursor<'a>) -> Read<'a, Cond>
-    ensures read { Reads (ReferredIs dictionary.now at.now) result }
+// Whether the values of an attribute are compared by what they mean. Of a plain policy no type is looked up.
+fn is_by_meaning(profile: Profile, dictionary: &Dictionary, id: AttrId) -> bool
+    ensures { result ≡ is_by_meaning profile (type_of dictionary.now id) }
+{
+    match profile {
+        Profile::Plain => false,
+        Profile::Wider => matches!(type_of(dictionary, id), Kind::Bytes),
+    }
+}
+
+// The comparison of a reference: what follows the operator.
+fn related<'a>(
+    alloc: Global,
+    profile: Profile,
+    dictionary: &Dictionary,
+    found: Reference,
+    relation: Relation,
+    positions: ValuePositions,
+    at: &Cursor<'a>,
+) -> Read<'a, Cond>
+    ensures read { Reads (RelatedIs profile dictionary.now found relation at.now) result }
     ensures shorter { IfOk result (λ x. length x.1.text ≤ length at.now.text) }
 {
-    let (found, mid) = referred(dictionary, at)?;
+    if is_by_meaning(profile, dictionary, found.target.named.id) {
+        related_by_meaning(alloc, dictionary, found, relation, positions, at)
+    } else {
+        related_by_type(alloc, profile, dictionary, found, relation, positions, at)
+    }
+}
+
+// A reference by itself.
+fn present_of(dictionary: &Dictionary, found: Reference) -> Cond
+    ensures { result ≡ present_of dictionary.now found found.target.tag }
+{
+    let id = found.target.named.id;
+    match found.target.tag {
+        None => Cond::Present(found.list, id),
+        Some(_) => {
+            let selection = selection_of(dictionary, found.target);
+            Cond::PresentSelected(found.list, id, selection)
+        }
+    }
+}
+
+// What follows a reference that begins here: nothing of the operand, or a comparison.
+fn compared<'a>(
+    alloc: Global,
+    profile: Profile,
+    dictionary: &Dictionary,
+    found: Reference,
+    name: Position,
+    at: Cursor<'a>,
+) -> Read<'a, Cond>
+    ensures read { Reads (ComparedIs profile dictionary.now found at.entry) result }
+    ensures shorter { IfOk result (λ x. length x.1.text ≤ length at.entry.text) }
+{
+    let Some(relation) = relation_of(at.token()) else {
+        return Ok((present_of(dictionary, found), at));
+    };
+    let after = at.after();
+    let positions = ValuePositions {
+        name,
+        value: after.position(),
+    };
+    related(
+        alloc, profile, dictionary, found, relation, positions, &after,
+    )
+}
+
+// The operand after an `&`.
+fn referred_operand<'a>(
+    alloc: Global,
+    profile: Profile,
+    dictionary: &Dictionary,
+    at: &Cursor<'a>,
+) -> Read<'a, Cond>
+    ensures read { Reads (ReferredIs profile dictionary.now at.now) result }
+    ensures shorter { IfOk result (λ x. length x.1.text ≤ length at.now.text) }
+{
+    let (found, mid) = referred(profile, dictionary, at)?;
     let name = mid.before();
-    compared(alloc, dictionary, found, name, mid)
+    compared(alloc, profile, dictionary, found, name, mid)
 }
 
 // The operand of a word, which is the token before this place.
 fn worded_operand<'a>(
     alloc: Global,
+    profile: Profile,
     dictionary: &Dictionary,
     word: &[u8],
     at: Cursor<'a>,
 ) -> Read<'a, Cond>
-    ensures read { Reads (WordFrom dictionary.now (code_named word.now) word.now at.entry) result }
+    ensures read { Reads (WordFrom profile dictionary.now (code_named word.now) word.now at.entry)
+        result }
     ensures shorter { IfOk result (λ x. length x.1.text ≤ length at.entry.text) }
 {
     if let Some(code) = code_named(word) {
         return Ok((Cond::Last(code), at));
     }
-    match readable(dictionary, word) {
+    match readable(profile, dictionary, word) {
         Err(kind) => Err(at.fault(kind)),
         Ok(found) => {
             let name = at.before();
-            compared(alloc, dictionary, found, name, at)
+            compared(alloc, profile, dictionary, found, name, at)
         }
     }
 }
@@ -201,19 +287,20 @@ fn any_of(conds: Vec<Cond>) -> Cond
 #[cycle(conditions)]
 fn operand<'a>(
     alloc: Global,
+    profile: Profile,
     dictionary: &Dictionary,
     depth: usize,
     at: Cursor<'a>,
 ) -> Read<'a, Cond>
-    ensures read { Reads (Within dictionary.now (suc depth) at.entry) result }
+    ensures read { Reads (Within profile dictionary.now (suc depth) at.entry) result }
     ensures shorter { IfOk result (λ x. length x.1.text ≤ length at.entry.text) }
 {
     let (token, after) = at.next();
     match token {
-        Token::Operator(Sign::Not) => negated(alloc, dictionary, depth, after),
-        Token::Operator(Sign::Open) => closed(alloc, dictionary, depth, after),
-        Token::Operator(Sign::Reference) => referred_operand(alloc, dictionary, &after),
-        Token::Word(word) => worded_operand(alloc, dictionary, word.as_slice(), after),
+        Token::Operator(Sign::Not) => negated(alloc, profile, dictionary, depth, after),
+        Token::Operator(Sign::Open) => closed(alloc, profile, dictionary, depth, after),
+        Token::Operator(Sign::Reference) => referred_operand(alloc, profile, dictionary, &after),
+        Token::Word(word) => worded_operand(alloc, profile, dictionary, word.as_slice(), after),
         _ => Err(at.misplaced()),
     }
 }
@@ -222,17 +309,18 @@ fn operand<'a>(
 #[cycle(conditions)]
 fn negated<'a>(
     alloc: Global,
+    profile: Profile,
     dictionary: &Dictionary,
     depth: usize,
     at: Cursor<'a>,
 ) -> Read<'a, Cond>
-    ensures read { Reads (Negated (Within dictionary.now depth) at.entry) result }
+    ensures read { Reads (Negated (Within profile dictionary.now depth) at.entry) result }
     ensures shorter { IfOk result (λ x. length x.1.text ≤ length at.entry.text) }
 {
     if depth == 0 {
         return Err(at.fault(PolicyKind::TooDeep));
     }
-    let (cond, rest) = operand(alloc, dictionary, depth - 1, at)?;
+    let (cond, rest) = operand(alloc, profile, dictionary, depth - 1, at)?;
     Ok((Cond::Not(Boxed::new(alloc, cond)?), rest))
 }
 
@@ -241,32 +329,39 @@ fn negated<'a>(
 #[cycle(conditions)]
 pub(crate) fn closed<'a>(
     alloc: Global,
+    profile: Profile,
     dictionary: &Dictionary,
     depth: usize,
     at: Cursor<'a>,
 ) -> Read<'a, Cond>
-    ensures read { Reads (Closed (Within dictionary.now depth) at.entry) result }
+    ensures read { Reads (Closed (Within profile dictionary.now depth) at.entry) result }
     ensures shorter { IfOk result (λ x. length x.1.text ≤ length at.entry.text) }
 {
     if depth == 0 {
         return Err(at.fault(PolicyKind::TooDeep));
     }
-    let (cond, end) = either(alloc, dictionary, depth - 1, at)?;
+    let (cond, end) = either(alloc, profile, dictionary, depth - 1, at)?;
     let rest = end.expect(Sign::Close)?;
     Ok((cond, rest))
 }
 
 // Operands with `&&` between them.
 #[cycle(conditions)]
-fn both<'a>(alloc: Global, dictionary: &Dictionary, depth: usize, at: Cursor<'a>) -> Read<'a, Cond>
-    ensures read { Reads (Both (Within dictionary.now (suc depth)) at.entry) result }
+fn both<'a>(
+    alloc: Global,
+    profile: Profile,
+    dictionary: &Dictionary,
+    depth: usize,
+    at: Cursor<'a>,
+) -> Read<'a, Cond>
+    ensures read { Reads (Both (Within profile dictionary.now (suc depth)) at.entry) result }
     ensures shorter { IfOk result (λ x. length x.1.text ≤ length at.entry.text) }
 {
-    let (first, mut rest) = operand(alloc, dictionary, depth, at)?;
+    let (first, mut rest) = operand(alloc, profile, dictionary, depth, at)?;
     let mut conds = Vec::new(alloc);
     conds.push(first)?;
     while let Some(next) = rest.after_sign(Sign::And) {
-        let (cond, end) = operand(alloc, dictionary, depth, next)?;
+        let (cond, end) = operand(alloc, profile, dictionary, depth, next)?;
         conds.push(cond)?;
         rest = end;
     }
@@ -277,18 +372,19 @@ fn both<'a>(alloc: Global, dictionary: &Dictionary, depth: usize, at: Cursor<'a>
 #[cycle(conditions)]
 fn either<'a>(
     alloc: Global,
+    profile: Profile,
     dictionary: &Dictionary,
     depth: usize,
     at: Cursor<'a>,
 ) -> Read<'a, Cond>
-    ensures read { Reads (Either (Within dictionary.now (suc depth)) at.entry) result }
+    ensures read { Reads (Either (Within profile dictionary.now (suc depth)) at.entry) result }
     ensures shorter { IfOk result (λ x. length x.1.text ≤ length at.entry.text) }
 {
-    let (first, mut rest) = both(alloc, dictionary, depth, at)?;
+    let (first, mut rest) = both(alloc, profile, dictionary, depth, at)?;
     let mut conds = Vec::new(alloc);
     conds.push(first)?;
     while let Some(next) = rest.after_sign(Sign::Or) {
-        let (cond, end) = both(alloc, dictionary, depth, next)?;
+        let (cond, end) = both(alloc, profile, dictionary, depth, next)?;
         conds.push(cond)?;
         rest = end;
     }

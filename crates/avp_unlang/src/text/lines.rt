@@ -8,10 +8,12 @@ use crate::faults::PolicyKind;
 use crate::items::Items;
 use crate::text::cursors::{Cursor, Read};
 use crate::text::references::{Reference, reference_in};
+use crate::text::selecting::line_selection;
 use crate::text::sources::source;
 use crate::text::tokens::{Sign, Token};
 use crate::tree::{Line, Lines};
 use avp_dict::Dictionary;
+use avp_forms::Profile;
 use avp_lists::{List, Op};
 use std::alloc::Global;
 
@@ -28,14 +30,19 @@ fn after_reference<'a>(at: Cursor<'a>) -> Cursor<'a>
 }
 
 // The target of a line.
-fn target<'a>(dictionary: &Dictionary, own: List, at: Cursor<'a>) -> Read<'a, Reference>
-    ensures read { Reads (TargetIs dictionary.now own at.entry) result }
+fn target<'a>(
+    profile: Profile,
+    dictionary: &Dictionary,
+    own: List,
+    at: Cursor<'a>,
+) -> Read<'a, Reference>
+    ensures read { Reads (TargetIs profile dictionary.now own at.entry) result }
     ensures shorter { IfOk result (λ x. length x.1.text < length at.entry.text) }
 {
     let begin = after_reference(at);
     let (token, after) = begin.next();
     match &token {
-        Token::Word(word) => match reference_in(dictionary, own, word.as_slice()) {
+        Token::Word(word) => match reference_in(profile, dictionary, own, word.as_slice()) {
             None => Err(after.fault(PolicyKind::Unknown)),
             Some(found) => Ok((found, after)),
         },
@@ -71,23 +78,31 @@ fn operator<'a>(at: &Cursor<'a>) -> Read<'a, Op>
 }
 
 // A line of an `update` of this list.
-fn line<'a>(alloc: Global, dictionary: &Dictionary, own: List, at: Cursor<'a>) -> Read<'a, Line>
-    ensures read { Reads (LineIs dictionary.now own at.entry) result }
+fn line<'a>(
+    alloc: Global,
+    profile: Profile,
+    dictionary: &Dictionary,
+    own: List,
+    at: Cursor<'a>,
+) -> Read<'a, Line>
+    ensures read { Reads (LineIs profile dictionary.now own at.entry) result }
     ensures shorter { IfOk result (λ x. length x.1.text < length at.entry.text) }
 {
     let first = at.position();
     let start = at.count(1, first)?;
-    let (target, mid) = target(dictionary, own, start)?;
+    let (found, mid) = target(profile, dictionary, own, start)?;
     let (op, end) = operator(&mid)?;
-    let (source, rest) = source(alloc, dictionary, op, target.named, mid.before(), &end)?;
-    let found = Line {
+    let name = mid.before();
+    let (source, rest) = source(alloc, profile, dictionary, op, found.target, name, &end)?;
+    let line = Line {
         line: first.line,
-        list: target.list,
-        id: target.named.id,
+        list: found.list,
+        id: found.target.named.id,
         op,
+        selection: line_selection(profile, dictionary, op, found.target),
         source,
     };
-    Ok((found, rest))
+    Ok((line, rest))
 }
 
 fn begins_line(at: &Cursor) -> bool
@@ -102,17 +117,18 @@ fn begins_line(at: &Cursor) -> bool
 /// The lines of an `update` of this list.
 pub(crate) fn lines<'a>(
     alloc: Global,
+    profile: Profile,
     dictionary: &Dictionary,
     own: List,
     at: Cursor<'a>,
 ) -> Read<'a, Lines>
-    ensures read { Reads (While begins_line (LineIs dictionary.now own) at.entry) result }
+    ensures read { Reads (While begins_line (LineIs profile dictionary.now own) at.entry) result }
     ensures shorter { IfOk result (λ x. length x.1.text ≤ length at.entry.text) }
 {
     let mut lines = Vec::new(alloc);
     let mut rest = at;
     while begins_line(&rest) {
-        let (found, end) = line(alloc, dictionary, own, rest)?;
+        let (found, end) = line(alloc, profile, dictionary, own, rest)?;
         lines.push(found)?;
         rest = end;
     }

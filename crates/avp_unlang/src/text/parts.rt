@@ -3,14 +3,16 @@
 ghost use Rattle.std.specs.Prelude.{◌≡◌, ◌<◌, ℕ, List as TheList, length, IfOk, IfSome, IsTrue, OnErr};
 ghost use Rattle.avp_unlang.specs.Forms.{Reads, ReadsAll, While};
 ghost use Rattle.avp_unlang.specs.declared.text.references.Reference.{Reference as Referred};
-ghost use Rattle.avp_unlang.specs.Parts.{InstanceIs, OctetIs, PartIs, PartsAre, after_opening, begins_octet, braced, is_left, octet_at};
+ghost use Rattle.avp_unlang.specs.Parts.{InstanceIs, OctetIs, PartIs, PartsAre, after_opening, begins_octet, braced, is_left, octet_at, part_of};
 
 use crate::faults::{PolicyFault, PolicyKind, Position, fault_at};
 use crate::items::Items;
 use crate::text::references::{Reference, readable};
+use crate::text::selecting::selection_of;
 use crate::text::tokens::{Excerpt, word_length};
 use crate::tree::{Part, Parts};
 use avp_dict::{Dictionary, double_escape};
+use avp_forms::Profile;
 use avp_lists::Octets;
 use std::alloc::{AllocError, Global};
 
@@ -78,12 +80,13 @@ fn braced<'a>(text: &Excerpt<'a>) -> Option<(Excerpt<'a>, Excerpt<'a>)>
 
 // What is put in by an expansion, and the text after it.
 fn instance<'a>(
+    profile: Profile,
     dictionary: &Dictionary,
     text: &Excerpt<'a>,
 ) -> Result<(Reference, Excerpt<'a>), PolicyKind>
-    ensures ok { IfOk result (λ x. InstanceIs dictionary.now text.now x.0 x.1) }
+    ensures ok { IfOk result (λ x. InstanceIs profile dictionary.now text.now x.0 x.1) }
     ensures err { OnErr result ((found : Referred) (rest : TheList ℕ)
-        → InstanceIs dictionary.now text.now found rest → ⊥) }
+        → InstanceIs profile dictionary.now text.now found rest → ⊥) }
     ensures shorter { IfOk result (λ x. length x.1 < length text.now) }
 {
     let Some(inner) = after_opening(text) else {
@@ -92,26 +95,38 @@ fn instance<'a>(
     let Some((word, rest)) = braced(&inner) else {
         return Err(PolicyKind::Unreadable);
     };
-    let found = readable(dictionary, word.as_slice())?;
+    let found = readable(profile, dictionary, word.as_slice())?;
     Ok((found, rest))
+}
+
+// The part for a value that is put in.
+fn part_of(profile: Profile, dictionary: &Dictionary, found: Reference) -> Part
+    ensures { result ≡ part_of profile dictionary.now found }
+{
+    let id = found.target.named.id;
+    match profile {
+        Profile::Plain => Part::Instance(found.list, id),
+        Profile::Wider => Part::Meant(found.list, id, selection_of(dictionary, found.target)),
+    }
 }
 
 // The part that a text begins with, and the text after it.
 fn part<'a>(
     alloc: Global,
+    profile: Profile,
     dictionary: &Dictionary,
     text: Excerpt<'a>,
     quoted: Position,
 ) -> Result<(Part, Excerpt<'a>), PolicyFault>
-    ensures read { Reads (PartIs dictionary.now text.entry) result }
+    ensures read { Reads (PartIs profile dictionary.now text.entry) result }
     ensures shorter { IfOk result (λ x. length x.1 < length text.entry) }
 {
     if begins_octet(&text) {
         let (octets, rest) = octets(alloc, text)?;
         return Ok((Part::Text(octets), rest));
     }
-    match instance(dictionary, &text) {
-        Ok((found, rest)) => Ok((Part::Instance(found.list, found.named.id), rest)),
+    match instance(profile, dictionary, &text) {
+        Ok((found, rest)) => Ok((part_of(profile, dictionary, found), rest)),
         Err(kind) => Err(fault_at(quoted, kind)),
     }
 }
@@ -125,16 +140,17 @@ fn is_left(text: &Excerpt) -> bool
 /// The parts of a text between double quotes, which begins here. The first refused place of the text is reported.
 pub(crate) fn parts(
     alloc: Global,
+    profile: Profile,
     dictionary: &Dictionary,
     text: Excerpt,
     quoted: Position,
 ) -> Result<Parts, PolicyFault>
-    ensures { ReadsAll (PartsAre dictionary.now text.entry) result }
+    ensures { ReadsAll (PartsAre profile dictionary.now text.entry) result }
 {
     let mut parts = Vec::new(alloc);
     let mut rest = text;
     while is_left(&rest) {
-        let (found, end) = part(alloc, dictionary, rest, quoted)?;
+        let (found, end) = part(alloc, profile, dictionary, rest, quoted)?;
         parts.push(found)?;
         rest = end;
     }

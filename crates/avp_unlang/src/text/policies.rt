@@ -18,6 +18,7 @@ use crate::text::statements::statements;
 use crate::text::tokens::Token;
 use crate::tree::Block;
 use avp_dict::Dictionary;
+use avp_forms::profile_of;
 use std::alloc::Global;
 use std::marker::Model;
 
@@ -78,7 +79,8 @@ fn policy_of(alloc: Global, dictionary: &Dictionary, text: &[u8]) -> Result<Poli
     ensures suits { IfOk result (λ policy. IsTrue (policy_suits dictionary.now policy)) }
 {
     dictionary.is_sound();
-    let (statements, end) = statements(alloc, dictionary, MAX_NESTED, Cursor::new(text))?;
+    let profile = profile_of(text);
+    let (statements, end) = statements(alloc, profile, dictionary, MAX_NESTED, Cursor::new(text))?;
     match end.token() {
         Token::End => Ok(Policy {
             statements,
@@ -134,5 +136,6 @@ pub fn keeps_reply_clean(dictionary: &Dictionary, policy: &Policy)
     requires { IsSpelled dictionary.now policy.now }
     ensures { KeepsReplyClean dictionary.now policy.now }
 {
+    dictionary.is_sound();
     dictionary.spelled_values_clean();
 }

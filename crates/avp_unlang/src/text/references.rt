@@ -7,14 +7,15 @@ ghost use Rattle.avp_unlang.specs.References.{AlikeIs, ReadableIs, list_named, r
 use crate::faults::PolicyKind;
 use crate::text::cursors::{Cursor, Read};
 use crate::text::tokens::Token;
-use avp_dict::{Dictionary, Kind, Named, is_container};
+use avp_dict::{Dictionary, Kind, is_container};
+use avp_forms::{Profile, Target, target_of};
 use avp_lists::{AttrId, List};
 
-/// What a word refers to: a list, and what the name of an attribute stands for.
+/// What a word refers to: a list, and what the name of an attribute stands for, with its tag.
 #[derive(Clone, Copy)]
 pub(crate) struct Reference {
     pub list: List,
-    pub named: Named,
+    pub target: Target,
 }
 
 #[tactic(auto, unfolding(crate::specs::References::list_named))]
@@ -50,24 +51,33 @@ fn target_in(own: List, word: &[u8]) -> (List, &[u8])
 
 /// What a word refers to; a name alone is of the list at hand.
 #[tactic(auto, unfolding(crate::specs::References::reference_in))]
-pub(crate) fn reference_in(dictionary: &Dictionary, own: List, word: &[u8]) -> Option<Reference>
-    ensures { result ≡ reference_in dictionary.now own word.now }
+pub(crate) fn reference_in(
+    profile: Profile,
+    dictionary: &Dictionary,
+    own: List,
+    word: &[u8],
+) -> Option<Reference>
+    ensures { result ≡ reference_in profile dictionary.now own word.now }
 {
     let (list, name) = target_in(own, word);
-    let named = dictionary.by_name(name)?;
-    Some(Reference { list, named })
+    let target = target_of(dictionary, profile, name)?;
+    Some(Reference { list, target })
 }
 
 /// What a word refers to, where its values may be looked at; a name alone is of the request.
 #[tactic(auto, unfolding(crate::specs::References::readable))]
-pub(crate) fn readable(dictionary: &Dictionary, word: &[u8]) -> Result<Reference, PolicyKind>
-    ensures ok { IfOk result (λ found. readable dictionary.now word.now ≡ Some found) }
-    ensures err { OnErr result (readable dictionary.now word.now ≡ None) }
+pub(crate) fn readable(
+    profile: Profile,
+    dictionary: &Dictionary,
+    word: &[u8],
+) -> Result<Reference, PolicyKind>
+    ensures ok { IfOk result (λ found. readable profile dictionary.now word.now ≡ Some found) }
+    ensures err { OnErr result (readable profile dictionary.now word.now ≡ None) }
 {
-    match reference_in(dictionary, List::Request, word) {
+    match reference_in(profile, dictionary, List::Request, word) {
         None => Err(PolicyKind::Unknown),
         Some(found) => {
-            if is_container(found.named.id) {
+            if is_container(found.target.named.id) {
                 Err(PolicyKind::NotWritable)
             } else {
                 Ok(found)
@@ -77,13 +87,17 @@ pub(crate) fn readable(dictionary: &Dictionary, word: &[u8]) -> Result<Reference
 }
 
 /// The reference after an `&`. Its faults are at its word.
-pub(crate) fn referred<'a>(dictionary: &Dictionary, at: &Cursor<'a>) -> Read<'a, Reference>
-    ensures read { Reads (ReadableIs dictionary.now at.now) result }
+pub(crate) fn referred<'a>(
+    profile: Profile,
+    dictionary: &Dictionary,
+    at: &Cursor<'a>,
+) -> Read<'a, Reference>
+    ensures read { Reads (ReadableIs profile dictionary.now at.now) result }
     ensures shorter { IfOk result (λ x. length x.1.text < length at.now.text) }
 {
     let (token, after) = at.next();
     match &token {
-        Token::Word(word) => match readable(dictionary, word.as_slice()) {
+        Token::Word(word) => match readable(profile, dictionary, word.as_slice()) {
             Ok(found) => Ok((found, after)),
             Err(kind) => Err(after.fault(kind)),
         },
@@ -102,12 +116,17 @@ pub(crate) fn type_of(dictionary: &Dictionary, id: AttrId) -> Kind
 }
 
 /// The reference after an `&` to values of the same type as this attribute's. Its faults are at its word.
-pub(crate) fn alike<'a>(dictionary: &Dictionary, id: AttrId, at: &Cursor<'a>) -> Read<'a, Reference>
-    ensures read { Reads (AlikeIs dictionary.now id at.now) result }
+pub(crate) fn alike<'a>(
+    profile: Profile,
+    dictionary: &Dictionary,
+    id: AttrId,
+    at: &Cursor<'a>,
+) -> Read<'a, Reference>
+    ensures read { Reads (AlikeIs profile dictionary.now id at.now) result }
     ensures shorter { IfOk result (λ x. length x.1.text < length at.now.text) }
 {
-    let (found, after) = referred(dictionary, at)?;
-    if type_of(dictionary, id) != type_of(dictionary, found.named.id) {
+    let (found, after) = referred(profile, dictionary, at)?;
+    if type_of(dictionary, id) != type_of(dictionary, found.target.named.id) {
         return Err(after.fault(PolicyKind::OtherType));
     }
     Ok((found, after))

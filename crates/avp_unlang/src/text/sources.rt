@@ -2,17 +2,20 @@
 
 ghost use Rattle.std.specs.Prelude.{◌≡◌, ◌≢◌, ◌≤◌, length, Some, None, IfOk, IfErr, option_map};
 ghost use Rattle.avp_unlang.specs.Forms.{Reads, ReadsAll, Takes};
-ghost use Rattle.avp_unlang.specs.Sources.{FilledIs, IgnoredIs, SourceIs, SourceOf, filled_source, is_removal, whole_text};
+ghost use Rattle.avp_unlang.specs.Sources.{FilledIs, IgnoredIs, SourceIs, SourceOf, filled_source, instance_source, is_removal, shared_form, text_source, whole_text};
 ghost use Rattle.avp_unlang.specs.declared.faults.PolicyKind.TheVariants.{Memory};
 
 use crate::faults::{PolicyFault, PolicyKind, Position, fault_at};
 use crate::text::cursors::{Cursor, Read};
 use crate::text::parts::parts;
+use crate::text::references::Reference;
+use crate::text::selecting::selection_of;
 use crate::text::tokens::{Excerpt, Sign, Token};
-use crate::text::values::{ValuePositions, Written, literal, value_written};
+use crate::text::values::{ValuePositions, Written, literal, written_value};
 use crate::tree::{Part, Parts, Source};
-use avp_dict::{Dictionary, Named, is_container};
-use avp_lists::Op;
+use avp_dict::{Dictionary, Form, is_container};
+use avp_forms::{Profile, Target};
+use avp_lists::{AttrId, Op};
 use std::alloc::Global;
 
 // The text of parts among which nothing is put in.
@@ -26,23 +29,35 @@ fn whole_text(parts: &Parts) -> Option<&[u8]>
     }
 }
 
+// The source of parts among which something is put in.
+fn text_source(profile: Profile, target: Target, parts: Parts) -> Source
+    ensures { result ≡ text_source profile target parts }
+{
+    match profile {
+        Profile::Plain => Source::Text(target.named.raw, parts),
+        Profile::Wider => Source::WiderText(target.named.raw, target.tag, parts),
+    }
+}
+
 // The source of these parts: a literal if nothing is put in.
 #[tactic(auto, unfolding(crate::specs::Sources::filled_source))]
 fn filled_source(
     alloc: Global,
+    profile: Profile,
     dictionary: &Dictionary,
-    named: Named,
+    target: Target,
     parts: Parts,
     positions: ValuePositions,
 ) -> Result<Source, PolicyFault>
-    ensures ok { IfOk result (λ source. filled_source dictionary.now named parts ≡ Some source) }
+    ensures ok { IfOk result (λ source. filled_source profile dictionary.now target parts
+        ≡ Some source) }
     ensures err { IfErr result (λ fault. fault.kind ≢ Memory
-        → filled_source dictionary.now named parts ≡ None) }
+        → filled_source profile dictionary.now target parts ≡ None) }
 {
     match whole_text(&parts) {
-        None => Ok(Source::Text(named.raw, parts)),
+        None => Ok(text_source(profile, target, parts)),
         Some(text) => {
-            let value = literal(alloc, dictionary, named, text, positions)?;
+            let value = literal(alloc, profile, dictionary, target, text, positions)?;
             Ok(Source::Literal(value))
         }
     }
@@ -51,34 +66,70 @@ fn filled_source(
 // The source of a text between double quotes.
 fn filled_text(
     alloc: Global,
+    profile: Profile,
     dictionary: &Dictionary,
-    named: Named,
+    target: Target,
     text: Excerpt,
     positions: ValuePositions,
 ) -> Result<Source, PolicyFault>
-    ensures { ReadsAll (FilledIs dictionary.now named text.entry) result }
+    ensures { ReadsAll (FilledIs profile dictionary.now target text.entry) result }
 {
-    if dictionary.is_barred(named) {
+    if dictionary.is_barred(target.named) {
         return Err(fault_at(positions.name, PolicyKind::NotWritable));
     }
-    let parts = parts(alloc, dictionary, text, positions.value)?;
-    filled_source(alloc, dictionary, named, parts, positions)
+    let parts = parts(alloc, profile, dictionary, text, positions.value)?;
+    filled_source(alloc, profile, dictionary, target, parts, positions)
+}
+
+// The form of two attributes whose octets carry tags in the same way.
+#[tactic(auto, unfolding(crate::specs::Sources::shared_form))]
+fn shared_form(dictionary: &Dictionary, id: AttrId, other: AttrId) -> Form
+    ensures { result ≡ shared_form dictionary.now id other }
+{
+    match (dictionary.form(id), dictionary.form(other)) {
+        (Some(Form::TaggedInteger), Some(Form::TaggedInteger)) => Form::TaggedInteger,
+        (Some(Form::TaggedString), Some(Form::TaggedString)) => Form::TaggedString,
+        _ => Form::AsTyped,
+    }
+}
+
+// The source of a reference.
+fn instance_source(
+    profile: Profile,
+    dictionary: &Dictionary,
+    target: Target,
+    found: Reference,
+) -> Source
+    ensures { result ≡ instance_source profile dictionary.now target found }
+{
+    let other = found.target.named.id;
+    match profile {
+        Profile::Plain => Source::Instance(found.list, other),
+        Profile::Wider => Source::Tagged(
+            found.list,
+            other,
+            selection_of(dictionary, found.target),
+            shared_form(dictionary, target.named.id, other),
+            target.tag.unwrap_or(0),
+        ),
+    }
 }
 
 // The source that a written value is.
 fn source_of(
     alloc: Global,
+    profile: Profile,
     dictionary: &Dictionary,
-    named: Named,
+    target: Target,
     written: Written,
     positions: ValuePositions,
 ) -> Result<Source, PolicyFault>
-    ensures { ReadsAll (SourceOf dictionary.now named written.entry) result }
+    ensures { ReadsAll (SourceOf profile dictionary.now target written.entry) result }
 {
     match written {
         Written::Literal(value) => Ok(Source::Literal(value)),
-        Written::Double(text) => filled_text(alloc, dictionary, named, text, positions),
-        Written::Instance(list, id) => Ok(Source::Instance(list, id)),
+        Written::Double(text) => filled_text(alloc, profile, dictionary, target, text, positions),
+        Written::Instance(found) => Ok(instance_source(profile, dictionary, target, found)),
     }
 }
 
@@ -107,27 +158,28 @@ fn is_removal(operation: Op) -> bool
 /// The source that follows an operator, for a name that begins here.
 pub(crate) fn source<'a>(
     alloc: Global,
+    profile: Profile,
     dictionary: &Dictionary,
     operation: Op,
-    named: Named,
+    target: Target,
     name: Position,
     at: &Cursor<'a>,
 ) -> Read<'a, Source>
-    ensures read { Reads (SourceIs dictionary.now operation named at.now) result }
+    ensures read { Reads (SourceIs profile dictionary.now operation target at.now) result }
     ensures shorter { IfOk result (λ x. length x.1.text ≤ length at.now.text) }
 {
     if is_removal(operation) {
         let rest = ignored(at)?;
         return Ok((Source::Any, rest));
     }
-    if is_container(named.id) {
+    if is_container(target.named.id) {
         return Err(fault_at(name, PolicyKind::NotWritable));
     }
     let positions = ValuePositions {
         name,
         value: at.position(),
     };
-    let (written, rest) = value_written(alloc, dictionary, named, positions, at)?;
-    let source = source_of(alloc, dictionary, named, written, positions)?;
+    let (written, rest) = written_value(alloc, profile, dictionary, target, positions, at)?;
+    let source = source_of(alloc, profile, dictionary, target, written, positions)?;
     Ok((source, rest))
 }

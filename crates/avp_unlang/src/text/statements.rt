@@ -16,6 +16,7 @@ use crate::text::references::list_named;
 use crate::text::tokens::{Sign, Token};
 use crate::tree::{Block, Branch, Branches, Lines, Statement};
 use avp_dict::Dictionary;
+use avp_forms::Profile;
 use avp_lists::List;
 use std::alloc::Global;
 
@@ -80,19 +81,21 @@ fn list_at<'a>(at: Cursor<'a>) -> (List, Cursor<'a>)
 // `{`, lines of this list and `}`.
 fn line_block<'a>(
     alloc: Global,
+    profile: Profile,
     dictionary: &Dictionary,
     depth: usize,
     own: List,
     at: Cursor<'a>,
 ) -> Read<'a, Lines>
-    ensures read { Reads (BlockIs depth begins_line (LineIs dictionary.now own) at.entry) result }
+    ensures read { Reads (BlockIs depth begins_line (LineIs profile dictionary.now own) at.entry)
+        result }
     ensures shorter { IfOk result (λ x. length x.1.text < length at.entry.text) }
 {
     let start = at.expect(Sign::BlockStart)?;
     if depth == 0 {
         return Err(start.fault(PolicyKind::TooDeep));
     }
-    let (found, end) = lines(alloc, dictionary, own, start)?;
+    let (found, end) = lines(alloc, profile, dictionary, own, start)?;
     let rest = end.expect(Sign::BlockEnd)?;
     Ok((found, rest))
 }
@@ -100,17 +103,18 @@ fn line_block<'a>(
 // What follows the word `update`, which is the token before this place.
 fn update<'a>(
     alloc: Global,
+    profile: Profile,
     dictionary: &Dictionary,
     depth: usize,
     at: Cursor<'a>,
 ) -> Read<'a, Statement>
-    ensures read { Reads (StatementFrom dictionary.now depth (Nested dictionary.now depth)
-        keyword.Update at.entry) result }
+    ensures read { Reads (StatementFrom profile dictionary.now depth
+        (Nested profile dictionary.now depth) keyword.Update at.entry) result }
     ensures shorter { IfOk result (λ x. length x.1.text < length at.entry.text) }
 {
     let begin = at.before();
     let (own, start) = list_at(at);
-    let (found, rest) = line_block(alloc, dictionary, depth, own, start)?;
+    let (found, rest) = line_block(alloc, profile, dictionary, depth, own, start)?;
     Ok((Statement::Update(begin.line, found), rest))
 }
 
@@ -128,18 +132,19 @@ fn word<'a>(code: Code, at: Cursor<'a>) -> Read<'a, Statement>
 #[cycle(statements)]
 fn statement<'a>(
     alloc: Global,
+    profile: Profile,
     dictionary: &Dictionary,
     depth: usize,
     at: Cursor<'a>,
 ) -> Read<'a, Statement>
-    ensures read { Reads (Nested dictionary.now (suc depth) at.entry) result }
+    ensures read { Reads (Nested profile dictionary.now (suc depth) at.entry) result }
     ensures shorter { IfOk result (λ x. length x.1.text < length at.entry.text) }
 {
     let (token, after) = at.next();
     match keyword_in(&token) {
-        Keyword::Update => update(alloc, dictionary, depth, after),
-        Keyword::If => conditional(alloc, dictionary, depth, after),
-        Keyword::Transaction => transaction(alloc, dictionary, depth, after),
+        Keyword::Update => update(alloc, profile, dictionary, depth, after),
+        Keyword::If => conditional(alloc, profile, dictionary, depth, after),
+        Keyword::Transaction => transaction(alloc, profile, dictionary, depth, after),
         Keyword::Code(code) => word(code, after),
         Keyword::Other => Err(at.misplaced()),
     }
@@ -149,17 +154,18 @@ fn statement<'a>(
 #[cycle(statements)]
 fn transaction<'a>(
     alloc: Global,
+    profile: Profile,
     dictionary: &Dictionary,
     depth: usize,
     at: Cursor<'a>,
 ) -> Read<'a, Statement>
-    ensures read { Reads (TransactionOn depth (Nested dictionary.now depth) at.entry.line at.entry)
-        result }
+    ensures read { Reads (TransactionOn depth (Nested profile dictionary.now depth) at.entry.line
+        at.entry) result }
     ensures shorter { IfOk result (λ x. length x.1.text < length at.entry.text) }
 {
     let begin = at.before();
     let start = at.count(2, begin)?;
-    let (found, rest) = block(alloc, dictionary, depth, start)?;
+    let (found, rest) = block(alloc, profile, dictionary, depth, start)?;
     Ok((Statement::Transaction(begin.line, found), rest))
 }
 
@@ -167,15 +173,17 @@ fn transaction<'a>(
 #[cycle(statements)]
 fn conditional<'a>(
     alloc: Global,
+    profile: Profile,
     dictionary: &Dictionary,
     depth: usize,
     at: Cursor<'a>,
 ) -> Read<'a, Statement>
-    ensures read { Reads (IfIs dictionary.now depth (Nested dictionary.now depth) at.entry) result }
+    ensures read { Reads (IfIs profile dictionary.now depth (Nested profile dictionary.now depth)
+        at.entry) result }
     ensures shorter { IfOk result (λ x. length x.1.text < length at.entry.text) }
 {
-    let (branches, mid) = branches(alloc, dictionary, depth, at)?;
-    let (otherwise, rest) = otherwise(alloc, dictionary, depth, mid)?;
+    let (branches, mid) = branches(alloc, profile, dictionary, depth, at)?;
+    let (otherwise, rest) = otherwise(alloc, profile, dictionary, depth, mid)?;
     Ok((Statement::If(branches, otherwise), rest))
 }
 
@@ -183,19 +191,20 @@ fn conditional<'a>(
 #[cycle(statements)]
 fn branches<'a>(
     alloc: Global,
+    profile: Profile,
     dictionary: &Dictionary,
     depth: usize,
     at: Cursor<'a>,
 ) -> Read<'a, Branches>
-    ensures read { Reads (BranchesAre dictionary.now depth (Nested dictionary.now depth) at.entry)
-        result }
+    ensures read { Reads (BranchesAre profile dictionary.now depth
+        (Nested profile dictionary.now depth) at.entry) result }
     ensures shorter { IfOk result (λ x. length x.1.text < length at.entry.text) }
 {
-    let (first, mut rest) = branch(alloc, dictionary, depth, at)?;
+    let (first, mut rest) = branch(alloc, profile, dictionary, depth, at)?;
     let mut branches = Vec::new(alloc);
     branches.push(first)?;
     while let Some(next) = rest.after_word(b"elsif") {
-        let (branch, end) = branch(alloc, dictionary, depth, next)?;
+        let (branch, end) = branch(alloc, profile, dictionary, depth, next)?;
         branches.push(branch)?;
         rest = end;
     }
@@ -206,19 +215,20 @@ fn branches<'a>(
 #[cycle(statements)]
 fn branch<'a>(
     alloc: Global,
+    profile: Profile,
     dictionary: &Dictionary,
     depth: usize,
     at: Cursor<'a>,
 ) -> Read<'a, Branch>
-    ensures read { Reads (BranchIs dictionary.now depth (Nested dictionary.now depth) at.entry)
-        result }
+    ensures read { Reads (BranchIs profile dictionary.now depth (Nested profile dictionary.now depth)
+        at.entry) result }
     ensures shorter { IfOk result (λ x. length x.1.text < length at.entry.text) }
 {
     let begin = at.before();
     let start = at.count(1, begin)?;
     let opened = start.expect(Sign::Open)?;
-    let (cond, next) = closed(alloc, dictionary, depth, opened)?;
-    let (block, rest) = block(alloc, dictionary, depth, next)?;
+    let (cond, next) = closed(alloc, profile, dictionary, depth, opened)?;
+    let (block, rest) = block(alloc, profile, dictionary, depth, next)?;
     let line = begin.line;
     Ok((Branch { line, cond, block }, rest))
 }
@@ -227,17 +237,18 @@ fn branch<'a>(
 #[cycle(statements)]
 fn otherwise<'a>(
     alloc: Global,
+    profile: Profile,
     dictionary: &Dictionary,
     depth: usize,
     at: Cursor<'a>,
 ) -> Read<'a, Option<Block>>
-    ensures read { Reads (Otherwise depth (Nested dictionary.now depth) at.entry) result }
+    ensures read { Reads (Otherwise depth (Nested profile dictionary.now depth) at.entry) result }
     ensures shorter { IfOk result (λ x. length x.1.text ≤ length at.entry.text) }
 {
     match at.after_word(b"else") {
         None => Ok((None, at)),
         Some(next) => {
-            let (found, rest) = block(alloc, dictionary, depth, next)?;
+            let (found, rest) = block(alloc, profile, dictionary, depth, next)?;
             Ok((Some(found), rest))
         }
     }
@@ -247,18 +258,20 @@ fn otherwise<'a>(
 #[cycle(statements)]
 fn block<'a>(
     alloc: Global,
+    profile: Profile,
     dictionary: &Dictionary,
     depth: usize,
     at: Cursor<'a>,
 ) -> Read<'a, Block>
-    ensures read { Reads (BlockIs depth begins_word (Nested dictionary.now depth) at.entry) result }
+    ensures read { Reads (BlockIs depth begins_word (Nested profile dictionary.now depth) at.entry)
+        result }
     ensures shorter { IfOk result (λ x. length x.1.text < length at.entry.text) }
 {
     let start = at.expect(Sign::BlockStart)?;
     if depth == 0 {
         return Err(start.fault(PolicyKind::TooDeep));
     }
-    let (found, end) = statements(alloc, dictionary, depth - 1, start)?;
+    let (found, end) = statements(alloc, profile, dictionary, depth - 1, start)?;
     let rest = end.expect(Sign::BlockEnd)?;
     Ok((found, rest))
 }
@@ -267,17 +280,19 @@ fn block<'a>(
 #[cycle(statements)]
 pub(crate) fn statements<'a>(
     alloc: Global,
+    profile: Profile,
     dictionary: &Dictionary,
     depth: usize,
     at: Cursor<'a>,
 ) -> Read<'a, Block>
-    ensures read { Reads (While begins_word (Nested dictionary.now (suc depth)) at.entry) result }
+    ensures read { Reads (While begins_word (Nested profile dictionary.now (suc depth)) at.entry)
+        result }
     ensures shorter { IfOk result (λ x. length x.1.text ≤ length at.entry.text) }
 {
     let mut statements = Vec::new(alloc);
     let mut rest = at;
     while begins_word(&rest) {
-        let (found, end) = statement(alloc, dictionary, depth, rest)?;
+        let (found, end) = statement(alloc, profile, dictionary, depth, rest)?;
         statements.push(found)?;
         rest = end;
     }

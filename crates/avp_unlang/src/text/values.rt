@@ -9,10 +9,11 @@ ghost use Rattle.avp_unlang.specs.declared.faults.PolicyKind.TheVariants.{Memory
 
 use crate::faults::{PolicyFault, PolicyKind, Position, fault_at};
 use crate::text::cursors::{Cursor, Read};
-use crate::text::references::alike;
+use crate::text::references::{Reference, alike};
 use crate::text::tokens::{Excerpt, Sign, Token};
-use avp_dict::{Dictionary, Named, QuoteMark, ValueFault, octets_between};
-use avp_lists::{AttrId, List, Pair, Value};
+use avp_dict::{Dictionary, QuoteMark, ValueFault, octets_between};
+use avp_forms::{Profile, Target, value_written};
+use avp_lists::{Pair, Value};
 use std::alloc::{AllocError, Global};
 
 /// A value as it is written for an attribute.
@@ -24,7 +25,7 @@ pub(crate) enum Written<'a> {
     /// condition.
     Double(Excerpt<'a>),
     /// `&list:name`: the first instance of an attribute.
-    Instance(List, AttrId),
+    Instance(Reference),
 }
 
 /// Where a name begins, and the value that is written for it.
@@ -50,19 +51,21 @@ fn value_fault(fault: ValueFault, positions: ValuePositions) -> PolicyFault
 #[tactic(auto, unfolding(crate::specs::Values::literal))]
 pub(crate) fn literal(
     alloc: Global,
+    profile: Profile,
     dictionary: &Dictionary,
-    named: Named,
+    target: Target,
     text: &[u8],
     positions: ValuePositions,
 ) -> Result<Value, PolicyFault>
-    ensures ok { IfOk result (λ value. literal dictionary.now named text.now ≡ Some value) }
+    ensures ok { IfOk result (λ value. literal profile dictionary.now target text.now
+        ≡ Some value) }
     ensures err { IfErr result (λ fault. fault.kind ≢ Memory
-        → literal dictionary.now named text.now ≡ None) }
+        → literal profile dictionary.now target text.now ≡ None) }
 {
-    match dictionary.value_of_text(alloc, named, text) {
+    match value_written(alloc, dictionary, profile, target, None, text) {
         Ok(value) => {
             let pair = Pair {
-                id: named.id,
+                id: target.named.id,
                 value,
             };
             if dictionary.fits(&pair) {
@@ -78,43 +81,53 @@ pub(crate) fn literal(
 /// The value that a text between quotes stands for under a name.
 pub(crate) fn quoted_literal(
     alloc: Global,
+    profile: Profile,
     dictionary: &Dictionary,
-    named: Named,
+    target: Target,
     mark: QuoteMark,
     text: &Excerpt,
     positions: ValuePositions,
 ) -> Result<Value, PolicyFault>
-    ensures ok { IfOk result (λ value. literal dictionary.now named (octets_between mark text.now)
-        ≡ Some value) }
+    ensures ok { IfOk result (λ value. literal profile dictionary.now target
+        (octets_between mark text.now) ≡ Some value) }
     ensures err { IfErr result (λ fault. fault.kind ≢ Memory
-        → literal dictionary.now named (octets_between mark text.now) ≡ None) }
+        → literal profile dictionary.now target (octets_between mark text.now) ≡ None) }
 {
     let octets = octets_between(alloc, mark, text.as_slice())?;
-    literal(alloc, dictionary, named, &octets, positions)
+    literal(alloc, profile, dictionary, target, &octets, positions)
 }
 
 /// What is written for the attribute of a name.
-pub(crate) fn value_written<'a>(
+pub(crate) fn written_value<'a>(
     alloc: Global,
+    profile: Profile,
     dictionary: &Dictionary,
-    named: Named,
+    target: Target,
     positions: ValuePositions,
     at: &Cursor<'a>,
 ) -> Read<'a, Written<'a>>
-    ensures read { Reads (WrittenIs dictionary.now named at.now) result }
+    ensures read { Reads (WrittenIs profile dictionary.now target at.now) result }
     ensures shorter { IfOk result (λ x. length x.1.text ≤ length at.now.text) }
 {
     let (token, after) = at.next();
     match token {
         Token::Word(text) => {
-            let value = literal(alloc, dictionary, named, text.as_slice(), positions)?;
+            let value = literal(
+                alloc,
+                profile,
+                dictionary,
+                target,
+                text.as_slice(),
+                positions,
+            )?;
             Ok((Written::Literal(value), after))
         }
         Token::Quoted(QuoteMark::Single, text) => {
             let value = quoted_literal(
                 alloc,
+                profile,
                 dictionary,
-                named,
+                target,
                 QuoteMark::Single,
                 &text,
                 positions,
@@ -123,8 +136,8 @@ pub(crate) fn value_written<'a>(
         }
         Token::Quoted(QuoteMark::Double, text) => Ok((Written::Double(text), after)),
         Token::Operator(Sign::Reference) => {
-            let (other, rest) = alike(dictionary, named.id, &after)?;
-            Ok((Written::Instance(other.list, other.named.id), rest))
+            let (other, rest) = alike(profile, dictionary, target.named.id, &after)?;
+            Ok((Written::Instance(other), rest))
         }
         _ => Err(at.misplaced()),
     }

@@ -3,6 +3,7 @@ use Rattle.std.specs.Prelude.{◌≤◌, ℕ, List, Option, length}
 use Rattle.avp_lists.specs.States.{max_pairs}
 use Rattle.avp_lists.specs.declared.pairs.Pair.{Pair}
 use Rattle.avp_dict.specs.Dictionary.{Dictionary}
+use Rattle.avp_forms.specs.declared.profiles.Profile.{Profile}
 use Rattle.avp_packet.specs.Packets.{IsRequestCode}
 use Rattle.avp_packet.specs.declared.packets.Packet.{Packet}
 use Rattle.avp_unlang.specs.Suiting.{IsSpelled}
@@ -19,10 +20,10 @@ statements_held (held.Own policy) = policy
 statements_held (held.Lent policy) = policy.now
 
 -- a start, by its parts
-abbrev pub start_shown : Dictionary → List Statement → Option (List ℕ) → Form → Packet → List Pair
-    → List Pair → Start
-start_shown dictionary statements secret form request reply control = record {
-  prepared = record { dictionary = dictionary; statements = statements };
+abbrev pub start_shown : Dictionary → Profile → List Statement → Option (List ℕ) → Form → Packet
+    → List Pair → List Pair → Start
+start_shown dictionary profile statements secret form request reply control = record {
+  prepared = record { dictionary = dictionary; profile = profile; statements = statements };
   secret = secret;
   form = form;
   request = request;

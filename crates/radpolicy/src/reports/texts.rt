@@ -10,18 +10,25 @@ ghost use Rattle.radpolicy.specs.Reports.{code_text, list_text, packet_line, pac
 
 use crate::reports::checks::push_count;
 use avp_dict::Dictionary;
+use avp_forms::{Profile, printed_pair_name, printed_pair_text};
 use avp_lists::{List, Pair, Store};
 use avp_packet::Packet;
 use avp_unlang::Code;
 use std::alloc::{AllocError, Global};
 
-fn push_pair(text: &mut Vec<u8>, dictionary: &Dictionary, pair: &Pair) -> Result<(), AllocError>
+fn push_pair(
+    text: &mut Vec<u8>,
+    dictionary: &Dictionary,
+    profile: Profile,
+    pair: &Pair,
+) -> Result<(), AllocError>
     requires { IsTrue (fits pair.now dictionary.now) }
-    ensures { OnOk result (text.new.items ≡ text.old.items ++ pair_line dictionary.now pair.now) }
+    ensures { OnOk result (text.new.items ≡ text.old.items
+        ++ pair_line profile dictionary.now pair.now) }
 {
     let alloc = *text.allocator();
-    let name = dictionary.printed_name(alloc, pair.id, &pair.value)?;
-    let value = dictionary.text_of_value(alloc, pair.id, &pair.value)?;
+    let name = printed_pair_name(alloc, dictionary, profile, pair.id, &pair.value)?;
+    let value = printed_pair_text(alloc, dictionary, profile, pair.id, &pair.value)?;
     text.extend_from_slice(b"  ")?;
     text.extend_from_slice(name.as_slice())?;
     text.extend_from_slice(b" = ")?;
@@ -33,17 +40,18 @@ fn push_pair(text: &mut Vec<u8>, dictionary: &Dictionary, pair: &Pair) -> Result
 fn push_list(
     text: &mut Vec<u8>,
     dictionary: &Dictionary,
+    profile: Profile,
     name: &str,
     pairs: &[Pair],
 ) -> Result<(), AllocError>
     requires { AllFit dictionary.now pairs.now }
     ensures { OnOk result (text.new.items ≡ text.old.items
-        ++ list_text dictionary.now name.now pairs.now) }
+        ++ list_text profile dictionary.now name.now pairs.now) }
 {
     text.extend_from_slice(name.as_bytes())?;
     text.extend_from_slice(b"\n")?;
     for pair in pairs {
-        push_pair(text, dictionary, pair)?;
+        push_pair(text, dictionary, profile, pair)?;
     }
     Ok(())
 }
@@ -52,19 +60,20 @@ fn push_list(
 fn push_present<S: Store>(
     text: &mut Vec<u8>,
     dictionary: &Dictionary,
+    profile: Profile,
     name: &str,
     store: &S,
     list: List,
 ) -> Result<(), AllocError>
     requires { AllFit dictionary.now (list_of list (present (S.history store.now))) }
     ensures { OnOk result (text.new.items ≡ text.old.items
-        ++ list_text dictionary.now name.now (list_of list (present (S.history store.now)))) }
+        ++ list_text profile dictionary.now name.now (list_of list (present (S.history store.now)))) }
 {
     text.extend_from_slice(name.as_bytes())?;
     text.extend_from_slice(b"\n")?;
     for at in 0..store.count(list) {
         if let Some(pair) = store.pair(list, at) {
-            push_pair(text, dictionary, pair)?;
+            push_pair(text, dictionary, profile, pair)?;
         }
     }
     Ok(())
@@ -74,15 +83,16 @@ fn push_present<S: Store>(
 pub(crate) fn push_lists<S: Store>(
     text: &mut Vec<u8>,
     dictionary: &Dictionary,
+    profile: Profile,
     store: &S,
 ) -> Result<(), AllocError>
     requires { StateFits dictionary.now (present (S.history store.now)) }
     ensures { OnOk result (text.new.items ≡ text.old.items
-        ++ state_text dictionary.now (present (S.history store.now))) }
+        ++ state_text profile dictionary.now (present (S.history store.now))) }
 {
-    push_present(text, dictionary, "request", store, List::Request)?;
-    push_present(text, dictionary, "reply", store, List::Reply)?;
-    push_present(text, dictionary, "control", store, List::Control)?;
+    push_present(text, dictionary, profile, "request", store, List::Request)?;
+    push_present(text, dictionary, profile, "reply", store, List::Reply)?;
+    push_present(text, dictionary, profile, "control", store, List::Control)?;
     Ok(())
 }
 
@@ -99,7 +109,8 @@ pub fn code_text(code: Code) -> &'static str
     }
 }
 
-fn push_result(text: &mut Vec<u8>, code: Code, stopped: bool) -> Result<(), AllocError>
+/// The line of the result.
+pub(crate) fn push_result(text: &mut Vec<u8>, code: Code, stopped: bool) -> Result<(), AllocError>
     ensures { OnOk result (text.new.items ≡ text.old.items ++ result_line code stopped) }
 {
     text.extend_from_slice(b"result ")?;
@@ -109,24 +120,6 @@ fn push_result(text: &mut Vec<u8>, code: Code, stopped: bool) -> Result<(), Allo
     }
     text.extend_from_slice(b"\n")?;
     Ok(())
-}
-
-/// The lists and the result of a run.
-pub(crate) fn text_of_run<S: Store>(
-    alloc: Global,
-    dictionary: &Dictionary,
-    store: &S,
-    code: Code,
-    stopped: bool,
-) -> Result<Vec<u8>, AllocError>
-    requires { StateFits dictionary.now (present (S.history store.now)) }
-    ensures { IfOk result (λ text. text.items
-        ≡ state_text dictionary.now (present (S.history store.now)) ++ result_line code stopped) }
-{
-    let mut text = Vec::new(alloc);
-    push_lists(&mut text, dictionary, store)?;
-    push_result(&mut text, code, stopped)?;
-    Ok(text)
 }
 
 /// The line of a packet.
@@ -163,6 +156,12 @@ pub(crate) fn packet_text(
     text.extend_from_slice(b"authenticator ")?;
     text.extend_from_slice(hex::encode(alloc, packet.authenticator)?.as_bytes())?;
     text.extend_from_slice(b"\n")?;
-    push_list(&mut text, dictionary, "request", packet.list.as_slice())?;
+    push_list(
+        &mut text,
+        dictionary,
+        Profile::Plain,
+        "request",
+        packet.list.as_slice(),
+    )?;
     Ok(text)
 }

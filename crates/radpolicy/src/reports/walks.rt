@@ -12,6 +12,7 @@ use crate::reports::texts::{code_text, push_lists};
 use crate::scripts::ScriptWord;
 use crate::starts::Start;
 use avp_dict::Dictionary;
+use avp_forms::Profile;
 use avp_lists::Store;
 use avp_step::{Label, Move, Stepper};
 use itoa::Buffer;
@@ -116,11 +117,12 @@ fn make_move<S: Store>(stepper: &mut Stepper<'_, S>, step: Move) -> Result<(), A
 fn push_word<S: Store>(
     text: &mut Vec<u8>,
     dictionary: &Dictionary,
+    profile: Profile,
     stepper: &mut Stepper<'_, S>,
     word: ScriptWord,
 ) -> Result<(), AllocError>
     requires { stepper.old.dictionary ≡ dictionary.now }
-    ensures text { OnOk result (text.new.items ≡ text.old.items ++ word_text word stepper.old) }
+    ensures text { OnOk result (text.new.items ≡ text.old.items ++ word_text profile word stepper.old) }
     ensures after { OnOk result (stepper.new ≡ after_script_word word stepper.old) }
 {
     match word {
@@ -129,7 +131,7 @@ fn push_word<S: Store>(
             make_move(stepper, step)?;
             push_move(text, before, stepper)?;
         }
-        ScriptWord::Show => push_lists(text, dictionary, stepper.store())?,
+        ScriptWord::Show => push_lists(text, dictionary, profile, stepper.store())?,
     }
     Ok(())
 }
@@ -139,17 +141,18 @@ fn push_word<S: Store>(
 fn push_script<S: Store>(
     text: &mut Vec<u8>,
     dictionary: &Dictionary,
+    profile: Profile,
     stepper: &mut Stepper<'_, S>,
     script: &[ScriptWord],
 ) -> Result<(), AllocError>
     requires { stepper.old.dictionary ≡ dictionary.now }
     ensures text { OnOk result (text.new.items ≡ text.old.items
-        ++ script_text script.now stepper.old) }
+        ++ script_text profile script.now stepper.old) }
     ensures after { OnOk result (stepper.new ≡ after_script script.now stepper.old) }
 {
     let mut rest = script;
     while let Some((word, others)) = rest.split_first() {
-        push_word(text, dictionary, stepper, *word)?;
+        push_word(text, dictionary, profile, stepper, *word)?;
         rest = others;
     }
     Ok(())
@@ -161,14 +164,15 @@ pub(crate) fn report_of_walk(
     script: &[ScriptWord],
     start: Start<'_>,
 ) -> Result<Report, AllocError>
-    ensures { IfOk result (λ report. step_report script.now
+    ensures { IfOk result (λ report. step_report start.entry.prepared.profile script.now
         (walk_from start.entry.prepared.dictionary start.entry.prepared.statements
         (entry_of start.entry)) ≡ report) }
 {
     let dictionary = start.dictionary();
+    let profile = start.profile();
     let mut stepper = start.stepper(alloc)?;
     let mut text = Vec::new(alloc);
-    push_script(&mut text, dictionary, &mut stepper, script)?;
+    push_script(&mut text, dictionary, profile, &mut stepper, script)?;
     let outcome = Outcome {
         code: Some(stepper.code()),
         stopped: stepper.stopped(),

@@ -13,17 +13,17 @@ returns-in_err-start-clause-refused c =
 pub returns-clause-ok : goal.returns-clause-ok
 returns-clause-ok c =
     IfOk-weaker c.report_of_run.result _ _
-    (run_reported c.args.job.now c.args.dictionary.now (option_copied c.args.secret) c.requires.opened c.in_ok-policy.policy c.in_ok-policy.ensures.dictionary c.in_ok-policy.ensures.ok c.in_ok-start.start c.in_ok-start.ensures.start c.in_ok-start.ensures.received)
+    (run_reported c.args.job.now c.args.dictionary.now (option_copied c.args.secret) c.requires.opened c.in_ok-policy.policy c.in_ok-policy.ensures.dictionary c.in_ok-policy.ensures.ok c.in_ok-start.start c.in_ok-start.ensures.start c.in_ok-start.ensures.received c.in_ok-policy.ensures.profile)
     c.report_of_run.ensures.ok
 
 pub returns-clause-refused : goal.returns-clause-refused
 returns-clause-refused c =
     IfErr-weaker c.report_of_run.result _ _
-    (run_refused c.args.job.now c.args.dictionary.now (option_copied c.args.secret) c.requires.opened c.in_ok-policy.policy c.in_ok-policy.ensures.dictionary c.in_ok-policy.ensures.ok c.in_ok-start.start c.in_ok-start.ensures.start c.in_ok-start.ensures.received)
+    (run_refused c.args.job.now c.args.dictionary.now (option_copied c.args.secret) c.requires.opened c.in_ok-policy.policy c.in_ok-policy.ensures.dictionary c.in_ok-policy.ensures.ok c.in_ok-start.start c.in_ok-start.ensures.start c.in_ok-start.ensures.received c.in_ok-policy.ensures.profile)
     c.report_of_run.ensures.refused
 
 pub returns-clause-read : goal.returns-clause-read
 returns-clause-read c =
     ok_map _ (IsRunRead c.args.job.now) c.report_of_run.result
-    (run_read c.args.job.now c.args.dictionary.now (option_copied c.args.secret) c.requires.opened c.in_ok-policy.policy c.in_ok-policy.ensures.dictionary c.in_ok-policy.ensures.ok c.in_ok-start.start c.in_ok-start.ensures.start c.in_ok-start.ensures.received c.in_ok-start.ensures.proxies)
+    (run_read c.args.job.now c.args.dictionary.now (option_copied c.args.secret) c.requires.opened c.in_ok-policy.policy c.in_ok-policy.ensures.dictionary c.in_ok-policy.ensures.ok c.in_ok-start.start c.in_ok-start.ensures.start c.in_ok-start.ensures.received c.in_ok-policy.ensures.profile c.in_ok-start.ensures.proxies)
     c.report_of_run.ensures.read

@@ -3,7 +3,8 @@ use Rattle.std.specs.Option.{unwrap_or}
 use Rattle.avp_unlang.specs.Policies.{SpellsPolicy}
 use Rattle.avp_unlang.specs.declared.faults.PolicyKind.TheVariants as kind
 use Rattle.avp_unlang.specs.declared.tree.Statement.{Statement}
-use Rattle.radpolicy.specs.JobReports.{IsPolicy}
+use Rattle.avp_unlang.specs.Sizes.{size_of}
+use Rattle.radpolicy.specs.JobReports.{IsPolicy, IsSizeOf}
 use Rattle.radpolicy.proofs.Refusals.{checked_refused}
 use Rattle.radpolicy.proofs.answers.size_of_policy.Goals as goal
 
@@ -16,3 +17,12 @@ returns-in-Err-clause-refused c =
     let none : c.in-Err.fault.kind ≢ kind.Memory → (statements : List Statement) → IsPolicy c.args.job.now d statements → ⊥ =
     λ k statements h. c.in-Err.ensures.read k statements (subst (λ (os : List ℕ). SpellsPolicy d os statements) same h) in
     rw c.from.ensures (checked_refused c.args.job.now c.in-Err.fault d c.requires given none)
+
+pub returns-in-Ok-clause-ok : goal.returns-in-Ok-clause-ok
+returns-in-Ok-clause-ok c =
+    let d = c.args.dictionary.now in
+    let is : c.args.job.now.policy ≡ Some c.in-Some.text = c.in-Some.is in
+    let same : c.as_slice.result.now ≡ unwrap_or c.args.job.now.policy [] = c.as_slice.ensures ∙ sym (ap (λ (p : Option (List ℕ)). unwrap_or p []) is) in
+    let spelled : IsPolicy c.args.job.now d c.in-Ok.policy = subst (λ (os : List ℕ). SpellsPolicy d os c.in-Ok.policy) same c.in-Ok.ensures.read in
+    subst (λ (p : Option (List ℕ)). IsSizeOf p c.args.job.now d (Some c.size.result)) (sym is)
+    (c.in-Ok.policy, spelled, ap (λ (n : ℕ). Some n) c.size.ensures.count)

@@ -15,5 +15,5 @@ returns-in_err-start-clause-refused c =
 
 pub returns-clause-ok : goal.returns-clause-ok
 returns-clause-ok c =
-    walk_reported c.args.job.now c.args.dictionary.now (option_copied c.args.secret) c.requires.opened c.in_ok-policy.policy c.in_ok-policy.ensures.dictionary c.in_ok-policy.ensures.ok c.in_ok-start.start c.in_ok-start.ensures.start c.in_ok-start.ensures.received c.in_ok-script.script.items c.in_ok-script.ensures.ok _
+    walk_reported c.args.job.now c.args.dictionary.now (option_copied c.args.secret) c.requires.opened c.in_ok-policy.policy c.in_ok-policy.ensures.dictionary c.in_ok-policy.ensures.ok c.in_ok-start.start c.in_ok-start.ensures.start c.in_ok-start.ensures.received c.in_ok-policy.ensures.profile c.in_ok-script.script.items c.in_ok-script.ensures.ok _
     (rw c.deref.ensures.value at c.in_ok-report_of_walk.ensures)

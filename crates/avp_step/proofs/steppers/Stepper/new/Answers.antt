@@ -23,7 +23,7 @@ new-requires-clause-deep g c =
 pub new-requires-clause-suits : goal.new-requires-clause-suits
 new-requires-clause-suits g c =
     ap (policy_suits c.args.dictionary.now) (c.as_slice-statements.ensures ∙ c.statements.ensures)
-    ∙ spelled_policy_suits c.args.dictionary.now c.is_sound.ensures.names c.requires.policy.0 c.args.policy.now c.requires.policy.1
+    ∙ spelled_policy_suits c.args.dictionary.now c.is_sound.ensures.sound c.requires.policy.0 c.args.policy.now c.requires.policy.1
 
 pub invariant_of-result : goal.invariant_of-result
 invariant_of-result g c =

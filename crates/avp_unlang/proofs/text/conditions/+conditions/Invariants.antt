@@ -23,7 +23,7 @@ decreases-either l = 4 * l.depth + 3
 
 abbrev pub invariant-both-loop-next : goal.invariant-both-loop-next
 invariant-both-loop-next l = record {
-  front : IsFront (Follows (Operator And)) (Within l.dictionary (suc l.depth)) l.fn.at l.conds.items l.rest;
+  front : IsFront (Follows (Operator And)) (Within l.profile l.dictionary (suc l.depth)) l.fn.at l.conds.items l.rest;
   within : length l.rest.text ≤ length l.fn.at.text;
 }
 
@@ -32,7 +32,7 @@ decreases-both-loop-next l = length l.rest.text
 
 abbrev pub invariant-either-loop-next : goal.invariant-either-loop-next
 invariant-either-loop-next l = record {
-  front : IsFront (Follows (Operator Or)) (Both (Within l.dictionary (suc l.depth))) l.fn.at l.conds.items l.rest;
+  front : IsFront (Follows (Operator Or)) (Both (Within l.profile l.dictionary (suc l.depth))) l.fn.at l.conds.items l.rest;
   within : length l.rest.text ≤ length l.fn.at.text;
 }
 

@@ -5,5 +5,5 @@ use Rattle.avp_unlang.proofs.text.conditions.comparand_of.Goals as goal
 
 pub returns-in_err-value-in-Double : goal.returns-in_err-value-in-Double
 returns-in_err-value-in-Double c =
-    exits_all (ComparandOf c.args.dictionary.now c.args.named c.args.written) _ _ c.from_residual.ensures.1
-    (λ some x h. plain_refused c.args.dictionary.now c.args.named c.args.written c.in-Double.text c.in-Double.is (c.in_err-value-in-Double.ensures.err some) x h)
+    exits_all (ComparandOf c.args.profile c.args.dictionary.now c.args.target c.args.written) _ _ c.from_residual.ensures.1
+    (λ some x h. plain_refused c.args.profile c.args.dictionary.now c.args.target c.args.written c.in-Double.text c.in-Double.is (c.in_err-value-in-Double.ensures.err some) x h)

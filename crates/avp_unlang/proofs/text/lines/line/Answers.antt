@@ -5,18 +5,18 @@ use Rattle.avp_unlang.proofs.Determined.{exits, after_on, then_on, then_stops}
 use Rattle.avp_unlang.proofs.LinesOne.{Targeted, Operated, Sourced, counts_sure, target_one}
 use Rattle.avp_unlang.proofs.text.lines.line.Goals as goal
 
-pub returns-in_err-target-clause-read : goal.returns-in_err-target-clause-read
-returns-in_err-target-clause-read c =
+pub returns-in_err-found-clause-read : goal.returns-in_err-found-clause-read
+returns-in_err-found-clause-read c =
     let first = (next_token c.args.at).1.line in
-    exits (LineIs c.args.dictionary.now c.args.own c.args.at) _ _ c.from_residual-in_err-target.ensures.1
-    (after_on (Counts 1) (Targeted c.args.dictionary.now first c.args.own) (counts_sure 1) c.args.at c.in_ok-start.start c.in_ok-start.ensures.taken c.in_err-target.field-0.0
-    (then_stops (TargetIs c.args.dictionary.now c.args.own) (Operated c.args.dictionary.now first) c.in_ok-start.start c.in_err-target.field-0.0 c.in_err-target.ensures.read))
+    exits (LineIs c.args.profile c.args.dictionary.now c.args.own c.args.at) _ _ c.from_residual-in_err-found.ensures.1
+    (after_on (Counts 1) (Targeted c.args.profile c.args.dictionary.now first c.args.own) (counts_sure 1) c.args.at c.in_ok-start.start c.in_ok-start.ensures.taken c.in_err-found.field-0.0
+    (then_stops (TargetIs c.args.profile c.args.dictionary.now c.args.own) (Operated c.args.profile c.args.dictionary.now first) c.in_ok-start.start c.in_err-found.field-0.0 c.in_err-found.ensures.read))
 
 pub returns-in_err-op-clause-read : goal.returns-in_err-op-clause-read
 returns-in_err-op-clause-read c =
     let first = (next_token c.args.at).1.line in
-    exits (LineIs c.args.dictionary.now c.args.own c.args.at) _ _ c.from_residual-in_err-op.ensures.1
-    (after_on (Counts 1) (Targeted c.args.dictionary.now first c.args.own) (counts_sure 1) c.args.at c.in_ok-start.start c.in_ok-start.ensures.taken c.in_err-op.field-0.0
-    (then_on (TargetIs c.args.dictionary.now c.args.own) (Operated c.args.dictionary.now first) (target_one c.args.dictionary.now c.args.own) c.in_ok-start.start c.in_ok-target.target c.in_ok-target.mid
-    c.in_ok-target.ensures.read c.in_err-op.field-0.0
-    (then_stops OpIs (Sourced c.args.dictionary.now first c.in_ok-target.target) c.in_ok-target.mid c.in_err-op.field-0.0 c.in_err-op.ensures.read)))
+    exits (LineIs c.args.profile c.args.dictionary.now c.args.own c.args.at) _ _ c.from_residual-in_err-op.ensures.1
+    (after_on (Counts 1) (Targeted c.args.profile c.args.dictionary.now first c.args.own) (counts_sure 1) c.args.at c.in_ok-start.start c.in_ok-start.ensures.taken c.in_err-op.field-0.0
+    (then_on (TargetIs c.args.profile c.args.dictionary.now c.args.own) (Operated c.args.profile c.args.dictionary.now first) (target_one c.args.profile c.args.dictionary.now c.args.own) c.in_ok-start.start c.in_ok-found.found c.in_ok-found.mid
+    c.in_ok-found.ensures.read c.in_err-op.field-0.0
+    (then_stops OpIs (Sourced c.args.profile c.args.dictionary.now first c.in_ok-found.found) c.in_ok-found.mid c.in_err-op.field-0.0 c.in_err-op.ensures.read)))

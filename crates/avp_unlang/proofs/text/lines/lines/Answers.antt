@@ -8,18 +8,18 @@ use Rattle.avp_unlang.proofs.text.lines.lines.Goals as goal
 
 pub returns-in_err-found-clause-read : goal.returns-in_err-found-clause-read
 returns-in_err-found-clause-read c =
-    exits (While begins_line (LineIs c.args.dictionary.now c.args.own) c.args.at) _ _ c.from_residual.ensures.1
-    (run_stops begins_line (LineIs c.args.dictionary.now c.args.own) c.args.at c.loop-alloc.lines.items c.loop-alloc.rest c.loop-alloc.invariant.run (sym c.loop-alloc-test.ensures) c.in_err-found.field-0.0 c.in_err-found.ensures.read)
+    exits (While begins_line (LineIs c.args.profile c.args.dictionary.now c.args.own) c.args.at) _ _ c.from_residual.ensures.1
+    (run_stops begins_line (LineIs c.args.profile c.args.dictionary.now c.args.own) c.args.at c.loop-alloc.lines.items c.loop-alloc.rest c.loop-alloc.invariant.run (sym c.loop-alloc-test.ensures) c.in_err-found.field-0.0 c.in_err-found.ensures.read)
 
 pub loop-alloc-preserved : goal.loop-alloc-preserved
 loop-alloc-preserved c = record {
   run =
-      run_more begins_line (LineIs c.args.dictionary.now c.args.own) (line_one c.args.dictionary.now c.args.own) c.args.at c.loop-alloc.lines.items c.loop-alloc.rest c.in_ok-found.found c.in_ok-found.end
+      run_more begins_line (LineIs c.args.profile c.args.dictionary.now c.args.own) (line_one c.args.profile c.args.dictionary.now c.args.own) c.args.at c.loop-alloc.lines.items c.loop-alloc.rest c.in_ok-found.found c.in_ok-found.end
       c.loop-alloc.invariant.run (sym c.loop-alloc-test.ensures) c.in_ok-found.ensures.read c.push.new.self.items c.in_ok-push.ensures.items;
   within = omega (arith, c.in_ok-found.ensures.shorter);
 }
 
 pub returns-clause-read : goal.returns-clause-read
 returns-clause-read c =
-    subst (λ found. While begins_line (LineIs c.args.dictionary.now c.args.own) c.args.at found c.loop-alloc.rest) (sym c.from_vec.ensures)
-    (run_done begins_line (LineIs c.args.dictionary.now c.args.own) c.args.at c.loop-alloc.lines.items c.loop-alloc.rest c.loop-alloc.invariant.run (sym c.loop-alloc-test.ensures))
+    subst (λ found. While begins_line (LineIs c.args.profile c.args.dictionary.now c.args.own) c.args.at found c.loop-alloc.rest) (sym c.from_vec.ensures)
+    (run_done begins_line (LineIs c.args.profile c.args.dictionary.now c.args.own) c.args.at c.loop-alloc.lines.items c.loop-alloc.rest c.loop-alloc.invariant.run (sym c.loop-alloc-test.ensures))

@@ -5,7 +5,7 @@ use Rattle.avp_unlang.proofs.text.lines.lines.Given as goal
 
 abbrev pub invariant-loop-alloc : goal.invariant-loop-alloc
 invariant-loop-alloc l = record {
-  run : IsRun begins_line (LineIs l.dictionary l.own) l.initial.rest l.lines.items l.rest;
+  run : IsRun begins_line (LineIs l.profile l.dictionary l.own) l.initial.rest l.lines.items l.rest;
   within : length l.rest.text ≤ length l.initial.rest.text;
 }
 

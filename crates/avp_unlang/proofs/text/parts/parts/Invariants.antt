@@ -4,7 +4,7 @@ use Rattle.avp_unlang.proofs.ValueRuns.{IsRun}
 use Rattle.avp_unlang.proofs.text.parts.parts.Given as goal
 
 abbrev pub invariant-loop-rest : goal.invariant-loop-rest
-invariant-loop-rest l = IsRun is_left (PartIs l.dictionary) l.initial.rest l.parts.items l.rest
+invariant-loop-rest l = IsRun is_left (PartIs l.profile l.dictionary) l.initial.rest l.parts.items l.rest
 
 abbrev pub decreases-loop-rest : goal.decreases-loop-rest
 decreases-loop-rest l = length l.rest

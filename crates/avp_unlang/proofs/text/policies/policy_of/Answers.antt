@@ -11,31 +11,31 @@ use Rattle.avp_unlang.proofs.text.policies.policy_of.Goals as goal
 pub returns-in_err-statements-clause-read : goal.returns-in_err-statements-clause-read
 returns-in_err-statements-clause-read c =
     exits_all (SpellsPolicy c.args.dictionary.now c.args.text.now) _ _ c.from_residual.ensures.1
-    (policy_refused c.args.dictionary.now c.args.text.now c.new.result c.in_err-statements.field-0.0 c.new.ensures c.in_err-statements.ensures.read)
+    (policy_refused c.args.dictionary.now c.args.text.now c.profile_of-profile.result c.profile_of-profile.ensures c.new.result c.in_err-statements.field-0.0 c.new.ensures c.in_err-statements.ensures.read)
 
 pub overflow_sub-result : goal.overflow_sub-result
 overflow_sub-result c =
     let size : c.in_ok-statements.end.room + size_of c.in_ok-statements.statements ≡ c.new.result.room =
-    policy_takes c.args.dictionary.now 65 c.new.result c.in_ok-statements.statements c.in_ok-statements.end c.in_ok-statements.ensures.read in
+    policy_takes c.profile_of-profile.result c.args.dictionary.now 65 c.new.result c.in_ok-statements.statements c.in_ok-statements.end c.in_ok-statements.ensures.read in
     let start : c.new.result.room ≡ 65535 = ap (λ (p : Place). p.room) c.new.ensures in
     omega (arith, c.room.ensures)
 
 pub invariant_of-result : goal.invariant_of-result
 invariant_of-result c =
     let size : c.in_ok-statements.end.room + size_of c.in_ok-statements.statements ≡ c.new.result.room =
-    policy_takes c.args.dictionary.now 65 c.new.result c.in_ok-statements.statements c.in_ok-statements.end c.in_ok-statements.ensures.read in
+    policy_takes c.profile_of-profile.result c.args.dictionary.now 65 c.new.result c.in_ok-statements.statements c.in_ok-statements.end c.in_ok-statements.ensures.read in
     let start : c.new.result.room ≡ 65535 = ap (λ (p : Place). p.room) c.new.ensures in
     (omega (arith, c.room.ensures), omega arith)
 
 pub returns-in-End-clause-read : goal.returns-in-End-clause-read
 returns-in-End-clause-read c =
-    policy_ends c.args.dictionary.now c.args.text.now c.new.result c.in_ok-statements.statements c.in_ok-statements.end c.token.result.now c.new.ensures c.in_ok-statements.ensures.read c.token.ensures c.in-End.is
+    policy_ends c.args.dictionary.now c.args.text.now c.profile_of-profile.result c.profile_of-profile.ensures c.new.result c.in_ok-statements.statements c.in_ok-statements.end c.token.result.now c.new.ensures c.in_ok-statements.ensures.read c.token.ensures c.in-End.is
 
 pub returns-in_default-clause-read : goal.returns-in_default-clause-read
 returns-in_default-clause-read c = λ _.
-    policy_goes_on c.args.dictionary.now c.args.text.now c.new.result c.in_ok-statements.statements c.in_ok-statements.end c.token.result.now c.new.ensures c.in_ok-statements.ensures.read c.token.ensures c.in_default.not-End
+    policy_goes_on c.args.dictionary.now c.args.text.now c.profile_of-profile.result c.profile_of-profile.ensures c.new.result c.in_ok-statements.statements c.in_ok-statements.end c.token.result.now c.new.ensures c.in_ok-statements.ensures.read c.token.ensures c.in_default.not-End
 
 pub returns-in-End-clause-suits : goal.returns-in-End-clause-suits
 returns-in-End-clause-suits c =
-    spelled_policy_suits c.args.dictionary.now c.is_sound.ensures.names c.args.text.now c.in_ok-statements.statements
-    (policy_ends c.args.dictionary.now c.args.text.now c.new.result c.in_ok-statements.statements c.in_ok-statements.end c.token.result.now c.new.ensures c.in_ok-statements.ensures.read c.token.ensures c.in-End.is)
+    spelled_policy_suits c.args.dictionary.now c.is_sound.ensures.sound c.args.text.now c.in_ok-statements.statements
+    (policy_ends c.args.dictionary.now c.args.text.now c.profile_of-profile.result c.profile_of-profile.ensures c.new.result c.in_ok-statements.statements c.in_ok-statements.end c.token.result.now c.new.ensures c.in_ok-statements.ensures.read c.token.ensures c.in-End.is)

@@ -32,7 +32,7 @@ decreases-statements l = 8 * l.depth + 6
 
 abbrev pub invariant-statements-loop-alloc : goal.invariant-statements-loop-alloc
 invariant-statements-loop-alloc l = record {
-  run : IsRun begins_word (Nested l.dictionary (suc l.depth)) l.initial.rest l.statements.items l.rest;
+  run : IsRun begins_word (Nested l.profile l.dictionary (suc l.depth)) l.initial.rest l.statements.items l.rest;
   within : length l.rest.text ≤ length l.initial.rest.text;
 }
 
@@ -41,7 +41,7 @@ decreases-statements-loop-alloc l = length l.rest.text
 
 abbrev pub invariant-branches-loop-next : goal.invariant-branches-loop-next
 invariant-branches-loop-next l = record {
-  front : IsFront (Follows elsif_word) (BranchIs l.dictionary l.depth (Nested l.dictionary l.depth)) l.fn.at l.branches.items l.rest;
+  front : IsFront (Follows elsif_word) (BranchIs l.profile l.dictionary l.depth (Nested l.profile l.dictionary l.depth)) l.fn.at l.branches.items l.rest;
   within : length l.rest.text < length l.fn.at.text;
 }
 

@@ -11,7 +11,7 @@ use Rattle.avp_unlang.proofs.text.statements.update.Goals as goal
 
 pub returns-in_err-found-clause-read : goal.returns-in_err-found-clause-read
 returns-in_err-found-clause-read c =
-    exits (StatementFrom c.args.dictionary.now c.args.depth (Nested c.args.dictionary.now c.args.depth) keyword.Update c.args.at) _ _ c.from_residual.ensures.1
-    (then_stops (BlockIs c.args.depth begins_line (LineIs c.args.dictionary.now (list_at c.args.at).0))
-    (Updating c.args.dictionary.now c.args.depth (Nested c.args.dictionary.now c.args.depth) (nested_one c.args.dictionary.now c.args.depth) c.args.at.line) (list_at c.args.at).1 c.in_err-found.field-0.0
-    (subst (λ (p : Name × Place). Refuses (BlockIs c.args.depth begins_line (LineIs c.args.dictionary.now p.0) p.1) c.in_err-found.field-0.0) c.list_at-own.ensures.same c.in_err-found.ensures.read))
+    exits (StatementFrom c.args.profile c.args.dictionary.now c.args.depth (Nested c.args.profile c.args.dictionary.now c.args.depth) keyword.Update c.args.at) _ _ c.from_residual.ensures.1
+    (then_stops (BlockIs c.args.depth begins_line (LineIs c.args.profile c.args.dictionary.now (list_at c.args.at).0))
+    (Updating c.args.profile c.args.dictionary.now c.args.depth (Nested c.args.profile c.args.dictionary.now c.args.depth) (nested_one c.args.profile c.args.dictionary.now c.args.depth) c.args.at.line) (list_at c.args.at).1 c.in_err-found.field-0.0
+    (subst (λ (p : Name × Place). Refuses (BlockIs c.args.depth begins_line (LineIs c.args.profile c.args.dictionary.now p.0) p.1) c.in_err-found.field-0.0) c.list_at-own.ensures.same c.in_err-found.ensures.read))

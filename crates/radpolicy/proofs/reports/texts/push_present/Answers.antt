@@ -13,7 +13,7 @@ use Rattle.radpolicy.proofs.reports.texts.push_present.Goals.{in-Some+in_ok-push
 
 pub loop-at-preserved : goal.loop-at-preserved
 loop-at-preserved g c =
-    let line : Pair → List ℕ = pair_line c.args.dictionary.now in
+    let line : Pair → List ℕ = pair_line c.args.profile c.args.dictionary.now in
     let xs : List Pair = list_of c.args.list (present (g.S.Store.history c.args.store.now)) in
     let more : flat_map line (take (c.loop-at.at + 1) xs) ≡ flat_map line (take c.loop-at.at xs) ++ of_item line (option_copied c.pair.result) = one_more line xs c.loop-at.at ∙ ap (λ o. flat_map line (take c.loop-at.at xs) ++ of_item line o) (sym c.pair.ensures) in
     elim c.match-pair.branch [

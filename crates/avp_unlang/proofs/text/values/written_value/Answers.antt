@@ -4,10 +4,10 @@ use Rattle.avp_unlang.specs.declared.text.tokens.Token.TheVariants.{Operator}
 use Rattle.avp_unlang.specs.declared.text.tokens.Sign.TheVariants.{Reference}
 use Rattle.avp_unlang.proofs.Determined.{exits}
 use Rattle.avp_unlang.proofs.LinesOne.{reference_refused}
-use Rattle.avp_unlang.proofs.text.values.value_written.Goals as goal
+use Rattle.avp_unlang.proofs.text.values.written_value.Goals as goal
 
 pub returns-in_err-other-in-Operator-Reference-clause-read : goal.returns-in_err-other-in-Operator-Reference-clause-read
 returns-in_err-other-in-Operator-Reference-clause-read c =
     let first : c.next-token.result.0 ≡ Operator Reference = search rules in
-    exits (WrittenIs c.args.dictionary.now c.args.named c.args.at.now) _ _ c.from_residual-in_err-other-in-Operator-Reference.ensures.1
-    (reference_refused c.args.dictionary.now c.args.named c.args.at.now c.next-token.result c.in_err-other-in-Operator-Reference.field-0.0 c.next-token.ensures.same first c.in_err-other-in-Operator-Reference.ensures.read)
+    exits (WrittenIs c.args.profile c.args.dictionary.now c.args.target c.args.at.now) _ _ c.from_residual-in_err-other-in-Operator-Reference.ensures.1
+    (reference_refused c.args.profile c.args.dictionary.now c.args.target c.args.at.now c.next-token.result c.in_err-other-in-Operator-Reference.field-0.0 c.next-token.ensures.same first c.in_err-other-in-Operator-Reference.ensures.read)
