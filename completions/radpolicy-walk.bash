@@ -4,7 +4,7 @@ _radpolicy_walk() {
     local IFS=$' \t\n'
     COMPREPLY=()
     if [[ $word == -* ]]; then
-        COMPREPLY=($(compgen -W '-f --record --policy --hex -S --acct --reply --control --script --show-secrets --help' \
+        COMPREPLY=($(compgen -W '-f --record --policy --hex -S --acct --reply --control --zone --script --show-secrets --help' \
             -- "$word"))
     else
         # bash takes the `=` of an option for a word of its own.

@@ -7,6 +7,7 @@ ghost use Rattle.radpolicy_common.specs.Changes.{after_of, before_of};
 use crate::change_lists::Change;
 use crate::secret_attributes::is_secret;
 use avp_dict::Dictionary;
+use avp_forms::{Profile, printed_pair_name, printed_pair_text};
 use avp_lists::Pair;
 use std::alloc::{AllocError, Global};
 
@@ -22,8 +23,8 @@ pub enum SecretValues {
 fn shown_text(
     alloc: Global,
     dictionary: &Dictionary,
-    pair: &Pair,
     secrets: SecretValues,
+    pair: &Pair,
 ) -> Result<Vec<u8>, AllocError>
     requires { Fits dictionary.now pair.now }
     ensures { IfOk result (λ text. text.items ≡ shown_text dictionary.now secrets pair.now) }
@@ -32,8 +33,26 @@ fn shown_text(
         SecretValues::Hidden if is_secret(dictionary, pair.id, &pair.value) => {
             Vec::from_slice(alloc, b"(hidden)")
         }
-        _ => dictionary.text_of_value(alloc, pair.id, &pair.value),
+        _ => printed_pair_text(alloc, dictionary, Profile::Wider, pair.id, &pair.value),
     }
+}
+
+/// A pair as `Name = value`, with its line feed. Both are printed in the forms of the wider profile.
+pub fn pair_text(
+    alloc: Global,
+    dictionary: &Dictionary,
+    secrets: SecretValues,
+    pair: &Pair,
+) -> Result<Vec<u8>, AllocError>
+    requires { Fits dictionary.now pair.now }
+    ensures { IfOk result (λ text. text.items ≡ pair_text dictionary.now secrets pair.now) }
+{
+    let mut text = printed_pair_name(alloc, dictionary, Profile::Wider, pair.id, &pair.value)?;
+    let value = shown_text(alloc, dictionary, secrets, pair)?;
+    text.extend_from_slice(b" = ")?;
+    text.extend_from_slice(value.as_slice())?;
+    text.extend_from_slice(b"\n")?;
+    Ok(text)
 }
 
 // A sign, and a pair with its line feed.
@@ -49,13 +68,9 @@ fn push_pair(
         (text.new.items ≡ text.old.items ++ sign.now ++ pair_text dictionary.now secrets pair.now) }
 {
     let alloc = *text.allocator();
-    let name = dictionary.printed_name(alloc, pair.id, &pair.value)?;
-    let value = shown_text(alloc, dictionary, pair, secrets)?;
+    let pair = pair_text(alloc, dictionary, secrets, pair)?;
     text.extend_from_slice(sign)?;
-    text.extend_from_slice(name.as_slice())?;
-    text.extend_from_slice(b" = ")?;
-    text.extend_from_slice(value.as_slice())?;
-    text.extend_from_slice(b"\n")?;
+    text.extend_from_slice(pair.as_slice())?;
     Ok(())
 }
 
@@ -95,7 +110,7 @@ fn push_changes(
 }
 
 /// The lines `- Name = value` of what is removed and `+ Name = value` of what is added, in the order of the changes,
-/// each with a line feed. Names and values are printed as in reports. What is kept has no line.
+/// each with a line feed. Names and values are printed in the forms of the wider profile. What is kept has no line.
 pub fn change_lines(
     alloc: Global,
     dictionary: &Dictionary,

@@ -15,7 +15,7 @@ mod terminals;
 mod words;
 
 pub use change_lists::{Change, changes};
-pub use change_texts::{SecretValues, change_lines};
+pub use change_texts::{SecretValues, change_lines, pair_text};
 pub use files::{
     Unread, read_dictionaries, read_dictionary_set, read_file, read_optional, read_standard_input,
 };

@@ -7,7 +7,8 @@ use crate::places::push_place;
 use crate::policy_tokens::{from_token, text_of, token_of};
 use crate::sources::Sources;
 use crate::texts::{push_all, push_choices};
-use crate::values::push_not_value;
+use crate::values::{push_not_value, tag_hint};
+use avp_forms::profile_of;
 use avp_unlang::{PolicyFault, PolicyKind};
 use std::alloc::{AllocError, Global};
 
@@ -303,10 +304,7 @@ fn push_unknown_hint(
     }
     if let Some((_, tag)) = name.split_once(":") {
         if tag.len() <= 2 {
-            return push_all(
-                help,
-                &["write the name without its tag, and 0x, the tag and the number as the value\n"],
-            );
+            return push_all(help, &[tag_hint(sources.policy.text)]);
         }
     }
     let Some(dictionary) = &sources.dictionary(alloc) else {
@@ -353,7 +351,8 @@ fn push_sentences(
             push_unknown_hint(alloc, help, sources, context, name)
         }
         PolicyKind::NotValue => {
-            push_not_value(alloc, help, sources, name_in(context.name), found)
+            let profile = profile_of(sources.policy.text);
+            push_not_value(alloc, help, sources, profile, name_in(context.name), found)
         }
         PolicyKind::TooLong => push_all(
             help,

@@ -6,9 +6,10 @@ use crate::policies::push_nearest_attributes;
 use crate::policy_tokens::text_of;
 use crate::sources::{Source, Sources};
 use crate::texts::push_all;
-use crate::values::push_not_value;
+use crate::values::{push_not_value, tag_hint};
 use crate::written_pairs::{WrittenPair, refused_pair};
 use avp_dict::{LineFault, LineKind};
+use avp_forms::profile_of;
 use std::alloc::{AllocError, Global};
 
 // What to do about a line that is none, by what is at the place.
@@ -40,10 +41,7 @@ fn push_unknown(
         );
     }
     if name.contains(":") {
-        return push_all(
-            help,
-            &["write the name without its tag, and 0x, the tag and the number as the value\n"],
-        );
+        return push_all(help, &[tag_hint(sources.request.text)]);
     }
     if let Some(dictionary) = &sources.dictionary(alloc) {
         push_nearest_attributes(help, &nearest_attributes(alloc, dictionary, name)?)?;
@@ -63,7 +61,10 @@ fn push_sentences(
     let (name, value) = (text_of(pair.name), text_of(pair.value));
     match kind {
         LineKind::Unknown => push_unknown(alloc, help, sources, name),
-        LineKind::NotValue => push_not_value(alloc, help, sources, name, value),
+        LineKind::NotValue => {
+            let profile = profile_of(sources.request.text);
+            push_not_value(alloc, help, sources, profile, name, value)
+        },
         LineKind::TooLong => push_all(
             help,
             &[

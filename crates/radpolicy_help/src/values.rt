@@ -3,17 +3,15 @@
 use crate::names::{shown_values, value_names};
 use crate::sources::Sources;
 use crate::texts::{push_all, push_choices};
-use avp_dict::{Dictionary, Entry, Kind};
+use avp_dict::{Dictionary, Form, Kind};
+use avp_forms::{Profile, profile_of};
 use std::alloc::{AllocError, Global};
 
 // Which texts a type reads.
 fn form_text(kind: Kind) -> &'static str {
     match kind {
         Kind::Text => "any text, in quotes where it has blanks",
-        Kind::Bytes => {
-            "0x and an even number of hexadecimal digits; so are IPv6 addresses, and values with \
-            a tag: the tag, then the number, as 0x0000000d for VLAN of Tunnel-Type"
-        }
+        Kind::Bytes => "0x and an even number of hexadecimal digits",
         Kind::Addr => "an IPv4 address, as 192.0.2.1",
         Kind::Integer => "a number from 0 to 4294967295, or a VALUE name",
         Kind::Date => "a number of seconds since 1970, as `date +%s` prints it",
@@ -22,6 +20,67 @@ fn form_text(kind: Kind) -> &'static str {
         Kind::Signed => "a number from -2147483648 to 2147483647",
         Kind::Integer64 => "a number from 0 to 18446744073709551615, or a VALUE name",
         Kind::Ether => "six pairs of hexadecimal digits, as 00:11:22:33:44:55",
+    }
+}
+
+// Which texts the wider profile reads besides; none where it reads no more.
+fn wider_text(form: Form) -> Option<&'static str> {
+    match form {
+        Form::AsTyped => None,
+        Form::Ipv6Address => Some("an IPv6 address, as 2001:db8::1"),
+        Form::Ipv6Prefix => Some("an IPv6 prefix, as 2001:db8::/32"),
+        Form::Ipv4Prefix => Some("an IPv4 prefix, as 192.0.2.0/24"),
+        Form::InterfaceId => Some("an interface id, as 1:2:3:4"),
+        Form::Date => Some("a date, as \"Nov 24 2026 10:00:00 UTC\""),
+        Form::TaggedInteger => Some("a number or a VALUE name, as VLAN"),
+        Form::TaggedString => Some("any text"),
+    }
+}
+
+// What octets of this form are written as.
+fn octets_text(form: Form) -> &'static str {
+    match form {
+        Form::TaggedInteger => ": the tag, then the number, as 0x0000000d for VLAN of Tunnel-Type",
+        _ => "",
+    }
+}
+
+// Adds what a value of this attribute is, in the forms of a profile.
+fn push_form(
+    help: &mut Vec<u8>,
+    profile: Profile,
+    kind: Kind,
+    form: Form,
+) -> Result<(), AllocError> {
+    let octets = octets_text(form);
+    match (wider_text(form), profile) {
+        (Some(wider), Profile::Wider) => {
+            push_all(help, &[wider, ", or ", form_text(kind), octets, "\n"])
+        }
+        (Some(wider), Profile::Plain) => {
+            push_all(help, &[form_text(kind), octets, "\n"])?;
+            push_all(
+                help,
+                &[
+                    "with # profile: wider as the first line it is ",
+                    wider,
+                    ", too\n",
+                ],
+            )
+        }
+        (None, _) => push_all(help, &[form_text(kind), "\n"]),
+    }
+}
+
+/// What to do about a name with a tag that is none.
+pub(crate) fn tag_hint(text: &[u8]) -> &'static str {
+    match profile_of(text) {
+        Profile::Wider =>
+            "a tag is a number up to 31, after the name of an attribute that has tags\n",
+        Profile::Plain => {
+            "write # profile: wider as the first line, or write the name without its tag, and 0x, \
+            the tag and the number as the value\n"
+        }
     }
 }
 
@@ -43,26 +102,32 @@ fn push_values(
     Ok(())
 }
 
-fn entry_of<'a>(dictionary: &'a Dictionary, name: &str) -> Option<Entry<'a>> {
+// The type of an attribute, and what its values stand for.
+fn typing_of(dictionary: &Dictionary, name: &str) -> Option<(Kind, Form)> {
     let named = dictionary.by_name(name.as_bytes())?;
     if named.raw {
         return None;
     }
-    dictionary.by_id(named.id)
+    let entry = dictionary.by_id(named.id)?;
+    Some((
+        entry.kind,
+        dictionary.form(named.id).unwrap_or(Form::AsTyped),
+    ))
 }
 
-/// Adds what a value of this attribute may be, which this text is not.
+/// Adds what a value of this attribute may be, which this text is not. The file in which it is asks for a profile.
 pub(crate) fn push_not_value(
     alloc: Global,
     help: &mut Vec<u8>,
     sources: &Sources<'_>,
+    profile: Profile,
     name: &str,
     value: &str,
 ) -> Result<(), AllocError> {
     push_all(help, &["found ", value, "; a value of ", name, " is "])?;
     match &sources.dictionary(alloc) {
-        Some(dictionary) => match entry_of(dictionary, name) {
-            Some(entry) => push_all(help, &[form_text(entry.kind), "\n"])?,
+        Some(dictionary) => match typing_of(dictionary, name) {
+            Some((kind, form)) => push_form(help, profile, kind, form)?,
             None => push_all(help, &["0x and an even number of hexadecimal digits\n"])?,
         },
         None => push_all(help, &["of another form\n"])?,

@@ -155,6 +155,9 @@ impl<'a> ConditionPrinter<'a> {
             Cond::Last(code) => Ok(out.extend_from_slice(code_name(*code))?),
             Cond::Present(list, id) => self.push_attribute(out, *list, *id),
             Cond::Compare(comparison) => self.push_comparison(out, comparison),
+            // Conditions of wider policies, which an import does not write.
+            Cond::PresentSelected(..) => Err(Refusal::LeftOut(Reason::Tag)),
+            Cond::CompareMeant(_) => Err(Refusal::LeftOut(Reason::OctetsHere)),
         }
     }
 

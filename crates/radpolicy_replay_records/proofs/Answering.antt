@@ -60,15 +60,15 @@ run_refused prepared secret octets start read is f (inr (too_long, none)) =
 
 -- ---- whose dictionary an answer is over
 
-over_run : (dictionary : Dictionary) (end : End) (sent : Option Reply) → IsOver dictionary (answered_record (outcome_or_fault (option_map (outcome_with dictionary end) sent)))
-over_run dictionary end None = tt
-over_run dictionary end (Some reply) = refl
+over_run : (prepared : Prepared) (end : End) (sent : Option Reply) → IsOver prepared.dictionary (answered_record (outcome_or_fault (option_map (outcome_with prepared end) sent)))
+over_run prepared end None = tt
+over_run prepared end (Some reply) = refl
 
 over_read : (prepared : Prepared) (secret : List ℕ) (read : Result Packet PacketFault) → IsOver prepared.dictionary (answered_record (answer_to prepared secret read))
 over_read prepared secret (Err f) = tt
 over_read prepared secret (Ok request) =
     let start = start_of prepared (Some secret) Hex request in
-    over_run prepared.dictionary (end_of start) (sent_reply start (end_of start))
+    over_run prepared (end_of start) (sent_reply start (end_of start))
 
 over_answer : (prepared : Prepared) (secret : Option (List ℕ)) (request : Result (List ℕ) Fault) → IsOver prepared.dictionary (answer_by prepared secret request)
 unfolding answered

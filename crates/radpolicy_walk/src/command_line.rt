@@ -3,6 +3,7 @@
 ghost use Rattle.std.specs.Prelude.{IfErr};
 ghost use Rattle.radpolicy.specs.Faults.{IsWordFault};
 
+use avp_forms::offset_spelled;
 use clap::error::ErrorKind;
 use clap::{Arg, ArgAction, ArgMatches};
 use radpolicy::{Fault, Form};
@@ -26,6 +27,8 @@ const REPLY: &str = "reply";
 
 const CONTROL: &str = "control";
 
+const ZONE: &str = "zone";
+
 const SCRIPT: &str = "script";
 
 const SHOW_SECRETS: &str = "show-secrets";
@@ -44,6 +47,8 @@ pub struct Plan<'a> {
     pub secret: Option<&'a str>,
     pub reply: Option<&'a str>,
     pub control: Option<&'a str>,
+    /// How many minutes the clocks of a zone other than UTC that a date names are before UTC's.
+    pub zone: Option<i16>,
     /// The file of the commands; standard input where there is none.
     pub script: Option<&'a str>,
     pub secrets: SecretValues,
@@ -93,6 +98,11 @@ fn control_option<'a>(alloc: Global) -> Arg<'a> {
     file_option(alloc, CONTROL, "LINES", "The control list's first pairs").long(CONTROL)
 }
 
+fn zone_option<'a>(alloc: Global) -> Arg<'a> {
+    let help = "What a date's zone other than UTC stands for, as +01:00";
+    file_option(alloc, ZONE, "OFFSET", help).long(ZONE)
+}
+
 fn script_option<'a>(alloc: Global) -> Arg<'a> {
     let help = "The commands, a line each [default: standard input]";
     file_option(alloc, SCRIPT, "SCRIPT", help).long(SCRIPT)
@@ -128,6 +138,7 @@ fn program<'a>(alloc: Global) -> Result<clap::Command<'a>, AllocError> {
         ))?
         .arg(reply_option(alloc))?
         .arg(control_option(alloc))?
+        .arg(zone_option(alloc))?
         .arg(script_option(alloc))?
         .arg(flag(alloc, SHOW_SECRETS, "Shows passwords and keys"))?
         .arg(dictionary_files(alloc))
@@ -170,6 +181,18 @@ fn record_of(found: &ArgMatches<'_>, form: Form) -> Result<Option<usize>, Fault>
     }
 }
 
+fn zone_of(found: &ArgMatches<'_>) -> Result<Option<i16>, Fault>
+    ensures { IfErr result IsWordFault }
+{
+    let Some(word) = found.get_str(ZONE) else {
+        return Ok(None);
+    };
+    match offset_spelled(word.as_bytes()) {
+        Some(offset) => Ok(Some(offset)),
+        None => Err(Fault::OptionValue),
+    }
+}
+
 fn shown_secrets(found: &ArgMatches<'_>) -> SecretValues {
     if found.get_flag(SHOW_SECRETS) {
         SecretValues::Shown
@@ -196,6 +219,7 @@ fn plan_of<'a>(alloc: Global, found: &ArgMatches<'a>) -> Result<Plan<'a>, Fault>
         secret: found.get_str(SECRET),
         reply: found.get_str(REPLY),
         control: found.get_str(CONTROL),
+        zone: zone_of(found)?,
         script,
         secrets: shown_secrets(found),
         dictionaries: Vec::from_slice(alloc, files)?,

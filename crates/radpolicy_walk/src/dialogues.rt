@@ -1,6 +1,7 @@
 //! The dialogue: commands are read, and what they come to is shown.
 
 use avp_dict::{LineFault, LineKind, next_line};
+use avp_forms::{Profile, read_request};
 use avp_lists::{EditFault, List, Pair};
 use radpolicy::{Fault, PreparedPolicy, RequestHead, Start};
 use radpolicy_common::{LineBreaks, PLAIN_STYLE, SecretValues, Stream, Style, visible_text};
@@ -43,6 +44,8 @@ pub struct Dialogue<'a> {
     policy: &'a PreparedPolicy<'a>,
     // With it the run begins anew.
     head: RequestHead,
+    // By it dates are read.
+    zone: Option<i16>,
     session: Session<'a>,
     sources: SourceLines<'a>,
     secrets: SecretValues,
@@ -131,12 +134,14 @@ impl<'a> Dialogue<'a> {
         policy: &'a PreparedPolicy<'a>,
         head: RequestHead,
         start: Start<'a>,
+        zone: Option<i16>,
         text: &'a [u8],
         secrets: SecretValues,
     ) -> Result<Dialogue<'a>, AllocError> {
         Ok(Dialogue {
             policy,
             head,
+            zone,
             session: Session::new(rt.alloc(), start)?,
             sources: SourceLines::new(rt.alloc(), text)?,
             secrets,
@@ -232,10 +237,14 @@ impl<'a> Dialogue<'a> {
 
     // The one pair of a request line.
     fn pair_of(&self, alloc: Global, line: &str) -> Result<Pair, Fault> {
-        let mut pairs = self
-            .session
-            .dictionary()
-            .read_request(alloc, line.as_bytes())?;
+        let dictionary = self.session.dictionary();
+        let mut pairs = read_request(
+            alloc,
+            dictionary,
+            Profile::Wider,
+            self.zone,
+            line.as_bytes(),
+        )?;
         match (pairs.pop(), pairs.is_empty()) {
             (Some(pair), true) => Ok(pair),
             _ => Err(Fault::Request(LineFault {

@@ -13,6 +13,7 @@ use crate::command_line::{Plan, help_text, read_words};
 use crate::dialogues::{Dialogue, Ending};
 use crate::records::{form_of_record, read_record};
 use avp_dict::{Dictionary, FileSet};
+use avp_forms::Profile;
 use avp_lists::Octets;
 use hex::FromHexError;
 use radpolicy::{Fault, Form, PreparedPolicy, RequestHead, RequestKind, Secret, Start, status};
@@ -125,6 +126,7 @@ fn start_by<'a>(
     prepared: &'a PreparedPolicy<'a>,
     secret: Option<&'a Secret<'a>>,
     form: Form,
+    zone: Option<i16>,
     request: &[u8],
 ) -> Result<Start<'a>, Fault>
     ensures { IfErr result IsPrintedAnywhere }
@@ -134,20 +136,33 @@ fn start_by<'a>(
             let octets = packet_octets(alloc, request)?;
             Start::of_packet(alloc, prepared, secret, &octets)
         }
-        None => Start::of_lines(alloc, prepared, None, head_by(form), request),
+        None => Start::of_lines(
+            alloc,
+            prepared,
+            None,
+            head_by(form),
+            Profile::Wider,
+            zone,
+            request,
+        ),
     }
 }
 
 // The same start with the reply and control lists of files.
-fn with_lists<'a>(alloc: Global, start: Start<'a>, files: &Files) -> Result<Start<'a>, Fault>
+fn with_lists<'a>(
+    alloc: Global,
+    start: Start<'a>,
+    zone: Option<i16>,
+    files: &Files,
+) -> Result<Start<'a>, Fault>
     ensures { IfErr result IsPrintedAnywhere }
 {
     let start = match &files.reply {
-        Some(lines) => start.with_reply_lines(alloc, lines.as_slice())?,
+        Some(lines) => start.with_reply_lines(alloc, Profile::Wider, zone, lines.as_slice())?,
         None => start,
     };
     match &files.control {
-        Some(lines) => start.with_control_lines(alloc, lines.as_slice()),
+        Some(lines) => start.with_control_lines(alloc, Profile::Wider, zone, lines.as_slice()),
         None => Ok(start),
     }
 }
@@ -190,14 +205,16 @@ fn walk_by(rt: &HostRuntime, plan: &Plan<'_>, form: Form, files: &Files) -> Resu
         &policy,
         secret.as_ref(),
         form,
+        plan.zone,
         files.request.as_slice(),
     )?;
-    let start = with_lists(alloc, start, files)?;
+    let start = with_lists(alloc, start, plan.zone, files)?;
     let mut dialogue = Dialogue::new(
         rt,
         &policy,
         head_by(form),
         start,
+        plan.zone,
         files.policy.as_slice(),
         plan.secrets,
     )?;

@@ -2,7 +2,7 @@
 
 ghost use Rattle.std.specs.Prelude.{◌≡◌, ◌++◌, IfOk, OnOk, codes, decimal};
 ghost use Rattle.avp_unlang.specs.Resolutions.{StateFits};
-ghost use Rattle.radpolicy_common.specs.ChangeTexts.{AllFit, Fits, shown_text};
+ghost use Rattle.radpolicy_common.specs.ChangeTexts.{AllFit, Fits};
 ghost use Rattle.radpolicy_walk_commands.specs.Showings.{AreChanges, IsListChange, list_text, named_lines, pair_line, step_text};
 
 use crate::steps::Step;
@@ -10,7 +10,7 @@ use avp_dict::Dictionary;
 use avp_lists::{Pair, State};
 use itoa::Buffer;
 use radpolicy::{code_text, push_label};
-use radpolicy_common::{SecretValues, change_lines, changes, is_secret};
+use radpolicy_common::{SecretValues, change_lines, changes, pair_text};
 use std::alloc::{AllocError, Global};
 
 /// Appends a number in decimal digits.
@@ -42,25 +42,6 @@ pub(crate) fn push_step(
     Ok(())
 }
 
-// The text of a value, or `(hidden)`.
-fn value_text(
-    alloc: Global,
-    dictionary: &Dictionary,
-    secrets: SecretValues,
-    pair: &Pair,
-) -> Result<Vec<u8>, AllocError>
-    requires { Fits dictionary.now pair.now }
-    ensures { IfOk result (λ text. text.items
-        ≡ shown_text dictionary.now secrets pair.now) }
-{
-    match secrets {
-        SecretValues::Hidden if is_secret(dictionary, pair.id, &pair.value) => {
-            Vec::from_slice(alloc, b"(hidden)")
-        }
-        _ => dictionary.text_of_value(alloc, pair.id, &pair.value),
-    }
-}
-
 fn push_pair(
     text: &mut Vec<u8>,
     dictionary: &Dictionary,
@@ -72,13 +53,9 @@ fn push_pair(
         (text.new.items ≡ text.old.items ++ pair_line dictionary.now secrets pair.now) }
 {
     let alloc = *text.allocator();
-    let name = dictionary.printed_name(alloc, pair.id, &pair.value)?;
-    let value = value_text(alloc, dictionary, secrets, pair)?;
+    let pair = pair_text(alloc, dictionary, secrets, pair)?;
     text.extend_from_slice(b"  ")?;
-    text.extend_from_slice(name.as_slice())?;
-    text.extend_from_slice(b" = ")?;
-    text.extend_from_slice(value.as_slice())?;
-    text.extend_from_slice(b"\n")?;
+    text.extend_from_slice(pair.as_slice())?;
     Ok(())
 }
 

@@ -1,6 +1,7 @@
 //! Where commands lead, and what they show.
 
 use avp_dict::Dictionary;
+use avp_forms::Profile;
 use avp_lists::{AttrId, List};
 use radpolicy::{PreparedPolicy, RequestHead, RequestKind, Start};
 use radpolicy_common::SecretValues;
@@ -35,7 +36,15 @@ const HEAD: RequestHead = RequestHead {
 };
 
 fn start_of<'a>(alloc: Global, policy: &'a PreparedPolicy<'a>) -> Result<Start<'a>, Fail> {
-    Ok(Start::of_lines(alloc, policy, None, HEAD, b"User-Name = \"bob\"")?)
+    Ok(Start::of_lines(
+        alloc,
+        policy,
+        None,
+        HEAD,
+        Profile::Plain,
+        None,
+        b"User-Name = \"bob\"",
+    )?)
 }
 
 // Where commands lead.
