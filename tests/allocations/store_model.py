@@ -7,21 +7,32 @@ NAMES = ("request", "reply", "control")
 
 
 class Pair(NamedTuple):
-    """An attribute by its number, and its one octet."""
+    """An attribute by its number, and its octets."""
 
     number: int
-    octet: int
+    octets: Tuple[int, ...]
 
     def __str__(self) -> str:
-        return f"Pair {{ id: Plain({self.number}), value: Bytes(Octets {{ bytes: [{self.octet}] }}) }}"
+        octets = ", ".join(map(str, self.octets))
+        return f"Pair {{ id: Plain({self.number}), value: Bytes(Octets {{ bytes: [{octets}] }}) }}"
+
+    @property
+    def tag(self) -> int:
+        """The tag of a text: its first octet, where that may be one, and else 0."""
+        return self.octets[0] if self.octets[0] < 32 else 0
+
+    @property
+    def text(self) -> Tuple[int, ...]:
+        """What is beside the tag."""
+        return self.octets[1:] if self.octets[0] < 32 else self.octets
 
 
 Lists = Dict[str, Tuple[Pair, ...]]
 
 # The lists that the program begins with.
 FIRST: Lists = {
-    "request": (Pair(1, 7),),
-    "reply": (Pair(25, 1), Pair(18, 97), Pair(25, 2), Pair(25, 1)),
+    "request": (Pair(1, (7,)),),
+    "reply": (Pair(25, (1,)), Pair(18, (97,)), Pair(25, (2,)), Pair(25, (1,))),
     "control": (),
 }
 
@@ -31,9 +42,12 @@ def told(pairs: Tuple[Pair, ...]) -> str:
     return f"[{', '.join(map(str, pairs))}]"
 
 
-def edited(sign: str, pair: Pair, pairs: Tuple[Pair, ...]) -> Tuple[Pair, ...]:
-    """What an operator makes of a list."""
-    places = [at for at, other in enumerate(pairs) if other.number == pair.number]
+def edited(sign: str, pair: Pair, pairs: Tuple[Pair, ...], selection: Optional[str]) -> Tuple[Pair, ...]:
+    """What an operator makes of a list, over all instances, `each` beside its tag, or those with a tag."""
+    tags = range(32) if selection is None or selection == "each" else [int(selection)]
+    meant = {other for other in pairs if other.number == pair.number and other.tag in tags}
+    equal = {other for other in meant if (other == pair if selection is None else other.text == pair.text)}
+    places = [at for at, other in enumerate(pairs) if other in meant]
     if sign == "^=":
         return (pair, *pairs)
     if sign == "+=" or not places and sign in ("=", ":="):
@@ -43,11 +57,11 @@ def edited(sign: str, pair: Pair, pairs: Tuple[Pair, ...]) -> Tuple[Pair, ...]:
             pair if at == places[0] else other for at, other in enumerate(pairs) if at not in places[1:]
         )
     if sign == "-=":
-        return tuple(other for other in pairs if other != pair)
+        return tuple(other for other in pairs if other not in equal)
     if sign == "==":
-        return tuple(other for other in pairs if other == pair or other.number != pair.number)
+        return tuple(other for other in pairs if other in equal or other not in meant)
     if sign == "!*":
-        return tuple(other for other in pairs if other.number != pair.number)
+        return tuple(other for other in pairs if other not in meant)
     return pairs
 
 
@@ -77,10 +91,13 @@ class Store:
             return self.edit_answered(name, *words, answer=answer)
         return getattr(self, f"{name}_answered")(*words, answer=answer)
 
-    def edit_answered(self, name: str, sign: str, number: str, octet: str, answer: str) -> Optional[str]:
+    def edit_answered(
+        self, name: str, sign: str, number: str, octet: str, selection: Optional[str] = None, *, answer: str
+    ) -> Optional[str]:
         if answer == "done":
-            pair = Pair(int(number), int(octet))
-            self.add({**self.present, name: edited(sign, pair, self.present[name])})
+            tag = () if selection is None or selection == "each" else (int(selection),)
+            pair = Pair(int(number), (*tag, int(octet)))
+            self.add({**self.present, name: edited(sign, pair, self.present[name], selection)})
         return None if answer in ("done", "refused") else "an edit with memory and room is made"
 
     def move_answered(self, by: int, answer: str) -> Optional[str]:

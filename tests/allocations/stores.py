@@ -17,6 +17,10 @@ EDITS = [
     *("reply += 25 9", "undo", "reply += 25 8", "redo", "list reply", "reply := 25 5", "reply = 7 1", "reply = 7 2"),
     *("reply -= 25 5", "undo", "undo", "reply == 25 2", "reply ^= 25 6", "control := 4 4"),
     *("request !* 1 0", "list request"),
+    # The same over the instances with a tag, and over each beside its tag.
+    *("reply += 25 70 1", "reply += 25 70 2", "reply := 25 71 2", "reply = 25 72 3", "reply = 25 73 3", "list reply"),
+    *("reply -= 25 70 1", "undo", "reply -= 25 70 each", "reply += 25 74 3", "reply == 25 72 3", "undo", "list reply"),
+    *("reply == 25 72 each", "undo", "reply !* 25 0 3", "reply := 25 75 each", "list reply"),
 ]
 ROLLBACKS = [
     *("rollback 1", "rollback 0", "undo", "rollback 2", *["rollback 0"] * 8, "undo", "undo", "rollback 9", "redo"),

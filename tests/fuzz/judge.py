@@ -13,7 +13,9 @@ OF_FILE = {f"E{number}" for number in range(10, 20)}
 OF_REQUEST = {"E30", "E31", "E32", "E33", "E34", "E35", "E36"}
 OF_POLICY = {"E30", "E31", "E32", "E33", "E50", "E51", "E53", "E54", "E55"}
 PAIR = rb"  [A-Za-z0-9._/-]+ = .*\n"
-LISTS = rb"request\n(?:%b)*reply\n(?:%b)*control\n(?:%b)*" % (PAIR, PAIR, PAIR)
+# Below a policy's line `# profile: wider` names have tags, from 0 to 31.
+LISTED = rb"  [A-Za-z0-9._/-]+(?::(?:[12]?\d|3[01]))? = .*\n"
+LISTS = rb"request\n(?:%b)*reply\n(?:%b)*control\n(?:%b)*" % (LISTED, LISTED, LISTED)
 PACKET = rb"packet (?:[0-9a-f]{2}){20,4096}\n"
 CODE = rb"(?:ok|noop|updated|fail|reject)"
 LABEL = rb"(?:start|line \d+(?: failed P[1-4])?|if \d+ (?:true|false)|(?:word|enter|commit|rollback) \d+)"

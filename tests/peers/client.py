@@ -23,11 +23,15 @@ VERDICTS = ("Received ", REFUSED, "No reply")
 SECONDS = 60
 
 
+def dictionaries_of(subject: Subject, folder: Path) -> List[Path]:
+    """The dictionaries of the repository, and the folder's own."""
+    return [*sorted((subject.root / "dictionaries").glob("dictionary*")), *folder.glob("dictionary.local")]
+
+
 def reply_to(subject: Subject, folder: Path, octets: bytes) -> bytes:
     """The packet that the program sends in reply; no octets where it sends none."""
-    dictionaries = sorted((subject.root / "dictionaries").glob("dictionary*"))
     words = ["run", "--hex", "-S", "secret", "--policy", "policy"]
-    ended = run([subject.program, *words, *dictionaries], folder, octets.hex().encode())
+    ended = run([subject.program, *words, *dictionaries_of(subject, folder)], folder, octets.hex().encode())
     packets = [line.split()[1] for line in ended.output.decode().splitlines() if line.startswith("packet ")]
     return bytes.fromhex(packets[0]) if packets and packets[0] != "none" else b""
 
