@@ -1,0 +1,251 @@
+-- Where a condition overlooks no absence, it is true where a server says so.
+use Rattle.std.proofs.Common.{◌≡◌, ℕ, Bool, true, false, not, ◌&&◌, ◌||◌, List, [], ◌∷◌, ◌++◌, Option, Some, None, refl, sym, ap, ◌∙◌, map, subst, append_assoc, append-nil, filter, is_some, cond}
+use Rattle.std.specs.List.{list_all, list_any}
+use Rattle.std.specs.Option.{option_and_then, option_map}
+use Rattle.avp_lists.specs.Instances.{first_instance, front, has_id, has_instance}
+use Rattle.avp_lists.specs.Selections.{first_selected_instance, has_selected}
+use Rattle.avp_lists.specs.States.{list_of}
+use Rattle.avp_lists.specs.Tags.{is_selected}
+use Rattle.avp_lists.specs.declared.pairs.AttrId.{AttrId}
+use Rattle.avp_lists.specs.declared.pairs.Pair.{Pair}
+use Rattle.avp_lists.specs.declared.pairs.Value.{Value}
+use Rattle.avp_lists.specs.declared.lists.List.{List as Name}
+use Rattle.avp_lists.specs.declared.lists.State.{State}
+use Rattle.avp_lists.specs.declared.tags.Selection.{Selection}
+use Rattle.avp_dict.specs.declared.entries.Kind.{Kind}
+use Rattle.avp_dict.specs.declared.forms.Form.{Form}
+use Rattle.avp_unlang.specs.Truth.{Test, are_related, are_related_by_meaning, compared_with, cond_truth, first_value, is_met, is_met_by_meaning, meant_with, octets_meant, selected_octets, same_code, selected_value, truth, value_in}
+use Rattle.avp_unlang.specs.declared.codes.Code.{Code}
+use Rattle.avp_unlang.specs.declared.tree.Comparand.{Comparand}
+use Rattle.avp_unlang.specs.declared.tree.Comparand.TheVariants as comparand
+use Rattle.avp_unlang.specs.declared.tree.Comparison.{Comparison}
+use Rattle.avp_unlang.specs.declared.tree.MeantComparand.{MeantComparand}
+use Rattle.avp_unlang.specs.declared.tree.MeantComparand.TheVariants as meant
+use Rattle.avp_unlang.specs.declared.tree.MeantComparison.{MeantComparison}
+use Rattle.avp_unlang.specs.declared.tree.Relation.{Relation}
+use Rattle.avp_unlang.specs.declared.tree.Cond.{Cond}
+use Rattle.avp_unlang.specs.declared.tree.Cond.TheFolds.{fold-roll-Cond, ind-Cond, map-Cond}
+use Rattle.avp_unlang.specs.declared.tree.Cond.TheOpen.{Cond-F, Any, All, Not, Last, Present, PresentSelected, Compare, CompareMeant}
+use Rattle.avp_unlang.specs.declared.tree.Cond.TheViews.{roll-Cond}
+use Rattle.policy_warnings.specs.Absences.{all_of, always, asked, any_of, both, cond_absence, either, negated, said_of, silent, warns_of_absence}
+use Rattle.policy_warnings.specs.Answers.{Answer, Asked, answer_all, answer_any, answer_both, answer_either, cond_answer, is_true, server_answer, server_truth}
+use Rattle.policy_warnings.specs.Mentions.{all_parts, comparand_mentions, comparison_mentions, cond_mentions, implies, is_there, meant_comparand_mentions, meant_comparison_mentions, mentions, selected, whole}
+use Rattle.policy_warnings.specs.declared.absences.Absence.{Absence}
+use Rattle.policy_warnings.specs.declared.mentions.Mention.{Mention}
+use Rattle.policy_warnings.proofs.Answered.{and_right, and_true, any_mono, not_implied, overlooked_when, present_when}
+use Rattle.policy_warnings.proofs.Sound.{Sound, misses, sound_both, sound_compared, sound_either, sound_negated, sound_same, sound_told}
+
+-- ---- what is there
+
+pub found_first : (f : Pair → Bool) (pairs : List Pair) → list_any f pairs ≡ is_some (front (filter f pairs))
+found_first f [] = refl
+found_first f (p ∷ ps) =
+    elim (f p) as (λ b. (b || list_any f ps) ≡ is_some (front (cond b (p ∷ filter f ps) (filter f ps)))) [
+      | true ↦ refl
+      | false ↦ found_first f ps
+    ]
+
+is_some_map : {A B : Type 0} (f : A → B) (x : Option A) → is_some (option_map f x) ≡ is_some x
+is_some_map f None = refl
+is_some_map f (Some x) = refl
+
+some_before : {A B : Type 0} (f : A → Option B) (x : Option A) → is_some (option_and_then f x) ≡ true → is_some x ≡ true
+some_before f None h = h
+some_before f (Some x) h = refl
+
+found_value : (list : Name) (id : AttrId) (s : State) → is_some (first_value list id s) ≡ true → is_there s (whole list id) ≡ true
+found_value list id s h =
+    found_first (has_id id) (list_of list s) ∙ sym (is_some_map value_in (first_instance id (list_of list s))) ∙ h
+
+found_octets : (list : Name) (id : AttrId) (selection : Selection) (form : Form) (s : State) → is_some (selected_octets list id selection form s) ≡ true → is_there s (selected list id selection) ≡ true
+found_octets list id selection form s h =
+    found_first (is_selected selection id) (list_of list s) ∙ sym (is_some_map value_in (first_selected_instance selection id (list_of list s)))
+    ∙ some_before (octets_meant form) (selected_value list id selection s) h
+
+first_there : (k : Kind) (r : Relation) (x y : Option Value) → are_related k r x y ≡ true → is_some x ≡ true
+first_there k r None y h = h
+first_there k r (Some x) y h = refl
+
+second_there : (k : Kind) (r : Relation) (x y : Option Value) → are_related k r x y ≡ true → is_some y ≡ true
+second_there k r None y h = cc
+second_there k r (Some x) None h = h
+second_there k r (Some x) (Some y) h = refl
+
+comparand_there : (x : Comparand) (s : State) → is_some (compared_with x s) ≡ true → list_all (is_there s) (comparand_mentions x) ≡ true
+comparand_there (comparand.Literal v) s h = refl
+comparand_there (comparand.Instance list id) s h = and_true (is_there s (whole list id)) true (found_value list id s h) refl
+
+pub met_there : (k : Comparison) (s : State) → is_met k s ≡ true → list_all (is_there s) (comparison_mentions k) ≡ true
+met_there k s h =
+    and_true (is_there s (whole k.list k.id)) (list_all (is_there s) (comparand_mentions k.comparand))
+    (found_value k.list k.id s (first_there k.kind k.relation (first_value k.list k.id s) (compared_with k.comparand s) h))
+    (comparand_there k.comparand s (second_there k.kind k.relation (first_value k.list k.id s) (compared_with k.comparand s) h))
+
+first_meant : (r : Relation) (x y : Option (Form × List ℕ)) → are_related_by_meaning r x y ≡ true → is_some x ≡ true
+first_meant r None y h = h
+first_meant r (Some x) y h = refl
+
+second_meant : (r : Relation) (x y : Option (Form × List ℕ)) → are_related_by_meaning r x y ≡ true → is_some y ≡ true
+second_meant r None y h = cc
+second_meant r (Some x) None h = h
+second_meant r (Some x) (Some y) h = refl
+
+meant_comparand_there : (x : MeantComparand) (s : State) → is_some (meant_with x s) ≡ true → list_all (is_there s) (meant_comparand_mentions x) ≡ true
+meant_comparand_there (meant.Literal form octets) s h = refl
+meant_comparand_there (meant.Instance list id selection form) s h =
+    and_true (is_there s (selected list id selection)) true (found_octets list id selection form s h) refl
+
+meant_there : (k : MeantComparison) (s : State) → is_met_by_meaning k s ≡ true → list_all (is_there s) (meant_comparison_mentions k) ≡ true
+meant_there k s h =
+    and_true (is_there s (selected k.list k.id k.selection)) (list_all (is_there s) (meant_comparand_mentions k.comparand))
+    (found_octets k.list k.id k.selection k.form s (first_meant k.relation (selected_octets k.list k.id k.selection k.form s) (meant_with k.comparand s) h))
+    (meant_comparand_there k.comparand s (second_meant k.relation (selected_octets k.list k.id k.selection k.form s) (meant_with k.comparand s) h))
+
+both_assoc : (a b d : Answer) → answer_both (answer_both a b) d ≡ answer_both a (answer_both b d)
+both_assoc None b d = refl
+both_assoc (Some true) b d = refl
+both_assoc (Some false) b d = refl
+
+either_assoc : (a b d : Answer) → answer_either (answer_either a b) d ≡ answer_either a (answer_either b d)
+either_assoc None b d = refl
+either_assoc (Some true) b d = refl
+either_assoc (Some false) b d = refl
+
+both_yes : (a : Answer) → a ≡ answer_both a (Some true)
+both_yes None = refl
+both_yes (Some true) = refl
+both_yes (Some false) = refl
+
+either_no : (a : Answer) → a ≡ answer_either a (Some false)
+either_no None = refl
+either_no (Some true) = refl
+either_no (Some false) = refl
+
+and_assoc : (a b d : Bool) → ((a && b) && d) ≡ (a && (b && d))
+and_assoc true b d = refl
+and_assoc false b d = refl
+
+or_assoc : (a b d : Bool) → ((a || b) || d) ≡ (a || (b || d))
+or_assoc true b d = refl
+or_assoc false b d = refl
+
+and_yes : (a : Bool) → a ≡ (a && true)
+and_yes true = refl
+and_yes false = refl
+
+or_no : (a : Bool) → a ≡ (a || false)
+or_no true = refl
+or_no false = refl
+
+-- ---- conditions
+
+module _ (s : State) (c : Code) where
+  abbrev IsSound : Cond → Type 0
+  IsSound k = Sound s (λ m. said_of m k) (mentions k) (server_answer k s c) (truth k s c)
+
+  abbrev Such : Type 0
+  Such = (k : Cond) × IsSound k
+
+  abbrev the_conds : List Such → List Cond
+  the_conds es = map (λ e. e.0) es
+
+  abbrev layer : Cond-F Such → Cond-F Cond
+  layer = map-Cond Such Cond (λ e. e.0)
+
+  abbrev answers : List Such → Answer
+  answers es = answer_all (map server_answer (the_conds es)) s c
+
+  abbrev any_answers : List Such → Answer
+  any_answers es = answer_any (map server_answer (the_conds es)) s c
+
+  abbrev all_true : List Such → Bool
+  all_true es = list_all (λ (test : Test). test s c) (map truth (the_conds es))
+
+  abbrev any_true : List Such → Bool
+  any_true es = list_any (λ (test : Test). test s c) (map truth (the_conds es))
+
+  abbrev the_mentions : List Such → List Mention
+  the_mentions es = all_parts (map mentions (the_conds es))
+
+  all_sound : (es : List Such) (say : Mention → Absence) (ms : List Mention) (a : Answer) (t : Bool) → Sound s say ms a t → Sound s (λ m. all_of (say m) (map (said_of m) (the_conds es))) (ms ++ the_mentions es) (answer_both a (answers es)) (t && all_true es)
+  all_sound [] say ms a t p = sound_same s say ms (ms ++ []) a (answer_both a (Some true)) t (t && true) (sym (append-nil ms)) (both_yes a) (and_yes t) p
+  all_sound (e ∷ es) say ms a t p =
+      let also = λ (m : Mention). said_of m e.0 in
+      let joint = λ (m : Mention). both (say m) (also m) in
+      let answered = answer_both a (server_answer e.0 s c) in
+      let value = t && truth e.0 s c in
+      sound_same s (λ m. all_of (joint m) (map (said_of m) (the_conds es))) ((ms ++ mentions e.0) ++ the_mentions es) (ms ++ (mentions e.0 ++ the_mentions es))
+      (answer_both answered (answers es)) (answer_both a (answer_both (server_answer e.0 s c) (answers es))) (value && all_true es) (t && (truth e.0 s c && all_true es))
+      (append_assoc ms (mentions e.0) (the_mentions es)) (both_assoc a (server_answer e.0 s c) (answers es)) (and_assoc t (truth e.0 s c) (all_true es))
+      (all_sound es joint (ms ++ mentions e.0) answered value (sound_both s say also ms (mentions e.0) a (server_answer e.0 s c) t (truth e.0 s c) p e.1))
+
+  any_sound : (es : List Such) (say : Mention → Absence) (ms : List Mention) (a : Answer) (t : Bool) → Sound s say ms a t → Sound s (λ m. any_of (say m) (map (said_of m) (the_conds es))) (ms ++ the_mentions es) (answer_either a (any_answers es)) (t || any_true es)
+  any_sound [] say ms a t p = sound_same s say ms (ms ++ []) a (answer_either a (Some false)) t (t || false) (sym (append-nil ms)) (either_no a) (or_no t) p
+  any_sound (e ∷ es) say ms a t p =
+      let also = λ (m : Mention). said_of m e.0 in
+      let joint = λ (m : Mention). either (say m) (also m) in
+      let answered = answer_either a (server_answer e.0 s c) in
+      let value = t || truth e.0 s c in
+      sound_same s (λ m. any_of (joint m) (map (said_of m) (the_conds es))) ((ms ++ mentions e.0) ++ the_mentions es) (ms ++ (mentions e.0 ++ the_mentions es))
+      (answer_either answered (any_answers es)) (answer_either a (answer_either (server_answer e.0 s c) (any_answers es))) (value || any_true es) (t || (truth e.0 s c || any_true es))
+      (append_assoc ms (mentions e.0) (the_mentions es)) (either_assoc a (server_answer e.0 s c) (any_answers es)) (or_assoc t (truth e.0 s c) (any_true es))
+      (any_sound es joint (ms ++ mentions e.0) answered value (sound_either s say also ms (mentions e.0) a (server_answer e.0 s c) t (truth e.0 s c) p e.1))
+
+  silent_of : (b : Bool) (m : Mention) → is_there s m ≡ false → present_when b silent ≡ false
+  silent_of true m absent = refl
+  silent_of false m absent = refl
+
+  told_there : (x : Mention) (b : Bool) → is_there s x ≡ b → (m : Mention) → is_there s m ≡ false → present_when b (asked (implies x m)) ≡ false
+  told_there x true e m absent = not_implied s x m e absent
+  told_there x false e m absent = refl
+
+  abbrev LayerSound : Cond-F Cond → Type 0
+  LayerSound x =
+      Sound s (λ m. cond_absence m (map-Cond Cond Absence (said_of m) x)) (cond_mentions (map-Cond Cond (List Mention) mentions x))
+      (cond_answer (map-Cond Cond Asked server_answer x) s c) (cond_truth (map-Cond Cond Test truth x) s c)
+
+  layer_sound : (y : Cond-F Such) → LayerSound (layer y)
+  layer_sound (Any parts) = any_sound parts (λ m. negated always) [] (Some false) false (sound_told s (λ m. negated always) false (λ m absent. refl))
+  layer_sound (All parts) = all_sound parts (λ m. always) [] (Some true) true (sound_told s (λ m. always) true (λ m absent. refl))
+  layer_sound (Not part) = sound_negated s (λ m. said_of m part.0) (mentions part.0) (server_answer part.0 s c) (truth part.0 s c) part.1
+  layer_sound (Last word) = sound_told s (λ m. silent) (same_code c word) (silent_of (same_code c word))
+  layer_sound (Present list id) =
+      sound_told s (λ m. asked (implies (whole list id) m)) (has_instance id (list_of list s)) (told_there (whole list id) (has_instance id (list_of list s)) refl)
+  layer_sound (PresentSelected list id selection) =
+      let there = has_selected selection id (list_of list s) in
+      sound_same s (λ m. asked (implies (selected list id selection) m)) [] [] (Some there) (Some there) there (is_some (first_selected_instance selection id (list_of list s)))
+      refl refl (found_first (is_selected selection id) (list_of list s))
+      (sound_told s (λ m. asked (implies (selected list id selection) m)) there (told_there (selected list id selection) there refl))
+  layer_sound (Compare k) = sound_compared s (comparison_mentions k) (is_met k s) (met_there k s)
+  layer_sound (CompareMeant k) = sound_compared s (meant_comparison_mentions k) (is_met_by_meaning k s) (meant_there k s)
+
+  said_same : (say also : Mention → Absence) (ms : List Mention) (a : Answer) (t : Bool) → ((m : Mention) → say m ≡ also m) → Sound s say ms a t → Sound s also ms a t
+  said_same say also ms a t e p = (
+    (λ m h. ap (present_when t) (sym (e m)) ∙ p.0 m h),
+    p.1,
+    (λ k. any_mono (misses s say t) (misses s also t) (λ m h. ap (λ z. not (is_there s m) && overlooked_when t z) (sym (e m)) ∙ h) ms (p.2 k)),
+  )
+
+  rolled : (x : Cond-F Cond) → LayerSound x → IsSound (roll-Cond x)
+  unfolding said_of mentions server_answer truth
+  rolled x p =
+      said_same (λ m. cond_absence m (map-Cond Cond Absence (said_of m) x)) (λ m. said_of m (roll-Cond x)) (mentions (roll-Cond x)) (server_answer (roll-Cond x) s c) (truth (roll-Cond x) s c)
+      (λ m. sym (fold-roll-Cond Absence (cond_absence m) x))
+      (sound_same s (λ m. cond_absence m (map-Cond Cond Absence (said_of m) x)) (cond_mentions (map-Cond Cond (List Mention) mentions x)) (mentions (roll-Cond x))
+      (cond_answer (map-Cond Cond Asked server_answer x) s c) (server_answer (roll-Cond x) s c) (cond_truth (map-Cond Cond Test truth x) s c) (truth (roll-Cond x) s c)
+      (sym (fold-roll-Cond (List Mention) cond_mentions x))
+      (ap (λ (f : Asked). f s c) (sym (fold-roll-Cond Asked cond_answer x)))
+      (ap (λ (f : Test). f s c) (sym (fold-roll-Cond Test cond_truth x))) p)
+
+  pub sound : (k : Cond) → IsSound k
+  sound = ind-Cond IsSound (λ x y is. subst (λ z. IsSound (roll-Cond z)) is (rolled (layer y) (layer_sound y)))
+
+  agreeing : (say : Mention → Absence) (ms : List Mention) (a : Answer) (t : Bool) → Sound s say ms a t → list_any (λ (m : Mention). (say m).overlooked_when_true) ms ≡ false → t ≡ is_true a
+  agreeing say ms (Some b) t p h = p.1 b refl
+  agreeing say ms None false p h = refl
+  agreeing say ms None true p h =
+      sym (any_mono (misses s say true) (λ m. (say m).overlooked_when_true) (λ m k. and_right (not (is_there s m)) ((say m).overlooked_when_true) k) ms (p.2 refl)) ∙ h
+
+-- without a warning both take the same branch
+pub agrees : (k : Cond) (s : State) (c : Code) → warns_of_absence k ≡ false → truth k s c ≡ server_truth k s c
+agrees k s c h = agreeing s c (λ m. said_of m k) (mentions k) (server_answer k s c) (truth k s c) (sound s c k) h

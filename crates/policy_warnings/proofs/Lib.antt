@@ -1,0 +1,6 @@
+pub mod Agreeing
+pub mod Answered
+pub mod Blocks
+pub mod Layers
+pub mod Negations
+pub mod Sound

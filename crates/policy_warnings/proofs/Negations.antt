@@ -1,0 +1,66 @@
+-- A comparison under `!`.
+use Rattle.std.proofs.Common.{◌≡◌, Bool, true, false, not, ◌&&◌, Some, None, refl, sym, ap, ◌∙◌, cond}
+use Rattle.std.specs.List.{list_all, list_any}
+use Rattle.std.specs.Option.{option_map}
+use Rattle.avp_lists.specs.States.{empty_state, list_of}
+use Rattle.avp_lists.specs.declared.lists.List.{List as Name}
+use Rattle.avp_lists.specs.declared.lists.List.TheVariants.{Request, Reply, Control}
+use Rattle.avp_lists.specs.declared.lists.State.{State}
+use Rattle.avp_lists.specs.declared.pairs.AttrId.{AttrId}
+use Rattle.avp_lists.specs.declared.tags.Selection.{Selection}
+use Rattle.avp_lists.specs.Selections.{has_selected}
+use Rattle.avp_unlang.specs.Truth.{is_met, truth}
+use Rattle.avp_unlang.specs.declared.codes.Code.{Code}
+use Rattle.avp_unlang.specs.declared.tree.Comparison.{Comparison}
+use Rattle.avp_unlang.specs.declared.tree.Cond.{Cond}
+use Rattle.avp_unlang.specs.declared.tree.Cond.TheFolds.{fold-roll-Cond}
+use Rattle.avp_unlang.specs.declared.tree.Cond.TheOpen as layer
+use Rattle.avp_unlang.specs.declared.tree.Cond.TheVariants.{Not, Compare, rolls-Not, rolls-Compare}
+use Rattle.avp_unlang.proofs.Truths.{truth_compare, truth_not}
+use Rattle.policy_warnings.specs.Absences.{any_implies, negated, negated_comparison, said_of, warns_of_absence}
+use Rattle.policy_warnings.specs.Answers.{Asked, answer_compared, cond_answer, is_true, server_answer, server_truth}
+use Rattle.policy_warnings.specs.Mentions.{comparand_mentions, comparison_mentions, implies, is_there, whole}
+use Rattle.policy_warnings.specs.declared.absences.Absence.{Absence}
+use Rattle.policy_warnings.specs.declared.mentions.Mention.{Mention}
+use Rattle.policy_warnings.proofs.Agreeing.{met_there}
+use Rattle.policy_warnings.proofs.Answered.{and_left, implies_same, or_left}
+use Rattle.policy_warnings.proofs.Layers.{absence_compare, absence_not, mentions_compare, mentions_not}
+
+answer_not : (d : Cond) (s : State) (c : Code) → server_answer (Not d) s c ≡ option_map not (server_answer d s c)
+unfolding server_answer
+answer_not d s c = ap (λ k. server_answer k s c) (sym (rolls-Not d)) ∙ ap (λ (f : Asked). f s c) (fold-roll-Cond Asked cond_answer (layer.Not d))
+
+answer_compare : (k : Comparison) (s : State) (c : Code) → server_answer (Compare k) s c ≡ answer_compared (comparison_mentions k) s (is_met k s)
+unfolding server_answer
+answer_compare k s c = ap (λ x. server_answer x s c) (sym (rolls-Compare k)) ∙ ap (λ (f : Asked). f s c) (fold-roll-Cond Asked cond_answer (layer.Compare k))
+
+overlooks_implied : (k : Comparison) (m : Mention) → (said_of m (negated_comparison k)).overlooked_when_true ≡ any_implies (comparison_mentions k) m
+overlooks_implied k m = ap (λ (a : Absence). a.overlooked_when_true) (absence_not m (Compare k) ∙ ap negated (absence_compare m k))
+
+pub warned : (k : Comparison) → warns_of_absence (negated_comparison k) ≡ true
+warned k =
+    let m = whole k.list k.id in
+    let missed = λ (x : Mention). (said_of x (negated_comparison k)).overlooked_when_true in
+    ap (λ ms. list_any missed ms) (mentions_not (Compare k) ∙ mentions_compare k)
+    ∙ or_left (missed m) (list_any missed (comparand_mentions k.comparand))
+    (overlooks_implied k m ∙ or_left (implies m m) (any_implies (comparand_mentions k.comparand) m) (implies_same m))
+
+unmet : (met there others : Bool) → (met ≡ true → (there && others) ≡ true) → there ≡ false → met ≡ false
+unmet true there others f e = sym (and_left there others (f refl)) ∙ e
+unmet false there others f e = refl
+
+pub differ : (k : Comparison) (s : State) (c : Code) → is_there s (whole k.list k.id) ≡ false → (truth (negated_comparison k) s c ≡ true) × (server_truth (negated_comparison k) s c ≡ false)
+differ k s c absent =
+    let others = list_all (is_there s) (comparand_mentions k.comparand) in (
+      truth_not (Compare k) s c ∙ ap not (truth_compare k s c ∙ unmet (is_met k s) (is_there s (whole k.list k.id)) others (met_there k s) absent),
+      ap is_true (answer_not (Compare k) s c ∙ ap (option_map not) (answer_compare k s c
+          ∙ ap (λ b. cond (b && others) (Some (is_met k s)) None) absent)),
+    )
+
+none_selected : (list : Name) (selection : Selection) (id : AttrId) → has_selected selection id (list_of list empty_state) ≡ false
+none_selected Request selection id = refl
+none_selected Reply selection id = refl
+none_selected Control selection id = refl
+
+pub lacks : (m : Mention) → is_there empty_state m ≡ false
+lacks m = none_selected m.list m.selection m.id

@@ -1,0 +1,71 @@
+-- What a server makes of a condition.
+use Rattle.std.specs.Prelude.{Bool, true, false, not, if◌then◌else◌, List, [], ◌∷◌, Option, Some, None}
+use Rattle.std.specs.List.{list_all}
+use Rattle.std.specs.Option.{option_map}
+use Rattle.avp_lists.specs.Instances.{has_instance}
+use Rattle.avp_lists.specs.Selections.{has_selected}
+use Rattle.avp_lists.specs.States.{list_of}
+use Rattle.avp_lists.specs.declared.lists.State.{State}
+use Rattle.avp_unlang.specs.Truth.{is_met, is_met_by_meaning, same_code}
+use Rattle.avp_unlang.specs.declared.codes.Code.{Code}
+use Rattle.avp_unlang.specs.declared.tree.Cond.{Cond}
+use Rattle.avp_unlang.specs.declared.tree.Cond.TheFolds.{fold-Cond}
+use Rattle.avp_unlang.specs.declared.tree.Cond.TheOpen.{Cond-F, Any, All, Not, Last, Present, PresentSelected, Compare, CompareMeant}
+use Rattle.policy_warnings.specs.Mentions.{comparison_mentions, is_there, meant_comparison_mentions}
+use Rattle.policy_warnings.specs.declared.mentions.Mention.{Mention}
+
+-- true or false; nothing where a comparison with an absent attribute was met, which ends the whole condition
+abbrev pub Answer : Type 0
+Answer = Option Bool
+
+-- `&&`: the next one is asked where the first is true
+abbrev pub answer_both : Answer → Answer → Answer
+answer_both None next = None
+answer_both (Some false) next = Some false
+answer_both (Some true) next = next
+
+-- `||`: the next one is asked where the first is false
+abbrev pub answer_either : Answer → Answer → Answer
+answer_either None next = None
+answer_either (Some true) next = Some true
+answer_either (Some false) next = next
+
+-- what a state and a code are answered
+abbrev pub Asked : Type 0
+Asked = State → Code → Answer
+
+abbrev pub answer_all : List Asked → Asked
+answer_all [] s c = Some true
+answer_all (first ∷ others) s c = answer_both (first s c) (answer_all others s c)
+
+abbrev pub answer_any : List Asked → Asked
+answer_any [] s c = Some false
+answer_any (first ∷ others) s c = answer_either (first s c) (answer_any others s c)
+
+-- the truth of a comparison, where all that it looks at is there
+abbrev pub answer_compared : List Mention → State → Bool → Answer
+answer_compared compared s met = if list_all (is_there s) compared then Some met else None
+
+abbrev pub cond_answer : Cond-F Asked → Asked
+cond_answer (Any parts) s c = answer_any parts s c
+cond_answer (All parts) s c = answer_all parts s c
+cond_answer (Not part) s c = option_map not (part s c)
+cond_answer (Last word) s c = Some (same_code c word)
+cond_answer (Present list id) s c = Some (has_instance id (list_of list s))
+cond_answer (PresentSelected list id selection) s c =
+    Some (has_selected selection id (list_of list s))
+cond_answer (Compare k) s c = answer_compared (comparison_mentions k) s (is_met k s)
+cond_answer (CompareMeant k) s c =
+    answer_compared (meant_comparison_mentions k) s (is_met_by_meaning k s)
+
+unfoldable pub server_answer : Cond → Asked
+server_answer = fold-Cond Asked cond_answer
+
+-- no answer counts as false
+abbrev pub is_true : Answer → Bool
+is_true None = false
+is_true (Some value) = value
+
+-- whether a server takes the branch of a condition
+abbrev pub server_truth : Cond → State → Code → Bool
+server_truth cond s c = is_true (server_answer cond s c)

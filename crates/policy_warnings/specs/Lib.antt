@@ -1,0 +1,4 @@
+pub mod Absences
+pub mod Answers
+pub mod Mentions
+pub mod Warnings

@@ -1,0 +1,7 @@
+//! Which policies are warned of.
+#![tactic(auto)]
+
+#[cfg(test)]
+mod conditions;
+#[cfg(test)]
+mod policies;
