@@ -1,5 +1,6 @@
 """The help after a fault's line: each folder here has files, a command, and in `wanted` the texts that a terminal has to
-show. In a pipe the fault's line stays alone."""
+show. In a pipe the fault's line stays alone. The folders of `warned/` have policies that are read, and in `wanted` all
+that a terminal shows of their warnings."""
 import glob
 import os
 import pty
@@ -91,8 +92,26 @@ def faults_of(program: Path, folder: Path) -> List[str]:
     return wrong + ([f"control characters {controls}"] if controls else [])
 
 
+def warned_otherwise(program: Path, folder: Path) -> List[str]:
+    """What is wrong with the warnings of a folder's command."""
+    words = words_of(folder)
+    wanted = (folder / "wanted").read_bytes()
+    status, output, _ = in_pipe(program, folder, words, None)
+    wrong = [f"status {status}"] if status else []
+    for run, wish, errors in [
+            (on_terminal, None, wanted), (in_pipe, "always", wanted),
+            (in_pipe, None, b""), (in_pipe, "never", b""), (on_terminal, "never", b"")]:
+        found = run(program, folder, words, wish)
+        if found != (status, output, errors):
+            wrong.append(f"{run.__name__} with {wish}: {found!r}, not {(status, output, errors)!r}")
+    return wrong
+
+
 def check(subject: Subject, report: Report) -> None:
     folders = sorted(path.parent for path in HERE.glob("*/wanted"))
     found = on_all(lambda folder: faults_of(subject.program, folder), folders)
     for folder, wrong in zip(folders, found):
         report.check(f"help: {folder.name}", wrong)
+    warned = sorted(path.parent for path in HERE.glob("warned/*/wanted"))
+    for folder, wrong in zip(warned, on_all(lambda folder: warned_otherwise(subject.program, folder), warned)):
+        report.check(f"help: warned {folder.name}", wrong)

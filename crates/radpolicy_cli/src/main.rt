@@ -10,7 +10,7 @@ use avp_dict::FileSet;
 use radpolicy::{Fault, Job, Plan, WriteOutput, answer, help_text, read_words, status};
 use radpolicy_common::{Unread, job_of, refuse, refuse_early, refuse_unread};
 use radpolicy_help::{
-    Sources, explain, explain_unread, explain_words, is_help_wanted, print_with_help,
+    Sources, explain, explain_unread, explain_words, is_help_wanted, print_with_help, warnings_text,
 };
 use std::alloc::AllocError;
 use std::process::ExitCode;
@@ -85,12 +85,25 @@ fn show_help(rt: &HostRuntime, words: &[String]) -> u8 {
     }
 }
 
+// Prints what the job's policy is warned of, if that is wanted and there is memory for it.
+fn warn(rt: &HostRuntime, plan: &Plan, job: &Job) {
+    if job.policy.is_some()
+        && is_help_wanted(rt)
+        && let Ok(text) = warnings_text(rt.alloc(), &Sources::of_job(plan, job))
+    {
+        let _ = rt.stderr().write_all(&text);
+    }
+}
+
 fn run_job(rt: &HostRuntime, plan: &Plan, job: &Job) -> u8
     requires { IsSound (asked_by_job job.now) }
 {
     let mut out = WriteOutput::new(rt.stdout());
     match answer(rt.alloc(), job, &mut out) {
-        Ok(_) => 0,
+        Ok(_) => {
+            warn(rt, plan, job);
+            0
+        }
         Err(fault) => refuse_job(rt, &fault, plan, job),
     }
 }

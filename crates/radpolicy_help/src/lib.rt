@@ -1,8 +1,10 @@
 //! Help for a person who reads a fault: the place in the file, what was found there, and what to do.
 //!
-//! [`explain`] makes the help for a fault, and [`print_with_help`] prints it after the fault's line.
+//! [`explain`] makes the help for a fault, and [`print_with_help`] prints it after the fault's line. [`warnings_text`]
+//! says what a policy that is read is warned of.
 #![tactic(auto)]
 
+mod allowances;
 mod command_lines;
 mod contexts;
 mod dictionaries;
@@ -19,6 +21,7 @@ mod requests;
 mod sources;
 mod texts;
 mod values;
+mod warnings;
 mod wishes;
 mod written_pairs;
 
@@ -27,4 +30,5 @@ pub use explanations::explain;
 pub use pointing::{Pointed, point_at};
 pub use printing::print_with_help;
 pub use sources::{Source, Sources};
+pub use warnings::warnings_text;
 pub use wishes::is_help_wanted;

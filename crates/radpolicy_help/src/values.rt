@@ -127,7 +127,13 @@ pub(crate) fn push_not_value(
     push_all(help, &["found ", value, "; a value of ", name, " is "])?;
     match &sources.dictionary(alloc) {
         Some(dictionary) => match typing_of(dictionary, name) {
-            Some((kind, form)) => push_form(help, profile, kind, form)?,
+            Some((kind, form)) => {
+                push_form(help, profile, kind, form)?;
+                // Names of numbers beside tags are values of the wider profile alone.
+                if matches!((profile, form), (Profile::Plain, Form::TaggedInteger)) {
+                    return Ok(());
+                }
+            }
             None => push_all(help, &["0x and an even number of hexadecimal digits\n"])?,
         },
         None => push_all(help, &["of another form\n"])?,

@@ -3,3 +3,5 @@
 
 #[cfg(test)]
 mod helps;
+#[cfg(test)]
+mod warned;

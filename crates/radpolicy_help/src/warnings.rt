@@ -1,0 +1,169 @@
+//! What a policy that is read is warned of.
+
+ghost use Rattle.std.specs.Prelude.{◌≡◌, true, IfOk};
+ghost use Rattle.radpolicy_common.specs.VisibleText.{all_visible};
+ghost use Rattle.radpolicy_common.specs.declared.terminals.LineBreaks.TheVariants.{Kept};
+
+use crate::allowances::{Allowance, allowances, unread_profile};
+use crate::sources::Sources;
+use crate::texts::{push_all, push_number};
+use avp_forms::{Profile, profile_of};
+use avp_unlang::read_policy;
+use policy_warnings::{Reason, Warning, warnings_of};
+use radpolicy_common::{LineBreaks, visible_text};
+use std::alloc::{AllocError, Global};
+
+/// What is said of a warning.
+#[derive(Clone, Copy)]
+struct Advice {
+    /// The name by which a comment silences it.
+    name: &'static str,
+    /// What the policy has.
+    found: &'static str,
+    /// What a server does.
+    server: &'static str,
+    /// What to write.
+    hint: &'static str,
+}
+
+const ABSENT_COMPARISON: Advice = Advice {
+    name: "absent-comparison",
+    found: "a comparison with an attribute that may be absent",
+    server: "where it is absent a server takes the whole condition as false, and here the rest goes on",
+    hint: "ask for the attribute first, as in &Name && &Name != 1",
+};
+
+const EMPTY_UPDATE: Advice = Advice {
+    name: "empty-update",
+    found: "an update without lines",
+    server: "a server refuses the policy",
+    hint: "take the update out",
+};
+
+const FILTER_IN_UPDATE: Advice = Advice {
+    name: "filter-in-update",
+    found: "== in an update",
+    server: "a server sorts the whole list, and removes no attribute that came in the packet",
+    hint: "write -= to remove a value, and := to set one",
+};
+
+const UNDONE_LINE: Advice = Advice {
+    name: "undone-line",
+    found: "the next line sets the attribute anew",
+    server: "what this line sets is lost, on a server too",
+    hint: "take one of the lines out, or write += to add a value",
+};
+
+const TRANSACTION: Advice = Advice {
+    name: "transaction",
+    found: "a transaction",
+    server: "a server of version 3 refuses the word",
+    hint: "write the statements without it in what goes to such a server",
+};
+
+const UNUSED_ALLOWANCE: Advice = Advice {
+    name: "unused-allow",
+    found: "the comment silences no warning",
+    server: "at the end of a line it is for that line, and alone on a line for the next",
+    hint: "take it out, or write the name that a warning shows in brackets",
+};
+
+const UNREAD_PROFILE: Advice = Advice {
+    name: "unread-profile",
+    found: "the comment does not choose a profile",
+    server: "the policy is read without what the wider profile adds",
+    hint: "write # profile: wider in the first line",
+};
+
+fn advice_on(reason: Reason) -> Advice {
+    match reason {
+        Reason::AbsentComparison => ABSENT_COMPARISON,
+        Reason::EmptyUpdate => EMPTY_UPDATE,
+        Reason::FilterInUpdate => FILTER_IN_UPDATE,
+        Reason::UndoneLine => UNDONE_LINE,
+        Reason::TransactionBlock => TRANSACTION,
+    }
+}
+
+fn silences(allowance: &Allowance<'_>, warning: &Warning) -> bool {
+    allowance.covered == warning.line && allowance.name == advice_on(warning.reason).name
+}
+
+// `PATH:LINE: warning: ..`, what a server does, and what to write.
+fn push_warning(
+    text: &mut Vec<u8>,
+    path: &str,
+    line: usize,
+    advice: Advice,
+) -> Result<(), AllocError> {
+    push_all(text, &[path, ":"])?;
+    push_number(text, line)?;
+    push_all(
+        text,
+        &[": warning: ", advice.found, " [", advice.name, "]\n"],
+    )?;
+    push_all(text, &[advice.server, "\n", advice.hint, "\n"])
+}
+
+// The warnings that no comment silences.
+fn push_warnings(
+    text: &mut Vec<u8>,
+    path: &str,
+    warnings: &[Warning],
+    allowances: &[Allowance<'_>],
+) -> Result<(), AllocError> {
+    for warning in warnings {
+        if !allowances
+            .iter()
+            .any(|allowance| silences(allowance, warning))
+        {
+            push_warning(text, path, warning.line, advice_on(warning.reason))?;
+        }
+    }
+    Ok(())
+}
+
+// The comments that silence nothing.
+fn push_unused(
+    text: &mut Vec<u8>,
+    path: &str,
+    warnings: &[Warning],
+    allowances: &[Allowance<'_>],
+) -> Result<(), AllocError> {
+    for allowance in allowances {
+        if !warnings.iter().any(|warning| silences(allowance, warning)) {
+            push_warning(text, path, allowance.line, UNUSED_ALLOWANCE)?;
+        }
+    }
+    Ok(())
+}
+
+fn draft(alloc: Global, sources: &Sources<'_>) -> Result<Vec<u8>, AllocError> {
+    let mut text = Vec::new(alloc);
+    let Some(dictionary) = sources.dictionary(alloc) else {
+        return Ok(text);
+    };
+    let source = sources.policy;
+    let policy = match read_policy(alloc, &dictionary, source.text) {
+        Ok(policy) => policy,
+        Err(_) => return Ok(text),
+    };
+    let warnings = warnings_of(alloc, policy.statements().as_slice())?;
+    let allowances = allowances(alloc, source.text)?;
+    push_warnings(&mut text, source.path, &warnings, &allowances)?;
+    push_unused(&mut text, source.path, &warnings, &allowances)?;
+    if profile_of(source.text) == Profile::Plain
+        && let Some(line) = unread_profile(source.text)
+    {
+        push_warning(&mut text, source.path, line, UNREAD_PROFILE)?;
+    }
+    Ok(text)
+}
+
+/// What a job's policy is warned of, where it is one and the dictionary is read: of each warning its line, what a server
+/// does and what to write. It has no control character but line ends, whatever the files hold.
+pub fn warnings_text(alloc: Global, sources: &Sources<'_>) -> Result<Vec<u8>, AllocError>
+    ensures visible { IfOk result (λ text. all_visible Kept text.items ≡ true) }
+{
+    visible_text(alloc, &draft(alloc, sources)?, LineBreaks::Kept)
+}
