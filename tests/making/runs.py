@@ -49,6 +49,11 @@ def builds(copy: Copy, first: str = "avp_lists") -> List[str]:
     return [f"build {crate}" for crate in copy.crates(CRATE) if first in copy.crates(crate)]
 
 
+def place_of(copy: Copy, crate: str) -> str:
+    """How a line begins that tells which of the crates is proved, as `4 of `."""
+    return f"\n{copy.crates(CRATE).index(crate) + 1} of "
+
+
 def check_shown(copy: Copy, report: Report) -> None:
     """From nothing, again, with another policy, and after a change of a source."""
     printed = give_policy(copy, 601)
@@ -63,7 +68,7 @@ def check_shown(copy: Copy, report: Report) -> None:
     os.utime(copy.root / "crates/avp_step/src/lib.rt")
     said = copy.make("run").stdout
     wanted = [f"try {CRATE}", *builds(copy, "avp_step")]
-    wrong = faults_of_both(said, printed, "\n5 of ") + faults_of_calls(copy, wanted)
+    wrong = faults_of_both(said, printed, place_of(copy, "avp_step")) + faults_of_calls(copy, wanted)
     report.check("make run: after a change of a source", wrong)
 
 
@@ -81,19 +86,20 @@ def check_stopped(copy: Copy, report: Report) -> None:
         wrong = [] if ended.returncode and PROVED not in ended.stdout else [f"{ended.returncode}: {ended.stdout!r}"]
         wrong += [] if copy.calls()[-1] == "build avp_packet" else [f"it went on with {copy.calls()[-1]}"]
         said = copy.make("run").stdout
-        wanted = [f"try {CRATE}", *(call for call in builds(copy) if call not in ("build avp_lists", "build avp_dict"))]
-        wrong += faults_of_both(said, printed, "\n3 of ") + faults_of_calls(copy, wanted)
+        left = builds(copy)[builds(copy).index("build avp_packet") :]
+        wrong += faults_of_both(said, printed, place_of(copy, "avp_packet"))
+        wrong += faults_of_calls(copy, [f"try {CRATE}", *left])
         report.check(f"make run: after {name}", wrong)
     os.utime(copy.root / "crates/radpolicy/src/lib.rt")
     said = copy.make("run", RT_KILLED="build radpolicy").stdout
-    wrong = faults_of_both(said, printed, "\n6 of ")
+    wrong = faults_of_both(said, printed, place_of(copy, "radpolicy"))
     wrong += [] if copy.calls().count("build radpolicy") == 2 else [f"the kit was asked for {copy.calls()}"]
     report.check("make run: with too little memory for several jobs", wrong)
 
 
 def check_side_by_side(copy: Copy, report: Report) -> None:
     """Two crates of which neither stands on the other, proved at the same time; one that fails, beside one that ends."""
-    pair = ["build avp_packet", "build avp_unlang"]
+    pair = ["build avp_packet", "build avp_forms"]
     printed = give_policy(copy, 605)
     said = copy.make("run", AT_ONCE="2", RT_TOGETHER=",".join(pair)).stdout
     called = copy.calls()
