@@ -69,11 +69,20 @@ pub(crate) fn max_of(kind: Kind) -> Option<u64>
     }
 }
 
-fn max_of_id(attributes: &Attributes, id: AttrId) -> Option<u64>
-    ensures { result ≡ option_and_then max_of_typing (typing_of_id id attributes.now) }
+fn max_of_typing(typing: Option<Typing>) -> Option<u64>
+    ensures { result ≡ option_and_then max_of_typing typing }
 {
-    let typing = attributes.typing_of_id(id)?;
-    max_of(typing.kind)
+    match typing {
+        Some(typing) => max_of(typing.kind),
+        None => None,
+    }
+}
+
+// How the values of an id are read, where there is one.
+fn typing_for(attributes: &Attributes, id: Option<AttrId>) -> Option<Typing>
+    ensures { result ≡ option_and_then (λ i. typing_of_id i attributes.now) id }
+{
+    attributes.typing_of_id(id?)
 }
 
 fn is_of_other_number(number: u64, found: Option<u64>) -> bool
@@ -124,14 +133,17 @@ fn value_of(
     name: &[u8],
     number: u64,
     id: Option<AttrId>,
+    typing: Option<Typing>,
 ) -> Result<Option<ValueLine>, DictKind>
+    requires { typing ≡ option_and_then
+        (λ i. typing_of_id i (contents_view contents.now).attributes) id }
     ensures value { Meets is_memory_kind result (value_of skipped.now
         (contents_view contents.now) attribute.now name.now number id) }
     ensures short { IfOk result (λ value. IfSome value (λ v. length v.name ≤ max_name)) }
 {
     match id {
         Some(id) => {
-            let most = max_of_id(&contents.attributes, id);
+            let most = max_of_typing(typing);
             value_up_to(alloc, &contents.values, id, name, number, most)
         }
         None => {
@@ -180,19 +192,16 @@ fn tagged_value(
     name: &[u8],
     number: u64,
     id: Option<AttrId>,
+    typing: Option<Typing>,
 ) -> Result<Option<ValueLine>, AllocError>
+    requires { typing ≡ option_and_then
+        (λ i. typing_of_id i (contents_view contents.now).attributes) id }
     ensures value { IfOk result (λ value. value
         ≡ tagged_value (contents_view contents.now) name.now number id) }
     ensures short { IfOk result (λ value. IfSome value (λ v. length v.name ≤ max_name)) }
 {
     match id {
-        Some(id) => tagged_line(
-            alloc,
-            id,
-            name,
-            number,
-            contents.attributes.typing_of_id(id),
-        ),
+        Some(id) => tagged_line(alloc, id, name, number, typing),
         None => Ok(None),
     }
 }
@@ -267,9 +276,10 @@ impl Contents {
     {
         if let Meaning::Value(attribute, name, number) = reading.meaning {
             let id = self.attributes.id_named(attribute);
-            match value_of(alloc, skipped, self, attribute, name, number, id) {
+            let typing = typing_for(&self.attributes, id);
+            match value_of(alloc, skipped, self, attribute, name, number, id, typing) {
                 Ok(value) => {
-                    let tagged = tagged_value(alloc, self, name, number, id)?;
+                    let tagged = tagged_value(alloc, self, name, number, id, typing)?;
                     self.add_value(reading, value)?;
                     self.add_tagged(tagged)?;
                 }

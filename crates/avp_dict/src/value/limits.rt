@@ -1,8 +1,8 @@
 //! How long values may be, and which pairs fit a dictionary.
 
-ghost use Rattle.std.specs.Prelude.{◌≡◌, length};
+ghost use Rattle.std.specs.Prelude.{◌≡◌, length, min, if◌then◌else◌};
 ghost use Rattle.avp_dict.specs.Limits.{extended_room, fits, greatest_length, is_known, is_of_kind, is_typed, is_value_within, is_within, max_number, max_octets, vendor_room};
-ghost use Rattle.avp_dict.specs.Octets.{ends_in_nul, number_octets, octets_of};
+ghost use Rattle.avp_dict.specs.Octets.{ends_in_nul, is_hidden, kind_of, max_hidden_octets, number_octets, octets_of};
 
 use crate::attribute_numbers::{MAX_PLAIN, is_extended_type};
 use crate::dictionaries::Dictionary;
@@ -91,6 +91,17 @@ fn count_of_octets(kind: Option<Kind>, value: &Value) -> usize
     }
 }
 
+// The most octets of a value where those of its attribute are so many.
+fn length_with(most: usize, is_hidden: bool) -> usize
+    ensures { result ≡ if is_hidden then min max_hidden_octets most else most }
+{
+    if is_hidden {
+        most.min(MAX_HIDDEN_OCTETS)
+    } else {
+        most
+    }
+}
+
 // Whether a value's last octet is NUL.
 #[tactic(auto, using(crate::proofs::NumberOctets::number_ends_in_nul))]
 fn value_ends_in_nul(kind: Option<Kind>, value: &Value) -> bool
@@ -143,12 +154,7 @@ impl Dictionary {
     pub fn greatest_length(&self, id: AttrId) -> usize
         ensures { result ≡ greatest_length id self.now }
     {
-        let most = self.max_octets(id);
-        if self.is_hidden(id) {
-            most.min(MAX_HIDDEN_OCTETS)
-        } else {
-            most
-        }
+        length_with(self.max_octets(id), self.is_hidden(id))
     }
 
     #[tactic(auto, unfolding(crate::specs::Limits::is_known))]
@@ -175,14 +181,25 @@ impl Dictionary {
         }
     }
 
+    // The type of an id's values, and whether they are hidden.
+    fn kind_and_hiding(&self, id: AttrId) -> (Option<Kind>, bool)
+        ensures kind { result.0 ≡ kind_of id self.now }
+        ensures hidden { result.1 ≡ is_hidden id self.now }
+    {
+        match self.by_id(id) {
+            Some(entry) => (Some(entry.kind), entry.hidden),
+            None => (None, false),
+        }
+    }
+
     // Whether a value that isn't raw is as long as its id allows, and doesn't end in NUL where it is hidden.
-    #[tactic(auto, unfolding(crate::specs::Octets::octets))]
+    #[tactic(auto, unfolding(crate::specs::Octets::octets, crate::specs::Limits::greatest_length))]
     fn is_value_within(&self, id: AttrId, value: &Value) -> bool
         ensures { result ≡ is_value_within id value.now self.now }
     {
-        let kind = self.kind(id);
-        count_of_octets(kind, value) <= self.greatest_length(id)
-            && !(self.is_hidden(id) && value_ends_in_nul(kind, value))
+        let (kind, is_hidden) = self.kind_and_hiding(id);
+        count_of_octets(kind, value) <= length_with(self.max_octets(id), is_hidden)
+            && !(is_hidden && value_ends_in_nul(kind, value))
     }
 
     /// Whether a value is as long as its id allows.
