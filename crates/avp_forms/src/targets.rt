@@ -75,6 +75,7 @@ fn tagged_of(dictionary: &Dictionary, name: &[u8]) -> Option<Target>
 /// assert_eq!(rt; plain, None);
 /// ```
 #[tactic(auto, unfolding(crate::specs::Targets::target_of))]
+#[inline]
 pub fn target_of(dictionary: &Dictionary, profile: Profile, name: &[u8]) -> Option<Target>
     ensures { result ≡ target_of profile dictionary.now name.now }
 {

@@ -97,6 +97,7 @@ fn wider_value(
 /// assert!(rt; value == Value::Bytes(octets));
 /// ```
 #[tactic(auto, unfolding(crate::specs::Written::value_written))]
+#[inline]
 pub fn value_written(
     alloc: Global,
     dictionary: &Dictionary,

@@ -117,6 +117,7 @@ fn comparand_of(
 }
 
 // The comparison of a reference by the type of its values: what follows the operator.
+#[inline(always)]
 fn related_by_type<'a>(
     alloc: Global,
     profile: Profile,
@@ -143,6 +144,7 @@ fn related_by_type<'a>(
 }
 
 // Whether the values of an attribute are compared by what they mean. Of a plain policy no type is looked up.
+#[inline(always)]
 fn is_by_meaning(profile: Profile, dictionary: &Dictionary, id: AttrId) -> bool
     ensures { result ≡ is_by_meaning profile (type_of dictionary.now id) }
 {
@@ -153,6 +155,7 @@ fn is_by_meaning(profile: Profile, dictionary: &Dictionary, id: AttrId) -> bool
 }
 
 // The comparison of a reference: what follows the operator.
+#[inline(always)]
 fn related<'a>(
     alloc: Global,
     profile: Profile,
@@ -173,6 +176,7 @@ fn related<'a>(
 }
 
 // A reference by itself.
+#[inline(always)]
 fn present_of(dictionary: &Dictionary, found: Reference) -> Cond
     ensures { result ≡ present_of dictionary.now found found.target.tag }
 {

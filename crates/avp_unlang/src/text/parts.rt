@@ -100,6 +100,7 @@ fn instance<'a>(
 }
 
 // The part for a value that is put in.
+#[inline(always)]
 fn part_of(profile: Profile, dictionary: &Dictionary, found: Reference) -> Part
     ensures { result ≡ part_of profile dictionary.now found }
 {

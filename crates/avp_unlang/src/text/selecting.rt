@@ -49,6 +49,7 @@ fn selected_for(op: Op, tagging: Tagging, tag: Option<u8>) -> Selection
 
 /// The instances that an update line edits.
 #[tactic(auto, unfolding(crate::specs::Selecting::line_selection))]
+#[inline(always)]
 pub(crate) fn line_selection(
     profile: Profile,
     dictionary: &Dictionary,

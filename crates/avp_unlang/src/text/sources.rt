@@ -30,6 +30,7 @@ fn whole_text(parts: &Parts) -> Option<&[u8]>
 }
 
 // The source of parts among which something is put in.
+#[inline(always)]
 fn text_source(profile: Profile, target: Target, parts: Parts) -> Source
     ensures { result ≡ text_source profile target parts }
 {
@@ -94,6 +95,7 @@ fn shared_form(dictionary: &Dictionary, id: AttrId, other: AttrId) -> Form
 }
 
 // The source of a reference.
+#[inline(always)]
 fn instance_source(
     profile: Profile,
     dictionary: &Dictionary,
