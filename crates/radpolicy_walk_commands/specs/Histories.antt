@@ -17,13 +17,22 @@ are_same [] [] = true
 are_same (p ∷ ps) (q ∷ qs) = pair_eq p q && are_same ps qs
 are_same _ _ = false
 
-abbrev pub has_same : AttrId → List Pair → List Pair → Bool
-has_same id before after = are_same (instances id before) (instances id after)
+-- the lists with nothing but the instances of an attribute
+abbrev pub instances_of : AttrId → State → State
+instances_of id lists = record {
+  request = instances id lists.request;
+  reply = instances id lists.reply;
+  control = instances id lists.control;
+}
+
+-- one of the three lists has other pairs, or has them in another order
+abbrev pub differ : State → State → Bool
+differ before after = not (are_same before.request after.request
+    && are_same before.reply after.reply && are_same before.control after.control)
 
 -- in one of the three lists the instances are other ones, or in another order
 abbrev pub is_changed : AttrId → State → State → Bool
-is_changed id before after = not (has_same id before.request after.request
-    && has_same id before.reply after.reply && has_same id before.control after.control)
+is_changed id before after = differ (instances_of id before) (instances_of id after)
 
 -- ---- positions
 

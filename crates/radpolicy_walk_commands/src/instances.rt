@@ -1,59 +1,66 @@
 //! The instances of an attribute in the lists, and where they changed.
 
-ghost use Rattle.std.specs.Prelude.{◌≡◌, ◌<◌, IfOk, OnOk};
+ghost use Rattle.std.specs.Prelude.{◌≡◌, ◌<◌, ◌++◌, ◌∷◌, [], IfOk, OnOk};
+ghost use Rattle.avp_lists.specs.History.{present};
 ghost use Rattle.avp_lists.specs.Instances.{instances};
+ghost use Rattle.avp_lists.specs.States.{list_of};
 ghost use Rattle.avp_unlang.specs.Resolutions.{StateFits};
 ghost use Rattle.radpolicy_common.specs.ChangeTexts.{AllFit};
-ghost use Rattle.radpolicy_walk_commands.specs.Histories.{are_same, changed_positions, changes_at, is_changed, may_change};
+ghost use Rattle.radpolicy_walk_commands.specs.Histories.{are_same, changed_positions, changes_at, differ, instances_of, may_change};
 
 use crate::commands::Command;
 use crate::sessions::Session;
 use crate::showings::{change_text, list_text, push_step};
 use crate::sources::SourceLines;
 use avp_dict::Dictionary;
-use avp_lists::{AttrId, Pair, Pairs, State, copy_pair};
+use avp_lists::{AttrId, List, Pair, Pairs, State, Store, copy_pair};
 use avp_step::Label;
 use radpolicy_common::SecretValues;
 use std::alloc::{AllocError, Global};
 
-// Copies of the instances in a list.
-fn instances(alloc: Global, id: AttrId, pairs: &[Pair]) -> Result<Pairs, AllocError>
-    ensures { IfOk result (λ found. found ≡ instances id pairs.now) }
+// Adds a copy of a pair, if it is an instance.
+fn push_instance(found: &mut Vec<Pair>, id: AttrId, pair: &Pair) -> Result<(), AllocError>
+    ensures { OnOk result (found.new.items ≡ found.old.items ++ instances id (pair.now ∷ [])) }
+{
+    if pair.id.equals(id) {
+        let alloc = *found.allocator();
+        found.push(copy_pair(alloc, pair)?)?;
+    }
+    Ok(())
+}
+
+// Copies of the instances in a present list of a store. The other pairs are passed over where they are.
+fn instances<S: Store>(
+    alloc: Global,
+    id: AttrId,
+    store: &S,
+    list: List,
+) -> Result<Pairs, AllocError>
+    ensures { IfOk result (λ found. found
+        ≡ instances id (list_of list (present (S.history store.now)))) }
 {
     let mut found = Vec::new(alloc);
-    for pair in pairs {
-        if pair.id.equals(id) {
-            found.push(copy_pair(alloc, pair)?)?;
+    for at in 0..store.count(list) {
+        if let Some(pair) = store.pair(list, at) {
+            push_instance(&mut found, id, pair)?;
         }
     }
     Ok(Pairs::from_vec(found))
 }
 
-// The lists with nothing but the instances.
-fn instances_of(alloc: Global, id: AttrId, lists: &State) -> Result<State, AllocError>
-    ensures request { IfOk result (λ found. found.request ≡ instances id lists.now.request) }
-    ensures reply { IfOk result (λ found. found.reply ≡ instances id lists.now.reply) }
-    ensures control { IfOk result (λ found. found.control ≡ instances id lists.now.control) }
+/// The present lists of a store with nothing but copies of the instances.
+pub(crate) fn instances_of<S: Store>(
+    alloc: Global,
+    id: AttrId,
+    store: &S,
+) -> Result<State, AllocError>
+    ensures { IfOk result (λ found. found ≡ instances_of id (present (S.history store.now))) }
 {
     Ok(State {
-        request: instances(alloc, id, lists.request.as_slice())?,
-        reply: instances(alloc, id, lists.reply.as_slice())?,
-        control: instances(alloc, id, lists.control.as_slice())?,
+        request: instances(alloc, id, store, List::Request)?,
+        reply: instances(alloc, id, store, List::Reply)?,
+        control: instances(alloc, id, store, List::Control)?,
     })
-}
-
-// The same, of lists that fit the dictionary.
-fn fitting_instances(
-    alloc: Global,
-    dictionary: &Dictionary,
-    id: AttrId,
-    lists: &State,
-) -> Result<State, AllocError>
-    requires { StateFits dictionary.now lists.now }
-    ensures { IfOk result (λ found. StateFits dictionary.now found) }
-{
-    let found = instances_of(alloc, id, lists)?;
-    Ok(found)
 }
 
 #[tactic(auto, using(crate::proofs::Sameness::longer_before, crate::proofs::Sameness::longer_after))]
@@ -67,16 +74,14 @@ fn are_same(before: &[Pair], after: &[Pair]) -> bool
     }
 }
 
-// Whether the instances are other ones, or in another order.
-fn is_changed(alloc: Global, id: AttrId, before: &State, after: &State) -> Result<bool, AllocError>
-    ensures { IfOk result (λ changed. changed ≡ is_changed id before.now after.now) }
+// Whether one of the lists is another one.
+fn differ(before: &State, after: &State) -> bool
+    ensures { result ≡ differ before.now after.now }
 {
-    let old = instances_of(alloc, id, before)?;
-    let new = instances_of(alloc, id, after)?;
-    let request = are_same(old.request.as_slice(), new.request.as_slice());
-    let reply = are_same(old.reply.as_slice(), new.reply.as_slice());
-    let control = are_same(old.control.as_slice(), new.control.as_slice());
-    Ok(!(request && reply && control))
+    let request = are_same(before.request.as_slice(), after.request.as_slice());
+    let reply = are_same(before.reply.as_slice(), after.reply.as_slice());
+    let control = are_same(before.control.as_slice(), after.control.as_slice());
+    !(request && reply && control)
 }
 
 // Whether instances may change by a step.
@@ -102,10 +107,10 @@ fn is_changed_here(alloc: Global, session: &mut Session<'_>, id: AttrId) -> Resu
     // `position` ensures that the place is one of the trace's, which the proof needs.
     let _within = session.position();
     session.make(Command::Back(1))?;
-    let before = session.lists()?;
+    let before = session.instances(alloc, id)?;
     session.make(Command::Forward(1))?;
-    let after = session.lists()?;
-    is_changed(alloc, id, &before, &after)
+    let after = session.instances(alloc, id)?;
+    Ok(differ(&before, &after))
 }
 
 /// The positions, from the start to the place, to which a step changed the instances of an attribute. `named` says of
@@ -200,7 +205,7 @@ pub fn instances_text(
     id: AttrId,
 ) -> Result<Vec<u8>, AllocError> {
     let dictionary = session.dictionary();
-    let found = fitting_instances(alloc, dictionary, id, &session.lists()?)?;
+    let found = session.instances(alloc, id)?;
     let mut text = filled_lists_text(alloc, dictionary, secrets, &found)?;
     if text.is_empty() {
         text.extend_from_slice(b"no ")?;
@@ -219,9 +224,9 @@ fn change_at(
     position: usize,
 ) -> Result<Vec<u8>, AllocError> {
     session.make(Command::Goto(position.saturating_sub(1)))?;
-    let before = fitting_instances(alloc, session.dictionary(), id, &session.lists()?)?;
+    let before = session.instances(alloc, id)?;
     session.make(Command::Goto(position))?;
-    let after = fitting_instances(alloc, session.dictionary(), id, &session.lists()?)?;
+    let after = session.instances(alloc, id)?;
     change_text(alloc, session.dictionary(), secrets, &before, &after)
 }
 

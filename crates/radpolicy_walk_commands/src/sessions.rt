@@ -5,16 +5,18 @@ ghost use Rattle.avp_lists.specs.History.{present};
 ghost use Rattle.avp_step.specs.Walk.{walk_from};
 ghost use Rattle.avp_unlang.specs.Resolutions.{StateFits};
 ghost use Rattle.radpolicy.specs.Starts.{entry_of as lists_of_start};
+ghost use Rattle.radpolicy_walk_commands.specs.Histories.{instances_of};
 ghost use Rattle.radpolicy_walk_commands.specs.Sessions.{after, after_all, begun_anew, breaks_after, entry_of, last_position, lists_of, position_after, session_of, steps_of, with_break, without_break};
 ghost use Rattle.radpolicy_walk_commands.specs.Showings.{AreChanges, step_text};
 ghost use Rattle.radpolicy_walk_commands.specs.Steps.{step_of};
 
 use crate::commands::Command;
+use crate::instances::instances_of;
 use crate::moves::{go_to, steps_to_end};
 use crate::showings::{change_text, push_step};
 use crate::steps::{Step, next_failure, next_on, previous_on};
 use avp_dict::Dictionary;
-use avp_lists::{List, Pairs, SlotStore, State, Store};
+use avp_lists::{AttrId, List, Pairs, SlotStore, State, Store};
 use avp_step::Stepper;
 use radpolicy::Start;
 use radpolicy_common::SecretValues;
@@ -186,6 +188,16 @@ impl<'a> Session<'a> {
         ensures fits { IfOk result (λ lists. StateFits self.now.dictionary lists) }
     {
         present_lists(self.stepper.store())
+    }
+
+    /// Copies of an attribute's instances in the lists at the place.
+    #[tactic(auto, using(crate::proofs::FittingInstances::instances_fit))]
+    pub(crate) fn instances(&self, alloc: Global, id: AttrId) -> Result<State, AllocError>
+        ensures instances { IfOk result (λ found. found ≡ instances_of id (lists_of self.now)) }
+        ensures fits { IfOk result (λ found. StateFits self.now.dictionary found) }
+    {
+        let found = instances_of(alloc, id, self.stepper.store())?;
+        Ok(found)
     }
 
     // The position that a command leads to.

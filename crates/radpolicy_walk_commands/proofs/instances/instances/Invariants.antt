@@ -1,6 +1,8 @@
 use Rattle.std.proofs.Common.{◌≡◌, take}
+use Rattle.avp_lists.specs.History.{present}
 use Rattle.avp_lists.specs.Instances.{instances}
+use Rattle.avp_lists.specs.States.{list_of}
 use Rattle.radpolicy_walk_commands.proofs.instances.instances.Given as goal
 
-abbrev pub invariant-loop-pair : goal.invariant-loop-pair
-invariant-loop-pair l = l.found.items ≡ instances l.id (take l.pair-index l.pairs)
+abbrev pub invariant-loop-at : goal.invariant-loop-at
+invariant-loop-at g l = l.found.items ≡ instances l.id (take l.at (list_of l.list (present (g.S.Store.history l.store))))
