@@ -119,12 +119,20 @@ fn complain(rt: &HostRuntime, asked: Asked<'_>) {
 // Why an attribute is not set; none where memory is short.
 fn refused(rt: &HostRuntime, fault: Fault) -> Result<(), Ending> {
     match fault {
-        Fault::Memory => Err(Ending::Memory),
+        Fault::Memory => return Err(Ending::Memory),
+        Fault::Request(
+            LineFault {
+                kind: LineKind::Unreadable,
+                ..
+            },
+        ) => {
+            let _ = eprintln!(rt; "not set: write one pair, as in set reply Session-Timeout = 600");
+        }
         fault => {
             let _ = eprintln!(rt; "not set: {fault}");
-            Ok(())
         }
     }
+    Ok(())
 }
 
 impl<'a> Dialogue<'a> {
