@@ -7,10 +7,11 @@ ghost use Rattle.radpolicy.specs.Plans.{IsSound, asked_by_job, asked_by_plan};
 ghost use Rattle.radpolicy_common.specs.Refusals.{fault_of_unread};
 
 use avp_dict::FileSet;
-use radpolicy::{Fault, Job, Plan, WriteOutput, answer, help_text, read_words, status};
+use radpolicy::{Fault, Job, Outcome, Plan, WriteOutput, answer, help_text, read_words, status};
 use radpolicy_common::{Unread, job_of, refuse, refuse_early, refuse_unread};
 use radpolicy_help::{
-    Sources, explain, explain_unread, explain_words, is_help_wanted, print_with_help, warnings_text,
+    Sources, explain, explain_unread, explain_words, is_help_wanted, print_with_help, stop_text,
+    warnings_text,
 };
 use std::alloc::AllocError;
 use std::process::ExitCode;
@@ -85,14 +86,30 @@ fn show_help(rt: &HostRuntime, words: &[String]) -> u8 {
     }
 }
 
-// Prints what the job's policy is warned of, if that is wanted and there is memory for it.
-fn warn(rt: &HostRuntime, plan: &Plan, job: &Job) {
-    if job.policy.is_some()
-        && is_help_wanted(rt)
-        && let Ok(text) = warnings_text(rt.alloc(), &Sources::of_job(plan, job))
-    {
+// Prints why the run of a job was stopped, if it was and there is memory for it.
+fn tell_stop(rt: &HostRuntime, sources: &Sources<'_>, job: &Job) {
+    if let Ok(text) = stop_text(rt.alloc(), sources, job) {
         let _ = rt.stderr().write_all(&text);
     }
+}
+
+// Prints what the job's policy is warned of, if there is memory for it.
+fn warn(rt: &HostRuntime, sources: &Sources<'_>) {
+    if let Ok(text) = warnings_text(rt.alloc(), sources) {
+        let _ = rt.stderr().write_all(&text);
+    }
+}
+
+// What follows the report of a job with a policy, if it is wanted.
+fn tell_more(rt: &HostRuntime, plan: &Plan, job: &Job, outcome: Outcome) {
+    if job.policy.is_none() || !is_help_wanted(rt) {
+        return;
+    }
+    let sources = Sources::of_job(plan, job);
+    if outcome.stopped {
+        tell_stop(rt, &sources, job);
+    }
+    warn(rt, &sources);
 }
 
 fn run_job(rt: &HostRuntime, plan: &Plan, job: &Job) -> u8
@@ -100,8 +117,8 @@ fn run_job(rt: &HostRuntime, plan: &Plan, job: &Job) -> u8
 {
     let mut out = WriteOutput::new(rt.stdout());
     match answer(rt.alloc(), job, &mut out) {
-        Ok(_) => {
-            warn(rt, plan, job);
+        Ok(outcome) => {
+            tell_more(rt, plan, job, outcome);
             0
         }
         Err(fault) => refuse_job(rt, &fault, plan, job),

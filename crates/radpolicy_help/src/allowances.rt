@@ -1,7 +1,9 @@
 //! Comments of a policy that silence warnings: `# allow: NAME`, at the end of a line for that line, and alone on a line
 //! for the next.
 
+use crate::texts::{push_all, push_number};
 use avp_dict::next_line;
+use avp_forms::{Profile, profile_of};
 use std::alloc::{AllocError, Global};
 use std::str;
 
@@ -92,4 +94,19 @@ pub(crate) fn unread_profile(text: &[u8]) -> Option<usize> {
         rest = after;
     }
     None
+}
+
+/// Adds that a comment of a text does not choose the wider profile, if there is one that looks as if it did.
+pub(crate) fn push_unread_profile(help: &mut Vec<u8>, text: &[u8]) -> Result<(), AllocError> {
+    if profile_of(text) == Profile::Plain
+        && let Some(line) = unread_profile(text)
+    {
+        push_all(help, &["the comment on line "])?;
+        push_number(help, line)?;
+        push_all(
+            help,
+            &[" does not choose a profile: write # profile: wider in the first line\n"],
+        )?;
+    }
+    Ok(())
 }

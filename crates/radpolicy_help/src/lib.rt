@@ -1,7 +1,8 @@
 //! Help for a person who reads a fault: the place in the file, what was found there, and what to do.
 //!
 //! [`explain`] makes the help for a fault, and [`print_with_help`] prints it after the fault's line. [`warnings_text`]
-//! says what a policy that is read is warned of.
+//! says what a policy that is read is warned of, and [`stop_text`] why a run was stopped.
+//! [`findings`] and [`without_statement`] serve those who go over a policy whole.
 #![tactic(auto)]
 
 mod allowances;
@@ -19,6 +20,8 @@ mod policy_tokens;
 mod printing;
 mod requests;
 mod sources;
+mod statements;
+mod stops;
 mod texts;
 mod values;
 mod warnings;
@@ -30,5 +33,7 @@ pub use explanations::explain;
 pub use pointing::{Pointed, point_at};
 pub use printing::print_with_help;
 pub use sources::{Source, Sources};
-pub use warnings::warnings_text;
+pub use statements::without_statement;
+pub use stops::stop_text;
+pub use warnings::{Advice, Finding, findings, warnings_text};
 pub use wishes::is_help_wanted;

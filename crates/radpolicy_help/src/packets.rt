@@ -5,8 +5,8 @@ use crate::texts::{push_all, push_number};
 use avp_packet::PacketFault;
 use std::alloc::{AllocError, Global};
 
-// The octets of hexadecimal digits with white space among them.
-fn packet_octets(alloc: Global, text: &[u8]) -> Result<Vec<u8>, AllocError> {
+/// The octets of hexadecimal digits with white space among them.
+pub(crate) fn packet_octets(alloc: Global, text: &[u8]) -> Result<Vec<u8>, AllocError> {
     let mut digits = Vec::new(alloc);
     for octet in text {
         if octet.is_ascii_hexdigit() {

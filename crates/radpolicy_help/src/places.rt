@@ -8,8 +8,8 @@ use avp_unlang::line_after;
 use std::alloc::{AllocError, Global};
 use std::str;
 
-// What a text has after its last line end.
-fn last_line(text: &[u8]) -> &[u8] {
+/// What a text has after its last line end.
+pub(crate) fn last_line(text: &[u8]) -> &[u8] {
     match text.iter().rposition(|octet| *octet == b'\n') {
         Some(at) => text.get(at.saturating_add(1)..).unwrap_or(&[]),
         None => text,

@@ -1,10 +1,11 @@
 //! Help for faults of policies.
 
+use crate::allowances::push_unread_profile;
 use crate::contexts::{Context, Expected, context_after, expected_text, is_code};
 use crate::names::nearest_attributes;
 use crate::nearest::nearest_of;
-use crate::places::push_place;
-use crate::policy_tokens::{from_token, text_of, token_of};
+use crate::places::{last_line, push_place};
+use crate::policy_tokens::{from_token, is_update_operator, text_of, token_of};
 use crate::sources::Sources;
 use crate::texts::{push_all, push_choices};
 use crate::values::{push_not_value, tag_hint};
@@ -256,6 +257,8 @@ fn unreadable_hint(found: &str) -> &'static str {
         "an expansion may be in double quotes only: \"%{Name}\""
     } else if found.starts_with("\\") {
         "lines that go on are left out here: write the line in one piece"
+    } else if found.starts_with(",") {
+        "lines end without a comma: take it out"
     } else if found.starts_with("~") || found.starts_with("*") {
         "regular expressions and patterns are left out here: write == and the whole text"
     } else {
@@ -295,6 +298,12 @@ fn push_unknown_hint(
         );
     }
     if context.expected == Expected::Operand {
+        if is_server_code(name) {
+            return push_all(
+                help,
+                &["of the server's codes there are ok, noop, updated, fail and reject\n"],
+            );
+        }
         let codes = nearest_of(alloc, name, &CODES)?;
         if !codes.is_empty() && !is_code(name) {
             push_all(help, &["write "])?;
@@ -307,10 +316,33 @@ fn push_unknown_hint(
             return push_all(help, &[tag_hint(sources.policy.text)]);
         }
     }
+    if is_of_module(name) {
+        return push_all(
+            help,
+            &[
+                "a module of the server defines it: give a dictionary of your own with ATTRIBUTE ",
+                name,
+                " 3000 string\n",
+            ],
+        );
+    }
     let Some(dictionary) = &sources.dictionary(alloc) else {
         return Ok(());
     };
     push_nearest_attributes(help, &nearest_attributes(alloc, dictionary, name)?)
+}
+
+// Whether it is one of a server's codes that the profile leaves out.
+fn is_server_code(word: &str) -> bool {
+    matches!(
+        word,
+        "handled" | "invalid" | "userlock" | "notfound" | "disallow"
+    )
+}
+
+// Whether a server has the attribute from a module when it starts.
+fn is_of_module(name: &str) -> bool {
+    name.eq_ignore_ascii_case("LDAP-Group") || name.eq_ignore_ascii_case("SQL-Group")
 }
 
 /// Adds the names that may have been meant.
@@ -397,6 +429,12 @@ fn push_other_type(help: &mut Vec<u8>, name: &str, found: &str) -> Result<(), Al
     )
 }
 
+// Whether a place after this text is one after the value of an update line, on the same line.
+fn is_after_value(context: &Context<'_>, front: &[u8]) -> bool {
+    let line = last_line(front).trim_ascii();
+    context.expected == Expected::Line && !line.is_empty() && !line.ends_with(b"{")
+}
+
 /// What is said of a policy's fault.
 pub(crate) fn policy_help(
     alloc: Global,
@@ -408,16 +446,18 @@ pub(crate) fn policy_help(
     let context = context_after(alloc, front)?;
     let found = token_of(back);
     let next = text_of(token_of(from_token(back.get(found.len()..).unwrap_or(&[]))));
+    let found = text_of(found);
     let mut help = Vec::new(alloc);
     push_place(alloc, &mut help, sources.policy, fault.offset)?;
-    push_sentences(
-        alloc,
-        &mut help,
-        fault.kind,
-        &context,
-        sources,
-        text_of(found),
-        next,
-    )?;
+    if fault.kind == PolicyKind::Unknown
+        && is_after_value(&context, front)
+        && !is_update_operator(next)
+    {
+        push_all(&mut help, &["found ", found, " after a value\n"])?;
+        push_all(&mut help, &["put a text with blanks into quotes\n"])?;
+    } else {
+        push_sentences(alloc, &mut help, fault.kind, &context, sources, found, next)?;
+    }
+    push_unread_profile(&mut help, text)?;
     Ok(help)
 }

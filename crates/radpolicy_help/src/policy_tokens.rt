@@ -36,6 +36,11 @@ impl<'a> Token<'a> {
     }
 }
 
+/// Whether a word is an operator of an update line.
+pub(crate) fn is_update_operator(word: &str) -> bool {
+    matches!(word, ":=" | "=" | "+=" | "^=" | "-=" | "==" | "!*")
+}
+
 /// What is left of a text after the blanks and comments that it begins with.
 pub(crate) fn from_token(text: &[u8]) -> &[u8] {
     let mut in_comment = false;

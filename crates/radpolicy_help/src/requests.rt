@@ -1,5 +1,6 @@
 //! Help for faults of request lines.
 
+use crate::allowances::push_unread_profile;
 use crate::names::nearest_attributes;
 use crate::places::{first_line, line_start, push_place};
 use crate::policies::push_nearest_attributes;
@@ -116,5 +117,6 @@ pub(crate) fn line_help(
     let mut help = Vec::new(alloc);
     push_place(alloc, &mut help, source, start.saturating_add(offset))?;
     push_sentences(alloc, &mut help, fault.kind, sources, &pair, rest)?;
+    push_unread_profile(&mut help, source.text)?;
     Ok(help)
 }

@@ -138,5 +138,16 @@ pub(crate) fn push_not_value(
         },
         None => push_all(help, &["of another form\n"])?,
     }
-    push_values(alloc, help, sources, name, value)
+    push_values(alloc, help, sources, name, value)?;
+    if name == "Auth-Type" {
+        push_all(
+            help,
+            &[
+                "a module of the server may define it: give a dictionary of your own with VALUE Auth-Type ",
+                value,
+                " 3000\n",
+            ],
+        )?;
+    }
+    Ok(())
 }

@@ -8,22 +8,30 @@ use crate::allowances::{Allowance, allowances, unread_profile};
 use crate::sources::Sources;
 use crate::texts::{push_all, push_number};
 use avp_forms::{Profile, profile_of};
-use avp_unlang::read_policy;
+use avp_unlang::{Policy, read_policy};
 use policy_warnings::{Reason, Warning, warnings_of};
 use radpolicy_common::{LineBreaks, visible_text};
 use std::alloc::{AllocError, Global};
 
 /// What is said of a warning.
 #[derive(Clone, Copy)]
-struct Advice {
+pub struct Advice {
     /// The name by which a comment silences it.
-    name: &'static str,
+    pub name: &'static str,
     /// What the policy has.
-    found: &'static str,
+    pub found: &'static str,
     /// What a server does.
-    server: &'static str,
+    pub server: &'static str,
     /// What to write.
-    hint: &'static str,
+    pub hint: &'static str,
+}
+
+/// A warning that no comment silences, or of a comment.
+#[derive(Clone, Copy, Drop)]
+pub struct Finding {
+    /// The line of the policy that it is about.
+    pub line: usize,
+    pub advice: Advice,
 }
 
 const ABSENT_COMPARISON: Advice = Advice {
@@ -89,26 +97,9 @@ fn silences(allowance: &Allowance<'_>, warning: &Warning) -> bool {
     allowance.covered == warning.line && allowance.name == advice_on(warning.reason).name
 }
 
-// `PATH:LINE: warning: ..`, what a server does, and what to write.
-fn push_warning(
-    text: &mut Vec<u8>,
-    path: &str,
-    line: usize,
-    advice: Advice,
-) -> Result<(), AllocError> {
-    push_all(text, &[path, ":"])?;
-    push_number(text, line)?;
-    push_all(
-        text,
-        &[": warning: ", advice.found, " [", advice.name, "]\n"],
-    )?;
-    push_all(text, &[advice.server, "\n", advice.hint, "\n"])
-}
-
-// The warnings that no comment silences.
-fn push_warnings(
-    text: &mut Vec<u8>,
-    path: &str,
+// Adds the warnings that no comment silences.
+fn add_warned(
+    found: &mut Vec<Finding>,
     warnings: &[Warning],
     allowances: &[Allowance<'_>],
 ) -> Result<(), AllocError> {
@@ -117,25 +108,61 @@ fn push_warnings(
             .iter()
             .any(|allowance| silences(allowance, warning))
         {
-            push_warning(text, path, warning.line, advice_on(warning.reason))?;
+            found.push(Finding {
+                line: warning.line,
+                advice: advice_on(warning.reason),
+            })?;
         }
     }
     Ok(())
 }
 
-// The comments that silence nothing.
-fn push_unused(
-    text: &mut Vec<u8>,
-    path: &str,
+// Adds the comments that silence nothing.
+fn add_unused(
+    found: &mut Vec<Finding>,
     warnings: &[Warning],
     allowances: &[Allowance<'_>],
 ) -> Result<(), AllocError> {
     for allowance in allowances {
         if !warnings.iter().any(|warning| silences(allowance, warning)) {
-            push_warning(text, path, allowance.line, UNUSED_ALLOWANCE)?;
+            found.push(Finding {
+                line: allowance.line,
+                advice: UNUSED_ALLOWANCE,
+            })?;
         }
     }
     Ok(())
+}
+
+/// What a policy is warned of, which was read of this text: first what its statements have, in their order, and then
+/// comments that do nothing.
+pub fn findings(alloc: Global, policy: &Policy, text: &[u8]) -> Result<Vec<Finding>, AllocError> {
+    let warnings = warnings_of(alloc, policy.statements().as_slice())?;
+    let allowances = allowances(alloc, text)?;
+    let mut found = Vec::new(alloc);
+    add_warned(&mut found, &warnings, &allowances)?;
+    add_unused(&mut found, &warnings, &allowances)?;
+    if profile_of(text) == Profile::Plain
+        && let Some(line) = unread_profile(text)
+    {
+        found.push(Finding {
+            line,
+            advice: UNREAD_PROFILE,
+        })?;
+    }
+    Ok(found)
+}
+
+// `PATH:LINE: warning: ..`, what a server does, and what to write.
+fn push_finding(text: &mut Vec<u8>, path: &str, finding: Finding) -> Result<(), AllocError> {
+    let advice = finding.advice;
+    push_all(text, &[path, ":"])?;
+    push_number(text, finding.line)?;
+    push_all(
+        text,
+        &[": warning: ", advice.found, " [", advice.name, "]\n"],
+    )?;
+    push_all(text, &[advice.server, "\n", advice.hint, "\n"])
 }
 
 fn draft(alloc: Global, sources: &Sources<'_>) -> Result<Vec<u8>, AllocError> {
@@ -144,18 +171,10 @@ fn draft(alloc: Global, sources: &Sources<'_>) -> Result<Vec<u8>, AllocError> {
         return Ok(text);
     };
     let source = sources.policy;
-    let policy = match read_policy(alloc, &dictionary, source.text) {
-        Ok(policy) => policy,
-        Err(_) => return Ok(text),
-    };
-    let warnings = warnings_of(alloc, policy.statements().as_slice())?;
-    let allowances = allowances(alloc, source.text)?;
-    push_warnings(&mut text, source.path, &warnings, &allowances)?;
-    push_unused(&mut text, source.path, &warnings, &allowances)?;
-    if profile_of(source.text) == Profile::Plain
-        && let Some(line) = unread_profile(source.text)
-    {
-        push_warning(&mut text, source.path, line, UNREAD_PROFILE)?;
+    if let Ok(policy) = read_policy(alloc, &dictionary, source.text) {
+        for finding in &findings(alloc, &policy, source.text)? {
+            push_finding(&mut text, source.path, *finding)?;
+        }
     }
     Ok(text)
 }

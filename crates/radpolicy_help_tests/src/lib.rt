@@ -4,4 +4,6 @@
 #[cfg(test)]
 mod helps;
 #[cfg(test)]
+mod stopped;
+#[cfg(test)]
 mod warned;
