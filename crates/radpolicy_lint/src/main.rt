@@ -1,0 +1,128 @@
+//! The program: its words, the files that they name, and what is found in them.
+#![tactic(auto)]
+
+mod command_line;
+mod linting;
+mod printing;
+
+ghost use Rattle.std.specs.Prelude.{◌<◌, length};
+ghost use Rattle.avp_dict.specs.Lines.{HasDistinctNames};
+
+use crate::command_line::{Plan, help_text, read_words};
+use crate::linting::{Found, Linter};
+use avp_dict::{Dictionary, FileSet};
+use radpolicy::{Fault, status};
+use radpolicy_common::{Unread, read_dictionary_set, read_file, refuse_early, refuse_unread};
+use std::alloc::AllocError;
+use std::io;
+use std::process::ExitCode;
+
+// Adds what is found in a policy's file.
+fn lint_policy<'a>(
+    rt: &HostRuntime,
+    linter: &Linter<'a>,
+    found: &mut Found,
+    dictionary: &Dictionary,
+    path: &'a str,
+) -> Result<(), AllocError> {
+    match read_file(rt, path) {
+        Ok(text) => linter.add_policy(found, dictionary, path, text.as_slice()),
+        Err(Unread::Memory) => Err(AllocError),
+        Err(unread) => linter.add_unread(found, path, unread.fault()),
+    }
+}
+
+fn lint_request<'a>(
+    rt: &HostRuntime,
+    linter: &Linter<'a>,
+    found: &mut Found,
+    dictionary: &Dictionary,
+    path: &'a str,
+) -> Result<(), AllocError> {
+    match read_file(rt, path) {
+        Ok(text) => linter.add_request(found, dictionary, path, text.as_slice()),
+        Err(Unread::Memory) => Err(AllocError),
+        Err(unread) => linter.add_unread(found, path, unread.fault()),
+    }
+}
+
+// Adds what is found in all files but the dictionary's.
+fn lint_files(
+    rt: &HostRuntime,
+    linter: &Linter<'_>,
+    found: &mut Found,
+    dictionary: &Dictionary,
+) -> Result<(), AllocError> {
+    for path in &linter.plan.policies {
+        lint_policy(rt, linter, found, dictionary, path)?;
+    }
+    for path in &linter.plan.requests {
+        lint_request(rt, linter, found, dictionary, path)?;
+    }
+    Ok(())
+}
+
+fn found_in(rt: &HostRuntime, plan: &Plan<'_>, files: &FileSet) -> Result<Found, AllocError>
+    requires first { 0 < length files.now }
+    requires distinct { HasDistinctNames files.now }
+{
+    let mut found = Found::new(rt.alloc());
+    let linter = Linter { plan, files };
+    match Dictionary::read(rt.alloc(), files) {
+        Ok(dictionary) => lint_files(rt, &linter, &mut found, &dictionary)?,
+        Err(fault) => linter.add_dictionary(&mut found, Fault::from(fault))?,
+    }
+    Ok(found)
+}
+
+fn show(rt: &HostRuntime, found: &Found) -> u8 {
+    match rt.stdout().write_all(&found.text) {
+        Ok(()) => found.status,
+        Err(_) => refuse_early(rt, &Fault::Write),
+    }
+}
+
+fn lint_plan(rt: &HostRuntime, plan: &Plan<'_>) -> u8 {
+    let files = match read_dictionary_set(rt, &plan.dictionaries) {
+        Ok(files) => files,
+        Err(unread) => return refuse_unread(rt, unread),
+    };
+    match found_in(rt, plan, &files) {
+        Ok(found) => show(rt, &found),
+        Err(_) => refuse_early(rt, &Fault::Memory),
+    }
+}
+
+fn show_help(rt: &HostRuntime, words: &[String]) -> u8 {
+    match help_text(rt.alloc(), words) {
+        Ok(text) => match rt.print(text.as_str()) {
+            Ok(()) => status(&Fault::Help),
+            Err(_) => refuse_early(rt, &Fault::Write),
+        },
+        Err(_) => refuse_early(rt, &Fault::Memory),
+    }
+}
+
+fn lint_words(rt: &HostRuntime, words: &[String]) -> u8 {
+    match read_words(rt.alloc(), words) {
+        Ok(plan) => lint_plan(rt, &plan),
+        Err(Fault::Help) => show_help(rt, words),
+        Err(fault) => refuse_early(rt, &fault),
+    }
+}
+
+// The words of the command line. Words that are no UTF-8 are an error.
+fn words_of(rt: &HostRuntime) -> io::Result<Vec<String>> {
+    Ok(std::env::args(rt)?.collect(rt.alloc())?)
+}
+
+fn main(rt: HostRuntime) -> ExitCode {
+    let code = match words_of(&rt) {
+        Ok(words) => lint_words(&rt, words.as_slice()),
+        Err(error) if error.kind() == io::ErrorKind::OutOfMemory => {
+            refuse_early(&rt, &Fault::Memory)
+        }
+        Err(_) => refuse_early(&rt, &Fault::Usage),
+    };
+    ExitCode::from(code)
+}
