@@ -88,6 +88,16 @@ def faults_of_library(prefix: Path, folder: Path, libraries: str = "lib") -> Lis
     return wrong + [f"a program of it says {said!r}" for said in ended if said != "closed\n"]
 
 
+def faults_of_links(documents: Path) -> List[str]:
+    """The links in the documents that lead to no file there."""
+    wrong = []
+    for document in sorted(documents.rglob("*.md")):
+        for link in re.findall(r"\]\(([^)#]+)[^)]*\)", document.read_text()):
+            is_elsewhere = re.match("[a-z]+:", link)
+            wrong += [] if is_elsewhere or (document.parent / link).exists() else [f"{document.name}: {link}"]
+    return wrong
+
+
 def new_folder_beside(copy: Copy, name: str) -> Path:
     folder = copy.root.parent / name
     folder.mkdir()
@@ -111,6 +121,8 @@ def check_install(subject: Subject, report: Report) -> None:
         wanted = {f"usr/{line.split()[-1]}" for lines in listed for line in lines} | {f"usr/bin/{MORE}"}
         found = files_below(place)
         report.check("make install: every file", [f"differs: {file}" for file in sorted(wanted ^ found)])
+        documents = place / "usr/share/doc/radpolicy"
+        report.check("make install: the documents' links", faults_of_links(documents))
         report.check("make install: in use", faults_of_use(place / "usr", elsewhere))
         report.check("make install: the library for C", faults_of_library(place / "usr", elsewhere))
         copy.make("uninstall", f"DESTDIR={place}", "PREFIX=/usr")
