@@ -1,7 +1,7 @@
 //! The packets of a record.
 
-ghost use Rattle.std.specs.Prelude.{◌≡◌, ◌<◌, Some, true, false, IfErr, IfOk, IfSome, length};
-ghost use Rattle.avp_packet.specs.Packets.{IsReplyCode, IsRequestCode, IsShort};
+ghost use Rattle.std.specs.Prelude.{◌≡◌, ◌≤◌, ◌<◌, Some, true, false, IfErr, IfOk, IfSome, length};
+ghost use Rattle.avp_packet.specs.Packets.{IsReplyCode, IsRequestCode, IsShort, packet_head_octets};
 ghost use Rattle.radpolicy_traffic_packets.specs.Packets.{IsReplyRefusal, IsRequestRefusal, reply_code, reply_packet, request_code, request_packet};
 
 use crate::faults::TextFault;
@@ -54,6 +54,7 @@ pub fn request_packet(
     ensures whole { IfOk result (λ _. record.now.is_too_long ≡ false) }
     ensures octets { IfOk result (λ octets.
         request_packet dictionary.now secret.now zone record.now ≡ Some octets.items) }
+    ensures head { IfOk result (λ octets. packet_head_octets ≤ length octets.items) }
     ensures short { IfOk result (λ octets. IsShort octets.items) }
     ensures refused { IfErr result
         (IsRequestRefusal dictionary.now secret.now zone record.now) }
