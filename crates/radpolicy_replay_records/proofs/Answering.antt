@@ -1,5 +1,5 @@
 -- What a policy answers, by how its packet is read and what its run comes to.
-use Rattle.std.proofs.Common.{◌≡◌, ◌∙◌, ◌⊎◌, inl, inr, List, ℕ, Option, None, Some, Result, Ok, Err, refl, ap, subst, sym}
+use Rattle.std.proofs.Common.{◌≡◌, ◌∙◌, inl, inr, List, ℕ, Option, None, Some, Result, Ok, Err, refl, ap, subst, sym}
 use Rattle.avp_packet.specs.Decoded.{decoded}
 use Rattle.avp_packet.specs.declared.faults.PacketFault.{PacketFault}
 use Rattle.avp_packet.specs.declared.packets.Packet.{Packet}
@@ -70,11 +70,11 @@ over_read prepared secret (Ok request) =
     let start = start_of prepared (Some secret) Hex request in
     over_run prepared (end_of start) (sent_reply start (end_of start))
 
-over_answer : (prepared : Prepared) (secret : Option (List ℕ)) (request : Result (List ℕ) Fault) → IsOver prepared.dictionary (answer_by prepared secret request)
+over_answer : (prepared : Prepared) (secret : Option (List ℕ)) (request : Result (List ℕ) RecordFault) → IsOver prepared.dictionary (answer_by prepared secret request)
 unfolding answered
 over_answer prepared secret (Err f) = tt
 over_answer prepared None (Ok octets) = tt
 over_answer prepared (Some secret) (Ok octets) = over_read prepared secret (decoded prepared.dictionary secret octets)
 
-pub answer_is_over : (prepared : Prepared) (secret : Option (List ℕ)) (request : Result (List ℕ) Fault) (answer : Result RunOutcome RecordFault) → answer ≡ answer_by prepared secret request → IsOver prepared.dictionary answer
+pub answer_is_over : (prepared : Prepared) (secret : Option (List ℕ)) (request : Result (List ℕ) RecordFault) (answer : Result RunOutcome RecordFault) → answer ≡ answer_by prepared secret request → IsOver prepared.dictionary answer
 answer_is_over prepared secret request answer same = subst (IsOver prepared.dictionary) (sym same) (over_answer prepared secret request)

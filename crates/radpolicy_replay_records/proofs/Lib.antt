@@ -4,4 +4,5 @@ pub mod Fitting
 pub mod Progress
 pub mod Replying
 pub mod SameLists
+pub mod Telling
 pub mod Writing

@@ -23,7 +23,7 @@ use Rattle.radpolicy_replay_records.proofs.Cutting.{NoEnd, cut_has_no_end, ended
 abbrev counts_of : Replay → Summary → List (List ℕ) → Summary
 counts_of replay summary records = fold (λ so_far line. counted so_far (verdict_of replay line)) summary records
 
-counted_read : (summary : Summary) (verdict : Verdict) → (counted summary verdict).read ≡ summary.read + 1
+pub counted_read : (summary : Summary) (verdict : Verdict) → (counted summary verdict).read ≡ summary.read + 1
 counted_read summary Answered = refl
 counted_read summary Same = refl
 counted_read summary Different = refl
@@ -41,7 +41,7 @@ count_first : (replay : Replay) (summary : Summary) (line : List ℕ) (records :
 count_first replay summary line records true = refl
 count_first replay summary line records false = refl
 
-counted_within : (summary : Summary) (verdict : Verdict) → CountsWithin summary → CountsWithin (counted summary verdict)
+pub counted_within : (summary : Summary) (verdict : Verdict) → CountsWithin summary → CountsWithin (counted summary verdict)
 counted_within summary Answered (same, different, unanswered, challenged, refused) = (
   omega (arith, same),
   omega (arith, different),

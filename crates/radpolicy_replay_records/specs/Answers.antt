@@ -1,9 +1,10 @@
 -- What a policy answers to a packet, and what is said of it.
-use Rattle.std.specs.Prelude.{ℕ, Bool, false, if◌then◌else◌, List, [], ◌++◌, codes, Option, None, Some, Result, Ok, Err}
+use Rattle.std.specs.Prelude.{ℕ, Bool, false, if◌then◌else◌, List, [], ◌++◌, codes, decimal, Option, None, Some, Result, Ok, Err}
 use Rattle.std.specs.List.{list_any}
 use Rattle.hex.specs.Hex.{encode_lower}
 use Rattle.avp_lists.specs.declared.pairs.Pair.{Pair}
 use Rattle.avp_dict.specs.Dictionary.{Dictionary}
+use Rattle.avp_dict.specs.declared.request.faults.LineFault.{LineFault}
 use Rattle.avp_packet.specs.Decoded.{decoded}
 use Rattle.avp_packet.specs.declared.faults.PacketFault.{PacketFault}
 use Rattle.avp_packet.specs.declared.packets.Packet.{Packet}
@@ -22,7 +23,9 @@ use Rattle.radpolicy_common.specs.declared.change_texts.SecretValues.{SecretValu
 use Rattle.radpolicy_common.specs.declared.change_texts.SecretValues.TheVariants.{Hidden, Shown}
 use Rattle.radpolicy_common.specs.SecretAttributes.{is_secret}
 use Rattle.radpolicy_replay_records.specs.declared.answers.RecordFault.{RecordFault}
-use Rattle.radpolicy_replay_records.specs.declared.answers.RecordFault.TheVariants.{NoClient, Request}
+use Rattle.radpolicy_replay_records.specs.declared.answers.RecordFault.TheVariants.{NoClient, Request, Text}
+use Rattle.radpolicy_traffic_packets.specs.declared.faults.TextFault.{TextFault}
+use Rattle.radpolicy_traffic_packets.specs.declared.faults.TextFault.TheVariants as text
 
 -- ---- answers
 
@@ -76,10 +79,23 @@ outcome_shown dictionary secrets outcome = result_shown outcome.end ++ codes " "
 abbrev pub fault_shown : Fault → List ℕ
 fault_shown f = fault_code_text (fault_number f) ++ codes " " ++ fault_text f
 
+-- the fault of a line, and where it is among the lines of its packet
+abbrev pub lines_fault_shown : LineFault → List ℕ
+lines_fault_shown f = fault_shown (fault.Request f) ++ codes " line " ++ decimal f.line
+
+-- why the lines of a record make no packet
+abbrev pub text_fault_shown : TextFault → List ℕ
+text_fault_shown text.TooLong = codes "record too long"
+text_fault_shown text.OtherCode = codes "neither Access-Request nor Accounting-Request"
+text_fault_shown (text.Lines f) = lines_fault_shown f
+text_fault_shown text.PacketTooLong = fault_shown fault.PacketTooLong
+text_fault_shown text.Memory = fault_shown fault.Memory
+
 -- why a record is refused
 abbrev pub refusal_shown : RecordFault → List ℕ
 refusal_shown (Request f) = fault_shown f
 refusal_shown NoClient = codes "no client"
+refusal_shown (Text f) = text_fault_shown f
 
 -- what is said of an answer
 abbrev pub answer_shown : Dictionary → SecretValues → Result RunOutcome RecordFault → List ℕ

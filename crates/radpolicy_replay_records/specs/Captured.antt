@@ -18,13 +18,16 @@ use Rattle.radpolicy.specs.declared.faults.Fault.TheVariants as fault
 use Rattle.radpolicy.specs.declared.run_outcomes.Reply.{Reply}
 use Rattle.radpolicy.specs.declared.run_outcomes.Reply.TheVariants as reply
 use Rattle.radpolicy_common.specs.declared.change_texts.SecretValues.{SecretValues}
-use Rattle.radpolicy_replay_records.specs.Answers.{answered, fault_shown, refusal_shown}
+use Rattle.radpolicy_replay_records.specs.Answers.{answered, fault_shown, refusal_shown, text_fault_shown}
 use Rattle.radpolicy_replay_records.specs.Comparisons.{AreSame, compared, same_lists}
 use Rattle.radpolicy_replay_records.specs.Differences.{added_line, list_change, named_change, removed_line}
-use Rattle.radpolicy_replay_records.specs.Records.{is_packet_word, line_words, octets_decoded}
+use Rattle.radpolicy_replay_records.specs.Records.{is_packet_word, line_words, octets_decoded, request_taken}
+use Rattle.radpolicy_replay_records.specs.declared.answers.RecordFault.{RecordFault}
 use Rattle.radpolicy_replay_records.specs.declared.answers.RecordFault.TheVariants.{NoClient, Request}
 use Rattle.radpolicy_replay_records.specs.declared.captured.CapturedFault.{CapturedFault}
-use Rattle.radpolicy_replay_records.specs.declared.captured.CapturedFault.TheVariants.{NoReply, OtherRequest}
+use Rattle.radpolicy_replay_records.specs.declared.captured.CapturedFault.TheVariants.{NoReply, OtherRequest, Text}
+use Rattle.radpolicy_replay_records.specs.declared.captured.CapturedReply.{CapturedReply}
+use Rattle.radpolicy_replay_records.specs.declared.captured.CapturedReply.TheVariants as capture
 use Rattle.radpolicy_replay_records.specs.declared.captured.Replies.{Replies}
 use Rattle.radpolicy_replay_records.specs.declared.captured.Replies.TheVariants.{Both, Challenge, Refused, Unanswered, Unread}
 use Rattle.radpolicy_replay_records.specs.declared.comparisons.Comparison.{Comparison}
@@ -34,6 +37,8 @@ use Rattle.radpolicy_replay_records.specs.declared.comparisons.Told.{Told}
 use Rattle.radpolicy_replay_records.specs.declared.comparisons.Told.TheVariants.{All, Different}
 use Rattle.radpolicy_replay_records.specs.declared.summaries.Verdict.{Verdict}
 use Rattle.radpolicy_replay_records.specs.declared.summaries.Verdict.TheVariants as verdict
+use Rattle.radpolicy_traffic_packets.specs.declared.faults.TextFault.{TextFault}
+use Rattle.radpolicy_traffic_packets.specs.declared.faults.TextFault.TheVariants as text
 
 -- ---- the reply that was captured
 
@@ -65,20 +70,24 @@ abbrev pub reply_to : Dictionary → List ℕ → List ℕ → List ℕ → Resu
 reply_to dictionary secret request octets =
     packet_or_fault (decoded_reply dictionary secret (authenticator_of request) octets)
 
-abbrev pub reply_read : Dictionary → List ℕ → List ℕ → Result (List ℕ) Fault → Result Packet Fault
-reply_read dictionary secret request (Ok octets) = reply_to dictionary secret request octets
-reply_read dictionary secret request (Err f) = Err f
-
 abbrev pub unless_other : List ℕ → Result Packet Fault → Result Packet CapturedFault
 unless_other request (Ok sent) =
     if answers request sent then Ok sent else Err OtherRequest
 unless_other request (Err f) = Err (NoReply f)
 
--- what was captured as the reply to the request of these octets, or why it is none
+-- what these octets are that were captured as the reply to the request of those, or why they are none
 abbrev pub captured_reply : Dictionary → List ℕ → List ℕ → List ℕ → Result Packet CapturedFault
-captured_reply dictionary secret request word =
-    unless_other request
-    (reply_read dictionary secret request (octets_decoded (decode_of word)))
+captured_reply dictionary secret request octets =
+    unless_other request (reply_to dictionary secret request octets)
+
+abbrev pub reply_decoded : Result (List ℕ) Fault → CapturedReply
+reply_decoded (Ok octets) = capture.Octets octets
+reply_decoded (Err f) = capture.Unread (NoReply f)
+
+-- the reply that a word has the digits of, where there is one
+abbrev pub reply_of_word : Option (List ℕ) → CapturedReply
+reply_of_word None = capture.Missing
+reply_of_word (Some word) = reply_decoded (octets_decoded (decode_of word))
 
 -- ---- both replies
 
@@ -99,24 +108,32 @@ beside dictionary secret request sent (Ok captured) =
     if captured.code == access_challenge then Challenge
     else with_own captured (own_reply dictionary secret request sent)
 
-abbrev pub beside_word : Dictionary → List ℕ → List ℕ → Reply → Option (List ℕ) → Replies
-beside_word dictionary secret request sent None = Unanswered
-beside_word dictionary secret request sent (Some word) =
-    beside dictionary secret request sent (captured_reply dictionary secret request word)
+abbrev pub beside_captured : Dictionary → List ℕ → List ℕ → Reply → CapturedReply → Replies
+beside_captured dictionary secret request sent capture.Missing = Unanswered
+beside_captured dictionary secret request sent (capture.Octets octets) =
+    beside dictionary secret request sent (captured_reply dictionary secret request octets)
+beside_captured dictionary secret request sent capture.Challenge = Challenge
+beside_captured dictionary secret request sent (capture.Unread f) = Unread f
 
-abbrev pub replies_of : Dictionary → List ℕ → List ℕ → Option (List ℕ) → Result RunOutcome Fault
+abbrev pub replies_of : Dictionary → List ℕ → List ℕ → CapturedReply → Result RunOutcome Fault
     → Replies
-replies_of dictionary secret request word (Err f) = Refused (Request f)
-replies_of dictionary secret request word (Ok outcome) =
-    beside_word dictionary secret request outcome.reply word
+replies_of dictionary secret request reply (Err f) = Refused (Request f)
+replies_of dictionary secret request reply (Ok outcome) =
+    beside_captured dictionary secret request outcome.reply reply
 
--- the replies to a request that is given so, by the secret if there is one, with this word as the one that was captured
+-- the replies to a request that is given so, by the secret if there is one, with this one as what was captured
+abbrev pub replies_with : Prepared → Option (List ℕ) → CapturedReply → Result (List ℕ) RecordFault
+    → Replies
+replies_with prepared secret reply (Err f) = Refused f
+replies_with prepared None reply (Ok request) = Refused NoClient
+replies_with prepared (Some secret) reply (Ok request) =
+    replies_of prepared.dictionary secret request reply (answered prepared secret request)
+
+-- the same, with what this word has the digits of as the one that was captured
 abbrev pub replies_by : Prepared → Option (List ℕ) → Option (List ℕ) → Result (List ℕ) Fault
     → Replies
-replies_by prepared secret word (Err f) = Refused (Request f)
-replies_by prepared None word (Ok request) = Refused NoClient
-replies_by prepared (Some secret) word (Ok request) =
-    replies_of prepared.dictionary secret request word (answered prepared secret request)
+replies_by prepared secret word request =
+    replies_with prepared secret (reply_of_word word) (request_taken request)
 
 -- ---- the same
 
@@ -164,9 +181,15 @@ abbrev pub own_name : Option Packet → List ℕ
 own_name None = codes "none"
 own_name (Some own) = reply_name own.code
 
+-- why lines make no packet of a reply
+abbrev pub captured_text_shown : TextFault → List ℕ
+captured_text_shown text.OtherCode = codes "captured reply of another type"
+captured_text_shown f = codes "captured " ++ text_fault_shown f
+
 abbrev pub captured_fault_shown : CapturedFault → List ℕ
 captured_fault_shown (NoReply f) = codes "captured " ++ fault_shown f
 captured_fault_shown OtherRequest = codes "captured reply to another request"
+captured_fault_shown (Text f) = captured_text_shown f
 
 -- a record that is not different, which has no line unless all are told
 abbrev pub quietly_told : Told → List ℕ → List ℕ → List ℕ

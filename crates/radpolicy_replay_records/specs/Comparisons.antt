@@ -15,11 +15,14 @@ use Rattle.avp_unlang.specs.declared.codes.Code.{Code}
 use Rattle.avp_unlang.specs.declared.codes.Code.TheVariants as code
 use Rattle.radpolicy.specs.Faults.{fault_number}
 use Rattle.radpolicy.specs.RunOutcomes.{RunOutcome}
+use Rattle.radpolicy.specs.declared.faults.Fault.TheVariants as fault
 use Rattle.radpolicy_replay_records.specs.declared.answers.RecordFault.{RecordFault}
-use Rattle.radpolicy_replay_records.specs.declared.answers.RecordFault.TheVariants.{NoClient, Request}
+use Rattle.radpolicy_replay_records.specs.declared.answers.RecordFault.TheVariants.{NoClient, Request, Text}
 use Rattle.radpolicy_replay_records.specs.declared.comparisons.Comparison.{Comparison}
 use Rattle.radpolicy_replay_records.specs.declared.comparisons.Order.{Order}
 use Rattle.radpolicy_replay_records.specs.declared.comparisons.Order.TheVariants.{ByName, Ordered}
+use Rattle.radpolicy_traffic_packets.specs.declared.faults.TextFault.{TextFault}
+use Rattle.radpolicy_traffic_packets.specs.declared.faults.TextFault.TheVariants as text
 
 -- ---- the lists that are compared
 
@@ -80,10 +83,20 @@ pub record AreSameEnds (comparison : Comparison) (old new : End) : Type 0 where
   pub control : AreSame comparison.order (compared_list comparison Control old)
       (compared_list comparison Control new)
 
--- both records are refused by a fault of one number, or both are of no client
+-- the kinds of faults of lines: those that have a number by it
+abbrev pub text_fault_number : TextFault → ℕ
+text_fault_number text.TooLong = 0
+text_fault_number text.OtherCode = 1
+text_fault_number (text.Lines f) = fault_number (fault.Request f)
+text_fault_number text.PacketTooLong = fault_number fault.PacketTooLong
+text_fault_number text.Memory = fault_number fault.Memory
+
+-- both records are refused by a fault of one number, both are of no client, or the lines of both make no packet for one
+-- kind of reason
 abbrev pub AreSameFaults : RecordFault → RecordFault → Type 0
 AreSameFaults (Request f) (Request g) = fault_number f ≡ fault_number g
 AreSameFaults NoClient NoClient = ⊤
+AreSameFaults (Text f) (Text g) = text_fault_number f ≡ text_fault_number g
 AreSameFaults _ _ = ⊥
 
 -- two answers are the same: both are refused alike, or both runs came to the same
@@ -121,6 +134,7 @@ same_ends comparison old new = same_code old.code new.code && same_stop old.stop
 abbrev pub same_faults : RecordFault → RecordFault → Bool
 same_faults (Request f) (Request g) = fault_number f == fault_number g
 same_faults NoClient NoClient = true
+same_faults (Text f) (Text g) = text_fault_number f == text_fault_number g
 same_faults _ _ = false
 
 abbrev pub same_answers : Comparison → Result RunOutcome RecordFault

@@ -2,7 +2,10 @@ pub mod Answers
 pub mod Captured
 pub mod Comparisons
 pub mod Differences
+pub mod Entries
 pub mod Lines
 pub mod Records
 pub mod Replays
+pub mod TextEntries
+pub mod TextReplays
 pub mod internal

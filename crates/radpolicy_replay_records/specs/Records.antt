@@ -11,6 +11,8 @@ use Rattle.avp_dict.specs.Words.{is_blank, is_word}
 use Rattle.radpolicy.specs.declared.faults.Fault.{Fault}
 use Rattle.radpolicy.specs.declared.faults.Fault.TheVariants as fault
 use Rattle.radpolicy_clients.specs.Addresses.{address_of}
+use Rattle.radpolicy_replay_records.specs.declared.answers.RecordFault.{RecordFault}
+use Rattle.radpolicy_replay_records.specs.declared.answers.RecordFault.TheVariants.{Request}
 use Rattle.radpolicy_replay_records.specs.declared.lines.TheConstants.{MAX_LINE_OCTETS}
 
 -- ---- words
@@ -89,16 +91,14 @@ identifier_shown words = flat_map word_shown (filter is_no_source (words_before 
 abbrev pub is_too_long : List ℕ → Bool
 is_too_long line = nat_lt MAX_LINE_OCTETS (length line)
 
--- a text, or where it is empty the number and a space
+-- what a record is called: its identifier, or where it has none its number
 abbrev pub or_number : ℕ → List ℕ → List ℕ
 or_number number [] = decimal number ++ codes " "
 or_number number (o ∷ os) = o ∷ os
 
--- what a record is called: its identifier, or else its number; of a line that is too long nothing is read
-unfoldable pub name_shown : ℕ → List ℕ → List ℕ
-name_shown number line =
-    if is_too_long line then or_number number []
-    else or_number number (identifier_shown (line_words line))
+-- the identifier of a line; of one that is too long nothing is read
+unfoldable pub line_identifier : List ℕ → List ℕ
+line_identifier line = if is_too_long line then [] else identifier_shown (line_words line)
 
 -- ---- the packet of a record
 
@@ -109,6 +109,11 @@ octets_decoded (Err _) = Err fault.NotHex
 abbrev pub octets_of_word : Option (List ℕ) → Result (List ℕ) Fault
 octets_of_word None = Err fault.NotHex
 octets_of_word (Some word) = octets_decoded (decode_of word)
+
+-- a request, or why its record is refused
+abbrev pub request_taken : Result (List ℕ) Fault → Result (List ℕ) RecordFault
+request_taken (Ok octets) = Ok octets
+request_taken (Err f) = Err (Request f)
 
 -- the octets of the request: those of the first packet
 unfoldable pub request_octets : List ℕ → Result (List ℕ) Fault

@@ -5,19 +5,20 @@ use Rattle.std.specs.List.{enumerate_from, flat_map, fold}
 use Rattle.std.specs.Option.{option_and_then}
 use Rattle.radpolicy.specs.RunOutcomes.{RunOutcome}
 use Rattle.radpolicy.specs.Starts.{Prepared}
-use Rattle.radpolicy.specs.declared.faults.Fault.{Fault}
 use Rattle.radpolicy_clients.specs.Clients.{secret_for}
 use Rattle.radpolicy_replay_records.specs.Answers.{answer_shown, answered, answered_record}
-use Rattle.radpolicy_replay_records.specs.Captured.{replies_by, replies_told, reply_word, verdict_of_replies}
+use Rattle.radpolicy_replay_records.specs.Captured.{replies_told, replies_with, verdict_of_replies}
 use Rattle.radpolicy_replay_records.specs.Differences.{answers_told, verdict_of_answers}
+use Rattle.radpolicy_replay_records.specs.Entries.{entry_of_line}
 use Rattle.radpolicy_replay_records.specs.Lines.{ended_records_of, records_of}
-use Rattle.radpolicy_replay_records.specs.Records.{name_shown, request_octets, source_of}
+use Rattle.radpolicy_replay_records.specs.Records.{or_number, source_of}
 use Rattle.radpolicy_replay_records.specs.declared.answers.RecordFault.{RecordFault}
-use Rattle.radpolicy_replay_records.specs.declared.answers.RecordFault.TheVariants.{NoClient, Request}
+use Rattle.radpolicy_replay_records.specs.declared.answers.RecordFault.TheVariants.{NoClient}
 use Rattle.radpolicy_replay_records.specs.declared.captured.Replies.{Replies}
 use Rattle.radpolicy_replay_records.specs.declared.comparisons.Against.{Against}
 use Rattle.radpolicy_replay_records.specs.declared.comparisons.Against.TheVariants.{Captured, Policy}
 use Rattle.radpolicy_replay_records.specs.declared.comparisons.Comparison.{Comparison}
+use Rattle.radpolicy_replay_records.specs.declared.entries.Entry.{Entry}
 use Rattle.radpolicy_replay_records.specs.declared.replays.Replay.{Replay}
 use Rattle.radpolicy_replay_records.specs.declared.replays.ReplayFault.{ReplayFault}
 use Rattle.radpolicy_replay_records.specs.declared.replays.ReplayFault.TheVariants.{Input, TooManyRecords}
@@ -35,65 +36,70 @@ record_secret (One secret) line = Some secret.now
 record_secret (ByClient clients) line = option_and_then (secret_for clients.now) (source_of line)
 
 -- what a policy answers to a request, by the secret if there is one
-abbrev pub answer_by : Prepared → Option (List ℕ) → Result (List ℕ) Fault
+abbrev pub answer_by : Prepared → Option (List ℕ) → Result (List ℕ) RecordFault
     → Result RunOutcome RecordFault
-answer_by prepared secret (Err f) = Err (Request f)
+answer_by prepared secret (Err f) = Err f
 answer_by prepared None (Ok octets) = Err NoClient
 answer_by prepared (Some secret) (Ok octets) = answered_record (answered prepared secret octets)
 
--- what this policy answers to a record
-abbrev pub record_answer : SharedSecrets → Prepared → List ℕ → Result RunOutcome RecordFault
-record_answer shared prepared line =
-    answer_by prepared (record_secret shared line) (request_octets line)
-
--- the reply to it that was captured, and the policy's own
-abbrev pub record_replies : Replay → List ℕ → Replies
-record_replies replay line = replies_by replay.policy.now (record_secret replay.shared line)
-    (reply_word line) (request_octets line)
+-- the reply to a record that was captured, and this policy's own
+abbrev pub entry_replies : Replay → Option (List ℕ) → Entry → Replies
+entry_replies replay secret entry =
+    replies_with replay.policy.now secret entry.reply entry.request
 
 -- what is written for a record with this number whose answer is compared with these
-abbrev pub compared_text : Replay → Comparison → Against → ℕ → List ℕ → List ℕ
-compared_text replay comparison (Policy against) number line =
-    answers_told replay.secrets comparison (name_shown number line)
-    (record_answer replay.shared against.now line)
-    (record_answer replay.shared replay.policy.now line)
-compared_text replay comparison Captured number line =
-    replies_told replay.secrets replay.policy.now.dictionary comparison (name_shown number line)
-    (record_replies replay line)
+abbrev pub compared_text : Replay → Comparison → Against → ℕ → Option (List ℕ) → Entry → List ℕ
+compared_text replay comparison (Policy against) number secret entry =
+    answers_told replay.secrets comparison (or_number number entry.identifier)
+    (answer_by against.now secret entry.request)
+    (answer_by replay.policy.now secret entry.request)
+compared_text replay comparison Captured number secret entry =
+    replies_told replay.secrets replay.policy.now.dictionary comparison
+    (or_number number entry.identifier) (entry_replies replay secret entry)
 
 -- what is written for a record with this number, where its answer is compared and where it is not
-abbrev pub text_by : Replay → Option Comparison → ℕ → List ℕ → List ℕ
-text_by replay None number line = name_shown number line
+abbrev pub text_by : Replay → Option Comparison → ℕ → Option (List ℕ) → Entry → List ℕ
+text_by replay None number secret entry = or_number number entry.identifier
     ++ answer_shown replay.policy.now.dictionary replay.secrets
-    (record_answer replay.shared replay.policy.now line)
+    (answer_by replay.policy.now secret entry.request)
     ++ codes "\n"
-text_by replay (Some comparison) number line =
-    compared_text replay comparison comparison.against number line
+text_by replay (Some comparison) number secret entry =
+    compared_text replay comparison comparison.against number secret entry
 
--- what is written for a record with this number
+-- what is written for a record with this number that says this, by the secret of its source if there is one
+unfoldable pub entry_text : Replay → ℕ → Option (List ℕ) → Entry → List ℕ
+entry_text replay number secret entry = text_by replay replay.comparison number secret entry
+
+-- what is written for the record of a line with this number
 unfoldable pub record_text : Replay → ℕ → List ℕ → List ℕ
-record_text replay number line = text_by replay replay.comparison number line
+record_text replay number line =
+    entry_text replay number (record_secret replay.shared line) (entry_of_line line)
 
 abbrev pub verdict_by : Result RunOutcome RecordFault → Verdict
 verdict_by (Ok _) = Answered
 verdict_by (Err _) = Refused
 
-abbrev pub compared_verdict : Replay → Comparison → Against → List ℕ → Verdict
-compared_verdict replay comparison (Policy against) line =
-    verdict_of_answers comparison (record_answer replay.shared against.now line)
-    (record_answer replay.shared replay.policy.now line)
-compared_verdict replay comparison Captured line =
-    verdict_of_replies comparison (record_replies replay line)
+abbrev pub compared_verdict : Replay → Comparison → Against → Option (List ℕ) → Entry → Verdict
+compared_verdict replay comparison (Policy against) secret entry =
+    verdict_of_answers comparison (answer_by against.now secret entry.request)
+    (answer_by replay.policy.now secret entry.request)
+compared_verdict replay comparison Captured secret entry =
+    verdict_of_replies comparison (entry_replies replay secret entry)
 
-abbrev pub verdict_on : Replay → Option Comparison → List ℕ → Verdict
-verdict_on replay None line =
-    verdict_by (record_answer replay.shared replay.policy.now line)
-verdict_on replay (Some comparison) line =
-    compared_verdict replay comparison comparison.against line
+abbrev pub verdict_on : Replay → Option Comparison → Option (List ℕ) → Entry → Verdict
+verdict_on replay None secret entry =
+    verdict_by (answer_by replay.policy.now secret entry.request)
+verdict_on replay (Some comparison) secret entry =
+    compared_verdict replay comparison comparison.against secret entry
 
--- what became of a record
+-- what became of a record that says this
+unfoldable pub entry_verdict : Replay → Option (List ℕ) → Entry → Verdict
+entry_verdict replay secret entry = verdict_on replay replay.comparison secret entry
+
+-- what became of the record of a line
 unfoldable pub verdict_of : Replay → List ℕ → Verdict
-verdict_of replay line = verdict_on replay replay.comparison line
+verdict_of replay line =
+    entry_verdict replay (record_secret replay.shared line) (entry_of_line line)
 
 -- ---- all records
 

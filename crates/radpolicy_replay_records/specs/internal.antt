@@ -1,3 +1,4 @@
 pub mod Fitting
 pub mod Over
 pub mod Positions
+pub mod Tellings

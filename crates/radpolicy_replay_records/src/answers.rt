@@ -4,13 +4,15 @@ ghost use Rattle.std.specs.Prelude.{◌≡◌, ◌++◌, Err, IfErr, IfOk, Ok, O
 ghost use Rattle.avp_lists.specs.History.{present};
 ghost use Rattle.avp_unlang.specs.Meaning.{Outcome as End};
 ghost use Rattle.radpolicy.specs.Faults.{MemoryOr};
-ghost use Rattle.radpolicy_replay_records.specs.Answers.{answered, fault_shown, has_secret, hides_reply, outcome_shown, refusal_shown, reply_shown, result_shown};
+ghost use Rattle.radpolicy_replay_records.specs.Answers.{answered, fault_shown, has_secret, hides_reply, outcome_shown, lines_fault_shown, refusal_shown, reply_shown, result_shown, text_fault_shown};
 
-use avp_dict::Dictionary;
+use avp_dict::{Dictionary, LineFault};
 use avp_lists::{List, Pair, Store};
 use avp_unlang::Code;
+use itoa::Buffer;
 use radpolicy::{Fault, PreparedPolicy, Reply, RunOutcome, Secret, Start, code_text};
 use radpolicy_common::{SecretValues, is_secret};
+use radpolicy_traffic_packets::TextFault;
 use std::alloc::{AllocError, Global};
 
 /// Why a record is refused.
@@ -20,6 +22,8 @@ pub enum RecordFault {
     Request(Fault),
     /// Its source is no client's, or it has none.
     NoClient,
+    /// Its lines make no packet.
+    Text(TextFault),
 }
 
 /// What a policy answers to the octets of a packet: the outcome of its run, or why there is none.
@@ -118,6 +122,33 @@ pub(crate) fn push_fault(text: &mut Vec<u8>, fault: Fault) -> Result<(), AllocEr
     Ok(())
 }
 
+// The fault of a line of a packet, and where it is.
+fn push_lines_fault(text: &mut Vec<u8>, fault: LineFault) -> Result<(), AllocError>
+    ensures { OnOk result (text.new.items ≡ text.old.items ++ lines_fault_shown fault) }
+{
+    let mut digits = Buffer::new();
+    push_fault(text, Fault::Request(fault))?;
+    text.extend_from_slice(b" line ")?;
+    text.extend_from_slice(digits.format(fault.line).as_bytes())?;
+    Ok(())
+}
+
+/// Why the lines of a record make no packet.
+pub(crate) fn push_text_fault(text: &mut Vec<u8>, fault: TextFault) -> Result<(), AllocError>
+    ensures { OnOk result (text.new.items ≡ text.old.items ++ text_fault_shown fault) }
+{
+    match fault {
+        TextFault::TooLong => text.extend_from_slice(b"record too long")?,
+        TextFault::OtherCode => {
+            text.extend_from_slice(b"neither Access-Request nor Accounting-Request")?
+        }
+        TextFault::Lines(fault) => push_lines_fault(text, fault)?,
+        TextFault::PacketTooLong => push_fault(text, Fault::PacketTooLong)?,
+        TextFault::Memory => push_fault(text, Fault::Memory)?,
+    }
+    Ok(())
+}
+
 /// Why a record is refused.
 pub(crate) fn push_refusal(text: &mut Vec<u8>, fault: RecordFault) -> Result<(), AllocError>
     ensures { OnOk result (text.new.items ≡ text.old.items ++ refusal_shown fault) }
@@ -128,5 +159,6 @@ pub(crate) fn push_refusal(text: &mut Vec<u8>, fault: RecordFault) -> Result<(),
             text.extend_from_slice(b"no client")?;
             Ok(())
         }
+        RecordFault::Text(fault) => push_text_fault(text, fault),
     }
 }

@@ -1,35 +1,34 @@
 //! The reply that was really sent to a record's request, beside the policy's own.
 
 ghost use Rattle.std.specs.Prelude.{◌≡◌, ◌↔◌, ◌++◌, ◌<◌, Err, IfErr, IfOk, IfSome, IsTrue, Ok, OnOk, Some, codes, length};
-ghost use Rattle.std.specs.Option.{option_copied};
-ghost use Rattle.hex.specs.Hex.{decode_of};
 ghost use Rattle.avp_packet.specs.DecodedReply.{decoded_reply};
 ghost use Rattle.avp_packet.specs.Packets.{authenticator_of};
 ghost use Rattle.radpolicy.specs.Faults.{MemoryOr};
 ghost use Rattle.radpolicy.specs.StartRefusals.{IsUnreadPacket};
 ghost use Rattle.radpolicy_common.specs.ChangeTexts.{AllFit};
-ghost use Rattle.radpolicy_replay_records.specs.Captured.{AreSameReplies, answers, beside, beside_word, captured_fault_shown, captured_reply, compared_pairs, is_reply_code, left_out, other_reply_told, own_name, packets_change, own_reply, quietly_told, replies_by, replies_change, replies_told, reply_name, reply_read, reply_to, reply_word, same_packets, same_replies, unless_other, verdict_of_replies, with_own};
-ghost use Rattle.radpolicy_replay_records.specs.Answers.{fault_shown, refusal_shown};
+ghost use Rattle.radpolicy_replay_records.specs.Captured.{AreSameReplies, answers, beside, beside_captured, captured_fault_shown, captured_reply, captured_text_shown, compared_pairs, is_reply_code, left_out, other_reply_told, own_name, packets_change, own_reply, quietly_told, replies_by, replies_change, replies_told, replies_with, reply_name, reply_to, reply_word, same_packets, same_replies, unless_other, verdict_of_replies, with_own};
+ghost use Rattle.radpolicy_replay_records.specs.Answers.{fault_shown, refusal_shown, text_fault_shown};
 ghost use Rattle.radpolicy_replay_records.specs.Comparisons.{pairs_of};
 ghost use Rattle.radpolicy_replay_records.specs.Differences.{added_line, removed_line};
 ghost use Rattle.radpolicy_replay_records.specs.declared.captured.Replies.TheVariants.{Both};
 ghost use Rattle.radpolicy_replay_records.specs.declared.summaries.Verdict.TheVariants.{Refused as RefusedRecord};
-ghost use Rattle.radpolicy_replay_records.specs.Records.{octets_decoded, request_octets};
+ghost use Rattle.radpolicy_replay_records.specs.Records.{request_octets};
 ghost use Rattle.radpolicy_replay_records.specs.internal.Fitting.{HasHead, OwnFits, PacketFits, RepliesFit};
 
-use crate::answers::{RecordFault, answer, push_fault, push_refusal};
+use crate::answers::{RecordFault, answer, push_fault, push_refusal, push_text_fault};
 use crate::comparisons::{Comparison, Order, Told, compared, same_lists};
 use crate::differences::{Printer, push_named};
-use crate::records::{octets_of_digits, reply_word, request_octets};
+use crate::entries::{Entry, entry_of_line};
 use crate::summaries::Verdict;
 use avp_dict::Dictionary;
-use avp_lists::{AttrId, Pair};
+use avp_lists::{AttrId, Octets, Pair};
 use avp_packet::{
     ACCESS_ACCEPT, ACCESS_CHALLENGE, ACCESS_REJECT, ACCOUNTING_REQUEST, ACCOUNTING_RESPONSE,
     Packet, decode_reply,
 };
 use radpolicy::{Fault, PreparedPolicy, Reply, Secret};
 use radpolicy_common::SecretValues;
+use radpolicy_traffic_packets::TextFault;
 use std::alloc::{AllocError, Global};
 
 /// Why what was captured is no reply to the request.
@@ -39,6 +38,20 @@ pub enum CapturedFault {
     NoReply(Fault),
     /// It has another Identifier, or a code that answers another kind of request.
     OtherRequest,
+    /// Its lines make no packet.
+    Text(TextFault),
+}
+
+/// The reply that a record has, before it is read as one.
+#[derive(Drop)]
+pub enum CapturedReply {
+    Missing,
+    /// The octets of its packet.
+    Octets(Octets),
+    /// The lines of an Access-Challenge, of which no packet is made.
+    Challenge,
+    /// There are no octets of it.
+    Unread(CapturedFault),
 }
 
 /// The replies to a record, or why they are not compared.
@@ -61,8 +74,8 @@ pub enum Replies {
 
 // ---- the reply that was captured
 
-// The authenticator of a packet.
-fn copy_authenticator(octets: &[u8]) -> [u8; 16]
+/// The authenticator of a packet.
+pub(crate) fn copy_authenticator(octets: &[u8]) -> [u8; 16]
     requires { HasHead octets.now }
     ensures { result ≡ authenticator_of octets.now }
 {
@@ -132,38 +145,20 @@ fn reply_to(
     }
 }
 
-fn reply_read(
-    alloc: Global,
-    dictionary: &Dictionary,
-    secret: &Secret<'_>,
-    request: &[u8],
-    word: &[u8],
-) -> Result<Packet, Fault>
-    requires { HasHead request.now }
-    ensures ok { IfOk result (λ sent. reply_read dictionary.now secret.now request.now
-        (octets_decoded (decode_of word.now)) ≡ Ok sent) }
-    ensures fits { IfOk result (PacketFits dictionary.now) }
-    ensures refused { IfErr result (MemoryOr (λ f. reply_read dictionary.now secret.now request.now
-        (octets_decoded (decode_of word.now)) ≡ Err f)) }
-{
-    let octets = octets_of_digits(alloc, word)?;
-    reply_to(alloc, dictionary, secret, request, &octets)
-}
-
 // What was captured as the reply to the request of these octets, or why it is none.
 fn captured_reply(
     alloc: Global,
     dictionary: &Dictionary,
     secret: &Secret<'_>,
     request: &[u8],
-    word: &[u8],
+    octets: &[u8],
 ) -> Result<Result<Packet, CapturedFault>, AllocError>
     requires { HasHead request.now }
     ensures reply { IfOk result (λ captured.
-        captured ≡ captured_reply dictionary.now secret.now request.now word.now) }
+        captured ≡ captured_reply dictionary.now secret.now request.now octets.now) }
     ensures fits { IfOk result (λ captured. IfOk captured (PacketFits dictionary.now)) }
 {
-    match reply_read(alloc, dictionary, secret, request, word) {
+    match reply_to(alloc, dictionary, secret, request, octets) {
         Ok(sent) => {
             if answers(request, &sent) {
                 Ok(Ok(sent))
@@ -248,24 +243,28 @@ fn beside(
     }
 }
 
-fn beside_word(
+fn beside_captured(
     alloc: Global,
     dictionary: &Dictionary,
     secret: &Secret<'_>,
     request: &[u8],
     reply: &Reply,
-    word: Option<&[u8]>,
+    captured: &CapturedReply,
 ) -> Result<Replies, AllocError>
     requires { HasHead request.now }
     ensures replies { IfOk result (λ replies. replies
-        ≡ beside_word dictionary.now secret.now request.now reply.now (option_copied word.entry)) }
+        ≡ beside_captured dictionary.now secret.now request.now reply.now captured.now) }
     ensures fit { IfOk result (RepliesFit dictionary.now) }
 {
-    let Some(word) = word else {
-        return Ok(Replies::Unanswered);
-    };
-    let captured = captured_reply(alloc, dictionary, secret, request, word)?;
-    beside(alloc, dictionary, secret, request, reply, captured)
+    match captured {
+        CapturedReply::Missing => Ok(Replies::Unanswered),
+        CapturedReply::Challenge => Ok(Replies::Challenge),
+        CapturedReply::Unread(fault) => Ok(Replies::Unread(*fault)),
+        CapturedReply::Octets(octets) => {
+            let captured = captured_reply(alloc, dictionary, secret, request, octets.as_slice())?;
+            beside(alloc, dictionary, secret, request, reply, captured)
+        }
+    }
 }
 
 // The replies to the request of these octets.
@@ -275,41 +274,66 @@ fn replies_of<'a>(
     policy: &'a PreparedPolicy<'a>,
     secret: &'a Secret<'a>,
     request: &[u8],
-    word: Option<&[u8]>,
+    captured: &CapturedReply,
 ) -> Result<Replies, AllocError>
-    ensures replies { IfOk result (λ replies. replies ≡ replies_by policy.entry.now
-        (Some secret.entry.now) (option_copied word.entry) (Ok request.now)) }
+    ensures replies { IfOk result (λ replies. replies ≡ replies_with policy.entry.now
+        (Some secret.entry.now) captured.now (Ok request.now)) }
     ensures fit { IfOk result (RepliesFit policy.entry.now.dictionary) }
 {
     match answer(alloc, policy, secret, request) {
         Ok(outcome) => {
             let dictionary = policy.dictionary();
-            beside_word(alloc, dictionary, secret, request, outcome.reply(), word)
+            beside_captured(
+                alloc,
+                dictionary,
+                secret,
+                request,
+                outcome.reply(),
+                captured,
+            )
         }
         Err(Fault::Memory) => Err(AllocError),
         Err(fault) => Ok(Replies::Refused(RecordFault::Request(fault))),
     }
 }
 
-fn replies_by<'a>(
+fn replies_with<'a>(
     alloc: Global,
     policy: &'a PreparedPolicy<'a>,
     secret: &'a Option<Secret<'a>>,
     request: &[u8],
-    word: Option<&[u8]>,
+    captured: &CapturedReply,
 ) -> Result<Replies, AllocError>
-    ensures replies { IfOk result (λ replies. replies ≡ replies_by policy.entry.now
-        secret.entry.now (option_copied word.entry) (Ok request.now)) }
+    ensures replies { IfOk result (λ replies. replies ≡ replies_with policy.entry.now
+        secret.entry.now captured.now (Ok request.now)) }
     ensures fit { IfOk result (RepliesFit policy.entry.now.dictionary) }
 {
     match secret {
-        Some(secret) => replies_of(alloc, policy, secret, request, word),
+        Some(secret) => replies_of(alloc, policy, secret, request, captured),
         None => Ok(Replies::Refused(RecordFault::NoClient)),
     }
 }
 
-/// The reply that was captured for a record, and the policy's own: both are read as [`decode_reply`] reads them, by the
-/// request's authenticator. A record that is refused has none, as all have without a secret.
+/// The reply that was captured for what a record says, and the policy's own: both are read as [`decode_reply`] reads
+/// them, by the request's authenticator. A record that is refused has none, as all have without a secret.
+pub(crate) fn entry_replies<'a>(
+    alloc: Global,
+    policy: &'a PreparedPolicy<'a>,
+    secret: &'a Option<Secret<'a>>,
+    entry: &Entry,
+) -> Result<Replies, AllocError>
+    ensures replies { IfOk result (λ replies. replies ≡ replies_with policy.entry.now
+        secret.entry.now entry.now.reply entry.now.request) }
+    ensures fit { IfOk result (RepliesFit policy.entry.now.dictionary) }
+{
+    match &entry.request {
+        Ok(request) => replies_with(alloc, policy, secret, request.as_slice(), &entry.reply),
+        Err(fault) => Ok(Replies::Refused(*fault)),
+    }
+}
+
+/// The reply that was captured for the record of a line, and the policy's own: both are read as [`decode_reply`] reads
+/// them, by the request's authenticator. A record that is refused has none, as all have without a secret.
 pub fn replies_to<'a>(
     alloc: Global,
     policy: &'a PreparedPolicy<'a>,
@@ -320,14 +344,8 @@ pub fn replies_to<'a>(
         secret.entry.now (reply_word line.now) (request_octets line.now)) }
     ensures fit { IfOk result (RepliesFit policy.entry.now.dictionary) }
 {
-    match request_octets(alloc, line) {
-        Ok(request) => {
-            let word = reply_word(alloc, line)?;
-            replies_by(alloc, policy, secret, &request, word)
-        }
-        Err(Fault::Memory) => Err(AllocError),
-        Err(fault) => Ok(Replies::Refused(RecordFault::Request(fault))),
-    }
+    let entry = entry_of_line(alloc, line)?;
+    entry_replies(alloc, policy, secret, &entry)
 }
 
 // ---- the same
@@ -442,6 +460,18 @@ fn push_no_reply(text: &mut Vec<u8>, fault: Fault) -> Result<(), AllocError>
     push_fault(text, fault)
 }
 
+// Why lines make no packet of a reply.
+fn push_captured_text(text: &mut Vec<u8>, fault: TextFault) -> Result<(), AllocError>
+    ensures { OnOk result (text.new.items ≡ text.old.items ++ captured_text_shown fault) }
+{
+    if let TextFault::OtherCode = fault {
+        text.extend_from_slice(b"captured reply of another type")?;
+        return Ok(());
+    }
+    text.extend_from_slice(b"captured ")?;
+    push_text_fault(text, fault)
+}
+
 fn push_captured_fault(text: &mut Vec<u8>, fault: CapturedFault) -> Result<(), AllocError>
     ensures { OnOk result (text.new.items ≡ text.old.items ++ captured_fault_shown fault) }
 {
@@ -451,6 +481,7 @@ fn push_captured_fault(text: &mut Vec<u8>, fault: CapturedFault) -> Result<(), A
             text.extend_from_slice(b"captured reply to another request")?;
             Ok(())
         }
+        CapturedFault::Text(fault) => push_captured_text(text, fault),
     }
 }
 

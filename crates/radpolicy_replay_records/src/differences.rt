@@ -3,7 +3,7 @@
 ghost use Rattle.std.specs.Prelude.{◌≡◌, ◌++◌, IfOk, Ok, OnOk, codes};
 ghost use Rattle.std.specs.List.{flat_map};
 ghost use Rattle.radpolicy_common.specs.ChangeTexts.{AllFit, Fits};
-ghost use Rattle.radpolicy_replay_records.specs.Comparisons.{ids_of, pairs_of, same_answers, same_faults};
+ghost use Rattle.radpolicy_replay_records.specs.Comparisons.{ids_of, pairs_of, same_answers, same_faults, text_fault_number};
 ghost use Rattle.radpolicy_replay_records.specs.Differences.{added_line, answers_told, change_of, changes_of, difference_told, instances_change, list_change, named_change, pairs_change, removed_line, result_or_fault, same_told, verdict_of_answers, verdict_of_same};
 ghost use Rattle.radpolicy_replay_records.specs.internal.Over.{IsOver};
 
@@ -12,8 +12,9 @@ use crate::comparisons::{Comparison, Order, Told, compared, ids_of, instances, s
 use crate::summaries::Verdict;
 use avp_dict::Dictionary;
 use avp_lists::{AttrId, List, Pair, Store};
-use radpolicy::RunOutcome;
+use radpolicy::{Fault, RunOutcome};
 use radpolicy_common::{Change, SecretValues, change_lines};
+use radpolicy_traffic_packets::TextFault;
 use std::alloc::{AllocError, Global};
 
 /// The dictionaries by which the pairs of two lists are printed.
@@ -179,12 +180,28 @@ pub(crate) fn push_named(text: &mut Vec<u8>, name: &[u8], lines: &[u8]) -> Resul
     Ok(())
 }
 
+// The kinds of faults of lines.
+fn text_fault_number(fault: TextFault) -> u8
+    ensures { result ≡ text_fault_number fault }
+{
+    match fault {
+        TextFault::TooLong => 0,
+        TextFault::OtherCode => 1,
+        TextFault::Lines(fault) => Fault::Request(fault).number(),
+        TextFault::PacketTooLong => Fault::PacketTooLong.number(),
+        TextFault::Memory => Fault::Memory.number(),
+    }
+}
+
 fn same_faults(old: RecordFault, new: RecordFault) -> bool
     ensures { result ≡ same_faults old new }
 {
     match (old, new) {
         (RecordFault::Request(old), RecordFault::Request(new)) => old.number() == new.number(),
         (RecordFault::NoClient, RecordFault::NoClient) => true,
+        (RecordFault::Text(old), RecordFault::Text(new)) => {
+            text_fault_number(old) == text_fault_number(new)
+        }
         _ => false,
     }
 }

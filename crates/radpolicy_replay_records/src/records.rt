@@ -8,7 +8,7 @@ ghost use Rattle.avp_dict.specs.Quotes.{octal_escape};
 ghost use Rattle.avp_dict.specs.internal.Views.{views};
 ghost use Rattle.radpolicy.specs.Faults.{MemoryOr};
 ghost use Rattle.radpolicy_replay_records.specs.Captured.{reply_word, words_after};
-ghost use Rattle.radpolicy_replay_records.specs.Records.{begins_source, has_double_colon, identifier_shown, is_address, is_address_octet, is_packet_word, is_source, line_words, name_shown, octet_shown, octets_decoded, or_number, request_octets, source_of, source_text, word_shown, words_before};
+ghost use Rattle.radpolicy_replay_records.specs.Records.{begins_source, has_double_colon, identifier_shown, is_address, is_address_octet, is_packet_word, is_source, line_identifier, line_words, octet_shown, octets_decoded, or_number, request_octets, source_of, source_text, word_shown, words_before};
 
 use crate::lines::MAX_LINE_OCTETS;
 use avp_dict::words_between_blanks;
@@ -156,8 +156,8 @@ fn push_octet(text: &mut Vec<u8>, octet: u8) -> Result<(), AllocError>
     Ok(())
 }
 
-// A word, and a space.
-fn push_word(text: &mut Vec<u8>, word: &[u8]) -> Result<(), AllocError>
+/// A word, and a space.
+pub(crate) fn push_word(text: &mut Vec<u8>, word: &[u8]) -> Result<(), AllocError>
     ensures { OnOk result (text.new.items ≡ text.old.items ++ word_shown word.now) }
 {
     for octet in word {
@@ -185,8 +185,8 @@ fn identifier_shown(alloc: Global, words: &[&[u8]]) -> Result<Vec<u8>, AllocErro
     Ok(text)
 }
 
-// A text, or where it is empty the number.
-fn push_or_number(text: &mut Vec<u8>, number: u64, name: &[u8]) -> Result<(), AllocError>
+/// What a record is called: its identifier, or where it has none its number.
+pub(crate) fn push_name(text: &mut Vec<u8>, number: u64, name: &[u8]) -> Result<(), AllocError>
     ensures { OnOk result (text.new.items ≡ text.old.items ++ or_number number name.now) }
 {
     if let [] = name {
@@ -199,18 +199,16 @@ fn push_or_number(text: &mut Vec<u8>, number: u64, name: &[u8]) -> Result<(), Al
     Ok(())
 }
 
-/// What a record is called.
-#[tactic(auto, unfolding(crate::specs::Records::name_shown))]
-pub(crate) fn push_name(text: &mut Vec<u8>, number: u64, line: &[u8]) -> Result<(), AllocError>
-    ensures { OnOk result (text.new.items ≡ text.old.items ++ name_shown number line.now) }
+/// The identifier of a line.
+#[tactic(auto, unfolding(crate::specs::Records::line_identifier))]
+pub(crate) fn line_identifier(alloc: Global, line: &[u8]) -> Result<Vec<u8>, AllocError>
+    ensures { IfOk result (λ text. text.items ≡ line_identifier line.now) }
 {
     if line.len() > MAX_LINE_OCTETS {
-        return push_or_number(text, number, b"");
+        return Ok(Vec::new(alloc));
     }
-    let alloc = *text.allocator();
     let words = line_words(alloc, line)?;
-    let name = identifier_shown(alloc, &words)?;
-    push_or_number(text, number, &name)
+    identifier_shown(alloc, &words)
 }
 
 // ---- the packet of a record

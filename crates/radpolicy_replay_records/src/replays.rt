@@ -4,23 +4,29 @@ ghost use Rattle.std.specs.Prelude.{◌≡◌, ◌<◌, ◌≤◌, ◌+◌, ◌+
 ghost use Rattle.std.specs.Io.KnownBytes.{Appends, Consumes, IsAtEnd, Keeps};
 ghost use Rattle.radpolicy_replay_records.specs.Lines.{cut};
 ghost use Rattle.radpolicy_replay_records.specs.Answers.{answer_shown};
-ghost use Rattle.radpolicy_replay_records.specs.Replays.{AppendsFront, IsReason, answer_by, compared_text, compared_verdict, record_answer, record_secret, record_text, replayed_text, summary_of, text_by, verdict_by, verdict_of, verdict_on};
-ghost use Rattle.radpolicy_replay_records.specs.Records.{request_octets};
+ghost use Rattle.radpolicy_replay_records.specs.Replays.{AppendsFront, IsReason, answer_by, compared_text, compared_verdict, counted, entry_text, entry_verdict, record_secret, record_text, replayed_text, summary_of, text_by, verdict_by, verdict_of, verdict_on};
+ghost use Rattle.radpolicy_replay_records.specs.Entries.{entry_of_line};
+ghost use Rattle.radpolicy_replay_records.specs.TextEntries.{IsEntryOf, text_secret};
+ghost use Rattle.radpolicy_replay_records.specs.TextReplays.{IsRecordsReason, IsReplayed, IsReplayedFront};
 ghost use Rattle.radpolicy_replay_records.specs.internal.Over.{IsOver};
 ghost use Rattle.radpolicy_replay_records.specs.declared.comparisons.Against.TheVariants.{Captured, Policy};
 ghost use Rattle.radpolicy_replay_records.specs.declared.replays.ReplayFault.TheVariants.{Input as NotRead, Memory as OutOfMemory, Output as NotWritten};
-ghost use Rattle.radpolicy_replay_records.specs.internal.Positions.{CountsWithin, HasNoEnd, IsLineReason, IsOctetsReason, Writes, WritesFront, line_counted, line_text};
+ghost use Rattle.radpolicy_replay_records.specs.internal.Positions.{CountsWithin, HasNoEnd, IsEntryReason, IsLineReason, IsOctetsReason, Writes, WritesFront, line_counted, line_text};
 
 use crate::answers::{RecordFault, answer, push_outcome, push_refusal};
-use crate::captured::replies_to;
+use crate::captured::entry_replies;
 use crate::comparisons::{Against, Comparison};
 use crate::differences::Printer;
+use crate::entries::{Entry, entry_of_line};
+use crate::inputs::Records;
 use crate::lines::{MAX_LINE_OCTETS, first_line_end, is_record, keep};
-use crate::records::{push_name, request_octets, source_of};
+use crate::records::{push_name, source_of};
 use crate::summaries::{Summary, Verdict};
+use crate::text_entries::{entry_of_record, text_source};
 use radpolicy::{Fault, PreparedPolicy, RunOutcome, Secret};
 use radpolicy_clients::Clients;
 use radpolicy_common::SecretValues;
+use radpolicy_traffic::Record;
 use std::alloc::{AllocError, AllocFailed, Global};
 use std::io::{ErrorKind, Read, Write};
 
@@ -144,7 +150,7 @@ fn flush<W: Write>(out: &mut W) -> Result<(), ReplayFault>
 }
 
 // What a policy answers to a request.
-fn answer_to_request<'a>(
+fn answer_by<'a>(
     alloc: Global,
     policy: &'a PreparedPolicy<'a>,
     secret: &'a Option<Secret<'a>>,
@@ -164,19 +170,18 @@ fn answer_to_request<'a>(
 }
 
 // What a policy answers to a record.
-fn answer_by<'a>(
+fn entry_answer<'a>(
     alloc: Global,
     policy: &'a PreparedPolicy<'a>,
     secret: &'a Option<Secret<'a>>,
-    line: &[u8],
+    entry: &Entry,
 ) -> Result<Result<RunOutcome<'a>, RecordFault>, AllocError>
     ensures { IfOk result (λ answer.
-        answer ≡ answer_by policy.entry.now secret.entry.now (request_octets line.now)) }
+        answer ≡ answer_by policy.entry.now secret.entry.now entry.now.request) }
 {
-    match request_octets(alloc, line) {
-        Ok(octets) => answer_to_request(alloc, policy, secret, &octets),
-        Err(Fault::Memory) => Err(AllocError),
-        Err(fault) => Ok(Err(RecordFault::Request(fault))),
+    match &entry.request {
+        Ok(octets) => answer_by(alloc, policy, secret, octets.as_slice()),
+        Err(fault) => Ok(Err(*fault)),
     }
 }
 
@@ -185,13 +190,13 @@ fn answer_over<'a>(
     alloc: Global,
     policy: &'a PreparedPolicy<'a>,
     secret: &'a Option<Secret<'a>>,
-    line: &[u8],
+    entry: &Entry,
 ) -> Result<Result<RunOutcome<'a>, RecordFault>, AllocError>
     ensures answer { IfOk result (λ answer.
-        answer ≡ answer_by policy.entry.now secret.entry.now (request_octets line.now)) }
+        answer ≡ answer_by policy.entry.now secret.entry.now entry.now.request) }
     ensures over { IfOk result (IsOver policy.entry.now.dictionary) }
 {
-    let answer = answer_by(alloc, policy, secret, line)?;
+    let answer = entry_answer(alloc, policy, secret, entry)?;
     Ok(answer)
 }
 
@@ -208,20 +213,36 @@ impl SharedSecrets<'_> {
             },
         }
     }
+
+    // The secret that is shared with the source of a record of lines.
+    fn of_text(&self, record: &Record) -> Option<Secret<'_>>
+        ensures { result ≡ text_secret self.now record.now }
+    {
+        match self {
+            SharedSecrets::One(secret) => Secret::new(secret.as_slice()).ok(),
+            SharedSecrets::ByClient(clients) => match text_source(record) {
+                Some(address) => clients.secret_for(address),
+                None => None,
+            },
+        }
+    }
 }
 
 impl<'a> Replay<'a> {
     // What is said of the answer to a record.
-    fn push_answer(&self, text: &mut Vec<u8>, line: &[u8]) -> Result<Verdict, AllocError>
+    fn push_answer<'b>(
+        &'b self,
+        text: &mut Vec<u8>,
+        secret: &'b Option<Secret<'b>>,
+        entry: &Entry,
+    ) -> Result<Verdict, AllocError>
         ensures text { OnOk result (text.new.items ≡ text.old.items
             ++ answer_shown self.now.policy.now.dictionary self.now.secrets
-            (record_answer self.now.shared self.now.policy.now line.now)) }
+            (answer_by self.now.policy.now secret.now entry.now.request)) }
         ensures verdict { IfOk result (λ verdict. verdict
-            ≡ verdict_by (record_answer self.now.shared self.now.policy.now line.now)) }
+            ≡ verdict_by (answer_by self.now.policy.now secret.now entry.now.request)) }
     {
-        let alloc = *text.allocator();
-        let secret = self.shared.of_record(alloc, line)?;
-        match answer_by(alloc, self.policy, &secret, line)? {
+        match entry_answer(*text.allocator(), self.policy, secret, entry)? {
             Ok(outcome) => {
                 push_outcome(text, self.policy.dictionary(), self.secrets, &outcome)?;
                 Ok(Verdict::Answered)
@@ -234,42 +255,44 @@ impl<'a> Replay<'a> {
     }
 
     // The line of a record whose answer is not compared.
-    fn push_answered(
-        &self,
+    fn push_answered<'b>(
+        &'b self,
         text: &mut Vec<u8>,
         number: u64,
-        line: &[u8],
+        secret: &'b Option<Secret<'b>>,
+        entry: &Entry,
     ) -> Result<Verdict, AllocError>
-        ensures text { OnOk result
-            (text.new.items ≡ text.old.items ++ text_by self.now None number line.now) }
-        ensures verdict { IfOk result (λ verdict. verdict ≡ verdict_on self.now None line.now) }
+        ensures text { OnOk result (text.new.items
+            ≡ text.old.items ++ text_by self.now None number secret.now entry.now) }
+        ensures verdict { IfOk result (λ verdict.
+            verdict ≡ verdict_on self.now None secret.now entry.now) }
     {
-        push_name(text, number, line)?;
-        let verdict = self.push_answer(text, line)?;
+        push_name(text, number, entry.identifier.as_slice())?;
+        let verdict = self.push_answer(text, secret, entry)?;
         text.extend_from_slice(b"\n")?;
         Ok(verdict)
     }
 
     // What is said of a record whose answer is compared with that of another policy.
-    fn push_beside_policy(
-        &self,
+    fn push_beside_policy<'b>(
+        &'b self,
         text: &mut Vec<u8>,
-        comparison: &Comparison<'a>,
-        against: &'a PreparedPolicy<'a>,
+        comparison: &'b Comparison<'b>,
+        against: &'b PreparedPolicy<'b>,
         number: u64,
-        line: &[u8],
+        secret: &'b Option<Secret<'b>>,
+        entry: &Entry,
     ) -> Result<Verdict, AllocError>
-        ensures text { OnOk result (text.new.items ≡ text.old.items
-            ++ compared_text self.now comparison.now (Policy against.entry) number line.now) }
-        ensures verdict { IfOk result (λ verdict. verdict
-            ≡ compared_verdict self.now comparison.now (Policy against.entry) line.now) }
+        ensures text { OnOk result (text.new.items ≡ text.old.items ++ compared_text self.now
+            comparison.now (Policy against.entry) number secret.now entry.now) }
+        ensures verdict { IfOk result (λ verdict. verdict ≡ compared_verdict self.now
+            comparison.now (Policy against.entry) secret.now entry.now) }
     {
         let alloc = *text.allocator();
         let mut name = Vec::new(alloc);
-        push_name(&mut name, number, line)?;
-        let secret = self.shared.of_record(alloc, line)?;
-        let old = answer_over(alloc, against, &secret, line)?;
-        let new = answer_over(alloc, self.policy, &secret, line)?;
+        push_name(&mut name, number, entry.identifier.as_slice())?;
+        let old = answer_over(alloc, against, secret, entry)?;
+        let new = answer_over(alloc, self.policy, secret, entry)?;
         let printer = Printer {
             old: against.dictionary(),
             new: self.policy.dictionary(),
@@ -279,67 +302,100 @@ impl<'a> Replay<'a> {
     }
 
     // What is said of a record whose answer is compared with the reply that was captured.
-    fn push_beside_captured(
-        &self,
+    fn push_beside_captured<'b>(
+        &'b self,
         text: &mut Vec<u8>,
-        comparison: &Comparison<'a>,
+        comparison: &'b Comparison<'b>,
         number: u64,
-        line: &[u8],
+        secret: &'b Option<Secret<'b>>,
+        entry: &Entry,
     ) -> Result<Verdict, AllocError>
         ensures text { OnOk result (text.new.items ≡ text.old.items
-            ++ compared_text self.now comparison.now Captured number line.now) }
+            ++ compared_text self.now comparison.now Captured number secret.now entry.now) }
         ensures verdict { IfOk result (λ verdict. verdict
-            ≡ compared_verdict self.now comparison.now Captured line.now) }
+            ≡ compared_verdict self.now comparison.now Captured secret.now entry.now) }
     {
         let alloc = *text.allocator();
         let mut name = Vec::new(alloc);
-        push_name(&mut name, number, line)?;
-        let secret = self.shared.of_record(alloc, line)?;
-        let replies = replies_to(alloc, self.policy, &secret, line)?;
+        push_name(&mut name, number, entry.identifier.as_slice())?;
+        let replies = entry_replies(alloc, self.policy, secret, entry)?;
         let dictionary = self.policy.dictionary();
         comparison.push_replies(text, dictionary, self.secrets, &name, &replies)
     }
 
     // What is said of a record whose answer is compared.
-    fn push_compared(
-        &self,
+    fn push_compared<'b>(
+        &'b self,
         text: &mut Vec<u8>,
-        comparison: &Comparison<'a>,
+        comparison: &'b Comparison<'b>,
         number: u64,
-        line: &[u8],
+        secret: &'b Option<Secret<'b>>,
+        entry: &Entry,
     ) -> Result<Verdict, AllocError>
-        ensures text { OnOk result (text.new.items
-            ≡ text.old.items ++ text_by self.now (Some comparison.now) number line.now) }
+        ensures text { OnOk result (text.new.items ≡ text.old.items
+            ++ text_by self.now (Some comparison.now) number secret.now entry.now) }
         ensures verdict { IfOk result (λ verdict.
-            verdict ≡ verdict_on self.now (Some comparison.now) line.now) }
+            verdict ≡ verdict_on self.now (Some comparison.now) secret.now entry.now) }
     {
         match &comparison.against {
             Against::Policy(against) => {
-                self.push_beside_policy(text, comparison, *against, number, line)
+                self.push_beside_policy(text, comparison, *against, number, secret, entry)
             }
-            Against::Captured => self.push_beside_captured(text, comparison, number, line),
+            Against::Captured => {
+                self.push_beside_captured(text, comparison, number, secret, entry)
+            }
         }
     }
 
     // What is said of a record.
-    #[tactic(auto, unfolding(crate::specs::Replays::record_text, crate::specs::Replays::verdict_of))]
-    fn push_record(
-        &self,
+    #[tactic(auto, unfolding(crate::specs::Replays::entry_text, crate::specs::Replays::entry_verdict))]
+    fn push_entry<'b>(
+        &'b self,
         text: &mut Vec<u8>,
         number: u64,
-        line: &[u8],
+        secret: &'b Option<Secret<'b>>,
+        entry: &Entry,
     ) -> Result<Verdict, AllocError>
-        ensures text { OnOk result
-            (text.new.items ≡ text.old.items ++ record_text self.now number line.now) }
-        ensures verdict { IfOk result (λ verdict. verdict ≡ verdict_of self.now line.now) }
+        ensures text { OnOk result (text.new.items
+            ≡ text.old.items ++ entry_text self.now number secret.now entry.now) }
+        ensures verdict { IfOk result (λ verdict.
+            verdict ≡ entry_verdict self.now secret.now entry.now) }
     {
         match &self.comparison {
-            None => self.push_answered(text, number, line),
-            Some(comparison) => self.push_compared(text, comparison, number, line),
+            None => self.push_answered(text, number, secret, entry),
+            Some(comparison) => self.push_compared(text, comparison, number, secret, entry),
         }
     }
 
+    // Writes what is to be said of a record.
+    fn tell_entry<'b, W: Write>(
+        &'b self,
+        alloc: Global,
+        secret: &'b Option<Secret<'b>>,
+        entry: &Entry,
+        summary: Summary,
+        out: &mut W,
+    ) -> Result<Summary, ReplayFault>
+        requires { CountsWithin summary }
+        ensures text { OnOk result (Appends (W.contents out.old) (W.contents out.new)
+            (entry_text self.now (summary.read + 1) secret.now entry.now)) }
+        ensures summary { IfOk result (λ after.
+            after ≡ counted summary (entry_verdict self.now secret.now entry.now)) }
+        ensures front { OnErr result (AppendsFront (W.contents out.old) (W.contents out.new)
+            (entry_text self.now (summary.read + 1) secret.now entry.now)) }
+        ensures reason { IfErr result (IsEntryReason summary) }
+    {
+        let Some(number) = summary.read.checked_add(1) else {
+            return Err(ReplayFault::TooManyRecords);
+        };
+        let mut text = Vec::new(alloc);
+        let verdict = self.push_entry(&mut text, number, secret, entry)?;
+        write_text(out, &text)?;
+        Ok(summary.counted(verdict))
+    }
+
     // Writes what is to be said of a line.
+    #[tactic(auto, unfolding(crate::specs::Replays::record_text, crate::specs::Replays::verdict_of))]
     fn tell<W: Write>(
         &self,
         alloc: Global,
@@ -359,13 +415,9 @@ impl<'a> Replay<'a> {
         if !is_record(line) {
             return Ok(summary);
         }
-        let Some(number) = summary.read.checked_add(1) else {
-            return Err(ReplayFault::TooManyRecords);
-        };
-        let mut text = Vec::new(alloc);
-        let verdict = self.push_record(&mut text, number, line)?;
-        write_text(out, &text)?;
-        Ok(summary.counted(verdict))
+        let secret = self.shared.of_record(alloc, line)?;
+        let entry = entry_of_line(alloc, line)?;
+        (&*self).tell_entry(alloc, &secret, &entry, summary, out)
     }
 
     // Writes what is to be said of each line that ends in the block, and keeps the line that does not.
@@ -441,6 +493,40 @@ impl<'a> Replay<'a> {
                 return Ok(summary);
             }
             summary = self.tell_block(&mut line, &block[..count], summary, out)?;
+            flush(out)?;
+        }
+        Err(ReplayFault::Input)
+    }
+
+    /// Writes what is to be said of each record of attribute lines, in order, and says how many records there were: as
+    /// [`run`](Replay::run) does of lines of packets. Dates without a zone are those of `zone`, minutes before UTC.
+    ///
+    /// A record says the packet that is made of its lines. One whose lines make none is refused, as one is that had too
+    /// many of them; that does not end the replay. Each text is put out before the next record is asked for.
+    pub fn run_records<R: Records, W: Write>(
+        &self,
+        alloc: Global,
+        zone: Option<i16>,
+        records: &mut R,
+        out: &mut W,
+    ) -> Result<Summary, ReplayFault>
+        ensures told { IfOk result (λ summary. IfSome (R.remaining records.old) (λ all.
+            IsReplayed self.now zone all summary (W.contents out.old) (W.contents out.new))) }
+        ensures front { OnErr result (IfSome (R.remaining records.old) (λ all.
+            IsReplayedFront self.now zone all (W.contents out.old) (W.contents out.new))) }
+        ensures reason { IfErr result (λ fault. IfSome (R.remaining records.old) (λ all.
+            IsRecordsReason self.now zone all (R.remaining records.new) (W.contents out.old)
+            (W.contents out.new) fault)) }
+    {
+        let mut summary = Summary::new();
+        for _ in 0..u64::MAX {
+            let Some(record) = records.next_record()? else {
+                return Ok(summary);
+            };
+            let secret = self.shared.of_text(&record);
+            let dictionary = self.policy.dictionary();
+            let entry = entry_of_record(alloc, dictionary, zone, &secret, &record)?;
+            summary = (&*self).tell_entry(alloc, &secret, &entry, summary, out)?;
             flush(out)?;
         }
         Err(ReplayFault::Input)

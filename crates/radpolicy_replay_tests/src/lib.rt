@@ -13,3 +13,5 @@ mod records;
 mod replays;
 #[cfg(test)]
 mod sources;
+#[cfg(test)]
+mod text_records;

@@ -50,6 +50,12 @@ WritesFront replay summary before old new = (front : List ℕ) × Appends old ne
     × ((later : List ℕ) → (rest : List ℕ)
     × (text_from replay (summary.read + 1) (before ++ later) ≡ front ++ rest))
 
+-- the reason of a fault that ends the telling of a record
+abbrev pub IsEntryReason : Summary → ReplayFault → Type 0
+IsEntryReason summary Input = ⊥
+IsEntryReason summary TooManyRecords = 2 ^ 64 ≤ summary.read + 1
+IsEntryReason summary _ = ⊤
+
 -- the reason of a fault that ends the telling of a line
 abbrev pub IsLineReason : Summary → List ℕ → ReplayFault → Type 0
 IsLineReason summary line Input = ⊥

@@ -1,0 +1,89 @@
+-- What a record of attribute lines says, by the secret that is shared with its source: its identifier, its request, and
+-- the reply to it, as far as their lines make packets.
+use Rattle.std.specs.Prelude.{◌≡◌, ℕ, ℤ, false, List, [], ◌∷◌, Option, None, Some, Result, Ok, Err}
+use Rattle.std.specs.Option.{option_and_then}
+use Rattle.std.specs.declared.net.ip_addr.IpAddr.{IpAddr}
+use Rattle.avp_dict.specs.Dictionary.{Dictionary}
+use Rattle.avp_packet.specs.Packets.{IsShort, authenticator_of}
+use Rattle.radpolicy_clients.specs.Addresses.{address_of}
+use Rattle.radpolicy_clients.specs.Clients.{secret_for}
+use Rattle.radpolicy_replay_records.specs.Records.{word_shown}
+use Rattle.radpolicy_replay_records.specs.declared.answers.RecordFault.{RecordFault}
+use Rattle.radpolicy_replay_records.specs.declared.answers.RecordFault.TheVariants.{NoClient, Text as TextRefused}
+use Rattle.radpolicy_replay_records.specs.declared.captured.CapturedFault.TheVariants.{Text}
+use Rattle.radpolicy_replay_records.specs.declared.captured.CapturedReply.{CapturedReply}
+use Rattle.radpolicy_replay_records.specs.declared.captured.CapturedReply.TheVariants.{Challenge, Missing, Octets, Unread}
+use Rattle.radpolicy_replay_records.specs.declared.entries.Entry.{Entry}
+use Rattle.radpolicy_replay_records.specs.declared.replays.SharedSecrets.{SharedSecrets}
+use Rattle.radpolicy_replay_records.specs.declared.replays.SharedSecrets.TheVariants.{ByClient, One}
+use Rattle.radpolicy_traffic.specs.declared.records.Code.{Code}
+use Rattle.radpolicy_traffic.specs.declared.records.Code.TheVariants.{AccessChallenge}
+use Rattle.radpolicy_traffic.specs.declared.records.Record.{Record}
+use Rattle.radpolicy_traffic.specs.declared.records.Reply.{Reply}
+use Rattle.radpolicy_traffic_packets.specs.Packets.{IsReplyRefusal, IsRequestRefusal, reply_packet, request_packet}
+use Rattle.radpolicy_traffic_packets.specs.declared.faults.TextFault.TheVariants.{Memory}
+
+-- ---- the identifier and the source
+
+abbrev pub text_identifier : List ℕ → List ℕ
+text_identifier [] = []
+text_identifier (o ∷ os) = word_shown (o ∷ os)
+
+abbrev pub text_source : Record → Option IpAddr
+text_source given = option_and_then (λ text. address_of text.items) given.source
+
+-- the secret that is shared with the source of a record
+abbrev pub text_secret : SharedSecrets → Record → Option (List ℕ)
+text_secret (One secret) given = Some secret.now
+text_secret (ByClient clients) given =
+    option_and_then (secret_for clients.now) (text_source given)
+
+-- ---- the packets
+
+module _ (dictionary : Dictionary) (offset : Option ℤ) where
+  -- the packet of a record's request by a secret, or why it has none
+  abbrev pub IsRequestBy : List ℕ → Record → Result (List ℕ) RecordFault → Type 0
+  IsRequestBy secret given (Ok octets) = (given.is_too_long ≡ false)
+      × (request_packet dictionary secret offset given ≡ Some octets) × IsShort octets
+  IsRequestBy secret given (Err (TextRefused Memory)) = ⊥
+  IsRequestBy secret given (Err (TextRefused f)) =
+      IsRequestRefusal dictionary secret offset given f
+  IsRequestBy secret given (Err _) = ⊥
+
+  -- the same by the secret if there is one
+  abbrev pub IsRequestOf : Option (List ℕ) → Record → Result (List ℕ) RecordFault → Type 0
+  IsRequestOf None given request = request ≡ Err NoClient
+  IsRequestOf (Some secret) given request = IsRequestBy secret given request
+
+  -- the packet of the reply to the request of these octets, or why it has none
+  abbrev pub IsReplyWritten : List ℕ → List ℕ → Reply → CapturedReply → Type 0
+  IsReplyWritten secret request sent (Octets octets) =
+      (reply_packet dictionary secret offset (authenticator_of request) sent ≡ Some octets)
+      × IsShort octets
+  IsReplyWritten secret request sent (Unread (Text Memory)) = ⊥
+  IsReplyWritten secret request sent (Unread (Text f)) =
+      IsReplyRefusal dictionary secret offset (authenticator_of request) sent f
+  IsReplyWritten secret request sent _ = ⊥
+
+  -- the same, where the reply has this code: of a challenge no packet is made
+  abbrev pub IsReplyOf : Code → List ℕ → List ℕ → Reply → CapturedReply → Type 0
+  IsReplyOf AccessChallenge secret request sent reply = reply ≡ Challenge
+  IsReplyOf _ secret request sent reply = IsReplyWritten secret request sent reply
+
+  -- the reply to a request that was taken, if one was captured
+  abbrev pub IsCaptured : List ℕ → List ℕ → Option Reply → CapturedReply → Type 0
+  IsCaptured secret request None reply = reply ≡ Missing
+  IsCaptured secret request (Some sent) reply = IsReplyOf sent.code secret request sent reply
+
+  -- the same, where the request may be refused: then no reply is read
+  abbrev pub IsCapturedOf : Option (List ℕ) → Result (List ℕ) RecordFault → Option Reply
+      → CapturedReply → Type 0
+  IsCapturedOf (Some secret) (Ok request) sent reply = IsCaptured secret request sent reply
+  IsCapturedOf None (Ok request) sent reply = reply ≡ Missing
+  IsCapturedOf secret (Err _) sent reply = reply ≡ Missing
+
+  -- A record says this. Of the lines that make no packet, any may be the one that is named.
+  pub record IsEntryOf (secret : Option (List ℕ)) (given : Record) (entry : Entry) : Type 0 where
+    pub identifier : entry.identifier ≡ text_identifier given.identifier.items
+    pub request : IsRequestOf secret given entry.request
+    pub reply : IsCapturedOf secret entry.request given.reply entry.reply

@@ -1,0 +1,60 @@
+-- What a replay writes of records of attribute lines, and how many there were.
+use Rattle.std.specs.Prelude.{◌≡◌, ◌≤◌, ℕ, ℤ, ◌+◌, ◌^◌, ◌⊎◌, List, [], ◌∷◌, ◌++◌, length, Option, None, Some, ⊤}
+use Rattle.std.specs.Io.KnownBytes.{Appends}
+use Rattle.radpolicy_replay_records.specs.Replays.{AppendsFront, counted, entry_text, entry_verdict, no_records}
+use Rattle.radpolicy_replay_records.specs.TextEntries.{IsEntryOf, text_secret}
+use Rattle.radpolicy_replay_records.specs.declared.entries.Entry.{Entry}
+use Rattle.radpolicy_replay_records.specs.declared.replays.Replay.{Replay}
+use Rattle.radpolicy_replay_records.specs.declared.replays.ReplayFault.{ReplayFault}
+use Rattle.radpolicy_replay_records.specs.declared.replays.ReplayFault.TheVariants.{Input, Memory, TooManyRecords}
+use Rattle.radpolicy_replay_records.specs.declared.summaries.Summary.{Summary}
+use Rattle.radpolicy_traffic.specs.declared.records.Record.{Record}
+
+-- ---- records that are given, where they are known
+
+-- this one is given, and these are left
+abbrev pub Gives : Option (List Record) → Option (List Record) → Record → Type 0
+Gives None left given = ⊤
+Gives (Some all) left given = (rest : List Record) × (all ≡ given ∷ rest) × (left ≡ Some rest)
+
+abbrev pub HasNone : Option (List Record) → Type 0
+HasNone None = ⊤
+HasNone (Some all) = all ≡ []
+
+-- no record could be given
+abbrev pub IsInputFault : ReplayFault → Type 0
+IsInputFault fault = (fault ≡ Memory) ⊎ (fault ≡ Input)
+
+-- ---- what is written
+
+-- What is written for records of lines, and the counts after them: a text for each, of what it says, by its number.
+abbrev pub IsTelling : Replay → Option ℤ → Summary → List Record → Summary → List ℕ → Type 0
+IsTelling replay offset before [] after text = (after ≡ before) × (text ≡ [])
+IsTelling replay offset before (given ∷ records) after text = (entry : Entry) × (rest : List ℕ)
+    × IsEntryOf replay.policy.now.dictionary offset (text_secret replay.shared given) given entry
+    × (text ≡ entry_text replay (before.read + 1) (text_secret replay.shared given) entry ++ rest)
+    × IsTelling replay offset
+    (counted before (entry_verdict replay (text_secret replay.shared given) entry)) records after rest
+
+-- known octets grow by what is written for records, of which there are so many
+abbrev pub IsReplayed : Replay → Option ℤ → List Record → Summary → Option (List ℕ)
+    → Option (List ℕ) → Type 0
+IsReplayed replay offset records summary old new =
+    (text : List ℕ) × IsTelling replay offset no_records records summary text × Appends old new text
+
+-- they grow by a front of what is written for the first records
+abbrev pub IsReplayedFront : Replay → Option ℤ → List Record → Option (List ℕ)
+    → Option (List ℕ) → Type 0
+IsReplayedFront replay offset records old new = (told rest : List Record) × (summary : Summary)
+    × (text : List ℕ) × (records ≡ told ++ rest)
+    × IsTelling replay offset no_records told summary text × AppendsFront old new text
+
+-- The reason of a fault, where these records are left of those: where it is the input, all is written that is to be said
+-- of the records that were given; and too many records are 2^64 at least.
+abbrev pub IsRecordsReason : Replay → Option ℤ → List Record → Option (List Record)
+    → Option (List ℕ) → Option (List ℕ) → ReplayFault → Type 0
+IsRecordsReason replay offset records left old new Input = (told rest : List Record)
+    × (summary : Summary) × (records ≡ told ++ rest) × (left ≡ Some rest)
+    × IsReplayed replay offset told summary old new
+IsRecordsReason replay offset records left old new TooManyRecords = 2 ^ 64 ≤ length records
+IsRecordsReason replay offset records left old new _ = ⊤
