@@ -8,4 +8,6 @@ complete -c radpolicy-replay -l all -d 'Tell records that are answered alike too
 complete -c radpolicy-replay -l strict -d 'Status 1 if a record is refused'
 complete -c radpolicy-replay -s S -r -F -d 'File with the shared secret'
 complete -c radpolicy-replay -l clients -r -F -d 'File with the clients and their secrets'
+complete -c radpolicy-replay -l format -x -a 'hex records detail log radclient radsniff' -d 'What the records are'
+complete -c radpolicy-replay -l zone -x -d 'What a zone other than UTC stands for in dates'
 complete -c radpolicy-replay -l show-secrets -d 'Show replies that have secret values'

@@ -12,6 +12,7 @@ from typing import Iterator, List
 from common.program import run
 from common.report import Report
 from common.subject import Subject
+from replays.served import replay
 
 SERVER, CLIENT, SNIFFER = "freeradius", "radclient", "radsniff"
 SECRET = "testing123"
@@ -185,6 +186,14 @@ def check_walk(subject: Subject, report: Report, folder: Path, log: Path) -> Non
     report.check("traffic: a walk over a request of a log", [] if is_wanted else [repr(ended)])
 
 
+def check_replay(subject: Subject, report: Report, folder: Path, name: str, text: bytes) -> None:
+    """What the server answered is what a policy answers that does the same."""
+    ended = replay(subject, folder, text, [])
+    counts = b"5 read, 3 same, 0 different, 1 unanswered, 1 challenged, 0 refused\n"
+    is_right = (ended.status, ended.errors) == (0, counts)
+    report.check(f"traffic: {name}, replayed", [] if is_right else [repr(ended)])
+
+
 def check_installed(subject: Subject, report: Report, folder: Path) -> None:
     auth, acct = ports()
     text = CONFIGURATION.format(folder=folder, secret=SECRET, auth=auth, acct=acct)
@@ -201,14 +210,17 @@ def check_installed(subject: Subject, report: Report, folder: Path) -> None:
             said += ask(acct, "acct", ACCOUNTING)
             sniffs = sniffs and is_sniffed(sniffed)
     compare(subject, report, "what a server prints", "DebugLog", log.read_bytes(), SENT)
+    check_replay(subject, report, folder, "what a server prints", log.read_bytes())
     check_walk(subject, report, folder, log)
     compare(subject, report, "what radclient prints", "Radclient", said.encode(), SENT)
+    check_replay(subject, report, folder, "what radclient prints", said.encode())
     unanswered = [(user, kind, "-") for user, kind, _ in SENT]
     compare(subject, report, "a detail file", "Detail", detail.read_bytes() if detail.exists() else b"", unanswered)
     asked = "\n".join((ACCESS, SILENT, ACCOUNTING)).encode()
     compare(subject, report, "a file of requests", "Records", asked, unanswered)
     if sniffs:
         compare(subject, report, "what radsniff prints", "Radsniff", sniffed.read_bytes(), SENT)
+        check_replay(subject, report, folder, "what radsniff prints", sniffed.read_bytes())
     else:
         report.say("traffic: radsniff is left out, it may not listen")
 

@@ -3,6 +3,8 @@
 ghost use Rattle.std.specs.Prelude.{IfErr};
 ghost use Rattle.radpolicy.specs.Faults.{IsWordFault};
 
+use crate::traffic::Traffic;
+use avp_forms::offset_spelled;
 use clap::error::ErrorKind;
 use clap::{Arg, ArgAction, ArgMatches};
 use radpolicy::Fault;
@@ -26,6 +28,10 @@ const STRICT: &str = "strict";
 const SECRET: &str = "secret";
 
 const CLIENTS: &str = "clients";
+
+const FORMAT: &str = "format";
+
+const ZONE: &str = "zone";
 
 const SHOW_SECRETS: &str = "show-secrets";
 
@@ -69,6 +75,10 @@ pub struct Plan<'a> {
     pub strict: bool,
     pub secret: SecretPlan<'a>,
     pub secrets: SecretValues,
+    /// `None`: told from the input.
+    pub traffic: Option<Traffic>,
+    /// How many minutes the clocks of a zone other than UTC that a date names are before UTC's.
+    pub zone: Option<i16>,
     pub dictionaries: Vec<&'a str>,
 }
 
@@ -137,6 +147,24 @@ fn clients_option<'a>(alloc: Global) -> Arg<'a> {
         .help("The file of the clients and their secrets: lines, or a server's clients.conf")
 }
 
+fn format_option<'a>(alloc: Global) -> Arg<'a> {
+    Arg::new(alloc, FORMAT)
+        .long(FORMAT)
+        .value_name("FORMAT")
+        .action(ArgAction::Set)
+        .help(
+            "What the records are: hex, records, detail, log, radclient or radsniff [default: told from the input]",
+        )
+}
+
+fn zone_option<'a>(alloc: Global) -> Arg<'a> {
+    Arg::new(alloc, ZONE)
+        .long(ZONE)
+        .value_name("OFFSET")
+        .action(ArgAction::Set)
+        .help("What a date's zone other than UTC stands for, as +01:00")
+}
+
 fn show_secrets_option<'a>(alloc: Global) -> Arg<'a> {
     Arg::new(alloc, SHOW_SECRETS)
         .long(SHOW_SECRETS)
@@ -161,7 +189,8 @@ fn program<'a>(alloc: Global) -> Result<clap::Command<'a>, AllocError> {
         )
         .after_help(
             "Standard input has a record a line: words that name it, and the request's packet in \
-            hexadecimal digits.",
+            hexadecimal digits. Or it is what a server or a tool prints: a log of freeradius -X, a detail \
+            file, requests for radclient, or what radclient -x or radsniff -x print.",
         )
         .arg(policy_option(alloc))?
         .arg(against_option(alloc))?
@@ -171,6 +200,8 @@ fn program<'a>(alloc: Global) -> Result<clap::Command<'a>, AllocError> {
         .arg(strict_option(alloc))?
         .arg(secret_option(alloc))?
         .arg(clients_option(alloc))?
+        .arg(format_option(alloc))?
+        .arg(zone_option(alloc))?
         .arg(show_secrets_option(alloc))?
         .arg(dictionary_files(alloc))
 }
@@ -259,6 +290,30 @@ fn secret_plan<'a>(found: &ArgMatches<'a>) -> Result<SecretPlan<'a>, Fault>
     }
 }
 
+fn traffic_of(found: &ArgMatches<'_>) -> Result<Option<Traffic>, Fault>
+    ensures { IfErr result IsWordFault }
+{
+    let Some(word) = found.get_str(FORMAT) else {
+        return Ok(None);
+    };
+    match Traffic::named(word) {
+        Some(traffic) => Ok(Some(traffic)),
+        None => Err(Fault::OptionValue),
+    }
+}
+
+fn zone_of(found: &ArgMatches<'_>) -> Result<Option<i16>, Fault>
+    ensures { IfErr result IsWordFault }
+{
+    let Some(word) = found.get_str(ZONE) else {
+        return Ok(None);
+    };
+    match offset_spelled(word.as_bytes()) {
+        Some(offset) => Ok(Some(offset)),
+        None => Err(Fault::OptionValue),
+    }
+}
+
 fn plan_of<'a>(alloc: Global, found: &ArgMatches<'a>) -> Result<Plan<'a>, Fault>
     ensures { IfErr result IsWordFault }
 {
@@ -269,6 +324,8 @@ fn plan_of<'a>(alloc: Global, found: &ArgMatches<'a>) -> Result<Plan<'a>, Fault>
         strict: found.get_flag(STRICT),
         secret: secret_plan(found)?,
         secrets: shown_secrets(found),
+        traffic: traffic_of(found)?,
+        zone: zone_of(found)?,
         dictionaries: Vec::from_slice(alloc, files)?,
     })
 }

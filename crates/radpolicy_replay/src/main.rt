@@ -2,12 +2,14 @@
 #![tactic(auto)]
 
 mod command_line;
+mod traffic;
 
 ghost use Rattle.std.specs.Prelude.{◌<◌, IfErr, IfOk, length};
 ghost use Rattle.avp_dict.specs.Lines.{HasDistinctNames};
 ghost use Rattle.radpolicy.specs.Faults.{IsPrintedAnywhere, IsPrintedWith};
 
 use crate::command_line::{AgainstPlan, Plan, SecretPlan, help_text, read_words};
+use crate::traffic::{Traffic, read_beginning};
 use avp_dict::{Dictionary, FileSet};
 use avp_lists::{AttrId, Octets};
 use radpolicy::{Fault, PreparedPolicy, Secret, status};
@@ -15,11 +17,13 @@ use radpolicy_clients::{ClientFault, Clients, ClientsFault, read_clients};
 use radpolicy_common::{
     Unread, read_dictionary_set, read_file, refuse, refuse_early, refuse_unread,
 };
-use radpolicy_replay_records::{Against, Comparison, Replay, ReplayFault, SharedSecrets, Summary};
+use radpolicy_replay_records::{
+    Against, Comparison, RecordReader, Replay, ReplayFault, SharedSecrets, Summary,
+};
 use server_configuration::SystemFiles;
 use std::alloc::{AllocError, Global};
 use std::io;
-use std::io::BufWriter;
+use std::io::{BufWriter, Read};
 use std::process::ExitCode;
 
 // What the files of a plan hold.
@@ -110,14 +114,47 @@ fn refuse_replay(rt: &HostRuntime, fault: ReplayFault) -> u8 {
     }
 }
 
-fn replay_input(rt: &HostRuntime, strict: bool, replay: &Replay<'_>) -> u8 {
-    let Ok(mut out) = BufWriter::new(rt.alloc(), rt.stdout()) else {
-        return refuse_early(rt, &Fault::Memory);
+// The replay of an input whose records are known.
+fn run_traffic<R: Read + Drop>(
+    rt: &HostRuntime,
+    plan: &Plan<'_>,
+    replay: &Replay<'_>,
+    traffic: Traffic,
+    mut input: R,
+) -> Result<Summary, ReplayFault> {
+    let alloc = rt.alloc();
+    let Ok(mut out) = BufWriter::new(alloc, rt.stdout()) else {
+        return Err(ReplayFault::Memory);
     };
-    match replay.run(rt.alloc(), &mut rt.stdin(), &mut out) {
+    match traffic {
+        Traffic::Hex => replay.run(alloc, &mut input, &mut out),
+        Traffic::Text(format) => {
+            let mut records = RecordReader::new(alloc, input, format)?;
+            replay.run_records(alloc, plan.zone, &mut records, &mut out)
+        }
+    }
+}
+
+// The same, where what the records are may be told from the input.
+fn run_input(
+    rt: &HostRuntime,
+    plan: &Plan<'_>,
+    replay: &Replay<'_>,
+) -> Result<Summary, ReplayFault> {
+    let mut input = rt.stdin();
+    if let Some(traffic) = plan.traffic {
+        return run_traffic(rt, plan, replay, traffic, input);
+    }
+    let beginning = read_beginning(rt.alloc(), &mut input)?;
+    let whole = beginning.octets.as_slice().chain(input);
+    run_traffic(rt, plan, replay, beginning.traffic, whole)
+}
+
+fn replay_input(rt: &HostRuntime, plan: &Plan<'_>, replay: &Replay<'_>) -> u8 {
+    match run_input(rt, plan, replay) {
         Ok(summary) => {
             show_summary(rt, &replay.comparison, summary);
-            status_of(strict, summary)
+            status_of(plan.strict, summary)
         }
         Err(fault) => refuse_replay(rt, fault),
     }
@@ -295,7 +332,7 @@ fn replay_by(rt: &HostRuntime, plan: &Plan<'_>, files: &Files) -> Result<u8, Fau
         comparison: comparison_of(plan, &against, &settings.ignored),
         secrets: plan.secrets,
     };
-    Ok(replay_input(rt, plan.strict, &replay))
+    Ok(replay_input(rt, plan, &replay))
 }
 
 fn replay_plan(rt: &HostRuntime, plan: &Plan<'_>) -> u8 {
