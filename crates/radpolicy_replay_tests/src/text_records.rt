@@ -133,23 +133,33 @@ const SOURCES: &[u8] = b"(0) Received Access-Request Id 1 from 10.0.0.1:4 to x
 (2) Finished request
 ";
 
-#[test]
-fn records_of_lines_have_the_secrets_of_their_sources(rt: HostRuntime) -> Result<(), Fail> {
-    let alloc = rt.alloc();
-    let dictionary: Dictionary = test_dictionary(alloc)?;
-    let policy = PreparedPolicy::read(alloc, &dictionary, POLICY)?;
-    let clients = clients(alloc)?;
-    let shared = SharedSecrets::ByClient(&clients);
-    let replay = Replay {
-        policy: &policy,
+// The replay by a policy and the secrets of clients.
+fn replay_by_client<'a>(policy: &'a PreparedPolicy<'a>, clients: &'a Clients) -> Replay<'a> {
+    let shared = SharedSecrets::ByClient(clients);
+    Replay {
+        policy,
         shared,
         comparison: None,
         secrets: SecretValues::Hidden,
-    };
-    let mut records = RecordReader::new(alloc, SOURCES, Format::DebugLog)?;
+    }
+}
+
+// What is written of records by the secrets of clients.
+fn told_by_client(alloc: Global, text: &[u8]) -> Result<Vec<u8>, Fail> {
+    let dictionary: Dictionary = test_dictionary(alloc)?;
+    let policy = PreparedPolicy::read(alloc, &dictionary, POLICY)?;
+    let clients = clients(alloc)?;
+    let replay = replay_by_client(&policy, &clients);
+    let mut records = RecordReader::new(alloc, text, Format::DebugLog)?;
     let mut out = Vec::new(alloc);
     replay.run_records(alloc, None, &mut records, &mut out)?;
-    assert!(&rt; out.starts_with(b"0 ok 0200001a"));
-    assert!(&rt; out.ends_with(b"2 no client\n"));
+    Ok(out)
+}
+
+#[test]
+fn records_of_lines_have_the_secrets_of_their_sources(rt: HostRuntime) -> Result<(), Fail> {
+    let text = told_by_client(rt.alloc(), SOURCES)?;
+    assert!(&rt; text.starts_with(b"0 ok 0200001a"));
+    assert!(&rt; text.ends_with(b"2 no client\n"));
     Ok(())
 }
