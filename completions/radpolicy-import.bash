@@ -4,7 +4,7 @@ _radpolicy_import() {
     local IFS=$' \t\n'
     COMPREPLY=()
     if [[ $word == -* ]]; then
-        COMPREPLY=($(compgen -W '--server --section --policy --module --dict -o --plain --check --strict --help' \
+        COMPREPLY=($(compgen -W '--server --section --policy --module --dict -o --plain --papers --check --strict --help' \
             -- "$word"))
     else
         # bash takes the `=` of an option for a word of its own.

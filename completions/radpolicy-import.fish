@@ -7,5 +7,6 @@ complete -c radpolicy-import -l module -r -F -d 'Code or policy file for a modul
 complete -c radpolicy-import -l dict -r -F -d 'Dictionary file'
 complete -c radpolicy-import -s o -r -F -d 'File for the policy'
 complete -c radpolicy-import -l plain -d 'Keep conditions and updates as they are written'
+complete -c radpolicy-import -l papers -d 'Leave out what needs the wider profile'
 complete -c radpolicy-import -l check -d 'Write the report alone'
 complete -c radpolicy-import -l strict -d 'Status 1 if a part is left out'

@@ -20,6 +20,7 @@ SECTIONS = (
 )
 COUNTS = re.compile(rb"^(\d+) of (\d+) statements kept, (\d+) module calls are comments$", re.M)
 NAMED = re.compile(r"^([a-z0-9_.\-]+)\s*\{", re.M | re.I)
+PROFILE = b"# profile: wider"
 ORIGIN = re.compile(rb"  # [^ ]+:[1-9][0-9]*(?: \(.*\))?$")
 
 
@@ -61,7 +62,8 @@ def faults_of(subject: Subject, raddb: Path, dictionaries: Path, words: List[str
         faults = []
         if ended.seconds > SECONDS or ended.kilobytes > KILOBYTES:
             faults.append(f"{words}: {ended.seconds:.1f} s, {ended.kilobytes} kB")
-        faults += [f"{words}: {line!r}" for line in policy.read_bytes().splitlines() if not ORIGIN.search(line)]
+        lines = [line for line in policy.read_bytes().splitlines() if line != PROFILE]
+        faults += [f"{words}: {line!r}" for line in lines if not ORIGIN.search(line)]
         names = [path.split("=", 1)[1] for path in dictionary_words(dictionaries)]
         checked = run([subject.program, "check", "--policy", policy, *names], folder)
         if checked.status:

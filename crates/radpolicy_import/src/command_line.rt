@@ -3,6 +3,7 @@
 ghost use Rattle.std.specs.Prelude.{IfErr};
 ghost use Rattle.radpolicy.specs.Faults.{IsWordFault};
 
+use avp_forms::Profile;
 use clap::error::ErrorKind;
 use clap::{Arg, ArgAction, ArgMatches};
 use radpolicy::Fault;
@@ -24,6 +25,8 @@ const OUTPUT: &str = "output";
 
 const PLAIN: &str = "plain";
 
+const PAPERS: &str = "papers";
+
 const CHECK: &str = "check";
 
 const STRICT: &str = "strict";
@@ -43,6 +46,7 @@ pub struct Plan<'a> {
     pub dictionaries: Vec<&'a str>,
     pub output: Option<&'a str>,
     pub meaning: Meaning,
+    pub profile: Profile,
     pub only_checks: bool,
     pub strict: bool,
     /// A server's folder, or files.
@@ -129,6 +133,11 @@ fn program<'a>(alloc: Global) -> Result<clap::Command<'a>, AllocError> {
             PLAIN,
             "Keeps conditions and updates as they are written",
         ))?
+        .arg(flag(
+            alloc,
+            PAPERS,
+            "Leaves out what needs the wider profile, as tags and IPv6 addresses",
+        ))?
         .arg(flag(alloc, CHECK, "Writes the report alone"))?
         .arg(flag(alloc, STRICT, "Ends with status 1 where a part is left out"))?
         .arg(configuration_files(alloc))
@@ -164,6 +173,14 @@ fn meaning(found: &ArgMatches<'_>) -> Meaning {
     }
 }
 
+fn profile(found: &ArgMatches<'_>) -> Profile {
+    if found.get_flag(PAPERS) {
+        Profile::Plain
+    } else {
+        Profile::Wider
+    }
+}
+
 // A policy is no part of a server, and has no section.
 fn plan_of<'a>(alloc: Global, found: &ArgMatches<'a>) -> Result<Plan<'a>, Fault>
     ensures { IfErr result IsWordFault }
@@ -176,6 +193,7 @@ fn plan_of<'a>(alloc: Global, found: &ArgMatches<'a>) -> Result<Plan<'a>, Fault>
         dictionaries: all_of(alloc, found, DICTIONARY)?,
         output: found.get_str(OUTPUT),
         meaning: meaning(found),
+        profile: profile(found),
         only_checks: found.get_flag(CHECK),
         strict: found.get_flag(STRICT),
         configuration: all_of(alloc, found, CONFIGURATION)?,

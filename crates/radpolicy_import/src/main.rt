@@ -13,6 +13,7 @@ use crate::command_line::{Plan, help_text, read_words};
 use crate::reports::{show_fault, show_report, write_policy};
 use crate::sources::{FIRST, NamedFiles, first_file, main_file, read_modules, system_dictionaries};
 use avp_dict::{Dictionary, FileSet};
+use avp_forms::Profile;
 use radpolicy::{Fault, status};
 use radpolicy_common::{Unread, read_dictionary_set, refuse, refuse_early, refuse_unread};
 use radpolicy_import_policies::{
@@ -74,19 +75,25 @@ fn imported(
     let Some(place) = place_of(configuration, plan) else {
         return Ok(None);
     };
+    let statements = statements_of(alloc, configuration, place, wanted(plan).section)?;
+    let statements = statements.as_slice();
     let settings = Settings {
         meaning: plan.meaning,
+        profile: plan.profile,
         modules,
     };
-    let statements = statements_of(alloc, configuration, place, wanted(plan).section)?;
-    let made = import_statements(
-        alloc,
-        configuration,
-        dictionary,
-        settings,
-        statements.as_slice(),
-    )?;
-    Ok(Some(made))
+    match import_statements(alloc, configuration, dictionary, settings, statements) {
+        // Should a statement not be one of the wider profile, lines that need it are left out.
+        Err(ImportFault::Policy(_)) if plan.profile == Profile::Wider => {
+            let settings = Settings {
+                profile: Profile::Plain,
+                ..settings
+            };
+            let made = import_statements(alloc, configuration, dictionary, settings, statements)?;
+            Ok(Some(made))
+        }
+        made => Ok(Some(made?)),
+    }
 }
 
 fn refuse_section(rt: &HostRuntime, plan: &Plan<'_>) -> u8 {

@@ -10,6 +10,7 @@ use crate::rewriting::rewritten;
 use crate::statements::{Statement, StatementKind, counted};
 use crate::switches::{SwitchChain, chain_of};
 use avp_dict::Dictionary;
+use avp_forms::Profile;
 use avp_lists::List;
 use avp_unlang::{Code, Comparison, Cond, Relation, read_policy};
 use server_configuration::{Configuration, Content, Operator, Quote, Text, has_reference};
@@ -43,8 +44,13 @@ pub struct Module {
 #[derive(Clone, Copy)]
 pub struct Settings<'a> {
     pub meaning: Meaning,
+    /// The wider profile is asked for where a line needs it, and by the plain one such lines are left out.
+    pub profile: Profile,
     pub modules: &'a [Module],
 }
+
+/// The first line of a policy of the wider profile.
+pub(crate) const PROFILE_LINE: &[u8] = b"# profile: wider";
 
 /// Makes lines of a policy.
 #[derive(Drop)]
@@ -56,6 +62,8 @@ pub(crate) struct Importer<'a> {
     pub(crate) drafts: Vec<Draft>,
     pub(crate) parts: Vec<DraftPart>,
     pub(crate) calls: usize,
+    /// The place of the first line that needs the wider profile.
+    pub(crate) wider: Option<usize>,
     // The policies that lines are put in by.
     open: Vec<usize>,
     depth: usize,
@@ -114,6 +122,7 @@ impl<'a> Importer<'a> {
             drafts: Vec::new(alloc),
             parts: Vec::new(alloc),
             calls: 0,
+            wider: None,
             open: Vec::new(alloc),
             depth: 0,
             knows_code: false,
@@ -254,6 +263,47 @@ impl<'a> Importer<'a> {
 
     // ---- updates
 
+    // The line, where a policy of its profile can have it.
+    fn checked(&self, own: List, line: UpdateLine) -> Result<UpdateLine, Refusal> {
+        let mut head = Vec::new(self.alloc);
+        if line.is_wider {
+            head.extend_from_slice(PROFILE_LINE)?;
+            head.push(b'\n')?;
+        }
+        head.extend_from_slice(b"update ")?;
+        head.extend_from_slice(list_name(own))?;
+        head.extend_from_slice(b" { ")?;
+        self.check(&head, &line.text, b" }")?;
+        Ok(line)
+    }
+
+    // The line of a name, an operator and a value, in an update of a list.
+    fn line_of(
+        &self,
+        own: List,
+        name: &[u8],
+        operator: Operator,
+        value: Option<&Text>,
+    ) -> Result<UpdateLine, Refusal> {
+        let reader = LineReader {
+            alloc: self.alloc,
+            dictionary: self.dictionary,
+            own,
+            skips: self.settings.meaning == Meaning::Server,
+        };
+        let reason = match reader.line(name, operator, value) {
+            Ok(line) => return self.checked(own, line),
+            Err(Refusal::LeftOut(reason)) => reason,
+            Err(Refusal::Memory) => return Err(Refusal::Memory),
+        };
+        let may_be_wider = matches!(reason, Reason::OctetsHere | Reason::Tag)
+            && self.settings.profile == Profile::Wider;
+        if may_be_wider && let Some(line) = reader.wider_line(name, operator, value)? {
+            return self.checked(own, line);
+        }
+        Err(Refusal::LeftOut(reason))
+    }
+
     // The line of the pair at a place, in an update of a list.
     fn line(&self, place: usize, own: List) -> Result<UpdateLine, Refusal> {
         let Some(item) = self.configuration.items.get(place) else {
@@ -267,23 +317,14 @@ impl<'a> Importer<'a> {
         else {
             return Err(Refusal::LeftOut(Reason::NoLine));
         };
-        let reader = LineReader {
-            alloc: self.alloc,
-            dictionary: self.dictionary,
-            own,
-            skips: self.settings.meaning == Meaning::Server,
-        };
-        let line = match value {
+        match value {
             Some(text) => {
                 let octets = self.filled(place, &text.octets)?;
                 let quote = text.quote;
-                reader.line(&name.octets, *operator, Some(&Text { quote, octets }))?
+                self.line_of(own, &name.octets, *operator, Some(&Text { quote, octets }))
             }
-            None => reader.line(&name.octets, *operator, None)?,
-        };
-        let head = between(self.alloc, b"update ", list_name(own), b" { ")?;
-        self.check(&head, &line.text, b" }")?;
-        Ok(line)
+            None => self.line_of(own, &name.octets, *operator, None),
+        }
     }
 
     fn open_update(&mut self, place: usize, own: List) -> Result<(), ImportFault> {
@@ -316,7 +357,14 @@ impl<'a> Importer<'a> {
         is_open: bool,
         line: UpdateLine,
     ) -> Result<bool, ImportFault> {
-        let UpdateLine { text, needs } = line;
+        let UpdateLine {
+            text,
+            needs,
+            is_wider,
+        } = line;
+        if is_wider && self.wider.is_none() {
+            self.wider = Some(place);
+        }
         if let Some(needs) = needs {
             if is_open {
                 self.close(update)?;

@@ -8,7 +8,7 @@ ghost use Rattle.radpolicy_import_policies.specs.Origins.{AreLines};
 ghost use Rattle.radpolicy_import_policies.specs.Statements.{count_of};
 
 use crate::drafts::{Draft, DraftPart, push_visible, section_name, shown_item};
-use crate::importers::{Importer, Settings};
+use crate::importers::{Importer, PROFILE_LINE, Settings};
 use crate::origins::{Origin, origin_of};
 use crate::reasons::{ImportFault, Reason};
 use crate::statements::{Statement, counted};
@@ -136,6 +136,10 @@ fn push_draft(
     origin: Origin,
 ) -> Result<(), AllocError> {
     push_indented(out, draft)?;
+    // Words after those of the profile's line would make it another comment.
+    if draft.text.as_slice() == PROFILE_LINE {
+        return Ok(out.push(b'\n')?);
+    }
     out.extend_from_slice(b"  # ")?;
     push_origin(out, configuration, origin)?;
     push_policies(out, configuration, &draft.policies)?;
@@ -224,9 +228,14 @@ fn left_out(
 fn fault_of(
     alloc: Global,
     dictionary: &Dictionary,
+    is_wider: bool,
     drafts: &[Draft],
 ) -> Result<Option<PolicyKind>, ImportFault> {
     let mut text = Vec::new(alloc);
+    if is_wider {
+        text.extend_from_slice(PROFILE_LINE)?;
+        text.push(b'\n')?;
+    }
     for draft in drafts {
         text.extend_from_slice(&draft.text)?;
         text.push(b'\n')?;
@@ -246,19 +255,44 @@ fn add_statement(
     statement: &Statement,
 ) -> Result<(), ImportFault> {
     let (drafts, parts, calls) = (importer.drafts.len(), importer.parts.len(), importer.calls);
+    let wider = importer.wider;
     importer.statement(statement)?;
     let Some(added) = importer.drafts.get(drafts..) else {
         return Ok(());
     };
-    let Some(kind) = fault_of(alloc, dictionary, added)? else {
+    let is_wider = importer.wider.is_some();
+    let Some(kind) = fault_of(alloc, dictionary, is_wider, added)? else {
         return Ok(());
     };
     importer.drafts.truncate(drafts);
     importer.parts.truncate(parts);
     importer.calls = calls;
+    importer.wider = wider;
     let alone = std::slice::from_ref(statement);
     let count = counted(alone)?;
     importer.leave(statement.place, count, Reason::Refused(kind))
+}
+
+// The lines of the policy, below that of the wider profile where one needs it.
+fn with_profile(
+    alloc: Global,
+    wider: Option<usize>,
+    drafts: Vec<Draft>,
+) -> Result<Vec<Draft>, AllocError> {
+    let Some(place) = wider else {
+        return Ok(drafts);
+    };
+    let mut all = Vec::new(alloc);
+    all.push(Draft {
+        depth: 0,
+        text: Vec::from_slice(alloc, PROFILE_LINE)?,
+        place,
+        policies: Vec::new(alloc),
+    })?;
+    for draft in drafts {
+        all.push(draft)?;
+    }
+    Ok(all)
 }
 
 /// The policy that a server's statements become.
@@ -287,8 +321,16 @@ pub fn import_statements(
     for statement in statements {
         add_statement(alloc, dictionary, &mut importer, statement)?;
     }
-    let (text, origins) = rendered(alloc, configuration, &importer.drafts)?;
-    let left_out = left_out(alloc, configuration, &importer.parts)?;
+    let Importer {
+        drafts,
+        parts,
+        calls,
+        wider,
+        ..
+    } = importer;
+    let drafts = with_profile(alloc, wider, drafts)?;
+    let (text, origins) = rendered(alloc, configuration, &drafts)?;
+    let left_out = left_out(alloc, configuration, &parts)?;
     let policy = read_policy(alloc, dictionary, &text)?;
     let read = counted(statements)?;
     let kept = kept_of(read, &left_out)?;
@@ -299,6 +341,6 @@ pub fn import_statements(
         left_out,
         read,
         kept,
-        calls: importer.calls,
+        calls,
     })
 }

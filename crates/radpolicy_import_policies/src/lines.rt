@@ -14,6 +14,17 @@ pub(crate) struct UpdateLine {
     pub(crate) text: Vec<u8>,
     /// The attribute without which a server skips the line, with its `&`.
     pub(crate) needs: Option<Vec<u8>>,
+    /// Whether it is one of the wider profile.
+    pub(crate) is_wider: bool,
+}
+
+// A line that needs nothing, of the plain profile.
+fn plain_line(text: Vec<u8>) -> UpdateLine {
+    UpdateLine {
+        text,
+        needs: None,
+        is_wider: false,
+    }
 }
 
 /// What is known where a line stands.
@@ -128,7 +139,7 @@ impl<'a> LineReader<'a> {
         text.push(b' ')?;
         if operator == Operator::IsAbsent {
             text.extend_from_slice(b"ANY")?;
-            return Ok(UpdateLine { text, needs: None });
+            return Ok(plain_line(text));
         }
         let Some(value) = value else {
             return Err(Refusal::LeftOut(Reason::NotValue));
@@ -142,9 +153,58 @@ impl<'a> LineReader<'a> {
             let source = self.source(word)?;
             text.extend_from_slice(&source)?;
             let needs = if self.skips { Some(source) } else { None };
-            return Ok(UpdateLine { text, needs });
+            return Ok(UpdateLine {
+                text,
+                needs,
+                is_wider: false,
+            });
         }
         self.push_value(&mut text, &target, value)?;
-        Ok(UpdateLine { text, needs: None })
+        Ok(plain_line(text))
+    }
+
+    // A value that is written out, as the wider profile reads it. False where it is none: a reference or a command, or
+    // with something to put in.
+    fn push_written(&self, out: &mut Vec<u8>, value: &Text) -> Result<bool, Refusal> {
+        let octets = value.octets.as_slice();
+        if has_expansion(octets) || octets.starts_with(b"&") {
+            return Ok(false);
+        }
+        match value.quote {
+            Quote::Back => return Ok(false),
+            Quote::Double => {
+                push_double(out, self.dictionary, octets)?;
+            }
+            Quote::Single => push_octets(out, &single_octets(self.alloc, octets)?)?,
+            Quote::Bare if is_word(octets) => out.extend_from_slice(octets)?,
+            Quote::Bare => push_octets(out, octets)?,
+        }
+        Ok(true)
+    }
+
+    /// The line in the wider profile of a name, which may have a tag, an operator and a value that is written out; none
+    /// where it is not of this form.
+    pub(crate) fn wider_line(
+        &self,
+        name: &[u8],
+        operator: Operator,
+        value: Option<&Text>,
+    ) -> Result<Option<UpdateLine>, Refusal> {
+        let name = name.strip_prefix(b"&").unwrap_or(name);
+        let (Some(sign), Some(value), true) = (sign(operator), value, is_word(name)) else {
+            return Ok(None);
+        };
+        let mut text = Vec::from_slice(self.alloc, name)?;
+        text.push(b' ')?;
+        text.extend_from_slice(sign)?;
+        text.push(b' ')?;
+        if !self.push_written(&mut text, value)? {
+            return Ok(None);
+        }
+        Ok(Some(UpdateLine {
+            text,
+            needs: None,
+            is_wider: true,
+        }))
     }
 }

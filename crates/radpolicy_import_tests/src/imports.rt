@@ -2,11 +2,12 @@
 
 use crate::memory_files::{MemoryFile, MemoryFiles};
 use avp_dict::Dictionary;
+use avp_forms::Profile;
 use radpolicy_import_policies::{
     Imported, Meaning, Module, ModuleAnswer, Settings, Wanted, import_statements, section_of,
     statements_of,
 };
-use samples::test_dictionary;
+use samples::{one_file, test_dictionary};
 use server_configuration::{Configuration, read_configuration};
 use std::alloc::Global;
 use std::test::Fail;
@@ -77,6 +78,7 @@ fn becomes(
 ) -> Result<bool, Fail> {
     let settings = Settings {
         meaning: Meaning::Server,
+        profile: Profile::Wider,
         modules: &[],
     };
     is_imported_by(alloc, settings, text, wanted, counts)
@@ -191,6 +193,7 @@ fn an_answer_for_a_module(rt: HostRuntime) -> Result<(), Fail> {
     ]?;
     let settings = Settings {
         meaning: Meaning::Server,
+        profile: Profile::Wider,
         modules: &modules,
     };
     assert!(rt;
@@ -202,5 +205,42 @@ fn an_answer_for_a_module(rt: HostRuntime) -> Result<(), Fail> {
             (2, 2, 0),
         )?
     );
+    Ok(())
+}
+
+const TUNNELS: &[u8] = b"ATTRIBUTE Tunnel-Type 64 integer has_tag\n\
+    ATTRIBUTE Tunnel-Private-Group-Id 81 string has_tag\nVALUE Tunnel-Type VLAN 13\n";
+
+// The policy of a VLAN, by a profile, and how many of its lines are kept.
+fn vlan(alloc: Global, profile: Profile) -> Result<(Vec<u8>, usize), Fail> {
+    let files = one_file(alloc, TUNNELS)?;
+    if files.is_empty() || !files.has_distinct_names() {
+        return Err(Fail::new("no files"));
+    }
+    let dictionary = Dictionary::read(alloc, &files)?;
+    let settings = Settings {
+        meaning: Meaning::Server,
+        profile,
+        modules: &[],
+    };
+    let text = b"authorize {\n update reply {\n Tunnel-Type := VLAN\n \
+        Tunnel-Private-Group-Id:1 := \"20\"\n }\n}";
+    let imported = imported(alloc, &dictionary, settings, text)?;
+    Ok((imported.text, imported.kept))
+}
+
+#[test]
+fn lines_of_the_wider_profile(rt: HostRuntime) -> Result<(), Fail> {
+    let (text, kept) = vlan(rt.alloc(), Profile::Wider)?;
+    let wanted = b"# profile: wider\nupdate reply {  # main:2\n\tTunnel-Type := VLAN  # main:3\n\
+        \tTunnel-Private-Group-Id:1 := \"20\"  # main:4\n}  # main:2\n";
+    assert!(rt; text.as_slice() == wanted.as_slice() && kept == 2);
+    Ok(())
+}
+
+#[test]
+fn without_the_wider_profile(rt: HostRuntime) -> Result<(), Fail> {
+    let (text, kept) = vlan(rt.alloc(), Profile::Plain)?;
+    assert!(rt; text.starts_with(b"# left out, ") && kept == 0);
     Ok(())
 }
