@@ -13,6 +13,11 @@ use avp_dict::{LineFault, LineKind};
 use avp_forms::profile_of;
 use std::alloc::{AllocError, Global};
 
+// Whether a line that begins so is one of a `detail` file or a log, where attributes are on lines that begin with a tab.
+fn is_of_log(text: &[u8], rest: &str) -> bool {
+    !rest.contains("=") && text.windows(2).any(|two| two == b"\n\t".as_slice())
+}
+
 // What to do about a line that is none, by what is at the place.
 fn unreadable_hint(rest: &str) -> &'static str {
     if rest.starts_with("\"") || rest.starts_with("'") {
@@ -61,6 +66,14 @@ fn push_sentences(
 ) -> Result<(), AllocError> {
     let (name, value) = (text_of(pair.name), text_of(pair.value));
     match kind {
+        LineKind::Unknown if is_of_log(sources.request.text, rest) => push_all(
+            help,
+            &[
+                "no attribute has the name ",
+                name,
+                "\na detail file or a log is read by radpolicy-walk --record and radpolicy-replay\n",
+            ],
+        ),
         LineKind::Unknown => push_unknown(alloc, help, sources, name),
         LineKind::NotValue => {
             let profile = profile_of(sources.request.text);

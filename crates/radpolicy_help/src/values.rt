@@ -23,6 +23,9 @@ fn form_text(kind: Kind) -> &'static str {
     }
 }
 
+const RANGE_HINT: &str =
+    "for a prefix compare both ends: &Name >= 192.0.2.0 && &Name <= 192.0.2.255\n";
+
 // Which texts the wider profile reads besides; none where it reads no more.
 fn wider_text(form: Form) -> Option<&'static str> {
     match form {
@@ -129,6 +132,9 @@ pub(crate) fn push_not_value(
         Some(dictionary) => match typing_of(dictionary, name) {
             Some((kind, form)) => {
                 push_form(help, profile, kind, form)?;
+                if kind == Kind::Addr && value.contains("/") {
+                    push_all(help, &[RANGE_HINT])?;
+                }
                 // Names of numbers beside tags are values of the wider profile alone.
                 if matches!((profile, form), (Profile::Plain, Form::TaggedInteger)) {
                     return Ok(());
