@@ -50,6 +50,7 @@ fn reads_as_number(word: &[u8]) -> bool
 }
 
 #[tactic(auto, unfolding(crate::specs::Values::is_value_name))]
+#[inline(always)]
 fn is_value_name(name: &[u8]) -> bool
     ensures test { result ≡ is_value_name name.now }
     ensures short { IsTrue result → length name.now ≤ max_name }

@@ -110,6 +110,7 @@ impl<L: Keyed> KeyedLines<L> {
     }
 
     /// Adds a line. If memory runs out, all are dropped.
+    #[inline(always)]
     pub fn push(&mut self, line: L) -> Result<(), AllocError>
         requires { length (L.spelled line) ≤ max_name }
         ensures ok { OnOk result (self.new ≡ self.old ++ line ∷ []) }
