@@ -1,5 +1,5 @@
-"""What `radpolicy-lint` prints: each folder here has files, a command, and in `wanted` the output and after it the status;
-and of each policy of the folders of `help/` its first fault is the one that `radpolicy check` has."""
+"""What `radpolicy-lint` prints: each folder here has files, a command, and in `wanted` the output and after it the
+status; and of each policy of the folders of `help/` its first fault is the one that `radpolicy check` has."""
 import json
 import re
 import subprocess

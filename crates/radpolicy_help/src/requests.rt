@@ -13,7 +13,8 @@ use avp_dict::{LineFault, LineKind};
 use avp_forms::profile_of;
 use std::alloc::{AllocError, Global};
 
-// Whether a line that begins so is one of a `detail` file or a log, where attributes are on lines that begin with a tab.
+// Whether a line that begins so is one of a `detail` file or a log: their attributes are on lines that begin with a
+// tab.
 fn is_of_log(text: &[u8], rest: &str) -> bool {
     !rest.contains("=") && text.windows(2).any(|two| two == b"\n\t".as_slice())
 }

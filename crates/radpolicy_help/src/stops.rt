@@ -59,7 +59,7 @@ fn start_of<'a>(
     }
 }
 
-// The step that stops a run; none where it goes to the policy's end. A stop ends a run outside of transactions alone, so
+// The step that stops a run; none where it goes to the policy's end. A stop ends a run only outside of transactions, so
 // it is the last step.
 fn stop_of(alloc: Global, start: Start<'_>) -> Result<Option<Stop>, AllocError> {
     let mut stepper = start.stepper(alloc)?;

@@ -111,7 +111,8 @@ fn push_json(out: &mut Vec<u8>, note: &Note<'_>) -> Result<(), AllocError> {
     push(out, "}\n")
 }
 
-/// Adds a note in a form. No control character but line ends is added, whatever the files hold.
+/// Adds a note in a form. As text it has no control character but line ends, whatever the files hold; as JSON it is one
+/// line.
 pub fn push_note(out: &mut Vec<u8>, format: Format, note: &Note<'_>) -> Result<(), AllocError> {
     let alloc = *out.allocator();
     if format == Format::Json {

@@ -49,8 +49,8 @@ IsReplayedFront replay offset records old new = (told rest : List Record) × (su
     × (text : List ℕ) × (records ≡ told ++ rest)
     × IsTelling replay offset no_records told summary text × AppendsFront old new text
 
--- The reason of a fault, where these records are left of those: where it is the input, all is written that is to be said
--- of the records that were given; and too many records are 2^64 at least.
+-- The reason of a fault, where these records are left of those: where it is the input, all is written that is to be
+-- said of the records that were given; and too many records are 2^64 at least.
 abbrev pub IsRecordsReason : Replay → Option ℤ → List Record → Option (List Record)
     → Option (List ℕ) → Option (List ℕ) → ReplayFault → Type 0
 IsRecordsReason replay offset records left old new Input = (told rest : List Record)

@@ -36,7 +36,7 @@ pub enum Told {
 pub enum Against<'a> {
     /// The answers of this policy, which count as the old ones.
     Policy(&'a PreparedPolicy<'a>),
-    /// The replies that were really sent: the second packets of the records.
+    /// The replies that were really sent: the second packets of lines, and what the lines of a text have as replies.
     Captured,
 }
 
