@@ -31,7 +31,7 @@ trials:
 
 bench: build
 	@RT="$(RT)" scripts/build bench_packets drive_runs
-	@bench/run $(PROGRAM) crates/bench_packets/out/bench_packets crates/drive_runs/out/drive_runs
+	@RT="$(RT)" bench/run $(PROGRAM) crates/bench_packets/out/bench_packets crates/drive_runs/out/drive_runs
 
 SECONDS = 60
 
