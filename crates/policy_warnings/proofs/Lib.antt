@@ -3,4 +3,5 @@ pub mod Answered
 pub mod Blocks
 pub mod Layers
 pub mod Negations
+pub mod Passing
 pub mod Sound

@@ -1,4 +1,6 @@
 pub mod Absences
 pub mod Answers
+pub mod Counts
 pub mod Mentions
+pub mod Passages
 pub mod Warnings

@@ -53,6 +53,10 @@ abbrev pub implies : Mention → Mention → Bool
 implies m other =
     same_list m.list other.list && id_eq m.id other.id && is_within m.selection other.selection
 
+-- both are the same instances
+abbrev pub means_same : Mention → Mention → Bool
+means_same m other = implies m other && implies other m
+
 -- ---- the mentions of a condition
 
 -- all instances of an attribute

@@ -143,7 +143,7 @@ fn any_of(conds: &[Cond], mention: Mention) -> Absence
 
 #[cycle(absences)]
 #[tactic(auto, using(crate::proofs::Layers::absence_any, crate::proofs::Layers::absence_all, crate::proofs::Layers::absence_not, crate::proofs::Layers::absence_last, crate::proofs::Layers::absence_present, crate::proofs::Layers::absence_present_selected, crate::proofs::Layers::absence_compare, crate::proofs::Layers::absence_compare_meant))]
-fn said_of(cond: &Cond, mention: Mention) -> Absence
+pub(crate) fn said_of(cond: &Cond, mention: Mention) -> Absence
     ensures { result ≡ said_of mention cond.now }
 {
     match cond {

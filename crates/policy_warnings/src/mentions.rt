@@ -1,7 +1,7 @@
 //! The instances that a condition's comparisons look at.
 
 ghost use Rattle.std.specs.Prelude.{◌≡◌};
-ghost use Rattle.policy_warnings.specs.Mentions.{implies, is_within, same_list, same_tagging, selected, whole};
+ghost use Rattle.policy_warnings.specs.Mentions.{implies, is_within, means_same, same_list, same_tagging, selected, whole};
 
 use avp_lists::{AttrId, List, Selection, Tagging};
 
@@ -67,5 +67,12 @@ impl Mention {
         same_list(self.list, other.list)
             && self.id.equals(other.id)
             && is_within(self.selection, other.selection)
+    }
+
+    /// Whether both are the same instances.
+    pub(crate) fn means_same(self, other: Mention) -> bool
+        ensures { result ≡ means_same self other }
+    {
+        self.implies(other) && other.implies(self)
     }
 }

@@ -23,6 +23,10 @@ pub enum Reason {
     UndoneLine,
     /// A `transaction`.
     TransactionBlock,
+    /// `:=` of an attribute of which there may be several instances.
+    SeveralInstances,
+    /// An `&` source that may be absent.
+    AbsentSource,
 }
 
 /// A warning, and the line of the text that it is about.
@@ -38,7 +42,7 @@ fn is_filter(op: Op) -> bool
     op == Op::KeepEqual
 }
 
-fn is_replacement(op: Op) -> bool
+pub(crate) fn is_replacement(op: Op) -> bool
     ensures { result ≡ is_replacement op }
 {
     op == Op::Replace
@@ -61,7 +65,7 @@ fn is_undone(line: &Line, next: &Line) -> bool
         && is_literal(&next.source)
 }
 
-fn push_if(
+pub(crate) fn push_if(
     warnings: &mut Vec<Warning>,
     test: bool,
     line: usize,

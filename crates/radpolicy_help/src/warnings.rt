@@ -9,7 +9,7 @@ use crate::sources::Sources;
 use crate::texts::{push_all, push_number};
 use avp_forms::{Profile, profile_of};
 use avp_unlang::{Policy, read_policy};
-use policy_warnings::{Reason, Warning, warnings_of};
+use policy_warnings::{Reason, Warning, count_warnings, warnings_of};
 use radpolicy_common::{LineBreaks, visible_text};
 use std::alloc::{AllocError, Global};
 
@@ -69,6 +69,20 @@ const TRANSACTION: Advice = Advice {
     hint: "write the statements without it in what goes to such a server",
 };
 
+const SEVERAL_INSTANCES: Advice = Advice {
+    name: "several-instances",
+    found: ":= of an attribute of which there may be several instances",
+    server: "a server replaces the first and leaves the others, and here they are removed",
+    hint: "write a line with !* before it, as Name !* ANY, which removes all of them on both",
+};
+
+const ABSENT_SOURCE: Advice = Advice {
+    name: "absent-source",
+    found: "an & source that may be absent",
+    server: "where it is absent a server skips the line, and here the update fails",
+    hint: "ask for it first, as in if (&Name) { .. }",
+};
+
 const UNUSED_ALLOWANCE: Advice = Advice {
     name: "unused-allow",
     found: "the comment silences no warning",
@@ -90,6 +104,8 @@ fn advice_on(reason: Reason) -> Advice {
         Reason::FilterInUpdate => FILTER_IN_UPDATE,
         Reason::UndoneLine => UNDONE_LINE,
         Reason::TransactionBlock => TRANSACTION,
+        Reason::SeveralInstances => SEVERAL_INSTANCES,
+        Reason::AbsentSource => ABSENT_SOURCE,
     }
 }
 
@@ -134,10 +150,19 @@ fn add_unused(
     Ok(())
 }
 
+// The warnings of a policy, by their lines.
+fn sorted_warnings(alloc: Global, policy: &Policy) -> Result<Vec<Warning>, AllocError> {
+    let statements = policy.statements().as_slice();
+    let mut warnings = warnings_of(alloc, statements)?;
+    warnings.extend_from_slice(&count_warnings(alloc, statements)?)?;
+    warnings.sort_by_key(|warning| warning.line)?;
+    Ok(warnings)
+}
+
 /// What a policy is warned of, which was read of this text: first what its statements have, in their order, and then
 /// comments that do nothing.
 pub fn findings(alloc: Global, policy: &Policy, text: &[u8]) -> Result<Vec<Finding>, AllocError> {
-    let warnings = warnings_of(alloc, policy.statements().as_slice())?;
+    let warnings = sorted_warnings(alloc, policy)?;
     let allowances = allowances(alloc, text)?;
     let mut found = Vec::new(alloc);
     add_warned(&mut found, &warnings, &allowances)?;
