@@ -4,4 +4,6 @@ pub mod Blocks
 pub mod Layers
 pub mod Negations
 pub mod Passing
+pub mod Repeating
+pub mod Sameness
 pub mod Sound

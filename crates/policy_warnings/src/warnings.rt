@@ -27,6 +27,8 @@ pub enum Reason {
     SeveralInstances,
     /// An `&` source that may be absent.
     AbsentSource,
+    /// A condition that an earlier one of its chain repeats.
+    RepeatedCondition,
 }
 
 /// A warning, and the line of the text that it is about.

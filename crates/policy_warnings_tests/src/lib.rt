@@ -7,3 +7,5 @@ mod conditions;
 mod counts;
 #[cfg(test)]
 mod policies;
+#[cfg(test)]
+mod repeats;
