@@ -25,6 +25,7 @@ mod stops;
 mod texts;
 mod values;
 mod warnings;
+mod watching;
 mod wishes;
 mod written_pairs;
 

@@ -7,9 +7,11 @@ ghost use Rattle.radpolicy_common.specs.declared.terminals.LineBreaks.TheVariant
 use crate::allowances::{Allowance, allowances, unread_profile};
 use crate::sources::Sources;
 use crate::texts::{push_all, push_number};
+use crate::watching::Watcher;
+use avp_dict::Dictionary;
 use avp_forms::{Profile, profile_of};
 use avp_unlang::{Policy, read_policy};
-use policy_warnings::{Reason, Warning, count_warnings, warnings_of};
+use policy_warnings::{Reason, Warning, count_warnings, repeated_conditions, warnings_of};
 use radpolicy_common::{LineBreaks, visible_text};
 use std::alloc::{AllocError, Global};
 
@@ -83,6 +85,13 @@ const ABSENT_SOURCE: Advice = Advice {
     hint: "ask for it first, as in if (&Name) { .. }",
 };
 
+const REPEATED_CONDITION: Advice = Advice {
+    name: "repeated-condition",
+    found: "a condition that an earlier one of the chain repeats",
+    server: "where it is asked it is false, on a server too, so its branch is never taken",
+    hint: "take the branch out, or ask for what was meant",
+};
+
 const UNUSED_ALLOWANCE: Advice = Advice {
     name: "unused-allow",
     found: "the comment silences no warning",
@@ -106,41 +115,55 @@ fn advice_on(reason: Reason) -> Advice {
         Reason::TransactionBlock => TRANSACTION,
         Reason::SeveralInstances => SEVERAL_INSTANCES,
         Reason::AbsentSource => ABSENT_SOURCE,
+        Reason::RepeatedCondition => REPEATED_CONDITION,
     }
 }
 
-fn silences(allowance: &Allowance<'_>, warning: &Warning) -> bool {
-    allowance.covered == warning.line && allowance.name == advice_on(warning.reason).name
-}
-
-// Adds the warnings that no comment silences.
-fn add_warned(
-    found: &mut Vec<Finding>,
-    warnings: &[Warning],
-    allowances: &[Allowance<'_>],
-) -> Result<(), AllocError> {
+// The findings of these warnings.
+fn add_warned(found: &mut Vec<Finding>, warnings: &[Warning]) -> Result<(), AllocError> {
     for warning in warnings {
-        if !allowances
-            .iter()
-            .any(|allowance| silences(allowance, warning))
-        {
-            found.push(Finding {
-                line: warning.line,
-                advice: advice_on(warning.reason),
-            })?;
-        }
+        found.push(Finding {
+            line: warning.line,
+            advice: advice_on(warning.reason),
+        })?;
     }
     Ok(())
+}
+
+// What a policy has, by its lines, whatever its comments allow.
+fn all_findings(
+    alloc: Global,
+    dictionary: &Dictionary,
+    policy: &Policy,
+) -> Result<Vec<Finding>, AllocError> {
+    let statements = policy.statements().as_slice();
+    let mut found = Vec::new(alloc);
+    add_warned(&mut found, &warnings_of(alloc, statements)?)?;
+    add_warned(&mut found, &count_warnings(alloc, statements)?)?;
+    add_warned(&mut found, &repeated_conditions(alloc, statements)?)?;
+    Watcher::new(alloc, dictionary)?.add_block(&mut found, statements)?;
+    found.sort_by_key(|finding| finding.line)?;
+    Ok(found)
+}
+
+fn silences(allowance: &Allowance<'_>, finding: &Finding) -> bool {
+    allowance.covered == finding.line && allowance.name == finding.advice.name
+}
+
+fn is_silenced(finding: &Finding, allowances: &[Allowance<'_>]) -> bool {
+    allowances
+        .iter()
+        .any(|allowance| silences(allowance, finding))
 }
 
 // Adds the comments that silence nothing.
 fn add_unused(
     found: &mut Vec<Finding>,
-    warnings: &[Warning],
+    all: &[Finding],
     allowances: &[Allowance<'_>],
 ) -> Result<(), AllocError> {
     for allowance in allowances {
-        if !warnings.iter().any(|warning| silences(allowance, warning)) {
+        if !all.iter().any(|finding| silences(allowance, finding)) {
             found.push(Finding {
                 line: allowance.line,
                 advice: UNUSED_ALLOWANCE,
@@ -150,23 +173,23 @@ fn add_unused(
     Ok(())
 }
 
-// The warnings of a policy, by their lines.
-fn sorted_warnings(alloc: Global, policy: &Policy) -> Result<Vec<Warning>, AllocError> {
-    let statements = policy.statements().as_slice();
-    let mut warnings = warnings_of(alloc, statements)?;
-    warnings.extend_from_slice(&count_warnings(alloc, statements)?)?;
-    warnings.sort_by_key(|warning| warning.line)?;
-    Ok(warnings)
-}
-
-/// What a policy is warned of, which was read of this text: first what its statements have, in their order, and then
-/// comments that do nothing.
-pub fn findings(alloc: Global, policy: &Policy, text: &[u8]) -> Result<Vec<Finding>, AllocError> {
-    let warnings = sorted_warnings(alloc, policy)?;
+/// What a policy is warned of, which was read of this text by a dictionary: first what its statements have, by their
+/// lines, and then comments that do nothing.
+pub fn findings(
+    alloc: Global,
+    dictionary: &Dictionary,
+    policy: &Policy,
+    text: &[u8],
+) -> Result<Vec<Finding>, AllocError> {
+    let all = all_findings(alloc, dictionary, policy)?;
     let allowances = allowances(alloc, text)?;
     let mut found = Vec::new(alloc);
-    add_warned(&mut found, &warnings, &allowances)?;
-    add_unused(&mut found, &warnings, &allowances)?;
+    for finding in &all {
+        if !is_silenced(finding, &allowances) {
+            found.push(*finding)?;
+        }
+    }
+    add_unused(&mut found, &all, &allowances)?;
     if profile_of(text) == Profile::Plain
         && let Some(line) = unread_profile(text)
     {
@@ -197,7 +220,7 @@ fn draft(alloc: Global, sources: &Sources<'_>) -> Result<Vec<u8>, AllocError> {
     };
     let source = sources.policy;
     if let Ok(policy) = read_policy(alloc, &dictionary, source.text) {
-        for finding in &findings(alloc, &policy, source.text)? {
+        for finding in &findings(alloc, &dictionary, &policy, source.text)? {
             push_finding(&mut text, source.path, *finding)?;
         }
     }

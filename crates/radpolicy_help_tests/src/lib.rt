@@ -7,3 +7,5 @@ mod helps;
 mod stopped;
 #[cfg(test)]
 mod warned;
+#[cfg(test)]
+mod watched;

@@ -172,7 +172,7 @@ impl<'a> Linter<'a> {
         let alloc = *found.text.allocator();
         match read_policy(alloc, dictionary, text) {
             Ok(policy) => {
-                for finding in &findings(alloc, &policy, text)? {
+                for finding in &findings(alloc, dictionary, &policy, text)? {
                     self.add_warning(found, path, *finding)?;
                 }
                 Ok(None)

@@ -1,0 +1,250 @@
+//! Warnings by the names of attributes: of those that a server makes of the packet, of those that it obeys in the
+//! control list, and of dates in texts.
+
+use crate::warnings::{Advice, Finding};
+use avp_dict::{Dictionary, Form};
+use avp_lists::{AttrId, List, Op};
+use avp_unlang::{
+    Branch, Comparand, Comparison, Cond, Line, MeantComparand, MeantComparison, Part, Source,
+    Statement,
+};
+use std::alloc::{AllocError, Global};
+
+const VIRTUAL_ATTRIBUTE: Advice = Advice {
+    name: "virtual-attribute",
+    found: "an attribute that a server makes of the packet",
+    server: "a server always has it, and here it is there only where the request has it",
+    hint: "put it into the request, as Packet-Src-IP-Address = 192.0.2.1",
+};
+
+const OBEYED_CONTROL: Advice = Advice {
+    name: "obeyed-control",
+    found: "a control attribute that a server obeys",
+    server: "a server acts by it after the policy, and here it is an attribute like any other",
+    hint: "the code decides here: write reject for Auth-Type := Reject, and ok for Accept",
+};
+
+const PRINTED_DATE: Advice = Advice {
+    name: "printed-date",
+    found: "a date that is put into a text",
+    server: "a server puts in a calendar date, and here it is a number of seconds",
+    hint: "write # profile: wider in the first line, below which it is a date in UTC",
+};
+
+const VIRTUAL_NAMES: [&str; 6] = [
+    "Packet-Type",
+    "Packet-Src-IP-Address",
+    "Packet-Dst-IP-Address",
+    "Packet-Src-Port",
+    "Packet-Dst-Port",
+    "Client-IP-Address",
+];
+
+const OBEYED_NAMES: [&str; 5] = [
+    "Auth-Type",
+    "Response-Packet-Type",
+    "Proxy-To-Realm",
+    "Simultaneous-Use",
+    "Cleartext-Password",
+];
+
+/// What is looked for in a policy that is read by a dictionary.
+#[derive(Drop)]
+pub(crate) struct Watcher<'a> {
+    dictionary: &'a Dictionary,
+    virtual_ids: Vec<AttrId>,
+    obeyed_ids: Vec<AttrId>,
+}
+
+// The attributes of these names that a dictionary has.
+fn ids_of(
+    alloc: Global,
+    dictionary: &Dictionary,
+    names: &[&str],
+) -> Result<Vec<AttrId>, AllocError> {
+    let mut ids = Vec::new(alloc);
+    for name in names {
+        if let Some(named) = dictionary.by_name(name.as_bytes()) {
+            ids.push(named.id)?;
+        }
+    }
+    Ok(ids)
+}
+
+fn has(ids: &[AttrId], id: AttrId) -> bool {
+    ids.iter().any(|other| other.equals(id))
+}
+
+// An operator that leaves an attribute set.
+fn is_setting(op: Op) -> bool {
+    matches!(op, Op::AddNew | Op::Replace | Op::Append | Op::Prepend)
+}
+
+fn add(
+    found: &mut Vec<Finding>,
+    test: bool,
+    line: usize,
+    advice: Advice,
+) -> Result<(), AllocError> {
+    if test {
+        found.push(Finding { line, advice })?;
+    }
+    Ok(())
+}
+
+impl<'a> Watcher<'a> {
+    pub(crate) fn new(
+        alloc: Global,
+        dictionary: &'a Dictionary,
+    ) -> Result<Watcher<'a>, AllocError> {
+        Ok(Watcher {
+            dictionary,
+            virtual_ids: ids_of(alloc, dictionary, &VIRTUAL_NAMES)?,
+            obeyed_ids: ids_of(alloc, dictionary, &OBEYED_NAMES)?,
+        })
+    }
+
+    fn is_virtual(&self, list: List, id: AttrId) -> bool {
+        list == List::Request && has(&self.virtual_ids, id)
+    }
+
+    fn is_date(&self, id: AttrId) -> bool {
+        self.dictionary.form(id) == Some(Form::Date)
+    }
+
+    fn compares_virtual(&self, comparison: &Comparison) -> bool {
+        self.is_virtual(comparison.list, comparison.id)
+            || match comparison.comparand {
+                Comparand::Literal(_) => false,
+                Comparand::Instance(list, id) => self.is_virtual(list, id),
+            }
+    }
+
+    fn compares_meant_virtual(&self, comparison: &MeantComparison) -> bool {
+        self.is_virtual(comparison.list, comparison.id)
+            || match comparison.comparand {
+                MeantComparand::Literal(..) => false,
+                MeantComparand::Instance(list, id, _, _) => self.is_virtual(list, id),
+            }
+    }
+
+    #[cycle(asking)]
+    fn any_asks_virtual(&self, conds: &[Cond]) -> bool {
+        for cond in conds {
+            if self.asks_virtual(cond) {
+                return true;
+            }
+        }
+        false
+    }
+
+    #[cycle(asking)]
+    fn asks_virtual(&self, cond: &Cond) -> bool {
+        match cond {
+            Cond::Any(conds) | Cond::All(conds) => self.any_asks_virtual(conds.as_slice()),
+            Cond::Not(cond) => self.asks_virtual(cond.get()),
+            Cond::Last(_) => false,
+            Cond::Present(list, id) | Cond::PresentSelected(list, id, _) => {
+                self.is_virtual(*list, *id)
+            }
+            Cond::Compare(comparison) => self.compares_virtual(comparison),
+            Cond::CompareMeant(comparison) => self.compares_meant_virtual(comparison),
+        }
+    }
+
+    fn any_part_is_virtual(&self, parts: &[Part]) -> bool {
+        parts.iter().any(|part| match part {
+            Part::Text(_) => false,
+            Part::Instance(list, id) | Part::Meant(list, id, _) => self.is_virtual(*list, *id),
+        })
+    }
+
+    fn takes_virtual(&self, source: &Source) -> bool {
+        match source {
+            Source::Literal(_) | Source::Any => false,
+            Source::Text(_, parts) | Source::WiderText(_, _, parts) => {
+                self.any_part_is_virtual(parts.as_slice())
+            }
+            Source::Instance(list, id) | Source::Tagged(list, id, _, _, _) => {
+                self.is_virtual(*list, *id)
+            }
+        }
+    }
+
+    // Below the line of the wider profile a text has a date as a server prints it.
+    fn prints_date(&self, source: &Source) -> bool {
+        match source {
+            Source::Text(_, parts) => parts.as_slice().iter().any(|part| match part {
+                Part::Instance(_, id) => self.is_date(*id),
+                Part::Text(_) | Part::Meant(..) => false,
+            }),
+            _ => false,
+        }
+    }
+
+    fn is_obeyed(&self, line: &Line) -> bool {
+        line.list == List::Control && is_setting(line.op) && has(&self.obeyed_ids, line.id)
+    }
+
+    fn add_lines(&self, found: &mut Vec<Finding>, lines: &[Line]) -> Result<(), AllocError> {
+        for line in lines {
+            let at = line.line;
+            add(
+                found,
+                self.takes_virtual(&line.source),
+                at,
+                VIRTUAL_ATTRIBUTE,
+            )?;
+            add(found, self.prints_date(&line.source), at, PRINTED_DATE)?;
+            add(found, self.is_obeyed(line), at, OBEYED_CONTROL)?;
+        }
+        Ok(())
+    }
+
+    /// Adds what statements are warned of.
+    #[cycle(blocks)]
+    pub(crate) fn add_block(
+        &self,
+        found: &mut Vec<Finding>,
+        block: &[Statement],
+    ) -> Result<(), AllocError> {
+        for statement in block {
+            self.add_statement(found, statement)?;
+        }
+        Ok(())
+    }
+
+    #[cycle(blocks)]
+    fn add_branches(
+        &self,
+        found: &mut Vec<Finding>,
+        branches: &[Branch],
+    ) -> Result<(), AllocError> {
+        for branch in branches {
+            let asks = self.asks_virtual(&branch.cond);
+            add(found, asks, branch.line, VIRTUAL_ATTRIBUTE)?;
+            self.add_block(found, branch.block.as_slice())?;
+        }
+        Ok(())
+    }
+
+    #[cycle(blocks)]
+    fn add_statement(
+        &self,
+        found: &mut Vec<Finding>,
+        statement: &Statement,
+    ) -> Result<(), AllocError> {
+        match statement {
+            Statement::Update(_, lines) => self.add_lines(found, lines.as_slice()),
+            Statement::If(branches, otherwise) => {
+                self.add_branches(found, branches.as_slice())?;
+                match otherwise {
+                    Some(block) => self.add_block(found, block.as_slice()),
+                    None => Ok(()),
+                }
+            }
+            Statement::Transaction(_, block) => self.add_block(found, block.as_slice()),
+            Statement::Word(..) => Ok(()),
+        }
+    }
+}
