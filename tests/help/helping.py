@@ -1,6 +1,6 @@
 """The help after a fault's line: each folder here has files, a command, and in `wanted` the texts that a terminal has to
-show. In a pipe the fault's line stays alone. The folders of `warned/` have policies that are read, and in `wanted` all
-that a terminal shows of their warnings."""
+show. In a pipe the fault's line stays alone. The command's first word may be the name of a program beside `radpolicy`. The
+folders of `warned/` have policies that are read, and in `wanted` all that a terminal shows of their warnings."""
 import glob
 import os
 import pty
@@ -28,6 +28,14 @@ def words_of(folder: Path) -> List[str]:
         found = sorted(glob.glob(str(folder / word))) if "*" in word else []
         words += [os.path.relpath(path, folder) for path in found] or [word]
     return words
+
+
+def program_of(subject: Subject, folder: Path) -> Tuple[Path, List[str]]:
+    """The program that a folder's command runs, and its words."""
+    words = words_of(folder)
+    if words and words[0].startswith("radpolicy-"):
+        return subject.driver(words[0].replace("-", "_")), words[1:]
+    return subject.program, words
 
 
 def in_pipe(program: Path, folder: Path, words: Sequence[str], wish: Optional[str]) -> Tuple[int, bytes, bytes]:
@@ -73,9 +81,9 @@ def is_shown(text: str, shown: str) -> bool:
     return text in (shown.splitlines() if text.strip() == "^" else shown)
 
 
-def faults_of(program: Path, folder: Path) -> List[str]:
+def faults_of(subject: Subject, folder: Path) -> List[str]:
     """What is wrong with the help of a folder's command."""
-    words = words_of(folder)
+    program, words = program_of(subject, folder)
     wanted = (folder / "wanted").read_text().splitlines()
     line = (wanted[0] + "\n").encode()
     status, output, errors = on_terminal(program, folder, words, None)
@@ -109,7 +117,7 @@ def warned_otherwise(program: Path, folder: Path) -> List[str]:
 
 def check(subject: Subject, report: Report) -> None:
     folders = sorted(path.parent for path in HERE.glob("*/wanted"))
-    found = on_all(lambda folder: faults_of(subject.program, folder), folders)
+    found = on_all(lambda folder: faults_of(subject, folder), folders)
     for folder, wrong in zip(folders, found):
         report.check(f"help: {folder.name}", wrong)
     warned = sorted(path.parent for path in HERE.glob("warned/*/wanted"))

@@ -1,8 +1,8 @@
 //! Warnings of a policy: where it is right by the rules of the language, and a server would do otherwise.
 //!
-//! [`warnings_of`] gives those of a policy's statements, [`count_warnings`] those that depend on how many instances of an
-//! attribute there may be, [`repeated_conditions`] those of branches that are never taken, and [`warns_of_absence`] asks
-//! it of a condition.
+//! [`warnings_of`] gives those of a policy's statements, [`count_warnings`] those that depend on how many instances of
+//! an attribute there may be, [`repeated_conditions`] those of branches that are never taken, and [`warns_of_absence`]
+//! asks it of a condition.
 #![tactic(auto)]
 
 mod absences;

@@ -4,49 +4,16 @@
 ghost use Rattle.std.specs.Prelude.{◌≡◌, []};
 ghost use Rattle.radpolicy.specs.Faults.{IsPrintedWith, status_of};
 ghost use Rattle.radpolicy.specs.Plans.{IsSound, asked_by_job, asked_by_plan};
-ghost use Rattle.radpolicy_common.specs.Refusals.{fault_of_unread};
 
 use avp_dict::FileSet;
 use radpolicy::{Fault, Job, Outcome, Plan, WriteOutput, answer, help_text, read_words, status};
-use radpolicy_common::{Unread, job_of, refuse, refuse_early, refuse_unread};
+use radpolicy_common::{job_of, refuse_early};
 use radpolicy_help::{
-    Sources, explain, explain_unread, explain_words, is_help_wanted, print_with_help, stop_text,
-    warnings_text,
+    Sources, explain_words, is_help_wanted, refuse_explained, refuse_unread_explained,
+    refuse_with_help, stop_text, warnings_text,
 };
-use std::alloc::AllocError;
+use std::io;
 use std::process::ExitCode;
-use std::{fs, io};
-
-// Prints a fault's line and its help, if that is wanted and there was memory for it, and gives the fault's status.
-fn refuse_with_help(
-    rt: &HostRuntime,
-    fault: &Fault,
-    files: &FileSet,
-    help: Result<Vec<u8>, AllocError>,
-) -> u8
-    requires { IsPrintedWith files.now fault.now }
-    ensures { result ≡ status_of fault.now }
-{
-    if let Ok(help) = help {
-        let mut out = WriteOutput::new(rt.stderr());
-        let _ = print_with_help(fault, files, &help, &mut out);
-        status(fault)
-    } else {
-        refuse(rt, fault, files)
-    }
-}
-
-// Refuses a job.
-fn refuse_job(rt: &HostRuntime, fault: &Fault, plan: &Plan, job: &Job) -> u8
-    requires { IsPrintedWith job.now.files fault.now }
-    ensures { result ≡ status_of fault.now }
-{
-    if !is_help_wanted(rt) {
-        return refuse(rt, fault, &job.files);
-    }
-    let help = explain(rt.alloc(), fault, &Sources::of_job(plan, job));
-    refuse_with_help(rt, fault, &job.files, help)
-}
 
 // Refuses the words of the command line.
 fn refuse_words(rt: &HostRuntime, fault: &Fault, words: &[String]) -> u8
@@ -58,22 +25,6 @@ fn refuse_words(rt: &HostRuntime, fault: &Fault, words: &[String]) -> u8
     }
     let help = explain_words(rt.alloc(), fault, words);
     refuse_with_help(rt, fault, &FileSet::from_vec(Vec::new(rt.alloc())), help)
-}
-
-// Refuses files that were not all read. The help for one that was not readable follows its line.
-fn refuse_files(rt: &HostRuntime, unread: Unread<'_>) -> u8
-    ensures { result ≡ status_of (fault_of_unread unread.entry) }
-{
-    let code = refuse_unread(rt, unread);
-    if let Unread::File(path) = unread
-        && is_help_wanted(rt)
-    {
-        let is_folder = fs::metadata(rt, path).is_ok_and(|found| found.is_dir());
-        if let Ok(help) = explain_unread(rt.alloc(), path, is_folder) {
-            let _ = rt.stderr().write_all(&help);
-        }
-    }
-    code
 }
 
 fn show_help(rt: &HostRuntime, words: &[String]) -> u8 {
@@ -121,7 +72,7 @@ fn run_job(rt: &HostRuntime, plan: &Plan, job: &Job) -> u8
             tell_more(rt, plan, job, outcome);
             0
         }
-        Err(fault) => refuse_job(rt, &fault, plan, job),
+        Err(fault) => refuse_explained(rt, &fault, &job.files, &Sources::of_job(plan, job)),
     }
 }
 
@@ -130,7 +81,7 @@ fn run_plan(rt: &HostRuntime, plan: &Plan) -> u8
 {
     match job_of(rt, plan) {
         Ok(job) => run_job(rt, plan, &job),
-        Err(unread) => refuse_files(rt, unread),
+        Err(unread) => refuse_unread_explained(rt, unread),
     }
 }
 

@@ -67,6 +67,13 @@ pub fn explain_words(alloc: Global, fault: &Fault, words: &[String]) -> Result<V
     visible_text(alloc, &help, LineBreaks::Kept)
 }
 
+/// How a program of this name is asked for its options.
+pub(crate) fn explain_options(alloc: Global, program: &str) -> Result<Vec<u8>, AllocError> {
+    let mut help = Vec::new(alloc);
+    push_all(&mut help, &[program, " --help lists its options\n"])?;
+    Ok(help)
+}
+
 /// What is said of a file that could not be read.
 pub fn explain_unread(alloc: Global, path: &str, is_folder: bool) -> Result<Vec<u8>, AllocError>
     ensures visible { IfOk result (λ text. all_visible Kept text.items ≡ true) }

@@ -1,7 +1,8 @@
 //! Help for a person who reads a fault: the place in the file, what was found there, and what to do.
 //!
-//! [`explain`] makes the help for a fault, and [`print_with_help`] prints it after the fault's line. [`warnings_text`]
-//! says what a policy that is read is warned of, and [`stop_text`] why a run was stopped.
+//! [`explain`] makes the help for a fault, [`print_with_help`] prints it after the fault's line, and
+//! [`refuse_explained`] does both where help is wanted. [`warnings_text`] says what a policy that is read is warned of,
+//! and [`stop_text`] why a run was stopped.
 //! [`findings`] and [`without_statement`] serve those who go over a policy whole.
 #![tactic(auto)]
 
@@ -18,6 +19,7 @@ mod pointing;
 mod policies;
 mod policy_tokens;
 mod printing;
+mod refusing;
 mod requests;
 mod sources;
 mod statements;
@@ -33,7 +35,8 @@ pub use command_lines::{explain_unread, explain_words};
 pub use explanations::explain;
 pub use pointing::{Pointed, point_at};
 pub use printing::print_with_help;
-pub use sources::{Source, Sources};
+pub use refusing::{refuse_explained, refuse_unread_explained, refuse_with_help, refuse_words_of};
+pub use sources::{STANDARD_INPUT, Source, Sources};
 pub use statements::without_statement;
 pub use stops::stop_text;
 pub use warnings::{Advice, Finding, findings, warnings_text};

@@ -313,7 +313,7 @@ fn push_unknown_hint(
     }
     if let Some((_, tag)) = name.split_once(":") {
         if tag.len() <= 2 {
-            return push_all(help, &[tag_hint(sources.policy.text)]);
+            return push_all(help, &[tag_hint(profile_of(sources.policy.text))]);
         }
     }
     if is_of_module(name) {

@@ -10,7 +10,6 @@ use crate::texts::push_all;
 use crate::values::{push_not_value, tag_hint};
 use crate::written_pairs::{WrittenPair, refused_pair};
 use avp_dict::{LineFault, LineKind};
-use avp_forms::profile_of;
 use std::alloc::{AllocError, Global};
 
 // Whether a line that begins so is one of a `detail` file or a log: their attributes are on lines that begin with a
@@ -48,7 +47,7 @@ fn push_unknown(
         );
     }
     if name.contains(":") {
-        return push_all(help, &[tag_hint(sources.request.text)]);
+        return push_all(help, &[tag_hint(sources.request_profile())]);
     }
     if let Some(dictionary) = &sources.dictionary(alloc) {
         push_nearest_attributes(help, &nearest_attributes(alloc, dictionary, name)?)?;
@@ -77,8 +76,7 @@ fn push_sentences(
         ),
         LineKind::Unknown => push_unknown(alloc, help, sources, name),
         LineKind::NotValue => {
-            let profile = profile_of(sources.request.text);
-            push_not_value(alloc, help, sources, profile, name, value)
+            push_not_value(alloc, help, sources, sources.request_profile(), name, value)
         },
         LineKind::TooLong => push_all(
             help,
@@ -131,6 +129,8 @@ pub(crate) fn line_help(
     let mut help = Vec::new(alloc);
     push_place(alloc, &mut help, source, start.saturating_add(offset))?;
     push_sentences(alloc, &mut help, fault.kind, sources, &pair, rest)?;
-    push_unread_profile(&mut help, source.text)?;
+    if !sources.is_request_wider {
+        push_unread_profile(&mut help, source.text)?;
+    }
     Ok(help)
 }

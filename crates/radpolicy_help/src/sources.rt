@@ -1,6 +1,7 @@
 //! The files that a fault may be in.
 
 use avp_dict::{Dictionary, FileSet};
+use avp_forms::{Profile, profile_of};
 use avp_lists::Octets;
 use radpolicy::{Job, Plan};
 use std::alloc::Global;
@@ -23,10 +24,17 @@ pub struct Sources<'a> {
     pub script: Source<'a>,
     /// The path of the secret's file.
     pub secret: &'a str,
+    /// The request is read in the forms of the wider profile, whatever its first line says.
+    pub is_request_wider: bool,
 }
 
-// The name of what has no path.
-const STANDARD_INPUT: &str = "<stdin>";
+const NOTHING: Source<'static> = Source {
+    path: "",
+    text: &[],
+};
+
+/// The name of standard input in a place.
+pub const STANDARD_INPUT: &str = "<stdin>";
 
 fn source_at<'a>(path: Option<&'a str>, octets: Option<&'a Octets>) -> Source<'a> {
     Source {
@@ -48,6 +56,29 @@ impl<'a> Sources<'a> {
             policy: source_at(plan.policy, job.policy.as_ref()),
             script: source_at(plan.script, job.script.as_ref()),
             secret: plan.secret.unwrap_or(""),
+            is_request_wider: false,
+        }
+    }
+
+    /// Dictionary files of these paths, and no other files.
+    pub fn of_files(files: &'a FileSet, dictionaries: &'a [&'a str]) -> Sources<'a> {
+        Sources {
+            files,
+            dictionaries,
+            request: NOTHING,
+            policy: NOTHING,
+            script: NOTHING,
+            secret: "",
+            is_request_wider: false,
+        }
+    }
+
+    /// The profile in which the request is read.
+    pub(crate) fn request_profile(&self) -> Profile {
+        if self.is_request_wider {
+            Profile::Wider
+        } else {
+            profile_of(self.request.text)
         }
     }
 

@@ -4,7 +4,7 @@ use crate::names::{shown_values, value_names};
 use crate::sources::Sources;
 use crate::texts::{push_all, push_choices};
 use avp_dict::{Dictionary, Form, Kind};
-use avp_forms::{Profile, profile_of};
+use avp_forms::Profile;
 use std::alloc::{AllocError, Global};
 
 // Which texts a type reads.
@@ -76,8 +76,8 @@ fn push_form(
 }
 
 /// What to do about a name with a tag that is none.
-pub(crate) fn tag_hint(text: &[u8]) -> &'static str {
-    match profile_of(text) {
+pub(crate) fn tag_hint(profile: Profile) -> &'static str {
+    match profile {
         Profile::Wider =>
             "a tag is a number up to 31, after the name of an attribute that has tags\n",
         Profile::Plain => {

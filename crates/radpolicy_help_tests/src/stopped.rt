@@ -37,6 +37,7 @@ fn told(alloc: Global, policy: &[u8]) -> Result<Vec<u8>, Fail> {
         },
         script: nothing,
         secret: "",
+        is_request_wider: false,
     };
     Ok(stop_text(alloc, &sources, &job)?)
 }

@@ -21,6 +21,7 @@ fn warned(alloc: Global, policy: &[u8]) -> Result<Vec<u8>, Fail> {
         },
         script: nothing,
         secret: "",
+        is_request_wider: false,
     };
     Ok(warnings_text(alloc, &sources)?)
 }

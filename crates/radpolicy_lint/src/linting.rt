@@ -146,6 +146,7 @@ impl<'a> Linter<'a> {
             policy: NOTHING,
             script: NOTHING,
             secret: "",
+            is_request_wider: false,
         };
         let help = explain(alloc, &fault, &sources)?;
         let path = match &fault {
@@ -188,6 +189,7 @@ impl<'a> Linter<'a> {
                     policy: source,
                     script: NOTHING,
                     secret: "",
+                    is_request_wider: false,
                 };
                 let help = explain(alloc, &refusal, &sources)?;
                 self.add_fault(found, path, refusal, &help)?;
@@ -235,6 +237,7 @@ impl<'a> Linter<'a> {
                     policy: NOTHING,
                     script: NOTHING,
                     secret: "",
+                    is_request_wider: false,
                 };
                 let help = explain(alloc, &fault, &sources)?;
                 self.add_fault(found, path, fault, &help)
