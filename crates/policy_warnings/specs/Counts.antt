@@ -1,5 +1,6 @@
--- How many instances of an attribute there are at a place of a policy, in every run that gets there.
-use Rattle.std.specs.Prelude.{Bool, true, false, ◌&&◌, ◌||◌, if◌then◌else◌, Option, Some, None}
+-- How many instances of an attribute there are at a place of a policy, in every run that gets there from a request which
+-- repeats nothing and from empty reply and control lists.
+use Rattle.std.specs.Prelude.{Bool, true, false, not, ◌==◌, ◌&&◌, ◌||◌, if◌then◌else◌, Option, Some, None}
 use Rattle.std.specs.Option.{option_map}
 use Rattle.avp_lists.specs.Pairs.{id_eq}
 use Rattle.avp_lists.specs.declared.edits.Op.{Op}
@@ -11,7 +12,7 @@ use Rattle.avp_lists.specs.declared.tags.Selection.TheVariants.{All, EachTag, Ta
 use Rattle.avp_unlang.specs.declared.tree.Cond.{Cond}
 use Rattle.avp_unlang.specs.declared.tree.Line.{Line}
 use Rattle.policy_warnings.specs.Absences.{said_of}
-use Rattle.policy_warnings.specs.Mentions.{is_within, same_list}
+use Rattle.policy_warnings.specs.Mentions.{is_within, same_list, same_tagging}
 use Rattle.policy_warnings.specs.declared.counts.Counts.{Counts}
 use Rattle.policy_warnings.specs.declared.counts.Most.{Most}
 use Rattle.policy_warnings.specs.declared.counts.Most.TheVariants.{Zero, One, Several}
@@ -87,10 +88,19 @@ edited m line c = record {
   most = most_after line.op (is_within m.selection line.selection) c.most;
 }
 
--- a line of another attribute or list leaves them
+-- instances with another tag
+abbrev pub are_apart : Selection → Selection → Bool
+are_apart (Tag tagging n) (Tag other k) = same_tagging tagging other && not (n == k)
+are_apart _ _ = false
+
+-- the line edits the attribute in the list, and not with another tag
+abbrev pub touches : Mention → Line → Bool
+touches m line = same_list m.list line.list && id_eq m.id line.id
+    && not (are_apart m.selection line.selection)
+
+-- other lines leave them
 abbrev pub after_line : Mention → Line → Counts → Counts
-after_line m line c =
-    if same_list m.list line.list && id_eq m.id line.id then edited m line c else c
+after_line m line c = if touches m line then edited m line c else c
 
 -- ---- where a condition is asked
 

@@ -1,4 +1,4 @@
--- Conditions of a chain of `if`, `elsif` that an earlier one of it repeats: where they are asked they are false.
+-- Conditions of a chain of `if` and `elsif` that repeat an earlier one of it: where they are asked they are false.
 use Rattle.std.specs.Prelude.{ℕ, Bool, true, false, ◌&&◌, List, [], ◌∷◌, ◌++◌, bytes_eq}
 use Rattle.std.specs.List.{flat_map, list_any}
 use Rattle.avp_lists.specs.Pairs.{value_eq}

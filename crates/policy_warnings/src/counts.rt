@@ -3,10 +3,10 @@
 ghost use Rattle.std.specs.Prelude.{◌≡◌};
 ghost use Rattle.std.specs.Option.{option_map};
 ghost use Rattle.policy_warnings.specs.Absences.{said_of};
-ghost use Rattle.policy_warnings.specs.Counts.{after_line, at_least_one, at_start, both_ways, certain_after, edited, either_way, found, greater, is_several, means_all, most_after, most_at_start, one_more, where_false, where_true};
+ghost use Rattle.policy_warnings.specs.Counts.{after_line, are_apart, at_least_one, at_start, both_ways, certain_after, edited, either_way, found, greater, is_several, means_all, most_after, most_at_start, one_more, touches, where_false, where_true};
 
 use crate::absences::said_of;
-use crate::mentions::{Mention, is_within, same_list};
+use crate::mentions::{Mention, is_within, same_list, same_tagging};
 use avp_lists::{List, Op, Selection};
 use avp_unlang::{Cond, Line};
 
@@ -23,7 +23,7 @@ pub enum Most {
 pub struct Counts {
     /// One is there in every run that gets to the place.
     pub is_certain: bool,
-    /// No run that gets there has more.
+    /// No run that gets there from a request that repeats nothing has more.
     pub most: Most,
 }
 
@@ -34,6 +34,25 @@ fn means_all(selection: Selection) -> bool
         Selection::All | Selection::EachTag(_) => true,
         Selection::Tag(..) => false,
     }
+}
+
+fn are_apart(a: Selection, b: Selection) -> bool
+    ensures { result ≡ are_apart a b }
+{
+    match (a, b) {
+        (Selection::Tag(tagging, n), Selection::Tag(other, k)) => {
+            same_tagging(tagging, other) && n != k
+        }
+        _ => false,
+    }
+}
+
+fn touches(mention: Mention, line: &Line) -> bool
+    ensures { result ≡ touches mention line.now }
+{
+    same_list(mention.list, line.list)
+        && mention.id.equals(line.id)
+        && !are_apart(mention.selection, line.selection)
 }
 
 fn certain_after(op: Op, meant: bool, certain: bool) -> bool
@@ -128,7 +147,7 @@ impl Counts {
     pub(crate) fn after_line(self, mention: Mention, line: &Line) -> Counts
         ensures { result ≡ after_line mention line.now self }
     {
-        if same_list(mention.list, line.list) && mention.id.equals(line.id) {
+        if touches(mention, line) {
             self.edited(mention, line)
         } else {
             self

@@ -19,7 +19,7 @@ pub(crate) fn same_list(list: List, other: List) -> bool
     list == other
 }
 
-fn same_tagging(tagging: Tagging, other: Tagging) -> bool
+pub(crate) fn same_tagging(tagging: Tagging, other: Tagging) -> bool
     ensures { result ≡ same_tagging tagging other }
 {
     tagging == other

@@ -1,4 +1,4 @@
-//! Conditions that an earlier one of their chain repeats.
+//! Conditions that repeat an earlier one of their chain.
 
 ghost use Rattle.std.specs.Prelude.{◌≡◌, ◌++◌, [], IfOk, OnOk, map};
 ghost use Rattle.std.specs.List.{flat_map, list_any};

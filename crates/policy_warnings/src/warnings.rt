@@ -27,7 +27,7 @@ pub enum Reason {
     SeveralInstances,
     /// An `&` source that may be absent.
     AbsentSource,
-    /// A condition that an earlier one of its chain repeats.
+    /// A condition that repeats an earlier one of its chain.
     RepeatedCondition,
 }
 

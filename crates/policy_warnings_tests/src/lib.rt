@@ -9,3 +9,5 @@ mod counts;
 mod policies;
 #[cfg(test)]
 mod repeats;
+#[cfg(test)]
+mod tags;

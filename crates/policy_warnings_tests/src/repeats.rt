@@ -1,4 +1,4 @@
-//! Conditions that an earlier one of their chain repeats.
+//! Conditions that repeat an earlier one of their chain.
 use avp_unlang::read_policy;
 use policy_warnings::{Reason, repeated_conditions};
 use samples::test_dictionary;

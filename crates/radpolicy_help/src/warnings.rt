@@ -87,7 +87,7 @@ const ABSENT_SOURCE: Advice = Advice {
 
 const REPEATED_CONDITION: Advice = Advice {
     name: "repeated-condition",
-    found: "a condition that an earlier one of the chain repeats",
+    found: "a condition that repeats an earlier one of the chain",
     server: "where it is asked it is false, on a server too, so its branch is never taken",
     hint: "take the branch out, or ask for what was meant",
 };
