@@ -357,6 +357,13 @@ impl<'a> Start<'a> {
         self.dictionary
     }
 
+    /// The policy that is run.
+    pub fn policy(&self) -> &'a Policy
+        ensures { result.now ≡ self.now.prepared.statements }
+    {
+        self.policy
+    }
+
     // What the reply takes of the request, where there is a secret.
     #[tactic(auto, unfolding(crate::specs::internal::ReplyHeads::sent_by))]
     fn head(&self, alloc: Global) -> Result<Option<ReplyHead<'a>>, AllocError>
