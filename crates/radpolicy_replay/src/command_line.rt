@@ -82,6 +82,16 @@ pub struct Plan<'a> {
     pub dictionaries: Vec<&'a str>,
 }
 
+impl<'a> Plan<'a> {
+    /// The file of the policy with which answers are compared, if they are compared with one.
+    pub fn old_policy(&self) -> Option<&'a str> {
+        match self.comparison.as_ref()?.against {
+            AgainstPlan::File(path) => Some(path),
+            AgainstPlan::Captured => None,
+        }
+    }
+}
+
 fn policy_option<'a>(alloc: Global) -> Arg<'a> {
     Arg::new(alloc, POLICY)
         .long(POLICY)

@@ -2,6 +2,7 @@
 #![tactic(auto)]
 
 mod command_line;
+mod summaries;
 mod traffic;
 
 ghost use Rattle.std.specs.Prelude.{◌<◌, IfErr, IfOk, length};
@@ -9,6 +10,7 @@ ghost use Rattle.avp_dict.specs.Lines.{HasDistinctNames};
 ghost use Rattle.radpolicy.specs.Faults.{IsPrintedAnywhere, IsPrintedWith};
 
 use crate::command_line::{AgainstPlan, Plan, SecretPlan, help_text, read_words};
+use crate::summaries::{PolicyTexts, show_summary};
 use crate::traffic::{Traffic, read_beginning};
 use avp_dict::{Dictionary, FileSet};
 use avp_lists::{AttrId, Octets};
@@ -40,17 +42,9 @@ struct Files {
 // The status where a record is answered otherwise, or by --strict refused.
 const DIFFERENT: u8 = 1;
 
-// The file of the policy with which answers are compared, if they are compared with one.
-fn old_policy_path<'a>(plan: &Plan<'a>) -> Option<&'a str> {
-    match plan.comparison.as_ref()?.against {
-        AgainstPlan::File(path) => Some(path),
-        AgainstPlan::Captured => None,
-    }
-}
-
 // What the old policy's file holds; nothing where there is none.
 fn read_old_policy<'a>(rt: &HostRuntime, plan: &Plan<'a>) -> Result<Octets, Unread<'a>> {
-    match old_policy_path(plan) {
+    match plan.old_policy() {
         Some(path) => read_file(rt, path),
         None => Ok(Octets::from_vec(Vec::new(rt.alloc()))),
     }
@@ -77,27 +71,7 @@ fn read_files<'a>(rt: &HostRuntime, plan: &Plan<'a>) -> Result<Files, Unread<'a>
     })
 }
 
-// How many records there were, and of which kinds.
-fn show_summary(rt: &HostRuntime, comparison: &Option<Comparison<'_>>, summary: Summary) {
-    let (read, refused) = (summary.read, summary.refused);
-    let Some(comparison) = comparison else {
-        let _ = eprintln!(rt; "{read} read, {refused} refused");
-        return;
-    };
-    let (same, different) = (summary.same, summary.different);
-    let (unanswered, challenged) = (summary.unanswered, summary.challenged);
-    let _ = match comparison.against {
-        Against::Policy(_) => {
-            eprintln!(rt; "{read} read, {same} same, {different} different, {refused} refused")
-        }
-        Against::Captured => eprintln!(rt;
-            "{read} read, {same} same, {different} different, {unanswered} unanswered, \
-            {challenged} challenged, {refused} refused"
-        ),
-    };
-}
-
-fn status_of(strict: bool, summary: Summary) -> u8 {
+fn status_of(strict: bool, summary: &Summary) -> u8 {
     if summary.different > 0 || strict && summary.refused > 0 {
         DIFFERENT
     } else {
@@ -150,12 +124,17 @@ fn run_input(
     run_traffic(rt, plan, replay, beginning.traffic, whole)
 }
 
-fn replay_input(rt: &HostRuntime, plan: &Plan<'_>, replay: &Replay<'_>) -> u8 {
+fn replay_input(
+    rt: &HostRuntime,
+    plan: &Plan<'_>,
+    texts: PolicyTexts<'_>,
+    replay: &Replay<'_>,
+) -> u8 {
     match run_input(rt, plan, replay) {
-        Ok(summary) => {
-            show_summary(rt, &replay.comparison, summary);
-            status_of(plan.strict, summary)
-        }
+        Ok(summary) => match show_summary(rt, plan, texts, &summary) {
+            Ok(()) => status_of(plan.strict, &summary),
+            Err(_) => refuse_early(rt, &Fault::Memory),
+        },
         Err(fault) => refuse_replay(rt, fault),
     }
 }
@@ -192,7 +171,7 @@ fn read_against<'a>(
 ) -> Result<Option<PreparedPolicy<'a>>, Fault>
     ensures { IfErr result IsPrintedAnywhere }
 {
-    let Some(path) = old_policy_path(plan) else {
+    let Some(path) = plan.old_policy() else {
         return Ok(None);
     };
     match PreparedPolicy::read(rt.alloc(), dictionary, text) {
@@ -332,7 +311,11 @@ fn replay_by(rt: &HostRuntime, plan: &Plan<'_>, files: &Files) -> Result<u8, Fau
         comparison: comparison_of(plan, &against, &settings.ignored),
         secrets: plan.secrets,
     };
-    Ok(replay_input(rt, plan, &replay))
+    let texts = PolicyTexts {
+        new: files.policy.as_slice(),
+        old: files.against.as_slice(),
+    };
+    Ok(replay_input(rt, plan, texts, &replay))
 }
 
 fn replay_plan(rt: &HostRuntime, plan: &Plan<'_>) -> u8 {

@@ -3,12 +3,14 @@ use Rattle.std.proofs.Common.{◌≡◌, ◌∙◌, ℕ, ◌+◌, ◌^◌, ◌�
 use Rattle.std.specs.List.{fold, slice_split}
 use Rattle.std.specs.Io.KnownBytes.{Appends, Consumes, IsAtEnd, Keeps}
 use Rattle.std.proofs.lemmas.List.{take-take, take_all}
-use Rattle.std.proofs.lemmas.List.Elements.{All-append}
+use Rattle.std.proofs.lemmas.List.Elements.{All-append, All-nil}
 use Rattle.std.proofs.KnownBytes.{Appends-kept, Appends-nil, Appends-trans, Consumes-kept}
 use Rattle.avp_dict.specs.Lines.{is_line_end}
 use Rattle.radpolicy_replay_records.specs.declared.lines.TheConstants.{MAX_LINE_OCTETS}
 use Rattle.radpolicy_replay_records.specs.Lines.{cut, ended_records_of, is_record, records_of}
-use Rattle.radpolicy_replay_records.specs.Replays.{AppendsFront, IsReason, counted, ended_text, ended_text_from, no_records, record_text, records_text, replayed_text, summary_from, summary_of, text_from, verdict_of}
+use Rattle.radpolicy_replay_records.specs.Replays.{AppendsFront, IsReason, counted, counted_with, ended_text, ended_text_from, no_records, record_counted, record_lines, record_text, records_text, replayed_text, summary_from, summary_of, text_from, verdict_of}
+use Rattle.radpolicy_changing_lines.specs.declared.differences.PolicyLine.{PolicyLine}
+use Rattle.radpolicy_replay_records.specs.declared.line_counts.LineCount.{LineCount}
 use Rattle.radpolicy_replay_records.specs.declared.replays.Replay.{Replay}
 use Rattle.radpolicy_replay_records.specs.declared.replays.ReplayFault.{ReplayFault}
 use Rattle.radpolicy_replay_records.specs.declared.replays.ReplayFault.TheVariants.{Input, Memory, Output, TooManyRecords}
@@ -16,12 +18,13 @@ use Rattle.radpolicy_replay_records.specs.declared.summaries.Summary.{Summary}
 use Rattle.radpolicy_replay_records.specs.declared.summaries.Verdict.{Verdict}
 use Rattle.radpolicy_replay_records.specs.declared.summaries.Verdict.TheVariants.{Answered, Challenged, Different, Refused, Same, Unanswered}
 use Rattle.radpolicy_replay_records.specs.internal.Positions.{Continues, CountsWithin, HasCome, HasNoEnd, IsLineReason, IsOctetsReason, Writes, WritesFront, line_counted, line_text}
+use Rattle.radpolicy_replay_records.proofs.Counting.{lines_within}
 use Rattle.radpolicy_replay_records.proofs.Cutting.{NoEnd, cut_has_no_end, ended_records_cut, ended_records_line, ended_records_none, first_clean, parts_joined, records_cut, records_last, records_line}
 
 -- ---- texts and counts, by the records that are left
 
 abbrev counts_of : Replay → Summary → List (List ℕ) → Summary
-counts_of replay summary records = fold (λ so_far line. counted so_far (verdict_of replay line)) summary records
+counts_of replay summary records = fold (record_counted replay) summary records
 
 pub counted_read : (summary : Summary) (verdict : Verdict) → (counted summary verdict).read ≡ summary.read + 1
 counted_read summary Answered = refl
@@ -32,74 +35,81 @@ counted_read summary Challenged = refl
 counted_read summary Refused = refl
 
 -- the text of a line and of those after it
-line_first : (replay : Replay) (summary : Summary) (line : List ℕ) (records : List (List ℕ)) (b : Bool) → records_text replay (summary.read + 1) (cond b (line ∷ records) records) ≡ (if b then record_text replay (summary.read + 1) line else []) ++ records_text replay ((if b then counted summary (verdict_of replay line) else summary).read + 1) records
+line_first : (replay : Replay) (summary : Summary) (line : List ℕ) (records : List (List ℕ)) (b : Bool) → records_text replay (summary.read + 1) (cond b (line ∷ records) records) ≡ (if b then record_text replay (summary.read + 1) line else []) ++ records_text replay ((if b then record_counted replay summary line else summary).read + 1) records
 line_first replay summary line records true =
     ap (λ n. record_text replay (summary.read + 1) line ++ records_text replay (n + 1) records) (sym (counted_read summary (verdict_of replay line)))
 line_first replay summary line records false = refl
 
-count_first : (replay : Replay) (summary : Summary) (line : List ℕ) (records : List (List ℕ)) (b : Bool) → counts_of replay summary (cond b (line ∷ records) records) ≡ counts_of replay (if b then counted summary (verdict_of replay line) else summary) records
+count_first : (replay : Replay) (summary : Summary) (line : List ℕ) (records : List (List ℕ)) (b : Bool) → counts_of replay summary (cond b (line ∷ records) records) ≡ counts_of replay (if b then record_counted replay summary line else summary) records
 count_first replay summary line records true = refl
 count_first replay summary line records false = refl
 
-pub counted_within : (summary : Summary) (verdict : Verdict) → CountsWithin summary → CountsWithin (counted summary verdict)
-counted_within summary Answered (same, different, unanswered, challenged, refused) = (
+pub counted_within : (summary : Summary) (verdict : Verdict) (lines : List PolicyLine) → CountsWithin summary → CountsWithin (counted_with summary verdict lines)
+counted_within summary Answered lines (same, different, unanswered, challenged, refused, counts) = (
   omega (arith, same),
   omega (arith, different),
   omega (arith, unanswered),
   omega (arith, challenged),
   omega (arith, refused),
+  lines_within summary.lines lines summary.read counts,
 )
-counted_within summary Same (same, different, unanswered, challenged, refused) = (
+counted_within summary Same lines (same, different, unanswered, challenged, refused, counts) = (
   omega (arith, same),
   omega (arith, different),
   omega (arith, unanswered),
   omega (arith, challenged),
   omega (arith, refused),
+  lines_within summary.lines lines summary.read counts,
 )
-counted_within summary Different (same, different, unanswered, challenged, refused) = (
+counted_within summary Different lines (same, different, unanswered, challenged, refused, counts) = (
   omega (arith, same),
   omega (arith, different),
   omega (arith, unanswered),
   omega (arith, challenged),
   omega (arith, refused),
+  lines_within summary.lines lines summary.read counts,
 )
-counted_within summary Unanswered (same, different, unanswered, challenged, refused) = (
+counted_within summary Unanswered lines (same, different, unanswered, challenged, refused, counts) = (
   omega (arith, same),
   omega (arith, different),
   omega (arith, unanswered),
   omega (arith, challenged),
   omega (arith, refused),
+  lines_within summary.lines lines summary.read counts,
 )
-counted_within summary Challenged (same, different, unanswered, challenged, refused) = (
+counted_within summary Challenged lines (same, different, unanswered, challenged, refused, counts) = (
   omega (arith, same),
   omega (arith, different),
   omega (arith, unanswered),
   omega (arith, challenged),
   omega (arith, refused),
+  lines_within summary.lines lines summary.read counts,
 )
-counted_within summary Refused (same, different, unanswered, challenged, refused) = (
+counted_within summary Refused lines (same, different, unanswered, challenged, refused, counts) = (
   omega (arith, same),
   omega (arith, different),
   omega (arith, unanswered),
   omega (arith, challenged),
   omega (arith, refused),
+  lines_within summary.lines lines summary.read counts,
 )
 
 pub line_counted_within : (replay : Replay) (summary : Summary) (line : List ℕ) → CountsWithin summary → CountsWithin (line_counted replay summary line)
 line_counted_within replay summary line within =
-    elim (is_record line) as (λ b. CountsWithin (if b then counted summary (verdict_of replay line) else summary)) [
-      | true ↦ counted_within summary (verdict_of replay line) within
+    elim (is_record line) as (λ b. CountsWithin (if b then record_counted replay summary line else summary)) [
+      | true ↦ counted_within summary (verdict_of replay line) (record_lines replay line) within
       | false ↦ within
     ]
 
 pub none_within : CountsWithin no_records
-none_within = omega arith
+none_within =
+    (omega arith, omega arith, omega arith, omega arith, omega arith, All-nil (λ (count : LineCount). count.records ≤ 0))
 
 -- counts never fall
 counts_more : (replay : Replay) (summary : Summary) (records : List (List ℕ)) → summary.read ≤ (counts_of replay summary records).read
 counts_more replay summary [] = omega arith
 counts_more replay summary (line ∷ records) =
-    let later = counts_more replay (counted summary (verdict_of replay line)) records in
+    let later = counts_more replay (record_counted replay summary line) records in
     let here = counted_read summary (verdict_of replay line) in
     omega (arith, later, here)
 
@@ -237,7 +247,7 @@ line_broken replay start now octets before rest end later held a b c clean split
 
 counts_line : (replay : Replay) (now : Summary) (line : List ℕ) (records : List (List ℕ)) → is_record line ≡ true → now.read + 1 ≤ (counts_of replay now (cond (is_record line) (line ∷ records) records)).read
 counts_line replay now line records is =
-    let more = counts_more replay (counted now (verdict_of replay line)) records in
+    let more = counts_more replay (record_counted replay now line) records in
     let here = counted_read now (verdict_of replay line) in
     rw is (omega (arith, more, here))
 
@@ -429,8 +439,8 @@ module _ (replay : Replay) (now : Summary) (line : List ℕ) (none : HasNoEnd li
 
   many_at_end : (all : List ℕ) → is_record line ≡ true → 2 ^ 64 ≤ now.read + 1 → summary_of replay all ≡ line_counted replay now line → 2 ^ 64 ≤ (summary_of replay all).read
   many_at_end all is many counts =
-      let count : (summary_of replay all).read ≡ (if is_record line then counted now (verdict_of replay line) else now).read = ap (λ (s : Summary). s.read) counts in
-      let taken : (if is_record line then counted now (verdict_of replay line) else now).read ≡ now.read + 1 = rw is (counted_read now (verdict_of replay line)) in
+      let count : (summary_of replay all).read ≡ (if is_record line then record_counted replay now line else now).read = ap (λ (s : Summary). s.read) counts in
+      let taken : (if is_record line then record_counted replay now line else now).read ≡ now.read + 1 = rw is (counted_read now (verdict_of replay line)) in
       omega (arith, many, count, taken)
 
   pub end_reason : (known left old new out : Option (List ℕ)) (fault : ReplayFault) → IsAtEnd left → IsLineReason now line fault → HasCome replay known left now line old new → IfSome known (λ octets. IsReason replay octets left old out fault)

@@ -5,7 +5,7 @@ use Rattle.std.proofs.KnownBytes.{Appends-kept, Appends-nil, Appends-trans}
 use Rattle.std.proofs.lemmas.List.{length-append}
 use Rattle.radpolicy_replay_records.specs.Entries.{entry_of_line}
 use Rattle.radpolicy_replay_records.specs.Lines.{is_record}
-use Rattle.radpolicy_replay_records.specs.Replays.{AppendsFront, counted, entry_text, entry_verdict, no_records, record_secret, record_text}
+use Rattle.radpolicy_replay_records.specs.Replays.{AppendsFront, entry_counted, entry_text, entry_verdict, no_records, record_secret, record_text}
 use Rattle.radpolicy_replay_records.specs.TextEntries.{IsEntryOf, text_secret}
 use Rattle.radpolicy_replay_records.specs.TextReplays.{Gives, HasNone, IsInputFault, IsRecordsReason, IsReplayed, IsReplayedFront, IsTelling}
 use Rattle.radpolicy_replay_records.specs.declared.entries.Entry.{Entry}
@@ -35,7 +35,7 @@ module _ (replay : Replay) (offset : Option ℤ) where
   text_of summary given entry = entry_text replay (summary.read + 1) (text_secret replay.shared given) entry
 
   abbrev counts_with : Summary → Record → Entry → Summary
-  counts_with summary given entry = counted summary (entry_verdict replay (text_secret replay.shared given) entry)
+  counts_with summary given entry = entry_counted replay summary (text_secret replay.shared given) entry
 
   -- ---- a record more
 

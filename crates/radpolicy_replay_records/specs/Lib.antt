@@ -3,7 +3,9 @@ pub mod Captured
 pub mod Comparisons
 pub mod Differences
 pub mod Entries
+pub mod LineCounts
 pub mod Lines
+pub mod RecordLines
 pub mod Records
 pub mod Replays
 pub mod TextEntries

@@ -5,12 +5,15 @@ use Rattle.std.specs.List.{enumerate_from, flat_map, fold}
 use Rattle.std.specs.Option.{option_and_then}
 use Rattle.radpolicy.specs.RunOutcomes.{RunOutcome}
 use Rattle.radpolicy.specs.Starts.{Prepared}
+use Rattle.radpolicy_changing_lines.specs.declared.differences.PolicyLine.{PolicyLine}
 use Rattle.radpolicy_clients.specs.Clients.{secret_for}
 use Rattle.radpolicy_replay_records.specs.Answers.{answer_shown, answered, answered_record}
 use Rattle.radpolicy_replay_records.specs.Captured.{replies_told, replies_with, verdict_of_replies}
 use Rattle.radpolicy_replay_records.specs.Differences.{answers_told, verdict_of_answers}
 use Rattle.radpolicy_replay_records.specs.Entries.{entry_of_line}
+use Rattle.radpolicy_replay_records.specs.LineCounts.{with_lines}
 use Rattle.radpolicy_replay_records.specs.Lines.{ended_records_of, records_of}
+use Rattle.radpolicy_replay_records.specs.RecordLines.{lines_alone, lines_beside, request_trace}
 use Rattle.radpolicy_replay_records.specs.Records.{or_number, source_of}
 use Rattle.radpolicy_replay_records.specs.declared.answers.RecordFault.{RecordFault}
 use Rattle.radpolicy_replay_records.specs.declared.answers.RecordFault.TheVariants.{NoClient}
@@ -101,6 +104,37 @@ unfoldable pub verdict_of : Replay → List ℕ → Verdict
 verdict_of replay line =
     entry_verdict replay (record_secret replay.shared line) (entry_of_line line)
 
+-- ---- the lines to which the difference goes back
+
+abbrev pub compared_lines : Replay → Comparison → Against → Option (List ℕ) → Entry
+    → List PolicyLine
+compared_lines replay comparison (Policy against) secret entry =
+    lines_beside comparison (request_trace replay.policy.now secret entry.request)
+    (request_trace against.now secret entry.request)
+compared_lines replay comparison Captured secret entry =
+    lines_alone comparison (request_trace replay.policy.now secret entry.request)
+    (entry_replies replay secret entry)
+
+abbrev pub lines_on : Replay → Option Comparison → Option (List ℕ) → Entry → List PolicyLine
+lines_on replay None secret entry = []
+lines_on replay (Some comparison) secret entry =
+    compared_lines replay comparison comparison.against secret entry
+
+-- only a record that is different has lines
+abbrev pub lines_if : Verdict → List PolicyLine → List PolicyLine
+lines_if Different lines = lines
+lines_if _ lines = []
+
+-- the lines of a record that says this
+unfoldable pub entry_lines : Replay → Option (List ℕ) → Entry → List PolicyLine
+entry_lines replay secret entry =
+    lines_if (entry_verdict replay secret entry) (lines_on replay replay.comparison secret entry)
+
+-- those of the record of a line
+unfoldable pub record_lines : Replay → List ℕ → List PolicyLine
+record_lines replay line =
+    entry_lines replay (record_secret replay.shared line) (entry_of_line line)
+
 -- ---- all records
 
 -- what is written for records: a text for each, by itself and its number alone
@@ -128,6 +162,19 @@ counted summary Challenged =
 counted summary Refused =
     record summary { read = summary.read + 1; refused = summary.refused + 1 }
 
+-- the same, which these lines made different
+abbrev pub counted_with : Summary → Verdict → List PolicyLine → Summary
+counted_with summary verdict lines =
+    record (counted summary verdict) { lines = with_lines summary.lines lines }
+
+abbrev pub entry_counted : Replay → Summary → Option (List ℕ) → Entry → Summary
+entry_counted replay summary secret entry =
+    counted_with summary (entry_verdict replay secret entry) (entry_lines replay secret entry)
+
+abbrev pub record_counted : Replay → Summary → List ℕ → Summary
+record_counted replay summary line =
+    counted_with summary (verdict_of replay line) (record_lines replay line)
+
 abbrev pub no_records : Summary
 no_records = record {
   read = 0;
@@ -136,12 +183,13 @@ no_records = record {
   unanswered = 0;
   challenged = 0;
   refused = 0;
+  lines = [];
 }
 
 -- the counts with those of the records of a text
 abbrev pub summary_from : Replay → Summary → List ℕ → Summary
 summary_from replay summary text =
-    fold (λ so_far line. counted so_far (verdict_of replay line)) summary (records_of text)
+    fold (record_counted replay) summary (records_of text)
 
 abbrev pub summary_of : Replay → List ℕ → Summary
 summary_of replay text = summary_from replay no_records text

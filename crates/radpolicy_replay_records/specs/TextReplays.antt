@@ -1,7 +1,7 @@
 -- What a replay writes of records of attribute lines, and how many there were.
 use Rattle.std.specs.Prelude.{◌≡◌, ◌≤◌, ℕ, ℤ, ◌+◌, ◌^◌, ◌⊎◌, List, [], ◌∷◌, ◌++◌, length, Option, None, Some, ⊤}
 use Rattle.std.specs.Io.KnownBytes.{Appends}
-use Rattle.radpolicy_replay_records.specs.Replays.{AppendsFront, counted, entry_text, entry_verdict, no_records}
+use Rattle.radpolicy_replay_records.specs.Replays.{AppendsFront, entry_counted, entry_text, no_records}
 use Rattle.radpolicy_replay_records.specs.TextEntries.{IsEntryOf, text_secret}
 use Rattle.radpolicy_replay_records.specs.declared.entries.Entry.{Entry}
 use Rattle.radpolicy_replay_records.specs.declared.replays.Replay.{Replay}
@@ -34,7 +34,7 @@ IsTelling replay offset before (given ∷ records) after text = (entry : Entry) 
     × IsEntryOf replay.policy.now.dictionary offset (text_secret replay.shared given) given entry
     × (text ≡ entry_text replay (before.read + 1) (text_secret replay.shared given) entry ++ rest)
     × IsTelling replay offset
-    (counted before (entry_verdict replay (text_secret replay.shared given) entry)) records after rest
+    (entry_counted replay before (text_secret replay.shared given) entry) records after rest
 
 -- known octets grow by what is written for records, of which there are so many
 abbrev pub IsReplayed : Replay → Option ℤ → List Record → Summary → Option (List ℕ)

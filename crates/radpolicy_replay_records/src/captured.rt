@@ -367,8 +367,8 @@ fn left_out(alloc: Global, order: Order) -> Result<Vec<AttrId>, AllocError>
 }
 
 impl Comparison<'_> {
-    // A reply's pairs, as far as they are compared.
-    fn compared_pairs<'a>(
+    /// A reply's pairs, as far as they are compared.
+    pub(crate) fn compared_pairs<'a>(
         &self,
         alloc: Global,
         pairs: &'a [Pair],

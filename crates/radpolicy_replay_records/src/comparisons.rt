@@ -141,7 +141,12 @@ pub(crate) fn ids_of(alloc: Global, a: &[&Pair], b: &[&Pair]) -> Result<Vec<Attr
     Ok(ids)
 }
 
-fn same_instances(alloc: Global, id: AttrId, a: &[&Pair], b: &[&Pair]) -> Result<bool, AllocError>
+pub(crate) fn same_instances(
+    alloc: Global,
+    id: AttrId,
+    a: &[&Pair],
+    b: &[&Pair],
+) -> Result<bool, AllocError>
     ensures { IfOk result (λ same. same ≡ same_instances (pairs_of a.now) (pairs_of b.now) id) }
 {
     let a = instances(alloc, id, a)?;
@@ -209,13 +214,13 @@ fn code_number(code: Code) -> u8
     }
 }
 
-fn same_code(a: Code, b: Code) -> bool
+pub(crate) fn same_code(a: Code, b: Code) -> bool
     ensures { result ≡ same_code a b }
 {
     code_number(a) == code_number(b)
 }
 
-fn same_stop(a: bool, b: bool) -> bool
+pub(crate) fn same_stop(a: bool, b: bool) -> bool
     ensures { result ≡ same_stop a b }
 {
     if a { b } else { !b }

@@ -1,10 +1,10 @@
 //! The replay of an input.
 
-ghost use Rattle.std.specs.Prelude.{◌≡◌, ◌<◌, ◌≤◌, ◌+◌, ◌++◌, Err, IfErr, IfOk, IfSome, None, Ok, OnErr, OnOk, Some, length, take};
+ghost use Rattle.std.specs.Prelude.{◌≡◌, ◌<◌, ◌≤◌, ◌+◌, ◌^◌, ◌++◌, Err, IfErr, IfOk, IfSome, None, Ok, OnErr, OnOk, Some, length, take};
 ghost use Rattle.std.specs.Io.KnownBytes.{Appends, Consumes, IsAtEnd, Keeps};
 ghost use Rattle.radpolicy_replay_records.specs.Lines.{cut};
 ghost use Rattle.radpolicy_replay_records.specs.Answers.{answer_shown};
-ghost use Rattle.radpolicy_replay_records.specs.Replays.{AppendsFront, IsReason, answer_by, compared_text, compared_verdict, counted, entry_text, entry_verdict, record_secret, record_text, replayed_text, summary_of, text_by, verdict_by, verdict_of, verdict_on};
+ghost use Rattle.radpolicy_replay_records.specs.Replays.{AppendsFront, IsReason, answer_by, compared_lines, compared_text, compared_verdict, entry_counted, entry_lines, entry_text, entry_verdict, lines_if, lines_on, record_lines, record_secret, record_text, replayed_text, summary_of, text_by, verdict_by, verdict_of, verdict_on};
 ghost use Rattle.radpolicy_replay_records.specs.Entries.{entry_of_line};
 ghost use Rattle.radpolicy_replay_records.specs.TextEntries.{IsEntryOf, text_secret};
 ghost use Rattle.radpolicy_replay_records.specs.TextReplays.{IsRecordsReason, IsReplayed, IsReplayedFront};
@@ -20,10 +20,12 @@ use crate::differences::Printer;
 use crate::entries::{Entry, entry_of_line};
 use crate::inputs::Records;
 use crate::lines::{MAX_LINE_OCTETS, first_line_end, is_record, keep};
+use crate::record_lines::run_of;
 use crate::records::{push_name, source_of};
 use crate::summaries::{Summary, Verdict};
 use crate::text_entries::{entry_of_record, text_source};
 use radpolicy::{Fault, PreparedPolicy, RunOutcome, Secret};
+use radpolicy_changing_lines::PolicyLine;
 use radpolicy_clients::Clients;
 use radpolicy_common::SecretValues;
 use radpolicy_traffic::Record;
@@ -367,6 +369,100 @@ impl<'a> Replay<'a> {
         }
     }
 
+    // The lines that made the answer to a record another, where it is compared with that of another policy.
+    fn lines_beside_policy<'b>(
+        &'b self,
+        alloc: Global,
+        comparison: &'b Comparison<'b>,
+        against: &'b PreparedPolicy<'b>,
+        secret: &'b Option<Secret<'b>>,
+        entry: &Entry,
+    ) -> Result<Vec<PolicyLine>, AllocError>
+        ensures { IfOk result (λ lines. lines.items ≡ compared_lines self.now comparison.now
+            (Policy against.entry) secret.now entry.now) }
+    {
+        let new = run_of(alloc, self.policy, secret, entry)?;
+        let old = run_of(alloc, against, secret, entry)?;
+        comparison.lines_beside(alloc, new, old)
+    }
+
+    // The same, where it is compared with the reply that was captured.
+    fn lines_beside_captured<'b>(
+        &'b self,
+        alloc: Global,
+        comparison: &'b Comparison<'b>,
+        secret: &'b Option<Secret<'b>>,
+        entry: &Entry,
+    ) -> Result<Vec<PolicyLine>, AllocError>
+        ensures { IfOk result (λ lines. lines.items
+            ≡ compared_lines self.now comparison.now Captured secret.now entry.now) }
+    {
+        let new = run_of(alloc, self.policy, secret, entry)?;
+        let replies = entry_replies(alloc, self.policy, secret, entry)?;
+        comparison.lines_alone(alloc, new, &replies)
+    }
+
+    // The lines that made the answer to a record another, where it is compared.
+    fn compared_lines<'b>(
+        &'b self,
+        alloc: Global,
+        comparison: &'b Comparison<'b>,
+        secret: &'b Option<Secret<'b>>,
+        entry: &Entry,
+    ) -> Result<Vec<PolicyLine>, AllocError>
+        ensures { IfOk result (λ lines. lines.items
+            ≡ lines_on self.now (Some comparison.now) secret.now entry.now) }
+    {
+        match &comparison.against {
+            Against::Policy(against) => {
+                self.lines_beside_policy(alloc, comparison, *against, secret, entry)
+            }
+            Against::Captured => self.lines_beside_captured(alloc, comparison, secret, entry),
+        }
+    }
+
+    // The lines that made a record different, of which this became. Of others no run is made again.
+    fn entry_lines<'b>(
+        &'b self,
+        alloc: Global,
+        verdict: Verdict,
+        secret: &'b Option<Secret<'b>>,
+        entry: &Entry,
+    ) -> Result<Vec<PolicyLine>, AllocError>
+        ensures { IfOk result (λ lines. lines.items
+            ≡ lines_if verdict (lines_on self.now self.now.comparison secret.now entry.now)) }
+    {
+        match (verdict, &self.comparison) {
+            (Verdict::Different, Some(comparison)) => {
+                self.compared_lines(alloc, comparison, secret, entry)
+            }
+            _ => Ok(Vec::new(alloc)),
+        }
+    }
+
+    // What is said of a record, and the counts with it.
+    #[tactic(auto, unfolding(crate::specs::Replays::entry_lines))]
+    fn push_counted<'b>(
+        &'b self,
+        text: &mut Vec<u8>,
+        secret: &'b Option<Secret<'b>>,
+        entry: &Entry,
+        number: u64,
+        summary: Summary,
+    ) -> Result<Summary, AllocError>
+        requires room { summary.read + 1 < 2 ^ 64 }
+        requires within { CountsWithin summary }
+        ensures text { OnOk result (text.new.items
+            ≡ text.old.items ++ entry_text self.now number secret.now entry.now) }
+        ensures summary { IfOk result (λ after.
+            after ≡ entry_counted self.now summary secret.now entry.now) }
+    {
+        let alloc = *text.allocator();
+        let verdict = self.push_entry(text, number, secret, entry)?;
+        let lines = self.entry_lines(alloc, verdict, secret, entry)?;
+        summary.counted_with(verdict, &lines)
+    }
+
     // Writes what is to be said of a record.
     fn tell_entry<'b, W: Write>(
         &'b self,
@@ -380,7 +476,7 @@ impl<'a> Replay<'a> {
         ensures text { OnOk result (Appends (W.contents out.old) (W.contents out.new)
             (entry_text self.now (summary.read + 1) secret.now entry.now)) }
         ensures summary { IfOk result (λ after.
-            after ≡ counted summary (entry_verdict self.now secret.now entry.now)) }
+            after ≡ entry_counted self.now summary secret.now entry.now) }
         ensures front { OnErr result (AppendsFront (W.contents out.old) (W.contents out.new)
             (entry_text self.now (summary.read + 1) secret.now entry.now)) }
         ensures reason { IfErr result (IsEntryReason summary) }
@@ -389,13 +485,13 @@ impl<'a> Replay<'a> {
             return Err(ReplayFault::TooManyRecords);
         };
         let mut text = Vec::new(alloc);
-        let verdict = self.push_entry(&mut text, number, secret, entry)?;
+        let after = self.push_counted(&mut text, secret, entry, number, summary)?;
         write_text(out, &text)?;
-        Ok(summary.counted(verdict))
+        Ok(after)
     }
 
     // Writes what is to be said of a line.
-    #[tactic(auto, unfolding(crate::specs::Replays::record_text, crate::specs::Replays::verdict_of))]
+    #[tactic(auto, unfolding(crate::specs::Replays::record_text, crate::specs::Replays::verdict_of, crate::specs::Replays::record_lines))]
     fn tell<W: Write>(
         &self,
         alloc: Global,
@@ -484,7 +580,7 @@ impl<'a> Replay<'a> {
     {
         let mut block = new_block(alloc)?;
         let mut line = Vec::new(alloc);
-        let mut summary = Summary::new();
+        let mut summary = Summary::new(alloc);
         for _ in 0..u64::MAX {
             let count = read_block(input, &mut block)?;
             if count == 0 {
@@ -518,7 +614,7 @@ impl<'a> Replay<'a> {
             IsRecordsReason self.now zone all (R.remaining records.new) (W.contents out.old)
             (W.contents out.new) fault)) }
     {
-        let mut summary = Summary::new();
+        let mut summary = Summary::new(alloc);
         for _ in 0..u64::MAX {
             let Some(record) = records.next_record()? else {
                 return Ok(summary);

@@ -1,8 +1,12 @@
 //! What became of records, and how many there were of each kind.
 
-ghost use Rattle.std.specs.Prelude.{◌≡◌, ◌<◌, ◌+◌, ◌^◌};
-ghost use Rattle.radpolicy_replay_records.specs.Replays.{counted, no_records};
+ghost use Rattle.std.specs.Prelude.{◌≡◌, ◌<◌, ◌+◌, ◌^◌, IfOk};
+ghost use Rattle.radpolicy_replay_records.specs.Replays.{counted, counted_with, no_records};
 ghost use Rattle.radpolicy_replay_records.specs.internal.Positions.{CountsWithin};
+
+use crate::line_counts::LineCounts;
+use radpolicy_changing_lines::PolicyLine;
+use std::alloc::{AllocError, Global};
 
 /// What became of a record.
 #[derive(Clone, Copy, Debug, PartialEq, Eq)]
@@ -23,7 +27,7 @@ pub enum Verdict {
 }
 
 /// How many records there were.
-#[derive(Clone, Copy, Debug, PartialEq, Eq)]
+#[derive(Drop)]
 pub struct Summary {
     pub read: u64,
     pub same: u64,
@@ -31,10 +35,12 @@ pub struct Summary {
     pub unanswered: u64,
     pub challenged: u64,
     pub refused: u64,
+    /// How many of those that are different each line of the policies made so.
+    pub lines: LineCounts,
 }
 
 impl Summary {
-    pub(crate) fn new() -> Summary
+    pub(crate) fn new(alloc: Global) -> Summary
         ensures { result ≡ no_records }
     {
         Summary {
@@ -44,11 +50,12 @@ impl Summary {
             unanswered: 0,
             challenged: 0,
             refused: 0,
+            lines: LineCounts::new(alloc),
         }
     }
 
-    /// The same with one record more.
-    pub(crate) fn counted(self, verdict: Verdict) -> Summary
+    // The same with one record more.
+    fn counted(self, verdict: Verdict) -> Summary
         requires room { self.read + 1 < 2 ^ 64 }
         requires within { CountsWithin self }
         ensures { result ≡ counted self verdict }
@@ -82,5 +89,26 @@ impl Summary {
                 ..self
             },
         }
+    }
+
+    /// The same with one record more, which these lines made different.
+    #[tactic(auto, using(crate::proofs::Counting::counted_alone, crate::proofs::Counting::room_for_one))]
+    pub(crate) fn counted_with(
+        self,
+        verdict: Verdict,
+        lines: &[PolicyLine],
+    ) -> Result<Summary, AllocError>
+        requires room { self.read + 1 < 2 ^ 64 }
+        requires within { CountsWithin self }
+        ensures { IfOk result (λ after. after ≡ counted_with self verdict lines.now) }
+    {
+        if lines.len() < 1 {
+            return Ok(self.counted(verdict));
+        }
+        let counts = self.lines.with_lines(lines)?;
+        Ok(Summary {
+            lines: counts,
+            ..self.counted(verdict)
+        })
     }
 }

@@ -1,7 +1,9 @@
 //! What is told of records whose answers are compared with the replies that were captured.
 
+use crate::replays::{count_by, counts_of};
 use avp_dict::Dictionary;
 use radpolicy::{PreparedPolicy, Secret};
+use radpolicy_changing_lines::PolicyLine;
 use radpolicy_common::SecretValues;
 use radpolicy_replay_records::{Against, Comparison, Order, Replay, SharedSecrets, Summary, Told};
 use samples::test_dictionary;
@@ -86,15 +88,10 @@ request E44 code not taken
 fn other_replies_are_told(rt: HostRuntime) -> Result<(), Fail> {
     let (text, summary) = told(rt.alloc(), Order::ByName, Told::All)?;
     assert_eq!(&rt; text.as_slice(), ALL);
-    let counts = Summary {
-        read: 9,
-        same: 1,
-        different: 2,
-        unanswered: 1,
-        challenged: 1,
-        refused: 4,
-    };
-    assert_eq!(&rt; summary, counts);
+    assert_eq!(&rt; counts_of(&summary), [9, 1, 2, 1, 1, 4]);
+    assert_eq!(&rt; summary.lines.as_slice().len(), 2);
+    assert_eq!(&rt; count_by(&summary, PolicyLine::New(2)), 2);
+    assert_eq!(&rt; count_by(&summary, PolicyLine::New(3)), 2);
     Ok(())
 }
 

@@ -1,8 +1,10 @@
 //! What is told of records that two policies answer, and how many there are of each kind.
 
+use crate::replays::{count_by, counts_of};
 use avp_dict::Dictionary;
 use avp_lists::AttrId;
 use radpolicy::{PreparedPolicy, Secret};
+use radpolicy_changing_lines::PolicyLine;
 use radpolicy_common::SecretValues;
 use radpolicy_replay_records::{Against, Comparison, Order, Replay, SharedSecrets, Summary, Told};
 use samples::test_dictionary;
@@ -93,15 +95,11 @@ fn what_differs_is_told(rt: HostRuntime) -> Result<(), Fail> {
     };
     let (text, summary) = told(rt.alloc(), asked)?;
     assert_eq!(&rt; text.as_slice(), DIFFERENCE);
-    let counts = Summary {
-        read: 3,
-        same: 1,
-        different: 1,
-        unanswered: 0,
-        challenged: 0,
-        refused: 1,
-    };
-    assert_eq!(&rt; summary, counts);
+    assert_eq!(&rt; counts_of(&summary), [3, 1, 1, 0, 0, 1]);
+    assert_eq!(&rt; summary.lines.as_slice().len(), 3);
+    for line in 6..9 {
+        assert_eq!(&rt; count_by(&summary, PolicyLine::New(line)), 1);
+    }
     Ok(())
 }
 

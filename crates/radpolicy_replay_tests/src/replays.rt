@@ -2,6 +2,7 @@
 
 use avp_dict::Dictionary;
 use radpolicy::{PreparedPolicy, Secret};
+use radpolicy_changing_lines::PolicyLine;
 use radpolicy_common::SecretValues;
 use radpolicy_replay_records::{MAX_LINE_OCTETS, Replay, SharedSecrets, Summary};
 use samples::test_dictionary;
@@ -41,6 +42,28 @@ pub(crate) fn replay_alone<'a>(
         comparison: None,
         secrets,
     }
+}
+
+/// The counts of all records, and of each kind: the same, different, unanswered, challenged, refused.
+pub(crate) fn counts_of(summary: &Summary) -> [u64; 6] {
+    [
+        summary.read,
+        summary.same,
+        summary.different,
+        summary.unanswered,
+        summary.challenged,
+        summary.refused,
+    ]
+}
+
+/// How many records a line made different.
+pub(crate) fn count_by(summary: &Summary, line: PolicyLine) -> u64 {
+    for count in summary.lines.as_slice() {
+        if line.equals(count.line) {
+            return count.records;
+        }
+    }
+    0
 }
 
 // What is written for an input, and the counts.

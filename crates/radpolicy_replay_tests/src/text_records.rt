@@ -1,7 +1,9 @@
 //! Replays of what servers and tools print.
 
+use crate::replays::{count_by, counts_of};
 use avp_dict::Dictionary;
 use radpolicy::{PreparedPolicy, Secret};
+use radpolicy_changing_lines::PolicyLine;
 use radpolicy_clients::{Clients, read_lines};
 use radpolicy_common::SecretValues;
 use radpolicy_replay_records::{
@@ -88,15 +90,8 @@ const TOLD: &[u8] = b"0 Access-Accept
 fn records_of_a_log_are_compared_with_their_replies(rt: HostRuntime) -> Result<(), Fail> {
     let (text, summary) = told(rt.alloc(), Format::DebugLog, LOG)?;
     assert_eq!(&rt; text.as_slice(), TOLD);
-    let counts = Summary {
-        read: 6,
-        same: 1,
-        different: 1,
-        unanswered: 1,
-        challenged: 1,
-        refused: 2,
-    };
-    assert_eq!(&rt; summary, counts);
+    assert_eq!(&rt; counts_of(&summary), [6, 1, 1, 1, 1, 2]);
+    assert_eq!(&rt; count_by(&summary, PolicyLine::New(1)), 1);
     Ok(())
 }
 

@@ -3,7 +3,8 @@ use Rattle.std.specs.Prelude.{◌≡◌, ◌≤◌, ℕ, ◌+◌, ◌^◌, true,
 use Rattle.std.specs.Io.KnownBytes.{Appends}
 use Rattle.avp_dict.specs.Lines.{is_line_end}
 use Rattle.radpolicy_replay_records.specs.Lines.{is_record}
-use Rattle.radpolicy_replay_records.specs.Replays.{counted, ended_text_from, no_records, record_text, summary_from, text_from, verdict_of}
+use Rattle.radpolicy_replay_records.specs.Replays.{ended_text_from, no_records, record_counted, record_text, summary_from, text_from}
+use Rattle.radpolicy_replay_records.specs.declared.line_counts.LineCount.{LineCount}
 use Rattle.radpolicy_replay_records.specs.declared.replays.Replay.{Replay}
 use Rattle.radpolicy_replay_records.specs.declared.replays.ReplayFault.{ReplayFault}
 use Rattle.radpolicy_replay_records.specs.declared.replays.ReplayFault.TheVariants.{Input, TooManyRecords}
@@ -19,13 +20,14 @@ line_text replay summary line =
 
 abbrev pub line_counted : Replay → Summary → List ℕ → Summary
 line_counted replay summary line =
-    if is_record line then counted summary (verdict_of replay line) else summary
+    if is_record line then record_counted replay summary line else summary
 
 -- no count is above that of the records
 abbrev pub CountsWithin : Summary → Type 0
 CountsWithin summary = (summary.same ≤ summary.read) × (summary.different ≤ summary.read)
     × (summary.unanswered ≤ summary.read) × (summary.challenged ≤ summary.read)
     × (summary.refused ≤ summary.read)
+    × All (λ (count : LineCount). count.records ≤ summary.read) summary.lines
 
 -- Where `before` was left before, `after` is left now, and this was written: what is to be written for the one,
 -- whatever follows it, is what was written and what is to be written for the other.

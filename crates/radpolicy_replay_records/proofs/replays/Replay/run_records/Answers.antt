@@ -1,7 +1,7 @@
 use Rattle.std.proofs.Common.{◌≡◌, ◌+◌, sym, subst}
 use Rattle.std.specs.Io.KnownBytes.{Appends}
 use Rattle.std.proofs.lemmas.Result.{err_from_is_err_and}
-use Rattle.radpolicy_replay_records.specs.Replays.{AppendsFront, counted, entry_text, entry_verdict}
+use Rattle.radpolicy_replay_records.specs.Replays.{AppendsFront, entry_counted, entry_lines, entry_text, entry_verdict}
 use Rattle.radpolicy_replay_records.specs.TextEntries.{IsEntryOf, text_secret}
 use Rattle.radpolicy_replay_records.specs.TextReplays.{Gives}
 use Rattle.radpolicy_replay_records.specs.internal.Positions.{CountsWithin}
@@ -40,7 +40,7 @@ returns-in_err-flush-clause-front g c =
     rw (c.dictionary-dictionary.ensures, c.of_text-secret.ensures) at c.in_ok-entry.ensures in
     let puts : Appends (g.W.Write.contents c.loop.out) (g.W.Write.contents c.tell_entry.new.out) (entry_text c.args.self.now (c.loop.summary.read + 1) (text_secret c.args.self.now.shared c.in-Some.record) c.in_ok-entry.entry) =
     rw c.of_text-secret.ensures at c.in_ok-summary.ensures.text in
-    let counts : c.in_ok-summary.summary ≡ counted c.loop.summary (entry_verdict c.args.self.now (text_secret c.args.self.now.shared c.in-Some.record) c.in_ok-entry.entry) =
+    let counts : c.in_ok-summary.summary ≡ entry_counted c.args.self.now c.loop.summary (text_secret c.args.self.now.shared c.in-Some.record) c.in_ok-entry.entry =
     rw c.of_text-secret.ensures at c.in_ok-summary.ensures.summary in
     rw p.1 (told_front c.args.self.now c.args.zone c.in_ok-summary.summary
     (g.R.Records.remaining c.args.records.now) (g.R.Records.remaining c.next_record.new.self) (g.W.Write.contents c.args.out.now) (g.W.Write.contents c.flush.new.out)
@@ -57,10 +57,11 @@ loop-preserved g c =
     rw (c.dictionary-dictionary.ensures, c.of_text-secret.ensures) at c.in_ok-entry.ensures in
     let puts : Appends (g.W.Write.contents c.loop.out) (g.W.Write.contents c.tell_entry.new.out) (entry_text c.args.self.now (c.loop.summary.read + 1) (text_secret c.args.self.now.shared c.in-Some.record) c.in_ok-entry.entry) =
     rw c.of_text-secret.ensures at c.in_ok-summary.ensures.text in
-    let counts : c.in_ok-summary.summary ≡ counted c.loop.summary (entry_verdict c.args.self.now (text_secret c.args.self.now.shared c.in-Some.record) c.in_ok-entry.entry) =
+    let counts : c.in_ok-summary.summary ≡ entry_counted c.args.self.now c.loop.summary (text_secret c.args.self.now.shared c.in-Some.record) c.in_ok-entry.entry =
     rw c.of_text-secret.ensures at c.in_ok-summary.ensures.summary in
     record {
-      within = subst CountsWithin (sym counts) (counted_within c.loop.summary (entry_verdict c.args.self.now (text_secret c.args.self.now.shared c.in-Some.record) c.in_ok-entry.entry) c.loop.invariant.within);
+      within = subst CountsWithin (sym counts) (counted_within c.loop.summary (entry_verdict c.args.self.now (text_secret c.args.self.now.shared c.in-Some.record) c.in_ok-entry.entry)
+          (entry_lines c.args.self.now (text_secret c.args.self.now.shared c.in-Some.record) c.in_ok-entry.entry) c.loop.invariant.within);
       so_far = told_further c.args.self.now c.args.zone c.loop.summary c.in_ok-summary.summary c.in-Some.record c.in_ok-entry.entry
           (g.R.Records.remaining c.args.records.now) (g.R.Records.remaining c.loop.records) (g.R.Records.remaining c.next_record.new.self)
           (g.W.Write.contents c.args.out.now) (g.W.Write.contents c.loop.out) (g.W.Write.contents c.tell_entry.new.out) (g.W.Write.contents c.flush.new.out)

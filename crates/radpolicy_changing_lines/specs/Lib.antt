@@ -1,0 +1,2 @@
+pub mod ChangingLines
+pub mod Differences

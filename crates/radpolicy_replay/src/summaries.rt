@@ -1,0 +1,105 @@
+//! What is said at the end of a replay, on standard error.
+
+use crate::command_line::{AgainstPlan, Plan};
+use radpolicy_changing_lines::PolicyLine;
+use radpolicy_common::{LineBreaks, visible_text};
+use radpolicy_replay_records::{LineCount, Summary};
+use std::alloc::{AllocError, Global};
+
+/// The texts of the policies.
+#[derive(Clone, Copy)]
+pub struct PolicyTexts<'a> {
+    pub new: &'a [u8],
+    /// Empty where answers are compared with no policy's.
+    pub old: &'a [u8],
+}
+
+// How many records there were, and of which kinds.
+fn show_kinds(rt: &HostRuntime, plan: &Plan<'_>, summary: &Summary) {
+    let (read, refused) = (summary.read, summary.refused);
+    let Some(comparison) = &plan.comparison else {
+        let _ = eprintln!(rt; "{read} read, {refused} refused");
+        return;
+    };
+    let (same, different) = (summary.same, summary.different);
+    let (unanswered, challenged) = (summary.unanswered, summary.challenged);
+    let _ = match comparison.against {
+        AgainstPlan::File(_) => {
+            eprintln!(rt; "{read} read, {same} same, {different} different, {refused} refused")
+        }
+        AgainstPlan::Captured => eprintln!(rt;
+            "{read} read, {same} same, {different} different, {unanswered} unanswered, \
+            {challenged} challenged, {refused} refused"
+        ),
+    };
+}
+
+// The line of a text with this number, from 1.
+fn line_of(text: &[u8], number: usize) -> &[u8] {
+    text.split(|octet| *octet == b'\n')
+        .nth(number.saturating_sub(1))
+        .unwrap_or(&[])
+}
+
+// The line of a policy as it is shown.
+fn shown_line(alloc: Global, text: &[u8], number: usize) -> Result<String, AllocError> {
+    let line = line_of(text, number).trim_ascii();
+    let visible = visible_text(alloc, line, LineBreaks::Escaped)?;
+    String::from_utf8_lossy(alloc, &visible)
+}
+
+// How many records each line of a policy made different, by the lines' numbers.
+type Counts = Vec<(usize, u64)>;
+
+// The counts of the lines of the new policy and of the old one, each in the order of lines.
+fn counts_in_order(alloc: Global, counts: &[LineCount]) -> Result<(Counts, Counts), AllocError> {
+    let (mut new, mut old) = (Vec::new(alloc), Vec::new(alloc));
+    for count in counts {
+        match count.line {
+            PolicyLine::New(line) => new.push((line, count.records))?,
+            PolicyLine::Old(line) => old.push((line, count.records))?,
+        }
+    }
+    new.sort()?;
+    old.sort()?;
+    Ok((new, old))
+}
+
+fn show_counts(
+    rt: &HostRuntime,
+    path: &str,
+    text: &[u8],
+    counts: &[(usize, u64)],
+) -> Result<(), AllocError> {
+    for (number, records) in counts {
+        let line = shown_line(rt.alloc(), text, *number)?;
+        let _ = eprintln!(rt; "  {records} by {path}:{number}: {line}");
+    }
+    Ok(())
+}
+
+// Which lines made records different, and how many each.
+fn show_lines(
+    rt: &HostRuntime,
+    plan: &Plan<'_>,
+    texts: PolicyTexts<'_>,
+    summary: &Summary,
+) -> Result<(), AllocError> {
+    let (new, old) = counts_in_order(rt.alloc(), summary.lines.as_slice())?;
+    show_counts(rt, plan.policy, texts.new, &new)?;
+    match plan.old_policy() {
+        Some(path) => show_counts(rt, path, texts.old, &old),
+        None => Ok(()),
+    }
+}
+
+/// How many records there were, of which kinds, and which lines of the policies made them different.
+pub fn show_summary(
+    rt: &HostRuntime,
+    plan: &Plan<'_>,
+    texts: PolicyTexts<'_>,
+    summary: &Summary,
+) -> Result<(), AllocError> {
+    show_kinds(rt, plan, summary);
+    show_lines(rt, plan, texts, summary)
+}
