@@ -199,13 +199,7 @@ impl<'a> Dialogue<'a> {
         match command {
             Command::Show(_) => self.lists_text(alloc, command),
             Command::Print(id) => instances_text(alloc, &self.session, secrets, id),
-            Command::History(id) => history_text(
-                alloc,
-                &mut self.session,
-                &self.sources,
-                secrets,
-                id,
-            ),
+            Command::History(id) => history_text(alloc, &mut self.session, secrets, id),
             Command::Why => why_text(alloc, &mut self.session, &self.sources, secrets),
             Command::Trace => trace_text(alloc, &self.session, &self.sources),
             Command::List => around_text(alloc, &self.session, &self.sources),

@@ -4,6 +4,8 @@ use Rattle.std.specs.List.{All, slice_get}
 use Rattle.std.proofs.lemmas.List.{append_assoc}
 use Rattle.std.proofs.lemmas.List.Elements.{All-filter}
 use Rattle.avp_lists.specs.Instances.{has_id, instances}
+use Rattle.avp_lists.specs.States.{list_of}
+use Rattle.avp_lists.specs.declared.lists.List.{List as Name}
 use Rattle.avp_lists.specs.declared.lists.List.TheVariants.{Control, Reply, Request}
 use Rattle.avp_lists.specs.declared.lists.State.{State}
 use Rattle.avp_lists.specs.declared.pairs.AttrId.{AttrId}
@@ -11,6 +13,7 @@ use Rattle.avp_lists.specs.declared.pairs.Pair.{Pair}
 use Rattle.avp_dict.specs.Dictionary.{Dictionary}
 use Rattle.avp_dict.specs.Limits.{fits}
 use Rattle.avp_unlang.specs.Resolutions.{StateFits}
+use Rattle.radpolicy_common.specs.ChangeTexts.{AllFit}
 use Rattle.radpolicy_walk_commands.specs.Histories.{instances_of}
 
 module _ (d : Dictionary) (id : AttrId) where
@@ -27,6 +30,9 @@ instances_in_fit d id lists h Control = list_fits d id lists.control (instances 
 
 pub instances_fit : (d : Dictionary) (id : AttrId) (lists found : State) → found ≡ instances_of id lists → StateFits d lists → StateFits d found
 instances_fit d id lists found e h = subst (λ (x : State). StateFits d x) (sym e) (instances_in_fit d id lists h)
+
+pub list_instances_fit : (d : Dictionary) (id : AttrId) (list : Name) (lists : State) (found : List Pair) → found ≡ instances id (list_of list lists) → StateFits d lists → AllFit d found
+list_instances_fit d id list lists found e h = list_fits d id (list_of list lists) found e (h list)
 
 -- ---- gathered one after another
 

@@ -1,3 +1,10 @@
 pub mod FittingInstances
+pub mod Followings
+pub mod KeptEffects
+pub mod MadeInstances
+pub mod OtherIds
+pub mod OwnInstances
+pub mod PolicyLines
 pub mod Positions
-pub mod Sameness
+pub mod TraceSteps
+pub mod UntouchedLists

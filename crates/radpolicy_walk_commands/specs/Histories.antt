@@ -1,21 +1,15 @@
--- Where the instances of an attribute changed in a run.
-use Rattle.std.specs.Prelude.{ℕ, zero, suc, ◌-◌, Bool, true, false, not, ◌&&◌, if◌then◌else◌, List, [], ◌∷◌, ◌++◌, slice_get, slice_index_or}
-use Rattle.std.specs.Option.{unwrap_or}
+-- What the steps of a run changed in the instances of an attribute.
+use Rattle.std.specs.Prelude.{◌≡◌, ℕ, zero, suc, ◌-◌, List, [], ◌∷◌, ◌++◌, codes, length, slice_index_or}
 use Rattle.avp_lists.specs.Instances.{instances}
-use Rattle.avp_lists.specs.Pairs.{pair_eq}
 use Rattle.avp_lists.specs.States.{empty_state}
 use Rattle.avp_lists.specs.declared.lists.State.{State}
 use Rattle.avp_lists.specs.declared.pairs.AttrId.{AttrId}
-use Rattle.avp_lists.specs.declared.pairs.Pair.{Pair}
+use Rattle.avp_dict.specs.Dictionary.{Dictionary}
 use Rattle.avp_step.specs.Trace.{Entry, start}
-use Rattle.avp_step.specs.declared.labels.Label.{Label}
-use Rattle.avp_step.specs.declared.labels.Label.TheVariants as label
-
--- the same pairs in the same order
-abbrev pub are_same : List Pair → List Pair → Bool
-are_same [] [] = true
-are_same (p ∷ ps) (q ∷ qs) = pair_eq p q && are_same ps qs
-are_same _ _ = false
+use Rattle.radpolicy_common.specs.declared.change_texts.SecretValues.{SecretValues}
+use Rattle.radpolicy_walk_commands.specs.Showings.{AreChanges, step_text}
+use Rattle.radpolicy_walk_commands.specs.Steps.{step_of}
+use Rattle.radpolicy_walk_commands.specs.declared.steps.Step.{Step}
 
 -- the lists with nothing but the instances of an attribute
 abbrev pub instances_of : AttrId → State → State
@@ -25,40 +19,45 @@ instances_of id lists = record {
   control = instances id lists.control;
 }
 
--- one of the three lists has other pairs, or has them in another order
-abbrev pub differ : State → State → Bool
-differ before after = not (are_same before.request after.request
-    && are_same before.reply after.reply && are_same before.control after.control)
-
--- in one of the three lists the instances are other ones, or in another order
-abbrev pub is_changed : AttrId → State → State → Bool
-is_changed id before after = differ (instances_of id before) (instances_of id after)
-
--- ---- positions
-
+-- the entry of a trace at a position; past its end one with empty lists
 abbrev pub entry_at : List Entry → ℕ → Entry
 entry_at trace k = slice_index_or trace k (start empty_state)
 
--- the step to a position changed the instances
-abbrev pub changes_at : AttrId → List Entry → ℕ → Bool
-changes_at id trace k =
-    is_changed id (entry_at trace (k - 1)).outcome.state (entry_at trace k).outcome.state
+-- the instances at a position
+abbrev pub instances_at : AttrId → List Entry → ℕ → State
+instances_at id trace k = instances_of id (entry_at trace k).outcome.state
 
--- Steps by which instances may change: update lines that failed, transactions that were taken back, and the update
--- lines that name the attribute. For each line of the policy's text, from 1, it is told whether it names it.
-abbrev pub may_change : List Bool → Label → Bool
-may_change named (label.Failed n reason) = true
-may_change named (label.Rollback n) = true
-may_change named (label.Line n) = unwrap_or (slice_get named (n - 1)) false
-may_change named _ = false
+-- the lines of what a step changed, below its position; nothing where it changed nothing
+abbrev pub step_told : ℕ → ℕ → Step → List ℕ → List ℕ
+step_told position last step [] = []
+step_told position last step (octet ∷ octets) =
+    step_text position last step ++ codes "\n" ++ octet ∷ octets
 
--- a position to which such a step changed them
-abbrev pub if_changed : AttrId → List Bool → List Entry → ℕ → List ℕ
-if_changed id named trace k =
-    if may_change named (entry_at trace k).label && changes_at id trace k then k ∷ [] else []
+-- what is told of the step to a position: the changes from the instances before it to those after it
+pub record IsStepTold (dictionary : Dictionary) (secrets : SecretValues) (id : AttrId)
+    (trace : List Entry) (k : ℕ) (text : List ℕ) : Type 0 where
+  pub lines : List ℕ
+  pub changes : AreChanges dictionary secrets (instances_at id trace (k - 1))
+      (instances_at id trace k) lines
+  pub told : text ≡ step_told k (length trace - 1) (step_of (entry_at trace k)) lines
 
--- the positions, from the start to this one, to which such steps changed them
-abbrev pub changed_positions : AttrId → List Bool → List Entry → ℕ → List ℕ
-changed_positions id named trace zero = []
-changed_positions id named trace (suc k) =
-    changed_positions id named trace k ++ if_changed id named trace (suc k)
+-- what is told of each step from the start to a position, in order
+abbrev pub IsHistory : Dictionary → SecretValues → AttrId → List Entry → ℕ → List ℕ → Type 0
+IsHistory dictionary secrets id trace zero text = text ≡ []
+IsHistory dictionary secrets id trace (suc k) text = (earlier : List ℕ) × (own : List ℕ)
+    × IsHistory dictionary secrets id trace k earlier
+    × IsStepTold dictionary secrets id trace (suc k) own × (text ≡ earlier ++ own)
+
+-- a history as it is shown: where it is empty, words that say so, after the attribute's name
+abbrev pub IsShownHistory : List ℕ → List ℕ → Type 0
+IsShownHistory [] text = (name : List ℕ) × (text ≡ name ++ codes " does not change up to here\n")
+IsShownHistory (octet ∷ octets) text = text ≡ octet ∷ octets
+
+-- what is shown of the history up to a position
+abbrev pub IsHistoryText : Dictionary → SecretValues → AttrId → List Entry → ℕ → List ℕ → Type 0
+IsHistoryText dictionary secrets id trace k text = (own : List ℕ)
+    × IsHistory dictionary secrets id trace k own × IsShownHistory own text
+
+-- a text with more octets at its end
+abbrev pub IsContinued : List ℕ → List ℕ → Type 0
+IsContinued text longer = (more : List ℕ) × (longer ≡ text ++ more)

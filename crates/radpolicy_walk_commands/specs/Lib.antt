@@ -3,3 +3,4 @@ pub mod Sessions
 pub mod Settings
 pub mod Showings
 pub mod Steps
+pub mod internal

@@ -1,6 +1,6 @@
 -- Lists with one attribute set, for a run that is begun anew.
 use Rattle.std.specs.Prelude.{◌⊎◌, ◌<◌, length}
-use Rattle.avp_lists.specs.States.{IsFull, edited, max_pairs}
+use Rattle.avp_lists.specs.States.{edited, max_pairs}
 use Rattle.avp_lists.specs.declared.edits.Edit.{Edit}
 use Rattle.avp_lists.specs.declared.edits.Op.TheVariants.{Replace}
 use Rattle.avp_lists.specs.declared.lists.List.{List as WhichList}

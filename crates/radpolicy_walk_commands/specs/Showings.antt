@@ -1,6 +1,6 @@
 -- What is shown of a session.
-use Rattle.std.specs.Prelude.{◌≡◌, ℕ, List, [], ◌∷◌, ◌++◌, codes, decimal, Option, None, Some}
-use Rattle.std.specs.List.{flat_map}
+use Rattle.std.specs.Prelude.{◌≡◌, ℕ, true, List, [], ◌∷◌, ◌++◌, codes, decimal, Option, None, Some}
+use Rattle.std.specs.List.{flat_map, list_all}
 use Rattle.avp_lists.specs.States.{list_of}
 use Rattle.avp_lists.specs.declared.lists.List.{List as WhichList}
 use Rattle.avp_lists.specs.declared.lists.List.TheVariants as which
@@ -10,7 +10,7 @@ use Rattle.avp_dict.specs.Dictionary.{Dictionary}
 use Rattle.radpolicy.specs.Reports.{code_text}
 use Rattle.radpolicy.specs.Scripts.{label_text}
 use Rattle.radpolicy_common.specs.ChangeTexts.{change_text, pair_text}
-use Rattle.radpolicy_common.specs.Changes.{IsChange}
+use Rattle.radpolicy_common.specs.Changes.{AreEndsKept, IsChange, is_kept, is_needed, is_removed_first}
 use Rattle.radpolicy_common.specs.declared.change_lists.Change.{Change}
 use Rattle.radpolicy_common.specs.declared.change_texts.SecretValues.{SecretValues}
 use Rattle.radpolicy_walk_commands.specs.declared.steps.Step.{Step}
@@ -53,11 +53,16 @@ abbrev pub named_lines : List ℕ → List ℕ → List ℕ
 named_lines name [] = []
 named_lines name (octet ∷ octets) = name ++ codes "\n" ++ octet ∷ octets
 
--- the lines of what changed from one list to another, under its name
+-- The lines of what changed from one list to another, under its name. Where nothing changed all is kept; so is what both
+-- have in common at their ends; and in between what is removed comes before what is added, and no pair is both.
 pub record IsListChange (dictionary : Dictionary) (secrets : SecretValues) (name : List ℕ)
     (before after : List Pair) (text : List ℕ) : Type 0 where
   pub changes : List Change
   pub change : IsChange before after changes
+  pub same : before ≡ after → list_all is_kept changes ≡ true
+  pub ends : AreEndsKept before after changes
+  pub order : is_removed_first changes ≡ true
+  pub needed : is_needed changes ≡ true
   pub lines : text ≡ named_lines name (change_text dictionary secrets changes)
 
 -- the lines of what changed in the three lists

@@ -2,7 +2,9 @@
 #![tactic(auto)]
 
 mod commands;
+mod edited_lines;
 mod explanations;
+mod histories;
 mod instances;
 mod listings;
 mod moves;
@@ -15,7 +17,8 @@ mod words;
 
 pub use commands::Command;
 pub use explanations::why_text;
-pub use instances::{changed_positions, history_text, instances_text};
+pub use histories::{history, history_text};
+pub use instances::instances_text;
 pub use listings::{around_text, breaks_text, lists_text, source_text, trace_text};
 pub use sessions::Session;
 pub use settings::with_set;

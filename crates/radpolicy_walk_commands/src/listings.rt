@@ -20,7 +20,8 @@ const LINES_AROUND: usize = 5;
 // The number of a line is padded to this width.
 const NUMBER_WIDTH: usize = 5;
 
-fn list_name(list: List) -> &'static str
+/// The name of a list.
+pub(crate) fn list_name(list: List) -> &'static str
     ensures { result.now ≡ list_name list }
 {
     match list {

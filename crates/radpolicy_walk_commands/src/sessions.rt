@@ -2,22 +2,28 @@
 
 ghost use Rattle.std.specs.Prelude.{◌≡◌, ◌<◌, IfOk, OnErr, OnOk, length, map};
 ghost use Rattle.avp_lists.specs.History.{present};
+ghost use Rattle.avp_lists.specs.Instances.{instances};
+ghost use Rattle.avp_lists.specs.States.{list_of};
 ghost use Rattle.avp_step.specs.Walk.{walk_from};
 ghost use Rattle.avp_unlang.specs.Resolutions.{StateFits};
 ghost use Rattle.radpolicy.specs.Starts.{entry_of as lists_of_start};
+ghost use Rattle.radpolicy_common.specs.ChangeTexts.{AllFit};
 ghost use Rattle.radpolicy_walk_commands.specs.Histories.{instances_of};
 ghost use Rattle.radpolicy_walk_commands.specs.Sessions.{after, after_all, begun_anew, breaks_after, entry_of, last_position, lists_of, position_after, session_of, steps_of, with_break, without_break};
 ghost use Rattle.radpolicy_walk_commands.specs.Showings.{AreChanges, step_text};
 ghost use Rattle.radpolicy_walk_commands.specs.Steps.{step_of};
+ghost use Rattle.radpolicy_walk_commands.specs.internal.EditedLines.{AreMade, LeaveOthers, effect_at};
 
 use crate::commands::Command;
-use crate::instances::instances_of;
+use crate::edited_lines::EditedLines;
+use crate::instances::{instances, instances_of};
 use crate::moves::{go_to, steps_to_end};
 use crate::showings::{change_text, push_step};
 use crate::steps::{Step, next_failure, next_on, previous_on};
 use avp_dict::Dictionary;
 use avp_lists::{AttrId, List, Pairs, SlotStore, State, Store};
 use avp_step::Stepper;
+use avp_unlang::Policy;
 use radpolicy::Start;
 use radpolicy_common::SecretValues;
 use std::alloc::{AllocError, Global};
@@ -27,6 +33,7 @@ use std::marker::Model;
 #[derive(Drop)]
 pub struct Session<'a> {
     dictionary: &'a Dictionary,
+    policy: &'a Policy,
     stepper: Stepper<'a, SlotStore>,
     // The step of each position.
     steps: Vec<Step>,
@@ -37,6 +44,7 @@ impl<'a> Model for Session<'a> {
     ghost use Rattle.std.specs.Prelude.{◌≡◌, map};
     ghost use Rattle.radpolicy_walk_commands.specs.Sessions.{Session as Shown};
     ghost use Rattle.radpolicy_walk_commands.specs.Steps.{step_of};
+    ghost use Rattle.radpolicy_walk_commands.specs.internal.EditedLines.{IsRunOf};
 
     ghost Value = { Shown };
 
@@ -48,7 +56,8 @@ impl<'a> Model for Session<'a> {
     } };
 
     ghost invariant = { λ s. (s.stepper.dictionary ≡ s.dictionary.now)
-        × (s.steps.items ≡ map step_of s.stepper.trace) };
+        × (s.steps.items ≡ map step_of s.stepper.trace)
+        × IsRunOf s.dictionary.now s.policy.now s.stepper.trace };
 }
 
 fn without_break(alloc: Global, breaks: &[usize], line: usize) -> Result<Vec<usize>, AllocError>
@@ -105,12 +114,13 @@ impl<'a> Session<'a> {
             (walk_from start.entry.prepared.dictionary start.entry.prepared.statements
             (lists_of_start start.entry))) }
     {
-        let dictionary = start.dictionary();
+        let (dictionary, policy) = (start.dictionary(), start.policy());
         let mut stepper = start.stepper(alloc)?;
         let steps = steps_to_end(alloc, &mut stepper)?;
         stepper.to_start();
         Ok(Session {
             dictionary,
+            policy,
             stepper,
             steps,
             breaks: Vec::new(alloc),
@@ -126,11 +136,13 @@ impl<'a> Session<'a> {
     {
         let Session {
             dictionary,
+            policy,
             stepper,
             steps,
             breaks: _,
         } = Session::new(alloc, start)?;
         self.dictionary = dictionary;
+        self.policy = policy;
         self.stepper = stepper;
         self.steps = steps;
         Ok(())
@@ -198,6 +210,44 @@ impl<'a> Session<'a> {
     {
         let found = instances_of(alloc, id, self.stepper.store())?;
         Ok(found)
+    }
+
+    /// Copies of an attribute's instances in a list at the place.
+    #[tactic(auto, using(crate::proofs::FittingInstances::list_instances_fit))]
+    pub(crate) fn instances_in(
+        &self,
+        alloc: Global,
+        list: List,
+        id: AttrId,
+    ) -> Result<Pairs, AllocError>
+        ensures instances { IfOk result (λ found. found
+            ≡ instances id (list_of list (lists_of self.now))) }
+        ensures fits { IfOk result (λ found. AllFit self.now.dictionary found) }
+    {
+        let found = instances(alloc, id, self.stepper.store(), list)?;
+        Ok(found)
+    }
+
+    /// That the lists at the place fit the dictionary, for a proof that needs it.
+    pub(crate) fn lists_fit(&self)
+        ensures { StateFits self.now.dictionary (lists_of self.now) }
+    {
+        let _store = self.stepper.store();
+    }
+
+    /// The lines of the policy that edit an attribute in a list.
+    pub(crate) fn edited_lines(
+        &self,
+        alloc: Global,
+        list: List,
+        id: AttrId,
+    ) -> Result<EditedLines, AllocError>
+        ensures others { IfOk result (λ edited. LeaveOthers list id edited self.now.trace) }
+        ensures made { IfOk result (λ edited.
+            AreMade list id (effect_at edited) self.now.trace) }
+    {
+        let lines = EditedLines::new(alloc, self.policy, list, id)?;
+        Ok(lines)
     }
 
     // The position that a command leads to.

@@ -96,8 +96,8 @@ fn named_lines(alloc: Global, name: &str, lines: &[u8]) -> Result<Vec<u8>, Alloc
     Ok(text)
 }
 
-// The lines of what changed from one list to another.
-fn list_change(
+/// The lines of what changed from one list to another.
+pub(crate) fn list_change(
     alloc: Global,
     dictionary: &Dictionary,
     secrets: SecretValues,

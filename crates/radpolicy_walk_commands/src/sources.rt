@@ -74,18 +74,4 @@ impl<'a> SourceLines<'a> {
         let index = number.checked_sub(1)?;
         self.lines.get(index).copied()
     }
-
-    /// Whether each line names an attribute.
-    pub(crate) fn naming(
-        &self,
-        alloc: Global,
-        dictionary: &Dictionary,
-        id: AttrId,
-    ) -> Result<Vec<bool>, AllocError> {
-        let mut named = Vec::new(alloc);
-        for line in &self.lines {
-            named.push(named_in(alloc, dictionary, line)?.contains(&id))?;
-        }
-        Ok(named)
-    }
 }

@@ -126,7 +126,7 @@ fn shown(
     Ok(match what {
         Answer::Change => session.change(alloc, Command::Forward(1), secrets)?,
         Answer::Class => instances_text(alloc, session, secrets, CLASS)?,
-        Answer::History => history_text(alloc, session, sources, secrets, CLASS)?,
+        Answer::History => history_text(alloc, session, secrets, CLASS)?,
         Answer::Reply => lists_text(alloc, session, secrets, Some(List::Reply))?,
         Answer::Why => why_text(alloc, session, sources, secrets)?,
         Answer::Trace => trace_text(alloc, session, sources)?,

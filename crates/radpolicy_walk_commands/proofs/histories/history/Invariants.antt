@@ -1,6 +1,7 @@
 use Rattle.std.proofs.Common.{◌≡◌, ◌≤◌, ◌-◌}
-use Rattle.radpolicy_walk_commands.specs.Histories.{changed_positions}
-use Rattle.radpolicy_walk_commands.proofs.instances.changed_positions.Given as goal
+use Rattle.radpolicy_walk_commands.specs.Histories.{IsHistory}
+use Rattle.radpolicy_walk_commands.specs.internal.Following.{AreFollowing}
+use Rattle.radpolicy_walk_commands.proofs.histories.history.Given as goal
 
 abbrev pub invariant-steps : goal.invariant-steps
 invariant-steps l = record {
@@ -8,7 +9,8 @@ invariant-steps l = record {
   trace : l.session.trace ≡ l.initial.session.trace;
   breaks : l.session.breaks ≡ l.initial.session.breaks;
   short : l.session.position ≤ l.place;
-  told : l.positions.items ≡ changed_positions l.id l.named l.initial.session.trace l.session.position;
+  following : AreFollowing l.initial.session.dictionary l.id l.initial.session.trace l.session.position l.followers;
+  told : IsHistory l.initial.session.dictionary l.secrets l.id l.initial.session.trace l.session.position l.text.items;
 }
 
 abbrev pub decreases-steps : goal.decreases-steps

@@ -1,0 +1,2 @@
+pub mod EditedLines
+pub mod Following
