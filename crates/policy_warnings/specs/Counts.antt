@@ -59,7 +59,8 @@ means_all All = true
 means_all (EachTag tagging) = true
 means_all (Tag tagging n) = false
 
--- by whether the operator is for all of the mentioned instances: others may stay, and what is added may be one of them
+-- Whether the operator is for all of the mentioned instances comes second. If it is not, some stay that it is not for,
+-- and what it adds may be one more of them.
 abbrev pub most_after : Op → Bool → Most → Most
 most_after AddNew true n = at_least_one n
 most_after AddNew false n = one_more n

@@ -25,7 +25,7 @@ fn line_of(label: Label) -> Option<usize>
     }
 }
 
-// The line of a step with this label, where it made other instances of those before it.
+// The line of a step with this label, where the instances after it differ from those before it.
 fn line_made(before: &[Pair], after: &[Pair], label: Label) -> Option<usize>
     ensures { result ≡ line_made before.now after.now label }
 {

@@ -1,4 +1,4 @@
-//! The lines of policies that made the answer to a record another.
+//! The lines of policies that changed the answer to a record.
 
 ghost use Rattle.std.specs.Prelude.{◌≡◌, IfOk, Ok, filter, not};
 ghost use Rattle.std.specs.Option.{option_map};

@@ -369,7 +369,7 @@ impl<'a> Replay<'a> {
         }
     }
 
-    // The lines that made the answer to a record another, where it is compared with that of another policy.
+    // The lines that changed the answer to a record, where it is compared with that of another policy.
     fn lines_beside_policy<'b>(
         &'b self,
         alloc: Global,
@@ -402,7 +402,7 @@ impl<'a> Replay<'a> {
         comparison.lines_alone(alloc, new, &replies)
     }
 
-    // The lines that made the answer to a record another, where it is compared.
+    // The lines that changed the answer to a record, where it is compared.
     fn compared_lines<'b>(
         &'b self,
         alloc: Global,
@@ -421,7 +421,7 @@ impl<'a> Replay<'a> {
         }
     }
 
-    // The lines that made a record different, of which this became. Of others no run is made again.
+    // The lines that made a record different. No run is made again for a record that is not.
     fn entry_lines<'b>(
         &'b self,
         alloc: Global,

@@ -35,7 +35,7 @@ pub struct Summary {
     pub unanswered: u64,
     pub challenged: u64,
     pub refused: u64,
-    /// How many of those that are different each line of the policies made so.
+    /// Of those that are different, how many go back to each line of the policies.
     pub lines: LineCounts,
 }
 
