@@ -4,6 +4,7 @@ pub mod Chunks
 pub mod Escapes
 pub mod FileNames
 pub mod Middles
+pub mod PlainText
 pub mod ReadInputs
 pub mod TextsOf
 pub mod Visibility

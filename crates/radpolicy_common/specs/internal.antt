@@ -1,2 +1,3 @@
 pub mod Middles
 pub mod NextKept
+pub mod PlainText

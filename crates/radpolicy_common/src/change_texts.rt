@@ -37,6 +37,27 @@ fn shown_text(
     }
 }
 
+// A pair as `Name = value`, with its line feed.
+fn push_pair(
+    text: &mut Vec<u8>,
+    dictionary: &Dictionary,
+    secrets: SecretValues,
+    pair: &Pair,
+) -> Result<(), AllocError>
+    requires { Fits dictionary.now pair.now }
+    ensures { OnOk result
+        (text.new.items ≡ text.old.items ++ pair_text dictionary.now secrets pair.now) }
+{
+    let alloc = *text.allocator();
+    let name = printed_pair_name(alloc, dictionary, Profile::Wider, pair.id, &pair.value)?;
+    let value = shown_text(alloc, dictionary, secrets, pair)?;
+    text.extend_from_slice(name.as_slice())?;
+    text.extend_from_slice(b" = ")?;
+    text.extend_from_slice(value.as_slice())?;
+    text.extend_from_slice(b"\n")?;
+    Ok(())
+}
+
 /// A pair as `Name = value`, with its line feed. Both are printed in the forms of the wider profile.
 pub fn pair_text(
     alloc: Global,
@@ -47,16 +68,13 @@ pub fn pair_text(
     requires { Fits dictionary.now pair.now }
     ensures { IfOk result (λ text. text.items ≡ pair_text dictionary.now secrets pair.now) }
 {
-    let mut text = printed_pair_name(alloc, dictionary, Profile::Wider, pair.id, &pair.value)?;
-    let value = shown_text(alloc, dictionary, secrets, pair)?;
-    text.extend_from_slice(b" = ")?;
-    text.extend_from_slice(value.as_slice())?;
-    text.extend_from_slice(b"\n")?;
+    let mut text = Vec::new(alloc);
+    push_pair(&mut text, dictionary, secrets, pair)?;
     Ok(text)
 }
 
-// A sign, and a pair with its line feed.
-fn push_pair(
+// A sign, and a pair.
+fn push_signed(
     text: &mut Vec<u8>,
     dictionary: &Dictionary,
     sign: &[u8],
@@ -67,11 +85,8 @@ fn push_pair(
     ensures { OnOk result
         (text.new.items ≡ text.old.items ++ sign.now ++ pair_text dictionary.now secrets pair.now) }
 {
-    let alloc = *text.allocator();
-    let pair = pair_text(alloc, dictionary, secrets, pair)?;
     text.extend_from_slice(sign)?;
-    text.extend_from_slice(pair.as_slice())?;
-    Ok(())
+    push_pair(text, dictionary, secrets, pair)
 }
 
 // The line of a change.
@@ -87,8 +102,8 @@ fn push_change(
 {
     match change {
         Change::Kept(_) => Ok(()),
-        Change::Removed(pair) => push_pair(text, dictionary, b"- ", pair, secrets),
-        Change::Added(pair) => push_pair(text, dictionary, b"+ ", pair, secrets),
+        Change::Removed(pair) => push_signed(text, dictionary, b"- ", pair, secrets),
+        Change::Added(pair) => push_signed(text, dictionary, b"+ ", pair, secrets),
     }
 }
 

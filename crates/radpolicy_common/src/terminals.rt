@@ -1,9 +1,11 @@
 //! What goes to a terminal: colours, and texts from requests and policies without control characters.
 
 ghost use Rattle.std.specs.Prelude.{◌≡◌, ◌++◌, true, IfOk, OnOk};
+ghost use Rattle.std.specs.List.{list_all};
 ghost use Rattle.std.specs.Str.{IsUtf8};
 ghost use Rattle.avp_dict.specs.Quotes.{octal_escape};
 ghost use Rattle.radpolicy_common.specs.VisibleText.{IsVisibleText, all_visible, char_shown, is_visible, octal_text, text_shown};
+ghost use Rattle.radpolicy_common.specs.internal.PlainText.{is_plain};
 
 use std::alloc::{AllocError, Global};
 use std::env::VarError;
@@ -120,9 +122,20 @@ fn push_text(text: &mut Vec<u8>, added: &str, breaks: LineBreaks) -> Result<(), 
     Ok(())
 }
 
-/// Octets as they may be shown on a terminal: control characters (below 0x20, 0x7f, and U+0080 to U+009F) and octets
-/// that are no UTF-8 as `\` and three octal digits each. LF and TAB are kept where that is asked for.
-pub fn visible_text(alloc: Global, octets: &[u8], breaks: LineBreaks) -> Result<Vec<u8>, AllocError>
+// A character of ASCII that is shown as it is.
+fn is_plain(octet: u8, breaks: LineBreaks) -> bool
+    ensures { result ≡ is_plain breaks octet }
+{
+    octet.is_ascii() && is_visible(char::from(octet), breaks)
+}
+
+fn are_plain(octets: &[u8], breaks: LineBreaks) -> bool
+    ensures { result ≡ list_all (is_plain breaks) octets.now }
+{
+    octets.iter().all(|octet| is_plain(*octet, breaks))
+}
+
+fn filtered_text(alloc: Global, octets: &[u8], breaks: LineBreaks) -> Result<Vec<u8>, AllocError>
     ensures shown { IfOk result (λ text. IsVisibleText breaks octets.now text.items) }
     ensures utf8 { IfOk result (λ text. IsUtf8 text.items) }
     ensures visible { IfOk result (λ text. all_visible breaks text.items ≡ true) }
@@ -135,4 +148,23 @@ pub fn visible_text(alloc: Global, octets: &[u8], breaks: LineBreaks) -> Result<
         push_octals(&mut text, chunk.invalid())?;
     }
     Ok(text)
+}
+
+/// Octets as they may be shown on a terminal: control characters (below 0x20, 0x7f, and U+0080 to U+009F) and octets
+/// that are no UTF-8 as `\` and three octal digits each. LF and TAB are kept where that is asked for.
+#[tactic(auto, using(crate::proofs::PlainText::plain_is_shown, crate::proofs::PlainText::plain_is_utf8, crate::proofs::PlainText::plain_is_visible, crate::proofs::PlainText::plain_is_text))]
+pub fn visible_text(alloc: Global, octets: &[u8], breaks: LineBreaks) -> Result<Vec<u8>, AllocError>
+    ensures shown { IfOk result (λ text. IsVisibleText breaks octets.now text.items) }
+    ensures utf8 { IfOk result (λ text. IsUtf8 text.items) }
+    ensures visible { IfOk result (λ text. all_visible breaks text.items ≡ true) }
+    ensures text { IsUtf8 octets.now
+        → IfOk result (λ text. text.items ≡ text_shown breaks octets.now) }
+{
+    // (most texts are plain, and to copy one is several times as fast as to look for its characters)
+    if are_plain(octets, breaks) {
+        let text = Vec::from_slice(alloc, octets)?;
+        Ok(text)
+    } else {
+        filtered_text(alloc, octets, breaks)
+    }
 }

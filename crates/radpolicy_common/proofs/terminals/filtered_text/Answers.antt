@@ -8,7 +8,7 @@ use Rattle.radpolicy_common.specs.VisibleText.IsVisibleText.{nothing}
 use Rattle.radpolicy_common.specs.declared.terminals.LineBreaks.{LineBreaks}
 use Rattle.radpolicy_common.proofs.Chunks.{chunk_is_shown}
 use Rattle.radpolicy_common.proofs.Visibility.{Small, shown_is_text, text_is_shown}
-use Rattle.radpolicy_common.proofs.terminals.visible_text.Goals as goal
+use Rattle.radpolicy_common.proofs.terminals.filtered_text.Goals as goal
 
 pub loop-chunk-preserved : goal.loop-chunk-preserved
 loop-chunk-preserved c = λ more later. (
