@@ -1,8 +1,9 @@
 //! What the steps of a run changed in the instances of an attribute.
 
-ghost use Rattle.std.specs.Prelude.{◌≡◌, ◌<◌, ◌-◌, ◌++◌, IfOk, IfSome, OnOk};
+ghost use Rattle.std.specs.Prelude.{◌≡◌, ◌<◌, ◌-◌, ◌++◌, ◌∷◌, [], IfOk, IfSome, IsTrue, OnOk};
 ghost use Rattle.avp_lists.specs.Instances.{instances};
 ghost use Rattle.avp_lists.specs.States.{list_of};
+ghost use Rattle.avp_unlang.specs.Resolutions.{pair_of};
 ghost use Rattle.radpolicy_common.specs.ChangeTexts.{AllFit};
 ghost use Rattle.radpolicy_walk_commands.specs.Histories.{IsHistory, IsHistoryText, entry_at, instances_at, step_told};
 ghost use Rattle.radpolicy_walk_commands.specs.Sessions.{entry_of, last_position, lists_of};
@@ -17,9 +18,29 @@ use crate::instances::push_name;
 use crate::listings::list_name;
 use crate::sessions::Session;
 use crate::showings::{list_change, push_step};
-use avp_lists::{AttrId, Edit, List, MAX_PAIRS, Pair, Pairs, SnapshotStore, Store};
+use avp_lists::{AttrId, Edit, List, MAX_PAIRS, Op, Pair, Pairs, Selection, SnapshotStore, Store};
 use radpolicy_common::SecretValues;
 use std::alloc::{AllocError, Global};
+
+// Whether the pair alone takes the place of the instances.
+fn is_replaced_whole(id: AttrId, effect: &Effect, instances: &[Pair]) -> bool
+    ensures { IsTrue result
+        → made_by id effect.now instances.now ≡ pair_of id effect.now.value ∷ [] }
+{
+    match (effect.op, effect.selection, instances) {
+        (Op::Replace, Selection::All, []) => true,
+        (Op::Replace, Selection::All, [own]) => own.id.equals(id),
+        _ => false,
+    }
+}
+
+fn sole_pair(alloc: Global, pair: Pair) -> Result<Pairs, AllocError>
+    ensures { IfOk result (λ pairs. pairs ≡ pair ∷ []) }
+{
+    let mut pairs = Vec::new(alloc);
+    pairs.push(pair)?;
+    Ok(Pairs::from_vec(pairs))
+}
 
 // What an update line makes of an attribute's instances; none where that can't be told so.
 fn made_by(
@@ -31,6 +52,10 @@ fn made_by(
     ensures { IfOk result (λ made. IfSome made (λ pairs. pairs
         ≡ made_by id effect.now instances.now)) }
 {
+    if is_replaced_whole(id, effect, instances.as_slice()) {
+        let value = effect.value.copy(alloc)?;
+        return Ok(Some(sole_pair(alloc, Pair { id, value })?));
+    }
     if instances.as_slice().len() > MAX_PAIRS {
         return Ok(None);
     }

@@ -84,16 +84,17 @@ pub fn list_text(
 fn named_lines(alloc: Global, name: &str, lines: &[u8]) -> Result<Vec<u8>, AllocError>
     ensures { IfOk result (λ text. text.items ≡ named_lines name.now lines.now) }
 {
-    let mut text = Vec::new(alloc);
     match lines {
-        [] => {}
+        [] => Ok(Vec::new(alloc)),
         [_, ..] => {
+            let room = name.len().saturating_add(1).saturating_add(lines.len());
+            let mut text = Vec::with_capacity(alloc, room)?;
             text.extend_from_slice(name.as_bytes())?;
             text.extend_from_slice(b"\n")?;
             text.extend_from_slice(lines)?;
+            Ok(text)
         }
     }
-    Ok(text)
 }
 
 /// The lines of what changed from one list to another.
