@@ -6,6 +6,8 @@ mod conditions;
 #[cfg(test)]
 mod counts;
 #[cfg(test)]
+mod groupings;
+#[cfg(test)]
 mod policies;
 #[cfg(test)]
 mod repeats;
