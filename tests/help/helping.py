@@ -1,9 +1,11 @@
 """The help after a fault's line: each folder here has files, a command, and in `wanted` the texts that a terminal has to
-show. In a pipe the fault's line stays alone. The command's first word may be the name of a program beside `radpolicy`. The
-folders of `warned/` have policies that are read, and in `wanted` all that a terminal shows of their warnings."""
+show. In a pipe the fault's line stays alone, and without NO_COLOR a terminal shows places and carets in bold. The
+command's first word may be the name of a program beside `radpolicy`. The folders of `warned/` have policies that are
+read, and in `wanted` all that a terminal shows of their warnings."""
 import glob
 import os
 import pty
+import re
 import subprocess
 from pathlib import Path
 from typing import Dict, List, Optional, Sequence, Tuple
@@ -15,10 +17,14 @@ HERE = Path(__file__).parent
 DEADLINE = 120
 
 
-def environment(wish: Optional[str]) -> Dict[str, str]:
+PLACE = re.compile(rb"^(?P<place>.*)\n(?P<line>.*)\n(?P<caret> *\^)$", re.MULTILINE)
+
+
+def environment(wish: Optional[str], no_color: Optional[str] = None) -> Dict[str, str]:
     """The environment of a run, in which the caller's wishes play no part."""
-    kept = {name: value for name, value in os.environ.items() if name not in ("RADPOLICY_HELP", "NO_COLOR")}
-    return kept if wish is None else {**kept, "RADPOLICY_HELP": wish}
+    wishes = {"RADPOLICY_HELP": wish, "NO_COLOR": no_color}
+    kept = {name: value for name, value in os.environ.items() if name not in wishes}
+    return {**kept, **{name: value for name, value in wishes.items() if value is not None}}
 
 
 def words_of(folder: Path) -> List[str]:
@@ -38,11 +44,13 @@ def program_of(subject: Subject, folder: Path) -> Tuple[Path, List[str]]:
     return subject.program, words
 
 
-def in_pipe(program: Path, folder: Path, words: Sequence[str], wish: Optional[str]) -> Tuple[int, bytes, bytes]:
+def in_pipe(
+        program: Path, folder: Path, words: Sequence[str], wish: Optional[str],
+        no_color: Optional[str] = None) -> Tuple[int, bytes, bytes]:
     """Status, output and errors of a run whose errors go into a pipe."""
     ended = subprocess.run(
-        [program, *words], cwd=folder, stdin=subprocess.DEVNULL, capture_output=True, env=environment(wish),
-        timeout=DEADLINE, check=False)
+        [program, *words], cwd=folder, stdin=subprocess.DEVNULL, capture_output=True,
+        env=environment(wish, no_color), timeout=DEADLINE, check=False)
     return ended.returncode, ended.stdout, ended.stderr
 
 
@@ -60,13 +68,15 @@ def read_all(terminal: int) -> bytes:
     return b"".join(parts)
 
 
-def on_terminal(program: Path, folder: Path, words: Sequence[str], wish: Optional[str]) -> Tuple[int, bytes, bytes]:
+def on_terminal(
+        program: Path, folder: Path, words: Sequence[str], wish: Optional[str],
+        no_color: Optional[str] = None) -> Tuple[int, bytes, bytes]:
     """The same of a run whose errors go to a terminal."""
     own, other = pty.openpty()
     try:
         with subprocess.Popen(
                 [program, *words], cwd=folder, stdin=subprocess.DEVNULL, stdout=subprocess.PIPE, stderr=other,
-                env=environment(wish)) as process:
+                env=environment(wish, no_color)) as process:
             os.close(other)
             errors = read_all(own)
             output = process.stdout.read()
@@ -81,21 +91,34 @@ def is_shown(text: str, shown: str) -> bool:
     return text in (shown.splitlines() if text.strip() == "^" else shown)
 
 
+def fault_line(wanted: Sequence[str]) -> bytes:
+    """The fault's line, after one that names the old policy if the fault is there."""
+    count = 1 if wanted[0].startswith("radpolicy: ") else 2
+    return "".join(line + "\n" for line in wanted[:count]).encode()
+
+
+def in_colour(errors: bytes) -> bytes:
+    """What a terminal with colours has to show of help."""
+    return PLACE.sub(rb"\033[1m\g<place>\033[0m\n\g<line>\n\033[1m\g<caret>\033[0m", errors)
+
+
 def faults_of(subject: Subject, folder: Path) -> List[str]:
     """What is wrong with the help of a folder's command."""
     program, words = program_of(subject, folder)
     wanted = (folder / "wanted").read_text().splitlines()
-    line = (wanted[0] + "\n").encode()
-    status, output, errors = on_terminal(program, folder, words, None)
+    line = fault_line(wanted)
+    status, output, errors = on_terminal(program, folder, words, None, "1")
     shown = errors.decode("utf-8", "replace")
     wrong = [f"not shown: {text!r} in {shown!r}" for text in wanted if not is_shown(text, shown)]
     if output or not errors.startswith(line):
         wrong.append(f"output {output!r}, errors {errors!r}")
-    for run, wish, lines in [
-            (in_pipe, "always", errors), (in_pipe, None, line), (in_pipe, "never", line), (on_terminal, "never", line)]:
-        found = run(program, folder, words, wish)
+    for run, wish, no_color, lines in [
+            (in_pipe, "always", None, errors), (in_pipe, None, None, line), (in_pipe, "never", None, line),
+            (on_terminal, None, None, in_colour(errors)), (on_terminal, None, "", in_colour(errors)),
+            (on_terminal, "never", None, line)]:
+        found = run(program, folder, words, wish, no_color)
         if found != (status, b"", lines):
-            wrong.append(f"{run.__name__} with {wish}: {found!r}, not {(status, b'', lines)!r}")
+            wrong.append(f"{run.__name__} with {wish}, {no_color}: {found!r}, not {(status, b'', lines)!r}")
     controls = [octet for octet in errors if octet < 32 and octet != 10 or octet == 127]
     return wrong + ([f"control characters {controls}"] if controls else [])
 

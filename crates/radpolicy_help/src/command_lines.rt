@@ -12,6 +12,47 @@ use std::alloc::{AllocError, Global};
 
 const COMMANDS: [&str; 5] = ["run", "step", "encode", "decode", "check"];
 
+// What to do, by what clap says of words.
+const USAGE_HINTS: [(&str, &str); 10] = [
+    (
+        "'-D' found",
+        "dictionary files come last, without an option: FOLDER/dictionary*\n",
+    ),
+    (
+        "\n  <DICTIONARY>...",
+        "dictionary files come last, as /usr/share/freeradius/dictionary*\n",
+    ),
+    (
+        "\n  --script <SCRIPT>",
+        "a script is a file with one word a line: forward, back, start, end or show\n",
+    ),
+    ("'--acct' found", "--acct is an option of run and encode\n"),
+    ("'-i' found", "-i is an option of run and encode\n"),
+    (
+        "'--authenticator' found",
+        "--authenticator is an option of run and encode\n",
+    ),
+    ("'--hex' found", "--hex is an option of run and step\n"),
+    ("'--script' found", "--script is an option of step\n"),
+    (
+        "'--policy' found",
+        "--policy is an option of run, step and check\n",
+    ),
+    (
+        "'-S' found",
+        "-S is an option of run, step, encode and decode\n",
+    ),
+];
+
+fn push_usage_hints(help: &mut Vec<u8>, said: &str) -> Result<(), AllocError> {
+    for (words, hint) in &USAGE_HINTS {
+        if said.contains(*words) {
+            push_all(help, &[hint])?;
+        }
+    }
+    Ok(())
+}
+
 // Adds the commands that may have been meant.
 fn push_commands(alloc: Global, help: &mut Vec<u8>, word: &str) -> Result<(), AllocError> {
     let names = nearest_of(alloc, word, &COMMANDS)?;
@@ -28,7 +69,9 @@ fn usage_help(alloc: Global, words: &[String]) -> Result<Vec<u8>, AllocError> {
     let mut help = Vec::new(alloc);
     match words {
         [_, command, ..] => {
-            push_all(&mut help, &[help_text(alloc, words)?.as_str()])?;
+            let said = help_text(alloc, words)?;
+            push_all(&mut help, &[said.as_str()])?;
+            push_usage_hints(&mut help, said.as_str())?;
             push_commands(alloc, &mut help, command.as_str())?;
         }
         _ => push_all(
@@ -67,11 +110,19 @@ pub fn explain_words(alloc: Global, fault: &Fault, words: &[String]) -> Result<V
     visible_text(alloc, &help, LineBreaks::Kept)
 }
 
-/// How a program of this name is asked for its options.
-pub(crate) fn explain_options(alloc: Global, program: &str) -> Result<Vec<u8>, AllocError> {
+/// What is said of the words of a command line that were refused for this, and how a program of this name is asked for
+/// its options.
+pub(crate) fn explain_options(
+    alloc: Global,
+    fault: &Fault,
+    program: &str,
+    said: &str,
+) -> Result<Vec<u8>, AllocError> {
     let mut help = Vec::new(alloc);
-    push_all(&mut help, &[program, " --help lists its options\n"])?;
-    Ok(help)
+    if matches!(fault, Fault::Usage | Fault::OptionValue) {
+        push_all(&mut help, &[said, program, " --help lists its options\n"])?;
+    }
+    visible_text(alloc, &help, LineBreaks::Kept)
 }
 
 /// What is said of a file that could not be read.

@@ -48,8 +48,8 @@ fn sentences(kind: DictKind) -> &'static str {
     }
 }
 
-// What a path has before its last component.
-fn folder_of(path: &str) -> &str {
+/// What a path has before its last component.
+pub(crate) fn folder_of(path: &str) -> &str {
     let length = path
         .len()
         .saturating_sub(last_component(path.as_bytes()).len());

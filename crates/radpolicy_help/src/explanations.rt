@@ -70,7 +70,9 @@ fn digits_help(alloc: Global, sources: &Sources<'_>) -> Result<Vec<u8>, AllocErr
 fn draft(alloc: Global, fault: &Fault, sources: &Sources<'_>) -> Result<Vec<u8>, AllocError> {
     match fault {
         Fault::Policy(fault) => policy_help(alloc, *fault, sources),
-        Fault::Request(fault) => line_help(alloc, *fault, sources.request, sources),
+        Fault::Request(fault) | Fault::Reply(fault) | Fault::Control(fault) => {
+            line_help(alloc, *fault, sources.request, sources)
+        }
         Fault::Dictionary(fault) => dictionary_help(alloc, *fault, sources),
         Fault::Packet(fault) => packet_help(alloc, *fault, sources),
         Fault::ScriptWord { line } => script_help(alloc, *line, sources),

@@ -7,10 +7,12 @@
 #![tactic(auto)]
 
 mod allowances;
+mod colours;
 mod command_lines;
 mod contexts;
 mod dictionaries;
 mod explanations;
+mod groupings;
 mod names;
 mod nearest;
 mod packets;
@@ -33,9 +35,12 @@ mod written_pairs;
 
 pub use command_lines::{explain_unread, explain_words};
 pub use explanations::explain;
+pub use names::explain_name;
 pub use pointing::{Pointed, point_at};
 pub use printing::print_with_help;
-pub use refusing::{refuse_explained, refuse_unread_explained, refuse_with_help, refuse_words_of};
+pub use refusing::{
+    refuse_explained, refuse_unread_explained, refuse_with_help, refuse_words_of, tell_help,
+};
 pub use sources::{STANDARD_INPUT, Source, Sources};
 pub use statements::without_statement;
 pub use stops::stop_text;

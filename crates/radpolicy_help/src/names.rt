@@ -1,8 +1,16 @@
 //! Names of attributes and of their values, as dictionary files have them.
 
+ghost use Rattle.std.specs.Prelude.{◌≡◌, true, IfOk};
+ghost use Rattle.radpolicy_common.specs.VisibleText.{all_visible};
+ghost use Rattle.radpolicy_common.specs.declared.terminals.LineBreaks.TheVariants.{Kept};
+
+use crate::dictionaries::folder_of;
 use crate::nearest::Nearest;
 use crate::policy_tokens::text_of;
+use crate::sources::Sources;
+use crate::texts::{push_all, push_choices};
 use avp_dict::{Dictionary, FileSet, next_line, words_between_blanks};
+use radpolicy_common::{LineBreaks, visible_text};
 use std::alloc::{AllocError, Global};
 
 /// How many names of values are shown at most.
@@ -17,8 +25,8 @@ fn written_name<'a>(dictionary: &'a Dictionary, name: &'a str) -> &'a str {
     }
 }
 
-/// The names of attributes that are nearest to a word.
-pub(crate) fn nearest_attributes<'a>(
+// The names of attributes that are nearest to a word.
+fn nearest_attributes<'a>(
     alloc: Global,
     dictionary: &'a Dictionary,
     word: &str,
@@ -33,6 +41,95 @@ pub(crate) fn nearest_attributes<'a>(
         *name = written_name(dictionary, name);
     }
     Ok(nearest.names)
+}
+
+// Whether a line defines an attribute of this name.
+fn is_attribute_line(alloc: Global, line: &[u8], attribute: &str) -> Result<bool, AllocError> {
+    if !line.trim_ascii_start().starts_with(b"ATTRIBUTE") {
+        return Ok(false);
+    }
+    let words = words_between_blanks(alloc, line)?;
+    Ok(match words.as_slice() {
+        [_, name, _, _, ..] => text_of(name).eq_ignore_ascii_case(attribute),
+        _ => false,
+    })
+}
+
+fn has_attribute_line(alloc: Global, text: &[u8], attribute: &str) -> Result<bool, AllocError> {
+    for line in text.split(|octet| *octet == b'\n') {
+        if is_attribute_line(alloc, line, attribute)? {
+            return Ok(true);
+        }
+    }
+    Ok(false)
+}
+
+// The path of the first file that has a line for the attribute.
+fn path_with_attribute<'a>(
+    alloc: Global,
+    sources: &Sources<'a>,
+    attribute: &str,
+) -> Result<Option<&'a str>, AllocError> {
+    for (file, path) in sources.files.as_slice().iter().zip(sources.dictionaries) {
+        if has_attribute_line(alloc, file.octets.as_slice(), attribute)? {
+            return Ok(Some(*path));
+        }
+    }
+    Ok(None)
+}
+
+// Adds the names that may have been meant.
+fn push_nearest_attributes(help: &mut Vec<u8>, names: &[&str]) -> Result<(), AllocError> {
+    if names.is_empty() {
+        return push_all(
+            help,
+            &["give the dictionary file that has its ATTRIBUTE line, and include it\n"],
+        );
+    }
+    push_all(help, &["write "])?;
+    push_choices(help, names)?;
+    push_all(help, &["\n"])
+}
+
+/// Adds what to do about a name that is no attribute's.
+pub(crate) fn push_unknown_attribute(
+    alloc: Global,
+    help: &mut Vec<u8>,
+    sources: &Sources<'_>,
+    name: &str,
+) -> Result<(), AllocError> {
+    if let Some(path) = path_with_attribute(alloc, sources, name)? {
+        return push_all(
+            help,
+            &[
+                path,
+                " has its ATTRIBUTE line: no file includes that one, or the line's type is not read\n\
+                give the main file first, as ",
+                folder_of(path),
+                "dictionary\n",
+            ],
+        );
+    }
+    match &sources.dictionary(alloc) {
+        Some(dictionary) => {
+            push_nearest_attributes(help, &nearest_attributes(alloc, dictionary, name)?)
+        }
+        None => Ok(()),
+    }
+}
+
+/// What is said of a name that is no attribute's.
+pub fn explain_name(
+    alloc: Global,
+    dictionary: &Dictionary,
+    name: &str,
+) -> Result<Vec<u8>, AllocError>
+    ensures visible { IfOk result (λ text. all_visible Kept text.items ≡ true) }
+{
+    let mut help = Vec::new(alloc);
+    push_all(&mut help, &["no attribute has the name ", name, "\n"])?;
+    push_nearest_attributes(&mut help, &nearest_attributes(alloc, dictionary, name)?)?;
+    visible_text(alloc, &help, LineBreaks::Kept)
 }
 
 // The name that a line gives to a value of this attribute; the empty one where it gives none.

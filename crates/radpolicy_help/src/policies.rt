@@ -2,7 +2,7 @@
 
 use crate::allowances::push_unread_profile;
 use crate::contexts::{Context, Expected, context_after, expected_text, is_code};
-use crate::names::nearest_attributes;
+use crate::names::push_unknown_attribute;
 use crate::nearest::nearest_of;
 use crate::places::{last_line, push_place};
 use crate::policy_tokens::{from_token, is_update_operator, text_of, token_of};
@@ -52,7 +52,8 @@ fn statement_hint(word: &str) -> Option<&'static str> {
             Some("a section's own line is left out here: write only what is between its { and }")
         }
         "else" | "elsif" => Some("else and elsif follow the } of an if"),
-        "return" | "handled" | "invalid" | "userlock" | "notfound" | "disallow" => {
+        "return" => { Some("return is left out here: put what comes after it into else { .. }") }
+        "handled" | "invalid" | "userlock" | "notfound" | "disallow" => {
             Some("of the server's codes there are ok, noop, updated, fail and reject")
         }
         "group"
@@ -66,6 +67,10 @@ fn statement_hint(word: &str) -> Option<&'static str> {
     }
 }
 
+fn begins_with_control(text: &str) -> bool {
+    matches!(text.as_bytes(), [0..=31 | 127, ..])
+}
+
 // What to do where no statement begins with a word.
 fn push_statement_hint(
     alloc: Global,
@@ -75,6 +80,9 @@ fn push_statement_hint(
 ) -> Result<(), AllocError> {
     if let Some(hint) = statement_hint(word) {
         return push_all(help, &[hint, "\n"]);
+    }
+    if begins_with_control(next) {
+        return push_all(help, &["take out what is shown as \\ and three digits\n"]);
     }
     let names = nearest_of(alloc, word, &STATEMENT_WORDS)?;
     if !names.is_empty() {
@@ -326,10 +334,7 @@ fn push_unknown_hint(
             ],
         );
     }
-    let Some(dictionary) = &sources.dictionary(alloc) else {
-        return Ok(());
-    };
-    push_nearest_attributes(help, &nearest_attributes(alloc, dictionary, name)?)
+    push_unknown_attribute(alloc, help, sources, name)
 }
 
 // Whether it is one of a server's codes that the profile leaves out.
@@ -343,22 +348,6 @@ fn is_server_code(word: &str) -> bool {
 // Whether a server has the attribute from a module when it starts.
 fn is_of_module(name: &str) -> bool {
     name.eq_ignore_ascii_case("LDAP-Group") || name.eq_ignore_ascii_case("SQL-Group")
-}
-
-/// Adds the names that may have been meant.
-pub(crate) fn push_nearest_attributes(
-    help: &mut Vec<u8>,
-    names: &[&str],
-) -> Result<(), AllocError> {
-    if names.is_empty() {
-        return push_all(
-            help,
-            &["give the dictionary file that has its ATTRIBUTE line, and include it\n"],
-        );
-    }
-    push_all(help, &["write "])?;
-    push_choices(help, names)?;
-    push_all(help, &["\n"])
 }
 
 // What was found, and what to do, by the fault's kind.

@@ -1,9 +1,8 @@
 //! Help for faults of request lines.
 
 use crate::allowances::push_unread_profile;
-use crate::names::nearest_attributes;
+use crate::names::push_unknown_attribute;
 use crate::places::{first_line, line_start, push_place};
-use crate::policies::push_nearest_attributes;
 use crate::policy_tokens::text_of;
 use crate::sources::{Source, Sources};
 use crate::texts::push_all;
@@ -49,10 +48,7 @@ fn push_unknown(
     if name.contains(":") {
         return push_all(help, &[tag_hint(sources.request_profile())]);
     }
-    if let Some(dictionary) = &sources.dictionary(alloc) {
-        push_nearest_attributes(help, &nearest_attributes(alloc, dictionary, name)?)?;
-    }
-    Ok(())
+    push_unknown_attribute(alloc, help, sources, name)
 }
 
 // What was found, and what to do, by the fault's kind.

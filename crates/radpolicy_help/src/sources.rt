@@ -19,6 +19,7 @@ pub struct Sources<'a> {
     pub files: &'a FileSet,
     /// The paths of the dictionary files.
     pub dictionaries: &'a [&'a str],
+    /// The request, or the list with which a run is to begin, whose lines are explained.
     pub request: Source<'a>,
     pub policy: Source<'a>,
     pub script: Source<'a>,

@@ -87,18 +87,19 @@ pub(crate) fn tag_hint(profile: Profile) -> &'static str {
     }
 }
 
-// Adds the VALUE names that may have been meant.
+// Adds the VALUE names that may have been meant, after these words.
 fn push_values(
     alloc: Global,
     help: &mut Vec<u8>,
     sources: &Sources<'_>,
     name: &str,
     value: &str,
+    words: &str,
 ) -> Result<(), AllocError> {
     let names = value_names(alloc, sources.files, name)?;
     let shown = shown_values(alloc, &names, value)?;
     if !shown.is_empty() {
-        push_all(help, &["write "])?;
+        push_all(help, &[words])?;
         push_choices(help, &shown)?;
         push_all(help, &["\n"])?;
     }
@@ -144,7 +145,6 @@ pub(crate) fn push_not_value(
         },
         None => push_all(help, &["of another form\n"])?,
     }
-    push_values(alloc, help, sources, name, value)?;
     if name == "Auth-Type" {
         push_all(
             help,
@@ -154,6 +154,7 @@ pub(crate) fn push_not_value(
                 " 3000\n",
             ],
         )?;
+        return push_values(alloc, help, sources, name, value, "or write ");
     }
-    Ok(())
+    push_values(alloc, help, sources, name, value, "write ")
 }

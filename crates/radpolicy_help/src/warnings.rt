@@ -5,12 +5,13 @@ ghost use Rattle.radpolicy_common.specs.VisibleText.{all_visible};
 ghost use Rattle.radpolicy_common.specs.declared.terminals.LineBreaks.TheVariants.{Kept};
 
 use crate::allowances::{Allowance, allowances, unread_profile};
+use crate::groupings::regrouped;
 use crate::sources::Sources;
 use crate::texts::{push_all, push_number};
 use crate::watching::Watcher;
 use avp_dict::Dictionary;
 use avp_forms::{Profile, profile_of};
-use avp_unlang::{Policy, read_policy};
+use avp_unlang::{Policy, line_after, read_policy};
 use policy_warnings::{Reason, Warning, count_warnings, repeated_conditions, warnings_of};
 use radpolicy_common::{LineBreaks, visible_text};
 use std::alloc::{AllocError, Global};
@@ -41,6 +42,13 @@ const ABSENT_COMPARISON: Advice = Advice {
     found: "a comparison with an attribute that may be absent",
     server: "where it is absent a server takes the whole condition as false, and here the rest goes on",
     hint: "ask for the attribute first, as in &Name && &Name != 1",
+};
+
+const GROUPING: Advice = Advice {
+    name: "grouping",
+    found: "a || after an && without parentheses",
+    server: "a server groups to the right, as a && (b || c), and here && binds closer, as (a && b) || c",
+    hint: "write parentheses round what belongs together",
 };
 
 const EMPTY_UPDATE: Advice = Advice {
@@ -130,17 +138,30 @@ fn add_warned(found: &mut Vec<Finding>, warnings: &[Warning]) -> Result<(), Allo
     Ok(())
 }
 
+// The findings of conditions that a server groups otherwise.
+fn add_regrouped(alloc: Global, found: &mut Vec<Finding>, text: &[u8]) -> Result<(), AllocError> {
+    for offset in &regrouped(alloc, text)? {
+        found.push(Finding {
+            line: line_after(text.get(..*offset).unwrap_or(text)),
+            advice: GROUPING,
+        })?;
+    }
+    Ok(())
+}
+
 // What a policy has, by its lines, whatever its comments allow.
 fn all_findings(
     alloc: Global,
     dictionary: &Dictionary,
     policy: &Policy,
+    text: &[u8],
 ) -> Result<Vec<Finding>, AllocError> {
     let statements = policy.statements().as_slice();
     let mut found = Vec::new(alloc);
     add_warned(&mut found, &warnings_of(alloc, statements)?)?;
     add_warned(&mut found, &count_warnings(alloc, statements)?)?;
     add_warned(&mut found, &repeated_conditions(alloc, statements)?)?;
+    add_regrouped(alloc, &mut found, text)?;
     Watcher::new(alloc, dictionary)?.add_block(&mut found, statements)?;
     found.sort_by_key(|finding| finding.line)?;
     Ok(found)
@@ -181,7 +202,7 @@ pub fn findings(
     policy: &Policy,
     text: &[u8],
 ) -> Result<Vec<Finding>, AllocError> {
-    let all = all_findings(alloc, dictionary, policy)?;
+    let all = all_findings(alloc, dictionary, policy, text)?;
     let allowances = allowances(alloc, text)?;
     let mut found = Vec::new(alloc);
     for finding in &all {

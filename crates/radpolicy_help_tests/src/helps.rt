@@ -3,7 +3,8 @@
 use avp_dict::FileSet;
 use radpolicy::{Fault, WriteOutput};
 use radpolicy_help::{
-    Source, Sources, explain, explain_unread, explain_words, point_at, print_with_help,
+    Source, Sources, explain, explain_name, explain_unread, explain_words, point_at,
+    print_with_help,
 };
 use samples::{TEST_DICTIONARY, one_file};
 use std::alloc::Global;
@@ -69,6 +70,18 @@ fn finds_near_names(rt: HostRuntime) -> Result<(), Fail> {
     assert!(rt; has(&help, "\nwrite Session-Timeout\n"));
     let help = policy_help(alloc, b"update reply {\n\tService-Type := Login\n}")?;
     assert!(rt; has(&help, "\nwrite Login-User\n"));
+    Ok(())
+}
+
+#[test]
+fn finds_near_names_of_options(rt: HostRuntime) -> Result<(), Fail> {
+    let alloc = rt.alloc();
+    let dictionary = samples::test_dictionary(alloc)?;
+    let help = explain_name(alloc, &dictionary, "Session-Timeot")?;
+    assert_eq!(rt;
+        help.as_slice(),
+        b"no attribute has the name Session-Timeot\nwrite Session-Timeout\n".as_slice()
+    );
     Ok(())
 }
 

@@ -39,6 +39,20 @@ ask for the attribute first, as in &Name && &Name != 1
 }
 
 #[test]
+fn groupings(rt: HostRuntime) -> Result<(), Fail> {
+    let alloc = rt.alloc();
+    let otherwise =
+        b"if (&Class || ok) { ok }\nelsif (&Class && (&NAS-Port && ok || fail)) { ok }\n";
+    let text = warned(alloc, otherwise)?;
+    assert!(rt;
+        text.starts_with(b"rate:2: warning: a || after an && without parentheses [grouping]\n")
+    );
+    let alike = b"if (&Class || &NAS-Port && ok) { ok }\nif ((&Class && ok) || &NAS-Port) { ok }\n";
+    assert!(rt; warned(alloc, alike)?.is_empty());
+    Ok(())
+}
+
+#[test]
 fn comments_silence_warnings(rt: HostRuntime) -> Result<(), Fail> {
     let alloc = rt.alloc();
     let at_the_end = b"if (!(&NAS-Port == 1)) { # allow: absent-comparison\n reject\n}\n";

@@ -128,6 +128,11 @@ fn plan_of<'a>(alloc: Global, found: &ArgMatches<'a>) -> Result<Plan<'a>, Fault>
     })
 }
 
+// What is wrong with words that are options and their values, if they are refused.
+fn refusal_of(_found: &ArgMatches<'_>) -> &'static str {
+    "--format takes text, gcc or json\n"
+}
+
 /// What the words of a command line ask for; the program's name is the first word.
 pub fn read_words<'a, S: AsStr>(alloc: Global, words: &'a [S]) -> Result<Plan<'a>, Fault>
     ensures { IfErr result IsWordFault }
@@ -141,7 +146,7 @@ pub fn read_words<'a, S: AsStr>(alloc: Global, words: &'a [S]) -> Result<Plan<'a
 /// The help that the words of a command line ask for, or what is wrong with them.
 pub fn help_text<'a, S: AsStr>(alloc: Global, words: &'a [S]) -> Result<String, AllocError> {
     match program(alloc)?.try_get_matches_from(words) {
-        Ok(_) => String::from_str(alloc, ""),
+        Ok(found) => String::from_str(alloc, refusal_of(&found)),
         Err(error) => error.to_string(alloc),
     }
 }

@@ -12,7 +12,8 @@ use crate::command_line::{Plan, help_text, read_words};
 use crate::linting::{Found, Linter};
 use avp_dict::{Dictionary, FileSet};
 use radpolicy::{Fault, status};
-use radpolicy_common::{Unread, read_dictionary_set, read_file, refuse_early, refuse_unread};
+use radpolicy_common::{Unread, read_dictionary_set, read_file, refuse_early};
+use radpolicy_help::{refuse_unread_explained, refuse_words_of};
 use std::alloc::AllocError;
 use std::io;
 use std::process::ExitCode;
@@ -85,7 +86,7 @@ fn show(rt: &HostRuntime, found: &Found) -> u8 {
 fn lint_plan(rt: &HostRuntime, plan: &Plan<'_>) -> u8 {
     let files = match read_dictionary_set(rt, &plan.dictionaries) {
         Ok(files) => files,
-        Err(unread) => return refuse_unread(rt, unread),
+        Err(unread) => return refuse_unread_explained(rt, unread),
     };
     match found_in(rt, plan, &files) {
         Ok(found) => show(rt, &found),
@@ -107,7 +108,7 @@ fn lint_words(rt: &HostRuntime, words: &[String]) -> u8 {
     match read_words(rt.alloc(), words) {
         Ok(plan) => lint_plan(rt, &plan),
         Err(Fault::Help) => show_help(rt, words),
-        Err(fault) => refuse_early(rt, &fault),
+        Err(fault) => refuse_words_of(rt, &fault, "radpolicy-lint", help_text(rt.alloc(), words)),
     }
 }
 

@@ -226,6 +226,22 @@ fn plan_of<'a>(alloc: Global, found: &ArgMatches<'a>) -> Result<Plan<'a>, Fault>
     })
 }
 
+// What is wrong with words that are options and their values, if they are refused.
+fn refusal_of(found: &ArgMatches<'_>) -> &'static str {
+    if found.get_str(REQUEST).is_none() && found.get_str(SCRIPT).is_none() {
+        return "standard input is either the request or the commands: write -f REQUEST or --script SCRIPT\n";
+    }
+    match form_of(found) {
+        Ok(form) if record_of(found, form).is_ok() => {
+            "--zone takes what a zone is ahead of UTC, as +01:00\n"
+        }
+        Ok(_) => "--record takes a number from 1, and goes without --hex and --acct\n",
+        Err(_) => {
+            "--hex needs -S and the file that has the client's secret, and -S needs --hex; --acct goes without them\n"
+        }
+    }
+}
+
 /// What the words of a command line ask for; the program's name is the first word.
 pub fn read_words<'a, S: AsStr>(alloc: Global, words: &'a [S]) -> Result<Plan<'a>, Fault>
     ensures { IfErr result IsWordFault }
@@ -239,7 +255,7 @@ pub fn read_words<'a, S: AsStr>(alloc: Global, words: &'a [S]) -> Result<Plan<'a
 /// The help that the words of a command line ask for, or what is wrong with them.
 pub fn help_text<'a, S: AsStr>(alloc: Global, words: &'a [S]) -> Result<String, AllocError> {
     match program(alloc)?.try_get_matches_from(words) {
-        Ok(_) => String::from_str(alloc, ""),
+        Ok(found) => String::from_str(alloc, refusal_of(&found)),
         Err(error) => error.to_string(alloc),
     }
 }

@@ -21,6 +21,9 @@ use radpolicy_common::{
     Unread, read_dictionary_set, read_file, read_optional, read_standard_input, refuse,
     refuse_early, refuse_unread,
 };
+use radpolicy_help::{
+    STANDARD_INPUT, Source, Sources, refuse_explained, refuse_unread_explained, refuse_words_of,
+};
 use radpolicy_traffic::Record;
 use std::alloc::{AllocError, Global};
 use std::io;
@@ -225,21 +228,99 @@ fn walk_by(rt: &HostRuntime, plan: &Plan<'_>, form: Form, files: &Files) -> Resu
     Ok(status_of_ending(rt, ending))
 }
 
+fn octets_in(file: &Option<Octets>) -> &[u8] {
+    match file {
+        Some(octets) => octets.as_slice(),
+        None => &[],
+    }
+}
+
+// The name of the request in a place: that of its file, and the number of the record in it.
+fn request_name(alloc: Global, plan: &Plan<'_>) -> Result<String, AllocError> {
+    let path = plan.request.unwrap_or(STANDARD_INPUT);
+    match plan.record {
+        Some(number) => format!(in alloc; "{path} record {number}"),
+        None => format!(in alloc; "{path}"),
+    }
+}
+
+// The file whose lines a fault is of. A list's lines are in a file of their own, or in the request's record.
+fn lines_with<'a>(
+    plan: &Plan<'a>,
+    files: &'a Files,
+    request: &'a str,
+    fault: &Fault,
+) -> Source<'a> {
+    let (path, text) = match fault {
+        Fault::Reply(_) => (plan.reply, octets_in(&files.reply)),
+        Fault::Control(_) => (plan.control, octets_in(&files.control)),
+        _ => (None, files.request.as_slice()),
+    };
+    Source {
+        path: path.unwrap_or(request),
+        text,
+    }
+}
+
+// The files of a plan. The request is that, or the list, whose lines a fault is of.
+fn sources_of<'a>(
+    plan: &'a Plan<'a>,
+    files: &'a Files,
+    request: &'a str,
+    fault: &Fault,
+) -> Sources<'a> {
+    Sources {
+        files: &files.dictionary,
+        dictionaries: &plan.dictionaries,
+        request: lines_with(plan, files, request, fault),
+        is_request_wider: true,
+        policy: Source {
+            path: plan.policy,
+            text: files.policy.as_slice(),
+        },
+        script: Source {
+            path: "",
+            text: &[],
+        },
+        secret: plan.secret.unwrap_or(""),
+    }
+}
+
+// Refuses what is in the files.
+fn refuse_files(rt: &HostRuntime, plan: &Plan<'_>, files: &Files, fault: &Fault) -> u8
+    requires { IsPrintedWith files.now.dictionary fault.now }
+{
+    let Ok(request) = request_name(rt.alloc(), plan) else {
+        return refuse(rt, fault, &files.dictionary);
+    };
+    let sources = sources_of(plan, files, request.as_str(), fault);
+    refuse_explained(rt, fault, &files.dictionary, &sources)
+}
+
+// What is said of the number of a record that is not read.
+fn record_text(alloc: Global, plan: &Plan<'_>) -> Result<String, AllocError> {
+    let request = request_name(alloc, plan)?;
+    format!(in alloc; "there is no {request}, or it is no request whose lines are all there\n")
+}
+
 fn walk_plan(rt: &HostRuntime, plan: &Plan<'_>) -> u8 {
     let mut files = match read_files(rt, plan) {
         Ok(files) => files,
-        Err(unread) => return refuse_unread(rt, unread),
+        Err(unread) => return refuse_unread_explained(rt, unread),
     };
     let form = match plan.record {
         Some(number) => match take_record(rt.alloc(), &mut files, number) {
             Ok(form) => form,
-            Err(fault) => return refuse_early(rt, &fault),
+            Err(fault) => {
+                let said = record_text(rt.alloc(), plan);
+                return refuse_words_of(rt, &fault, "radpolicy-walk", said);
+            }
         },
         None => plan.form,
     };
     match walk_by(rt, plan, form, &files) {
         Ok(status) => status,
-        Err(fault) => refuse(rt, &fault, &files.dictionary),
+        Err(fault) => refuse_files(rt, plan, &files, &fault),
     }
 }
 
@@ -257,7 +338,7 @@ fn walk_words(rt: &HostRuntime, words: &[String]) -> u8 {
     match read_words(rt.alloc(), words) {
         Ok(plan) => walk_plan(rt, &plan),
         Err(Fault::Help) => show_help(rt, words),
-        Err(fault) => refuse_early(rt, &fault),
+        Err(fault) => refuse_words_of(rt, &fault, "radpolicy-walk", help_text(rt.alloc(), words)),
     }
 }
 

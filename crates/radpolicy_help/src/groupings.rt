@@ -1,0 +1,57 @@
+//! Conditions that a server groups otherwise. A tree has no parentheses, so they are looked for in the text.
+
+use crate::policy_tokens::{Token, tokens};
+use policy_warnings::{Joint, regroups};
+use std::alloc::{AllocError, Global};
+
+// The signs between the conditions of each open parenthesis, and where the last `if` or `elsif` is.
+#[derive(Drop)]
+struct Levels {
+    alloc: Global,
+    open: Vec<Vec<Joint>>,
+    begin: usize,
+}
+
+impl Levels {
+    fn add(&mut self, joint: Joint) -> Result<(), AllocError> {
+        if let Some(level) = self.open.last_mut() {
+            level.push(joint)?;
+        }
+        Ok(())
+    }
+
+    // Reads a token, and says whether it closes a parenthesis within which a server groups otherwise.
+    fn read(&mut self, token: &Token<'_>) -> Result<bool, AllocError> {
+        match token.text() {
+            "if" | "elsif" => self.begin = token.offset,
+            "(" => self.open.push(Vec::new(self.alloc))?,
+            "&&" => self.add(Joint::And)?,
+            "||" => self.add(Joint::Or)?,
+            ")" => {
+                return Ok(match self.open.pop() {
+                    Some(level) => regroups(&level),
+                    None => false,
+                });
+            }
+            _ => {}
+        }
+        Ok(false)
+    }
+}
+
+/// Where the `if` or `elsif` is of each condition that a server groups otherwise: how many octets of the policy's text
+/// are before it.
+pub(crate) fn regrouped(alloc: Global, text: &[u8]) -> Result<Vec<usize>, AllocError> {
+    let mut levels = Levels {
+        alloc,
+        open: Vec::new(alloc),
+        begin: 0,
+    };
+    let mut found = Vec::new(alloc);
+    for token in &tokens(alloc, text)? {
+        if levels.read(token)? && found.last() != Some(&levels.begin) {
+            found.push(levels.begin)?;
+        }
+    }
+    Ok(found)
+}
