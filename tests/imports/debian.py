@@ -48,10 +48,14 @@ def dictionary_words(folder: Path) -> List[str]:
     return [f"--dict={path}" for path in [main, *sorted(folder.glob("dictionary.*"))]]
 
 
-def faults_of(subject: Subject, raddb: Path, dictionaries: Path, words: List[str]) -> Tuple[List[str], Tuple[int, int]]:
+def faults_of(
+    subject: Subject, raddb: Path, dictionaries: Path, words: List[str], with_others: bool
+) -> Tuple[List[str], Tuple[int, int]]:
     """What is wrong with one import, and how many statements it kept and read."""
     with new_folder() as folder:
-        policy = folder / "policy"
+        policy, others = folder / "policy", folder / "dictionary.others"
+        if with_others:
+            words = [*words, "--dictionary", str(others)]
         command = [subject.driver("radpolicy_import"), *words, "-o", policy, *dictionary_words(dictionaries), raddb]
         ended = run(command, folder)
         if ended.status == 2 and b"E02" in ended.errors:
@@ -65,6 +69,8 @@ def faults_of(subject: Subject, raddb: Path, dictionaries: Path, words: List[str
         lines = [line for line in policy.read_bytes().splitlines() if line != PROFILE]
         faults += [f"{words}: {line!r}" for line in lines if not ORIGIN.search(line)]
         names = [path.split("=", 1)[1] for path in dictionary_words(dictionaries)]
+        if with_others:
+            names = [str(others), *names]
         checked = run([subject.program, "check", "--policy", policy, *names], folder)
         if checked.status:
             faults.append(f"{words}: {checked.errors!r}")
@@ -79,10 +85,12 @@ def check(subject: Subject, report: Report) -> None:
         report.say(f"imports of Debian: left out, {raddb}/radiusd.conf or {dictionaries} is not there")
         return
     for title, asked in (("sections", words_of_servers()), ("policies", words_of_policies(raddb))):
-        found = on_all(lambda one: faults_of(subject, raddb, dictionaries, one[1]), asked)
-        report.check(f"{title} of Debian imported", [fault for faults, _ in found for fault in faults])
-        for (name, _), (_, (kept, read)) in zip(asked, found):
-            if read:
-                report.say(f"    {name}: {kept} of {read}")
-        kept, read = (sum(counts[part] for _, counts in found) for part in (0, 1))
-        report.say(f"{title} of Debian: {kept} of {read} statements kept")
+        for with_others in (False, True):
+            told = f"{title} of Debian" + (" with other lists" if with_others else "")
+            found = on_all(lambda one: faults_of(subject, raddb, dictionaries, one[1], with_others), asked)
+            report.check(f"{told} imported", [fault for faults, _ in found for fault in faults])
+            for (name, _), (_, (kept, read)) in zip(asked, found):
+                if read:
+                    report.say(f"    {name}: {kept} of {read}")
+            kept, read = (sum(counts[part] for _, counts in found) for part in (0, 1))
+            report.say(f"{told}: {kept} of {read} statements kept")

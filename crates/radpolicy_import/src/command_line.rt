@@ -7,7 +7,7 @@ use avp_forms::Profile;
 use clap::error::ErrorKind;
 use clap::{Arg, ArgAction, ArgMatches};
 use radpolicy::Fault;
-use radpolicy_import_policies::Meaning;
+use radpolicy_import_policies::{Meaning, Stubs};
 use std::alloc::{AllocError, Global};
 use std::convert::AsStr;
 
@@ -21,6 +21,10 @@ const MODULE: &str = "module";
 
 const DICTIONARY: &str = "dict";
 
+const OWN_DICTIONARY: &str = "dictionary";
+
+const STUB_FUNCTIONS: &str = "stub-functions";
+
 const OUTPUT: &str = "output";
 
 const PLAIN: &str = "plain";
@@ -30,6 +34,8 @@ const PAPERS: &str = "papers";
 const CHECK: &str = "check";
 
 const STRICT: &str = "strict";
+
+const JSON: &str = "json";
 
 const CONFIGURATION: &str = "configuration";
 
@@ -44,11 +50,17 @@ pub struct Plan<'a> {
     pub modules: Vec<&'a str>,
     /// Dictionary files, the main one first; none for those of a server.
     pub dictionaries: Vec<&'a str>,
+    /// Where the dictionary of attributes of other lists is written.
+    pub own_dictionary: Option<&'a str>,
+    /// Which expansions it has attributes for.
+    pub stubs: Stubs,
     pub output: Option<&'a str>,
     pub meaning: Meaning,
     pub profile: Profile,
     pub only_checks: bool,
     pub strict: bool,
+    /// Whether the report is JSON, an object a line.
+    pub is_json: bool,
     /// A server's folder, or files.
     pub configuration: Vec<&'a str>,
 }
@@ -127,6 +139,17 @@ fn program<'a>(alloc: Global) -> Result<clap::Command<'a>, AllocError> {
             "DICTIONARY",
             "A dictionary file, the main one first; without it those in /usr/share/freeradius",
         ))?
+        .arg(valued(
+            alloc,
+            OWN_DICTIONARY,
+            "OUT",
+            "Makes attributes of control of those of other lists, and of what expansions ask, and writes their dictionary",
+        ))?
+        .arg(flag(
+            alloc,
+            STUB_FUNCTIONS,
+            "With --dictionary: takes the results of functions as given too",
+        ))?
         .arg(output_option(alloc))?
         .arg(flag(
             alloc,
@@ -140,6 +163,7 @@ fn program<'a>(alloc: Global) -> Result<clap::Command<'a>, AllocError> {
         ))?
         .arg(flag(alloc, CHECK, "Writes the report alone"))?
         .arg(flag(alloc, STRICT, "Ends with status 1 where a part is left out"))?
+        .arg(flag(alloc, JSON, "Writes the report as JSON, an object a line"))?
         .arg(configuration_files(alloc))
 }
 
@@ -173,6 +197,14 @@ fn meaning(found: &ArgMatches<'_>) -> Meaning {
     }
 }
 
+fn stubs(found: &ArgMatches<'_>) -> Stubs {
+    if found.get_flag(STUB_FUNCTIONS) {
+        Stubs::Functions
+    } else {
+        Stubs::Asking
+    }
+}
+
 fn profile(found: &ArgMatches<'_>) -> Profile {
     if found.get_flag(PAPERS) {
         Profile::Plain
@@ -191,17 +223,34 @@ fn plan_of<'a>(alloc: Global, found: &ArgMatches<'a>) -> Result<Plan<'a>, Fault>
         policy: found.get_str(POLICY),
         modules: all_of(alloc, found, MODULE)?,
         dictionaries: all_of(alloc, found, DICTIONARY)?,
+        own_dictionary: found.get_str(OWN_DICTIONARY),
+        stubs: stubs(found),
         output: found.get_str(OUTPUT),
         meaning: meaning(found),
         profile: profile(found),
         only_checks: found.get_flag(CHECK),
         strict: found.get_flag(STRICT),
+        is_json: found.get_flag(JSON),
         configuration: all_of(alloc, found, CONFIGURATION)?,
     };
     if plan.only_checks && plan.output.is_some() || plan.policy.is_some() && plan.server.is_some() {
         return Err(Fault::Usage);
     }
+    if plan.stubs == Stubs::Functions && plan.own_dictionary.is_none() {
+        return Err(Fault::Usage);
+    }
     Ok(plan)
+}
+
+// What is wrong with words that are options and their values, if they are refused.
+fn refusal_of(found: &ArgMatches<'_>) -> &'static str {
+    if found.get_flag(CHECK) && found.get_str(OUTPUT).is_some() {
+        "--check writes no policy, so it goes without -o\n"
+    } else if found.get_flag(STUB_FUNCTIONS) && found.get_str(OWN_DICTIONARY).is_none() {
+        "--stub-functions goes with --dictionary, which defines what is in their place\n"
+    } else {
+        "a named policy is no part of a server: --policy goes without --server\n"
+    }
 }
 
 /// What the words of a command line ask for; the program's name is the first word.
@@ -217,7 +266,7 @@ pub fn read_words<'a, S: AsStr>(alloc: Global, words: &'a [S]) -> Result<Plan<'a
 /// The help that the words of a command line ask for, or what is wrong with them.
 pub fn help_text<'a, S: AsStr>(alloc: Global, words: &'a [S]) -> Result<String, AllocError> {
     match program(alloc)?.try_get_matches_from(words) {
-        Ok(_) => String::from_str(alloc, ""),
+        Ok(found) => String::from_str(alloc, refusal_of(&found)),
         Err(error) => error.to_string(alloc),
     }
 }

@@ -2,6 +2,7 @@
 #![tactic(auto)]
 
 mod command_line;
+mod json_reports;
 mod reports;
 mod sources;
 
@@ -10,15 +11,20 @@ ghost use Rattle.avp_dict.specs.Lines.{HasDistinctNames};
 ghost use Rattle.radpolicy.specs.Faults.{IsPrintedAnywhere, IsPrintedWith};
 
 use crate::command_line::{Plan, help_text, read_words};
-use crate::reports::{show_fault, show_report, write_policy};
-use crate::sources::{FIRST, NamedFiles, first_file, main_file, read_modules, system_dictionaries};
+use crate::reports::{show_fault, show_others, show_report, write_file, write_policy};
+use crate::sources::{
+    FIRST, NamedFiles, first_file, main_file, read_modules, system_dictionaries, with_main,
+};
 use avp_dict::{Dictionary, FileSet};
 use avp_forms::Profile;
+use avp_unlang::Items;
 use radpolicy::{Fault, status};
-use radpolicy_common::{Unread, read_dictionary_set, refuse, refuse_early, refuse_unread};
+use radpolicy_common::{read_dictionary_set, refuse, refuse_early};
+use radpolicy_help::{Sources, refuse_explained, refuse_unread_explained, refuse_words_of};
 use radpolicy_import_policies::{
-    ImportFault, Imported, Module, Settings, Wanted, import_statements, policy_of, section_of,
-    statements_of,
+    ImportFault, Imported, Module, OtherAttribute, Settings, Statement, Wanted, import_statements,
+    keeps_names, other_attributes, other_dictionary, policy_of, section_of, statements_of,
+    unset_attributes,
 };
 use server_configuration::{Configuration, ConfigurationFault, SystemFiles, read_configuration};
 use std::alloc::{AllocError, Global};
@@ -64,35 +70,52 @@ fn fault_of_import(fault: ImportFault) -> Fault
     }
 }
 
-// The policy of the section that is meant; none where there is no such section.
-fn imported(
+// The statements of the section that is meant; none where there is no such section.
+fn statements_meant(
     alloc: Global,
     plan: &Plan<'_>,
     configuration: &Configuration,
-    dictionary: &Dictionary,
-    modules: &[Module],
-) -> Result<Option<Imported>, ImportFault> {
+) -> Result<Option<Items<Statement>>, ImportFault> {
     let Some(place) = place_of(configuration, plan) else {
         return Ok(None);
     };
     let statements = statements_of(alloc, configuration, place, wanted(plan).section)?;
-    let statements = statements.as_slice();
+    Ok(Some(statements))
+}
+
+/// What is imported.
+#[derive(Clone, Copy)]
+struct Import<'a, 'p> {
+    plan: &'a Plan<'p>,
+    configuration: &'a Configuration,
+    modules: &'a [Module],
+    statements: &'a [Statement],
+}
+
+// The policy of the statements.
+fn imported(
+    alloc: Global,
+    import: &Import<'_, '_>,
+    dictionary: &Dictionary,
+    others: &[OtherAttribute],
+) -> Result<Imported, ImportFault> {
+    let (configuration, statements) = (import.configuration, import.statements);
     let settings = Settings {
-        meaning: plan.meaning,
-        profile: plan.profile,
-        modules,
+        meaning: import.plan.meaning,
+        profile: import.plan.profile,
+        modules: import.modules,
+        others,
     };
     match import_statements(alloc, configuration, dictionary, settings, statements) {
         // Should a statement not be one of the wider profile, lines that need it are left out.
-        Err(ImportFault::Policy(_)) if plan.profile == Profile::Wider => {
+        Err(ImportFault::Policy(_)) if settings.profile == Profile::Wider => {
             let settings = Settings {
                 profile: Profile::Plain,
                 ..settings
             };
-            let made = import_statements(alloc, configuration, dictionary, settings, statements)?;
-            Ok(Some(made))
+            import_statements(alloc, configuration, dictionary, settings, statements)
         }
-        made => Ok(Some(made?)),
+        made => made,
     }
 }
 
@@ -116,7 +139,7 @@ fn show(
     if !plan.only_checks && write_policy(rt, plan.output, &imported.text).is_err() {
         return refuse_early(rt, &Fault::Write);
     }
-    if show_report(rt, configuration, imported).is_err() {
+    if show_report(rt, plan.is_json, configuration, imported).is_err() {
         return refuse_early(rt, &Fault::Memory);
     }
     if plan.strict && !imported.left_out.is_empty() {
@@ -143,6 +166,98 @@ fn read_named(
     })
 }
 
+// Refuses the path of a dictionary whose name one of the others has, or by which names would not stay what they were.
+fn refuse_dictionary(rt: &HostRuntime, path: &str) -> u8 {
+    let fault = Fault::OptionValue;
+    let _ = eprintln!(rt; "radpolicy: E02 {path}: {fault}");
+    status(&fault)
+}
+
+// Writes the dictionary of other lists, then the policy and the report, and gives the status.
+fn show_with_others(
+    rt: &HostRuntime,
+    import: &Import<'_, '_>,
+    path: &str,
+    text: &[u8],
+    imported: &Imported,
+    unset: &[&OtherAttribute],
+    count: usize,
+) -> u8 {
+    if !import.plan.only_checks && write_file(rt, path, text).is_err() {
+        return refuse_early(rt, &Fault::Write);
+    }
+    let status = show(rt, import.plan, import.configuration, imported);
+    if show_others(rt, import.plan.is_json, path, count, unset).is_err() {
+        return refuse_early(rt, &Fault::Memory);
+    }
+    status
+}
+
+// The import with the attributes of other lists as attributes of control.
+fn import_others(
+    rt: &HostRuntime,
+    import: &Import<'_, '_>,
+    path: &str,
+    files: &FileSet,
+    dictionary: &Dictionary,
+) -> Result<u8, ImportFault> {
+    let alloc = rt.alloc();
+    let (configuration, statements) = (import.configuration, import.statements);
+    let stubs = import.plan.stubs;
+    let others = other_attributes(alloc, configuration, dictionary, stubs, statements)?;
+    let text = other_dictionary(alloc, files, dictionary, &others)?;
+    let all = with_main(alloc, path, &text, files)?;
+    if all.is_empty() || !all.has_distinct_names() {
+        return Ok(refuse_dictionary(rt, path));
+    }
+    let own = match dictionary_of(alloc, &all) {
+        Ok(own) => own,
+        Err(fault) => return Ok(refuse(rt, &fault, &all)),
+    };
+    if !keeps_names(dictionary, &own) {
+        return Ok(refuse_dictionary(rt, path));
+    }
+    let imported = imported(alloc, import, &own, &others)?;
+    let unset = unset_attributes(alloc, &own, &imported.policy, &others)?;
+    let status = show_with_others(rt, import, path, &text, &imported, &unset, others.len());
+    Ok(status)
+}
+
+fn dictionary_of(alloc: Global, files: &FileSet) -> Result<Dictionary, Fault>
+    requires first { 0 < length files.now }
+    requires distinct { HasDistinctNames files.now }
+    ensures { IfErr result (IsPrintedWith files.now) }
+{
+    Ok(Dictionary::read(alloc, files)?)
+}
+
+fn import_alone(
+    rt: &HostRuntime,
+    import: &Import<'_, '_>,
+    dictionary: &Dictionary,
+) -> Result<u8, ImportFault> {
+    let imported = imported(rt.alloc(), import, dictionary, &[])?;
+    Ok(show(rt, import.plan, import.configuration, &imported))
+}
+
+fn import_statements_meant(
+    rt: &HostRuntime,
+    import: &Import<'_, '_>,
+    files: &FileSet,
+    dictionary: &Dictionary,
+) -> Result<u8, Fault>
+    ensures { IfErr result IsPrintedAnywhere }
+{
+    let made = match import.plan.own_dictionary {
+        Some(path) => import_others(rt, import, path, files, dictionary),
+        None => import_alone(rt, import, dictionary),
+    };
+    match made {
+        Ok(status) => Ok(status),
+        Err(fault) => Err(fault_of_import(fault)),
+    }
+}
+
 fn import_by(
     rt: &HostRuntime,
     plan: &Plan<'_>,
@@ -153,7 +268,7 @@ fn import_by(
     requires distinct { HasDistinctNames files.now }
     ensures { IfErr result (IsPrintedWith files.now) }
 {
-    let dictionary = Dictionary::read(rt.alloc(), files)?;
+    let dictionary = dictionary_of(rt.alloc(), files)?;
     let configuration = match read_named(rt, plan)? {
         Ok(configuration) => configuration,
         Err(fault) => {
@@ -161,25 +276,44 @@ fn import_by(
             return Ok(status(&Fault::OptionValue));
         }
     };
-    match imported(rt.alloc(), plan, &configuration, &dictionary, modules) {
-        Ok(Some(imported)) => Ok(show(rt, plan, &configuration, &imported)),
-        Ok(None) => Ok(refuse_section(rt, plan)),
-        Err(fault) => Err(fault_of_import(fault)),
+    let statements = match statements_meant(rt.alloc(), plan, &configuration) {
+        Ok(Some(statements)) => statements,
+        Ok(None) => return Ok(refuse_section(rt, plan)),
+        Err(fault) => return Err(fault_of_import(fault)),
+    };
+    let import = Import {
+        plan,
+        configuration: &configuration,
+        modules,
+        statements: statements.as_slice(),
+    };
+    import_statements_meant(rt, &import, files, &dictionary)
+}
+
+// Refuses an import. A fault of the policy is in what was made, which is no file.
+fn refuse_import(rt: &HostRuntime, dictionaries: &[&str], files: &FileSet, fault: &Fault) -> u8
+    requires { IsPrintedWith files.now fault.now }
+{
+    match fault {
+        Fault::Dictionary(_) => {
+            refuse_explained(rt, fault, files, &Sources::of_files(files, dictionaries))
+        }
+        _ => refuse(rt, fault, files),
     }
 }
 
 fn import_with<'p, 'd>(rt: &HostRuntime, plan: &Plan<'p>, dictionaries: &[&'d str]) -> u8 {
     let modules = match read_modules(rt, plan) {
         Ok(modules) => modules,
-        Err(unread) => return refuse_unread(rt, unread),
+        Err(unread) => return refuse_unread_explained(rt, unread),
     };
     let files = match read_dictionary_set(rt, dictionaries) {
         Ok(files) => files,
-        Err(unread) => return refuse_unread(rt, unread),
+        Err(unread) => return refuse_unread_explained(rt, unread),
     };
     match import_by(rt, plan, &files, &modules) {
         Ok(status) => status,
-        Err(fault) => refuse(rt, &fault, &files),
+        Err(fault) => refuse_import(rt, dictionaries, &files, &fault),
     }
 }
 
@@ -222,7 +356,7 @@ fn import_words(rt: &HostRuntime, words: &[String]) -> u8 {
     match read_words(rt.alloc(), words) {
         Ok(plan) => import_plan(rt, &plan),
         Err(Fault::Help) => show_help(rt, words),
-        Err(fault) => refuse_early(rt, &fault),
+        Err(fault) => refuse_words_of(rt, &fault, "radpolicy-import", help_text(rt.alloc(), words)),
     }
 }
 

@@ -1,6 +1,8 @@
 //! What the program writes.
 
-use radpolicy_import_policies::{Imported, LeftOut, push_origin};
+use crate::json_reports::{json_others, json_report};
+use radpolicy_common::{LineBreaks, visible_text};
+use radpolicy_import_policies::{Imported, LeftOut, OtherAttribute, OtherSource, push_origin};
 use server_configuration::{Configuration, ConfigurationFault};
 use std::alloc::{AllocError, Global};
 use std::{fs, io};
@@ -44,10 +46,55 @@ fn report(
 /// Writes the report to standard error.
 pub fn show_report(
     rt: &HostRuntime,
+    is_json: bool,
     configuration: &Configuration,
     imported: &Imported,
 ) -> Result<(), AllocError> {
-    let text = report(rt.alloc(), configuration, imported)?;
+    let text = if is_json {
+        json_report(rt.alloc(), configuration, imported)?
+    } else {
+        report(rt.alloc(), configuration, imported)?
+    };
+    let _ = rt.stderr().write_all(&text);
+    Ok(())
+}
+
+// How many attributes the dictionary has, and those that no line sets.
+fn others_text(
+    alloc: Global,
+    path: &str,
+    count: usize,
+    unset: &[&OtherAttribute],
+) -> Result<Vec<u8>, AllocError> {
+    let head = format!(in alloc; "{path}: {count} attributes\n")?;
+    let mut out = Vec::from_slice(alloc, head.as_bytes())?;
+    for other in unset {
+        let begin = format!(in alloc; "{path}: set by no line of the policy: &control:")?;
+        out.extend_from_slice(begin.as_bytes())?;
+        out.extend_from_slice(&other.own)?;
+        if let OtherSource::Asked(text) = &other.source {
+            out.extend_from_slice(b" for %{")?;
+            out.extend_from_slice(&visible_text(alloc, text, LineBreaks::Escaped)?)?;
+            out.push(b'}')?;
+        }
+        out.push(b'\n')?;
+    }
+    Ok(out)
+}
+
+/// Writes what is to be known of the attributes that the dictionary defines to standard error.
+pub fn show_others(
+    rt: &HostRuntime,
+    is_json: bool,
+    path: &str,
+    count: usize,
+    unset: &[&OtherAttribute],
+) -> Result<(), AllocError> {
+    let text = if is_json {
+        json_others(rt.alloc(), path, unset)?
+    } else {
+        others_text(rt.alloc(), path, count, unset)?
+    };
     let _ = rt.stderr().write_all(&text);
     Ok(())
 }
@@ -59,8 +106,8 @@ pub fn show_fault(rt: &HostRuntime, fault: &ConfigurationFault) {
     let _ = eprintln!(rt; "radpolicy-import: {path}:{line}: {kind}");
 }
 
-// Beside the file, and then renamed, so that a file is there whole or not at all.
-fn write_file(rt: &HostRuntime, path: &str, text: &[u8]) -> io::Result<()> {
+/// Writes beside the file, and then renames, so that a file is there whole or not at all.
+pub fn write_file(rt: &HostRuntime, path: &str, text: &[u8]) -> io::Result<()> {
     let alloc = rt.alloc();
     let beside = format!(in alloc; "{path}.new")?;
     fs::write(rt, beside.as_str(), text)?;

@@ -1,6 +1,8 @@
 //! The files that the words of the command line name.
 
 use crate::command_line::Plan;
+use avp_dict::{FileSet, NamedFile};
+use avp_lists::Octets;
 use avp_unlang::Code;
 use radpolicy_common::{Unread, read_file};
 use radpolicy_import_policies::{Module, ModuleAnswer};
@@ -130,4 +132,20 @@ pub fn read_modules<'a>(rt: &HostRuntime, plan: &Plan<'a>) -> Result<Vec<Module>
         modules.push(Module { name, answer })?;
     }
     Ok(modules)
+}
+
+/// The files of a set, with another in front of them: its main file.
+pub fn with_main(
+    alloc: Global,
+    path: &str,
+    text: &[u8],
+    files: &FileSet,
+) -> Result<FileSet, AllocError> {
+    let mut all = Vec::new(alloc);
+    all.push(NamedFile::at(alloc, path, Octets::from_slice(alloc, text)?)?)?;
+    for file in files.as_slice() {
+        let (name, octets) = (file.name.copy(alloc)?, file.octets.copy(alloc)?);
+        all.push(NamedFile { name, octets })?;
+    }
+    Ok(FileSet::from_vec(all))
 }

@@ -1,10 +1,9 @@
 -- The branches of a chain are taken where a server takes their cases.
-use Rattle.std.proofs.Common.{◌≡◌, ℕ, ◌+◌, Bool, true, false, List, [], ◌∷◌, Option, Some, None, refl, sym, ap, ◌∙◌, cond}
+use Rattle.std.proofs.Common.{◌≡◌, ℕ, ◌+◌, List, [], ◌∷◌, Option, Some, None, refl, ap, ◌∙◌, cond}
 use Rattle.avp_lists.specs.declared.lists.State.{State}
-use Rattle.avp_unlang.specs.Truth.{is_met, truth}
+use Rattle.avp_unlang.specs.Truth.{is_met}
 use Rattle.avp_unlang.specs.declared.codes.Code.{Code}
 use Rattle.avp_unlang.specs.declared.tree.Comparison.{Comparison}
-use Rattle.avp_unlang.specs.declared.tree.Cond.TheVariants.{Compare}
 use Rattle.avp_unlang.proofs.Truths.{truth_compare}
 use Rattle.radpolicy_import_policies.specs.Switches.{chosen_case, first_case, first_true, is_case_met, is_default, or_else}
 use Rattle.radpolicy_import_policies.specs.internal.Branches.{branches_of}

@@ -1,6 +1,6 @@
 -- How many statements a statement is.
-use Rattle.std.proofs.Common.{◌≡◌, ℕ, ◌+◌, List, [], ◌∷◌, refl, map}
-use Rattle.radpolicy_import_policies.specs.Statements.{count, count_of, total, weighed, weight}
+use Rattle.std.proofs.Common.{◌≡◌, ℕ, ◌+◌}
+use Rattle.radpolicy_import_policies.specs.Statements.{count, count_of, weighed, weight}
 use Rattle.radpolicy_import_policies.specs.declared.statements.Statement.{Statement, out-Statement}
 use Rattle.radpolicy_import_policies.specs.declared.statements.Statement.TheFolds.{fold_out-Statement}
 

@@ -1,4 +1,5 @@
 pub mod Cases
 pub mod Counts
 pub mod FoundLines
+pub mod Prefixes
 pub mod Truths

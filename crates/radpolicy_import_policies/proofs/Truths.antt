@@ -1,6 +1,6 @@
 -- What our conditions come to, and a server's.
 use Rattle.std.proofs.Common.{◌≡◌, Bool, true, false, not, ◌&&◌, ◌||◌, ◌++◌, List, [], ◌∷◌, Option, Some, None, IsTrue, refl, sym, ap, ◌∙◌, cond, filter, is_some}
-use Rattle.std.specs.List.{list_any, list_all}
+use Rattle.std.specs.List.{list_any}
 use Rattle.std.specs.Option.{option_map}
 use Rattle.avp_lists.specs.Instances.{first_instance, front, has_id, has_instance}
 use Rattle.avp_lists.specs.States.{list_of}
@@ -10,9 +10,8 @@ use Rattle.avp_lists.specs.declared.pairs.Value.{Value}
 use Rattle.avp_lists.specs.declared.lists.List.{List as Name}
 use Rattle.avp_lists.specs.declared.lists.State.{State}
 use Rattle.avp_dict.specs.declared.entries.Kind.{Kind}
-use Rattle.avp_unlang.specs.Truth.{are_related, compared_with, first_value, is_met, same_code, truth, value_in}
+use Rattle.avp_unlang.specs.Truth.{are_related, compared_with, first_value, same_code, truth, value_in}
 use Rattle.avp_unlang.specs.declared.codes.Code.{Code}
-use Rattle.avp_unlang.specs.declared.tree.Comparand.{Comparand}
 use Rattle.avp_unlang.specs.declared.tree.Comparand.TheVariants as comparand
 use Rattle.avp_unlang.specs.declared.tree.Comparison.{Comparison}
 use Rattle.avp_unlang.specs.declared.tree.Cond.{Cond}

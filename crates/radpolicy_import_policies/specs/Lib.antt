@@ -1,5 +1,6 @@
 pub mod Conditions
 pub mod Imports
+pub mod KeptNames
 pub mod Origins
 pub mod Statements
 pub mod Switches

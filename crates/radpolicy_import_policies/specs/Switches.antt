@@ -4,7 +4,6 @@ use Rattle.avp_lists.specs.declared.lists.State.{State}
 use Rattle.avp_unlang.specs.Truth.{is_met, truth}
 use Rattle.avp_unlang.specs.declared.codes.Code.{Code}
 use Rattle.avp_unlang.specs.declared.tree.Comparison.{Comparison}
-use Rattle.avp_unlang.specs.declared.tree.Cond.TheVariants.{Compare}
 use Rattle.radpolicy_import_policies.specs.declared.switches.SwitchBranch.{SwitchBranch}
 use Rattle.radpolicy_import_policies.specs.declared.switches.SwitchChain.{SwitchChain}
 

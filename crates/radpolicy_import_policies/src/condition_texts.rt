@@ -3,11 +3,9 @@
 ghost use Rattle.std.specs.Prelude.{◌≤◌, length};
 
 use crate::reasons::{Reason, Refusal};
-use crate::references::{Reference, has_texts, kind_of, reference_in};
+use crate::references::{Names, Reference, has_texts, is_number, kind_of, reference_of};
 use crate::server_conditions::ServerCondition;
 use crate::texts::{sole_expansion, text_octets};
-use avp_dict::Dictionary;
-use avp_lists::List;
 use avp_unlang::{Code, Comparand, Comparison, Relation};
 use server_configuration::Quote;
 use std::alloc::Global;
@@ -28,11 +26,16 @@ pub(crate) struct Operand<'a> {
     pub(crate) octets: &'a [u8],
 }
 
-/// Reads conditions by a dictionary.
+const EMPTY: Operand<'static> = Operand {
+    quote: Quote::Single,
+    octets: b"",
+};
+
+/// Reads conditions by the names of attributes.
 #[derive(Clone, Copy)]
 pub(crate) struct ConditionReader<'a> {
     pub(crate) alloc: Global,
-    pub(crate) dictionary: &'a Dictionary,
+    pub(crate) names: Names<'a>,
     // Whether the last code is known.
     pub(crate) knows_code: bool,
 }
@@ -143,6 +146,16 @@ fn turned(relation: Relation) -> Relation {
     }
 }
 
+// Whether the empty text compares so with a text.
+fn meets_empty(relation: Relation, text: &[u8]) -> bool {
+    match relation {
+        Relation::Equal | Relation::AtLeast => text.is_empty(),
+        Relation::Differs | Relation::Less => !text.is_empty(),
+        Relation::AtMost => true,
+        Relation::Greater => false,
+    }
+}
+
 // The code of a word, unless policies do not have it.
 fn code_named(word: &[u8]) -> Result<Option<Code>, Reason> {
     match word {
@@ -178,19 +191,22 @@ impl<'a> ConditionReader<'a> {
         takes_words: bool,
     ) -> Result<Option<Reference<'b>>, Reason> {
         match operand.quote {
+            Quote::Bare if operand.octets.starts_with(b"%{") => {
+                Ok(sole_expansion(&self.names, operand.octets))
+            }
             Quote::Bare => {
                 if let Some(name) = operand.octets.strip_prefix(b"&") {
-                    return Ok(Some(reference_in(self.dictionary, List::Request, name)?));
+                    return Ok(Some(reference_of(&self.names, name)?));
                 }
                 if !takes_words {
                     return Ok(None);
                 }
-                match reference_in(self.dictionary, List::Request, operand.octets) {
+                match reference_of(&self.names, operand.octets) {
                     Ok(found) => Ok(Some(found)),
                     Err(_) => Ok(None),
                 }
             }
-            Quote::Double => Ok(sole_expansion(self.dictionary, operand.octets)),
+            Quote::Double => Ok(sole_expansion(&self.names, operand.octets)),
             Quote::Single | Quote::Back => Ok(None),
         }
     }
@@ -202,17 +218,18 @@ impl<'a> ConditionReader<'a> {
         relation: Relation,
         operand: Operand<'_>,
     ) -> Result<Comparison, Refusal> {
-        if !has_texts(self.dictionary, reference.named) {
+        if !has_texts(self.names.dictionary, reference.named) {
             return Err(Refusal::LeftOut(Reason::OctetsHere));
         }
-        let octets = text_octets(self.alloc, self.dictionary, operand.quote, operand.octets)?;
+        let octets = text_octets(self.alloc, &self.names, operand.quote, operand.octets)?;
         let value = self
+            .names
             .dictionary
             .value_of_text(self.alloc, reference.named, &octets)?;
         Ok(Comparison {
             list: reference.list,
             id: reference.named.id,
-            kind: kind_of(self.dictionary, reference.named),
+            kind: kind_of(self.names.dictionary, reference.named),
             relation,
             comparand: Comparand::Literal(value),
         })
@@ -225,8 +242,8 @@ impl<'a> ConditionReader<'a> {
         relation: Relation,
         other: &Reference<'_>,
     ) -> Result<Comparison, Refusal> {
-        let kind = kind_of(self.dictionary, reference.named);
-        if kind != kind_of(self.dictionary, other.named) {
+        let kind = kind_of(self.names.dictionary, reference.named);
+        if kind != kind_of(self.names.dictionary, other.named) {
             return Err(Refusal::LeftOut(Reason::OtherType));
         }
         Ok(Comparison {
@@ -238,7 +255,52 @@ impl<'a> ConditionReader<'a> {
         })
     }
 
-    /// The comparison of two operands.
+    // The comparison of what is in place of an expansion with a text. On a server that is a text always, the empty one
+    // where there is nothing.
+    fn asked_compared(
+        &self,
+        asked: &Reference<'_>,
+        relation: Relation,
+        operand: Operand<'_>,
+    ) -> Result<ServerCondition, Refusal> {
+        let text = text_octets(self.alloc, &self.names, operand.quote, operand.octets)?;
+        if is_number(&text) {
+            return Err(Refusal::LeftOut(Reason::ExpandedNumber));
+        }
+        let comparison = self.compared_with_text(asked, relation, operand)?;
+        let compare = Box::new(self.alloc, ServerCondition::Compare(comparison))?;
+        let present = ServerCondition::Present(asked.list, asked.named.id);
+        let present = Box::new(self.alloc, present)?;
+        if meets_empty(relation, &text) {
+            let absent = Box::new(self.alloc, ServerCondition::Not(present))?;
+            Ok(ServerCondition::Or(absent, compare))
+        } else {
+            Ok(ServerCondition::And(present, compare))
+        }
+    }
+
+    // The condition that a comparison of two operands is.
+    fn compared(
+        &self,
+        left: Operand<'_>,
+        relation: Relation,
+        right: Operand<'_>,
+    ) -> Result<ServerCondition, Refusal> {
+        let own = self.attribute(left, true)?;
+        let other = self.attribute(right, false)?;
+        match (own, other) {
+            (Some(own), None) if own.is_asked() => self.asked_compared(&own, relation, right),
+            (None, Some(other)) if other.is_asked() => {
+                self.asked_compared(&other, turned(relation), left)
+            }
+            _ => {
+                let comparison = self.comparison(left, relation, right)?;
+                Ok(ServerCondition::Compare(comparison))
+            }
+        }
+    }
+
+    /// The comparison of two operands, of which none is an expansion with something in its place.
     pub(crate) fn comparison(
         &self,
         left: Operand<'_>,
@@ -248,6 +310,9 @@ impl<'a> ConditionReader<'a> {
         let own = self.attribute(left, true)?;
         let other = self.attribute(right, false)?;
         match (own, other) {
+            (Some(asked), _) | (_, Some(asked)) if asked.is_asked() => {
+                Err(Refusal::LeftOut(Reason::Expansion))
+            }
             (Some(own), Some(other)) => self.compared_with_attribute(&own, relation, &other),
             (Some(own), None) => self.compared_with_text(&own, relation, right),
             (None, Some(other)) => self.compared_with_text(&other, turned(relation), left),
@@ -257,7 +322,7 @@ impl<'a> ConditionReader<'a> {
 
     // An operand by itself.
     fn existence(&self, operand: Operand<'_>) -> Result<ServerCondition, Refusal> {
-        if operand.quote == Quote::Bare {
+        if operand.quote == Quote::Bare && !operand.octets.starts_with(b"%{") {
             if let Some(code) = code_named(operand.octets)? {
                 if self.knows_code {
                     return Ok(ServerCondition::Last(code));
@@ -268,13 +333,16 @@ impl<'a> ConditionReader<'a> {
                 return Ok(ServerCondition::Constant(value));
             }
             let name = operand.octets.strip_prefix(b"&").unwrap_or(operand.octets);
-            let found = reference_in(self.dictionary, List::Request, name)?;
+            let found = reference_of(&self.names, name)?;
             return Ok(ServerCondition::Present(found.list, found.named.id));
         }
         if let Some(found) = self.attribute(operand, false)? {
+            if found.is_asked() {
+                return self.asked_compared(&found, Relation::Differs, EMPTY);
+            }
             return Ok(ServerCondition::Present(found.list, found.named.id));
         }
-        let octets = text_octets(self.alloc, self.dictionary, operand.quote, operand.octets)?;
+        let octets = text_octets(self.alloc, &self.names, operand.quote, operand.octets)?;
         Ok(ServerCondition::Constant(!octets.is_empty()))
     }
 
@@ -285,8 +353,7 @@ impl<'a> ConditionReader<'a> {
             None => Ok((self.existence(left)?, rest)),
             Some((relation, rest)) => {
                 let (right, rest) = next_operand(after_blanks(rest))?;
-                let comparison = self.comparison(left, relation, right)?;
-                Ok((ServerCondition::Compare(comparison), rest))
+                Ok((self.compared(left, relation, right)?, rest))
             }
         }
     }

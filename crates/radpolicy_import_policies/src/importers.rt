@@ -3,9 +3,11 @@
 use crate::condition_texts::{ConditionReader, Operand};
 use crate::drafts::{Draft, DraftPart, push_visible, section_name, shown_item};
 use crate::lines::{LineReader, UpdateLine};
+use crate::other_lists::ServerList;
+use crate::others::OtherAttribute;
 use crate::printing::ConditionPrinter;
 use crate::reasons::{ImportFault, Reason, Refusal};
-use crate::references::{list_name, list_named};
+use crate::references::{Names, list_name};
 use crate::rewriting::rewritten;
 use crate::statements::{Statement, StatementKind, counted};
 use crate::switches::{SwitchChain, chain_of};
@@ -47,6 +49,8 @@ pub struct Settings<'a> {
     /// The wider profile is asked for where a line needs it, and by the plain one such lines are left out.
     pub profile: Profile,
     pub modules: &'a [Module],
+    /// The attributes of control in place of what policies do not have, where the dictionary defines them.
+    pub others: &'a [OtherAttribute],
 }
 
 /// The first line of a policy of the wider profile.
@@ -218,10 +222,17 @@ impl<'a> Importer<'a> {
         Ok(())
     }
 
+    fn names(&self) -> Names<'a> {
+        Names {
+            dictionary: self.dictionary,
+            others: self.settings.others,
+        }
+    }
+
     fn reader(&self) -> ConditionReader<'a> {
         ConditionReader {
             alloc: self.alloc,
-            dictionary: self.dictionary,
+            names: self.names(),
             knows_code: self.knows_code,
         }
     }
@@ -280,32 +291,32 @@ impl<'a> Importer<'a> {
     // The line of a name, an operator and a value, in an update of a list.
     fn line_of(
         &self,
-        own: List,
+        own: ServerList,
         name: &[u8],
         operator: Operator,
         value: Option<&Text>,
     ) -> Result<UpdateLine, Refusal> {
         let reader = LineReader {
             alloc: self.alloc,
-            dictionary: self.dictionary,
+            names: self.names(),
             own,
             skips: self.settings.meaning == Meaning::Server,
         };
         let reason = match reader.line(name, operator, value) {
-            Ok(line) => return self.checked(own, line),
+            Ok(line) => return self.checked(own.list(), line),
             Err(Refusal::LeftOut(reason)) => reason,
             Err(Refusal::Memory) => return Err(Refusal::Memory),
         };
         let may_be_wider = matches!(reason, Reason::OctetsHere | Reason::Tag)
             && self.settings.profile == Profile::Wider;
         if may_be_wider && let Some(line) = reader.wider_line(name, operator, value)? {
-            return self.checked(own, line);
+            return self.checked(own.list(), line);
         }
         Err(Refusal::LeftOut(reason))
     }
 
     // The line of the pair at a place, in an update of a list.
-    fn line(&self, place: usize, own: List) -> Result<UpdateLine, Refusal> {
+    fn line(&self, place: usize, own: ServerList) -> Result<UpdateLine, Refusal> {
         let Some(item) = self.configuration.items.get(place) else {
             return Err(Refusal::LeftOut(Reason::NoLine));
         };
@@ -384,11 +395,11 @@ impl<'a> Importer<'a> {
         &mut self,
         update: usize,
         place: usize,
-        own: List,
+        own: ServerList,
         is_open: bool,
     ) -> Result<bool, ImportFault> {
         match self.line(place, own) {
-            Ok(line) => self.push_ready(update, place, own, is_open, line),
+            Ok(line) => self.push_ready(update, place, own.list(), is_open, line),
             Err(refusal) => {
                 self.leave(place, 1, reason_of(refusal)?)?;
                 Ok(is_open)
@@ -398,9 +409,11 @@ impl<'a> Importer<'a> {
 
     fn update(&mut self, place: usize, lines: &[Statement]) -> Result<(), ImportFault> {
         let own = match self.arguments(place) {
-            [] => Some(List::Request),
-            [name, ..] => list_named(&name.octets),
+            [] => Some(ServerList::Own(List::Request)),
+            [name, ..] => ServerList::named(&name.octets),
         };
+        let has_others = !self.settings.others.is_empty();
+        let own = own.filter(|own| has_others || matches!(own, ServerList::Own(_)));
         let Some(own) = own else {
             return self.leave(place, counted(lines)?, Reason::OtherList);
         };

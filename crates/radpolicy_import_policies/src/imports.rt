@@ -91,15 +91,21 @@ fn short_path<'a>(configuration: &Configuration, path: &'a [u8]) -> &'a [u8] {
     }
 }
 
+/// The path of an origin's file, from the folder of the configuration's first file on.
+pub fn origin_path(configuration: &Configuration, origin: Origin) -> &[u8] {
+    match configuration.files.get(origin.file) {
+        Some(file) => short_path(configuration, &file.path),
+        None => b"",
+    }
+}
+
 /// `FILE:LINE` of an origin, its path from the folder of the configuration's first file on.
 pub fn push_origin(
     out: &mut Vec<u8>,
     configuration: &Configuration,
     origin: Origin,
 ) -> Result<(), AllocError> {
-    if let Some(file) = configuration.files.get(origin.file) {
-        push_visible(out, short_path(configuration, &file.path))?;
-    }
+    push_visible(out, origin_path(configuration, origin))?;
     out.push(b':')?;
     push_number(out, origin.line)
 }

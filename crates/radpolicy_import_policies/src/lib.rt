@@ -5,11 +5,15 @@
 #![tactic(auto)]
 
 mod condition_texts;
+mod definitions;
 mod drafts;
 mod importers;
 mod imports;
+mod kept;
 mod lines;
 mod origins;
+mod other_lists;
+mod others;
 mod printing;
 mod reasons;
 mod references;
@@ -19,10 +23,15 @@ mod server_conditions;
 mod statements;
 mod switches;
 mod texts;
+mod unset;
 
+pub use definitions::other_dictionary;
 pub use importers::{Meaning, Module, ModuleAnswer, Settings};
-pub use imports::{Imported, LeftOut, import_statements, push_origin};
+pub use imports::{Imported, LeftOut, import_statements, origin_path, push_origin};
+pub use kept::keeps_names;
 pub use origins::{Origin, origin_of};
+pub use other_lists::OtherList;
+pub use others::{OtherAttribute, OtherSource, Stubs, other_attributes};
 pub use reasons::{ImportFault, Reason};
 pub use rewriting::rewritten;
 pub use sections::{Wanted, policy_of, section_of};
@@ -31,3 +40,4 @@ pub use statements::{
     MAX_NESTED_SECTIONS, MAX_STATEMENTS, Statement, StatementKind, count_of, statements_of,
 };
 pub use switches::{SwitchBranch, SwitchChain, chain_of};
+pub use unset::unset_attributes;

@@ -1,9 +1,12 @@
 //! Lines of updates.
 
+use crate::other_lists::ServerList;
 use crate::reasons::{Reason, Refusal};
-use crate::references::{Reference, has_texts, list_name, reference_in};
+use crate::references::{
+    Names, Reference, has_texts, list_name, parts_of, push_spelling, reference_in, reference_of,
+};
 use crate::texts::{has_expansion, push_double, push_octets, push_reference, single_octets};
-use avp_dict::{Dictionary, Kind};
+use avp_dict::Kind;
 use avp_lists::List;
 use server_configuration::{Operator, Quote, Text};
 use std::alloc::{AllocError, Global};
@@ -31,9 +34,9 @@ fn plain_line(text: Vec<u8>) -> UpdateLine {
 #[derive(Clone, Copy)]
 pub(crate) struct LineReader<'a> {
     pub(crate) alloc: Global,
-    pub(crate) dictionary: &'a Dictionary,
+    pub(crate) names: Names<'a>,
     /// The list of the update.
-    pub(crate) own: List,
+    pub(crate) own: ServerList,
     /// Whether a line with an absent source is skipped, as a server does.
     pub(crate) skips: bool,
 }
@@ -65,7 +68,7 @@ impl<'a> LineReader<'a> {
     // Whether a text with expansions may be put into an attribute: into others a server puts numbers that a policy
     // would refuse.
     fn takes_expansions(&self, target: &Reference<'_>) -> bool {
-        match self.dictionary.by_id(target.named.id) {
+        match self.names.dictionary.by_id(target.named.id) {
             Some(entry) => matches!(entry.kind, Kind::Text | Kind::Bytes),
             None => true,
         }
@@ -77,7 +80,7 @@ impl<'a> LineReader<'a> {
         target: &Reference<'_>,
         text: &[u8],
     ) -> Result<(), Refusal> {
-        let expands = push_double(out, self.dictionary, text)?;
+        let expands = push_double(out, &self.names, text)?;
         if expands && !self.takes_expansions(target) {
             return Err(Refusal::LeftOut(Reason::ExpandedValue));
         }
@@ -103,21 +106,21 @@ impl<'a> LineReader<'a> {
 
     // `&` and the source's name, which the line needs.
     fn source(&self, word: &[u8]) -> Result<Vec<u8>, Refusal> {
-        let found = reference_in(self.dictionary, List::Request, word)?;
-        if !has_texts(self.dictionary, found.named) {
+        let found = reference_of(&self.names, word)?;
+        if !has_texts(self.names.dictionary, found.named) {
             return Err(Refusal::LeftOut(Reason::OctetsHere));
         }
         let mut text = Vec::new(self.alloc);
-        push_reference(&mut text, &found)?;
+        push_reference(&mut text, self.names.dictionary, &found)?;
         Ok(text)
     }
 
     fn target(&self, out: &mut Vec<u8>, target: &Reference<'_>) -> Result<(), AllocError> {
-        if target.list != self.own {
+        if target.list != self.own.list() {
             out.extend_from_slice(list_name(target.list))?;
             out.push(b':')?;
         }
-        out.extend_from_slice(target.name)
+        push_spelling(out, self.names.dictionary, target)
     }
 
     /// The line of a name, an operator and a value, whose references to the configuration are filled in.
@@ -131,7 +134,7 @@ impl<'a> LineReader<'a> {
             return Err(Refusal::LeftOut(Reason::Operator));
         };
         let name = name.strip_prefix(b"&").unwrap_or(name);
-        let target = reference_in(self.dictionary, self.own, name)?;
+        let target = reference_in(&self.names, self.own, name)?;
         let mut text = Vec::new(self.alloc);
         self.target(&mut text, &target)?;
         text.push(b' ')?;
@@ -144,7 +147,7 @@ impl<'a> LineReader<'a> {
         let Some(value) = value else {
             return Err(Refusal::LeftOut(Reason::NotValue));
         };
-        if !has_texts(self.dictionary, target.named) {
+        if !has_texts(self.names.dictionary, target.named) {
             return Err(Refusal::LeftOut(Reason::OctetsHere));
         }
         if value.quote == Quote::Bare
@@ -163,6 +166,24 @@ impl<'a> LineReader<'a> {
         Ok(plain_line(text))
     }
 
+    // The name of a line's attribute, which may have a tag. False where it is of another list and not known.
+    fn push_target(&self, out: &mut Vec<u8>, word: &[u8]) -> Result<bool, AllocError> {
+        let (list, name, tag) = parts_of(self.own, word);
+        let ServerList::Other(list) = list else {
+            out.extend_from_slice(word)?;
+            return Ok(true);
+        };
+        let Some(name) = self.names.own_name(list, name) else {
+            return Ok(false);
+        };
+        if !matches!(self.own.list(), List::Control) {
+            out.extend_from_slice(b"control:")?;
+        }
+        out.extend_from_slice(name)?;
+        out.extend_from_slice(tag)?;
+        Ok(true)
+    }
+
     // A value that is written out, as the wider profile reads it. False where it is none: a reference or a command, or
     // with something to put in.
     fn push_written(&self, out: &mut Vec<u8>, value: &Text) -> Result<bool, Refusal> {
@@ -173,7 +194,7 @@ impl<'a> LineReader<'a> {
         match value.quote {
             Quote::Back => return Ok(false),
             Quote::Double => {
-                push_double(out, self.dictionary, octets)?;
+                push_double(out, &self.names, octets)?;
             }
             Quote::Single => push_octets(out, &single_octets(self.alloc, octets)?)?,
             Quote::Bare if is_word(octets) => out.extend_from_slice(octets)?,
@@ -194,7 +215,10 @@ impl<'a> LineReader<'a> {
         let (Some(sign), Some(value), true) = (sign(operator), value, is_word(name)) else {
             return Ok(None);
         };
-        let mut text = Vec::from_slice(self.alloc, name)?;
+        let mut text = Vec::new(self.alloc);
+        if !self.push_target(&mut text, name)? {
+            return Ok(None);
+        }
         text.push(b' ')?;
         text.extend_from_slice(sign)?;
         text.push(b' ')?;

@@ -34,6 +34,9 @@ pub enum Reason {
     Expansion,
     #[error("an expansion into a value that is no text")]
     ExpandedValue,
+    /// A server compares such texts as numbers.
+    #[error("an expansion compared with a number")]
+    ExpandedNumber,
     #[error("a command")]
     Command,
     #[error("a regular expression")]

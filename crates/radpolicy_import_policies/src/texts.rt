@@ -2,8 +2,9 @@
 
 ghost use Rattle.std.specs.Prelude.{◌≤◌, ◌<◌, length, IfOk, IfSome};
 
+use crate::others::closing_brace;
 use crate::reasons::{Reason, Refusal};
-use crate::references::{Reference, list_name, reference_in};
+use crate::references::{Names, Reference, Spelling, list_name, push_spelling, reference_of};
 use avp_dict::Dictionary;
 use avp_lists::List;
 use server_configuration::{Quote, Text};
@@ -32,37 +33,41 @@ fn escaped(text: &[u8]) -> (u8, &[u8])
 }
 
 // What follows a `%`.
-fn expanded<'a>(dictionary: &Dictionary, text: &'a [u8]) -> Result<(Part<'a>, &'a [u8]), Reason>
+fn expanded<'a>(names: &Names<'_>, text: &'a [u8]) -> Result<(Part<'a>, &'a [u8]), Reason>
     ensures { IfOk result (λ found. length found.1.now ≤ length text.now) }
 {
     match text {
         [b'%', rest @ ..] => Ok((Part::Octet(b'%'), rest)),
         [b'{', rest @ ..] => {
-            let Some(end) = rest.iter().position(|octet| *octet == b'}') else {
+            let Some(end) = closing_brace(rest) else {
                 return Err(Reason::Expansion);
             };
             let (word, after) = rest.split_at(end);
             let after = after.strip_prefix(b"}").unwrap_or(after);
-            Ok((Part::Expansion(expansion(dictionary, word)?), after))
+            Ok((Part::Expansion(expansion(names, word)?), after))
         }
         [letter, ..] if letter.is_ascii_alphabetic() => Err(Reason::Expansion),
         _ => Ok((Part::Octet(b'%'), text)),
     }
 }
 
-// The attribute that an expansion names.
-fn expansion<'a>(dictionary: &Dictionary, word: &'a [u8]) -> Result<Reference<'a>, Reason> {
-    match reference_in(dictionary, List::Request, word) {
+// The attribute that an expansion names, or that is in its place.
+fn expansion<'a>(names: &Names<'_>, word: &'a [u8]) -> Result<Reference<'a>, Reason> {
+    if let Some(named) = names.asked(word) {
+        return Ok(Reference {
+            list: List::Control,
+            spelling: Spelling::Asked,
+            named,
+        });
+    }
+    match reference_of(names, word) {
         Err(Reason::OtherList | Reason::NoName) => Err(Reason::Expansion),
         found => found,
     }
 }
 
 // The part that a text begins with, and what follows it.
-fn next_part<'a>(
-    dictionary: &Dictionary,
-    text: &'a [u8],
-) -> Result<Option<(Part<'a>, &'a [u8])>, Reason>
+fn next_part<'a>(names: &Names<'_>, text: &'a [u8]) -> Result<Option<(Part<'a>, &'a [u8])>, Reason>
     ensures { IfOk result (λ found. IfSome found (λ found. length found.1.now < length text.now)) }
 {
     match text {
@@ -72,7 +77,7 @@ fn next_part<'a>(
             Ok(Some((Part::Octet(octet), rest)))
         }
         [b'%', rest @ ..] => {
-            let found = expanded(dictionary, rest)?;
+            let found = expanded(names, rest)?;
             Ok(Some(found))
         }
         [octet, rest @ ..] => Ok(Some((Part::Octet(*octet), rest))),
@@ -97,21 +102,26 @@ fn push_octet(out: &mut Vec<u8>, octet: u8) -> Result<(), AllocError> {
 }
 
 // An attribute's name with its list, unless that is the request.
-fn push_name(out: &mut Vec<u8>, reference: &Reference<'_>) -> Result<(), AllocError> {
+fn push_name(
+    out: &mut Vec<u8>,
+    dictionary: &Dictionary,
+    reference: &Reference<'_>,
+) -> Result<(), AllocError> {
     if reference.list != List::Request {
         out.extend_from_slice(list_name(reference.list))?;
         out.push(b':')?;
     }
-    out.extend_from_slice(reference.name)
+    push_spelling(out, dictionary, reference)
 }
 
 /// `&` and an attribute's name.
 pub(crate) fn push_reference(
     out: &mut Vec<u8>,
+    dictionary: &Dictionary,
     reference: &Reference<'_>,
 ) -> Result<(), AllocError> {
     out.push(b'&')?;
-    push_name(out, reference)
+    push_name(out, dictionary, reference)
 }
 
 /// A source of an update between double quotes, of the octets of a text.
@@ -126,19 +136,19 @@ pub(crate) fn push_octets(out: &mut Vec<u8>, octets: &[u8]) -> Result<(), AllocE
 /// A source of an update between double quotes, of what a server reads between them; and whether it has an expansion.
 pub(crate) fn push_double(
     out: &mut Vec<u8>,
-    dictionary: &Dictionary,
+    names: &Names<'_>,
     text: &[u8],
 ) -> Result<bool, Refusal> {
     let mut expands = false;
     let mut rest = text;
     out.push(b'"')?;
-    while let Some((part, after)) = next_part(dictionary, rest)? {
+    while let Some((part, after)) = next_part(names, rest)? {
         match part {
             Part::Octet(octet) => push_octet(out, octet)?,
             Part::Expansion(reference) => {
                 expands = true;
                 out.extend_from_slice(b"%{")?;
-                push_name(out, &reference)?;
+                push_name(out, names.dictionary, &reference)?;
                 out.push(b'}')?;
             }
         }
@@ -149,10 +159,10 @@ pub(crate) fn push_double(
 }
 
 // The octets of a text between double quotes without expansions.
-fn double_octets(alloc: Global, dictionary: &Dictionary, text: &[u8]) -> Result<Vec<u8>, Refusal> {
+fn double_octets(alloc: Global, names: &Names<'_>, text: &[u8]) -> Result<Vec<u8>, Refusal> {
     let mut octets = Vec::new(alloc);
     let mut rest = text;
-    while let Some((part, after)) = next_part(dictionary, rest)? {
+    while let Some((part, after)) = next_part(names, rest)? {
         match part {
             Part::Octet(octet) => octets.push(octet)?,
             Part::Expansion(_) => return Err(Refusal::LeftOut(Reason::Expansion)),
@@ -189,23 +199,23 @@ pub(crate) fn has_expansion(word: &[u8]) -> bool {
 /// The octets that a text of a condition stands for.
 pub(crate) fn text_octets(
     alloc: Global,
-    dictionary: &Dictionary,
+    names: &Names<'_>,
     quote: Quote,
     octets: &[u8],
 ) -> Result<Vec<u8>, Refusal> {
     match quote {
         Quote::Bare if has_expansion(octets) => Err(Refusal::LeftOut(Reason::Expansion)),
         Quote::Bare => Ok(Vec::from_slice(alloc, octets)?),
-        Quote::Double => double_octets(alloc, dictionary, octets),
+        Quote::Double => double_octets(alloc, names, octets),
         Quote::Single => Ok(single_octets(alloc, octets)?),
         Quote::Back => Err(Refusal::LeftOut(Reason::Command)),
     }
 }
 
 /// The attribute that a text between double quotes expands alone, as `"%{User-Name}"`.
-pub(crate) fn sole_expansion<'a>(dictionary: &Dictionary, text: &'a [u8]) -> Option<Reference<'a>> {
+pub(crate) fn sole_expansion<'a>(names: &Names<'_>, text: &'a [u8]) -> Option<Reference<'a>> {
     let word = text.strip_prefix(b"%{")?.strip_suffix(b"}")?;
-    match expansion(dictionary, word) {
+    match expansion(names, word) {
         Ok(found) => Some(found),
         Err(_) => None,
     }

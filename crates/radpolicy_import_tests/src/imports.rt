@@ -3,16 +3,17 @@
 use crate::memory_files::{MemoryFile, MemoryFiles};
 use avp_dict::Dictionary;
 use avp_forms::Profile;
+use avp_unlang::Items;
 use radpolicy_import_policies::{
-    Imported, Meaning, Module, ModuleAnswer, Settings, Wanted, import_statements, section_of,
-    statements_of,
+    Imported, Meaning, Module, ModuleAnswer, Settings, Statement, Wanted, import_statements,
+    section_of, statements_of,
 };
 use samples::{one_file, test_dictionary};
 use server_configuration::{Configuration, read_configuration};
 use std::alloc::Global;
 use std::test::Fail;
 
-fn configuration(alloc: Global, text: &[u8]) -> Result<Configuration, Fail> {
+pub(crate) fn configuration(alloc: Global, text: &[u8]) -> Result<Configuration, Fail> {
     let files = [MemoryFile {
         path: b"r/main",
         octets: text,
@@ -23,32 +24,36 @@ fn configuration(alloc: Global, text: &[u8]) -> Result<Configuration, Fail> {
     }
 }
 
+// The statements of the section `authorize`.
+pub(crate) fn authorize(
+    alloc: Global,
+    configuration: &Configuration,
+) -> Result<Items<Statement>, Fail> {
+    let wanted = Wanted {
+        server: None,
+        section: b"authorize",
+        second: None,
+    };
+    let Some(place) = section_of(configuration, wanted) else {
+        return Err(Fail::new("no section"));
+    };
+    match statements_of(alloc, configuration, Some(place), b"authorize") {
+        Ok(statements) => Ok(statements),
+        Err(_) => Err(Fail::new("no statements")),
+    }
+}
+
 // What the section `authorize` becomes.
-fn imported(
+pub(crate) fn imported(
     alloc: Global,
     dictionary: &Dictionary,
     settings: Settings<'_>,
     text: &[u8],
 ) -> Result<Imported, Fail> {
     let configuration = configuration(alloc, text)?;
-    let wanted = Wanted {
-        server: None,
-        section: b"authorize",
-        second: None,
-    };
-    let Some(place) = section_of(&configuration, wanted) else {
-        return Err(Fail::new("no section"));
-    };
-    let Ok(statements) = statements_of(alloc, &configuration, Some(place), b"authorize") else {
-        return Err(Fail::new("no statements"));
-    };
-    match import_statements(
-        alloc,
-        &configuration,
-        dictionary,
-        settings,
-        statements.as_slice(),
-    ) {
+    let statements = authorize(alloc, &configuration)?;
+    let statements = statements.as_slice();
+    match import_statements(alloc, &configuration, dictionary, settings, statements) {
         Ok(imported) => Ok(imported),
         Err(_) => Err(Fail::new("no policy")),
     }
@@ -80,6 +85,7 @@ fn becomes(
         meaning: Meaning::Server,
         profile: Profile::Wider,
         modules: &[],
+        others: &[],
     };
     is_imported_by(alloc, settings, text, wanted, counts)
 }
@@ -195,6 +201,7 @@ fn an_answer_for_a_module(rt: HostRuntime) -> Result<(), Fail> {
         meaning: Meaning::Server,
         profile: Profile::Wider,
         modules: &modules,
+        others: &[],
     };
     assert!(rt;
         is_imported_by(
@@ -222,6 +229,7 @@ fn vlan(alloc: Global, profile: Profile) -> Result<(Vec<u8>, usize), Fail> {
         meaning: Meaning::Server,
         profile,
         modules: &[],
+        others: &[],
     };
     let text = b"authorize {\n update reply {\n Tunnel-Type := VLAN\n \
         Tunnel-Private-Group-Id:1 := \"20\"\n }\n}";

@@ -5,3 +5,5 @@
 mod imports;
 #[cfg(test)]
 mod memory_files;
+#[cfg(test)]
+mod other_lists;

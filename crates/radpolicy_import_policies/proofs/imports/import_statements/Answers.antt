@@ -1,4 +1,4 @@
-use Rattle.std.proofs.Common.{◌≡◌, List, ℕ, subst}
+use Rattle.std.proofs.Common.{List, ℕ, subst}
 use Rattle.avp_unlang.specs.Policies.{SpellsPolicy}
 use Rattle.radpolicy_import_policies.proofs.imports.import_statements.Goals as goal
 

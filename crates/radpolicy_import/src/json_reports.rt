@@ -1,0 +1,83 @@
+//! The report as JSON, an object a line.
+
+use itoa::Buffer;
+use radpolicy_common::{Escaping, push_json_string};
+use radpolicy_import_policies::{Imported, LeftOut, OtherAttribute, OtherSource, origin_path};
+use server_configuration::Configuration;
+use std::alloc::{AllocError, Global};
+
+// The name of a member, after what is before it.
+fn push_name(out: &mut Vec<u8>, before: u8, name: &str) -> Result<(), AllocError> {
+    out.push(before)?;
+    out.push(b'"')?;
+    out.extend_from_slice(name.as_bytes())?;
+    out.extend_from_slice(b"\":")
+}
+
+fn push_number(out: &mut Vec<u8>, before: u8, name: &str, number: usize) -> Result<(), AllocError> {
+    push_name(out, before, name)?;
+    let mut digits = Buffer::new();
+    out.extend_from_slice(digits.format(number).as_bytes())
+}
+
+fn push_text(out: &mut Vec<u8>, before: u8, name: &str, text: &[u8]) -> Result<(), AllocError> {
+    push_name(out, before, name)?;
+    push_json_string(out, text, Escaping::Plain)
+}
+
+// How many statements are kept.
+fn push_counts(out: &mut Vec<u8>, imported: &Imported) -> Result<(), AllocError> {
+    push_number(out, b'{', "kept", imported.kept)?;
+    push_number(out, b',', "read", imported.read)?;
+    push_number(out, b',', "calls", imported.calls)?;
+    out.extend_from_slice(b"}\n")
+}
+
+// A part that is left out.
+fn push_part(
+    alloc: Global,
+    out: &mut Vec<u8>,
+    configuration: &Configuration,
+    part: &LeftOut,
+) -> Result<(), AllocError> {
+    let reason = part.reason;
+    let reason = format!(in alloc; "{reason}")?;
+    push_text(out, b'{', "file", origin_path(configuration, part.origin))?;
+    push_number(out, b',', "line", part.origin.line)?;
+    push_number(out, b',', "statements", part.count)?;
+    push_text(out, b',', "reason", reason.as_bytes())?;
+    push_text(out, b',', "text", &part.shown)?;
+    out.extend_from_slice(b"}\n")
+}
+
+/// How many statements are kept, and each part that is left out.
+pub fn json_report(
+    alloc: Global,
+    configuration: &Configuration,
+    imported: &Imported,
+) -> Result<Vec<u8>, AllocError> {
+    let mut out = Vec::new(alloc);
+    push_counts(&mut out, imported)?;
+    for part in &imported.left_out {
+        push_part(alloc, &mut out, configuration, part)?;
+    }
+    Ok(out)
+}
+
+/// The attributes of a dictionary that no line of the policy sets, and the expansions that they are in place of.
+pub fn json_others(
+    alloc: Global,
+    path: &str,
+    unset: &[&OtherAttribute],
+) -> Result<Vec<u8>, AllocError> {
+    let mut out = Vec::new(alloc);
+    for other in unset {
+        push_text(&mut out, b'{', "file", path.as_bytes())?;
+        push_text(&mut out, b',', "unset", &other.own)?;
+        if let OtherSource::Asked(text) = &other.source {
+            push_text(&mut out, b',', "expansion", text)?;
+        }
+        out.extend_from_slice(b"}\n")?;
+    }
+    Ok(out)
+}

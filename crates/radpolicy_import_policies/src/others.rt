@@ -1,0 +1,441 @@
+//! What policies do not have, and the attributes of `control` that it is in a policy: attributes of other lists, and
+//! expansions that ask something outside of the policy.
+
+ghost use Rattle.std.specs.Prelude.{◌<◌, IfOk, IfSome, length};
+
+use crate::other_lists::{OtherList, ServerList};
+use crate::references::is_name_octet;
+use crate::statements::{Statement, StatementKind};
+use avp_dict::{Dictionary, Named, is_container, same_name};
+use avp_lists::AttrId;
+use itoa::Buffer;
+use server_configuration::{Configuration, Content, Text, has_reference};
+use std::alloc::{AllocError, Global};
+
+/// What an attribute of `control` is in a server's policy.
+#[derive(Debug, Drop)]
+pub enum OtherSource {
+    /// An attribute of a list that policies do not have, by its id and its name there.
+    Attribute(OtherList, AttrId, Vec<u8>),
+    /// An expansion that asks something, as `sql:SELECT ..`, by the text between its braces.
+    Asked(Vec<u8>),
+}
+
+/// An attribute of `control` in place of something that policies do not have.
+#[derive(Debug, Drop)]
+pub struct OtherAttribute {
+    pub source: OtherSource,
+    /// Its name, as `Outer-Request-User-Name` or `Import-Sql-1`.
+    pub own: Vec<u8>,
+    /// Whether the dictionary that it was found with has no such name.
+    pub is_new: bool,
+}
+
+/// Which expansions become attributes.
+#[derive(Clone, Copy, Debug, PartialEq, Eq)]
+pub enum Stubs {
+    /// Those that ask something: a database, a directory, a program, what the server knows of a client.
+    Asking,
+    /// Functions too, as `%{tolower:..}`, whose results are then given and not computed.
+    Functions,
+}
+
+/// What statements name that policies do not have.
+#[derive(Drop)]
+struct Finder<'a> {
+    alloc: Global,
+    configuration: &'a Configuration,
+    dictionary: &'a Dictionary,
+    stubs: Stubs,
+    found: Vec<OtherAttribute>,
+}
+
+// The modules whose expansions ask something.
+const ASKING: [&[u8]; 14] = [
+    b"sql",
+    b"client",
+    b"ldap",
+    b"exec",
+    b"echo",
+    b"debug_attr",
+    b"listen",
+    b"home_server",
+    b"perl",
+    b"python",
+    b"python3",
+    b"rest",
+    b"redis",
+    b"cache",
+];
+
+// The module or function that an expansion calls, by the text between its braces.
+fn called(word: &[u8]) -> Option<&[u8]> {
+    let colon = word.iter().position(|octet| *octet == b':')?;
+    let name = word.split_at(colon).0;
+    let is_name = name.iter().all(|octet| octet.is_ascii_alphanumeric()
+        || matches!(*octet, b'_' | b'-' | b'.'));
+    if name.is_empty() || !is_name || ServerList::named(name).is_some() {
+        return None;
+    }
+    Some(name)
+}
+
+fn asks(name: &[u8]) -> bool {
+    ASKING.iter().any(|module| *module == name)
+}
+
+/// How far it is to the brace that closes an expansion, from behind the one that opens it.
+pub(crate) fn closing_brace(text: &[u8]) -> Option<usize>
+    ensures { IfSome result (λ end. end < length text.now) }
+{
+    let mut open = 0usize;
+    for (place, octet) in text.iter().enumerate() {
+        match *octet {
+            b'{' => open = open.saturating_add(1),
+            b'}' if open == 0 => return Some(place),
+            b'}' => open = open.saturating_sub(1),
+            _ => {}
+        }
+    }
+    None
+}
+
+// What the name of an attribute for an expansion begins with, as `Import-Sql-`.
+fn stub_name(alloc: Global, module: &[u8]) -> Result<Vec<u8>, AllocError> {
+    let mut name = Vec::from_slice(alloc, b"Import-")?;
+    for (place, octet) in module.iter().enumerate() {
+        name.push(match *octet {
+            b'_' | b'.' => b'-',
+            octet if place == 0 => octet.to_ascii_uppercase(),
+            octet => octet,
+        })?;
+    }
+    name.push(b'-')?;
+    Ok(name)
+}
+
+fn push_digits(name: &mut Vec<u8>, number: usize) -> Result<(), AllocError> {
+    let mut digits = Buffer::new();
+    name.extend_from_slice(digits.format(number).as_bytes())
+}
+
+// The name as its ATTRIBUTE line has it.
+fn written_name<'a>(dictionary: &'a Dictionary, named: Named, name: &'a [u8]) -> &'a [u8] {
+    match dictionary.by_id(named.id) {
+        Some(entry) if same_name(entry.name, name) => entry.name,
+        _ => name,
+    }
+}
+
+// Whether two attributes are of one type and form.
+fn are_alike(dictionary: &Dictionary, one: Named, other: Named) -> bool {
+    match (dictionary.by_id(one.id), dictionary.by_id(other.id)) {
+        (Some(own), Some(entry)) => {
+            own.kind == entry.kind && dictionary.form(one.id) == dictionary.form(other.id)
+        }
+        _ => false,
+    }
+}
+
+// How many names are tried where others have them.
+const MOST_NAMES: usize = 100;
+
+// How long a name may be in a dictionary, in octets.
+const MOST_OCTETS: usize = 128;
+
+// How many attributes there are at most.
+const MOST_FOUND: usize = 1_000;
+
+// A name with a number behind it, where it is not the first.
+fn numbered_name(alloc: Global, name: &[u8], number: usize) -> Result<Vec<u8>, AllocError> {
+    let mut made = Vec::from_slice(alloc, name)?;
+    if number > 1 {
+        made.push(b'-')?;
+        push_digits(&mut made, number)?;
+    }
+    Ok(made)
+}
+
+// The octets of a word that may name a list and an attribute.
+fn is_word_octet(octet: u8) -> bool {
+    is_name_octet(octet) || octet == b':'
+}
+
+impl<'a> Finder<'a> {
+    fn is_full(&self) -> bool {
+        self.found.len() >= MOST_FOUND
+    }
+
+    fn has(&self, list: OtherList, id: AttrId) -> bool {
+        self.found.iter().any(|other| match &other.source {
+            OtherSource::Attribute(own, known, _) => *own == list && known.equals(id),
+            OtherSource::Asked(_) => false,
+        })
+    }
+
+    fn has_asked(&self, word: &[u8]) -> bool {
+        self.found.iter().any(|other| match &other.source {
+            OtherSource::Attribute(..) => false,
+            OtherSource::Asked(text) => text.as_slice() == word,
+        })
+    }
+
+    fn has_own(&self, name: &[u8]) -> bool {
+        self.found.iter().any(|other| same_name(&other.own, name))
+    }
+
+    // How many expansions of a module there are.
+    fn count_of(&self, module: &[u8]) -> usize {
+        self.found
+            .iter()
+            .filter(|other| match &other.source {
+                OtherSource::Attribute(..) => false,
+                OtherSource::Asked(text) => called(text) == Some(module),
+            })
+            .count()
+    }
+
+    // The next name of its kind that neither the dictionary nor another has.
+    fn asked_name(&self, module: &[u8]) -> Result<Option<Vec<u8>>, AllocError> {
+        let first = self.count_of(module).saturating_add(1);
+        for number in first..first.saturating_add(MOST_NAMES) {
+            let mut name = stub_name(self.alloc, module)?;
+            push_digits(&mut name, number)?;
+            if name.len() > MOST_OCTETS {
+                return Ok(None);
+            }
+            if self.dictionary.by_name(&name).is_none() && !self.has_own(&name) {
+                return Ok(Some(name));
+            }
+        }
+        Ok(None)
+    }
+
+    // Whether an expansion becomes an attribute, by what it calls. An attribute's name is no function.
+    fn is_stub(&self, module: &[u8]) -> bool {
+        match self.stubs {
+            Stubs::Asking => asks(module),
+            Stubs::Functions => self.dictionary.by_name(module).is_none(),
+        }
+    }
+
+    // Adds an expansion, by the text between its braces, and says whether it becomes an attribute.
+    fn asked(&mut self, word: &[u8]) -> Result<bool, AllocError> {
+        let Some(module) = called(word) else {
+            return Ok(false);
+        };
+        if !self.is_stub(module) || self.is_full() {
+            return Ok(false);
+        }
+        if self.has_asked(word) {
+            return Ok(true);
+        }
+        let Some(own) = self.asked_name(module)? else {
+            return Ok(false);
+        };
+        self.found.push(OtherAttribute {
+            source: OtherSource::Asked(Vec::from_slice(self.alloc, word)?),
+            own,
+            is_new: true,
+        })?;
+        Ok(true)
+    }
+
+    // The expansion that a text begins with, and what follows it where it becomes an attribute.
+    fn expansion<'b>(&mut self, text: &'b [u8]) -> Result<Option<&'b [u8]>, AllocError>
+        ensures { IfOk result (λ found. IfSome found (λ rest. length rest.now < length text.now)) }
+    {
+        let [b'%', b'{', inside @ ..] = text else {
+            return Ok(None);
+        };
+        let Some(end) = closing_brace(inside) else {
+            return Ok(None);
+        };
+        let (word, rest) = inside.split_at(end);
+        Ok(self.asked(word)?.then_some(rest))
+    }
+
+    // The expansions of a text.
+    fn expansions(&mut self, text: &[u8]) -> Result<(), AllocError> {
+        let mut rest = text;
+        while let [_, after @ ..] = rest {
+            rest = self.expansion(rest)?.unwrap_or(after);
+        }
+        Ok(())
+    }
+
+    // The name of the attribute of control, and whether it is new: one that is there already serves where it is alike.
+    fn own_name(&self, whole: &[u8], named: Named) -> Result<Option<(Vec<u8>, bool)>, AllocError> {
+        for number in 1..=MOST_NAMES {
+            let name = numbered_name(self.alloc, whole, number)?;
+            match self.dictionary.by_name(&name) {
+                None if name.len() > MOST_OCTETS => return Ok(None),
+                None if !self.has_own(&name) => return Ok(Some((name, true))),
+                Some(other) if are_alike(self.dictionary, named, other) => {
+                    return Ok(Some((name, false)));
+                }
+                _ => {}
+            }
+        }
+        Ok(None)
+    }
+
+    // Adds the attribute of a name, which may have a tag behind it, in a list.
+    fn add(&mut self, list: OtherList, name: &[u8]) -> Result<(), AllocError> {
+        let end = name.iter().position(|octet| *octet == b':');
+        let name = name.split_at(end.unwrap_or(name.len())).0;
+        let dictionary = self.dictionary;
+        let Some(named) = dictionary.by_name(name) else {
+            return Ok(());
+        };
+        if named.raw || is_container(named.id) || self.is_full() || self.has(list, named.id) {
+            return Ok(());
+        }
+        let mut whole = Vec::from_slice(self.alloc, list.prefix())?;
+        whole.extend_from_slice(written_name(dictionary, named, name))?;
+        if let Some((own, is_new)) = self.own_name(&whole, named)? {
+            self.found.push(OtherAttribute {
+                source: OtherSource::Attribute(list, named.id, Vec::from_slice(self.alloc, name)?),
+                own,
+                is_new,
+            })?;
+        }
+        Ok(())
+    }
+
+    // Those that a text names with their list, and its expansions.
+    fn text(&mut self, text: &[u8]) -> Result<(), AllocError> {
+        self.expansions(text)?;
+        for word in text.split(|octet| !is_word_octet(*octet)) {
+            let Some(colon) = word.iter().position(|octet| *octet == b':') else {
+                continue;
+            };
+            let (list, name) = word.split_at(colon);
+            if let Some(list) = OtherList::named(list) {
+                self.add(list, name.strip_prefix(b":").unwrap_or(name))?;
+            }
+        }
+        Ok(())
+    }
+
+    // A text in a section, with its references filled in where that can be done.
+    fn filled(&self, section: Option<usize>, text: &[u8]) -> Result<Vec<u8>, AllocError> {
+        if has_reference(text)
+            && let Ok(filled) = self.configuration.resolved(self.alloc, section, text, &[])
+        {
+            return Ok(filled);
+        }
+        Vec::from_slice(self.alloc, text)
+    }
+
+    fn text_in(&mut self, section: Option<usize>, text: &Text) -> Result<(), AllocError> {
+        let filled = self.filled(section, &text.octets)?;
+        self.text(&filled)
+    }
+
+    fn texts(&mut self, section: Option<usize>, texts: &[Text]) -> Result<(), AllocError> {
+        for text in texts {
+            self.text_in(section, text)?;
+        }
+        Ok(())
+    }
+
+    // Those of the item at a place.
+    fn item(&mut self, place: usize) -> Result<(), AllocError> {
+        let configuration = self.configuration;
+        let Some(item) = configuration.items.get(place) else {
+            return Ok(());
+        };
+        match &item.content {
+            Content::Pair { name, value, .. } => {
+                self.text(&name.octets)?;
+                match value {
+                    Some(value) => self.text_in(item.section, value),
+                    None => Ok(()),
+                }
+            }
+            Content::Section { arguments, .. } | Content::Word { arguments, .. } => {
+                self.texts(item.section, arguments)
+            }
+            Content::Include { .. } => Ok(()),
+        }
+    }
+
+    // The list that an update at a place is of, if policies do not have it.
+    fn list_of(&self, place: usize) -> Option<OtherList> {
+        let configuration = self.configuration;
+        let item = configuration.items.get(place)?;
+        match &item.content {
+            Content::Section { arguments, .. } => match ServerList::named(
+                &arguments.first()?.octets,
+            ) {
+                Some(ServerList::Other(list)) => Some(list),
+                _ => None,
+            },
+            _ => None,
+        }
+    }
+
+    // The attribute that the line at a place sets in the list of its update.
+    fn line(&mut self, list: OtherList, place: usize) -> Result<(), AllocError> {
+        let configuration = self.configuration;
+        let Some(item) = configuration.items.get(place) else {
+            return Ok(());
+        };
+        match &item.content {
+            Content::Pair { name, .. } => {
+                let name = name.octets.as_slice();
+                self.add(list, name.strip_prefix(b"&").unwrap_or(name))
+            }
+            _ => Ok(()),
+        }
+    }
+
+    fn lines(&mut self, update: usize, lines: &[Statement]) -> Result<(), AllocError> {
+        let Some(list) = self.list_of(update) else {
+            return Ok(());
+        };
+        for line in lines {
+            self.line(list, line.place)?;
+        }
+        Ok(())
+    }
+
+    #[cycle(finding)]
+    fn statement(&mut self, statement: &Statement) -> Result<(), AllocError> {
+        self.item(statement.place)?;
+        let block = statement.block.as_slice();
+        if statement.kind == StatementKind::Update {
+            self.lines(statement.place, block)?;
+        }
+        self.block(block)
+    }
+
+    #[cycle(finding)]
+    fn block(&mut self, statements: &[Statement]) -> Result<(), AllocError> {
+        for statement in statements {
+            self.statement(statement)?;
+        }
+        Ok(())
+    }
+}
+
+/// The attributes in place of what statements name and policies do not have, each once, in the order of the statements,
+/// and at most 1,000.
+pub fn other_attributes(
+    alloc: Global,
+    configuration: &Configuration,
+    dictionary: &Dictionary,
+    stubs: Stubs,
+    statements: &[Statement],
+) -> Result<Vec<OtherAttribute>, AllocError> {
+    let mut finder = Finder {
+        alloc,
+        configuration,
+        dictionary,
+        stubs,
+        found: Vec::new(alloc),
+    };
+    finder.block(statements)?;
+    Ok(finder.found)
+}

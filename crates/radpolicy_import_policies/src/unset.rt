@@ -1,0 +1,75 @@
+//! Which attributes no line of a policy sets.
+
+use crate::others::OtherAttribute;
+use avp_dict::Dictionary;
+use avp_lists::{AttrId, List, Op};
+use avp_unlang::{Branch, Line, Policy, Statement};
+use std::alloc::{AllocError, Global};
+
+// Whether an operator makes instances.
+fn makes(op: Op) -> bool {
+    match op {
+        Op::AddNew | Op::Replace | Op::Append | Op::Prepend => true,
+        Op::RemoveEqual | Op::KeepEqual | Op::RemoveAll => false,
+    }
+}
+
+fn is_set_by(lines: &[Line], id: AttrId) -> bool {
+    lines.iter().any(|line| matches!(line.list, List::Control)
+        && line.id.equals(id)
+        && makes(line.op))
+}
+
+#[cycle(blocks)]
+fn is_set_in(block: &[Statement], id: AttrId) -> bool {
+    for statement in block {
+        if is_set_by_statement(statement, id) {
+            return true;
+        }
+    }
+    false
+}
+
+#[cycle(blocks)]
+fn is_set_in_branches(branches: &[Branch], id: AttrId) -> bool {
+    for branch in branches {
+        if is_set_in(branch.block.as_slice(), id) {
+            return true;
+        }
+    }
+    false
+}
+
+#[cycle(blocks)]
+fn is_set_by_statement(statement: &Statement, id: AttrId) -> bool {
+    match statement {
+        Statement::Update(_, lines) => is_set_by(lines.as_slice(), id),
+        Statement::If(branches, otherwise) => {
+            is_set_in_branches(branches.as_slice(), id)
+                || match otherwise {
+                    Some(block) => is_set_in(block.as_slice(), id),
+                    None => false,
+                }
+        }
+        Statement::Transaction(_, block) => is_set_in(block.as_slice(), id),
+        Statement::Word(_, _) => false,
+    }
+}
+
+/// Those of the attributes that no line of a policy sets, so that they are absent unless they are given to its run.
+pub fn unset_attributes<'a>(
+    alloc: Global,
+    dictionary: &Dictionary,
+    policy: &Policy,
+    others: &'a [OtherAttribute],
+) -> Result<Vec<&'a OtherAttribute>, AllocError> {
+    let mut unset = Vec::new(alloc);
+    for other in others {
+        if let Some(named) = dictionary.by_name(&other.own)
+            && !is_set_in(policy.statements().as_slice(), named.id)
+        {
+            unset.push(other)?;
+        }
+    }
+    Ok(unset)
+}

@@ -1,0 +1,119 @@
+//! Attributes of lists that policies do not have.
+
+use crate::imports::{authorize, configuration, imported};
+use avp_dict::{Dictionary, FileSet, NamedFile};
+use avp_forms::Profile;
+use avp_lists::Octets;
+use radpolicy_import_policies::{
+    Meaning, OtherAttribute, Settings, Stubs, keeps_names, other_attributes, other_dictionary,
+    unset_attributes,
+};
+use samples::one_file;
+use std::alloc::Global;
+use std::test::Fail;
+
+const ATTRIBUTES: &[u8] = b"ATTRIBUTE User-Name 1 string\n\
+    ATTRIBUTE Tunnel-Type 64 integer has_tag\nVALUE Tunnel-Type VLAN 13\n";
+
+const CONFIGURATION: &[u8] =
+    b"authorize {\n if (&outer.request:User-Name) {\n update outer.reply {\n \
+    Tunnel-Type:1 := VLAN\n User-Name := \"%{session-state:User-Name}\"\n }\n }\n \
+    if (\"%{sql:SELECT '%{User-Name}'}\" == \"x\") {\n reject\n }\n \
+    if (\"%{sql:SELECT '%{User-Name}'}\" != 'y') {\n ok\n }\n}";
+
+const POLICY: &[u8] = b"# profile: wider\nif (&control:Outer-Request-User-Name) {  # main:2\n\
+    \tupdate control {  # main:3\n\t\tOuter-Reply-Tunnel-Type:1 := VLAN  # main:4\n\
+    \t\tOuter-Reply-User-Name := \"%{control:Session-State-User-Name}\"  # main:5\n\
+    \t}  # main:3\n}  # main:2\n\
+    if (&control:Import-Sql-1 && &control:Import-Sql-1 == \"x\") {  # main:8\n\treject  # main:9\n}  # main:8\n\
+    if (!&control:Import-Sql-1 || &control:Import-Sql-1 != \"y\") {  # main:11\n\tok  # main:12\n}  # main:11\n";
+
+const DEFINED: &[u8] = b"$INCLUDE d\n\n\
+    ATTRIBUTE\tOuter-Request-User-Name\t1485114428\tstring\n\
+    ATTRIBUTE\tOuter-Reply-User-Name\t1354994833\tstring\n\
+    ATTRIBUTE\tSession-State-User-Name\t1311505203\tstring\n\
+    ATTRIBUTE\tOuter-Reply-Tunnel-Type\t1820618333\tinteger\thas_tag\n\
+    ATTRIBUTE\tImport-Sql-1\t1383806283\tstring\n\n\
+    VALUE\tOuter-Reply-Tunnel-Type\tVLAN\t13\n";
+
+fn dictionary_of(alloc: Global, files: &FileSet) -> Result<Dictionary, Fail> {
+    if files.is_empty() || !files.has_distinct_names() {
+        return Err(Fail::new("no files"));
+    }
+    Ok(Dictionary::read(alloc, files)?)
+}
+
+fn named(alloc: Global, name: &[u8], text: &[u8]) -> Result<NamedFile, Fail> {
+    let (name, octets) = (
+        Octets::from_slice(alloc, name)?,
+        Octets::from_slice(alloc, text)?,
+    );
+    Ok(NamedFile { name, octets })
+}
+
+// The attributes of other lists that the configuration names.
+fn others(alloc: Global, dictionary: &Dictionary) -> Result<Vec<OtherAttribute>, Fail> {
+    let configuration = configuration(alloc, CONFIGURATION)?;
+    let statements = authorize(alloc, &configuration)?;
+    let (stubs, statements) = (Stubs::Asking, statements.as_slice());
+    Ok(other_attributes(alloc, &configuration, dictionary, stubs, statements)?)
+}
+
+// The dictionary that defines them.
+fn defined(alloc: Global) -> Result<Vec<u8>, Fail> {
+    let files = one_file(alloc, ATTRIBUTES)?;
+    let dictionary = dictionary_of(alloc, &files)?;
+    let others = others(alloc, &dictionary)?;
+    Ok(other_dictionary(alloc, &files, &dictionary, &others)?)
+}
+
+// The set of both files.
+fn both(alloc: Global, main: &[u8]) -> Result<FileSet, Fail> {
+    let files = vec![in alloc;
+        named(alloc, b"others", main)?,
+        named(alloc, b"d", ATTRIBUTES)?,
+    ]?;
+    Ok(FileSet::from_vec(files))
+}
+
+// The policy by the dictionary, and how many of the attributes no line sets.
+fn policy(alloc: Global, dictionary: &Dictionary) -> Result<(Vec<u8>, usize), Fail> {
+    let plain = dictionary_of(alloc, &one_file(alloc, ATTRIBUTES)?)?;
+    let others = others(alloc, &plain)?;
+    let settings = Settings {
+        meaning: Meaning::Server,
+        profile: Profile::Wider,
+        modules: &[],
+        others: &others,
+    };
+    let imported = imported(alloc, dictionary, settings, CONFIGURATION)?;
+    let unset = unset_attributes(alloc, dictionary, &imported.policy, &others)?.len();
+    Ok((imported.text, unset))
+}
+
+#[test]
+fn a_dictionary_defines_them(rt: HostRuntime) -> Result<(), Fail> {
+    let text = defined(rt.alloc())?;
+    assert_eq!(rt; text.as_slice(), DEFINED);
+    Ok(())
+}
+
+#[test]
+fn they_are_attributes_of_control(rt: HostRuntime) -> Result<(), Fail> {
+    let files = both(rt.alloc(), &defined(rt.alloc())?)?;
+    let dictionary = dictionary_of(rt.alloc(), &files)?;
+    let (text, unset) = policy(rt.alloc(), &dictionary)?;
+    assert_eq!(rt; text.as_slice(), POLICY);
+    assert_eq!(rt; unset, 3);
+    Ok(())
+}
+
+#[test]
+fn names_stay_what_they_were(rt: HostRuntime) -> Result<(), Fail> {
+    let plain = dictionary_of(rt.alloc(), &one_file(rt.alloc(), ATTRIBUTES)?)?;
+    let files = both(rt.alloc(), &defined(rt.alloc())?)?;
+    assert!(rt; keeps_names(&plain, &dictionary_of(rt.alloc(), &files)?));
+    let other = one_file(rt.alloc(), b"ATTRIBUTE User-Name 1 octets\n")?;
+    assert!(rt; !keeps_names(&plain, &dictionary_of(rt.alloc(), &other)?));
+    Ok(())
+}
