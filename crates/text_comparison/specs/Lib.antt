@@ -1,0 +1,4 @@
+pub mod Comparisons
+pub mod Lines
+pub mod Parts
+pub mod internal
