@@ -6,6 +6,7 @@ complete -c radpolicy-replay -l ordered -d 'The order of different attributes co
 complete -c radpolicy-replay -l ignore -x -d 'Attribute to leave out'
 complete -c radpolicy-replay -l all -d 'Tell records that are answered alike too'
 complete -c radpolicy-replay -l strict -d 'Status 1 if a record is refused'
+complete -c radpolicy-replay -l expect -r -F -d 'Earlier output to compare with'
 complete -c radpolicy-replay -s S -r -F -d 'File with the shared secret'
 complete -c radpolicy-replay -l clients -r -F -d 'File with the clients and their secrets'
 complete -c radpolicy-replay -l format -x -a 'hex records detail log radclient radsniff' -d 'What the records are'

@@ -25,6 +25,8 @@ const ALL: &str = "all";
 
 const STRICT: &str = "strict";
 
+const EXPECT: &str = "expect";
+
 const SECRET: &str = "secret";
 
 const CLIENTS: &str = "clients";
@@ -73,6 +75,8 @@ pub struct Plan<'a> {
     pub policy: &'a str,
     pub comparison: Option<ComparisonPlan<'a>>,
     pub strict: bool,
+    /// An earlier output, with which this one is compared.
+    pub expected: Option<&'a str>,
     pub secret: SecretPlan<'a>,
     pub secrets: SecretValues,
     /// `None`: told from the input.
@@ -139,6 +143,14 @@ fn strict_option<'a>(alloc: Global) -> Arg<'a> {
         .long(STRICT)
         .action(ArgAction::SetTrue)
         .help("Ends with status 1 where a record is refused")
+}
+
+fn expect_option<'a>(alloc: Global) -> Arg<'a> {
+    Arg::new(alloc, EXPECT)
+        .long(EXPECT)
+        .value_name("FILE")
+        .action(ArgAction::Set)
+        .help("Ends with status 1 where the output differs from this earlier one, and tells where")
 }
 
 fn secret_option<'a>(alloc: Global) -> Arg<'a> {
@@ -208,6 +220,7 @@ fn program<'a>(alloc: Global) -> Result<clap::Command<'a>, AllocError> {
         .arg(ignore_option(alloc))?
         .arg(all_option(alloc))?
         .arg(strict_option(alloc))?
+        .arg(expect_option(alloc))?
         .arg(secret_option(alloc))?
         .arg(clients_option(alloc))?
         .arg(format_option(alloc))?
@@ -332,12 +345,31 @@ fn plan_of<'a>(alloc: Global, found: &ArgMatches<'a>) -> Result<Plan<'a>, Fault>
         policy: found.get_str(POLICY).ok_or(Fault::Usage)?,
         comparison: comparison_of(alloc, found)?,
         strict: found.get_flag(STRICT),
+        expected: found.get_str(EXPECT),
         secret: secret_plan(found)?,
         secrets: shown_secrets(found),
         traffic: traffic_of(found)?,
         zone: zone_of(found)?,
         dictionaries: Vec::from_slice(alloc, files)?,
     })
+}
+
+// Whether it is said how answers are compared.
+fn has_comparison(found: &ArgMatches<'_>) -> bool {
+    found.get_flag(ORDERED) || found.get_flag(ALL) || found.get_strs(IGNORE).is_some()
+}
+
+// What is wrong with words that are options and their values, if they are refused.
+fn refusal_of(found: &ArgMatches<'_>) -> &'static str {
+    if found.get_str(AGAINST).is_none() && has_comparison(found) {
+        "--ordered, --ignore and --all need --against\n"
+    } else if secret_plan(found).is_err() {
+        "write one of -S SECRET-FILE and --clients CLIENTS-FILE\n"
+    } else if traffic_of(found).is_err() {
+        "--format takes hex, records, detail, log, radclient or radsniff\n"
+    } else {
+        "--zone takes what a zone is ahead of UTC, as +01:00\n"
+    }
 }
 
 /// What the words of a command line ask for; the program's name is the first word.
@@ -353,7 +385,7 @@ pub fn read_words<'a, S: AsStr>(alloc: Global, words: &'a [S]) -> Result<Plan<'a
 /// The help that the words of a command line ask for, or what is wrong with them.
 pub fn help_text<'a, S: AsStr>(alloc: Global, words: &'a [S]) -> Result<String, AllocError> {
     match program(alloc)?.try_get_matches_from(words) {
-        Ok(_) => String::from_str(alloc, ""),
+        Ok(found) => String::from_str(alloc, refusal_of(&found)),
         Err(error) => error.to_string(alloc),
     }
 }

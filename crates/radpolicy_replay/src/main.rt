@@ -1,7 +1,9 @@
 //! The program: its words, the files that they name, and the replay of standard input.
 #![tactic(auto)]
 
+mod client_help;
 mod command_line;
+mod expected;
 mod summaries;
 mod traffic;
 
@@ -9,24 +11,30 @@ ghost use Rattle.std.specs.Prelude.{◌<◌, IfErr, IfOk, length};
 ghost use Rattle.avp_dict.specs.Lines.{HasDistinctNames};
 ghost use Rattle.radpolicy.specs.Faults.{IsPrintedAnywhere, IsPrintedWith};
 
+use crate::client_help::client_help;
 use crate::command_line::{AgainstPlan, Plan, SecretPlan, help_text, read_words};
+use crate::expected::{DIFFERENT, expected_status, open_expected};
 use crate::summaries::{PolicyTexts, show_summary};
 use crate::traffic::{Traffic, read_beginning};
 use avp_dict::{Dictionary, FileSet};
 use avp_lists::{AttrId, Octets};
 use radpolicy::{Fault, PreparedPolicy, Secret, status};
 use radpolicy_clients::{ClientFault, Clients, ClientsFault, read_clients};
-use radpolicy_common::{
-    Unread, read_dictionary_set, read_file, refuse, refuse_early, refuse_unread,
+use radpolicy_common::{Unread, read_dictionary_set, read_file, refuse_early, refuse_unread};
+use radpolicy_help::{
+    Source, Sources, explain_name, refuse_explained, refuse_unread_explained, refuse_words_of,
+    tell_help,
 };
 use radpolicy_replay_records::{
     Against, Comparison, RecordReader, Replay, ReplayFault, SharedSecrets, Summary,
 };
 use server_configuration::SystemFiles;
 use std::alloc::{AllocError, Global};
+use std::fs::File;
 use std::io;
-use std::io::{BufWriter, Read};
+use std::io::{BufReader, BufWriter, Read, Write};
 use std::process::ExitCode;
+use text_comparison::Watched;
 
 // What the files of a plan hold.
 #[derive(Drop)]
@@ -38,9 +46,6 @@ struct Files {
     // Empty where there are clients.
     secret: Octets,
 }
-
-// The status where a record is answered otherwise, or by --strict refused.
-const DIFFERENT: u8 = 1;
 
 // What the old policy's file holds; nothing where there is none.
 fn read_old_policy<'a>(rt: &HostRuntime, plan: &Plan<'a>) -> Result<Octets, Unread<'a>> {
@@ -89,53 +94,74 @@ fn refuse_replay(rt: &HostRuntime, fault: ReplayFault) -> u8 {
 }
 
 // The replay of an input whose records are known.
-fn run_traffic<R: Read + Drop>(
+fn run_traffic<R: Read + Drop, W: Write>(
     rt: &HostRuntime,
     plan: &Plan<'_>,
     replay: &Replay<'_>,
     traffic: Traffic,
     mut input: R,
+    out: &mut W,
 ) -> Result<Summary, ReplayFault> {
     let alloc = rt.alloc();
-    let Ok(mut out) = BufWriter::new(alloc, rt.stdout()) else {
-        return Err(ReplayFault::Memory);
-    };
     match traffic {
-        Traffic::Hex => replay.run(alloc, &mut input, &mut out),
+        Traffic::Hex => replay.run(alloc, &mut input, out),
         Traffic::Text(format) => {
             let mut records = RecordReader::new(alloc, input, format)?;
-            replay.run_records(alloc, plan.zone, &mut records, &mut out)
+            replay.run_records(alloc, plan.zone, &mut records, out)
         }
     }
 }
 
 // The same, where what the records are may be told from the input.
-fn run_input(
+fn run_input<W: Write>(
     rt: &HostRuntime,
     plan: &Plan<'_>,
     replay: &Replay<'_>,
+    out: &mut W,
 ) -> Result<Summary, ReplayFault> {
     let mut input = rt.stdin();
     if let Some(traffic) = plan.traffic {
-        return run_traffic(rt, plan, replay, traffic, input);
+        return run_traffic(rt, plan, replay, traffic, input, out);
     }
     let beginning = read_beginning(rt.alloc(), &mut input)?;
     let whole = beginning.octets.as_slice().chain(input);
-    run_traffic(rt, plan, replay, beginning.traffic, whole)
+    run_traffic(rt, plan, replay, beginning.traffic, whole, out)
 }
 
-fn replay_input(
+fn replay_to<W: Write>(
     rt: &HostRuntime,
     plan: &Plan<'_>,
     texts: PolicyTexts<'_>,
     replay: &Replay<'_>,
+    out: &mut W,
 ) -> u8 {
-    match run_input(rt, plan, replay) {
+    match run_input(rt, plan, replay, out) {
         Ok(summary) => match show_summary(rt, plan, texts, &summary) {
             Ok(()) => status_of(plan.strict, &summary),
             Err(_) => refuse_early(rt, &Fault::Memory),
         },
         Err(fault) => refuse_replay(rt, fault),
+    }
+}
+
+// The replay, whose output is compared with an earlier one where that is asked for.
+fn replay_input(
+    rt: &HostRuntime,
+    plan: &Plan<'_>,
+    texts: PolicyTexts<'_>,
+    replay: &Replay<'_>,
+    earlier: Option<BufReader<File>>,
+) -> u8 {
+    let Ok(mut out) = BufWriter::new(rt.alloc(), rt.stdout()) else {
+        return refuse_early(rt, &Fault::Memory);
+    };
+    match (plan.expected, earlier) {
+        (Some(path), Some(file)) => {
+            let mut watched = Watched::new(rt.alloc(), out, file);
+            let status = replay_to(rt, plan, texts, replay, &mut watched);
+            expected_status(rt, path, watched.first_other(), status)
+        }
+        _ => replay_to(rt, plan, texts, replay, &mut out),
     }
 }
 
@@ -156,10 +182,18 @@ fn named_attributes<'a>(
 }
 
 // A name that is no attribute's, with the name.
-fn refuse_name(rt: &HostRuntime, name: &str) -> u8 {
+fn refuse_name(rt: &HostRuntime, dictionary: &Dictionary, name: &str) -> u8 {
     let fault = Fault::OptionValue;
     let _ = eprintln!(rt; "radpolicy: E02 {name}: {fault}");
+    tell_help(rt, explain_name(rt.alloc(), dictionary, name));
     status(&fault)
+}
+
+// The policy whose file is read.
+#[derive(Clone, Copy)]
+enum Reading {
+    New,
+    Old,
 }
 
 // The policy that answers are compared with, if they are. The name of its file is said before what is wrong with it.
@@ -212,13 +246,14 @@ fn comparison_of<'a>(
 fn refuse_clients<'a>(rt: &HostRuntime, path: &'a str, refused: &ClientsFault) -> u8 {
     match refused.fault {
         ClientFault::Memory => refuse_early(rt, &Fault::Memory),
-        ClientFault::Unreadable => refuse_unread(rt, Unread::File(path)),
+        ClientFault::Unreadable => refuse_unread_explained(rt, Unread::File(path)),
         fault => {
             let line = refused.line;
             let _ = match String::from_utf8_lossy(rt.alloc(), &refused.path) {
                 Ok(file) => eprintln!(rt; "radpolicy: E02 {file}:{line}: {fault}"),
                 Err(_) => eprintln!(rt; "radpolicy: E02 {path}: {fault}"),
             };
+            tell_help(rt, client_help(rt.alloc(), fault));
             status(&Fault::OptionValue)
         }
     }
@@ -288,18 +323,25 @@ fn settings_of<'a>(
     };
     match named_attributes(rt.alloc(), dictionary, ignored_names(plan))? {
         Ok(ignored) => Ok(Ok(Settings { secrets, ignored })),
-        Err(name) => Ok(Err(refuse_name(rt, name))),
+        Err(name) => Ok(Err(refuse_name(rt, dictionary, name))),
     }
 }
 
-// What is read of the files, and the replay by it.
-fn replay_by(rt: &HostRuntime, plan: &Plan<'_>, files: &Files) -> Result<u8, Fault>
+// What is read of the files, and the replay by it. Which policy is read last is kept.
+fn replay_by(
+    rt: &HostRuntime,
+    plan: &Plan<'_>,
+    files: &Files,
+    earlier: Option<BufReader<File>>,
+    reading: &mut Reading,
+) -> Result<u8, Fault>
     requires first { 0 < length files.now.dictionary }
     requires distinct { HasDistinctNames files.now.dictionary }
     ensures { IfErr result (IsPrintedWith files.now.dictionary) }
 {
     let dictionary = Dictionary::read(rt.alloc(), &files.dictionary)?;
     let policy = PreparedPolicy::read(rt.alloc(), &dictionary, files.policy.as_slice())?;
+    *reading = Reading::Old;
     let against = read_against(rt, &dictionary, plan, files.against.as_slice())?;
     let settings = match settings_of(rt, plan, &dictionary, files.secret.as_slice())? {
         Ok(settings) => settings,
@@ -315,17 +357,75 @@ fn replay_by(rt: &HostRuntime, plan: &Plan<'_>, files: &Files) -> Result<u8, Fau
         new: files.policy.as_slice(),
         old: files.against.as_slice(),
     };
-    Ok(replay_input(rt, plan, texts, &replay))
+    Ok(replay_input(rt, plan, texts, &replay, earlier))
+}
+
+// The policy that was read last, as a file.
+fn policy_source<'a>(plan: &Plan<'a>, files: &'a Files, reading: Reading) -> Source<'a> {
+    match (reading, plan.old_policy()) {
+        (Reading::Old, Some(path)) => Source {
+            path,
+            text: files.against.as_slice(),
+        },
+        _ => Source {
+            path: plan.policy,
+            text: files.policy.as_slice(),
+        },
+    }
+}
+
+// The path of the secret's file; empty where there are clients.
+fn secret_path<'a>(plan: &Plan<'a>) -> &'a str {
+    match plan.secret {
+        SecretPlan::File(path) => path,
+        SecretPlan::Clients(_) => "",
+    }
+}
+
+// The files of a plan, with the policy that was read last.
+fn sources_of<'a>(plan: &'a Plan<'a>, files: &'a Files, reading: Reading) -> Sources<'a> {
+    let nothing = Source {
+        path: "",
+        text: &[],
+    };
+    Sources {
+        files: &files.dictionary,
+        dictionaries: &plan.dictionaries,
+        request: nothing,
+        is_request_wider: false,
+        policy: policy_source(plan, files, reading),
+        script: nothing,
+        secret: secret_path(plan),
+    }
+}
+
+// Refuses what is in the files.
+fn refuse_files(
+    rt: &HostRuntime,
+    plan: &Plan<'_>,
+    files: &Files,
+    fault: &Fault,
+    reading: Reading,
+) -> u8
+    requires { IsPrintedWith files.now.dictionary fault.now }
+{
+    let sources = sources_of(plan, files, reading);
+    refuse_explained(rt, fault, &files.dictionary, &sources)
 }
 
 fn replay_plan(rt: &HostRuntime, plan: &Plan<'_>) -> u8 {
     let files = match read_files(rt, plan) {
         Ok(files) => files,
-        Err(unread) => return refuse_unread(rt, unread),
+        Err(unread) => return refuse_unread_explained(rt, unread),
     };
-    match replay_by(rt, plan, &files) {
+    let earlier = match open_expected(rt, plan.expected) {
+        Ok(earlier) => earlier,
+        Err(unread) => return refuse_unread_explained(rt, unread),
+    };
+    let mut reading = Reading::New;
+    match replay_by(rt, plan, &files, earlier, &mut reading) {
         Ok(status) => status,
-        Err(fault) => refuse(rt, &fault, &files.dictionary),
+        Err(fault) => refuse_files(rt, plan, &files, &fault, reading),
     }
 }
 
@@ -343,7 +443,7 @@ fn replay_words(rt: &HostRuntime, words: &[String]) -> u8 {
     match read_words(rt.alloc(), words) {
         Ok(plan) => replay_plan(rt, &plan),
         Err(Fault::Help) => show_help(rt, words),
-        Err(fault) => refuse_early(rt, &fault),
+        Err(fault) => refuse_words_of(rt, &fault, "radpolicy-replay", help_text(rt.alloc(), words)),
     }
 }
 

@@ -17,7 +17,9 @@ use Rattle.radpolicy.specs.RunOutcomes.{end_of, outcome_with, sent_reply}
 use Rattle.radpolicy.specs.declared.run_outcomes.Reply.{Reply}
 use Rattle.radpolicy_replay_records.specs.Answers.{answer_to, answered, answered_record, outcome_or_fault}
 use Rattle.radpolicy_replay_records.specs.Replays.{answer_by}
+use Rattle.radpolicy_replay_records.specs.Requests.{answer_of, answered_from, lists_refusal, start_read, start_unless, started}
 use Rattle.radpolicy_replay_records.specs.declared.answers.RecordFault.{RecordFault}
+use Rattle.radpolicy_replay_records.specs.declared.requests.RecordRequest.{RecordRequest}
 use Rattle.radpolicy_replay_records.specs.internal.Over.{IsOver}
 
 -- a packet that is not read
@@ -64,17 +66,21 @@ over_run : (prepared : Prepared) (end : End) (sent : Option Reply) → IsOver pr
 over_run prepared end None = tt
 over_run prepared end (Some reply) = refl
 
-over_read : (prepared : Prepared) (secret : List ℕ) (read : Result Packet PacketFault) → IsOver prepared.dictionary (answered_record (answer_to prepared secret read))
-over_read prepared secret (Err f) = tt
-over_read prepared secret (Ok request) =
-    let start = start_of prepared (Some secret) Hex request in
-    over_run prepared (end_of start) (sent_reply start (end_of start))
+over_unless : (prepared : Prepared) (refusal : Option Fault) (start : Start) → start.prepared ≡ prepared → IsOver prepared.dictionary (answered_record (answer_of (start_unless refusal start)))
+over_unless prepared (Some f) start is = tt
+over_unless prepared None start is = subst (λ (p : Prepared). IsOver p.dictionary (answered_record (outcome_or_fault (outcome_of start)))) is (over_run start.prepared (end_of start) (sent_reply start (end_of start)))
 
-over_answer : (prepared : Prepared) (secret : Option (List ℕ)) (request : Result (List ℕ) RecordFault) → IsOver prepared.dictionary (answer_by prepared secret request)
-unfolding answered
+over_read : (prepared : Prepared) (secret : List ℕ) (given : RecordRequest) (read : Result Packet PacketFault) → IsOver prepared.dictionary (answered_record (answer_of (start_read prepared secret given read)))
+over_read prepared secret given (Err f) = tt
+over_read prepared secret given (Ok request) =
+    over_unless prepared (lists_refusal prepared.dictionary given.reply given.control)
+    (record (start_of prepared (Some secret) Hex request) { reply = given.reply; control = given.control }) refl
+
+over_answer : (prepared : Prepared) (secret : Option (List ℕ)) (request : Result RecordRequest RecordFault) → IsOver prepared.dictionary (answer_by prepared secret request)
+unfolding answered_from started
 over_answer prepared secret (Err f) = tt
-over_answer prepared None (Ok octets) = tt
-over_answer prepared (Some secret) (Ok octets) = over_read prepared secret (decoded prepared.dictionary secret octets)
+over_answer prepared None (Ok request) = tt
+over_answer prepared (Some secret) (Ok request) = over_read prepared secret request (decoded prepared.dictionary secret request.octets)
 
-pub answer_is_over : (prepared : Prepared) (secret : Option (List ℕ)) (request : Result (List ℕ) RecordFault) (answer : Result RunOutcome RecordFault) → answer ≡ answer_by prepared secret request → IsOver prepared.dictionary answer
+pub answer_is_over : (prepared : Prepared) (secret : Option (List ℕ)) (request : Result RecordRequest RecordFault) (answer : Result RunOutcome RecordFault) → answer ≡ answer_by prepared secret request → IsOver prepared.dictionary answer
 answer_is_over prepared secret request answer same = subst (IsOver prepared.dictionary) (sym same) (over_answer prepared secret request)

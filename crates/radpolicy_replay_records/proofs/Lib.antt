@@ -5,6 +5,7 @@ pub mod Fitting
 pub mod Progress
 pub mod Replying
 pub mod RequestRuns
+pub mod RequestStarts
 pub mod SameLists
 pub mod Telling
 pub mod Writing

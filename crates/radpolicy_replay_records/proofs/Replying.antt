@@ -14,24 +14,25 @@ use Rattle.radpolicy.specs.StartRefusals.{IsUnreadPacket}
 use Rattle.radpolicy.specs.Starts.{Prepared}
 use Rattle.radpolicy.specs.declared.faults.Fault.{Fault}
 use Rattle.radpolicy.specs.declared.faults.Fault.TheVariants as fault
-use Rattle.radpolicy_replay_records.specs.Answers.{answered}
 use Rattle.radpolicy_replay_records.specs.Captured.{AreSameReplies, compared_pairs, packet_or_fault, reply_to, same_replies}
 use Rattle.radpolicy_replay_records.specs.Comparisons.{same_lists}
+use Rattle.radpolicy_replay_records.specs.Requests.{answered_from, started}
 use Rattle.radpolicy_replay_records.specs.declared.comparisons.Comparison.{Comparison}
+use Rattle.radpolicy_replay_records.specs.declared.requests.RecordRequest.{RecordRequest}
 use Rattle.radpolicy_replay_records.specs.internal.Fitting.{HasHead}
 use Rattle.radpolicy_replay_records.proofs.SameLists.{means_test, test_means}
 
 -- ---- a request that is answered has its head
 
-short_is_refused : (prepared : Prepared) (secret octets : List ℕ) → nat_lt (length octets) packet_head_octets ≡ true → answered prepared secret octets ≡ Err (fault.Packet TooShort)
-unfolding answered decoded
-short_is_refused prepared secret octets short = rw short refl
+short_is_refused : (prepared : Prepared) (secret : List ℕ) (request : RecordRequest) → nat_lt (length request.octets) packet_head_octets ≡ true → answered_from prepared secret request ≡ Err (fault.Packet TooShort)
+unfolding answered_from started decoded
+short_is_refused prepared secret request short = rw short refl
 
-pub answered_has_head : (prepared : Prepared) (secret octets : List ℕ) (outcome : RunOutcome) → answered prepared secret octets ≡ Ok outcome → HasHead octets
-answered_has_head prepared secret octets outcome ran =
-    elim (nat_lt (length octets) packet_head_octets) as (λ b. nat_lt (length octets) packet_head_octets ≡ b → HasHead octets) [
-      | true ↦ λ e. let refused : answered prepared secret octets ≡ Err (fault.Packet TooShort) = short_is_refused prepared secret octets e in cc
-      | false ↦ λ e. ltb-false (length octets) packet_head_octets e
+pub answered_has_head : (prepared : Prepared) (secret : List ℕ) (request : RecordRequest) (outcome : RunOutcome) → answered_from prepared secret request ≡ Ok outcome → HasHead request.octets
+answered_has_head prepared secret request outcome ran =
+    elim (nat_lt (length request.octets) packet_head_octets) as (λ b. nat_lt (length request.octets) packet_head_octets ≡ b → HasHead request.octets) [
+      | true ↦ λ e. let refused : answered_from prepared secret request ≡ Err (fault.Packet TooShort) = short_is_refused prepared secret request e in cc
+      | false ↦ λ e. ltb-false (length request.octets) packet_head_octets e
     ] refl
 
 -- ---- a reply that is not read

@@ -23,7 +23,7 @@ use Rattle.radpolicy_common.specs.declared.change_texts.SecretValues.{SecretValu
 use Rattle.radpolicy_common.specs.declared.change_texts.SecretValues.TheVariants.{Hidden, Shown}
 use Rattle.radpolicy_common.specs.SecretAttributes.{is_secret}
 use Rattle.radpolicy_replay_records.specs.declared.answers.RecordFault.{RecordFault}
-use Rattle.radpolicy_replay_records.specs.declared.answers.RecordFault.TheVariants.{NoClient, Request, Text}
+use Rattle.radpolicy_replay_records.specs.declared.answers.RecordFault.TheVariants.{ControlList, NoClient, ReplyList, Request, Text}
 use Rattle.radpolicy_traffic_packets.specs.declared.faults.TextFault.{TextFault}
 use Rattle.radpolicy_traffic_packets.specs.declared.faults.TextFault.TheVariants as text
 
@@ -96,6 +96,8 @@ abbrev pub refusal_shown : RecordFault → List ℕ
 refusal_shown (Request f) = fault_shown f
 refusal_shown NoClient = codes "no client"
 refusal_shown (Text f) = text_fault_shown f
+refusal_shown (ReplyList f) = codes "reply list " ++ lines_fault_shown f
+refusal_shown (ControlList f) = codes "control list " ++ lines_fault_shown f
 
 -- what is said of an answer
 abbrev pub answer_shown : Dictionary → SecretValues → Result RunOutcome RecordFault → List ℕ

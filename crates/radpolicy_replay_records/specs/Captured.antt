@@ -18,10 +18,11 @@ use Rattle.radpolicy.specs.declared.faults.Fault.TheVariants as fault
 use Rattle.radpolicy.specs.declared.run_outcomes.Reply.{Reply}
 use Rattle.radpolicy.specs.declared.run_outcomes.Reply.TheVariants as reply
 use Rattle.radpolicy_common.specs.declared.change_texts.SecretValues.{SecretValues}
-use Rattle.radpolicy_replay_records.specs.Answers.{answered, fault_shown, refusal_shown, text_fault_shown}
+use Rattle.radpolicy_replay_records.specs.Answers.{fault_shown, refusal_shown, text_fault_shown}
 use Rattle.radpolicy_replay_records.specs.Comparisons.{AreSame, compared, same_lists}
 use Rattle.radpolicy_replay_records.specs.Differences.{added_line, list_change, named_change, removed_line}
 use Rattle.radpolicy_replay_records.specs.Records.{is_packet_word, line_words, octets_decoded, request_taken}
+use Rattle.radpolicy_replay_records.specs.Requests.{answered_from}
 use Rattle.radpolicy_replay_records.specs.declared.answers.RecordFault.{RecordFault}
 use Rattle.radpolicy_replay_records.specs.declared.answers.RecordFault.TheVariants.{NoClient, Request}
 use Rattle.radpolicy_replay_records.specs.declared.captured.CapturedFault.{CapturedFault}
@@ -35,6 +36,7 @@ use Rattle.radpolicy_replay_records.specs.declared.comparisons.Order.{Order}
 use Rattle.radpolicy_replay_records.specs.declared.comparisons.Order.TheVariants.{ByName, Ordered}
 use Rattle.radpolicy_replay_records.specs.declared.comparisons.Told.{Told}
 use Rattle.radpolicy_replay_records.specs.declared.comparisons.Told.TheVariants.{All, Different}
+use Rattle.radpolicy_replay_records.specs.declared.requests.RecordRequest.{RecordRequest}
 use Rattle.radpolicy_replay_records.specs.declared.summaries.Verdict.{Verdict}
 use Rattle.radpolicy_replay_records.specs.declared.summaries.Verdict.TheVariants as verdict
 use Rattle.radpolicy_traffic_packets.specs.declared.faults.TextFault.{TextFault}
@@ -122,12 +124,13 @@ replies_of dictionary secret request reply (Ok outcome) =
     beside_captured dictionary secret request outcome.reply reply
 
 -- the replies to a request that is given so, by the secret if there is one, with this one as what was captured
-abbrev pub replies_with : Prepared → Option (List ℕ) → CapturedReply → Result (List ℕ) RecordFault
-    → Replies
+abbrev pub replies_with : Prepared → Option (List ℕ) → CapturedReply
+    → Result RecordRequest RecordFault → Replies
 replies_with prepared secret reply (Err f) = Refused f
 replies_with prepared None reply (Ok request) = Refused NoClient
 replies_with prepared (Some secret) reply (Ok request) =
-    replies_of prepared.dictionary secret request reply (answered prepared secret request)
+    replies_of prepared.dictionary secret request.octets reply
+    (answered_from prepared secret request)
 
 -- the same, with what this word has the digits of as the one that was captured
 abbrev pub replies_by : Prepared → Option (List ℕ) → Option (List ℕ) → Result (List ℕ) Fault

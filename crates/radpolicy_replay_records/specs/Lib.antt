@@ -8,6 +8,7 @@ pub mod Lines
 pub mod RecordLines
 pub mod Records
 pub mod Replays
+pub mod Requests
 pub mod TextEntries
 pub mod TextReplays
 pub mod internal

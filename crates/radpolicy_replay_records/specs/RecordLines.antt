@@ -4,38 +4,38 @@ use Rattle.avp_lists.specs.declared.lists.List.{List as Name}
 use Rattle.avp_lists.specs.declared.lists.List.TheVariants.{Control, Reply}
 use Rattle.avp_lists.specs.declared.pairs.AttrId.{AttrId}
 use Rattle.avp_lists.specs.declared.pairs.Pair.{Pair}
-use Rattle.avp_packet.specs.Decoded.{decoded}
-use Rattle.avp_packet.specs.declared.faults.PacketFault.{PacketFault}
 use Rattle.avp_packet.specs.declared.packets.Packet.{Packet}
 use Rattle.avp_step.specs.Trace.{Entry as Step, trace_of}
 use Rattle.avp_unlang.specs.Meaning.{Outcome as End}
-use Rattle.radpolicy.specs.Starts.{Prepared, entry_of, start_of}
-use Rattle.radpolicy.specs.declared.jobs.Form.TheVariants.{Hex}
+use Rattle.radpolicy.specs.Starts.{Prepared, Start, entry_of}
+use Rattle.radpolicy.specs.declared.faults.Fault.{Fault}
 use Rattle.radpolicy_changing_lines.specs.ChangingLines.{last_entry}
 use Rattle.radpolicy_changing_lines.specs.Differences.{lines_of}
 use Rattle.radpolicy_changing_lines.specs.declared.differences.PolicyLine.{PolicyLine}
 use Rattle.radpolicy_replay_records.specs.Captured.{compared_pairs}
 use Rattle.radpolicy_replay_records.specs.Comparisons.{compared_list, ids_of, same_code, same_instances, same_stop}
+use Rattle.radpolicy_replay_records.specs.Requests.{started}
 use Rattle.radpolicy_replay_records.specs.declared.answers.RecordFault.{RecordFault}
 use Rattle.radpolicy_replay_records.specs.declared.captured.Replies.{Replies}
 use Rattle.radpolicy_replay_records.specs.declared.captured.Replies.TheVariants.{Both}
 use Rattle.radpolicy_replay_records.specs.declared.comparisons.Comparison.{Comparison}
+use Rattle.radpolicy_replay_records.specs.declared.requests.RecordRequest.{RecordRequest}
 
 -- ---- the run over a record's request
 
--- the steps of a policy's run over a packet that was read so; none where it was not read
-abbrev pub run_trace : Prepared → List ℕ → Result Packet PacketFault → Option (List Step)
-run_trace prepared secret (Err f) = None
-run_trace prepared secret (Ok request) = Some (trace_of prepared.dictionary prepared.statements
-    (entry_of (start_of prepared (Some secret) Hex request)))
+-- the steps of the run that begins so; none where none begins
+abbrev pub run_trace : Result Start Fault → Option (List Step)
+run_trace (Err f) = None
+run_trace (Ok start) =
+    Some (trace_of start.prepared.dictionary start.prepared.statements (entry_of start))
 
--- the same over a record's request, by the secret if there is one
-unfoldable pub request_trace : Prepared → Option (List ℕ) → Result (List ℕ) RecordFault
+-- the steps of a policy's run over a record's request, by the secret if there is one
+unfoldable pub request_trace : Prepared → Option (List ℕ) → Result RecordRequest RecordFault
     → Option (List Step)
 request_trace prepared secret (Err f) = None
-request_trace prepared None (Ok octets) = None
-request_trace prepared (Some secret) (Ok octets) =
-    run_trace prepared secret (decoded prepared.dictionary secret octets)
+request_trace prepared None (Ok request) = None
+request_trace prepared (Some secret) (Ok request) =
+    run_trace (started prepared secret request)
 
 -- ---- beside another policy's run
 

@@ -11,9 +11,11 @@ use Rattle.avp_dict.specs.Words.{is_blank, is_word}
 use Rattle.radpolicy.specs.declared.faults.Fault.{Fault}
 use Rattle.radpolicy.specs.declared.faults.Fault.TheVariants as fault
 use Rattle.radpolicy_clients.specs.Addresses.{address_of}
+use Rattle.radpolicy_replay_records.specs.Requests.{request_alone}
 use Rattle.radpolicy_replay_records.specs.declared.answers.RecordFault.{RecordFault}
 use Rattle.radpolicy_replay_records.specs.declared.answers.RecordFault.TheVariants.{Request}
 use Rattle.radpolicy_replay_records.specs.declared.lines.TheConstants.{MAX_LINE_OCTETS}
+use Rattle.radpolicy_replay_records.specs.declared.requests.RecordRequest.{RecordRequest}
 
 -- ---- words
 
@@ -111,8 +113,8 @@ octets_of_word None = Err fault.NotHex
 octets_of_word (Some word) = octets_decoded (decode_of word)
 
 -- a request, or why its record is refused
-abbrev pub request_taken : Result (List ℕ) Fault → Result (List ℕ) RecordFault
-request_taken (Ok octets) = Ok octets
+abbrev pub request_taken : Result (List ℕ) Fault → Result RecordRequest RecordFault
+request_taken (Ok octets) = Ok (request_alone octets)
 request_taken (Err f) = Err (Request f)
 
 -- the octets of the request: those of the first packet

@@ -7,7 +7,7 @@ use Rattle.radpolicy.specs.RunOutcomes.{RunOutcome}
 use Rattle.radpolicy.specs.Starts.{Prepared}
 use Rattle.radpolicy_changing_lines.specs.declared.differences.PolicyLine.{PolicyLine}
 use Rattle.radpolicy_clients.specs.Clients.{secret_for}
-use Rattle.radpolicy_replay_records.specs.Answers.{answer_shown, answered, answered_record}
+use Rattle.radpolicy_replay_records.specs.Answers.{answer_shown, answered_record}
 use Rattle.radpolicy_replay_records.specs.Captured.{replies_told, replies_with, verdict_of_replies}
 use Rattle.radpolicy_replay_records.specs.Differences.{answers_told, verdict_of_answers}
 use Rattle.radpolicy_replay_records.specs.Entries.{entry_of_line}
@@ -15,6 +15,7 @@ use Rattle.radpolicy_replay_records.specs.LineCounts.{with_lines}
 use Rattle.radpolicy_replay_records.specs.Lines.{ended_records_of, records_of}
 use Rattle.radpolicy_replay_records.specs.RecordLines.{lines_alone, lines_beside, request_trace}
 use Rattle.radpolicy_replay_records.specs.Records.{or_number, source_of}
+use Rattle.radpolicy_replay_records.specs.Requests.{answered_from}
 use Rattle.radpolicy_replay_records.specs.declared.answers.RecordFault.{RecordFault}
 use Rattle.radpolicy_replay_records.specs.declared.answers.RecordFault.TheVariants.{NoClient}
 use Rattle.radpolicy_replay_records.specs.declared.captured.Replies.{Replies}
@@ -27,6 +28,7 @@ use Rattle.radpolicy_replay_records.specs.declared.replays.ReplayFault.{ReplayFa
 use Rattle.radpolicy_replay_records.specs.declared.replays.ReplayFault.TheVariants.{Input, TooManyRecords}
 use Rattle.radpolicy_replay_records.specs.declared.replays.SharedSecrets.{SharedSecrets}
 use Rattle.radpolicy_replay_records.specs.declared.replays.SharedSecrets.TheVariants.{ByClient, One}
+use Rattle.radpolicy_replay_records.specs.declared.requests.RecordRequest.{RecordRequest}
 use Rattle.radpolicy_replay_records.specs.declared.summaries.Summary.{Summary}
 use Rattle.radpolicy_replay_records.specs.declared.summaries.Verdict.{Verdict}
 use Rattle.radpolicy_replay_records.specs.declared.summaries.Verdict.TheVariants.{Answered, Challenged, Different, Refused, Same, Unanswered}
@@ -39,11 +41,12 @@ record_secret (One secret) line = Some secret.now
 record_secret (ByClient clients) line = option_and_then (secret_for clients.now) (source_of line)
 
 -- what a policy answers to a request, by the secret if there is one
-abbrev pub answer_by : Prepared → Option (List ℕ) → Result (List ℕ) RecordFault
+abbrev pub answer_by : Prepared → Option (List ℕ) → Result RecordRequest RecordFault
     → Result RunOutcome RecordFault
 answer_by prepared secret (Err f) = Err f
-answer_by prepared None (Ok octets) = Err NoClient
-answer_by prepared (Some secret) (Ok octets) = answered_record (answered prepared secret octets)
+answer_by prepared None (Ok request) = Err NoClient
+answer_by prepared (Some secret) (Ok request) =
+    answered_record (answered_from prepared secret request)
 
 -- the reply to a record that was captured, and this policy's own
 abbrev pub entry_replies : Replay → Option (List ℕ) → Entry → Replies

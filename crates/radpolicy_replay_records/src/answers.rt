@@ -24,6 +24,10 @@ pub enum RecordFault {
     NoClient,
     /// Its lines make no packet.
     Text(TextFault),
+    /// A line of its reply list is refused; its number counts those lines.
+    ReplyList(LineFault),
+    /// A line of its control list is refused; its number counts those lines.
+    ControlList(LineFault),
 }
 
 /// What a policy answers to the octets of a packet: the outcome of its run, or why there is none.
@@ -133,6 +137,15 @@ fn push_lines_fault(text: &mut Vec<u8>, fault: LineFault) -> Result<(), AllocErr
     Ok(())
 }
 
+// The fault of a line of a list, after the list's name.
+fn push_list_fault(text: &mut Vec<u8>, name: &[u8], fault: LineFault) -> Result<(), AllocError>
+    ensures { OnOk result (text.new.items
+        ≡ text.old.items ++ name.now ++ lines_fault_shown fault) }
+{
+    text.extend_from_slice(name)?;
+    push_lines_fault(text, fault)
+}
+
 /// Why the lines of a record make no packet.
 pub(crate) fn push_text_fault(text: &mut Vec<u8>, fault: TextFault) -> Result<(), AllocError>
     ensures { OnOk result (text.new.items ≡ text.old.items ++ text_fault_shown fault) }
@@ -160,5 +173,7 @@ pub(crate) fn push_refusal(text: &mut Vec<u8>, fault: RecordFault) -> Result<(),
             Ok(())
         }
         RecordFault::Text(fault) => push_text_fault(text, fault),
+        RecordFault::ReplyList(fault) => push_list_fault(text, b"reply list ", fault),
+        RecordFault::ControlList(fault) => push_list_fault(text, b"control list ", fault),
     }
 }

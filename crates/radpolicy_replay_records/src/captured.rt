@@ -15,10 +15,11 @@ ghost use Rattle.radpolicy_replay_records.specs.declared.summaries.Verdict.TheVa
 ghost use Rattle.radpolicy_replay_records.specs.Records.{request_octets};
 ghost use Rattle.radpolicy_replay_records.specs.internal.Fitting.{HasHead, OwnFits, PacketFits, RepliesFit};
 
-use crate::answers::{RecordFault, answer, push_fault, push_refusal, push_text_fault};
+use crate::answers::{RecordFault, push_fault, push_refusal, push_text_fault};
 use crate::comparisons::{Comparison, Order, Told, compared, same_lists};
 use crate::differences::{Printer, push_named};
 use crate::entries::{Entry, entry_of_line};
+use crate::requests::RecordRequest;
 use crate::summaries::Verdict;
 use avp_dict::Dictionary;
 use avp_lists::{AttrId, Octets, Pair};
@@ -267,27 +268,27 @@ fn beside_captured(
     }
 }
 
-// The replies to the request of these octets.
+// The replies to this request.
 #[tactic(auto, using(crate::proofs::Replying::answered_has_head))]
 fn replies_of<'a>(
     alloc: Global,
     policy: &'a PreparedPolicy<'a>,
     secret: &'a Secret<'a>,
-    request: &[u8],
+    request: &RecordRequest,
     captured: &CapturedReply,
 ) -> Result<Replies, AllocError>
     ensures replies { IfOk result (λ replies. replies ≡ replies_with policy.entry.now
         (Some secret.entry.now) captured.now (Ok request.now)) }
     ensures fit { IfOk result (RepliesFit policy.entry.now.dictionary) }
 {
-    match answer(alloc, policy, secret, request) {
+    match request.answer(alloc, policy, secret) {
         Ok(outcome) => {
             let dictionary = policy.dictionary();
             beside_captured(
                 alloc,
                 dictionary,
                 secret,
-                request,
+                request.octets.as_slice(),
                 outcome.reply(),
                 captured,
             )
@@ -301,7 +302,7 @@ fn replies_with<'a>(
     alloc: Global,
     policy: &'a PreparedPolicy<'a>,
     secret: &'a Option<Secret<'a>>,
-    request: &[u8],
+    request: &RecordRequest,
     captured: &CapturedReply,
 ) -> Result<Replies, AllocError>
     ensures replies { IfOk result (λ replies. replies ≡ replies_with policy.entry.now
@@ -327,7 +328,7 @@ pub(crate) fn entry_replies<'a>(
     ensures fit { IfOk result (RepliesFit policy.entry.now.dictionary) }
 {
     match &entry.request {
-        Ok(request) => replies_with(alloc, policy, secret, request.as_slice(), &entry.reply),
+        Ok(request) => replies_with(alloc, policy, secret, request, &entry.reply),
         Err(fault) => Ok(Replies::Refused(*fault)),
     }
 }

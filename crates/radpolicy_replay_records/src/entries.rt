@@ -8,6 +8,7 @@ ghost use Rattle.radpolicy_replay_records.specs.Records.{request_octets, request
 use crate::answers::RecordFault;
 use crate::captured::{CapturedFault, CapturedReply};
 use crate::records::{line_identifier, octets_of_digits, reply_word, request_octets};
+use crate::requests::RecordRequest;
 use avp_lists::Octets;
 use radpolicy::Fault;
 use std::alloc::{AllocError, Global};
@@ -17,17 +18,20 @@ use std::alloc::{AllocError, Global};
 pub struct Entry {
     /// It is empty where the record has none.
     pub identifier: Octets,
-    pub request: Result<Octets, RecordFault>,
+    pub request: Result<RecordRequest, RecordFault>,
     /// The reply that was captured.
     pub reply: CapturedReply,
 }
 
-// The octets of a line's request, or why its record is refused.
-fn taken_request(alloc: Global, line: &[u8]) -> Result<Result<Octets, RecordFault>, AllocError>
+// A line's request, or why its record is refused.
+fn taken_request(
+    alloc: Global,
+    line: &[u8],
+) -> Result<Result<RecordRequest, RecordFault>, AllocError>
     ensures { IfOk result (λ request. request ≡ request_taken (request_octets line.now)) }
 {
     match request_octets(alloc, line) {
-        Ok(octets) => Ok(Ok(Octets::from_vec(octets))),
+        Ok(octets) => Ok(Ok(RecordRequest::new(alloc, Octets::from_vec(octets)))),
         Err(Fault::Memory) => Err(AllocError),
         Err(fault) => Ok(Err(RecordFault::Request(fault))),
     }

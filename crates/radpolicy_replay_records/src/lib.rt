@@ -12,6 +12,7 @@ mod lines;
 mod record_lines;
 mod records;
 mod replays;
+mod requests;
 mod summaries;
 mod text_entries;
 
@@ -24,4 +25,5 @@ pub use line_counts::{LineCount, LineCounts};
 pub use lines::MAX_LINE_OCTETS;
 pub use records::request_octets;
 pub use replays::{Replay, ReplayFault, SharedSecrets};
+pub use requests::RecordRequest;
 pub use summaries::{Summary, Verdict};

@@ -9,32 +9,32 @@ ghost use Rattle.radpolicy_replay_records.specs.RecordLines.{differing_ids, diff
 use crate::captured::Replies;
 use crate::comparisons::{Comparison, compared, ids_of, same_code, same_instances, same_stop};
 use crate::entries::Entry;
+use crate::requests::RecordRequest;
 use avp_lists::{AttrId, List, Pair, SlotStore, Store};
 use avp_packet::Packet;
 use avp_step::Stepper;
-use radpolicy::{Fault, PreparedPolicy, Secret, Start};
+use radpolicy::{Fault, PreparedPolicy, Secret};
 use radpolicy_changing_lines::{Difference, PolicyLine, Runs};
 use std::alloc::{AllocError, Global};
 
-// The run of a policy over a request, at its start, if there is a secret and the request is read.
-#[tactic(auto, using(crate::proofs::RequestRuns::ran, crate::proofs::RequestRuns::not_read, crate::proofs::RequestRuns::no_secret))]
-fn octets_run<'a>(
+// The run of a policy over a request, at its start, if there is a secret and the run begins.
+#[tactic(auto, using(crate::proofs::RequestRuns::ran, crate::proofs::RequestRuns::not_begun, crate::proofs::RequestRuns::no_secret))]
+fn request_run<'a>(
     alloc: Global,
     policy: &'a PreparedPolicy<'a>,
     secret: &'a Option<Secret<'a>>,
-    octets: &[u8],
+    request: &RecordRequest,
 ) -> Result<Option<Stepper<'a, SlotStore>>, AllocError>
     ensures { IfOk result (λ run. option_map (λ (walk : Walk). walk.trace) run
-        ≡ request_trace policy.entry.now secret.entry.now (Ok octets.now)) }
+        ≡ request_trace policy.entry.now secret.entry.now (Ok request.now)) }
 {
     let Some(secret) = secret else {
         return Ok(None);
     };
-    match Start::of_packet(alloc, policy, secret, octets) {
+    match request.start(alloc, policy, secret) {
         Ok(start) => Ok(Some(start.stepper(alloc)?)),
-        Err(Fault::Packet(_)) => Ok(None),
-        // Every other fault is want of memory.
-        Err(_) => Err(AllocError),
+        Err(Fault::Memory) => Err(AllocError),
+        Err(_) => Ok(None),
     }
 }
 
@@ -50,7 +50,7 @@ pub(crate) fn run_of<'a>(
         ≡ request_trace policy.entry.now secret.entry.now entry.now.request) }
 {
     match &entry.request {
-        Ok(octets) => octets_run(alloc, policy, secret, octets.as_slice()),
+        Ok(request) => request_run(alloc, policy, secret, request),
         Err(_) => Ok(None),
     }
 }

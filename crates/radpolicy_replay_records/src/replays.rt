@@ -13,7 +13,7 @@ ghost use Rattle.radpolicy_replay_records.specs.declared.comparisons.Against.The
 ghost use Rattle.radpolicy_replay_records.specs.declared.replays.ReplayFault.TheVariants.{Input as NotRead, Memory as OutOfMemory, Output as NotWritten};
 ghost use Rattle.radpolicy_replay_records.specs.internal.Positions.{CountsWithin, HasNoEnd, IsEntryReason, IsLineReason, IsOctetsReason, Writes, WritesFront, line_counted, line_text};
 
-use crate::answers::{RecordFault, answer, push_outcome, push_refusal};
+use crate::answers::{RecordFault, push_outcome, push_refusal};
 use crate::captured::entry_replies;
 use crate::comparisons::{Against, Comparison};
 use crate::differences::Printer;
@@ -22,6 +22,7 @@ use crate::inputs::Records;
 use crate::lines::{MAX_LINE_OCTETS, first_line_end, is_record, keep};
 use crate::record_lines::run_of;
 use crate::records::{push_name, source_of};
+use crate::requests::RecordRequest;
 use crate::summaries::{Summary, Verdict};
 use crate::text_entries::{entry_of_record, text_source};
 use radpolicy::{Fault, PreparedPolicy, RunOutcome, Secret};
@@ -156,15 +157,15 @@ fn answer_by<'a>(
     alloc: Global,
     policy: &'a PreparedPolicy<'a>,
     secret: &'a Option<Secret<'a>>,
-    octets: &[u8],
+    request: &RecordRequest,
 ) -> Result<Result<RunOutcome<'a>, RecordFault>, AllocError>
     ensures { IfOk result (λ answer.
-        answer ≡ answer_by policy.entry.now secret.entry.now (Ok octets.now)) }
+        answer ≡ answer_by policy.entry.now secret.entry.now (Ok request.now)) }
 {
     let Some(secret) = secret else {
         return Ok(Err(RecordFault::NoClient));
     };
-    match answer(alloc, policy, secret, octets) {
+    match request.answer(alloc, policy, secret) {
         Ok(outcome) => Ok(Ok(outcome)),
         Err(Fault::Memory) => Err(AllocError),
         Err(fault) => Ok(Err(RecordFault::Request(fault))),
@@ -182,7 +183,7 @@ fn entry_answer<'a>(
         answer ≡ answer_by policy.entry.now secret.entry.now entry.now.request) }
 {
     match &entry.request {
-        Ok(octets) => answer_by(alloc, policy, secret, octets.as_slice()),
+        Ok(request) => answer_by(alloc, policy, secret, request),
         Err(fault) => Ok(Err(*fault)),
     }
 }

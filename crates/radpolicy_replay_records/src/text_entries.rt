@@ -1,15 +1,17 @@
 //! What records of attribute lines say.
 
-ghost use Rattle.std.specs.Prelude.{◌≡◌, IfOk, Some};
-ghost use Rattle.radpolicy_replay_records.specs.TextEntries.{IsCaptured, IsCapturedOf, IsEntryOf, IsReplyOf, IsReplyWritten, IsRequestBy, IsRequestOf, text_identifier, text_source};
+ghost use Rattle.std.specs.Prelude.{◌≡◌, Err, IfErr, IfOk, List, None, Some, ℕ};
+ghost use Rattle.radpolicy_replay_records.specs.TextEntries.{HasPacket, IsCaptured, IsCapturedOf, IsEntryOf, IsReplyOf, IsReplyWritten, IsRequestBy, IsRequestOf, list_of_lines, text_identifier, text_source};
 ghost use Rattle.radpolicy_replay_records.specs.internal.Fitting.{HasHead};
 
 use crate::answers::RecordFault;
 use crate::captured::{CapturedFault, CapturedReply, copy_authenticator};
 use crate::entries::Entry;
 use crate::records::push_word;
-use avp_dict::Dictionary;
-use avp_lists::Octets;
+use crate::requests::RecordRequest;
+use avp_dict::{Dictionary, LineFault, LineKind};
+use avp_forms::{Profile, read_request};
+use avp_lists::{Octets, Pairs};
 use radpolicy::Secret;
 use radpolicy_clients::address_of;
 use radpolicy_traffic::{Code, Record, Reply};
@@ -39,20 +41,88 @@ pub(crate) fn text_source(record: &Record) -> Option<IpAddr>
 }
 
 // The packet of a record's request, or why it has none.
-fn request_by(
+fn packet_by(
     alloc: Global,
     dictionary: &Dictionary,
     zone: Option<i16>,
     secret: &Secret<'_>,
     record: &Record,
 ) -> Result<Result<Octets, RecordFault>, AllocError>
-    ensures request { IfOk result (IsRequestBy dictionary.now zone secret.now record.now) }
-    ensures head { IfOk result (λ request. IfOk request HasHead) }
+    ensures packet { IfOk result (λ packet. IfOk packet
+        (HasPacket dictionary.now zone secret.now record.now)) }
+    ensures head { IfOk result (λ packet. IfOk packet HasHead) }
+    ensures refused { IfOk result (λ packet. IfErr packet
+        (λ fault. IsRequestBy dictionary.now zone secret.now record.now (Err fault))) }
 {
     match request_packet(alloc, dictionary, secret.as_slice(), zone, record) {
         Ok(octets) => Ok(Ok(Octets::from_vec(octets))),
         Err(TextFault::Memory) => Err(AllocError),
         Err(fault) => Ok(Err(RecordFault::Text(fault))),
+    }
+}
+
+// The list of lines, or the fault of one of them.
+fn list_of_lines(
+    alloc: Global,
+    dictionary: &Dictionary,
+    zone: Option<i16>,
+    lines: &[u8],
+) -> Result<Result<Pairs, LineFault>, AllocError>
+    ensures list { IfOk result (λ list. IfOk list (λ pairs.
+        list_of_lines dictionary.now zone lines.now ≡ Some pairs)) }
+    ensures refused { IfOk result (λ list. IfErr list (λ _.
+        list_of_lines dictionary.now zone lines.now ≡ None)) }
+{
+    match read_request(alloc, dictionary, Profile::Wider, zone, lines) {
+        Ok(pairs) => Ok(Ok(Pairs::from_vec(pairs))),
+        Err(fault) => match fault.kind {
+            LineKind::Memory => Err(AllocError),
+            _ => Ok(Err(fault)),
+        },
+    }
+}
+
+// The request of a record with this packet, or why it has none.
+fn with_lists(
+    alloc: Global,
+    dictionary: &Dictionary,
+    zone: Option<i16>,
+    record: &Record,
+    octets: Octets,
+) -> Result<Result<RecordRequest, RecordFault>, AllocError>
+    ensures request { IfOk result (λ request. (secret : List ℕ)
+        → HasPacket dictionary.now zone secret record.now octets
+        → IsRequestBy dictionary.now zone secret record.now request) }
+    ensures same { IfOk result (λ request. IfOk request (λ given. given.octets ≡ octets)) }
+{
+    let reply = match list_of_lines(alloc, dictionary, zone, &record.initial_reply)? {
+        Ok(reply) => reply,
+        Err(fault) => return Ok(Err(RecordFault::ReplyList(fault))),
+    };
+    match list_of_lines(alloc, dictionary, zone, &record.initial_control)? {
+        Ok(control) => Ok(Ok(RecordRequest {
+            octets,
+            reply,
+            control,
+        })),
+        Err(fault) => Ok(Err(RecordFault::ControlList(fault))),
+    }
+}
+
+// The request of a record, or why it has none.
+fn request_by(
+    alloc: Global,
+    dictionary: &Dictionary,
+    zone: Option<i16>,
+    secret: &Secret<'_>,
+    record: &Record,
+) -> Result<Result<RecordRequest, RecordFault>, AllocError>
+    ensures request { IfOk result (IsRequestBy dictionary.now zone secret.now record.now) }
+    ensures head { IfOk result (λ request. IfOk request (λ given. HasHead given.octets)) }
+{
+    match packet_by(alloc, dictionary, zone, secret, record)? {
+        Ok(octets) => with_lists(alloc, dictionary, zone, record, octets),
+        Err(fault) => Ok(Err(fault)),
     }
 }
 
@@ -133,12 +203,12 @@ fn entry_by(
 {
     let identifier = Octets::from_vec(text_identifier(alloc, &record.identifier)?);
     match request_by(alloc, dictionary, zone, secret, record)? {
-        Ok(octets) => {
-            let request = octets.as_slice();
-            let reply = captured_by(alloc, dictionary, zone, secret, request, &record.reply)?;
+        Ok(request) => {
+            let octets = request.octets.as_slice();
+            let reply = captured_by(alloc, dictionary, zone, secret, octets, &record.reply)?;
             Ok(Entry {
                 identifier,
-                request: Ok(octets),
+                request: Ok(request),
                 reply,
             })
         }

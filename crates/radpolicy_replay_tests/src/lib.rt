@@ -8,6 +8,8 @@ mod comparisons;
 #[cfg(test)]
 mod faults;
 #[cfg(test)]
+mod initial_lists;
+#[cfg(test)]
 mod records;
 #[cfg(test)]
 mod replays;
