@@ -1,0 +1,6 @@
+pub mod Markings
+pub mod PageParts
+pub mod PolicyLines
+pub mod SecretAttributes
+pub mod Splicing
+pub mod Writings

@@ -1,0 +1,47 @@
+-- The parts of a page, by the names of the code.
+use Rattle.std.proofs.Common.{◌≡◌, ◌∙◌, ℕ, ◌-◌, List, length, sym, ap, subst}
+use Rattle.avp_lists.specs.declared.lists.State.{State}
+use Rattle.avp_dict.specs.Dictionary.{Dictionary}
+use Rattle.avp_step.specs.Trace.{Entry}
+use Rattle.avp_step.specs.Walk.{Walk, walk_from}
+use Rattle.avp_unlang.specs.declared.tree.Statement.{Statement}
+use Rattle.radpolicy.specs.Starts.{Start, entry_of}
+use Rattle.radpolicy.specs.declared.run_outcomes.Reply.{Reply}
+use Rattle.radpolicy_common.specs.declared.change_texts.SecretValues.{SecretValues}
+use Rattle.radpolicy_page_data.specs.Differences.{lists_at}
+use Rattle.radpolicy_page_data.specs.Embedding.{embedded, markup_text}
+use Rattle.radpolicy_page_data.specs.Packets.{reply_text}
+use Rattle.radpolicy_page_data.specs.Pages.{IsPage, IsRedactionOf, IsTooLargeFor, data_text, last_lists, lists_text, trace_from}
+use Rattle.radpolicy_page_data.specs.Positions.{ArePositions, IsTooLarge}
+use Rattle.radpolicy_page_data.specs.Secrets.{AreSecret, Redaction, lines_of}
+use Rattle.radpolicy_page_data.specs.declared.pages.Page.{Page}
+
+module _ (start : Start) (secrets : SecretValues) (redaction : Redaction) (dictionary : Dictionary) (statements : List Statement) (w : Walk) where
+  redacts : redaction.dictionary ≡ dictionary → redaction.secrets ≡ secrets → AreSecret dictionary (lines_of statements) redaction.ids → dictionary ≡ start.prepared.dictionary → statements ≡ start.prepared.statements → IsRedactionOf start secrets redaction
+  redacts d s ids is_dictionary is_statements = record {
+    dictionary = d ∙ is_dictionary;
+    secrets = s;
+    ids = subst (λ (x : Dictionary). AreSecret x (lines_of start.prepared.statements) redaction.ids) is_dictionary
+        (subst (λ (ss : List Statement). AreSecret dictionary (lines_of ss) redaction.ids) is_statements ids);
+  }
+
+  pub too_large : redaction.dictionary ≡ dictionary → redaction.secrets ≡ secrets → AreSecret dictionary (lines_of statements) redaction.ids → dictionary ≡ start.prepared.dictionary → statements ≡ start.prepared.statements
+      → w ≡ walk_from start.prepared.dictionary start.prepared.statements (entry_of start) → IsTooLarge redaction w.trace → IsTooLargeFor start secrets
+  too_large d s ids is_dictionary is_statements walk large =
+      (redaction, redacts d s ids is_dictionary is_statements, subst (λ (v : Walk). IsTooLarge redaction v.trace) walk large)
+
+  pub page_is : (policy told positions : List ℕ) (reply : Reply) (lists : State) (page : Page)
+      → redaction.dictionary ≡ dictionary → redaction.secrets ≡ secrets → AreSecret dictionary (lines_of statements) redaction.ids → dictionary ≡ start.prepared.dictionary → statements ≡ start.prepared.statements
+      → w ≡ walk_from start.prepared.dictionary start.prepared.statements (entry_of start) → ArePositions redaction w.trace (length w.trace) told → lists ≡ lists_at w.trace (length w.trace - 1) → positions ≡ told
+      → page.run.items ≡ embedded (data_text redaction policy positions (reply_text redaction lists.reply reply)) → page.lists.items ≡ markup_text (lists_text redaction lists) → IsPage start secrets policy reply page
+  page_is policy told positions reply lists page d s ids is_dictionary is_statements walk are is_lists is_positions run shown =
+      let last : lists ≡ last_lists (trace_from start) = is_lists ∙ ap (λ (v : Walk). lists_at v.trace (length v.trace - 1)) walk in
+      record {
+        redaction = redaction;
+        positions = positions;
+        redacts = redacts d s ids is_dictionary is_statements;
+        are = subst (λ (text : List ℕ). ArePositions redaction (trace_from start) (length (trace_from start)) text) (sym is_positions)
+            (subst (λ (v : Walk). ArePositions redaction v.trace (length v.trace) told) walk are);
+        run = run ∙ ap (λ (own : State). embedded (data_text redaction policy positions (reply_text redaction own.reply reply))) last;
+        lists = shown ∙ ap (λ (own : State). markup_text (lists_text redaction own)) last;
+      }

@@ -1,0 +1,72 @@
+-- What a page shows of a run.
+use Rattle.std.specs.Prelude.{◌≡◌, ℕ, ◌-◌, Bool, true, false, List, [], ◌++◌, codes, length}
+use Rattle.std.specs.List.{flat_map}
+use Rattle.avp_lists.specs.declared.lists.State.{State}
+use Rattle.avp_lists.specs.declared.pairs.Pair.{Pair}
+use Rattle.avp_step.specs.Trace.{Entry, trace_of}
+use Rattle.radpolicy.specs.Starts.{Start, entry_of}
+use Rattle.radpolicy.specs.declared.run_outcomes.Reply.{Reply}
+use Rattle.radpolicy_common.specs.declared.change_texts.SecretValues.{SecretValues}
+use Rattle.radpolicy_common.specs.declared.change_texts.SecretValues.TheVariants.{Hidden, Shown}
+use Rattle.radpolicy_page_data.specs.Differences.{lists_at}
+use Rattle.radpolicy_page_data.specs.Embedding.{embedded, markup_text, string_text}
+use Rattle.radpolicy_page_data.specs.Packets.{reply_text}
+use Rattle.radpolicy_page_data.specs.Policies.{policy_shown}
+use Rattle.radpolicy_page_data.specs.Positions.{ArePositions, IsTooLarge}
+use Rattle.radpolicy_page_data.specs.Secrets.{AreSecret, Redaction, lines_of, redacted}
+use Rattle.radpolicy_page_data.specs.declared.pages.Page.{Page}
+
+-- the trace of the run from a start
+abbrev pub trace_from : Start → List Entry
+trace_from start = trace_of start.prepared.dictionary start.prepared.statements (entry_of start)
+
+-- the lists at the end of a trace
+abbrev pub last_lists : List Entry → State
+last_lists trace = lists_at trace (length trace - 1)
+
+-- what is hidden of the run
+pub record IsRedactionOf (start : Start) (asked : SecretValues) (redaction : Redaction) : Type 0 where
+  pub dictionary : redaction.dictionary ≡ start.prepared.dictionary
+  pub secrets : redaction.secrets ≡ asked
+  pub ids : AreSecret start.prepared.dictionary (lines_of start.prepared.statements) redaction.ids
+
+-- ---- the lists at the end, as a text
+
+abbrev pub pair_line : Redaction → Pair → List ℕ
+pair_line redaction pair = codes "  " ++ redacted redaction pair ++ codes "\n"
+
+abbrev pub list_lines : Redaction → List ℕ → List Pair → List ℕ
+list_lines redaction name pairs = name ++ codes "\n" ++ flat_map (pair_line redaction) pairs
+
+unfoldable pub lists_text : Redaction → State → List ℕ
+lists_text redaction lists = list_lines redaction (codes "request") lists.request
+    ++ list_lines redaction (codes "reply") lists.reply
+    ++ list_lines redaction (codes "control") lists.control
+
+-- ---- the data, as JSON
+
+abbrev pub hidden_text : SecretValues → List ℕ
+hidden_text Hidden = codes "true"
+hidden_text Shown = codes "false"
+
+-- whether values are hidden, the policy's text, the positions, and what is sent
+unfoldable pub data_text : Redaction → List ℕ → List ℕ → List ℕ → List ℕ
+data_text redaction policy positions sent =
+    codes "{\"hidden\":" ++ hidden_text redaction.secrets
+    ++ codes ",\"policy\":" ++ string_text (policy_shown redaction policy)
+    ++ codes ",\"positions\":[" ++ positions ++ codes "],\"reply\":" ++ sent ++ codes "}"
+
+-- the page of a run with this policy's text, which sends this
+pub record IsPage (start : Start) (secrets : SecretValues) (policy : List ℕ) (reply : Reply) (page : Page) : Type 0 where
+  pub redaction : Redaction
+  pub positions : List ℕ
+  pub redacts : IsRedactionOf start secrets redaction
+  pub are : ArePositions redaction (trace_from start) (length (trace_from start)) positions
+  pub run : page.run.items ≡ embedded (data_text redaction policy positions
+      (reply_text redaction (last_lists (trace_from start)).reply reply))
+  pub lists : page.lists.items ≡ markup_text (lists_text redaction (last_lists (trace_from start)))
+
+-- the positions of the run are too large for a page
+abbrev pub IsTooLargeFor : Start → SecretValues → Type 0
+IsTooLargeFor start secrets = (redaction : Redaction)
+    × IsRedactionOf start secrets redaction × IsTooLarge redaction (trace_from start)

@@ -1,0 +1,126 @@
+-- Which attributes are secret in a policy, and what is shown of them.
+use Rattle.std.specs.Prelude.{◌≡◌, ℕ, Bool, true, false, ◌||◌, if◌then◌else◌, List, [], ◌∷◌, ◌++◌, codes, Option, None, Some}
+use Rattle.std.specs.List.{flat_map, list_any}
+use Rattle.avp_lists.specs.Pairs.{id_eq}
+use Rattle.avp_lists.specs.declared.pairs.AttrId.{AttrId}
+use Rattle.avp_lists.specs.declared.pairs.Pair.{Pair}
+use Rattle.avp_lists.specs.declared.pairs.Value.{Value}
+use Rattle.avp_lists.specs.declared.pairs.Value.TheVariants.{Int}
+use Rattle.avp_dict.specs.Dictionary.{Dictionary}
+use Rattle.avp_forms.specs.Printing.{printed_pair_name, printed_pair_text}
+use Rattle.avp_forms.specs.declared.profiles.Profile.TheVariants.{Wider}
+use Rattle.avp_unlang.specs.declared.tree.Line.{Line}
+use Rattle.avp_unlang.specs.declared.tree.Part.{Part}
+use Rattle.avp_unlang.specs.declared.tree.Part.TheVariants as part
+use Rattle.avp_unlang.specs.declared.tree.Source.{Source}
+use Rattle.avp_unlang.specs.declared.tree.Source.TheVariants as source
+use Rattle.avp_unlang.specs.declared.tree.Statement.{Statement}
+use Rattle.avp_unlang.specs.declared.tree.Statement.TheFolds.{fold-Statement, fold-Branch}
+use Rattle.avp_unlang.specs.declared.tree.Branch.{Branch}
+use Rattle.avp_unlang.specs.declared.tree.Statement.TheOpen.{Statement-F, Branch-F, Update, If, Transaction, Word}
+use Rattle.radpolicy_common.specs.SecretAttributes.{is_secret}
+use Rattle.radpolicy_common.specs.declared.change_texts.SecretValues.{SecretValues}
+use Rattle.radpolicy_common.specs.declared.change_texts.SecretValues.TheVariants.{Hidden, Shown}
+
+-- ---- the update lines of a policy, in the order of its text
+
+abbrev pub joined : List (List Line) → List Line
+joined = flat_map (λ (lines : List Line). lines)
+
+abbrev pub joined_if_given : Option (List (List Line)) → List Line
+joined_if_given None = []
+joined_if_given (Some block) = joined block
+
+abbrev pub statement_lines : Statement-F (List Line) (List Line) → List Line
+statement_lines (Update n lines) = lines
+statement_lines (If branches otherwise) = joined branches ++ joined_if_given otherwise
+statement_lines (Transaction n block) = joined block
+statement_lines (Word n word) = []
+
+abbrev pub branch_lines : Branch-F (List Line) (List Line) → List Line
+branch_lines b = joined b.block
+
+unfoldable pub lines_in : Statement → List Line
+lines_in = fold-Statement (List Line) (List Line) statement_lines branch_lines
+
+unfoldable pub lines_in_branch : Branch → List Line
+lines_in_branch = fold-Branch (List Line) (List Line) statement_lines branch_lines
+
+abbrev pub lines_of : List Statement → List Line
+lines_of statements = flat_map lines_in statements
+
+-- ---- the attributes that a source names
+
+-- in an expansion
+abbrev pub part_names : (AttrId → Bool) → Part → Bool
+part_names passes (part.Text octets) = false
+part_names passes (part.Instance list id) = passes id
+part_names passes (part.Meant list id selection) = passes id
+
+-- by `&`, or in an expansion
+abbrev pub source_names : (AttrId → Bool) → Source → Bool
+source_names passes (source.Literal value) = false
+source_names passes (source.Text raw parts) = list_any (part_names passes) parts
+source_names passes (source.WiderText raw tag parts) = list_any (part_names passes) parts
+source_names passes (source.Instance list id) = passes id
+source_names passes (source.Tagged list id selection form tag) = passes id
+source_names passes source.Any = false
+
+-- ---- secret attributes
+
+-- secret whatever the policy does: by a number, by the dictionary's mark or by its name
+abbrev pub is_secret_attribute : Dictionary → AttrId → Bool
+is_secret_attribute dictionary id = is_secret id (Int 0) dictionary
+
+-- that, or one of these
+abbrev pub is_among : Dictionary → List AttrId → AttrId → Bool
+is_among dictionary ids id = is_secret_attribute dictionary id || list_any (id_eq id) ids
+
+-- a line's source names one of them
+abbrev pub takes_secret : Dictionary → List AttrId → Line → Bool
+takes_secret dictionary ids line = source_names (is_among dictionary ids) line.source
+
+-- each attribute to which an update line gives a value of one of them is one of them
+abbrev pub IsClosed : Dictionary → List Line → List AttrId → Type 0
+IsClosed dictionary [] ids = Unit {0}
+IsClosed dictionary (line ∷ lines) ids =
+    (takes_secret dictionary ids line ≡ true → is_among dictionary ids line.id ≡ true)
+    × IsClosed dictionary lines ids
+
+-- each of these is one of the others
+abbrev pub AreAmong : Dictionary → List AttrId → List AttrId → Type 0
+AreAmong dictionary others [] = Unit {0}
+AreAmong dictionary others (id ∷ ids) =
+    (is_among dictionary others id ≡ true) × AreAmong dictionary others ids
+
+-- the least such: together with those that are secret whatever the policy does, these are the secret attributes of a
+-- policy with these update lines
+pub record AreSecret (dictionary : Dictionary) (lines : List Line) (ids : List AttrId) : Type 0 where
+  pub closed : IsClosed dictionary lines ids
+  pub least : (others : List AttrId) → IsClosed dictionary lines others → AreAmong dictionary others ids
+
+-- ---- what is shown
+
+-- what is hidden, by the secret attributes of a policy
+pub record Redaction : Type 0 where
+  pub dictionary : Dictionary
+  pub secrets : SecretValues
+  pub ids : List AttrId
+
+-- the value of such an attribute is hidden, unless secret values are shown
+abbrev pub hides : Redaction → AttrId → Value → Bool
+hides redaction id value = elim redaction.secrets [
+  | Shown ↦ false
+  | Hidden ↦ is_secret id value redaction.dictionary || list_any (id_eq id) redaction.ids
+]
+
+-- the text of a value, or (hidden)
+abbrev pub shown_text : Redaction → Pair → List ℕ
+shown_text redaction pair =
+    if hides redaction pair.id pair.value then codes "(hidden)"
+    else printed_pair_text Wider pair.id pair.value redaction.dictionary
+
+-- the text of a pair
+abbrev pub redacted : Redaction → Pair → List ℕ
+redacted redaction pair = printed_pair_name Wider pair.id pair.value redaction.dictionary
+    ++ codes " = " ++ shown_text redaction pair

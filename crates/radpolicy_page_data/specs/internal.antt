@@ -1,0 +1,3 @@
+pub mod PolicyLines
+pub mod Marks
+pub mod Writing

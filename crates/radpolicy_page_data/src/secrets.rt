@@ -1,0 +1,171 @@
+//! Which attributes are secret in a policy.
+
+ghost use Rattle.std.specs.Prelude.{◌≡◌, ◌++◌, IfOk, OnOk};
+ghost use Rattle.std.specs.List.{flat_map, list_any};
+ghost use Rattle.avp_lists.specs.Pairs.{id_eq};
+ghost use Rattle.radpolicy_page_data.specs.Secrets.{AreSecret, is_among, is_secret_attribute, lines_in, lines_in_branch, lines_of, part_names, takes_secret};
+ghost use Rattle.radpolicy_page_data.specs.internal.PolicyLines.{is_newly_secret, lines_behind, next_secret};
+
+use avp_dict::Dictionary;
+use avp_lists::{AttrId, Value};
+use avp_unlang::{Branch, Line, Part, Policy, Source, Statement};
+use radpolicy_common::is_secret;
+use std::alloc::{AllocError, Global};
+
+// ---- the update lines of a policy
+
+fn push_lines<'a>(lines: &mut Vec<&'a Line>, own: &'a [Line]) -> Result<(), AllocError>
+    ensures { OnOk result (lines_behind lines.new.items ≡ lines_behind lines.old.items ++ own.now) }
+{
+    for line in own {
+        lines.push(line)?;
+    }
+    Ok(())
+}
+
+#[cycle(blocks)]
+fn push_block<'a>(lines: &mut Vec<&'a Line>, block: &'a [Statement]) -> Result<(), AllocError>
+    ensures { OnOk result (lines_behind lines.new.items
+        ≡ lines_behind lines.old.items ++ lines_of block.now) }
+{
+    for statement in block {
+        push_statement(lines, statement)?;
+    }
+    Ok(())
+}
+
+#[cycle(blocks)]
+fn push_branch<'a>(lines: &mut Vec<&'a Line>, branch: &'a Branch) -> Result<(), AllocError>
+    ensures { OnOk result (lines_behind lines.new.items
+        ≡ lines_behind lines.old.items ++ lines_in_branch branch.now) }
+{
+    push_block(lines, branch.block.as_slice())
+}
+
+#[cycle(blocks)]
+fn push_branches<'a>(lines: &mut Vec<&'a Line>, branches: &'a [Branch]) -> Result<(), AllocError>
+    ensures { OnOk result (lines_behind lines.new.items
+        ≡ lines_behind lines.old.items ++ flat_map lines_in_branch branches.now) }
+{
+    for branch in branches {
+        push_branch(lines, branch)?;
+    }
+    Ok(())
+}
+
+#[cycle(blocks)]
+fn push_statement<'a>(lines: &mut Vec<&'a Line>, statement: &'a Statement) -> Result<(), AllocError>
+    ensures { OnOk result (lines_behind lines.new.items
+        ≡ lines_behind lines.old.items ++ lines_in statement.now) }
+{
+    match statement {
+        Statement::Update(_, own) => push_lines(lines, own.as_slice()),
+        Statement::If(branches, otherwise) => {
+            push_branches(lines, branches.as_slice())?;
+            match otherwise {
+                Some(block) => push_block(lines, block.as_slice()),
+                None => Ok(()),
+            }
+        }
+        Statement::Transaction(_, block) => push_block(lines, block.as_slice()),
+        Statement::Word(_, _) => Ok(()),
+    }
+}
+
+fn lines_of<'a>(alloc: Global, policy: &'a Policy) -> Result<Vec<&'a Line>, AllocError>
+    ensures { IfOk result (λ lines. lines_behind lines.items ≡ lines_of policy.now) }
+{
+    let mut lines = Vec::new(alloc);
+    push_block(&mut lines, policy.statements().as_slice())?;
+    Ok(lines)
+}
+
+// ---- which of them give secret values
+
+/// Whether an attribute is one of these.
+pub(crate) fn has_id(ids: &[AttrId], id: AttrId) -> bool
+    ensures { result ≡ list_any (id_eq id) ids.now }
+{
+    ids.iter().any(|own| id.equals(*own))
+}
+
+// By its number, by the dictionary's mark or by its name.
+fn is_secret_attribute(dictionary: &Dictionary, id: AttrId) -> bool
+    ensures { result ≡ is_secret_attribute dictionary.now id }
+{
+    is_secret(dictionary, id, &Value::Int(0))
+}
+
+/// Whether an attribute is secret whatever the policy does, or one of these.
+pub(crate) fn is_among(dictionary: &Dictionary, ids: &[AttrId], id: AttrId) -> bool
+    ensures { result ≡ is_among dictionary.now ids.now id }
+{
+    is_secret_attribute(dictionary, id) || has_id(ids, id)
+}
+
+fn part_names_secret(dictionary: &Dictionary, ids: &[AttrId], part: &Part) -> bool
+    ensures { result ≡ part_names (is_among dictionary.now ids.now) part.now }
+{
+    match part {
+        Part::Text(_) => false,
+        Part::Instance(_, id) | Part::Meant(_, id, _) => is_among(dictionary, ids, *id),
+    }
+}
+
+fn parts_name_secret(dictionary: &Dictionary, ids: &[AttrId], parts: &[Part]) -> bool
+    ensures { result ≡ list_any (part_names (is_among dictionary.now ids.now)) parts.now }
+{
+    parts
+        .iter()
+        .any(|part| part_names_secret(dictionary, ids, part))
+}
+
+fn takes_secret(dictionary: &Dictionary, ids: &[AttrId], line: &Line) -> bool
+    ensures { result ≡ takes_secret dictionary.now ids.now line.now }
+{
+    match &line.source {
+        Source::Literal(_) | Source::Any => false,
+        Source::Text(_, parts) | Source::WiderText(_, _, parts) => {
+            parts_name_secret(dictionary, ids, parts.as_slice())
+        }
+        Source::Instance(_, id) | Source::Tagged(_, id, _, _, _) => is_among(dictionary, ids, *id),
+    }
+}
+
+fn is_newly_secret(dictionary: &Dictionary, ids: &[AttrId], line: &Line) -> bool
+    ensures { result ≡ is_newly_secret dictionary.now ids.now line.now }
+{
+    takes_secret(dictionary, ids, line) && !is_among(dictionary, ids, line.id)
+}
+
+// An attribute that a line gives a secret value, and that is not yet known to be secret.
+fn next_secret(dictionary: &Dictionary, ids: &[AttrId], lines: &[&Line]) -> Option<AttrId>
+    ensures { result ≡ next_secret dictionary.now ids.now (lines_behind lines.now) }
+{
+    let mut rest = lines;
+    while let [line, others @ ..] = rest {
+        if is_newly_secret(dictionary, ids, line) {
+            return Some(line.id);
+        }
+        rest = others;
+    }
+    None
+}
+
+/// The attributes to which the policy's update lines give values of secret ones, by `&` or in an expansion and however
+/// often in turn, beside those that are secret whatever the policy does ([`is_secret`]).
+#[tactic(auto, using(crate::proofs::SecretAttributes::none_is_closed, crate::proofs::SecretAttributes::still_least, crate::proofs::SecretAttributes::one_fewer))]
+pub fn secret_attributes(
+    alloc: Global,
+    dictionary: &Dictionary,
+    policy: &Policy,
+) -> Result<Vec<AttrId>, AllocError>
+    ensures { IfOk result (λ ids. AreSecret dictionary.now (lines_of policy.now) ids.items) }
+{
+    let lines = lines_of(alloc, policy)?;
+    let mut ids = Vec::new(alloc);
+    'found: while let Some(id) = next_secret(dictionary, &ids, &lines) {
+        ids.push(id)?;
+    }
+    Ok(ids)
+}
