@@ -1,0 +1,255 @@
+//! The program: its words, the files that they name, and the page that it writes.
+#![tactic(auto)]
+
+mod command_line;
+mod fixed_page;
+mod sources;
+mod writing;
+
+ghost use Rattle.std.specs.Prelude.{◌<◌, IfErr, IfOk, length};
+ghost use Rattle.avp_dict.specs.Lines.{HasDistinctNames};
+ghost use Rattle.radpolicy.specs.Faults.{IsPrintedAnywhere, IsPrintedWith};
+
+use crate::command_line::{Plan, help_text, read_words};
+use crate::sources::refuse_files;
+use crate::writing::write_page;
+use avp_dict::{Dictionary, FileSet};
+use avp_forms::profile_of;
+use avp_lists::Octets;
+use hex::FromHexError;
+use radpolicy::{Fault, Form, PreparedPolicy, RequestHead, RequestKind, Secret, Start, status};
+use radpolicy_common::{
+    Unread, read_dictionary_set, read_file, read_optional, read_standard_input, refuse_early,
+};
+use radpolicy_help::{refuse_unread_explained, refuse_words_of};
+use radpolicy_page_data::{Page, PageFault, page_of};
+use std::alloc::{AllocError, Global};
+use std::io;
+use std::process::ExitCode;
+
+// What the files of a plan hold.
+#[derive(Drop)]
+pub struct Files {
+    pub dictionary: FileSet,
+    pub request: Octets,
+    pub policy: Octets,
+    pub secret: Option<Octets>,
+    pub reply: Option<Octets>,
+    pub control: Option<Octets>,
+}
+
+fn read_request<'a>(rt: &HostRuntime, plan: &Plan<'a>) -> Result<Octets, Unread<'a>> {
+    match plan.request {
+        Some(path) => read_file(rt, path),
+        None => read_standard_input(rt),
+    }
+}
+
+// The files are read in the order dictionaries, request, policy, secret, lists, up to the first that cannot be read.
+fn read_files<'a>(rt: &HostRuntime, plan: &Plan<'a>) -> Result<Files, Unread<'a>>
+    ensures first { IfOk result (λ files. 0 < length files.dictionary) }
+    ensures distinct { IfOk result (λ files. HasDistinctNames files.dictionary) }
+{
+    Ok(Files {
+        dictionary: read_dictionary_set(rt, plan.dictionaries.as_slice())?,
+        request: read_request(rt, plan)?,
+        policy: read_file(rt, plan.policy)?,
+        secret: read_optional(rt, plan.secret)?,
+        reply: read_optional(rt, plan.reply)?,
+        control: read_optional(rt, plan.control)?,
+    })
+}
+
+fn without_white_space(alloc: Global, text: &[u8]) -> Result<Vec<u8>, AllocError> {
+    let mut digits = Vec::new(alloc);
+    for octet in text {
+        if !matches!(*octet, b' ' | b'\t' | b'\r' | b'\n') {
+            digits.push(*octet)?;
+        }
+    }
+    Ok(digits)
+}
+
+// The octets of a packet in hexadecimal digits.
+fn packet_octets(alloc: Global, text: &[u8]) -> Result<Vec<u8>, Fault>
+    ensures { IfErr result IsPrintedAnywhere }
+{
+    let digits = without_white_space(alloc, text)?;
+    match hex::decode(alloc, digits) {
+        Ok(octets) => Ok(octets),
+        Err(FromHexError::OutOfMemory) => Err(Fault::Memory),
+        Err(_) => Err(Fault::NotHex),
+    }
+}
+
+// The head of a request of lines.
+fn head_by(plan: &Plan<'_>) -> RequestHead {
+    RequestHead {
+        kind: match plan.form {
+            Form::Accounting => RequestKind::Accounting,
+            Form::Access | Form::Hex => RequestKind::Access,
+        },
+        id: plan.identifier,
+        authenticator: plan.authenticator,
+    }
+}
+
+// The start of the run over the request, with empty reply and control lists.
+fn start_by<'a>(
+    alloc: Global,
+    prepared: &'a PreparedPolicy<'a>,
+    secret: Option<&'a Secret<'a>>,
+    plan: &Plan<'_>,
+    request: &[u8],
+) -> Result<Start<'a>, Fault>
+    ensures { IfErr result IsPrintedAnywhere }
+{
+    match (plan.form, secret) {
+        (Form::Hex, Some(secret)) => {
+            let octets = packet_octets(alloc, request)?;
+            Start::of_packet(alloc, prepared, secret, &octets)
+        }
+        _ => Start::of_lines(
+            alloc,
+            prepared,
+            secret,
+            head_by(plan),
+            profile_of(request),
+            plan.zone,
+            request,
+        ),
+    }
+}
+
+// The same start with the reply and control lists of files.
+fn with_lists<'a>(
+    alloc: Global,
+    start: Start<'a>,
+    zone: Option<i16>,
+    files: &Files,
+) -> Result<Start<'a>, Fault>
+    ensures { IfErr result IsPrintedAnywhere }
+{
+    let start = match &files.reply {
+        Some(lines) => {
+            let lines = lines.as_slice();
+            start.with_reply_lines(alloc, profile_of(lines), zone, lines)?
+        }
+        None => start,
+    };
+    match &files.control {
+        Some(lines) => {
+            let lines = lines.as_slice();
+            start.with_control_lines(alloc, profile_of(lines), zone, lines)
+        }
+        None => Ok(start),
+    }
+}
+
+// What a run of the policy begins with.
+fn start_for<'a>(
+    alloc: Global,
+    prepared: &'a PreparedPolicy<'a>,
+    secret: Option<&'a Secret<'a>>,
+    plan: &Plan<'_>,
+    files: &Files,
+) -> Result<Start<'a>, Fault>
+    ensures { IfErr result IsPrintedAnywhere }
+{
+    let start = start_by(alloc, prepared, secret, plan, files.request.as_slice())?;
+    with_lists(alloc, start, plan.zone, files)
+}
+
+// The secret of a file, where there is one.
+fn secret_in(file: &Option<Octets>) -> Result<Option<Secret<'_>>, Fault>
+    ensures { IfErr result IsPrintedAnywhere }
+{
+    match file {
+        Some(octets) => match Secret::in_file(octets.as_slice()) {
+            Ok(secret) => Ok(Some(secret)),
+            Err(fault) => Err(fault),
+        },
+        None => Ok(None),
+    }
+}
+
+// The page of what the files hold; the outer refusal is that of `radpolicy run`.
+fn page_by(
+    rt: &HostRuntime,
+    plan: &Plan<'_>,
+    files: &Files,
+) -> Result<Result<Page, PageFault>, Fault>
+    requires first { 0 < length files.now.dictionary }
+    requires distinct { HasDistinctNames files.now.dictionary }
+    ensures { IfErr result (IsPrintedWith files.now.dictionary) }
+{
+    let alloc = rt.alloc();
+    let dictionary = Dictionary::read(alloc, &files.dictionary)?;
+    let secret = secret_in(&files.secret)?;
+    let policy = PreparedPolicy::read(alloc, &dictionary, files.policy.as_slice())?;
+    let outcome = start_for(alloc, &policy, secret.as_ref(), plan, files)?.run(alloc)?;
+    let start = start_for(alloc, &policy, secret.as_ref(), plan, files)?;
+    let text = files.policy.as_slice();
+    Ok(page_of(alloc, start, outcome.reply(), text, plan.secrets))
+}
+
+fn show_page(rt: &HostRuntime, plan: &Plan<'_>, page: Result<Page, PageFault>) -> u8 {
+    match page {
+        Ok(page) => match write_page(rt, plan.output, &page) {
+            Ok(()) => 0,
+            Err(_) => refuse_early(rt, &Fault::Write),
+        },
+        Err(PageFault::Memory) => refuse_early(rt, &Fault::Memory),
+        Err(PageFault::TooLarge) => {
+            let _ = eprintln!(rt;
+                "radpolicy-page: the run is too long for a page, of which nothing is written"
+            );
+            status(&Fault::Write)
+        }
+    }
+}
+
+fn show_plan(rt: &HostRuntime, plan: &Plan<'_>) -> u8 {
+    let files = match read_files(rt, plan) {
+        Ok(files) => files,
+        Err(unread) => return refuse_unread_explained(rt, unread),
+    };
+    match page_by(rt, plan, &files) {
+        Ok(page) => show_page(rt, plan, page),
+        Err(fault) => refuse_files(rt, plan, &files, &fault),
+    }
+}
+
+fn show_help(rt: &HostRuntime, words: &[String]) -> u8 {
+    match help_text(rt.alloc(), words) {
+        Ok(text) => match rt.print(text.as_str()) {
+            Ok(()) => status(&Fault::Help),
+            Err(_) => refuse_early(rt, &Fault::Write),
+        },
+        Err(_) => refuse_early(rt, &Fault::Memory),
+    }
+}
+
+fn obey_words(rt: &HostRuntime, words: &[String]) -> u8 {
+    match read_words(rt.alloc(), words) {
+        Ok(plan) => show_plan(rt, &plan),
+        Err(Fault::Help) => show_help(rt, words),
+        Err(fault) => refuse_words_of(rt, &fault, "radpolicy-page", help_text(rt.alloc(), words)),
+    }
+}
+
+// The words of the command line. Words that are no UTF-8 are an error.
+fn words_of(rt: &HostRuntime) -> io::Result<Vec<String>> {
+    Ok(std::env::args(rt)?.collect(rt.alloc())?)
+}
+
+fn main(rt: HostRuntime) -> ExitCode {
+    let code = match words_of(&rt) {
+        Ok(words) => obey_words(&rt, words.as_slice()),
+        Err(error) if error.kind() == io::ErrorKind::OutOfMemory => {
+            refuse_early(&rt, &Fault::Memory)
+        }
+        Err(_) => refuse_early(&rt, &Fault::Usage),
+    };
+    ExitCode::from(code)
+}
