@@ -1,0 +1,46 @@
+//! What is shown of policies' texts.
+
+use avp_dict::Dictionary;
+use radpolicy::PreparedPolicy;
+use radpolicy_common::SecretValues;
+use radpolicy_page_data::{Redaction, policy_shown};
+use samples::test_dictionary;
+use std::alloc::Global;
+use std::test::Fail;
+
+// What is shown of a policy.
+fn shown(alloc: Global, policy: &[u8], secrets: SecretValues) -> Result<Vec<u8>, Fail> {
+    let dictionary: Dictionary = test_dictionary(alloc)?;
+    let prepared = PreparedPolicy::read(alloc, &dictionary, policy)?;
+    let redaction = Redaction::new(alloc, &dictionary, prepared.policy(), secrets)?;
+    Ok(policy_shown(alloc, &redaction, policy)?)
+}
+
+#[test]
+fn literals_are_hidden(rt: HostRuntime) -> Result<(), Fail> {
+    let policy = b"# it's a test: User-Password = x
+if (&User-Password == \"se\\\"cret\" && &User-Name != 'bob') {
+  update control { User-Password:=\"a\" Class := 0x01 User-Password -= # b
+    c
+    Reply-Message := \"User-Password := x\" request:User-Password := &User-Name }
+}
+if (&User-Password) { reject }
+";
+    let wanted = b"# it's a test: User-Password = x
+if (&User-Password == (hidden) && &User-Name != 'bob') {
+  update control { User-Password:=(hidden) Class := 0x01 User-Password -= # b
+    (hidden)
+    Reply-Message := \"User-Password := x\" request:User-Password := &User-Name }
+}
+if (&User-Password) { reject }
+";
+    assert_eq!(&rt;
+        shown(rt.alloc(), policy, SecretValues::Hidden)?.as_slice(),
+        wanted.as_slice()
+    );
+    assert_eq!(&rt;
+        shown(rt.alloc(), policy, SecretValues::Shown)?.as_slice(),
+        policy.as_slice()
+    );
+    Ok(())
+}
