@@ -1,5 +1,5 @@
 -- Marks of transactions, as a run goes on.
-use Rattle.std.proofs.Common.{◌≡◌, ◌∙◌, ◌<◌, ℕ, ◌+◌, ◌-◌, true, List, [], ◌∷◌, ◌++◌, Option, None, Some, length, take, drop, refl, sym, ap, ap₂, subst, arith, append-nil}
+use Rattle.std.proofs.Common.{◌≡◌, ◌∙◌, ◌<◌, ℕ, ◌+◌, List, [], ◌∷◌, ◌++◌, Option, None, Some, length, take, drop, sym, ap, ap₂, subst, arith, append-nil}
 use Rattle.std.proofs.lemmas.List.{take-append-drop}
 use Rattle.std.specs.Option.{option_to_list}
 use Rattle.avp_lists.specs.declared.lists.State.{State}
@@ -9,7 +9,7 @@ use Rattle.radpolicy_page_data.specs.Differences.{AreSplices, Makes, lists_at, l
 use Rattle.radpolicy_page_data.specs.declared.differences.Difference.{Difference}
 use Rattle.radpolicy_page_data.specs.declared.differences.Difference.TheVariants.{Again, Spliced}
 use Rattle.radpolicy_page_data.specs.declared.differences.Mark.{Mark}
-use Rattle.radpolicy_page_data.specs.internal.Marks.{AreMarks, IsDifference, IsMark, IsMarkIfGiven}
+use Rattle.radpolicy_page_data.specs.internal.Marks.{AreMarks, IsDifference, IsMarkIfGiven}
 
 pub later : (trace : List Entry) (k : ℕ) (marks : List Mark) → AreMarks trace k marks → AreMarks trace (k + 1) marks
 later trace k [] all = tt

@@ -2,7 +2,6 @@
 use Rattle.std.proofs.Common.{◌≡◌, ◌∙◌, ℕ, ◌-◌, List, length, sym, ap, subst}
 use Rattle.avp_lists.specs.declared.lists.State.{State}
 use Rattle.avp_dict.specs.Dictionary.{Dictionary}
-use Rattle.avp_step.specs.Trace.{Entry}
 use Rattle.avp_step.specs.Walk.{Walk, walk_from}
 use Rattle.avp_unlang.specs.declared.tree.Statement.{Statement}
 use Rattle.radpolicy.specs.Starts.{Start, entry_of}

@@ -1,5 +1,5 @@
 -- How the lists at a position of a run come of those before.
-use Rattle.std.specs.Prelude.{◌≡◌, ◌<◌, ℕ, zero, suc, List, [], length}
+use Rattle.std.specs.Prelude.{◌≡◌, ◌<◌, ℕ, zero, suc, List}
 use Rattle.std.specs.List.{slice_index_or}
 use Rattle.avp_lists.specs.States.{empty_state}
 use Rattle.avp_lists.specs.declared.lists.State.{State}

@@ -1,6 +1,6 @@
 -- The octets of a reply packet (RFC 2865, section 3), as JSON (RFC 8259): a row for its head, one for its
 -- authenticator and one for each attribute, each a name and hexadecimal digits.
-use Rattle.std.specs.Prelude.{ℕ, zero, suc, ◌+◌, ◌-◌, Bool, true, false, ◌&&◌, ◌||◌, ◌==◌, nat_lt, nat_le, if◌then◌else◌, List, [], ◌∷◌, ◌++◌, codes, decimal}
+use Rattle.std.specs.Prelude.{ℕ, ◌+◌, ◌-◌, Bool, false, ◌&&◌, ◌||◌, ◌==◌, nat_lt, nat_le, if◌then◌else◌, List, [], ◌∷◌, ◌++◌, codes, decimal}
 use Rattle.std.specs.List.{list_any}
 use Rattle.std.specs.Option.{option_map_or}
 use Rattle.avp_lists.specs.declared.pairs.AttrId.{AttrId}
@@ -10,7 +10,6 @@ use Rattle.avp_dict.specs.Dictionary.{Dictionary}
 use Rattle.avp_dict.specs.Names.{Described, described}
 use Rattle.radpolicy.specs.declared.run_outcomes.Reply.{Reply}
 use Rattle.radpolicy.specs.declared.run_outcomes.Reply.TheVariants as reply
-use Rattle.radpolicy_common.specs.declared.change_texts.SecretValues.{SecretValues}
 use Rattle.radpolicy_common.specs.declared.change_texts.SecretValues.TheVariants.{Hidden, Shown}
 use Rattle.radpolicy_page_data.specs.Embedding.{string_text, two_digits}
 use Rattle.radpolicy_page_data.specs.Secrets.{Redaction, hides, is_among}

@@ -1,5 +1,5 @@
 -- The positions of a run as JSON (RFC 8259).
-use Rattle.std.specs.Prelude.{◌≡◌, ◌<◌, ℕ, length, zero, suc, List, [], ◌∷◌, ◌++◌, codes, decimal}
+use Rattle.std.specs.Prelude.{◌≡◌, ◌<◌, ℕ, length, zero, suc, List, [], ◌++◌, codes, decimal}
 use Rattle.std.specs.List.{flat_map}
 use Rattle.avp_lists.specs.declared.pairs.Pair.{Pair}
 use Rattle.avp_step.specs.Trace.{Entry}
