@@ -76,10 +76,15 @@ def counts(wanted: Dict[bytes, bytes]) -> List[int]:
     return [len(said), same, different, unanswered, challenged, refused]
 
 
-def check_captured(place: Place, report: Report) -> None:
+def captured_records(place: Place) -> Tuple[bytes, Dict[bytes, bytes]]:
+    """Records with captured replies, by what the program answers, and what is to be said of each."""
     text = records(RECORDS)
     answers = {line.split()[0]: line for line in place.replay(text, ["--show-secrets"]).output.splitlines()}
-    lines, wanted = joined(text, answers)
+    return joined(text, answers)
+
+
+def check_captured(place: Place, report: Report) -> None:
+    lines, wanted = captured_records(place)
     ended = place.replay(lines, ["--against", "captured", "--all", "--show-secrets"])
     said = blocks(ended.output)
     wrong = [f"{said.get(name)!r}, not {words!r}" for name, words in wanted.items() if said.get(name) != words]

@@ -36,6 +36,12 @@ WRONG = b"""(0) Received Access-Request Id 8 from 127.0.0.1:50572 to 127.0.0.1:4
 (2) Finished request
 """
 
+NO_PACKETS = [
+    b"0 E32 unknown attribute line 2",
+    b"1 neither Access-Request nor Accounting-Request",
+    b"2 captured E30 not a value line 1",
+]
+
 
 def text_of(form: str) -> bytes:
     return (FOLDER / ("requests" if form == "records" else form)).read_bytes()
@@ -47,6 +53,13 @@ def replay(subject: Subject, folder: Path, text: bytes, options: Sequence[str], 
         (folder / "secret").write_bytes(SECRET + b"\n")
     words = ["--policy", policy, "-S", "secret", "--against", "captured", "--all", *options]
     return run([subject.driver("radpolicy_replay"), *words, *dictionaries], folder, text)
+
+
+def to_hex(subject: Subject, folder: Path, text: bytes, options: Sequence[str] = ()) -> Ended:
+    """The records of a text as lines of packets."""
+    dictionaries = sorted((subject.root / "dictionaries").glob("dictionary*"))
+    words = ["--to-hex", "-S", "secret", *options, *dictionaries]
+    return run([subject.driver("radpolicy_replay"), *words], folder, text)
 
 
 def check_formats(subject: Subject, report: Report, folder: Path) -> None:
@@ -74,6 +87,24 @@ def check_refusals(subject: Subject, report: Report, folder: Path) -> None:
     lines = [b"0 E32 unknown attribute line 2", b"2 captured E30 not a value line 1"]
     is_right = ended.status == 0 and all(line in ended.output.splitlines() for line in lines)
     report.check("replay: records of lines that make no packet", [] if is_right else [f"{ended}"])
+
+
+def check_lines(subject: Subject, report: Report, folder: Path) -> None:
+    """Each file as lines of packets, which are answered as the file is; but challenges have no packets."""
+    for form, told in TOLD.items():
+        lines = to_hex(subject, folder, text_of(form))
+        ended = replay(subject, folder, lines.output, ["--format", "hex"])
+        wanted = told.replace(b"Access-Challenge", b"unanswered")
+        is_right = (ended.output, lines.status, lines.errors) == (wanted, 0, b"5 read, 0 refused\n")
+        report.check(f"replay: {form} as lines of packets", [] if is_right else [f"{lines}, {ended}"])
+        again = to_hex(subject, folder, lines.output)
+        is_right = (again.output, again.status, again.errors) == (lines.output, 0, b"")
+        report.check(f"replay: lines of packets of {form} stay as they are", [] if is_right else [f"{again}"])
+    wrong = to_hex(subject, folder, WRONG, ["--format", "log"])
+    is_right = wrong.status == 0 and wrong.output.splitlines() == NO_PACKETS and wrong.errors == b"3 read, 3 refused\n"
+    report.check("replay: records that have no packets", [] if is_right else [f"{wrong}"])
+    both = to_hex(subject, folder, text_of("log"), ["--policy", str(POLICY)])
+    report.check("replay: --to-hex and a policy", [] if both.status == 2 else [f"{both}"])
 
 
 def heads(output: bytes) -> List[bytes]:
@@ -112,5 +143,5 @@ def check_ends(subject: Subject, report: Report, folder: Path) -> None:
 
 def check(subject: Subject, report: Report) -> None:
     with new_folder() as folder:
-        for part in (check_formats, check_difference, check_refusals, check_cuts, check_ends):
+        for part in (check_formats, check_difference, check_refusals, check_lines, check_cuts, check_ends):
             part(subject, report, folder)

@@ -9,7 +9,7 @@ use clap::error::ErrorKind;
 use clap::{Arg, ArgAction, ArgMatches};
 use radpolicy::Fault;
 use radpolicy_common::SecretValues;
-use radpolicy_replay_records::{Order, Told};
+use radpolicy_replay_records::{Layout, Order, Told};
 use std::alloc::{AllocError, Global};
 use std::convert::AsStr;
 
@@ -26,6 +26,12 @@ const ALL: &str = "all";
 const STRICT: &str = "strict";
 
 const EXPECT: &str = "expect";
+
+const TAP: &str = "tap";
+
+const JSON: &str = "json";
+
+const TO_HEX: &str = "to-hex";
 
 const SECRET: &str = "secret";
 
@@ -60,6 +66,16 @@ pub enum SecretPlan<'a> {
     Clients(&'a str),
 }
 
+impl<'a> SecretPlan<'a> {
+    /// The path of the secret's file; empty where there are clients.
+    pub fn path(self) -> &'a str {
+        match self {
+            SecretPlan::File(path) => path,
+            SecretPlan::Clients(_) => "",
+        }
+    }
+}
+
 /// With what answers are compared, and how.
 #[derive(Drop)]
 pub struct ComparisonPlan<'a> {
@@ -69,12 +85,13 @@ pub struct ComparisonPlan<'a> {
     pub told: Told,
 }
 
-/// What a command line asks for.
+/// The replay that a command line asks for.
 #[derive(Drop)]
 pub struct Plan<'a> {
     pub policy: &'a str,
     pub comparison: Option<ComparisonPlan<'a>>,
     pub strict: bool,
+    pub layout: Layout,
     /// An earlier output, with which this one is compared.
     pub expected: Option<&'a str>,
     pub secret: SecretPlan<'a>,
@@ -84,6 +101,22 @@ pub struct Plan<'a> {
     /// How many minutes the clocks of a zone other than UTC that a date names are before UTC's.
     pub zone: Option<i16>,
     pub dictionaries: Vec<&'a str>,
+}
+
+/// The lines of packets that a command line asks for.
+#[derive(Drop)]
+pub struct PacketsPlan<'a> {
+    pub secret: SecretPlan<'a>,
+    pub traffic: Option<Traffic>,
+    pub zone: Option<i16>,
+    pub dictionaries: Vec<&'a str>,
+}
+
+/// What a command line asks for.
+#[derive(Drop)]
+pub enum Asked<'a> {
+    Replay(Plan<'a>),
+    Packets(PacketsPlan<'a>),
 }
 
 impl<'a> Plan<'a> {
@@ -100,7 +133,6 @@ fn policy_option<'a>(alloc: Global) -> Arg<'a> {
     Arg::new(alloc, POLICY)
         .long(POLICY)
         .value_name("POLICY")
-        .required(true)
         .action(ArgAction::Set)
         .help("The policy that answers the records")
 }
@@ -151,6 +183,27 @@ fn expect_option<'a>(alloc: Global) -> Arg<'a> {
         .value_name("FILE")
         .action(ArgAction::Set)
         .help("Ends with status 1 where the output differs from this earlier one, and tells where")
+}
+
+fn tap_option<'a>(alloc: Global) -> Arg<'a> {
+    Arg::new(alloc, TAP)
+        .long(TAP)
+        .action(ArgAction::SetTrue)
+        .help("Prints each record as a test of the Test Anything Protocol")
+}
+
+fn json_option<'a>(alloc: Global) -> Arg<'a> {
+    Arg::new(alloc, JSON)
+        .long(JSON)
+        .action(ArgAction::SetTrue)
+        .help("Prints each record, and the counts at the end, as a JSON object on a line")
+}
+
+fn to_hex_option<'a>(alloc: Global) -> Arg<'a> {
+    Arg::new(alloc, TO_HEX)
+        .long(TO_HEX)
+        .action(ArgAction::SetTrue)
+        .help("Answers nothing, but prints each record as a line of packets")
 }
 
 fn secret_option<'a>(alloc: Global) -> Arg<'a> {
@@ -221,6 +274,9 @@ fn program<'a>(alloc: Global) -> Result<clap::Command<'a>, AllocError> {
         .arg(all_option(alloc))?
         .arg(strict_option(alloc))?
         .arg(expect_option(alloc))?
+        .arg(tap_option(alloc))?
+        .arg(json_option(alloc))?
+        .arg(to_hex_option(alloc))?
         .arg(secret_option(alloc))?
         .arg(clients_option(alloc))?
         .arg(format_option(alloc))?
@@ -261,6 +317,19 @@ fn asked_records(found: &ArgMatches<'_>) -> Told {
         Told::All
     } else {
         Told::Different
+    }
+}
+
+// At most one of the two.
+fn asked_layout(found: &ArgMatches<'_>) -> Result<Layout, Fault>
+    ensures { IfErr result IsWordFault }
+{
+    match (found.get_flag(TAP), found.get_flag(JSON)) {
+        (false, false) => Ok(Layout::Plain),
+        (true, false) if found.get_flag(STRICT) => Ok(Layout::StrictTests),
+        (true, false) => Ok(Layout::Tests),
+        (false, true) => Ok(Layout::Json),
+        (true, true) => Err(Fault::Usage),
     }
 }
 
@@ -345,6 +414,7 @@ fn plan_of<'a>(alloc: Global, found: &ArgMatches<'a>) -> Result<Plan<'a>, Fault>
         policy: found.get_str(POLICY).ok_or(Fault::Usage)?,
         comparison: comparison_of(alloc, found)?,
         strict: found.get_flag(STRICT),
+        layout: asked_layout(found)?,
         expected: found.get_str(EXPECT),
         secret: secret_plan(found)?,
         secrets: shown_secrets(found),
@@ -354,6 +424,42 @@ fn plan_of<'a>(alloc: Global, found: &ArgMatches<'a>) -> Result<Plan<'a>, Fault>
     })
 }
 
+fn packets_plan<'a>(alloc: Global, found: &ArgMatches<'a>) -> Result<PacketsPlan<'a>, Fault>
+    ensures { IfErr result IsWordFault }
+{
+    let files = found.get_strs(DICTIONARY).ok_or(Fault::Usage)?;
+    Ok(PacketsPlan {
+        secret: secret_plan(found)?,
+        traffic: traffic_of(found)?,
+        zone: zone_of(found)?,
+        dictionaries: Vec::from_slice(alloc, files)?,
+    })
+}
+
+// Whether it is said how records are answered, or how answers are printed.
+fn has_replay(found: &ArgMatches<'_>) -> bool {
+    found.get_str(POLICY).is_some()
+        || found.get_str(AGAINST).is_some()
+        || found.get_str(EXPECT).is_some()
+        || found.get_flag(STRICT)
+        || found.get_flag(TAP)
+        || found.get_flag(JSON)
+        || found.get_flag(SHOW_SECRETS)
+        || has_comparison(found)
+}
+
+fn asked_of<'a>(alloc: Global, found: &ArgMatches<'a>) -> Result<Asked<'a>, Fault>
+    ensures { IfErr result IsWordFault }
+{
+    if !found.get_flag(TO_HEX) {
+        return Ok(Asked::Replay(plan_of(alloc, found)?));
+    }
+    if has_replay(found) {
+        return Err(Fault::Usage);
+    }
+    Ok(Asked::Packets(packets_plan(alloc, found)?))
+}
+
 // Whether it is said how answers are compared.
 fn has_comparison(found: &ArgMatches<'_>) -> bool {
     found.get_flag(ORDERED) || found.get_flag(ALL) || found.get_strs(IGNORE).is_some()
@@ -361,8 +467,14 @@ fn has_comparison(found: &ArgMatches<'_>) -> bool {
 
 // What is wrong with words that are options and their values, if they are refused.
 fn refusal_of(found: &ArgMatches<'_>) -> &'static str {
-    if found.get_str(AGAINST).is_none() && has_comparison(found) {
+    if found.get_flag(TO_HEX) && has_replay(found) {
+        "--to-hex answers nothing: beside it write -S or --clients, --format and --zone alone\n"
+    } else if !found.get_flag(TO_HEX) && found.get_str(POLICY).is_none() {
+        "write --policy POLICY\n"
+    } else if found.get_str(AGAINST).is_none() && has_comparison(found) {
         "--ordered, --ignore and --all need --against\n"
+    } else if asked_layout(found).is_err() {
+        "--tap and --json exclude each other\n"
     } else if secret_plan(found).is_err() {
         "write one of -S SECRET-FILE and --clients CLIENTS-FILE\n"
     } else if traffic_of(found).is_err() {
@@ -373,13 +485,13 @@ fn refusal_of(found: &ArgMatches<'_>) -> &'static str {
 }
 
 /// What the words of a command line ask for; the program's name is the first word.
-pub fn read_words<'a, S: AsStr>(alloc: Global, words: &'a [S]) -> Result<Plan<'a>, Fault>
+pub fn read_words<'a, S: AsStr>(alloc: Global, words: &'a [S]) -> Result<Asked<'a>, Fault>
     ensures { IfErr result IsWordFault }
 {
     let matches = program(alloc)?
         .try_get_matches_from(words)
         .map_err(|error| fault_of(&error))?;
-    plan_of(alloc, &matches)
+    asked_of(alloc, &matches)
 }
 
 /// The help that the words of a command line ask for, or what is wrong with them.

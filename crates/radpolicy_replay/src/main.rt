@@ -4,31 +4,35 @@
 mod client_help;
 mod command_line;
 mod expected;
+mod json_summaries;
+mod secrets;
+mod streams;
 mod summaries;
+mod to_hex;
 mod traffic;
 
 ghost use Rattle.std.specs.Prelude.{◌<◌, IfErr, IfOk, length};
 ghost use Rattle.avp_dict.specs.Lines.{HasDistinctNames};
 ghost use Rattle.radpolicy.specs.Faults.{IsPrintedAnywhere, IsPrintedWith};
 
-use crate::client_help::client_help;
-use crate::command_line::{AgainstPlan, Plan, SecretPlan, help_text, read_words};
+use crate::command_line::{Asked, Plan, help_text, read_words};
 use crate::expected::{DIFFERENT, expected_status, open_expected};
+use crate::secrets::{HeldSecrets, held_secrets, read_secret};
+use crate::streams::{flush, refuse_replay, write_text};
 use crate::summaries::{PolicyTexts, show_summary};
+use crate::to_hex::write_packets;
 use crate::traffic::{Traffic, read_beginning};
 use avp_dict::{Dictionary, FileSet};
 use avp_lists::{AttrId, Octets};
-use radpolicy::{Fault, PreparedPolicy, Secret, status};
-use radpolicy_clients::{ClientFault, Clients, ClientsFault, read_clients};
-use radpolicy_common::{Unread, read_dictionary_set, read_file, refuse_early, refuse_unread};
+use radpolicy::{Fault, PreparedPolicy, status};
+use radpolicy_common::{Unread, read_dictionary_set, read_file, refuse_early};
 use radpolicy_help::{
     Source, Sources, explain_name, refuse_explained, refuse_unread_explained, refuse_words_of,
     tell_help,
 };
 use radpolicy_replay_records::{
-    Against, Comparison, RecordReader, Replay, ReplayFault, SharedSecrets, Summary,
+    Against, Comparison, Layout, RecordReader, Replay, ReplayFault, Summary,
 };
-use server_configuration::SystemFiles;
 use std::alloc::{AllocError, Global};
 use std::fs::File;
 use std::io;
@@ -55,14 +59,6 @@ fn read_old_policy<'a>(rt: &HostRuntime, plan: &Plan<'a>) -> Result<Octets, Unre
     }
 }
 
-// What the secret's file holds; nothing where there are clients.
-fn read_secret<'a>(rt: &HostRuntime, plan: &Plan<'a>) -> Result<Octets, Unread<'a>> {
-    match plan.secret {
-        SecretPlan::File(path) => read_file(rt, path),
-        SecretPlan::Clients(_) => Ok(Octets::from_vec(Vec::new(rt.alloc()))),
-    }
-}
-
 // The files are read in the order dictionaries, policy, old policy, secret, up to the first that cannot be read.
 fn read_files<'a>(rt: &HostRuntime, plan: &Plan<'a>) -> Result<Files, Unread<'a>>
     ensures first { IfOk result (λ files. 0 < length files.dictionary) }
@@ -72,7 +68,7 @@ fn read_files<'a>(rt: &HostRuntime, plan: &Plan<'a>) -> Result<Files, Unread<'a>
         dictionary: read_dictionary_set(rt, plan.dictionaries.as_slice())?,
         policy: read_file(rt, plan.policy)?,
         against: read_old_policy(rt, plan)?,
-        secret: read_secret(rt, plan)?,
+        secret: read_secret(rt, plan.secret)?,
     })
 }
 
@@ -81,15 +77,6 @@ fn status_of(strict: bool, summary: &Summary) -> u8 {
         DIFFERENT
     } else {
         0
-    }
-}
-
-// Why a replay ended early. Standard input is named as a file that cannot be read is.
-fn refuse_replay(rt: &HostRuntime, fault: ReplayFault) -> u8 {
-    match fault {
-        ReplayFault::Memory => refuse_early(rt, &Fault::Memory),
-        ReplayFault::Output => refuse_early(rt, &Fault::Write),
-        ReplayFault::Input | ReplayFault::TooManyRecords => refuse_unread(rt, Unread::File("-")),
     }
 }
 
@@ -128,6 +115,29 @@ fn run_input<W: Write>(
     run_traffic(rt, plan, replay, beginning.traffic, whole, out)
 }
 
+// The last line of tests, which says how many there were.
+fn write_count<W: Write>(alloc: Global, out: &mut W, count: u64) -> Result<(), ReplayFault> {
+    let line = format!(in alloc; "1..{count}\n")?;
+    write_text(out, line.as_bytes())?;
+    flush(out)
+}
+
+// The same, between the first and the last line of tests where records are laid out so.
+fn run_laid_out<W: Write>(
+    rt: &HostRuntime,
+    plan: &Plan<'_>,
+    replay: &Replay<'_>,
+    out: &mut W,
+) -> Result<Summary, ReplayFault> {
+    if matches!(plan.layout, Layout::Plain | Layout::Json) {
+        return run_input(rt, plan, replay, out);
+    }
+    write_text(out, b"TAP version 13\n")?;
+    let summary = run_input(rt, plan, replay, out)?;
+    write_count(rt.alloc(), out, summary.read)?;
+    Ok(summary)
+}
+
 fn replay_to<W: Write>(
     rt: &HostRuntime,
     plan: &Plan<'_>,
@@ -135,7 +145,7 @@ fn replay_to<W: Write>(
     replay: &Replay<'_>,
     out: &mut W,
 ) -> u8 {
-    match run_input(rt, plan, replay, out) {
+    match run_laid_out(rt, plan, replay, out) {
         Ok(summary) => match show_summary(rt, plan, texts, &summary) {
             Ok(()) => status_of(plan.strict, &summary),
             Err(_) => refuse_early(rt, &Fault::Memory),
@@ -242,56 +252,6 @@ fn comparison_of<'a>(
     })
 }
 
-// Why the clients are not read, and where. No secret is said.
-fn refuse_clients<'a>(rt: &HostRuntime, path: &'a str, refused: &ClientsFault) -> u8 {
-    match refused.fault {
-        ClientFault::Memory => refuse_early(rt, &Fault::Memory),
-        ClientFault::Unreadable => refuse_unread_explained(rt, Unread::File(path)),
-        fault => {
-            let line = refused.line;
-            let _ = match String::from_utf8_lossy(rt.alloc(), &refused.path) {
-                Ok(file) => eprintln!(rt; "radpolicy: E02 {file}:{line}: {fault}"),
-                Err(_) => eprintln!(rt; "radpolicy: E02 {path}: {fault}"),
-            };
-            tell_help(rt, client_help(rt.alloc(), fault));
-            status(&Fault::OptionValue)
-        }
-    }
-}
-
-// The secret of a file, or those of clients.
-#[derive(Drop)]
-enum HeldSecrets<'a> {
-    One(Secret<'a>),
-    ByClient(Clients),
-}
-
-fn shared_by<'a>(held: &'a HeldSecrets<'a>) -> SharedSecrets<'a> {
-    match held {
-        HeldSecrets::One(secret) => SharedSecrets::One(secret),
-        HeldSecrets::ByClient(clients) => SharedSecrets::ByClient(clients),
-    }
-}
-
-// The secrets of a plan; or the status, where clients were refused and it was said why.
-fn held_secrets<'a>(
-    rt: &HostRuntime,
-    plan: &Plan<'_>,
-    octets: &'a [u8],
-) -> Result<Result<HeldSecrets<'a>, u8>, Fault>
-    ensures { IfErr result IsPrintedAnywhere }
-{
-    match plan.secret {
-        SecretPlan::File(_) => Ok(Ok(HeldSecrets::One(Secret::in_file(octets)?))),
-        SecretPlan::Clients(path) => {
-            match read_clients(rt.alloc(), &SystemFiles::new(rt), path.as_bytes()) {
-                Ok(clients) => Ok(Ok(HeldSecrets::ByClient(clients))),
-                Err(refused) => Ok(Err(refuse_clients(rt, path, &refused))),
-            }
-        }
-    }
-}
-
 // What a plan says beside its policies: the secrets, and the attributes that are left out where replies are compared.
 struct Settings<'a> {
     secrets: HeldSecrets<'a>,
@@ -317,7 +277,7 @@ fn settings_of<'a>(
 ) -> Result<Result<Settings<'a>, u8>, Fault>
     ensures { IfErr result IsPrintedAnywhere }
 {
-    let secrets = match held_secrets(rt, plan, octets)? {
+    let secrets = match held_secrets(rt, plan.secret, octets)? {
         Ok(secrets) => secrets,
         Err(status) => return Ok(Err(status)),
     };
@@ -349,9 +309,10 @@ fn replay_by(
     };
     let replay = Replay {
         policy: &policy,
-        shared: shared_by(&settings.secrets),
+        shared: settings.secrets.shared(),
         comparison: comparison_of(plan, &against, &settings.ignored),
         secrets: plan.secrets,
+        layout: plan.layout,
     };
     let texts = PolicyTexts {
         new: files.policy.as_slice(),
@@ -374,14 +335,6 @@ fn policy_source<'a>(plan: &Plan<'a>, files: &'a Files, reading: Reading) -> Sou
     }
 }
 
-// The path of the secret's file; empty where there are clients.
-fn secret_path<'a>(plan: &Plan<'a>) -> &'a str {
-    match plan.secret {
-        SecretPlan::File(path) => path,
-        SecretPlan::Clients(_) => "",
-    }
-}
-
 // The files of a plan, with the policy that was read last.
 fn sources_of<'a>(plan: &'a Plan<'a>, files: &'a Files, reading: Reading) -> Sources<'a> {
     let nothing = Source {
@@ -395,7 +348,7 @@ fn sources_of<'a>(plan: &'a Plan<'a>, files: &'a Files, reading: Reading) -> Sou
         is_request_wider: false,
         policy: policy_source(plan, files, reading),
         script: nothing,
-        secret: secret_path(plan),
+        secret: plan.secret.path(),
     }
 }
 
@@ -441,7 +394,8 @@ fn show_help(rt: &HostRuntime, words: &[String]) -> u8 {
 
 fn replay_words(rt: &HostRuntime, words: &[String]) -> u8 {
     match read_words(rt.alloc(), words) {
-        Ok(plan) => replay_plan(rt, &plan),
+        Ok(Asked::Replay(plan)) => replay_plan(rt, &plan),
+        Ok(Asked::Packets(plan)) => write_packets(rt, &plan),
         Err(Fault::Help) => show_help(rt, words),
         Err(fault) => refuse_words_of(rt, &fault, "radpolicy-replay", help_text(rt.alloc(), words)),
     }

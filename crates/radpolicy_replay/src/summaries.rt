@@ -1,9 +1,10 @@
 //! What is said at the end of a replay, on standard error.
 
 use crate::command_line::{AgainstPlan, Plan};
+use crate::json_summaries::json_summary;
 use radpolicy_changing_lines::PolicyLine;
 use radpolicy_common::{LineBreaks, visible_text};
-use radpolicy_replay_records::{LineCount, Summary};
+use radpolicy_replay_records::{Layout, LineCount, Summary};
 use std::alloc::{AllocError, Global};
 
 /// The texts of the policies.
@@ -34,25 +35,28 @@ fn show_kinds(rt: &HostRuntime, plan: &Plan<'_>, summary: &Summary) {
     };
 }
 
-// The line of a text with this number, from 1.
-fn line_of(text: &[u8], number: usize) -> &[u8] {
+/// The line of a text with this number, from 1, without the blanks around it.
+pub fn line_of(text: &[u8], number: usize) -> &[u8] {
     text.split(|octet| *octet == b'\n')
         .nth(number.saturating_sub(1))
         .unwrap_or(&[])
+        .trim_ascii()
 }
 
 // The line of a policy as it is shown.
 fn shown_line(alloc: Global, text: &[u8], number: usize) -> Result<String, AllocError> {
-    let line = line_of(text, number).trim_ascii();
-    let visible = visible_text(alloc, line, LineBreaks::Escaped)?;
+    let visible = visible_text(alloc, line_of(text, number), LineBreaks::Escaped)?;
     String::from_utf8_lossy(alloc, &visible)
 }
 
 // How many records each line of a policy made different, by the lines' numbers.
 type Counts = Vec<(usize, u64)>;
 
-// The counts of the lines of the new policy and of the old one, each in the order of lines.
-fn counts_in_order(alloc: Global, counts: &[LineCount]) -> Result<(Counts, Counts), AllocError> {
+/// The counts of the lines of the new policy and of the old one, each in the order of lines.
+pub fn counts_in_order(
+    alloc: Global,
+    counts: &[LineCount],
+) -> Result<(Counts, Counts), AllocError> {
     let (mut new, mut old) = (Vec::new(alloc), Vec::new(alloc));
     for count in counts {
         match count.line {
@@ -100,6 +104,14 @@ pub fn show_summary(
     texts: PolicyTexts<'_>,
     summary: &Summary,
 ) -> Result<(), AllocError> {
+    if plan.layout == Layout::Json {
+        let line = String::from_utf8_lossy(
+            rt.alloc(),
+            &json_summary(rt.alloc(), plan, texts, summary)?,
+        )?;
+        let _ = eprintln!(rt; "{line}");
+        return Ok(());
+    }
     show_kinds(rt, plan, summary);
     show_lines(rt, plan, texts, summary)
 }

@@ -200,11 +200,16 @@ quietly_told Different name words = []
 quietly_told All name words = name ++ words ++ codes "\n"
 
 -- how the lists of two replies differ
+abbrev pub packets_lines : (Pair → List ℕ) → (Pair → List ℕ) → Comparison → Packet → Packet
+    → List ℕ
+packets_lines removed added comparison captured own =
+    list_change removed added comparison.order (compared_pairs comparison captured.list)
+    (compared_pairs comparison own.list)
+
 abbrev pub packets_change : (Pair → List ℕ) → (Pair → List ℕ) → Comparison → Packet → Packet
     → List ℕ
-packets_change removed added comparison captured own = named_change (codes "reply")
-    (list_change removed added comparison.order (compared_pairs comparison captured.list)
-    (compared_pairs comparison own.list))
+packets_change removed added comparison captured own =
+    named_change (codes "reply") (packets_lines removed added comparison captured own)
 
 -- the same, where both sent one
 abbrev pub replies_change : SecretValues → Dictionary → Comparison → Packet → Option Packet → List ℕ

@@ -3,8 +3,11 @@ pub mod Captured
 pub mod Comparisons
 pub mod Differences
 pub mod Entries
+pub mod JsonEntries
+pub mod Layouts
 pub mod LineCounts
 pub mod Lines
+pub mod PacketLines
 pub mod RecordLines
 pub mod Records
 pub mod Replays

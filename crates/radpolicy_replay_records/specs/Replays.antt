@@ -1,5 +1,5 @@
 -- What a replay writes of a text of records, and how many there were.
-use Rattle.std.specs.Prelude.{◌≡◌, ◌≤◌, ℕ, ◌+◌, ◌^◌, List, [], ◌++◌, codes, Option, None, Some, Result, Ok, Err, ⊤}
+use Rattle.std.specs.Prelude.{◌≡◌, ◌≤◌, ℕ, ◌+◌, ◌^◌, Bool, true, false, List, [], ◌++◌, codes, Option, None, Some, Result, Ok, Err, ⊤}
 use Rattle.std.specs.Io.KnownBytes.{Appends, Consumes}
 use Rattle.std.specs.List.{enumerate_from, flat_map, fold}
 use Rattle.std.specs.Option.{option_and_then}
@@ -7,10 +7,13 @@ use Rattle.radpolicy.specs.RunOutcomes.{RunOutcome}
 use Rattle.radpolicy.specs.Starts.{Prepared}
 use Rattle.radpolicy_changing_lines.specs.declared.differences.PolicyLine.{PolicyLine}
 use Rattle.radpolicy_clients.specs.Clients.{secret_for}
+use Rattle.radpolicy_replay_layouts.specs.TestLines.{test_text}
 use Rattle.radpolicy_replay_records.specs.Answers.{answer_shown, answered_record}
 use Rattle.radpolicy_replay_records.specs.Captured.{replies_told, replies_with, verdict_of_replies}
 use Rattle.radpolicy_replay_records.specs.Differences.{answers_told, verdict_of_answers}
 use Rattle.radpolicy_replay_records.specs.Entries.{entry_of_line}
+use Rattle.radpolicy_replay_records.specs.JsonEntries.{answer_members, answers_members, has_line, json_line, line_if, replies_members}
+use Rattle.radpolicy_replay_records.specs.Layouts.{has_passed, without_last}
 use Rattle.radpolicy_replay_records.specs.LineCounts.{with_lines}
 use Rattle.radpolicy_replay_records.specs.Lines.{ended_records_of, records_of}
 use Rattle.radpolicy_replay_records.specs.RecordLines.{lines_alone, lines_beside, request_trace}
@@ -23,6 +26,8 @@ use Rattle.radpolicy_replay_records.specs.declared.comparisons.Against.{Against}
 use Rattle.radpolicy_replay_records.specs.declared.comparisons.Against.TheVariants.{Captured, Policy}
 use Rattle.radpolicy_replay_records.specs.declared.comparisons.Comparison.{Comparison}
 use Rattle.radpolicy_replay_records.specs.declared.entries.Entry.{Entry}
+use Rattle.radpolicy_replay_records.specs.declared.layouts.Layout.{Layout}
+use Rattle.radpolicy_replay_records.specs.declared.layouts.Layout.TheVariants.{Json, Plain, StrictTests, Tests}
 use Rattle.radpolicy_replay_records.specs.declared.replays.Replay.{Replay}
 use Rattle.radpolicy_replay_records.specs.declared.replays.ReplayFault.{ReplayFault}
 use Rattle.radpolicy_replay_records.specs.declared.replays.ReplayFault.TheVariants.{Input, TooManyRecords}
@@ -72,15 +77,6 @@ text_by replay None number secret entry = or_number number entry.identifier
 text_by replay (Some comparison) number secret entry =
     compared_text replay comparison comparison.against number secret entry
 
--- what is written for a record with this number that says this, by the secret of its source if there is one
-unfoldable pub entry_text : Replay → ℕ → Option (List ℕ) → Entry → List ℕ
-entry_text replay number secret entry = text_by replay replay.comparison number secret entry
-
--- what is written for the record of a line with this number
-unfoldable pub record_text : Replay → ℕ → List ℕ → List ℕ
-record_text replay number line =
-    entry_text replay number (record_secret replay.shared line) (entry_of_line line)
-
 abbrev pub verdict_by : Result RunOutcome RecordFault → Verdict
 verdict_by (Ok _) = Answered
 verdict_by (Err _) = Refused
@@ -101,6 +97,51 @@ verdict_on replay (Some comparison) secret entry =
 -- what became of a record that says this
 unfoldable pub entry_verdict : Replay → Option (List ℕ) → Entry → Verdict
 entry_verdict replay secret entry = verdict_on replay replay.comparison secret entry
+
+-- the same as a test
+abbrev pub test_of : Replay → Bool → ℕ → Option (List ℕ) → Entry → List ℕ
+test_of replay strict number secret entry =
+    test_text (has_passed strict (entry_verdict replay secret entry)) number
+    (without_last (or_number number entry.identifier))
+    (text_by replay replay.comparison number secret entry)
+
+-- what the object of a record has besides its name, where its answer is compared with these
+abbrev pub compared_members : Replay → Comparison → Against → Option (List ℕ) → Entry → List ℕ
+compared_members replay comparison (Policy against) secret entry =
+    answers_members replay.secrets comparison (answer_by against.now secret entry.request)
+    (answer_by replay.policy.now secret entry.request)
+compared_members replay comparison Captured secret entry =
+    replies_members replay.secrets replay.policy.now.dictionary comparison
+    (entry_replies replay secret entry)
+
+-- the same, where its answer is compared and where it is not
+abbrev pub members_by : Replay → Option Comparison → Option (List ℕ) → Entry → List ℕ
+members_by replay None secret entry = answer_members replay.policy.now.dictionary replay.secrets
+    (answer_by replay.policy.now secret entry.request)
+members_by replay (Some comparison) secret entry =
+    compared_members replay comparison comparison.against secret entry
+
+-- what is written for a record as JSON
+abbrev pub entry_json : Replay → ℕ → Option (List ℕ) → Entry → List ℕ
+entry_json replay number secret entry =
+    line_if (has_line replay.comparison (entry_verdict replay secret entry))
+    (json_line (without_last (or_number number entry.identifier))
+    (entry_verdict replay secret entry) (members_by replay replay.comparison secret entry))
+
+abbrev pub text_in : Layout → Replay → ℕ → Option (List ℕ) → Entry → List ℕ
+text_in Plain replay number secret entry = text_by replay replay.comparison number secret entry
+text_in Tests replay number secret entry = test_of replay false number secret entry
+text_in StrictTests replay number secret entry = test_of replay true number secret entry
+text_in Json replay number secret entry = entry_json replay number secret entry
+
+-- what is written for a record with this number that says this, by the secret of its source if there is one
+unfoldable pub entry_text : Replay → ℕ → Option (List ℕ) → Entry → List ℕ
+entry_text replay number secret entry = text_in replay.layout replay number secret entry
+
+-- what is written for the record of a line with this number
+unfoldable pub record_text : Replay → ℕ → List ℕ → List ℕ
+record_text replay number line =
+    entry_text replay number (record_secret replay.shared line) (entry_of_line line)
 
 -- what became of the record of a line
 unfoldable pub verdict_of : Replay → List ℕ → Verdict

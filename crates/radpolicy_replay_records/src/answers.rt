@@ -54,8 +54,8 @@ fn has_secret(dictionary: &Dictionary, pairs: &[Pair]) -> bool
         .any(|pair| is_secret(dictionary, pair.id, &pair.value))
 }
 
-// Whether a value of the reply is not to be shown.
-fn hides_reply(
+/// Whether a value of the reply is not to be shown.
+pub(crate) fn hides_reply(
     dictionary: &Dictionary,
     secrets: SecretValues,
     outcome: &RunOutcome<'_>,
@@ -71,8 +71,8 @@ fn hides_reply(
     }
 }
 
-// The reply in hexadecimal digits, unless it is hidden.
-fn push_reply(text: &mut Vec<u8>, hides: bool, reply: &Reply) -> Result<(), AllocError>
+/// The reply in hexadecimal digits, unless it is hidden.
+pub(crate) fn push_reply(text: &mut Vec<u8>, hides: bool, reply: &Reply) -> Result<(), AllocError>
     ensures { OnOk result (text.new.items ≡ text.old.items ++ reply_shown hides reply.now) }
 {
     let alloc = *text.allocator();

@@ -6,7 +6,7 @@ ghost use Rattle.avp_packet.specs.Packets.{authenticator_of};
 ghost use Rattle.radpolicy.specs.Faults.{MemoryOr};
 ghost use Rattle.radpolicy.specs.StartRefusals.{IsUnreadPacket};
 ghost use Rattle.radpolicy_common.specs.ChangeTexts.{AllFit};
-ghost use Rattle.radpolicy_replay_records.specs.Captured.{AreSameReplies, answers, beside, beside_captured, captured_fault_shown, captured_reply, captured_text_shown, compared_pairs, is_reply_code, left_out, other_reply_told, own_name, packets_change, own_reply, quietly_told, replies_by, replies_change, replies_told, replies_with, reply_name, reply_to, reply_word, same_packets, same_replies, unless_other, verdict_of_replies, with_own};
+ghost use Rattle.radpolicy_replay_records.specs.Captured.{AreSameReplies, answers, beside, beside_captured, captured_fault_shown, captured_reply, captured_text_shown, compared_pairs, is_reply_code, left_out, other_reply_told, own_name, packets_change, packets_lines, own_reply, quietly_told, replies_by, replies_change, replies_told, replies_with, reply_name, reply_to, reply_word, same_packets, same_replies, unless_other, verdict_of_replies, with_own};
 ghost use Rattle.radpolicy_replay_records.specs.Answers.{fault_shown, refusal_shown, text_fault_shown};
 ghost use Rattle.radpolicy_replay_records.specs.Comparisons.{pairs_of};
 ghost use Rattle.radpolicy_replay_records.specs.Differences.{added_line, removed_line};
@@ -432,7 +432,8 @@ impl Comparison<'_> {
 
 // ---- what is said of them
 
-fn reply_name(code: u8) -> &'static [u8]
+/// The name of a reply of this code.
+pub(crate) fn reply_name(code: u8) -> &'static [u8]
     ensures { result.now ≡ reply_name code }
 {
     match code {
@@ -473,7 +474,11 @@ fn push_captured_text(text: &mut Vec<u8>, fault: TextFault) -> Result<(), AllocE
     push_text_fault(text, fault)
 }
 
-fn push_captured_fault(text: &mut Vec<u8>, fault: CapturedFault) -> Result<(), AllocError>
+/// Why what was captured is no reply.
+pub(crate) fn push_captured_fault(
+    text: &mut Vec<u8>,
+    fault: CapturedFault,
+) -> Result<(), AllocError>
     ensures { OnOk result (text.new.items ≡ text.old.items ++ captured_fault_shown fault) }
 {
     match fault {
@@ -501,8 +506,29 @@ fn push_quietly(text: &mut Vec<u8>, told: Told, name: &[u8], words: &[u8]) -> Re
 }
 
 impl Comparison<'_> {
-    // How the lists differ, where both sent one.
+    /// How the lists of two replies differ.
     #[tactic(auto, using(crate::proofs::Fitting::compared_pairs_fit))]
+    pub(crate) fn packets_lines(
+        &self,
+        alloc: Global,
+        printer: &Printer<'_>,
+        captured: &Packet,
+        own: &Packet,
+    ) -> Result<Vec<u8>, AllocError>
+        requires captured { PacketFits printer.now.old.now captured.now }
+        requires own { PacketFits printer.now.new.now own.now }
+        ensures { IfOk result (λ lines. lines.items
+            ≡ packets_lines (removed_line printer.now.old.now printer.now.secrets)
+            (added_line printer.now.new.now printer.now.secrets) self.now captured.now own.now) }
+    {
+        let captured_pairs = self.compared_pairs(alloc, captured.list.as_slice())?;
+        let own_pairs = self.compared_pairs(alloc, own.list.as_slice())?;
+        let mut lines = Vec::new(alloc);
+        printer.push_lists(&mut lines, self.order, &captured_pairs, &own_pairs)?;
+        Ok(lines)
+    }
+
+    // The same below the list's name.
     fn push_packets_change(
         &self,
         text: &mut Vec<u8>,
@@ -516,11 +542,7 @@ impl Comparison<'_> {
             ++ packets_change (removed_line printer.now.old.now printer.now.secrets)
             (added_line printer.now.new.now printer.now.secrets) self.now captured.now own.now) }
     {
-        let alloc = *text.allocator();
-        let captured_pairs = self.compared_pairs(alloc, captured.list.as_slice())?;
-        let own_pairs = self.compared_pairs(alloc, own.list.as_slice())?;
-        let mut lines = Vec::new(alloc);
-        printer.push_lists(&mut lines, self.order, &captured_pairs, &own_pairs)?;
+        let lines = self.packets_lines(*text.allocator(), printer, captured, own)?;
         push_named(text, b"reply", &lines)
     }
 

@@ -236,7 +236,8 @@ fn push_same(
     Ok(())
 }
 
-fn verdict_of_same(answer: &Result<RunOutcome<'_>, RecordFault>) -> Verdict
+/// What became of a record that is answered alike.
+pub(crate) fn verdict_of_same(answer: &Result<RunOutcome<'_>, RecordFault>) -> Verdict
     ensures { result ≡ verdict_of_same answer.now }
 {
     match answer {
@@ -246,9 +247,9 @@ fn verdict_of_same(answer: &Result<RunOutcome<'_>, RecordFault>) -> Verdict
 }
 
 impl Comparison<'_> {
-    // How a list at the end of two runs differs.
+    /// How a list at the end of two runs differs.
     #[tactic(auto, using(crate::proofs::Fitting::compared_fit))]
-    fn change_of(
+    pub(crate) fn change_of(
         &self,
         alloc: Global,
         printer: &Printer<'_>,
@@ -331,7 +332,8 @@ impl Comparison<'_> {
         self.push_changes(text, printer, old, new)
     }
 
-    fn same_answers(
+    /// Whether two answers are the same.
+    pub(crate) fn same_answers(
         &self,
         alloc: Global,
         old: &Result<RunOutcome<'_>, RecordFault>,

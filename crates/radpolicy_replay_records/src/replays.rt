@@ -4,7 +4,7 @@ ghost use Rattle.std.specs.Prelude.{◌≡◌, ◌<◌, ◌≤◌, ◌+◌, ◌^
 ghost use Rattle.std.specs.Io.KnownBytes.{Appends, Consumes, IsAtEnd, Keeps};
 ghost use Rattle.radpolicy_replay_records.specs.Lines.{cut};
 ghost use Rattle.radpolicy_replay_records.specs.Answers.{answer_shown};
-ghost use Rattle.radpolicy_replay_records.specs.Replays.{AppendsFront, IsReason, answer_by, compared_lines, compared_text, compared_verdict, entry_counted, entry_lines, entry_text, entry_verdict, lines_if, lines_on, record_lines, record_secret, record_text, replayed_text, summary_of, text_by, verdict_by, verdict_of, verdict_on};
+ghost use Rattle.radpolicy_replay_records.specs.Replays.{AppendsFront, IsReason, answer_by, compared_lines, compared_text, compared_verdict, entry_counted, entry_lines, entry_text, entry_verdict, lines_if, lines_on, record_lines, record_secret, record_text, replayed_text, summary_of, test_of, text_by, verdict_by, verdict_of, verdict_on};
 ghost use Rattle.radpolicy_replay_records.specs.Entries.{entry_of_line};
 ghost use Rattle.radpolicy_replay_records.specs.TextEntries.{IsEntryOf, text_secret};
 ghost use Rattle.radpolicy_replay_records.specs.TextReplays.{IsRecordsReason, IsReplayed, IsReplayedFront};
@@ -19,6 +19,7 @@ use crate::comparisons::{Against, Comparison};
 use crate::differences::Printer;
 use crate::entries::{Entry, entry_of_line};
 use crate::inputs::Records;
+use crate::layouts::{Layout, has_passed, without_last};
 use crate::lines::{MAX_LINE_OCTETS, first_line_end, is_record, keep};
 use crate::record_lines::run_of;
 use crate::records::{push_name, source_of};
@@ -29,6 +30,7 @@ use radpolicy::{Fault, PreparedPolicy, RunOutcome, Secret};
 use radpolicy_changing_lines::PolicyLine;
 use radpolicy_clients::Clients;
 use radpolicy_common::SecretValues;
+use radpolicy_replay_layouts::push_test;
 use radpolicy_traffic::Record;
 use std::alloc::{AllocError, AllocFailed, Global};
 use std::io::{ErrorKind, Read, Write};
@@ -82,6 +84,7 @@ pub struct Replay<'a> {
     /// `None`: each record is answered.
     pub comparison: Option<Comparison<'a>>,
     pub secrets: SecretValues,
+    pub layout: Layout,
 }
 
 fn new_block(alloc: Global) -> Result<Vec<u8>, AllocError>
@@ -172,8 +175,8 @@ fn answer_by<'a>(
     }
 }
 
-// What a policy answers to a record.
-fn entry_answer<'a>(
+/// What a policy answers to a record.
+pub(crate) fn entry_answer<'a>(
     alloc: Global,
     policy: &'a PreparedPolicy<'a>,
     secret: &'a Option<Secret<'a>>,
@@ -188,8 +191,8 @@ fn entry_answer<'a>(
     }
 }
 
-// The same, which is over the dictionary of its policy.
-fn answer_over<'a>(
+/// The same, which is over the dictionary of its policy.
+pub(crate) fn answer_over<'a>(
     alloc: Global,
     policy: &'a PreparedPolicy<'a>,
     secret: &'a Option<Secret<'a>>,
@@ -217,8 +220,8 @@ impl SharedSecrets<'_> {
         }
     }
 
-    // The secret that is shared with the source of a record of lines.
-    fn of_text(&self, record: &Record) -> Option<Secret<'_>>
+    /// The secret that is shared with the source of a record of attribute lines.
+    pub fn of_text(&self, record: &Record) -> Option<Secret<'_>>
         ensures { result ≡ text_secret self.now record.now }
     {
         match self {
@@ -350,8 +353,56 @@ impl<'a> Replay<'a> {
         }
     }
 
+    // What is said of a record, as it is.
+    #[tactic(auto, unfolding(crate::specs::Replays::entry_verdict))]
+    fn push_plain<'b>(
+        &'b self,
+        text: &mut Vec<u8>,
+        number: u64,
+        secret: &'b Option<Secret<'b>>,
+        entry: &Entry,
+    ) -> Result<Verdict, AllocError>
+        ensures text { OnOk result (text.new.items
+            ≡ text.old.items ++ text_by self.now self.now.comparison number secret.now entry.now) }
+        ensures verdict { IfOk result (λ verdict.
+            verdict ≡ entry_verdict self.now secret.now entry.now) }
+    {
+        match &self.comparison {
+            None => self.push_answered(text, number, secret, entry),
+            Some(comparison) => self.push_compared(text, comparison, number, secret, entry),
+        }
+    }
+
+    // The same as a test.
+    fn push_test<'b>(
+        &'b self,
+        text: &mut Vec<u8>,
+        strict: bool,
+        number: u64,
+        secret: &'b Option<Secret<'b>>,
+        entry: &Entry,
+    ) -> Result<Verdict, AllocError>
+        ensures text { OnOk result (text.new.items
+            ≡ text.old.items ++ test_of self.now strict number secret.now entry.now) }
+        ensures verdict { IfOk result (λ verdict.
+            verdict ≡ entry_verdict self.now secret.now entry.now) }
+    {
+        let alloc = *text.allocator();
+        let (mut name, mut told) = (Vec::new(alloc), Vec::new(alloc));
+        push_name(&mut name, number, entry.identifier.as_slice())?;
+        let verdict = self.push_plain(&mut told, number, secret, entry)?;
+        push_test(
+            text,
+            has_passed(strict, verdict),
+            number,
+            without_last(&name),
+            &told,
+        )?;
+        Ok(verdict)
+    }
+
     // What is said of a record.
-    #[tactic(auto, unfolding(crate::specs::Replays::entry_text, crate::specs::Replays::entry_verdict))]
+    #[tactic(auto, unfolding(crate::specs::Replays::entry_text))]
     fn push_entry<'b>(
         &'b self,
         text: &mut Vec<u8>,
@@ -364,9 +415,11 @@ impl<'a> Replay<'a> {
         ensures verdict { IfOk result (λ verdict.
             verdict ≡ entry_verdict self.now secret.now entry.now) }
     {
-        match &self.comparison {
-            None => self.push_answered(text, number, secret, entry),
-            Some(comparison) => self.push_compared(text, comparison, number, secret, entry),
+        match self.layout {
+            Layout::Plain => self.push_plain(text, number, secret, entry),
+            Layout::Tests => self.push_test(text, false, number, secret, entry),
+            Layout::StrictTests => self.push_test(text, true, number, secret, entry),
+            Layout::Json => self.push_json(text, number, secret, entry),
         }
     }
 

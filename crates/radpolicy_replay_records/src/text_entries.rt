@@ -31,7 +31,7 @@ fn text_identifier(alloc: Global, identifier: &[u8]) -> Result<Vec<u8>, AllocErr
 }
 
 /// The address of a record's source.
-pub(crate) fn text_source(record: &Record) -> Option<IpAddr>
+pub fn text_source(record: &Record) -> Option<IpAddr>
     ensures { result ≡ text_source record.now }
 {
     match &record.source {
@@ -221,7 +221,7 @@ fn entry_by(
 }
 
 /// What a record says, by the secret that is shared with its source, if there is one.
-pub(crate) fn entry_of_record(
+pub fn entry_of_record(
     alloc: Global,
     dictionary: &Dictionary,
     zone: Option<i16>,

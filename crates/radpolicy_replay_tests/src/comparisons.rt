@@ -6,7 +6,9 @@ use avp_lists::AttrId;
 use radpolicy::{PreparedPolicy, Secret};
 use radpolicy_changing_lines::PolicyLine;
 use radpolicy_common::SecretValues;
-use radpolicy_replay_records::{Against, Comparison, Order, Replay, SharedSecrets, Summary, Told};
+use radpolicy_replay_records::{
+    Against, Comparison, Layout, Order, Replay, SharedSecrets, Summary, Told,
+};
 use samples::test_dictionary;
 use std::alloc::Global;
 use std::test::Fail;
@@ -62,6 +64,7 @@ fn replay_against<'a>(
         shared,
         comparison,
         secrets: SecretValues::Hidden,
+        layout: Layout::Plain,
     }
 }
 

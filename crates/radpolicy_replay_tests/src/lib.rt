@@ -10,6 +10,10 @@ mod faults;
 #[cfg(test)]
 mod initial_lists;
 #[cfg(test)]
+mod layouts;
+#[cfg(test)]
+mod packet_lines;
+#[cfg(test)]
 mod records;
 #[cfg(test)]
 mod replays;

@@ -4,7 +4,7 @@ use avp_dict::Dictionary;
 use radpolicy::{PreparedPolicy, Secret};
 use radpolicy_changing_lines::PolicyLine;
 use radpolicy_common::SecretValues;
-use radpolicy_replay_records::{MAX_LINE_OCTETS, Replay, SharedSecrets, Summary};
+use radpolicy_replay_records::{Layout, MAX_LINE_OCTETS, Replay, SharedSecrets, Summary};
 use samples::test_dictionary;
 use std::alloc::Global;
 use std::test::Fail;
@@ -41,6 +41,7 @@ pub(crate) fn replay_alone<'a>(
         shared,
         comparison: None,
         secrets,
+        layout: Layout::Plain,
     }
 }
 

@@ -4,7 +4,7 @@ use avp_dict::Dictionary;
 use radpolicy::PreparedPolicy;
 use radpolicy_clients::{Clients, read_lines};
 use radpolicy_common::SecretValues;
-use radpolicy_replay_records::{Replay, SharedSecrets, Summary};
+use radpolicy_replay_records::{Layout, Replay, SharedSecrets, Summary};
 use samples::test_dictionary;
 use std::alloc::Global;
 use std::test::Fail;
@@ -40,6 +40,7 @@ fn replay_by_client<'a>(policy: &'a PreparedPolicy<'a>, clients: &'a Clients) ->
         shared,
         comparison: None,
         secrets: SecretValues::Hidden,
+        layout: Layout::Plain,
     }
 }
 

@@ -7,7 +7,7 @@ use radpolicy_changing_lines::PolicyLine;
 use radpolicy_clients::{Clients, read_lines};
 use radpolicy_common::SecretValues;
 use radpolicy_replay_records::{
-    Against, Comparison, Order, RecordReader, Replay, SharedSecrets, Summary, Told,
+    Against, Comparison, Layout, Order, RecordReader, Replay, SharedSecrets, Summary, Told,
 };
 use radpolicy_traffic::Format;
 use samples::test_dictionary;
@@ -38,6 +38,7 @@ fn told(alloc: Global, format: Format, text: &[u8]) -> Result<(Vec<u8>, Summary)
         shared,
         comparison,
         secrets: SecretValues::Hidden,
+        layout: Layout::Plain,
     };
     let mut records = RecordReader::new(alloc, text, format)?;
     let mut out = Vec::new(alloc);
@@ -136,6 +137,7 @@ fn replay_by_client<'a>(policy: &'a PreparedPolicy<'a>, clients: &'a Clients) ->
         shared,
         comparison: None,
         secrets: SecretValues::Hidden,
+        layout: Layout::Plain,
     }
 }
 

@@ -1,0 +1,75 @@
+//! The secrets of a plan.
+
+ghost use Rattle.std.specs.Prelude.{IfErr};
+ghost use Rattle.radpolicy.specs.Faults.{IsPrintedAnywhere};
+
+use crate::client_help::client_help;
+use crate::command_line::SecretPlan;
+use avp_lists::Octets;
+use radpolicy::{Fault, Secret, status};
+use radpolicy_clients::{ClientFault, Clients, ClientsFault, read_clients};
+use radpolicy_common::{Unread, read_file, refuse_early};
+use radpolicy_help::{refuse_unread_explained, tell_help};
+use radpolicy_replay_records::SharedSecrets;
+use server_configuration::SystemFiles;
+
+/// What the secret's file holds; nothing where there are clients.
+pub fn read_secret<'a>(rt: &HostRuntime, plan: SecretPlan<'a>) -> Result<Octets, Unread<'a>> {
+    match plan {
+        SecretPlan::File(path) => read_file(rt, path),
+        SecretPlan::Clients(_) => Ok(Octets::from_vec(Vec::new(rt.alloc()))),
+    }
+}
+
+// Why the clients are not read, and where. No secret is said.
+fn refuse_clients<'a>(rt: &HostRuntime, path: &'a str, refused: &ClientsFault) -> u8 {
+    match refused.fault {
+        ClientFault::Memory => refuse_early(rt, &Fault::Memory),
+        ClientFault::Unreadable => refuse_unread_explained(rt, Unread::File(path)),
+        fault => {
+            let line = refused.line;
+            let _ = match String::from_utf8_lossy(rt.alloc(), &refused.path) {
+                Ok(file) => eprintln!(rt; "radpolicy: E02 {file}:{line}: {fault}"),
+                Err(_) => eprintln!(rt; "radpolicy: E02 {path}: {fault}"),
+            };
+            tell_help(rt, client_help(rt.alloc(), fault));
+            status(&Fault::OptionValue)
+        }
+    }
+}
+
+/// The secret of a file, or those of clients.
+#[derive(Drop)]
+pub enum HeldSecrets<'a> {
+    One(Secret<'a>),
+    ByClient(Clients),
+}
+
+impl<'a> HeldSecrets<'a> {
+    /// The secrets, as they are looked up.
+    pub fn shared(&'a self) -> SharedSecrets<'a> {
+        match self {
+            HeldSecrets::One(secret) => SharedSecrets::One(secret),
+            HeldSecrets::ByClient(clients) => SharedSecrets::ByClient(clients),
+        }
+    }
+}
+
+/// The secrets of a plan; or the status, where clients were refused and it was said why.
+pub fn held_secrets<'a>(
+    rt: &HostRuntime,
+    plan: SecretPlan<'_>,
+    octets: &'a [u8],
+) -> Result<Result<HeldSecrets<'a>, u8>, Fault>
+    ensures { IfErr result IsPrintedAnywhere }
+{
+    match plan {
+        SecretPlan::File(_) => Ok(Ok(HeldSecrets::One(Secret::in_file(octets)?))),
+        SecretPlan::Clients(path) => {
+            match read_clients(rt.alloc(), &SystemFiles::new(rt), path.as_bytes()) {
+                Ok(clients) => Ok(Ok(HeldSecrets::ByClient(clients))),
+                Err(refused) => Ok(Err(refuse_clients(rt, path, &refused))),
+            }
+        }
+    }
+}

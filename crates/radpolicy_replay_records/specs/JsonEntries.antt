@@ -1,0 +1,156 @@
+-- What is said of a record as JSON (RFC 8259): an object a line.
+use Rattle.std.specs.Prelude.{ℕ, Bool, true, false, if◌then◌else◌, List, [], ◌∷◌, ◌++◌, codes, drop, filter, map, Option, None, Some, Result, Ok, Err}
+use Rattle.std.specs.List.{slice_split}
+use Rattle.avp_dict.specs.Dictionary.{Dictionary}
+use Rattle.avp_dict.specs.Lines.{is_line_end}
+use Rattle.avp_dict.specs.Words.{is_word}
+use Rattle.avp_lists.specs.declared.lists.List.TheVariants.{Control, Reply}
+use Rattle.avp_lists.specs.declared.pairs.Pair.{Pair}
+use Rattle.avp_packet.specs.declared.packets.Packet.{Packet}
+use Rattle.avp_unlang.specs.Meaning.{Outcome as End}
+use Rattle.radpolicy.specs.Reports.{code_text}
+use Rattle.radpolicy.specs.RunOutcomes.{RunOutcome}
+use Rattle.radpolicy.specs.declared.run_outcomes.Reply.{Reply as Sent}
+use Rattle.radpolicy.specs.declared.run_outcomes.Reply.TheVariants as sent
+use Rattle.radpolicy_common.specs.declared.change_texts.SecretValues.{SecretValues}
+use Rattle.radpolicy_replay_layouts.specs.JsonTexts.{flag, string, strings}
+use Rattle.radpolicy_replay_records.specs.Answers.{hides_reply, refusal_shown, reply_shown}
+use Rattle.radpolicy_replay_records.specs.Captured.{captured_fault_shown, packets_lines, reply_name, same_replies}
+use Rattle.radpolicy_replay_records.specs.Comparisons.{same_answers}
+use Rattle.radpolicy_replay_records.specs.Differences.{added_line, change_of, removed_line}
+use Rattle.radpolicy_replay_records.specs.declared.answers.RecordFault.{RecordFault}
+use Rattle.radpolicy_replay_records.specs.declared.captured.Replies.{Replies}
+use Rattle.radpolicy_replay_records.specs.declared.captured.Replies.TheVariants.{Both, Challenge, Refused, Unanswered, Unread}
+use Rattle.radpolicy_replay_records.specs.declared.comparisons.Comparison.{Comparison}
+use Rattle.radpolicy_replay_records.specs.declared.comparisons.Told.{Told}
+use Rattle.radpolicy_replay_records.specs.declared.comparisons.Told.TheVariants.{All, Different}
+use Rattle.radpolicy_replay_records.specs.declared.summaries.Verdict.{Verdict}
+use Rattle.radpolicy_replay_records.specs.declared.summaries.Verdict.TheVariants as verdict
+
+-- ---- answers
+
+-- the result, and whether the run was stopped
+abbrev pub result_members : End → List ℕ
+result_members end = codes "\"result\":" ++ string (code_text end.code)
+    ++ codes ",\"stopped\":" ++ flag end.stopped
+
+abbrev pub fault_member : List ℕ → List ℕ
+fault_member words = codes "\"fault\":" ++ string words
+
+-- the result, or why the record is refused
+abbrev pub end_members : Result RunOutcome RecordFault → List ℕ
+end_members (Ok outcome) = result_members outcome.end
+end_members (Err f) = fault_member (refusal_shown f)
+
+-- the reply in hexadecimal digits, unless it is hidden, or null
+abbrev pub reply_value : Bool → Sent → List ℕ
+reply_value hides (sent.Packet octets) = string (reply_shown hides (sent.Packet octets))
+reply_value hides _ = codes "null"
+
+-- an answer that is not compared
+abbrev pub answer_members : Dictionary → SecretValues → Result RunOutcome RecordFault → List ℕ
+answer_members dictionary secrets (Ok outcome) = codes "," ++ result_members outcome.end
+    ++ codes ",\"reply\":"
+    ++ reply_value (hides_reply dictionary secrets outcome.end) outcome.reply
+answer_members dictionary secrets (Err f) = codes "," ++ fault_member (refusal_shown f)
+
+-- ---- answers that are compared
+
+-- the lines of a change, without the two blanks before each
+abbrev pub change_strings : List ℕ → List (List ℕ)
+change_strings lines = map (drop 2) (filter is_word (slice_split is_line_end lines))
+
+-- how the list of this name differs
+abbrev pub change_member : List ℕ → List ℕ → List ℕ
+change_member name lines =
+    codes ",\"" ++ name ++ codes "\":" ++ strings (change_strings lines)
+
+-- how the reply and control lists differ, where both ran
+abbrev pub change_members : SecretValues → Comparison → Result RunOutcome RecordFault
+    → Result RunOutcome RecordFault → List ℕ
+change_members secrets comparison (Ok old) (Ok new) =
+    change_member (codes "reply") (change_of secrets comparison Reply old new)
+    ++ change_member (codes "control") (change_of secrets comparison Control old new)
+change_members secrets comparison _ _ = []
+
+-- a record that two policies answer otherwise
+abbrev pub difference_members : SecretValues → Comparison → Result RunOutcome RecordFault
+    → Result RunOutcome RecordFault → List ℕ
+difference_members secrets comparison old new =
+    codes ",\"old\":{" ++ end_members old ++ codes "},\"new\":{" ++ end_members new ++ codes "}"
+    ++ change_members secrets comparison old new
+
+-- the answers of two policies
+unfoldable pub answers_members : SecretValues → Comparison → Result RunOutcome RecordFault
+    → Result RunOutcome RecordFault → List ℕ
+answers_members secrets comparison old new =
+    if same_answers comparison old new then codes "," ++ end_members new
+    else difference_members secrets comparison old new
+
+-- ---- replies that are compared
+
+-- the name of a reply with this code
+unfoldable pub reply_string : ℕ → List ℕ
+reply_string code = string (reply_name code)
+
+-- the reply that was captured
+abbrev pub captured_member : Packet → List ℕ
+captured_member captured = codes ",\"captured\":" ++ reply_string captured.code
+
+-- how the policy's own reply differs
+abbrev pub own_reply_members : (Pair → List ℕ) → (Pair → List ℕ) → Comparison → Packet → Packet
+    → List ℕ
+own_reply_members removed added comparison captured own = reply_string own.code
+    ++ change_member (codes "reply") (packets_lines removed added comparison captured own)
+
+-- the same, where it sends one
+abbrev pub own_members : SecretValues → Dictionary → Comparison → Packet → Option Packet → List ℕ
+own_members secrets dictionary comparison captured None = codes "null"
+own_members secrets dictionary comparison captured (Some own) = own_reply_members
+    (removed_line dictionary secrets) (added_line dictionary secrets) comparison captured own
+
+abbrev pub other_members : SecretValues → Dictionary → Comparison → Packet → Option Packet → List ℕ
+other_members secrets dictionary comparison captured own = captured_member captured
+    ++ codes ",\"own\":" ++ own_members secrets dictionary comparison captured own
+
+-- the reply that was captured, and the policy's own
+unfoldable pub replies_members : SecretValues → Dictionary → Comparison → Replies → List ℕ
+replies_members secrets dictionary comparison (Refused f) =
+    codes "," ++ fault_member (refusal_shown f)
+replies_members secrets dictionary comparison Unanswered = []
+replies_members secrets dictionary comparison (Unread f) =
+    codes "," ++ fault_member (captured_fault_shown f)
+replies_members secrets dictionary comparison Challenge = []
+replies_members secrets dictionary comparison (Both captured own) =
+    if same_replies comparison captured own
+    then captured_member captured
+    else other_members secrets dictionary comparison captured own
+
+-- ---- records
+
+abbrev pub verdict_text : Verdict → List ℕ
+verdict_text verdict.Answered = codes "answered"
+verdict_text verdict.Same = codes "same"
+verdict_text verdict.Different = codes "different"
+verdict_text verdict.Unanswered = codes "unanswered"
+verdict_text verdict.Challenged = codes "challenged"
+verdict_text verdict.Refused = codes "refused"
+
+-- a record of this name, of which that became, with these members
+abbrev pub json_line : List ℕ → Verdict → List ℕ → List ℕ
+json_line name became members = codes "{\"record\":" ++ string name
+    ++ codes ",\"verdict\":" ++ string (verdict_text became) ++ members ++ codes "}\n"
+
+-- a record of which this became has a line
+abbrev pub is_told : Told → Verdict → Bool
+is_told Different verdict.Different = true
+is_told Different _ = false
+is_told All _ = true
+
+-- the same, where answers are compared and where they are not
+abbrev pub has_line : Option Comparison → Verdict → Bool
+has_line None became = true
+has_line (Some comparison) became = is_told comparison.told became
+
+abbrev pub line_if : Bool → List ℕ → List ℕ
+line_if told line = if told then line else []

@@ -1,0 +1,196 @@
+//! What is said of a record as JSON.
+
+ghost use Rattle.std.specs.Prelude.{◌≡◌, ◌++◌, IfOk, None, OnOk, Some};
+ghost use Rattle.radpolicy_replay_records.specs.JsonEntries.{has_line, is_told, json_line, line_if, verdict_text};
+ghost use Rattle.radpolicy_replay_records.specs.Replays.{compared_members, compared_verdict, entry_json, entry_verdict, members_by, verdict_on};
+ghost use Rattle.radpolicy_replay_records.specs.declared.comparisons.Against.TheVariants.{Captured, Policy};
+
+use crate::captured::entry_replies;
+use crate::comparisons::{Against, Comparison, Told};
+use crate::differences::Printer;
+use crate::entries::Entry;
+use crate::json_members::push_answer_members;
+use crate::layouts::without_last;
+use crate::records::push_name;
+use crate::replays::{Replay, answer_over, entry_answer};
+use crate::summaries::Verdict;
+use radpolicy::{PreparedPolicy, Secret};
+use radpolicy_replay_layouts::push_string;
+use std::alloc::AllocError;
+
+fn verdict_text(verdict: Verdict) -> &'static [u8]
+    ensures { result.now ≡ verdict_text verdict }
+{
+    match verdict {
+        Verdict::Answered => b"answered",
+        Verdict::Same => b"same",
+        Verdict::Different => b"different",
+        Verdict::Unanswered => b"unanswered",
+        Verdict::Challenged => b"challenged",
+        Verdict::Refused => b"refused",
+    }
+}
+
+// A record of this name, of which that became, with these members.
+fn push_json_line(
+    text: &mut Vec<u8>,
+    name: &[u8],
+    verdict: Verdict,
+    members: &[u8],
+) -> Result<(), AllocError>
+    ensures { OnOk result (text.new.items
+        ≡ text.old.items ++ json_line name.now verdict members.now) }
+{
+    text.extend_from_slice(b"{\"record\":")?;
+    push_string(text, name)?;
+    text.extend_from_slice(b",\"verdict\":")?;
+    push_string(text, verdict_text(verdict))?;
+    text.extend_from_slice(members)?;
+    text.extend_from_slice(b"}\n")?;
+    Ok(())
+}
+
+fn is_told(told: Told, verdict: Verdict) -> bool
+    ensures { result ≡ is_told told verdict }
+{
+    match (told, verdict) {
+        (Told::All, _) | (Told::Different, Verdict::Different) => true,
+        (Told::Different, _) => false,
+    }
+}
+
+// Whether a record has a line of which this became.
+fn has_line(comparison: &Option<Comparison<'_>>, verdict: Verdict) -> bool
+    ensures { result ≡ has_line comparison.now verdict }
+{
+    match comparison {
+        None => true,
+        Some(comparison) => is_told(comparison.told, verdict),
+    }
+}
+
+impl<'a> Replay<'a> {
+    fn push_members_alone<'b>(
+        &'b self,
+        text: &mut Vec<u8>,
+        secret: &'b Option<Secret<'b>>,
+        entry: &Entry,
+    ) -> Result<Verdict, AllocError>
+        ensures text { OnOk result (text.new.items
+            ≡ text.old.items ++ members_by self.now None secret.now entry.now) }
+        ensures verdict { IfOk result (λ verdict.
+            verdict ≡ verdict_on self.now None secret.now entry.now) }
+    {
+        let answer = entry_answer(*text.allocator(), self.policy, secret, entry)?;
+        push_answer_members(text, self.policy.dictionary(), self.secrets, &answer)?;
+        match answer {
+            Ok(_) => Ok(Verdict::Answered),
+            Err(_) => Ok(Verdict::Refused),
+        }
+    }
+
+    fn push_members_beside_policy<'b>(
+        &'b self,
+        text: &mut Vec<u8>,
+        comparison: &'b Comparison<'b>,
+        against: &'b PreparedPolicy<'b>,
+        secret: &'b Option<Secret<'b>>,
+        entry: &Entry,
+    ) -> Result<Verdict, AllocError>
+        ensures text { OnOk result (text.new.items ≡ text.old.items ++ compared_members self.now
+            comparison.now (Policy against.entry) secret.now entry.now) }
+        ensures verdict { IfOk result (λ verdict. verdict ≡ compared_verdict self.now
+            comparison.now (Policy against.entry) secret.now entry.now) }
+    {
+        let alloc = *text.allocator();
+        let old = answer_over(alloc, against, secret, entry)?;
+        let new = answer_over(alloc, self.policy, secret, entry)?;
+        let printer = Printer {
+            old: against.dictionary(),
+            new: self.policy.dictionary(),
+            secrets: self.secrets,
+        };
+        comparison.push_answers_members(text, &printer, &old, &new)
+    }
+
+    fn push_members_beside_captured<'b>(
+        &'b self,
+        text: &mut Vec<u8>,
+        comparison: &'b Comparison<'b>,
+        secret: &'b Option<Secret<'b>>,
+        entry: &Entry,
+    ) -> Result<Verdict, AllocError>
+        ensures text { OnOk result (text.new.items ≡ text.old.items
+            ++ compared_members self.now comparison.now Captured secret.now entry.now) }
+        ensures verdict { IfOk result (λ verdict. verdict
+            ≡ compared_verdict self.now comparison.now Captured secret.now entry.now) }
+    {
+        let replies = entry_replies(*text.allocator(), self.policy, secret, entry)?;
+        let dictionary = self.policy.dictionary();
+        comparison.push_replies_members(text, dictionary, self.secrets, &replies)
+    }
+
+    fn push_members_compared<'b>(
+        &'b self,
+        text: &mut Vec<u8>,
+        comparison: &'b Comparison<'b>,
+        secret: &'b Option<Secret<'b>>,
+        entry: &Entry,
+    ) -> Result<Verdict, AllocError>
+        ensures text { OnOk result (text.new.items ≡ text.old.items
+            ++ members_by self.now (Some comparison.now) secret.now entry.now) }
+        ensures verdict { IfOk result (λ verdict.
+            verdict ≡ verdict_on self.now (Some comparison.now) secret.now entry.now) }
+    {
+        match &comparison.against {
+            Against::Policy(against) => {
+                self.push_members_beside_policy(text, comparison, *against, secret, entry)
+            }
+            Against::Captured => {
+                self.push_members_beside_captured(text, comparison, secret, entry)
+            }
+        }
+    }
+
+    // What the object of a record has besides its name.
+    #[tactic(auto, unfolding(crate::specs::Replays::entry_verdict))]
+    fn push_members<'b>(
+        &'b self,
+        text: &mut Vec<u8>,
+        secret: &'b Option<Secret<'b>>,
+        entry: &Entry,
+    ) -> Result<Verdict, AllocError>
+        ensures text { OnOk result (text.new.items
+            ≡ text.old.items ++ members_by self.now self.now.comparison secret.now entry.now) }
+        ensures verdict { IfOk result (λ verdict.
+            verdict ≡ entry_verdict self.now secret.now entry.now) }
+    {
+        match &self.comparison {
+            None => self.push_members_alone(text, secret, entry),
+            Some(comparison) => self.push_members_compared(text, comparison, secret, entry),
+        }
+    }
+
+    /// What is said of a record, as JSON.
+    pub(crate) fn push_json<'b>(
+        &'b self,
+        text: &mut Vec<u8>,
+        number: u64,
+        secret: &'b Option<Secret<'b>>,
+        entry: &Entry,
+    ) -> Result<Verdict, AllocError>
+        ensures text { OnOk result (text.new.items
+            ≡ text.old.items ++ entry_json self.now number secret.now entry.now) }
+        ensures verdict { IfOk result (λ verdict.
+            verdict ≡ entry_verdict self.now secret.now entry.now) }
+    {
+        let alloc = *text.allocator();
+        let (mut name, mut members) = (Vec::new(alloc), Vec::new(alloc));
+        push_name(&mut name, number, entry.identifier.as_slice())?;
+        let verdict = self.push_members(&mut members, secret, entry)?;
+        if has_line(&self.comparison, verdict) {
+            push_json_line(text, without_last(&name), verdict, &members)?;
+        }
+        Ok(verdict)
+    }
+}
