@@ -202,7 +202,7 @@ fn show_page(rt: &HostRuntime, plan: &Plan<'_>, page: Result<Page, PageFault>) -
         Err(PageFault::Memory) => refuse_early(rt, &Fault::Memory),
         Err(PageFault::TooLarge) => {
             let _ = eprintln!(rt;
-                "radpolicy-page: the run is too long for a page, of which nothing is written"
+                "radpolicy-page: the run is too long for a page; nothing is written"
             );
             status(&Fault::Write)
         }

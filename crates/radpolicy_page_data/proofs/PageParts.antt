@@ -10,7 +10,7 @@ use Rattle.radpolicy_common.specs.declared.change_texts.SecretValues.{SecretValu
 use Rattle.radpolicy_page_data.specs.Differences.{lists_at}
 use Rattle.radpolicy_page_data.specs.Embedding.{embedded, markup_text}
 use Rattle.radpolicy_page_data.specs.Packets.{reply_text}
-use Rattle.radpolicy_page_data.specs.Pages.{IsPage, IsRedactionOf, IsTooLargeFor, data_text, last_lists, lists_text, trace_from}
+use Rattle.radpolicy_page_data.specs.Pages.{ArePositionsTooLarge, IsPage, IsRedactionOf, data_text, last_lists, lists_text, trace_from}
 use Rattle.radpolicy_page_data.specs.Positions.{ArePositions, IsTooLarge}
 use Rattle.radpolicy_page_data.specs.Secrets.{AreSecret, Redaction, lines_of}
 use Rattle.radpolicy_page_data.specs.declared.pages.Page.{Page}
@@ -25,7 +25,7 @@ module _ (start : Start) (secrets : SecretValues) (redaction : Redaction) (dicti
   }
 
   pub too_large : redaction.dictionary ≡ dictionary → redaction.secrets ≡ secrets → AreSecret dictionary (lines_of statements) redaction.ids → dictionary ≡ start.prepared.dictionary → statements ≡ start.prepared.statements
-      → w ≡ walk_from start.prepared.dictionary start.prepared.statements (entry_of start) → IsTooLarge redaction w.trace → IsTooLargeFor start secrets
+      → w ≡ walk_from start.prepared.dictionary start.prepared.statements (entry_of start) → IsTooLarge redaction w.trace → ArePositionsTooLarge start secrets
   too_large d s ids is_dictionary is_statements walk large =
       (redaction, redacts d s ids is_dictionary is_statements, subst (λ (v : Walk). IsTooLarge redaction v.trace) walk large)
 

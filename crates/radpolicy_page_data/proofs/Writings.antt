@@ -34,9 +34,9 @@ came_fits d splice before after is fit = middle_fits d (take splice.at before) s
 pub what_came_fits : (d : Dictionary) (mark : Option Mark) (before lists : State) (difference : Difference) → IsDifference mark before lists difference → StateFits d lists → DifferenceFits d difference
 what_came_fits d mark before lists (Again earlier) made fits = tt
 what_came_fits d mark before lists (Spliced request reply control) made fits = (
-  came_fits d request before.request lists.request made.request (fits Request),
-  came_fits d reply before.reply lists.reply made.reply (fits Reply),
-  came_fits d control before.control lists.control made.control (fits Control),
+  came_fits d request before.request lists.request made.request.makes (fits Request),
+  came_fits d reply before.reply lists.reply made.reply.makes (fits Reply),
+  came_fits d control before.control lists.control made.control.makes (fits Control),
 )
 
 -- ---- one position more

@@ -1,10 +1,10 @@
--- How the lists at a position of a run come of those before.
+-- How the lists at a position of a run come from those before.
 use Rattle.std.specs.Prelude.{◌≡◌, ◌<◌, ℕ, zero, suc, List}
 use Rattle.std.specs.List.{slice_index_or}
 use Rattle.avp_lists.specs.States.{empty_state}
 use Rattle.avp_lists.specs.declared.lists.State.{State}
 use Rattle.avp_step.specs.Trace.{Entry, start}
-use Rattle.radpolicy_page_data.specs.Splices.{applied}
+use Rattle.radpolicy_page_data.specs.Splices.{IsBetween}
 use Rattle.radpolicy_page_data.specs.declared.differences.Difference.{Difference}
 use Rattle.radpolicy_page_data.specs.declared.differences.Difference.TheVariants.{Again, Spliced}
 use Rattle.radpolicy_page_data.specs.declared.splices.Splice.{Splice}
@@ -21,11 +21,11 @@ abbrev pub lists_before : List Entry → ℕ → State
 lists_before trace zero = empty_state
 lists_before trace (suc k) = lists_at trace k
 
--- the splices make the three lists of those before
+-- the splices make the three lists from those before
 pub record AreSplices (of_request of_reply of_control : Splice) (before after : State) : Type 0 where
-  pub request : applied of_request before.request ≡ after.request
-  pub reply : applied of_reply before.reply ≡ after.reply
-  pub control : applied of_control before.control ≡ after.control
+  pub request : IsBetween of_request before.request after.request
+  pub reply : IsBetween of_reply before.reply after.reply
+  pub control : IsBetween of_control before.control after.control
 
 -- the lists at an earlier position are there again, or splices make the lists of those before
 abbrev pub Makes : List Entry → ℕ → Difference → Type 0

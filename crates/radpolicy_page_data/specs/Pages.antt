@@ -1,5 +1,5 @@
 -- What a page shows of a run.
-use Rattle.std.specs.Prelude.{◌≡◌, ℕ, ◌-◌, List, ◌++◌, codes, length}
+use Rattle.std.specs.Prelude.{◌≡◌, ◌<◌, ◌⊎◌, ℕ, ◌+◌, ◌-◌, List, ◌++◌, codes, length}
 use Rattle.std.specs.List.{flat_map}
 use Rattle.avp_lists.specs.declared.lists.State.{State}
 use Rattle.avp_lists.specs.declared.pairs.Pair.{Pair}
@@ -15,6 +15,7 @@ use Rattle.radpolicy_page_data.specs.Policies.{policy_shown}
 use Rattle.radpolicy_page_data.specs.Positions.{ArePositions, IsTooLarge}
 use Rattle.radpolicy_page_data.specs.Secrets.{AreSecret, Redaction, lines_of, redacted}
 use Rattle.radpolicy_page_data.specs.declared.pages.Page.{Page}
+use Rattle.radpolicy_page_data.specs.declared.pages.TheConstants.{MAX_PAGE_OCTETS}
 
 -- the trace of the run from a start
 abbrev pub trace_from : Start → List Entry
@@ -66,7 +67,16 @@ pub record IsPage (start : Start) (secrets : SecretValues) (policy : List ℕ) (
       (reply_text redaction (last_lists (trace_from start)).reply reply))
   pub lists : page.lists.items ≡ markup_text (lists_text redaction (last_lists (trace_from start)))
 
--- the positions of the run are too large for a page
-abbrev pub IsTooLargeFor : Start → SecretValues → Type 0
-IsTooLargeFor start secrets = (redaction : Redaction)
+-- the octets of the parts of a page that are of a run
+abbrev pub octets_of : Page → ℕ
+octets_of page = length page.run.items + length page.lists.items
+
+-- some first positions of the run are too large for a page
+abbrev pub ArePositionsTooLarge : Start → SecretValues → Type 0
+ArePositionsTooLarge start secrets = (redaction : Redaction)
     × IsRedactionOf start secrets redaction × IsTooLarge redaction (trace_from start)
+
+-- they are, or its page is too large
+abbrev pub IsTooLargeFor : Start → SecretValues → List ℕ → Reply → Type 0
+IsTooLargeFor start secrets policy reply = ArePositionsTooLarge start secrets
+    ⊎ ((page : Page) × IsPage start secrets policy reply page × (MAX_PAGE_OCTETS < octets_of page))

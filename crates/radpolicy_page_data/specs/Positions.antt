@@ -29,7 +29,7 @@ difference_text redaction (Spliced request reply control) =
     splice_text redaction request ++ codes "," ++ splice_text redaction reply
     ++ codes "," ++ splice_text redaction control
 
--- what stands before the item of a position
+-- what comes before the item of a position
 abbrev pub separator : ℕ → List ℕ
 separator zero = []
 separator (suc k) = codes ","

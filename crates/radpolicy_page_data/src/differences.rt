@@ -1,4 +1,4 @@
-//! How the lists at a position of a run come of those before.
+//! How the lists at a position of a run come from those before.
 
 ghost use Rattle.std.specs.Prelude.{◌≡◌, IfOk, IsTrue, None};
 ghost use Rattle.radpolicy_page_data.specs.internal.Marks.{IsDifference};
@@ -7,12 +7,12 @@ use crate::splices::Splice;
 use avp_lists::{Pair, State};
 use std::alloc::AllocError;
 
-/// How the lists at a position come of those before.
+/// How the lists at a position come from those before.
 #[derive(Clone, Copy, Debug, Drop)]
 pub enum Difference<'a> {
     /// They are those of this earlier position.
     Again(usize),
-    /// Each is made of the one at the position before: the request list, the reply list and the control list.
+    /// Each is made from the one at the position before: the request list, the reply list and the control list.
     Spliced(Splice<'a>, Splice<'a>, Splice<'a>),
 }
 
@@ -50,7 +50,7 @@ fn spliced<'a>(before: &State, lists: &'a State) -> Difference<'a>
     )
 }
 
-/// How lists come of those before, at the end of a transaction with this mark or at another step.
+/// How lists come from those before, at the end of a transaction with this mark or at another step.
 pub(crate) fn difference_of<'a>(
     mark: &Option<Mark>,
     before: &State,

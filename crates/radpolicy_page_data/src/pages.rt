@@ -1,12 +1,12 @@
 //! What a page shows of a run.
 
-ghost use Rattle.std.specs.Prelude.{◌≡◌, ◌++◌, true, IfErr, IfOk, OnOk, codes};
+ghost use Rattle.std.specs.Prelude.{◌≡◌, ◌≤◌, ◌<◌, false, ◌++◌, true, IfErr, IfOk, OnOk, codes};
 ghost use Rattle.std.specs.List.{flat_map, list_all};
 ghost use Rattle.avp_unlang.specs.Resolutions.{StateFits};
 ghost use Rattle.radpolicy_common.specs.ChangeTexts.{AllFit, Fits};
 ghost use Rattle.radpolicy_page_data.specs.Embedding.{are_embeddable, embedded, is_no_tag, markup_text};
 ghost use Rattle.radpolicy_page_data.specs.Packets.{reply_text};
-ghost use Rattle.radpolicy_page_data.specs.Pages.{IsPage, IsTooLargeFor, data_text, hidden_text, list_lines, lists_text, pair_line};
+ghost use Rattle.radpolicy_page_data.specs.Pages.{IsPage, IsTooLargeFor, data_text, hidden_text, list_lines, lists_text, octets_of, pair_line};
 
 use crate::faults::PageFault;
 use crate::json::{embedded, push_string};
@@ -20,6 +20,9 @@ use radpolicy::{Reply, Start};
 use radpolicy_common::SecretValues;
 use std::alloc::{AllocError, Global};
 
+/// The octets that the parts of a page have at most. The rest of it is fixed, and has fewer than 100,000.
+pub const MAX_PAGE_OCTETS: usize = 49_900_000;
+
 /// The parts of a page that are of a run.
 #[derive(Drop)]
 pub struct Page {
@@ -27,6 +30,16 @@ pub struct Page {
     pub lists: Vec<u8>,
     /// The run, as JSON.
     pub run: Vec<u8>,
+}
+
+impl Page {
+    fn is_too_large(&self) -> bool
+        ensures large { result ≡ true → MAX_PAGE_OCTETS < octets_of self.now }
+        ensures small { result ≡ false → octets_of self.now ≤ MAX_PAGE_OCTETS }
+    {
+        let run = self.run.len();
+        run > MAX_PAGE_OCTETS || self.lists.len() > MAX_PAGE_OCTETS - run
+    }
 }
 
 // ---- the lists at the end
@@ -146,7 +159,7 @@ fn page_with(
 /// The page of a run from a start, by the policy's text and what the run sends. It is refused where memory is short, and
 /// where it would be too large.
 ///
-/// In the data each position has the words of its step, the last code, and how its lists come of those before it.
+/// In the data each position has the words of its step, the last code, and how its lists come from those before it.
 pub fn page_of(
     alloc: Global,
     start: Start<'_>,
@@ -158,12 +171,16 @@ pub fn page_of(
     // What is embedded is printed ASCII without < > &.
     ensures embeddable { IfOk result (λ page. are_embeddable page.run.items ≡ true) }
     ensures no_tag { IfOk result (λ page. list_all is_no_tag page.lists.items ≡ true) }
+    ensures size { IfOk result (λ page. octets_of page ≤ MAX_PAGE_OCTETS) }
     ensures refused { IfErr result (λ fault. fault ≡ PageFault.TooLarge
-        → IsTooLargeFor start.entry secrets) }
+        → IsTooLargeFor start.entry secrets policy.now reply.now) }
 {
     let redaction = Redaction::new(alloc, start.dictionary(), start.policy(), secrets)?;
     let mut stepper = start.stepper(alloc)?;
     let told = positions_text(alloc, &redaction, &mut stepper)?;
     let page = page_with(alloc, &redaction, policy, &told.0, &told.1, reply)?;
+    if page.is_too_large() {
+        return Err(PageFault::TooLarge);
+    }
     Ok(page)
 }
