@@ -44,8 +44,8 @@ def text_of(line: bytes) -> bytes:
         return b"no verdict\n"
     lines = [f"{object['record']} {first_line(object)}\n"]
     for name in ("reply", "control"):
-        if isinstance(object.get(name), list) and object[name]:
-            lines += [f"  {name}\n", *(f"  {change}\n" for change in object[name])]
+        changes = object.get(f"{name}_changes", [])
+        lines += [f"  {name}\n", *(f"  {change}\n" for change in changes)] if changes else []
     return "".join(lines).encode()
 
 
@@ -73,7 +73,7 @@ def tests_of(told: bytes, objects: List[Dict[str, Any]], failing: Set[str]) -> b
     lines = [b"TAP version 13\n"]
     for number, object in enumerate(objects, 1):
         name, failed = object["record"].encode(), object["verdict"] in failing
-        lines.append(b"%sok %d - %s\n" % (b"not " if failed else b"", number, name.replace(b"#", b"\\#")))
+        lines.append(b"%sok %d - %s\n" % (b"not " if failed else b"", number, name.replace(b"\\", b"\\\\").replace(b"#", b"\\#")))
         lines += [b"# " + line for line in blocks.get(name.split()[0], b"").splitlines(keepends=True)]
     return b"".join([*lines, b"1..%d\n" % len(objects)])
 

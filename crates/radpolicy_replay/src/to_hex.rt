@@ -62,7 +62,7 @@ fn source_of(record: &Record) -> &[u8] {
     }
 }
 
-// Writes the line of a record, and says whether it has packets.
+// Writes the line of a record, and says whether it has a packet.
 fn write_record<W: Write>(
     alloc: Global,
     making: &Making<'_>,
@@ -76,7 +76,7 @@ fn write_record<W: Write>(
     entry.push_packet_line(&mut text, number, source_of(record))?;
     write_text(out, &text)?;
     flush(out)?;
-    Ok(entry.has_packets())
+    Ok(entry.has_packet())
 }
 
 fn write_records<R: Records, W: Write>(

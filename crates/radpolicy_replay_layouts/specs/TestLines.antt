@@ -1,11 +1,11 @@
 -- Tests of the Test Anything Protocol (version 13).
-use Rattle.std.specs.Prelude.{ℕ, ◌==◌, Bool, true, false, if◌then◌else◌, List, [], ◌∷◌, ◌++◌, codes, decimal}
+use Rattle.std.specs.Prelude.{ℕ, ◌==◌, ◌||◌, Bool, true, false, if◌then◌else◌, List, [], ◌∷◌, ◌++◌, codes, decimal}
 use Rattle.std.specs.List.{flat_map}
 use Rattle.avp_dict.specs.Lines.{is_line_end}
 
--- an octet of a description, in which `#` would begin a directive
+-- an octet of a description: `#` would begin a directive, and `\` is before what begins none
 abbrev pub octet_described : ℕ → List ℕ
-octet_described o = if o == 35 then codes "\\#" else o ∷ []
+octet_described o = if o == 35 || o == 92 then 92 ∷ o ∷ [] else o ∷ []
 
 abbrev pub described : List ℕ → List ℕ
 described name = flat_map octet_described name

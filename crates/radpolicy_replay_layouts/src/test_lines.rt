@@ -6,11 +6,11 @@ ghost use Rattle.radpolicy_replay_layouts.specs.TestLines.{comments, described, 
 use itoa::Buffer;
 use std::alloc::AllocError;
 
-// An octet of a description, in which `#` would begin a directive.
+// An octet of a description: `#` would begin a directive, and `\` is before what begins none.
 fn push_octet_described(text: &mut Vec<u8>, octet: u8) -> Result<(), AllocError>
     ensures { OnOk result (text.new.items ≡ text.old.items ++ octet_described octet) }
 {
-    if octet == b'#' {
+    if matches!(octet, b'#' | b'\\') {
         text.push(b'\\')?;
     }
     text.push(octet)?;

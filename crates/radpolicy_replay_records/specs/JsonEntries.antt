@@ -69,8 +69,8 @@ change_member name lines =
 abbrev pub change_members : SecretValues → Comparison → Result RunOutcome RecordFault
     → Result RunOutcome RecordFault → List ℕ
 change_members secrets comparison (Ok old) (Ok new) =
-    change_member (codes "reply") (change_of secrets comparison Reply old new)
-    ++ change_member (codes "control") (change_of secrets comparison Control old new)
+    change_member (codes "reply_changes") (change_of secrets comparison Reply old new)
+    ++ change_member (codes "control_changes") (change_of secrets comparison Control old new)
 change_members secrets comparison _ _ = []
 
 -- a record that two policies answer otherwise
@@ -97,11 +97,15 @@ reply_string code = string (reply_name code)
 abbrev pub captured_member : Packet → List ℕ
 captured_member captured = codes ",\"captured\":" ++ reply_string captured.code
 
+-- the name of a reply, and how its list differs
+unfoldable pub named_changes : ℕ → List ℕ → List ℕ
+named_changes code lines = reply_string code ++ change_member (codes "reply_changes") lines
+
 -- how the policy's own reply differs
 abbrev pub own_reply_members : (Pair → List ℕ) → (Pair → List ℕ) → Comparison → Packet → Packet
     → List ℕ
-own_reply_members removed added comparison captured own = reply_string own.code
-    ++ change_member (codes "reply") (packets_lines removed added comparison captured own)
+own_reply_members removed added comparison captured own =
+    named_changes own.code (packets_lines removed added comparison captured own)
 
 -- the same, where it sends one
 abbrev pub own_members : SecretValues → Dictionary → Comparison → Packet → Option Packet → List ℕ

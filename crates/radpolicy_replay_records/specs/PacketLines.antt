@@ -2,7 +2,6 @@
 use Rattle.std.specs.Prelude.{ℕ, ◌==◌, Bool, false, not, ◌&&◌, if◌then◌else◌, List, [], ◌∷◌, ◌++◌, codes, length, Result, Ok, Err}
 use Rattle.hex.specs.Hex.{encode_lower}
 use Rattle.radpolicy_replay_records.specs.Answers.{refusal_shown}
-use Rattle.radpolicy_replay_records.specs.Captured.{captured_fault_shown}
 use Rattle.radpolicy_replay_records.specs.Records.{or_number}
 use Rattle.radpolicy_replay_records.specs.declared.answers.RecordFault.{RecordFault}
 use Rattle.radpolicy_replay_records.specs.declared.captured.CapturedReply.{CapturedReply}
@@ -14,27 +13,26 @@ use Rattle.radpolicy_replay_records.specs.declared.requests.RecordRequest.{Recor
 abbrev pub is_alone : RecordRequest → Bool
 is_alone request = (length request.reply == 0) && (length request.control == 0)
 
-abbrev pub has_packets_with : CapturedReply → Result RecordRequest RecordFault → Bool
-has_packets_with (Unread f) request = false
-has_packets_with reply (Err f) = false
-has_packets_with reply (Ok request) = is_alone request
+abbrev pub has_packet_of : Result RecordRequest RecordFault → Bool
+has_packet_of (Err f) = false
+has_packet_of (Ok request) = is_alone request
 
--- a line of packets says all that a record says
-abbrev pub has_packets : Entry → Bool
-has_packets entry = has_packets_with entry.reply entry.request
+-- the line of a record has its request
+abbrev pub has_packet : Entry → Bool
+has_packet entry = has_packet_of entry.request
 
 -- the address of the source, where it is given
 abbrev pub source_shown : List ℕ → List ℕ
 source_shown [] = []
 source_shown (o ∷ os) = (o ∷ os) ++ codes " "
 
--- a request, and the reply that was captured: of a challenge there are no octets
+-- a request, and the reply that was captured: there is none of a challenge, and of lines that make no packet
 abbrev pub packets_shown : List ℕ → List ℕ → CapturedReply → List ℕ
 packets_shown source request Missing = source_shown source ++ encode_lower request
 packets_shown source request (Octets reply) =
     source_shown source ++ encode_lower request ++ codes " " ++ encode_lower reply
 packets_shown source request Challenge = source_shown source ++ encode_lower request
-packets_shown source request (Unread f) = captured_fault_shown f
+packets_shown source request (Unread f) = source_shown source ++ encode_lower request
 
 -- what is after the name: the packets, or why there are none
 abbrev pub after_name : List ℕ → CapturedReply → Result RecordRequest RecordFault → List ℕ

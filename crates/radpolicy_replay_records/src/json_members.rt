@@ -7,7 +7,7 @@ ghost use Rattle.avp_dict.specs.internal.Views.{views};
 ghost use Rattle.radpolicy_replay_records.specs.Answers.{hides_reply, refusal_shown};
 ghost use Rattle.radpolicy_replay_records.specs.Captured.{captured_fault_shown, verdict_of_replies};
 ghost use Rattle.radpolicy_replay_records.specs.Differences.{added_line, removed_line, verdict_of_answers};
-ghost use Rattle.radpolicy_replay_records.specs.JsonEntries.{answer_members, answers_members, captured_member, change_member, change_members, change_strings, difference_members, end_members, fault_member, other_members, own_members, own_reply_members, replies_members, reply_string, reply_value, result_members};
+ghost use Rattle.radpolicy_replay_records.specs.JsonEntries.{answer_members, answers_members, captured_member, change_member, change_members, change_strings, difference_members, end_members, fault_member, named_changes, other_members, own_members, own_reply_members, replies_members, reply_string, reply_value, result_members};
 ghost use Rattle.radpolicy_replay_records.specs.declared.captured.Replies.TheVariants.{Both};
 ghost use Rattle.radpolicy_replay_records.specs.internal.Fitting.{OwnFits, PacketFits, RepliesFit};
 ghost use Rattle.radpolicy_replay_records.specs.internal.Over.{IsOver};
@@ -160,6 +160,14 @@ fn push_reply_name(text: &mut Vec<u8>, code: u8) -> Result<(), AllocError>
     push_string(text, reply_name(code))
 }
 
+#[tactic(auto, unfolding(crate::specs::JsonEntries::named_changes))]
+fn push_named_changes(text: &mut Vec<u8>, code: u8, lines: &[u8]) -> Result<(), AllocError>
+    ensures { OnOk result (text.new.items ≡ text.old.items ++ named_changes code lines.now) }
+{
+    push_reply_name(text, code)?;
+    push_change_member(text, b"reply_changes", lines)
+}
+
 fn push_captured_member(text: &mut Vec<u8>, captured: &Packet) -> Result<(), AllocError>
     ensures { OnOk result (text.new.items ≡ text.old.items ++ captured_member captured.now) }
 {
@@ -183,8 +191,8 @@ impl Comparison<'_> {
         let alloc = *text.allocator();
         let reply = self.change_of(alloc, printer, List::Reply, old, new)?;
         let control = self.change_of(alloc, printer, List::Control, old, new)?;
-        push_change_member(text, b"reply", &reply)?;
-        push_change_member(text, b"control", &control)
+        push_change_member(text, b"reply_changes", &reply)?;
+        push_change_member(text, b"control_changes", &control)
     }
 
     // How the reply and control lists differ, where both ran.
@@ -269,8 +277,7 @@ impl Comparison<'_> {
             (added_line printer.now.new.now printer.now.secrets) self.now captured.now own.now) }
     {
         let lines = self.packets_lines(*text.allocator(), printer, captured, own)?;
-        push_reply_name(text, own.code)?;
-        push_change_member(text, b"reply", &lines)
+        push_named_changes(text, own.code, &lines)
     }
 
     // The same, where it sends one.

@@ -2,10 +2,10 @@
 
 ghost use Rattle.std.specs.Prelude.{◌≡◌, ◌++◌, OnOk};
 ghost use Rattle.hex.specs.Hex.{encode_lower};
-ghost use Rattle.radpolicy_replay_records.specs.PacketLines.{after_name, has_packets, has_packets_with, is_alone, packet_line, packets_shown, source_shown};
+ghost use Rattle.radpolicy_replay_records.specs.PacketLines.{after_name, has_packet, has_packet_of, is_alone, packet_line, packets_shown, source_shown};
 
 use crate::answers::{RecordFault, push_refusal};
-use crate::captured::{CapturedReply, push_captured_fault};
+use crate::captured::CapturedReply;
 use crate::entries::Entry;
 use crate::records::push_name;
 use crate::requests::RecordRequest;
@@ -17,12 +17,12 @@ fn is_alone(request: &RecordRequest) -> bool
     request.reply.as_slice().is_empty() && request.control.as_slice().is_empty()
 }
 
-fn has_packets_with(reply: &CapturedReply, request: &Result<RecordRequest, RecordFault>) -> bool
-    ensures { result ≡ has_packets_with reply.now request.now }
+fn has_packet_of(request: &Result<RecordRequest, RecordFault>) -> bool
+    ensures { result ≡ has_packet_of request.now }
 {
-    match (reply, request) {
-        (CapturedReply::Unread(_), _) | (_, Err(_)) => false,
-        (_, Ok(request)) => is_alone(request),
+    match request {
+        Err(_) => false,
+        Ok(request) => is_alone(request),
     }
 }
 
@@ -55,9 +55,6 @@ fn push_packets(
     ensures { OnOk result (text.new.items
         ≡ text.old.items ++ packets_shown source.now request.now reply.now) }
 {
-    if let CapturedReply::Unread(fault) = reply {
-        return push_captured_fault(text, *fault);
-    }
     push_source(text, source)?;
     push_digits(text, request)?;
     if let CapturedReply::Octets(octets) = reply {
@@ -90,15 +87,16 @@ fn push_after_name(
 }
 
 impl Entry {
-    /// Whether a line of packets says all that the record says.
-    pub fn has_packets(&self) -> bool
-        ensures { result ≡ has_packets self.now }
+    /// Whether the line of packets of the record has its request.
+    pub fn has_packet(&self) -> bool
+        ensures { result ≡ has_packet self.now }
     {
-        has_packets_with(&self.reply, &self.request)
+        has_packet_of(&self.request)
     }
 
     /// Adds the line of packets of a record with this number. Its source comes before the request; it is empty where
-    /// none is known. Where the record has no packets, the line says why, and a replay refuses it.
+    /// none is known. Where the line has no request, it says why, and a replay refuses it. It has no reply of a
+    /// challenge, or of lines that make no packet.
     pub fn push_packet_line(
         &self,
         text: &mut Vec<u8>,

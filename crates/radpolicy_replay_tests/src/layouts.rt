@@ -74,7 +74,7 @@ fn one_that_is_refused_fails_where_it_is_asked_for(rt: HostRuntime) -> Result<()
 #[test]
 fn each_record_is_an_object(rt: HostRuntime) -> Result<(), Fail> {
     let wanted =
-        br#"{"record":"1","verdict":"different","old":{"result":"ok","stopped":false},"new":{"result":"ok","stopped":false},"reply":["+ Session-Timeout = 600"],"control":[]}
+        br#"{"record":"1","verdict":"different","old":{"result":"ok","stopped":false},"new":{"result":"ok","stopped":false},"reply_changes":["+ Session-Timeout = 600"],"control_changes":[]}
 "#;
     assert_eq!(&rt;
         told(rt.alloc(), Layout::Json)?.as_slice(),
