@@ -98,6 +98,7 @@ const FAULTS: [(Fault, u8, &str); 18] = [
     (
         Fault::Request(LineFault {
             line: 3,
+            offset: 40,
             kind: LineKind::SecondPacket,
         }),
         2,
@@ -106,6 +107,7 @@ const FAULTS: [(Fault, u8, &str); 18] = [
     (
         Fault::Request(LineFault {
             line: 1,
+            offset: 0,
             kind: LineKind::Memory,
         }),
         4,

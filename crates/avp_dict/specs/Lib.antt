@@ -8,6 +8,7 @@ pub mod DictionaryReading
 pub mod Laws
 pub mod Letters
 pub mod Limits
+pub mod LineNumbers
 pub mod Lines
 pub mod Meanings
 pub mod Names
@@ -16,6 +17,7 @@ pub mod Outcomes
 pub mod Printing
 pub mod Quotes
 pub mod Readings
+pub mod RefusedPlaces
 pub mod Refusals
 pub mod RequestLines
 pub mod Requests

@@ -3,4 +3,5 @@
 pub mod faults;
 pub mod lines;
 pub mod readers;
+pub(crate) mod refusals;
 pub mod tokens;

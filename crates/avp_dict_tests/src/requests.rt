@@ -64,8 +64,10 @@ fn expect_fault(
     line: usize,
     kind: LineKind,
 ) {
-    let refused = dictionary.read_request(alloc, request).err();
-    assert_eq!(rt; refused, Some(LineFault { line, kind }));
+    match dictionary.read_request(alloc, request) {
+        Ok(_) => assert!(rt; false),
+        Err(fault) => assert_eq!(rt; (fault.line, fault.kind), (line, kind)),
+    }
 }
 
 // Requests, each with the line and the kind of its fault.
@@ -78,6 +80,35 @@ fn expect_faults(
     for (request, line, kind) in rows {
         expect_fault(rt, alloc, dictionary, request, *line, *kind);
     }
+}
+
+// How many octets of a text are before the place for which it is refused.
+fn offset_of(alloc: Global, dictionary: &Dictionary, text: &[u8]) -> Option<usize> {
+    match dictionary.read_request(alloc, text) {
+        Ok(_) => None,
+        Err(fault) => Some(fault.offset),
+    }
+}
+
+#[test]
+fn says_where_a_text_is_refused(rt: HostRuntime) -> Result<(), Fail> {
+    let alloc = rt.alloc();
+    let dictionary = read_lines(alloc)?;
+    let rows: [(&[u8], usize); 9] = [
+        (b"NAS-Port = three", 11),
+        (b"  NAS-Prt = 3", 2),
+        (b"NAS-Port = 3\nClass 0x01", 19),
+        (b"NAS-Port = 3, Class =", 21),
+        (b"NAS-Port =\nClass = 0x01", 10),
+        (b"NAS-Port = 3 Class = 0x01", 13),
+        (b"NAS-Port = 3, = 4", 14),
+        (b"NAS-Port = 3\n\n# next\nClass = 0x01", 21),
+        (b"NAS-Port = 3\r\nNAS-Port = 4294967296", 25),
+    ];
+    for (text, offset) in rows.iter() {
+        assert_eq!(rt; offset_of(alloc, &dictionary, text), Some(*offset));
+    }
+    Ok(())
 }
 
 #[test]

@@ -1,9 +1,11 @@
 //! Request lines in a profile.
 
-ghost use Rattle.std.specs.Prelude.{◌≡◌, ◌≢◌, ◌≤◌, All, IfErr, IfOk, IsTrue, List, None, Some, length, true};
+ghost use Rattle.std.specs.Prelude.{◌≡◌, ◌≢◌, ◌≤◌, All, IfErr, IfOk, IsTrue, List, None, Some, length, take, true};
 ghost use Rattle.avp_lists.specs.States.{max_pairs};
 ghost use Rattle.avp_lists.specs.declared.pairs.Pair.{Pair};
 ghost use Rattle.avp_dict.specs.Limits.{fits};
+ghost use Rattle.avp_dict.specs.LineNumbers.{line_after};
+ghost use Rattle.avp_dict.specs.RefusedPlaces.{is_before_filled};
 ghost use Rattle.avp_dict.specs.Sent.{is_clean};
 ghost use Rattle.avp_forms.specs.Requests.{request_written};
 
@@ -83,6 +85,11 @@ pub fn read_request(
         → request_written profile zone text.now dictionary.now ≡ Some other → other ≡ pairs.items) }
     ensures refused { IfErr result (λ fault. fault.kind ≢ LineKind.Memory
         → request_written profile zone text.now dictionary.now ≡ None) }
+
+    // A refusal has its place in the text.
+    ensures within { IfErr result (λ fault. fault.offset ≤ length text.now) }
+    ensures line { IfErr result (λ fault. fault.line ≡ line_after (take fault.offset text.now)) }
+    ensures filled { IfErr result (λ fault. is_before_filled fault.offset text.now ≡ true) }
 {
     match profile {
         Profile::Plain => dictionary.read_request(alloc, text),

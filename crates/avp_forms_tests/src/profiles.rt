@@ -123,8 +123,10 @@ fn expect_refused(
     text: &[u8],
     kind: LineKind,
 ) {
-    let refused = read_request(alloc, dictionary, profile, None, text).err();
-    assert_eq!(rt; refused, Some(LineFault { line: 2, kind }));
+    match read_request(alloc, dictionary, profile, None, text) {
+        Ok(_) => assert!(rt; false),
+        Err(fault) => assert_eq!(rt; (fault.line, fault.kind), (2, kind)),
+    }
 }
 
 #[test]

@@ -1,11 +1,6 @@
 -- Where a policy text was refused.
-use Rattle.std.specs.Prelude.{◌≡◌, ℕ, zero, suc, ◌+◌, false, List, count_by, length}
-use Rattle.avp_dict.specs.Lines.{is_line_end}
+use Rattle.std.specs.Prelude.{◌≡◌, ℕ, zero, suc, ◌+◌, false, List, length}
 use Rattle.avp_unlang.specs.Tokens.{skipped, token_at}
-
--- the number, from 1 on, of the line on which a text goes on after these octets: one more than the line ends in them
-abbrev pub line_after : List ℕ → ℕ
-line_after front = 1 + count_by is_line_end front
 
 -- a text from its first token on: without the blanks and comments before it
 abbrev pub from_token : List ℕ → List ℕ

@@ -20,7 +20,6 @@ pub use meaning::reasons::Reason;
 pub use meaning::resolving::{Unresolved, resolve};
 pub use meaning::truth::holds;
 pub use text::policies::{Policy, keeps_reply_clean, one_policy, read_policy, size};
-pub use text::positions::line_after;
 pub use tree::{
     Block, Branch, Branches, Comparand, Comparison, Cond, Line, Lines, MeantComparand,
     MeantComparison, Part, Parts, Relation, Source, Statement,

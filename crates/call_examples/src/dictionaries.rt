@@ -1,7 +1,7 @@
 //! Dictionaries, what is found in them, and texts.
 
 use avp_dict::{
-    Dictionary, FileSet, Form, Kind, LineFault, LineKind, NamedFile, quote, read_pairs,
+    Dictionary, FileSet, Form, Kind, LineFault, LineKind, NamedFile, line_after, quote, read_pairs,
 };
 use avp_lists::{AttrId, Octets};
 use samples::{read_dictionary, test_dictionary};
@@ -94,6 +94,11 @@ fn finds_tagged_names(rt: &impl Abort, dictionary: &Dictionary) -> Result<(), Fa
     Ok(())
 }
 
+// Example: line_after
+fn numbers_lines(rt: &impl Abort) {
+    assert_eq!(rt; line_after(b"update reply {\n  Class "), 2);
+}
+
 // Example: read_pairs
 fn reads_pairs(rt: &impl Abort, alloc: Global, dictionary: &Dictionary) -> Result<(), Fail> {
     let pairs = read_pairs(dictionary, alloc, b"User-Name = \"bob\", NAS-Port = 3")?;
@@ -106,8 +111,8 @@ fn reads_a_request(rt: &impl Abort, alloc: Global, dictionary: &Dictionary) -> R
     let request = dictionary.read_request(alloc, b"User-Name = \"bob\", NAS-Port = 3")?;
     assert_eq!(rt; request.len(), 2);
     let refused = dictionary.read_request(alloc, b"NAS-Port = three").err();
-    let (line, kind) = (1, LineKind::NotValue);
-    assert_eq!(rt; refused, Some(LineFault { line, kind }));
+    let (line, offset, kind) = (1, 11, LineKind::NotValue);
+    assert_eq!(rt; refused, Some(LineFault { line, offset, kind }));
     Ok(())
 }
 
@@ -130,6 +135,7 @@ fn look_up(rt: &impl Abort, alloc: Global, dictionary: &Dictionary) -> Result<()
     finds_by_id(rt, dictionary)?;
     finds_numbers(rt, dictionary);
     finds_names(rt, dictionary)?;
+    numbers_lines(rt);
     reads_pairs(rt, alloc, dictionary)?;
     reads_a_request(rt, alloc, dictionary)
 }

@@ -1,7 +1,7 @@
 //! Policies that are read.
 
 use avp_dict::Dictionary;
-use avp_unlang::{PolicyFault, PolicyKind, line_after, read_policy, size};
+use avp_unlang::{PolicyFault, PolicyKind, read_policy, size};
 use samples::test_dictionary;
 use std::alloc::Global;
 use std::process::Abort;
@@ -26,15 +26,9 @@ fn counts(rt: &impl Abort, alloc: Global, dictionary: &Dictionary) -> Result<(),
     Ok(())
 }
 
-// Example: line_after
-fn numbers_lines(rt: &impl Abort) {
-    assert_eq!(rt; line_after(b"update reply {\n  Class "), 2);
-}
-
 #[test]
 fn policies(rt: HostRuntime) -> Result<(), Fail> {
     let dictionary = test_dictionary(rt.alloc())?;
     reads_a_policy(&rt, rt.alloc(), &dictionary)?;
-    numbers_lines(&rt);
     counts(&rt, rt.alloc(), &dictionary)
 }

@@ -83,11 +83,11 @@ start_with prepared secret head pairs =
 
 -- ---- lists of pairs
 
--- too many pairs for a list are refused with the number of the first that is too many
+-- too many pairs for a list are refused with the number of the first that is too many, as no text was read at offset 0
 abbrev pub count_refusal : List Pair → Option LineFault
 count_refusal pairs =
     if nat_lt max_pairs (length pairs)
-    then Some (record { line = max_pairs + 1; kind = TooMany }) else None
+    then Some (record { line = max_pairs + 1; offset = 0; kind = TooMany }) else None
 
 -- the place of the first pair that does not fit the dictionary
 abbrev pub first_misfit : Dictionary → List Pair → Option ℕ
@@ -97,6 +97,6 @@ first_misfit dictionary pairs = position (λ pair. not (fits pair dictionary)) p
 abbrev pub pairs_refusal : Dictionary → List Pair → Option LineFault
 pairs_refusal dictionary pairs =
     elim (first_misfit dictionary pairs) [
-      | Some at ↦ Some (record { line = at + 1; kind = NotValue })
+      | Some at ↦ Some (record { line = at + 1; offset = 0; kind = NotValue })
       | None ↦ count_refusal pairs
     ]

@@ -130,10 +130,12 @@ fn pairs_refusal(dictionary: &Dictionary, pairs: &[Pair]) -> Option<LineFault>
     match first_misfit(dictionary, pairs) {
         Some(at) => Some(LineFault {
             line: at + 1,
+            offset: 0,
             kind: LineKind::NotValue,
         }),
         None if pairs.len() > MAX_PAIRS => Some(LineFault {
             line: MAX_PAIRS + 1,
+            offset: 0,
             kind: LineKind::TooMany,
         }),
         None => None,

@@ -3,8 +3,7 @@
 use crate::pointing::point_at;
 use crate::sources::Source;
 use crate::texts::{push_all, push_number};
-use avp_dict::next_line;
-use avp_unlang::line_after;
+use avp_dict::{line_after, next_line};
 use std::alloc::{AllocError, Global};
 use std::str;
 

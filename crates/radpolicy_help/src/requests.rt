@@ -2,12 +2,12 @@
 
 use crate::allowances::push_unread_profile;
 use crate::names::push_unknown_attribute;
-use crate::places::{first_line, line_start, push_place};
+use crate::places::{first_line, last_line, push_place};
 use crate::policy_tokens::text_of;
 use crate::sources::{Source, Sources};
 use crate::texts::push_all;
 use crate::values::{push_not_value, tag_hint};
-use crate::written_pairs::{WrittenPair, refused_pair};
+use crate::written_pairs::{WrittenPair, pair_around};
 use avp_dict::{LineFault, LineKind};
 use std::alloc::{AllocError, Global};
 
@@ -117,13 +117,14 @@ pub(crate) fn line_help(
     source: Source<'_>,
     sources: &Sources<'_>,
 ) -> Result<Vec<u8>, AllocError> {
-    let start = line_start(source.text, fault.line);
+    let (before, after) = source.text.split_at(fault.offset.min(source.text.len()));
+    let offset = last_line(before).len();
+    let start = before.len().saturating_sub(offset);
     let line = first_line(source.text.get(start..).unwrap_or(&[]));
-    let dictionary = sources.dictionary(alloc);
-    let (pair, offset) = refused_pair(alloc, fault.kind, line, dictionary.as_ref())?;
-    let rest = text_of(line.get(offset..).unwrap_or(&[]));
+    let pair = pair_around(line, offset);
+    let rest = text_of(first_line(after));
     let mut help = Vec::new(alloc);
-    push_place(alloc, &mut help, source, start.saturating_add(offset))?;
+    push_place(alloc, &mut help, source, fault.offset)?;
     push_sentences(alloc, &mut help, fault.kind, sources, &pair, rest)?;
     if !sources.is_request_wider {
         push_unread_profile(&mut help, source.text)?;

@@ -1,23 +1,15 @@
 //! The pairs of a request's line, as they are written, for what is said of a place among them.
 
 use crate::policy_tokens::token_of;
-use avp_dict::{Dictionary, LineKind, QuoteMark, octets_between};
-use std::alloc::{AllocError, Global};
 
 /// A pair as it is written.
 #[derive(Clone, Copy)]
 pub(crate) struct WrittenPair<'a> {
-    /// How many octets of the line are before the name.
-    pub name_offset: usize,
     pub name: &'a [u8],
-    /// How many octets of the line are before the value.
-    pub value_offset: usize,
     /// The value, in its quotes if it has some.
     pub value: &'a [u8],
     /// How many octets of the line are before what follows the pair.
     pub end: usize,
-    /// Whether it has a name, an `=` and a value, and a comma, a comment or nothing follows.
-    pub is_whole: bool,
 }
 
 fn is_blank(octet: u8) -> bool {
@@ -80,80 +72,17 @@ fn pair_at(line: &[u8], from: usize) -> WrittenPair<'_> {
         &[]
     };
     let end = filled_from(line, value_offset.saturating_add(value.len()));
-    let is_ended = matches!(line.get(end), None | Some(b',' | b'#'));
-    WrittenPair {
-        name_offset,
-        name,
-        value_offset,
-        value,
-        end,
-        is_whole: is_ended && !name.is_empty() && !value.is_empty(),
-    }
+    WrittenPair { name, value, end }
 }
 
-// The octets that a written value stands for.
-fn octets_of(alloc: Global, value: &[u8]) -> Result<Vec<u8>, AllocError> {
-    match value {
-        [b'"', text @ .., b'"'] => octets_between(alloc, QuoteMark::Double, text),
-        [b'\'', text @ .., b'\''] => octets_between(alloc, QuoteMark::Single, text),
-        _ => Vec::from_slice(alloc, value),
-    }
-}
-
-fn has_no_value(
-    alloc: Global,
-    pair: &WrittenPair<'_>,
-    dictionary: &Dictionary,
-) -> Result<bool, AllocError> {
-    let octets = octets_of(alloc, pair.value)?;
-    match dictionary.by_name(pair.name) {
-        Some(named) => Ok(dictionary.value_of_text(alloc, named, &octets).is_err()),
-        None => Ok(false),
-    }
-}
-
-// The place in a line for which its pair is refused; none where it is not this pair.
-fn refused_place(
-    alloc: Global,
-    kind: LineKind,
-    pair: &WrittenPair<'_>,
-    dictionary: &Dictionary,
-) -> Result<Option<usize>, AllocError> {
-    let is_refused = match kind {
-        LineKind::Unknown => dictionary.by_name(pair.name).is_none(),
-        LineKind::NotValue | LineKind::TooLong | LineKind::NotWritable => {
-            has_no_value(alloc, pair, dictionary)?
-        }
-        LineKind::Unreadable => !pair.is_whole,
-        LineKind::SecondPacket | LineKind::TooMany | LineKind::Memory => true,
-    };
-    if !is_refused {
-        return Ok(None);
-    }
-    Ok(Some(match kind {
-        LineKind::NotValue | LineKind::TooLong => pair.value_offset,
-        LineKind::Unreadable if !pair.name.is_empty() => pair.end,
-        _ => pair.name_offset,
-    }))
-}
-
-/// The pair of a line that is refused for this, and how many octets of the line are before the place: of its name, or
-/// of its value. Where there is no dictionary, that is the first pair.
-pub(crate) fn refused_pair<'a>(
-    alloc: Global,
-    kind: LineKind,
-    line: &'a [u8],
-    dictionary: Option<&Dictionary>,
-) -> Result<(WrittenPair<'a>, usize), AllocError> {
+/// The pair of a line that a place is in, or right after: the first that has no further one before the place.
+pub(crate) fn pair_around(line: &[u8], offset: usize) -> WrittenPair<'_> {
     let mut pair = pair_at(line, 0);
-    let first = pair;
-    if let Some(dictionary) = dictionary {
-        for _ in 0..line.len() {
-            if let Some(place) = refused_place(alloc, kind, &pair, dictionary)? {
-                return Ok((pair, place));
-            }
-            pair = pair_at(line, pair.end.saturating_add(1));
+    for _ in 0..line.len() {
+        if offset <= pair.end {
+            break;
         }
+        pair = pair_at(line, pair.end.saturating_add(1));
     }
-    Ok((first, first.name_offset))
+    pair
 }

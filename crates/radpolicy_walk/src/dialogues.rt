@@ -251,6 +251,7 @@ impl<'a> Dialogue<'a> {
             (Some(pair), true) => Ok(pair),
             _ => Err(Fault::Request(LineFault {
                 line: 1,
+                offset: 0,
                 kind: LineKind::Unreadable,
             })),
         }
@@ -269,6 +270,7 @@ impl<'a> Dialogue<'a> {
             Err(EditFault::Full) => {
                 return Err(Fault::Request(LineFault {
                     line: 1,
+                    offset: 0,
                     kind: LineKind::TooMany,
                 }));
             }

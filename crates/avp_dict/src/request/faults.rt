@@ -32,12 +32,15 @@ pub enum LineKind {
     Memory,
 }
 
-/// Where and why a text is no request: its first refused place.
+/// Where and why a text is no request: its first refused place; for want of memory that which was being read.
 #[derive(Clone, Copy, Debug, PartialEq, Eq, Error)]
 #[error("{kind}")]
 pub struct LineFault {
-    /// The line's number, from 1 on; for want of memory that of the line that was being read.
+    /// The line's number, from 1 on.
     pub line: usize,
+    /// How many octets of the text are before what was refused: a name, a value that is none or is too long, a token that
+    /// does not fit, or the end of a line that lacks one.
+    pub offset: usize,
     pub kind: LineKind,
 }
 

@@ -1,13 +1,15 @@
 //! The request of a text of lines.
 
-ghost use Rattle.std.specs.Prelude.{◌≡◌, ◌≢◌, ◌≤◌, ◌<◌, ◌+◌, ◌^◌, ◌++◌, ◌∷◌, [], Some, None, true, false, IfOk, IfErr, OnOk, OnErr, IfSome, MatchOption, length, List, All, IsTrue};
+ghost use Rattle.std.specs.Prelude.{◌≡◌, ◌≢◌, ◌≤◌, ◌<◌, ◌++◌, ◌∷◌, [], Some, None, true, false, IfOk, IfErr, OnOk, OnErr, IfSome, MatchOption, length, take, List, All, IsTrue};
 ghost use Rattle.std.specs.List.{before_first, after_first, list_all};
 ghost use Rattle.avp_lists.specs.Meets.{Finds, Unless};
 ghost use Rattle.avp_lists.specs.States.{max_pairs};
 ghost use Rattle.avp_lists.specs.declared.pairs.Pair.{Pair};
 ghost use Rattle.avp_dict.specs.Limits.{fits};
+ghost use Rattle.avp_dict.specs.LineNumbers.{line_after};
 ghost use Rattle.avp_dict.specs.Lines.{is_line_end, texts_of};
 ghost use Rattle.avp_dict.specs.Outcomes.{is_memory_line};
+ghost use Rattle.avp_dict.specs.RefusedPlaces.{is_before_filled};
 ghost use Rattle.avp_dict.specs.RequestLines.{is_blank_line, is_idle_line, pairs_of, tokens_at, without_front};
 ghost use Rattle.avp_dict.specs.Requests.{pair_assigned, request_by, request_spelled};
 ghost use Rattle.avp_dict.specs.Sent.{is_clean};
@@ -19,6 +21,7 @@ use crate::file::lines::split_line;
 use crate::file::words::{is_blank, without_comment};
 use crate::request::faults::{LineFault, LineKind};
 use crate::request::readers::PairReader;
+use crate::request::refusals::Refusal;
 use crate::request::tokens::{Side, Token, next_token};
 use crate::value::quotes::octets_between;
 use avp_lists::{MAX_PAIRS, Pair};
@@ -50,29 +53,25 @@ fn is_idle_line(line: &[u8]) -> bool
     is_blank_line(without_comment(line))
 }
 
-// The text from its first line on that holds more than blanks and a comment, and how many lines are before it.
-fn without_idle_lines(text: &[u8]) -> (usize, &[u8])
-    ensures lines { texts_of result.1.now ≡ without_front is_idle_line (texts_of text.now) }
-    ensures count { result.0 + length result.1.now ≤ length text.now }
+// The text from its first line on that holds more than blanks and a comment.
+fn without_idle_lines(text: &[u8]) -> &[u8]
+    ensures { texts_of result.now ≡ without_front is_idle_line (texts_of text.now) }
 {
-    let mut count = 0;
     let mut rest = text;
     while let Some((line, after)) = next_line(rest)
         && is_idle_line(line)
     {
-        count += 1;
         rest = after;
     }
-    (count, rest)
+    rest
 }
 
 // What may follow the line that ends a packet: nothing but blanks and comments.
-fn end_of_packet(number: usize, rest: &[u8]) -> Result<(), LineFault>
-    requires { number + length rest.now < 2 ^ 64 }
+fn end_of_packet(rest: &[u8]) -> Result<(), Refusal>
     ensures ok { OnOk result (list_all is_idle_line (texts_of rest.now) ≡ true) }
     ensures err { OnErr result (list_all is_idle_line (texts_of rest.now) ≡ false) }
 {
-    let (count, rest) = without_idle_lines(rest);
+    let rest = without_idle_lines(rest);
     let Some((line, _)) = next_line(rest) else {
         return Ok(());
     };
@@ -80,15 +79,12 @@ fn end_of_packet(number: usize, rest: &[u8]) -> Result<(), LineFault>
         Some((Token::Run(_), _)) => LineKind::SecondPacket,
         _ => LineKind::Unreadable,
     };
-    Err(LineFault {
-        line: number + count + 1,
-        kind,
-    })
+    Err(kind.at(rest.len()))
 }
 
 // What follows a pair on its line: the text after a comma, or nothing.
 #[tactic(auto, using(crate::proofs::Lexing::at_end), unfolding(crate::specs::RequestLines::pairs_of))]
-fn after_pair(rest: &[u8]) -> Result<&[u8], LineKind>
+fn after_pair(rest: &[u8]) -> Result<&[u8], Refusal>
     ensures read { IfOk result (λ after. assigned_after (tokens_at Side.Value rest.now)
         ≡ pairs_of (tokens_at Side.Name after.now)) }
     ensures shorter { IfOk result (λ after. length after.now ≤ length rest.now) }
@@ -97,7 +93,16 @@ fn after_pair(rest: &[u8]) -> Result<&[u8], LineKind>
     match next_token(Side::Value, rest) {
         None => Ok(&[]),
         Some((Token::Comma, after)) => Ok(after),
-        Some(_) => Err(LineKind::Unreadable),
+        Some(_) => Err(LineKind::Unreadable.at(rest.len())),
+    }
+}
+
+// How many octets are left where a pair is refused for this, of those from the name on and those from the value on: a
+// name that is not writable is refused only after its value was found.
+fn refused_from(kind: LineKind, name: usize, value: usize) -> usize {
+    match kind {
+        LineKind::NotWritable => name,
+        _ => value,
     }
 }
 
@@ -137,14 +142,15 @@ fn pair_of_token<R: PairReader>(
     }
 }
 
-// The pair of a name, the first token, and a value, and what follows it.
+// The pair of a name, the first token, and a value, and what follows it. So many octets are left from the name on.
 #[tactic(auto, unfolding(crate::specs::RequestLines::pairs_of, crate::specs::internal::LineReading::pairs_at))]
 fn read_pair<'a, R: PairReader>(
     reader: &R,
     alloc: Global,
     first: Token,
+    left: usize,
     rest: &'a [u8],
-) -> Result<(Pair, &'a [u8]), LineKind>
+) -> Result<(Pair, &'a [u8]), Refusal>
     ensures read { IfOk result (λ x.
         pairs_at (pair_assigned (R.target_of reader.now) (R.pair_of reader.now))
         (token_view first.entry ∷ tokens_at (side_after Side.Name first.entry) rest.now)
@@ -152,26 +158,28 @@ fn read_pair<'a, R: PairReader>(
         (pairs_after (pair_assigned (R.target_of reader.now) (R.pair_of reader.now))
         (tokens_at Side.Value x.1.now))) }
     ensures shorter { IfOk result (λ x. length x.1.now ≤ length rest.now) }
-    ensures refused { IfErr result (λ kind.
-        Unless (is_memory_line kind)
+    ensures refused { IfErr result (λ refusal.
+        Unless (is_memory_line refusal.kind)
         (pairs_at (pair_assigned (R.target_of reader.now) (R.pair_of reader.now))
         (token_view first.entry ∷ tokens_at (side_after Side.Name first.entry) rest.now)
         ≡ None)) }
 {
     let Token::Run(name) = first else {
-        return Err(LineKind::Unreadable);
+        return Err(LineKind::Unreadable.at(left));
     };
     let Some(target) = reader.target(name) else {
-        return Err(LineKind::Unknown);
+        return Err(LineKind::Unknown.at(left));
     };
     let Some((Token::Sign, rest)) = next_token(Side::Name, rest) else {
-        return Err(LineKind::Unreadable);
+        return Err(LineKind::Unreadable.at(rest.len()));
     };
-    let Some((value, rest)) = next_token(Side::Value, rest) else {
-        return Err(LineKind::Unreadable);
+    let Some((value, after)) = next_token(Side::Value, rest) else {
+        return Err(LineKind::Unreadable.at(rest.len()));
     };
-    let pair = pair_of_token(reader, alloc, target, value)?;
-    Ok((pair, rest))
+    match pair_of_token(reader, alloc, target, value) {
+        Ok(pair) => Ok((pair, after)),
+        Err(kind) => Err(kind.at(refused_from(kind, left, rest.len()))),
+    }
 }
 
 // Adds the pairs of a line to those of the lines before it.
@@ -180,21 +188,24 @@ fn read_line<R: PairReader>(
     alloc: Global,
     line: &[u8],
     pairs: &mut Vec<Pair>,
-) -> Result<(), LineKind>
+) -> Result<(), Refusal>
     requires { length pairs.old.items ≤ max_pairs }
     ensures read { OnOk result (after_pairs pairs.old.items
         (pairs_at (pair_assigned (R.target_of reader.now) (R.pair_of reader.now))
         (tokens_at Side.Name line.now)) ≡ Some pairs.new.items) }
     ensures few { OnOk result (length pairs.new.items ≤ max_pairs) }
-    ensures refused { IfErr result (λ kind. kind ≢ LineKind.Memory
+    ensures refused { IfErr result (λ refusal. refusal.kind ≢ LineKind.Memory
         → IsNoRequest pairs.old.items
         (pairs_at (pair_assigned (R.target_of reader.now) (R.pair_of reader.now))
         (tokens_at Side.Name line.now))) }
 {
     let mut rest = line;
     while let Some((first, after)) = next_token(Side::Name, rest) {
-        let (pair, after) = read_pair(reader, alloc, first, after)?;
-        push_pair(pairs, pair)?;
+        let left = rest.len();
+        let (pair, after) = read_pair(reader, alloc, first, left, after)?;
+        if let Err(kind) = push_pair(pairs, pair) {
+            return Err(kind.at(left));
+        }
         rest = after_pair(after)?;
     }
     Ok(())
@@ -219,17 +230,23 @@ pub fn read_pairs<R: PairReader>(
     ensures refused { IfErr result (λ fault. fault.kind ≢ LineKind.Memory
         → request_by (pair_assigned (R.target_of reader.now) (R.pair_of reader.now)) text.now
         ≡ None) }
+
+    // A refusal has its place in the text.
+    ensures within { IfErr result (λ fault. fault.offset ≤ length text.now) }
+    ensures line { IfErr result (λ fault. fault.line ≡ line_after (take fault.offset text.now)) }
+    ensures filled { IfErr result (λ fault. is_before_filled fault.offset text.now ≡ true) }
 {
     let mut pairs = Vec::new(alloc);
-    let (mut number, mut rest) = without_idle_lines(text);
+    let mut rest = without_idle_lines(text);
     while let Some((line, after)) = next_line(rest) {
-        number += 1;
         if is_blank_line(line) {
-            end_of_packet(number, after)?;
+            if let Err(refusal) = end_of_packet(after) {
+                return Err(refusal.in_text(text, 0));
+            }
             return Ok(pairs);
         }
-        if let Err(kind) = read_line(reader, alloc, line, &mut pairs) {
-            return Err(LineFault { line: number, kind });
+        if let Err(refusal) = read_line(reader, alloc, line, &mut pairs) {
+            return Err(refusal.in_text(text, rest.len().saturating_sub(line.len())));
         }
         rest = after;
     }
@@ -245,8 +262,8 @@ impl Dictionary {
     /// let request = dictionary.read_request(alloc, b"User-Name = \"bob\", NAS-Port = 3")?;
     /// assert_eq!(rt; request.len(), 2);
     /// let refused = dictionary.read_request(alloc, b"NAS-Port = three").err();
-    /// let (line, kind) = (1, LineKind::NotValue);
-    /// assert_eq!(rt; refused, Some(LineFault { line, kind }));
+    /// let (line, offset, kind) = (1, 11, LineKind::NotValue);
+    /// assert_eq!(rt; refused, Some(LineFault { line, offset, kind }));
     /// ```
     pub fn read_request(&self, alloc: Global, text: &[u8]) -> Result<Vec<Pair>, LineFault>
         ensures read { IfOk result (λ pairs. request_spelled text.now self.now ≡ Some pairs.items) }
@@ -260,6 +277,12 @@ impl Dictionary {
             ≡ Some other → other ≡ pairs.items) }
         ensures refused { IfErr result (λ fault. fault.kind ≢ LineKind.Memory
             → request_spelled text.now self.now ≡ None) }
+
+        // A refusal has its place in the text.
+        ensures within { IfErr result (λ fault. fault.offset ≤ length text.now) }
+        ensures line { IfErr result (λ fault.
+            fault.line ≡ line_after (take fault.offset text.now)) }
+        ensures filled { IfErr result (λ fault. is_before_filled fault.offset text.now ≡ true) }
     {
         // That each pair fits rests on what holds of the lines of every dictionary.
         self.sound();

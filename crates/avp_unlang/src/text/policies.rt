@@ -2,10 +2,11 @@
 
 ghost use Rattle.std.specs.Prelude.{◌≡◌, ◌≢◌, ◌≤◌, ℕ, List, length, take, IfErr, IfOk, IsTrue};
 ghost use Rattle.avp_dict.specs.Dictionary.{Dictionary};
+ghost use Rattle.avp_dict.specs.LineNumbers.{line_after};
 ghost use Rattle.avp_unlang.specs.declared.faults.PolicyKind.TheVariants.{Memory};
 ghost use Rattle.avp_unlang.specs.declared.tree.Statement.{Statement as Tree};
 ghost use Rattle.avp_unlang.specs.Cleanness.{KeepsReplyClean};
-ghost use Rattle.avp_unlang.specs.Faults.{BeginsToken, line_after};
+ghost use Rattle.avp_unlang.specs.Faults.{BeginsToken};
 ghost use Rattle.avp_unlang.specs.Forms.{ReadsAll};
 ghost use Rattle.avp_unlang.specs.Places.{max_size};
 ghost use Rattle.avp_unlang.specs.Policies.{SpellsPolicy};

@@ -1,30 +1,14 @@
 //! Where a policy text was refused.
 
 ghost use Rattle.std.specs.Prelude.{◌≡◌, ◌≢◌, ◌≤◌, length, take};
-ghost use Rattle.avp_dict.specs.Lines.{is_line_end};
+ghost use Rattle.avp_dict.specs.LineNumbers.{line_after};
 ghost use Rattle.avp_unlang.specs.declared.faults.PolicyKind.TheVariants.{Memory};
-ghost use Rattle.avp_unlang.specs.Faults.{BeginsToken, from_token, line_after};
+ghost use Rattle.avp_unlang.specs.Faults.{BeginsToken, from_token};
 
 use crate::faults::{OUT_OF_MEMORY, PolicyFault, PolicyKind};
 use crate::text::cursors::skipped;
 use crate::text::tokens::{Token, token_at};
-
-fn is_line_end(octet: u8) -> bool
-    ensures { result ≡ is_line_end octet }
-{
-    octet == b'\n'
-}
-
-/// The number, from 1 on, of the line on which a text goes on after these octets.
-///
-/// ```rust
-/// assert_eq!(rt; line_after(b"update reply {\n  Class "), 2);
-/// ```
-pub fn line_after(front: &[u8]) -> usize
-    ensures { result ≡ line_after front.now }
-{
-    1 + front.iter().filter(|octet| is_line_end(**octet)).count()
-}
+use avp_dict::line_after;
 
 // A text from its first token on.
 fn from_token(text: &[u8]) -> &[u8]

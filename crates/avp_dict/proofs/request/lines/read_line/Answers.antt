@@ -1,5 +1,6 @@
-use Rattle.std.proofs.Common.{◌∙◌, ap}
+use Rattle.std.proofs.Common.{◌∙◌, ◌≢◌, ap, subst}
 use Rattle.std.proofs.lemmas.Result.{err_from_is_err_and}
+use Rattle.avp_dict.specs.declared.request.faults.LineKind.TheVariants.{Memory}
 use Rattle.avp_dict.specs.declared.request.tokens.Side.TheVariants.{Name, Value}
 use Rattle.avp_dict.specs.RequestLines.{tokens_at}
 use Rattle.avp_dict.specs.Requests.{pair_assigned}
@@ -11,13 +12,12 @@ pub returns-in_err-pair-clause-refused : goal.returns-in_err-pair-clause-refused
 returns-in_err-pair-clause-refused g c =
     let one = pair_assigned (g.R.PairReader.target_of c.args.reader.now) (g.R.PairReader.pair_of c.args.reader.now) in
     let p = err_from_is_err_and c.from_residual.result c.from_residual.ensures.1 in
-    rw (p.1, p.2) (λ other. none_refused c.args.pairs.now.items c.loop-first.pairs.items _ _ c.loop-first.invariant.read (ap (pairs_at one) c.in-Some.ensures.token ∙ refuses_all c.in_err-pair.field-0.0 _ c.in_err-pair.ensures.refused other))
+    rw (p.1, p.2) (λ other. none_refused c.args.pairs.now.items c.loop-first.pairs.items _ _ c.loop-first.invariant.read (ap (pairs_at one) c.in-Some.ensures.token ∙ refuses_all c.in_err-pair.field-0.0.kind _ c.in_err-pair.ensures.refused other))
 
-pub returns-in_err-push_pair-clause-refused : goal.returns-in_err-push_pair-clause-refused
-returns-in_err-push_pair-clause-refused g c =
+pub returns-in-Err-clause-refused : goal.returns-in-Err-clause-refused
+returns-in-Err-clause-refused g c =
     let one = pair_assigned (g.R.PairReader.target_of c.args.reader.now) (g.R.PairReader.pair_of c.args.reader.now) in
-    let p = err_from_is_err_and c.from_residual-in_err-push_pair.result c.from_residual-in_err-push_pair.ensures.1 in
-    rw (p.1, p.2) (λ other. many_refused c.args.pairs.now.items c.loop-first.pairs.items _ _ _ c.in_ok-pair.pair c.loop-first.invariant.read (ap (pairs_at one) c.in-Some.ensures.token ∙ c.in_ok-pair.ensures.read) (c.in_err-push_pair.ensures.refused other))
+    λ other. many_refused c.args.pairs.now.items c.loop-first.pairs.items _ _ _ c.in_ok-pair.pair c.loop-first.invariant.read (ap (pairs_at one) c.in-Some.ensures.token ∙ c.in_ok-pair.ensures.read) (c.in-Err.ensures.refused (subst (λ k. k ≢ Memory) c.at.ensures other))
 
 pub returns-in_err-rest-clause-refused : goal.returns-in_err-rest-clause-refused
 returns-in_err-rest-clause-refused g c =
@@ -29,8 +29,8 @@ pub loop-first-preserved : goal.loop-first-preserved
 loop-first-preserved g c =
     let one = pair_assigned (g.R.PairReader.target_of c.args.reader.now) (g.R.PairReader.pair_of c.args.reader.now) in
     record {
-      read = pair_more one c.args.pairs.now.items c.loop-first.pairs.items _ _ (tokens_at Name c.loop-first.rest.now) (tokens_at Value c.in_ok-pair.after.now) (tokens_at Name c.in_ok-rest.rest.now) c.in_ok-pair.pair c.loop-first.invariant.read (ap (pairs_at one) c.in-Some.ensures.token ∙ c.in_ok-pair.ensures.read) c.in_ok-rest.ensures.read c.in_ok-push_pair.ensures.pushed;
-      few = c.in_ok-push_pair.ensures.few;
+      read = pair_more one c.args.pairs.now.items c.loop-first.pairs.items _ _ (tokens_at Name c.loop-first.rest.now) (tokens_at Value c.in_ok-pair.after.now) (tokens_at Name c.in_ok-rest.rest.now) c.in_ok-pair.pair c.loop-first.invariant.read (ap (pairs_at one) c.in-Some.ensures.token ∙ c.in_ok-pair.ensures.read) c.in_ok-rest.ensures.read c.in_default-push_pair.ensures.pushed;
+      few = c.in_default-push_pair.ensures.few;
     }
 
 pub returns-clause-read : goal.returns-clause-read

@@ -1,5 +1,5 @@
-use Rattle.std.proofs.Common.{◌≡◌, ◌∙◌, ap, sym, true, false, rules, arith}
-use Rattle.std.proofs.lemmas.Result.{err_from_is_err_and}
+use Rattle.std.proofs.Common.{◌≡◌, ◌≢◌, ◌∙◌, ap, sym, subst, true, false, rules}
+use Rattle.avp_dict.specs.declared.request.faults.LineKind.TheVariants.{Memory}
 use Rattle.avp_dict.specs.Lines.{texts_of}
 use Rattle.avp_dict.specs.Requests.{pair_assigned, request_by}
 use Rattle.avp_dict.specs.RequestLines.{is_blank_line, is_idle_line, without_front}
@@ -11,33 +11,32 @@ pub loop-line-init : goal.loop-line-init
 loop-line-init g c =
     let one = pair_assigned (g.R.PairReader.target_of c.args.reader.now) (g.R.PairReader.pair_of c.args.reader.now) in
     record {
-      read = rw (c.new-pairs.ensures.items, c.without_idle_lines-number.ensures.lines) (none_before (packet_pairs one (without_front is_idle_line (texts_of c.args.text.now))));
+      read = rw (c.new-pairs.ensures.items, c.without_idle_lines-rest.ensures) (none_before (packet_pairs one (without_front is_idle_line (texts_of c.args.text.now))));
       few = search rules;
-      count = search rules;
     }
 
-pub returns-in_err-end_of_packet-clause-refused : goal.returns-in_err-end_of_packet-clause-refused
-returns-in_err-end_of_packet-clause-refused g c =
+pub returns-in-Err-clause-refused : goal.returns-in-Err-clause-refused
+returns-in-Err-clause-refused g c =
     let one = pair_assigned (g.R.PairReader.target_of c.args.reader.now) (g.R.PairReader.pair_of c.args.reader.now) in
-    let p = err_from_is_err_and c.from_residual.result c.from_residual.ensures.1 in
+    λ _.
     let blank : is_blank_line c.in-Some.line.now ≡ true = search rules in
-    let end = packet_goes_on one c.in-Some.line.now (texts_of c.in-Some.after.now) blank c.in_err-end_of_packet.ensures.err in
-    rw p.1 (λ _. request_fails c.args.text.now one c.loop-line.pairs.items (texts_of c.loop-line.rest.now) c.loop-line.invariant.read (ap (packet_pairs one) c.in-Some.ensures.cut ∙ end))
+    let end = packet_goes_on one c.in-Some.line.now (texts_of c.in-Some.after.now) blank c.in-Err.ensures.err in
+    request_fails c.args.text.now one c.loop-line.pairs.items (texts_of c.loop-line.rest.now) c.loop-line.invariant.read (ap (packet_pairs one) c.in-Some.ensures.cut ∙ end)
 
 pub returns-then-is_blank_line-clause-read : goal.returns-then-is_blank_line-clause-read
 returns-then-is_blank_line-clause-read g c =
     let one = pair_assigned (g.R.PairReader.target_of c.args.reader.now) (g.R.PairReader.pair_of c.args.reader.now) in
     let blank : is_blank_line c.in-Some.line.now ≡ true = search rules in
-    let end = packet_ends one c.in-Some.line.now (texts_of c.in-Some.after.now) blank c.in_ok-end_of_packet.ensures.ok in
+    let end = packet_ends one c.in-Some.line.now (texts_of c.in-Some.after.now) blank c.in_default-end_of_packet.ensures.ok in
     request_ends c.args.text.now one c.loop-line.pairs.items (texts_of c.loop-line.rest.now) c.loop-line.invariant.read (ap (packet_pairs one) c.in-Some.ensures.cut ∙ end) c.loop-line.invariant.few
 
-pub returns-in-Err-clause-refused : goal.returns-in-Err-clause-refused
-returns-in-Err-clause-refused g c =
+pub returns-in-Err-read_line-clause-refused : goal.returns-in-Err-read_line-clause-refused
+returns-in-Err-read_line-clause-refused g c =
     let one = pair_assigned (g.R.PairReader.target_of c.args.reader.now) (g.R.PairReader.pair_of c.args.reader.now) in
     λ kept.
     let filled : is_blank_line c.in-Some.line.now ≡ false = search rules in
     let read = rw c.in-Some.ensures.cut at c.loop-line.invariant.read in
-    request_refused c.args.text.now one c.loop-line.pairs.items c.in-Some.line.now (texts_of c.in-Some.after.now) read filled (c.in-Err.ensures.refused kept)
+    request_refused c.args.text.now one c.loop-line.pairs.items c.in-Some.line.now (texts_of c.in-Some.after.now) read filled (c.in-Err-read_line.ensures.refused (subst (λ k. k ≢ Memory) c.in_text-in-Err-read_line.ensures.kind kept))
 
 pub loop-line-preserved : goal.loop-line-preserved
 loop-line-preserved g c =
@@ -47,7 +46,6 @@ loop-line-preserved g c =
       read = sym (line_read one c.loop-line.pairs.items c.read_line.new.pairs.items c.in-Some.line.now (texts_of c.in-Some.after.now) filled c.in_default-read_line.ensures.read)
           ∙ ap (λ lines. after_pairs c.loop-line.pairs.items (packet_pairs one lines)) (sym c.in-Some.ensures.cut) ∙ c.loop-line.invariant.read;
       few = c.in_default-read_line.ensures.few;
-      count = omega (arith, c.in-Some.ensures.shorter);
     }
 
 pub returns-clause-read : goal.returns-clause-read

@@ -1,4 +1,4 @@
-use Rattle.std.proofs.Common.{◌≡◌, ◌+◌, ◌≤◌, length}
+use Rattle.std.proofs.Common.{◌≡◌, ◌≤◌, length}
 use Rattle.avp_lists.specs.States.{max_pairs}
 use Rattle.avp_dict.specs.Lines.{texts_of}
 use Rattle.avp_dict.specs.RequestLines.{is_idle_line, without_front}
@@ -10,7 +10,6 @@ abbrev pub invariant-loop-line : goal.invariant-loop-line
 invariant-loop-line g l = record {
   read : after_pairs l.pairs.items (packet_pairs (pair_assigned (g.R.PairReader.target_of l.reader) (g.R.PairReader.pair_of l.reader)) (texts_of l.rest)) ≡ packet_pairs (pair_assigned (g.R.PairReader.target_of l.reader) (g.R.PairReader.pair_of l.reader)) (without_front is_idle_line (texts_of l.text));
   few : length l.pairs.items ≤ max_pairs;
-  count : l.number + length l.rest ≤ length l.text;
 }
 
 abbrev pub decreases-loop-line : goal.decreases-loop-line
