@@ -1,9 +1,12 @@
+pub mod CommandLines
 pub mod Controls
 pub mod DistinctFiles
 pub mod DistinctNames
 pub mod FittingLists
 pub mod JobRuns
 pub mod OneReport
+pub mod PlainCommands
+pub mod WordPlans
 pub mod PacketRoom
 pub mod PresentLists
 pub mod PreparedRuns

@@ -1,3 +1,4 @@
+pub mod CommandLines
 pub mod Faults
 pub mod JobReports
 pub mod OutcomeReports
@@ -11,5 +12,6 @@ pub mod Scripts
 pub mod Secrets
 pub mod StartRefusals
 pub mod Starts
+pub mod WordPlans
 pub mod Writing
 pub mod internal

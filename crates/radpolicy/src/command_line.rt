@@ -1,8 +1,12 @@
 //! The words of the command line, with all calls of `clap`.
 
-ghost use Rattle.std.specs.Prelude.{◌≡◌, ◌<◌, length, true, Ok, IfOk, IfErr};
-ghost use Rattle.std.specs.Str.Parse.{digits_value, without_leading_plus};
+ghost use Rattle.std.specs.Prelude.{◌≡◌, ◌≢◌, ◌<◌, ℕ, List, Option, Some, None, Ok, IfOk, IfErr, IfSome, codes, length, map, option_map, true, false};
+ghost use Rattle.std.specs.Borrow.{Bor};
+ghost use Rattle.clap.specs.Words.{IsAmong, Row, all_of, app_of, fault_of, first_of, found_of, kind_of, new_app, rows_of, rule_of, shape_of, subcommand_rows_of};
 ghost use Rattle.hex.specs.Hex.{decode_sized};
+ghost use Rattle.radpolicy.specs.declared.faults.Fault.TheVariants.{Help, Memory, OptionValue, Usage};
+ghost use Rattle.radpolicy.specs.CommandLines.{accounting_option, authenticator_option, check_command, decode_command, dictionary_files, encode_command, hex_option, identifier_option, policy_option, program, request_option, run_command, script_option, secret_option, step_command, valued};
+ghost use Rattle.radpolicy.specs.WordPlans.{IsAuthenticatorOf, IsIdentifierOf, IsNumberWord, HasNoPlan, HaveNoPlan, IsPlanBy, IsPlanOf, NameNoCommand, command_name, form_of, is_given};
 ghost use Rattle.radpolicy.specs.declared.jobs.Command.TheVariants.{Decode};
 ghost use Rattle.radpolicy.specs.declared.jobs.Form.TheVariants.{Hex};
 ghost use Rattle.radpolicy.specs.Faults.{IsWordFault};
@@ -46,52 +50,79 @@ const SCRIPT: &str = "script";
 
 const DICTIONARY: &str = "dictionary";
 
-fn file_option<'a>(alloc: Global, name: &'a str, value_name: &'a str, help: &'a str) -> Arg<'a> {
+fn file_option<'a>(alloc: Global, name: &'a str, value_name: &'a str, help: &'a str) -> Arg<'a>
+    ensures rule { rule_of result ≡ valued name.entry.now }
+    ensures local { result.global ≡ false }
+{
     Arg::new(alloc, name)
         .value_name(value_name)
         .action(ArgAction::Set)
         .help(help)
 }
 
-fn request_option<'a>(alloc: Global) -> Arg<'a> {
+fn request_option<'a>(alloc: Global) -> Arg<'a>
+    ensures rule { rule_of result ≡ request_option }
+    ensures local { result.global ≡ false }
+{
     let help = "The request [default: standard input]";
     file_option(alloc, REQUEST, "REQUEST", help).short('f')
 }
 
-fn packet_option<'a>(alloc: Global) -> Arg<'a> {
+fn packet_option<'a>(alloc: Global) -> Arg<'a>
+    ensures rule { rule_of result ≡ request_option }
+    ensures local { result.global ≡ false }
+{
     let help = "The packet, in hexadecimal digits [default: standard input]";
     file_option(alloc, REQUEST, "PACKET", help).short('f')
 }
 
-fn policy_option<'a>(alloc: Global) -> Arg<'a> {
+fn policy_option<'a>(alloc: Global) -> Arg<'a>
+    ensures rule { rule_of result ≡ policy_option }
+    ensures local { result.global ≡ false }
+{
     file_option(alloc, POLICY, "POLICY", "The policy").long(POLICY)
 }
 
-fn script_option<'a>(alloc: Global) -> Arg<'a> {
+fn script_option<'a>(alloc: Global) -> Arg<'a>
+    ensures rule { rule_of result ≡ script_option }
+    ensures local { result.global ≡ false }
+{
     let help = "The script, a file of the words forward, back, start, end and show";
     file_option(alloc, SCRIPT, "SCRIPT", help).long(SCRIPT)
 }
 
-fn secret_option<'a>(alloc: Global) -> Arg<'a> {
+fn secret_option<'a>(alloc: Global) -> Arg<'a>
+    ensures rule { rule_of result ≡ secret_option }
+    ensures local { result.global ≡ false }
+{
     let help = "The file whose first line is the shared secret";
     file_option(alloc, SECRET, "SECRET-FILE", help).short('S')
 }
 
-fn hex_option<'a>(alloc: Global) -> Arg<'a> {
+fn hex_option<'a>(alloc: Global) -> Arg<'a>
+    ensures rule { rule_of result ≡ hex_option }
+    ensures local { result.global ≡ false }
+{
     Arg::new(alloc, HEX)
         .long(HEX)
         .action(ArgAction::SetTrue)
         .help("The request is a packet in hexadecimal digits; needs -S")
 }
 
-fn accounting_option<'a>(alloc: Global) -> Arg<'a> {
+fn accounting_option<'a>(alloc: Global) -> Arg<'a>
+    ensures rule { rule_of result ≡ accounting_option }
+    ensures local { result.global ≡ false }
+{
     Arg::new(alloc, ACCOUNTING)
         .long(ACCOUNTING)
         .action(ArgAction::SetTrue)
         .help("The request lines are an Accounting-Request, not an Access-Request")
 }
 
-fn identifier_option<'a>(alloc: Global) -> Arg<'a> {
+fn identifier_option<'a>(alloc: Global) -> Arg<'a>
+    ensures rule { rule_of result ≡ identifier_option }
+    ensures local { result.global ≡ false }
+{
     Arg::new(alloc, IDENTIFIER)
         .short('i')
         .value_name("NUMBER")
@@ -99,7 +130,10 @@ fn identifier_option<'a>(alloc: Global) -> Arg<'a> {
         .help("The packet's Identifier, 0 to 255 [default: 0]")
 }
 
-fn authenticator_option<'a>(alloc: Global) -> Arg<'a> {
+fn authenticator_option<'a>(alloc: Global) -> Arg<'a>
+    ensures rule { rule_of result ≡ authenticator_option }
+    ensures local { result.global ≡ false }
+{
     let help = "The Request Authenticator, 32 hexadecimal digits; \
         needed with -S for request lines, refused with --acct";
     Arg::new(alloc, AUTHENTICATOR)
@@ -109,7 +143,10 @@ fn authenticator_option<'a>(alloc: Global) -> Arg<'a> {
         .help(help)
 }
 
-fn dictionary_files<'a>(alloc: Global) -> Arg<'a> {
+fn dictionary_files<'a>(alloc: Global) -> Arg<'a>
+    ensures rule { rule_of result ≡ dictionary_files }
+    ensures local { result.global ≡ false }
+{
     Arg::new(alloc, DICTIONARY)
         .required(true)
         .value_name("DICTIONARY")
@@ -118,7 +155,9 @@ fn dictionary_files<'a>(alloc: Global) -> Arg<'a> {
         .help("Dictionary files, the main one first, as in /usr/share/freeradius/dictionary*")
 }
 
-fn run_command<'a>(alloc: Global) -> Result<clap::Command<'a>, AllocError> {
+fn run_command<'a>(alloc: Global) -> Result<clap::Command<'a>, AllocError>
+    ensures { IfOk result (λ r. shape_of r ≡ run_command) }
+{
     clap::Command::new(alloc, RUN)
         .about("Runs a policy on a request")
         .arg(request_option(alloc))?
@@ -131,7 +170,9 @@ fn run_command<'a>(alloc: Global) -> Result<clap::Command<'a>, AllocError> {
         .arg(dictionary_files(alloc))
 }
 
-fn step_command<'a>(alloc: Global) -> Result<clap::Command<'a>, AllocError> {
+fn step_command<'a>(alloc: Global) -> Result<clap::Command<'a>, AllocError>
+    ensures { IfOk result (λ r. shape_of r ≡ step_command) }
+{
     clap::Command::new(alloc, STEP)
         .about("Steps through the run of a policy, forward and backward")
         .arg(request_option(alloc))?
@@ -142,7 +183,9 @@ fn step_command<'a>(alloc: Global) -> Result<clap::Command<'a>, AllocError> {
         .arg(dictionary_files(alloc))
 }
 
-fn encode_command<'a>(alloc: Global) -> Result<clap::Command<'a>, AllocError> {
+fn encode_command<'a>(alloc: Global) -> Result<clap::Command<'a>, AllocError>
+    ensures { IfOk result (λ r. shape_of r ≡ encode_command) }
+{
     clap::Command::new(alloc, ENCODE)
         .about("Makes a packet from request lines")
         .arg(request_option(alloc))?
@@ -153,7 +196,9 @@ fn encode_command<'a>(alloc: Global) -> Result<clap::Command<'a>, AllocError> {
         .arg(dictionary_files(alloc))
 }
 
-fn decode_command<'a>(alloc: Global) -> Result<clap::Command<'a>, AllocError> {
+fn decode_command<'a>(alloc: Global) -> Result<clap::Command<'a>, AllocError>
+    ensures { IfOk result (λ r. shape_of r ≡ decode_command) }
+{
     clap::Command::new(alloc, DECODE)
         .about("Shows a packet, given in hexadecimal digits, as lines")
         .arg(packet_option(alloc))?
@@ -161,16 +206,26 @@ fn decode_command<'a>(alloc: Global) -> Result<clap::Command<'a>, AllocError> {
         .arg(dictionary_files(alloc))
 }
 
-fn check_command<'a>(alloc: Global) -> Result<clap::Command<'a>, AllocError> {
+fn check_command<'a>(alloc: Global) -> Result<clap::Command<'a>, AllocError>
+    ensures { IfOk result (λ r. shape_of r ≡ check_command) }
+{
     clap::Command::new(alloc, CHECK)
         .about("Checks dictionaries and, if given, a policy, and counts what they define")
         .arg(policy_option(alloc))?
         .arg(dictionary_files(alloc))
 }
 
-fn program<'a>(alloc: Global) -> Result<clap::Command<'a>, AllocError> {
-    clap::Command::new(alloc, "radpolicy")
-        .bin_name("radpolicy")?
+// The command line without its commands.
+fn titled<'a>(alloc: Global) -> Result<clap::Command<'a>, AllocError>
+    ensures { IfOk result (λ r. app_of r ≡ new_app (codes "radpolicy")) }
+{
+    clap::Command::new(alloc, "radpolicy").bin_name("radpolicy")
+}
+
+fn program<'a>(alloc: Global) -> Result<clap::Command<'a>, AllocError>
+    ensures { IfOk result (λ r. app_of r ≡ program) }
+{
+    titled(alloc)?
         .about("Runs an unlang policy on a RADIUS request")
         .after_help("radpolicy COMMAND --help lists a command's options.")
         .subcommand_required(true)
@@ -184,7 +239,10 @@ fn program<'a>(alloc: Global) -> Result<clap::Command<'a>, AllocError> {
 
 // The fault of a parse that failed.
 fn fault_of(error: &clap::Error) -> Fault
-    ensures { IsWordFault result }
+    ensures help { result ≡ Help → kind_of error.now ≡ ErrorKind.DisplayHelp }
+    ensures usage { result ≡ Usage → kind_of error.now ≢ ErrorKind.OutOfMemory }
+    ensures value { result ≢ OptionValue }
+    ensures fault { IsWordFault result }
 {
     match error.kind() {
         ErrorKind::DisplayHelp => Fault::Help,
@@ -193,15 +251,47 @@ fn fault_of(error: &clap::Error) -> Fault
     }
 }
 
+// The value of an option, where it was given.
+fn text_in<'a>(found: &ArgMatches<'a>, name: &str) -> Option<&'a str>
+    ensures { option_map (λ text. text.now) result ≡ first_of name.now (rows_of (found_of found.now)) }
+{
+    found.get_str(name)
+}
+
+// The values of an option or of files, where there are some.
+fn texts_in<'a, 'b>(found: &'b ArgMatches<'a>, name: &str) -> Option<&'b [&'a str]>
+    ensures { option_map (λ texts. map (λ text. text.now) texts.now) result
+        ≡ all_of name.now (rows_of (found_of found.now)) }
+{
+    found.get_strs(name)
+}
+
+// Whether an option without a value was given.
+fn is_given(found: &ArgMatches<'_>, name: &str) -> bool
+    ensures { result ≡ is_given name.now (rows_of (found_of found.now)) }
+{
+    match text_in(found, name) {
+        Some(text) => text == "true",
+        None => false,
+    }
+}
+
 // The dictionary files; the parse has seen to it that there is one.
 fn files_of<'a>(alloc: Global, found: &ArgMatches<'a>) -> Result<Vec<&'a str>, Fault>
+    ensures files { IfOk result (λ files. all_of (codes "dictionary") (rows_of (found_of found.now))
+        ≡ Some (map (λ path. path.now) files.items)) }
     ensures some { IfOk result (λ files. 0 < length files.items) }
     ensures distinct { IfOk result (λ files. AreDistinct (names_of_paths files.items)) }
+    ensures refused { IfErr result (λ fault. fault ≢ Memory → (fault ≡ OptionValue)
+        × ((paths : List (Bor (List ℕ))) → all_of (codes "dictionary") (rows_of (found_of found.now))
+        ≡ Some (map (λ path. path.now) paths) → 0 < length paths → AreDistinct (names_of_paths paths) → ⊥)) }
     ensures fault { IfErr result IsWordFault }
 {
-    let files = found.get_strs(DICTIONARY).ok_or(Fault::Usage)?;
+    let Some(files) = texts_in(found, DICTIONARY) else {
+        return Err(Fault::OptionValue);
+    };
     if files.is_empty() {
-        return Err(Fault::Usage);
+        return Err(Fault::OptionValue);
     }
     if !has_distinct_names(alloc, files)? {
         return Err(Fault::OptionValue);
@@ -211,10 +301,14 @@ fn files_of<'a>(alloc: Global, found: &ArgMatches<'a>) -> Result<Vec<&'a str>, F
 
 // How the request is given. The packet of `decode` is in hexadecimal digits.
 fn form_of(command: Command, found: &ArgMatches<'_>) -> Result<Form, Fault>
-    ensures decode { IfOk result (λ form. command ≡ Decode → form ≡ Hex) }
-    ensures fault { IfErr result IsWordFault }
+    ensures form { IfOk result (λ form. form_of command
+        (is_given (codes "hex") (rows_of (found_of found.now)))
+        (is_given (codes "acct") (rows_of (found_of found.now))) ≡ Some form) }
+    ensures refused { IfErr result (λ fault. (fault ≡ OptionValue) × (form_of command
+        (is_given (codes "hex") (rows_of (found_of found.now)))
+        (is_given (codes "acct") (rows_of (found_of found.now))) ≡ None)) }
 {
-    match (command, found.get_flag(HEX), found.get_flag(ACCOUNTING)) {
+    match (command, is_given(found, HEX), is_given(found, ACCOUNTING)) {
         (Command::Decode, _, _) | (_, true, false) => Ok(Form::Hex),
         (_, false, true) => Ok(Form::Accounting),
         (_, false, false) => Ok(Form::Access),
@@ -224,11 +318,11 @@ fn form_of(command: Command, found: &ArgMatches<'_>) -> Result<Form, Fault>
 
 // A number of decimal digits, 0 to 255.
 fn identifier_in(word: &str) -> Result<u8, Fault>
-    ensures number { IfOk result (λ number.
-        number ≡ digits_value 10 (without_leading_plus word.now)) }
-    ensures fault { IfErr result IsWordFault }
+    ensures number { IfOk result (IsNumberWord word.now) }
+    ensures refused { IfErr result (λ fault. (fault ≡ OptionValue)
+        × ((number : ℕ) → IsNumberWord word.now number → ⊥)) }
 {
-    if word.is_empty() || !word.as_bytes().iter().all(|octet| octet.is_ascii_digit()) {
+    if word.as_bytes().first() == Some(&b'+') {
         return Err(Fault::OptionValue);
     }
     word.parse::<u8>().map_err(|_| Fault::OptionValue)
@@ -236,20 +330,25 @@ fn identifier_in(word: &str) -> Result<u8, Fault>
 
 // The packet's Identifier. A packet in hexadecimal digits has its own, and takes none.
 fn identifier_of(form: Form, found: &ArgMatches<'_>) -> Result<u8, Fault>
-    ensures hex { IfOk result (λ identifier. form ≡ Hex → identifier ≡ 0) }
-    ensures fault { IfErr result IsWordFault }
+    ensures identifier { IfOk result (IsIdentifierOf form
+        (first_of (codes "identifier") (rows_of (found_of found.now)))) }
+    ensures refused { IfErr result (λ fault. (fault ≡ OptionValue)
+        × ((identifier : ℕ) → IsIdentifierOf form
+        (first_of (codes "identifier") (rows_of (found_of found.now))) identifier → ⊥)) }
 {
-    match (form, found.get_str(IDENTIFIER)) {
-        (_, None) => Ok(0),
-        (Form::Hex, Some(_)) => Err(Fault::OptionValue),
-        (Form::Access | Form::Accounting, Some(word)) => identifier_in(word),
+    match (text_in(found, IDENTIFIER), form) {
+        (None, _) => Ok(0),
+        (Some(_), Form::Hex) => Err(Fault::OptionValue),
+        (Some(word), Form::Access) => identifier_in(word),
+        (Some(word), Form::Accounting) => identifier_in(word),
     }
 }
 
 // The octets of 32 hexadecimal digits.
 fn authenticator_in(word: &str) -> Result<[u8; 16], Fault>
     ensures octets { IfOk result (λ octets. decode_sized word.now 16 ≡ Ok octets) }
-    ensures fault { IfErr result IsWordFault }
+    ensures refused { IfErr result (λ fault. (fault ≡ OptionValue)
+        × ((octets : List ℕ) → decode_sized word.now 16 ≡ Ok octets → ⊥)) }
 {
     let mut authenticator = [0; 16];
     hex::decode_to_slice(word, &mut authenticator).map_err(|_| Fault::OptionValue)?;
@@ -257,9 +356,13 @@ fn authenticator_in(word: &str) -> Result<[u8; 16], Fault>
 }
 
 fn authenticator_of(found: &ArgMatches<'_>) -> Result<Option<[u8; 16]>, Fault>
-    ensures fault { IfErr result IsWordFault }
+    ensures octets { IfOk result (IsAuthenticatorOf
+        (first_of (codes "authenticator") (rows_of (found_of found.now)))) }
+    ensures refused { IfErr result (λ fault. (fault ≡ OptionValue)
+        × ((authenticator : Option (List ℕ)) → IsAuthenticatorOf
+        (first_of (codes "authenticator") (rows_of (found_of found.now))) authenticator → ⊥)) }
 {
-    match found.get_str(AUTHENTICATOR) {
+    match text_in(found, AUTHENTICATOR) {
         Some(word) => Ok(Some(authenticator_in(word)?)),
         None => Ok(None),
     }
@@ -268,7 +371,8 @@ fn authenticator_of(found: &ArgMatches<'_>) -> Result<Option<[u8; 16]>, Fault>
 // Whether what is asked of `run` goes together.
 fn keeps_run_rules(plan: &Plan<'_>) -> bool
     requires { plan.now.form ≡ Hex → plan.now.identifier ≡ 0 }
-    ensures { result ≡ true → RunRules (asked_by_plan plan.now).packet }
+    ensures kept { result ≡ true → RunRules (asked_by_plan plan.now).packet }
+    ensures broken { result ≡ false → RunRules (asked_by_plan plan.now).packet → ⊥ }
 {
     match plan.form {
         Form::Hex => plan.secret.is_some() && plan.authenticator.is_none(),
@@ -279,7 +383,8 @@ fn keeps_run_rules(plan: &Plan<'_>) -> bool
 
 // Whether what is asked of `step` goes together.
 fn keeps_step_rules(plan: &Plan<'_>) -> bool
-    ensures { result ≡ true → StepRules (asked_by_plan plan.now).packet }
+    ensures kept { result ≡ true → StepRules (asked_by_plan plan.now).packet }
+    ensures broken { result ≡ false → StepRules (asked_by_plan plan.now).packet → ⊥ }
 {
     match plan.form {
         Form::Hex => plan.secret.is_some(),
@@ -289,7 +394,8 @@ fn keeps_step_rules(plan: &Plan<'_>) -> bool
 
 // Whether what is asked of `encode` goes together.
 fn keeps_encode_rules(plan: &Plan<'_>) -> bool
-    ensures { result ≡ true → EncodeRules (asked_by_plan plan.now).packet }
+    ensures kept { result ≡ true → EncodeRules (asked_by_plan plan.now).packet }
+    ensures broken { result ≡ false → EncodeRules (asked_by_plan plan.now).packet → ⊥ }
 {
     match plan.form {
         Form::Hex => false,
@@ -303,7 +409,8 @@ fn keeps_encode_rules(plan: &Plan<'_>) -> bool
 fn keeps_rules(plan: &Plan<'_>) -> bool
     requires identifier { plan.now.form ≡ Hex → plan.now.identifier ≡ 0 }
     requires decode { plan.now.command ≡ Decode → plan.now.form ≡ Hex }
-    ensures { result ≡ true → Rules plan.now.command (asked_by_plan plan.now) }
+    ensures kept { result ≡ true → Rules plan.now.command (asked_by_plan plan.now) }
+    ensures broken { result ≡ false → Rules plan.now.command (asked_by_plan plan.now) → ⊥ }
 {
     match plan.command {
         Command::Run => plan.policy.is_some() && keeps_run_rules(plan),
@@ -318,25 +425,48 @@ fn keeps_rules(plan: &Plan<'_>) -> bool
 
 // The plan of a command's words. An option that the command does not have was not given.
 fn plan_of<'a>(alloc: Global, command: Command, found: &ArgMatches<'a>) -> Result<Plan<'a>, Fault>
-    ensures plan { IfOk result (λ plan. IsSound (asked_by_plan plan)) }
+    ensures plan { IfOk result (IsPlanBy command (rows_of (found_of found.now))) }
+    ensures sound { IfOk result (λ plan. IsSound (asked_by_plan plan)) }
+    ensures refused { IfErr result (λ fault. fault ≢ Memory
+        → (fault ≡ OptionValue) × HasNoPlan command (rows_of (found_of found.now))) }
     ensures fault { IfErr result IsWordFault }
 {
     let form = form_of(command, found)?;
+    let identifier = identifier_of(form, found)?;
+    let authenticator = authenticator_of(found)?;
+    let dictionaries = files_of(alloc, found)?;
     let plan = Plan {
         command,
         form,
-        identifier: identifier_of(form, found)?,
-        authenticator: authenticator_of(found)?,
-        dictionaries: files_of(alloc, found)?,
-        request: found.get_str(REQUEST),
-        policy: found.get_str(POLICY),
-        secret: found.get_str(SECRET),
-        script: found.get_str(SCRIPT),
+        identifier,
+        authenticator,
+        dictionaries,
+        request: text_in(found, REQUEST),
+        policy: text_in(found, POLICY),
+        secret: text_in(found, SECRET),
+        script: text_in(found, SCRIPT),
     };
     if keeps_rules(&plan) {
         Ok(plan)
     } else {
         Err(Fault::OptionValue)
+    }
+}
+
+// The command that was named, and what was found for its options and files.
+fn command_in<'a, 'b>(matches: &'b ArgMatches<'a>) -> Option<(Command, &'b ArgMatches<'a>)>
+    ensures some { IfSome result (λ x. subcommand_rows_of matches.now
+        ≡ Some (command_name x.0, rows_of (found_of x.1.now))) }
+    ensures none { result ≡ None → (command : Command) (rows : List Row)
+        → subcommand_rows_of matches.now ≡ Some (command_name command, rows) → ⊥ }
+{
+    match matches.subcommand() {
+        Some((RUN, found)) => Some((Command::Run, found)),
+        Some((STEP, found)) => Some((Command::Step, found)),
+        Some((ENCODE, found)) => Some((Command::Encode, found)),
+        Some((DECODE, found)) => Some((Command::Decode, found)),
+        Some((CHECK, found)) => Some((Command::Check, found)),
+        _ => None,
     }
 }
 
@@ -352,19 +482,23 @@ fn plan_of<'a>(alloc: Global, command: Command, found: &ArgMatches<'a>) -> Resul
 /// assert_eq!(rt; refused, Some(Fault::Usage));
 /// ```
 pub fn read_words<'a, S: AsStr>(alloc: Global, words: &'a [S]) -> Result<Plan<'a>, Fault>
-    ensures plan { IfOk result (λ plan. IsSound (asked_by_plan plan)) }
+    ensures plan { IfOk result (IsPlanOf (map S.text words.entry.now)) }
+    ensures sound { IfOk result (λ plan. IsSound (asked_by_plan plan)) }
+    ensures help { IfErr result (λ fault. fault ≡ Help
+        → IsAmong ErrorKind.DisplayHelp (fault_of program (map S.text words.entry.now))) }
+    ensures usage { IfErr result (λ fault. fault ≡ Usage
+        → NameNoCommand (map S.text words.entry.now)) }
+    ensures value { IfErr result (λ fault. fault ≡ OptionValue
+        → HaveNoPlan (map S.text words.entry.now)) }
     ensures fault { IfErr result IsWordFault }
 {
-    let matches = program(alloc)?
-        .try_get_matches_from(words)
-        .map_err(|error| fault_of(&error))?;
-    match matches.subcommand() {
-        Some((RUN, found)) => plan_of(alloc, Command::Run, found),
-        Some((STEP, found)) => plan_of(alloc, Command::Step, found),
-        Some((ENCODE, found)) => plan_of(alloc, Command::Encode, found),
-        Some((DECODE, found)) => plan_of(alloc, Command::Decode, found),
-        Some((CHECK, found)) => plan_of(alloc, Command::Check, found),
-        _ => Err(Fault::Usage),
+    let matches = match program(alloc)?.try_get_matches_from(words) {
+        Ok(matches) => matches,
+        Err(error) => return Err(fault_of(&error)),
+    };
+    match command_in(&matches) {
+        Some((command, found)) => plan_of(alloc, command, found),
+        None => Err(Fault::Usage),
     }
 }
 
@@ -415,13 +549,13 @@ fn refusal_of(
     if authenticator_of(found).is_err() {
         return Ok("--authenticator takes 32 hexadecimal digits");
     }
-    if !has_distinct_names(alloc, found.get_strs(DICTIONARY).unwrap_or(&[]))? {
+    if !has_distinct_names(alloc, texts_in(found, DICTIONARY).unwrap_or(&[]))? {
         return Ok(
             "two dictionary files have one name, the last part of their paths: copy one to \
             another name, and include it by that",
         );
     }
-    let (secret, authenticator) = (found.get_str(SECRET), found.get_str(AUTHENTICATOR));
+    let (secret, authenticator) = (text_in(found, SECRET), text_in(found, AUTHENTICATOR));
     Ok(rules_text(command, form, secret.is_some(), authenticator.is_some()))
 }
 
@@ -450,13 +584,9 @@ pub fn option_text<'a, S: AsStr>(
     let Ok(matches) = program(alloc)?.try_get_matches_from(words) else {
         return Ok("");
     };
-    match matches.subcommand() {
-        Some((RUN, found)) => refusal_of(alloc, Command::Run, found),
-        Some((STEP, found)) => refusal_of(alloc, Command::Step, found),
-        Some((ENCODE, found)) => refusal_of(alloc, Command::Encode, found),
-        Some((DECODE, found)) => refusal_of(alloc, Command::Decode, found),
-        Some((CHECK, found)) => refusal_of(alloc, Command::Check, found),
-        _ => Ok(""),
+    match command_in(&matches) {
+        Some((command, found)) => refusal_of(alloc, command, found),
+        None => Ok(""),
     }
 }
 

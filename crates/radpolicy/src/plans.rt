@@ -37,8 +37,10 @@ fn names_of_paths<'a>(alloc: Global, paths: &[&'a str]) -> Result<Vec<&'a [u8]>,
 
 // Whether one of the names is this one.
 fn has_name(names: &[&[u8]], name: &[u8]) -> bool
-    ensures { result ≡ false
+    ensures other { result ≡ false
         → All (λ taken. taken ≢ name.now) (map (λ taken. taken.now) names.now) }
+    ensures taken { result ≡ true
+        → All (λ taken. taken ≢ name.now) (map (λ taken. taken.now) names.now) → ⊥ }
 {
     for taken in names {
         if *taken == name {
@@ -50,7 +52,8 @@ fn has_name(names: &[&[u8]], name: &[u8]) -> bool
 
 // Whether no two names are the same.
 fn are_distinct(names: &[&[u8]]) -> bool
-    ensures { result ≡ true → AreDistinct (map (λ name. name.now) names.now) }
+    ensures distinct { result ≡ true → AreDistinct (map (λ name. name.now) names.now) }
+    ensures same { result ≡ false → AreDistinct (map (λ name. name.now) names.now) → ⊥ }
 {
     for (i, name) in names.iter().enumerate() {
         if has_name(&names[..i], name) {
@@ -62,7 +65,10 @@ fn are_distinct(names: &[&[u8]]) -> bool
 
 /// Whether no two paths end in one name.
 pub(crate) fn has_distinct_names(alloc: Global, paths: &[&str]) -> Result<bool, AllocError>
-    ensures { IfOk result (λ distinct. distinct ≡ true → AreDistinct (names_of_paths paths.now)) }
+    ensures distinct { IfOk result (λ distinct.
+        distinct ≡ true → AreDistinct (names_of_paths paths.now)) }
+    ensures same { IfOk result (λ distinct.
+        distinct ≡ false → AreDistinct (names_of_paths paths.now) → ⊥) }
 {
     Ok(are_distinct(&names_of_paths(alloc, paths)?))
 }
