@@ -36,7 +36,9 @@ fn statement_hint(word: &str) -> Option<&'static str> {
         "switch" | "case" => {
             Some("switch is left out here: write if (&Name == value) { .. } elsif (..) { .. }")
         }
-        "foreach" | "break" => Some("loops are left out here: write a statement for each value"),
+        "foreach" | "break" => Some(
+            "loops are left out here: of an attribute the first instance alone can be used, as &Name",
+        ),
         "authorize"
         | "authenticate"
         | "preacct"
@@ -52,9 +54,15 @@ fn statement_hint(word: &str) -> Option<&'static str> {
             Some("a section's own line is left out here: write only what is between its { and }")
         }
         "else" | "elsif" => Some("else and elsif follow the } of an if"),
-        "return" => { Some("return is left out here: put what comes after it into else { .. }") }
+        "return" => {
+            Some(
+                "return is left out here: put what comes after it into else { .. }, or take it out where nothing does",
+            )
+        }
         "handled" | "invalid" | "userlock" | "notfound" | "disallow" => {
-            Some("of the server's codes there are ok, noop, updated, fail and reject")
+            Some(
+                "of the server's codes there are ok, noop, updated, fail and reject: ask for one of these, or take it out",
+            )
         }
         "group"
         | "redundant"
@@ -387,8 +395,8 @@ fn push_sentences(
             help,
             &[
                 name_in(found),
-                " is not written under this name\nwrite the attribute's own name: that \
-            of the vendor's attribute, or User-Password\n",
+                " is not written under this name\nwrite the name of what is in it, as \
+            Cisco-AVPair for Vendor-Specific, or User-Password for Attr-2\n",
             ],
         ),
         PolicyKind::TooDeep => push_all(help, &["64 signs { ( and ! are open here already\n"]),

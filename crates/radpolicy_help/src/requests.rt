@@ -86,8 +86,8 @@ fn push_sentences(
             help,
             &[
                 name,
-                " is not written under this name\nwrite the attribute's own name: that of the \
-            vendor's attribute, or User-Password\n",
+                " is not written under this name\nwrite the name of what is in it, as \
+            Cisco-AVPair for Vendor-Specific, or User-Password for Attr-2\n",
             ],
         ),
         LineKind::SecondPacket => push_all(

@@ -81,7 +81,7 @@ pub(crate) fn tag_hint(profile: Profile) -> &'static str {
         Profile::Wider =>
             "a tag is a number up to 31, after the name of an attribute that has tags\n",
         Profile::Plain => {
-            "write # profile: wider as the first line, or write the name without its tag, and 0x, \
+            "write # profile: wider as the first line of this file, or write the name without its tag, and 0x, \
             the tag and the number as the value\n"
         }
     }
