@@ -51,7 +51,8 @@ fn digits_help(alloc: Global, sources: &Sources<'_>) -> Result<Vec<u8>, AllocErr
             push_all(
                 &mut help,
                 &[
-                    "a packet is written in hexadecimal digits\nfor lines Name = value leave --hex out, or encode them\n",
+                    "a packet is written in hexadecimal digits\nfor lines Name = value leave --hex out, \
+                    or encode them\n",
                 ],
             )?;
         }

@@ -61,7 +61,8 @@ fn statement_hint(word: &str) -> Option<&'static str> {
         }
         "handled" | "invalid" | "userlock" | "notfound" | "disallow" => {
             Some(
-                "of the server's codes there are ok, noop, updated, fail and reject: ask for one of these, or take it out",
+                "of the server's codes there are ok, noop, updated, fail and reject: ask for one of \
+                these, or take it out",
             )
         }
         "group"

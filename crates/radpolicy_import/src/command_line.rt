@@ -143,7 +143,8 @@ fn program<'a>(alloc: Global) -> Result<clap::Command<'a>, AllocError> {
             alloc,
             OWN_DICTIONARY,
             "OUT",
-            "Makes attributes of control of those of other lists, and of what expansions ask, and writes their dictionary",
+            "Makes attributes of control of those of other lists, and of what expansions ask, and \
+            writes their dictionary",
         ))?
         .arg(flag(
             alloc,

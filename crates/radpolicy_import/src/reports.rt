@@ -66,7 +66,12 @@ fn others_text(
     count: usize,
     unset: &[&OtherAttribute],
 ) -> Result<Vec<u8>, AllocError> {
-    let head = format!(in alloc; "{path}: {count} attributes\n")?;
+    let noun = if count == 1 {
+        "attribute"
+    } else {
+        "attributes"
+    };
+    let head = format!(in alloc; "{path}: {count} {noun}\n")?;
     let mut out = Vec::from_slice(alloc, head.as_bytes())?;
     for other in unset {
         let begin = format!(in alloc; "{path}: set by no line of the policy: &control:")?;

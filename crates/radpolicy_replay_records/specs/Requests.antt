@@ -35,7 +35,7 @@ abbrev pub start_unless : Option Fault → Start → Result Start Fault
 start_unless None start = Ok start
 start_unless (Some f) start = Err f
 
--- the same over a packet that was read so, with the lists of a record
+-- the start of a run over a packet that was read, with the lists of a record
 abbrev pub start_read : Prepared → List ℕ → RecordRequest → Result Packet PacketFault
     → Result Start Fault
 start_read prepared secret given (Err f) = Err (fault.Packet f)
