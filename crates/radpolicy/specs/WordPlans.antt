@@ -48,7 +48,7 @@ IsAuthenticatorOf None authenticator = authenticator ≡ None
 IsAuthenticatorOf (Some word) authenticator =
     (octets : List ℕ) × (decode_sized word 16 ≡ Ok octets) × (authenticator ≡ Some octets)
 
--- what was found for a command's options and files says this plan
+-- this plan has what was found for the command's options and files
 pub record IsPlanBy (asked : Command) (rows : List Row) (plan : Plan) : Type 0 where
   pub command : plan.command ≡ asked
   pub form : form_of asked (is_given (codes "hex") rows) (is_given (codes "acct") rows)

@@ -1,6 +1,6 @@
 //! The words of the command line, with all calls of `clap`.
 
-ghost use Rattle.std.specs.Prelude.{◌≡◌, ◌≢◌, ◌<◌, ℕ, List, Option, Some, None, Ok, IfOk, IfErr, IfSome, codes, length, map, option_map, true, false};
+ghost use Rattle.std.specs.Prelude.{◌≡◌, ◌≢◌, ◌<◌, ◌∷◌, [], ℕ, List, Option, Some, None, Ok, IfOk, IfErr, IfSome, codes, length, map, option_map, true, false};
 ghost use Rattle.std.specs.Borrow.{Bor};
 ghost use Rattle.clap.specs.Words.{IsAmong, Row, all_of, app_of, fault_of, first_of, found_of, kind_of, new_app, rows_of, rule_of, shape_of, subcommand_rows_of};
 ghost use Rattle.hex.specs.Hex.{decode_sized};
@@ -241,6 +241,7 @@ fn program<'a>(alloc: Global) -> Result<clap::Command<'a>, AllocError>
 fn fault_of(error: &clap::Error) -> Fault
     ensures help { result ≡ Help → kind_of error.now ≡ ErrorKind.DisplayHelp }
     ensures usage { result ≡ Usage → kind_of error.now ≢ ErrorKind.OutOfMemory }
+    ensures no_help { result ≡ Usage → kind_of error.now ≢ ErrorKind.DisplayHelp }
     ensures value { result ≢ OptionValue }
     ensures fault { IsWordFault result }
 {
@@ -488,6 +489,8 @@ pub fn read_words<'a, S: AsStr>(alloc: Global, words: &'a [S]) -> Result<Plan<'a
         → IsAmong ErrorKind.DisplayHelp (fault_of program (map S.text words.entry.now))) }
     ensures usage { IfErr result (λ fault. fault ≡ Usage
         → NameNoCommand (map S.text words.entry.now)) }
+    ensures no_help { IfErr result (λ fault. fault ≡ Usage
+        → fault_of program (map S.text words.entry.now) ≢ ErrorKind.DisplayHelp ∷ []) }
     ensures value { IfErr result (λ fault. fault ≡ OptionValue
         → HaveNoPlan (map S.text words.entry.now)) }
     ensures fault { IfErr result IsWordFault }

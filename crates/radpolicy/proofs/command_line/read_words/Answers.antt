@@ -66,3 +66,23 @@ returns-clause-usage g c = λ _ command rows names.
     let app = c.in_ok-program.ensures in
     let matches = c.in-Ok.ensures.matches (ap is_simple app ∙ program_is_simple) in
     c.command_in.ensures.none c.in-None.is command rows (matches.1 ∙ ap (λ (app : App). subcommand_of app words) app ∙ names.found)
+
+pub returns-in-Err-clause-no_help : goal.returns-in-Err-clause-no_help
+returns-in-Err-clause-no_help g c = λ is asked.
+    let words = map g.S.AsStr.text c.args.words.now in
+    let app = c.in_ok-program.ensures in
+    let kinds = subst (λ (app : App). HasKind (fault_of app words) c.in-Err.error) app (c.in-Err.ensures.kinds (ap is_simple_and_free app ∙ program_is_free)) in
+    elim (subst (λ those. HasKind those c.in-Err.error) asked kinds) [
+      | inl memory ↦ c.fault_of.ensures.usage is memory
+      | inr one ↦ elim one [
+        | inl help ↦ c.fault_of.ensures.no_help is help
+        | inr none ↦ none
+      ]
+    ]
+
+pub returns-clause-no_help : goal.returns-clause-no_help
+returns-clause-no_help g c = λ _ asked.
+    let words = map g.S.AsStr.text c.args.words.now in
+    let app = c.in_ok-program.ensures in
+    let right = ap (λ (app : App). fault_of app words) (sym app) ∙ c.in-Ok.ensures.kinds (ap is_simple_and_free app ∙ program_is_free) in
+    let bad = sym right ∙ asked in cc
