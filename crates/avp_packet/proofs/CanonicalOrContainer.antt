@@ -1,5 +1,5 @@
 -- Each pair that is read is canonical, unless it holds others.
-use Rattle.std.proofs.Common.{◌≡◌, ◌∙◌, ℕ, ◌≤◌, true, false, not, ◌&&◌, cond, List, length, Option, Some, None, refl, sym, ap}
+use Rattle.std.proofs.Common.{◌≡◌, ◌∙◌, ℕ, ◌<◌, ◌≤◌, true, false, not, ◌&&◌, cond, List, length, Option, Some, None, refl, sym, ap}
 use Rattle.std.specs.Prelude.{IfSome}
 use Rattle.std.specs.List.{All}
 use Rattle.std.specs.Option.{option_and_then, unwrap_or}
@@ -19,13 +19,14 @@ use Rattle.avp_dict.specs.Octets.{is_hidden, is_hideable, octets, read_by, read_
 use Rattle.avp_dict.specs.Sent.{is_block_length, is_canonical, is_container, is_shown}
 use Rattle.avp_dict.specs.Soundness.{IsSound}
 use Rattle.avp_dict.specs.Types.{is_text_kind}
-use Rattle.avp_packet.specs.Hiding.{shown}
+use Rattle.avp_packet.specs.Hiding.{shown, shown_by}
 use Rattle.avp_packet.specs.Meanings.{attribute_pairs, pair_meant, raw_pair, value_meant, value_shown}
 use Rattle.avp_packet.specs.CanonicalOrContainer.{IsCanonicalOrContainer}
 use Rattle.avp_packet.specs.Splitting.{Part, parts}
 use Rattle.avp_packet.proofs.FittingPairs.{octets_same, pair_fits}
 use Rattle.avp_packet.proofs.FittingLists.{IsGood, octets_hold}
-use Rattle.avp_packet.proofs.OctetRanges.{AreBytes, IsRead, IsShown, octets_read, shown_holds}
+use Rattle.avp_packet.proofs.Nuls.{shown-with_secret}
+use Rattle.avp_packet.proofs.OctetRanges.{AreBytes, IsRead, IsShown, octets_read, shown_by_holds}
 use Rattle.avp_packet.proofs.ValuesReadBack.{hides_text}
 use Rattle.avp_packet.proofs.Tests.{by_test}
 
@@ -66,12 +67,15 @@ module _ (dictionary : Dictionary) (sound : IsSound dictionary) where
       let hides : d.hidden ≡ true = rw e at h in
       rw (hides, good) (text_shown d.kind os (hides_text dictionary sound id d e hides))
 
-  module _ (secret authenticator : List ℕ) where
-    none_shown : (os : List ℕ) → shown secret authenticator os ≡ None → is_block_length (length os) ≡ false
+  module _ (secret authenticator : List ℕ) (keyed : 0 < length secret) where
+    at_none : (os : List ℕ) → shown secret authenticator os ≡ None → is_block_length (length os) ≡ false
     unfolding shown
-    none_shown os e = by_test (is_block_length (length os) ≡ false) (is_block_length (length os)) (λ t. absurd (let some = rw t at e in cc)) (λ f. f)
+    at_none os e = by_test (is_block_length (length os) ≡ false) (is_block_length (length os)) (λ t. absurd (let some = rw t at e in cc)) (λ f. f)
 
-    shown_own : (id : AttrId) (os : List ℕ) → is_hidden id dictionary ≡ true → (o : Option (List ℕ)) → shown secret authenticator os ≡ o → IfSome o (IsShown os) → is_shown (value_shown dictionary id os o) ≡ true
+    none_shown : (os : List ℕ) → shown_by secret authenticator os ≡ None → is_block_length (length os) ≡ false
+    none_shown os e = at_none os (sym (shown-with_secret secret authenticator os keyed) ∙ e)
+
+    shown_own : (id : AttrId) (os : List ℕ) → is_hidden id dictionary ≡ true → (o : Option (List ℕ)) → shown_by secret authenticator os ≡ o → IfSome o (IsShown os) → is_shown (value_shown dictionary id os o) ≡ true
     unfolding value_of_octets read_value
     shown_own id os h None e is = rw (none_shown os e)
     shown_own id os h (Some password) e is = password_shown id password is.hideable (described id dictionary) refl h
@@ -79,9 +83,9 @@ module _ (dictionary : Dictionary) (sound : IsSound dictionary) where
     value_own : (id : AttrId) (os : List ℕ) → AreBytes os → let v = value_meant dictionary secret authenticator id os in cond (is_hidden id dictionary) (is_shown v) (value_eq v (value_of_octets id (octets id v dictionary) dictionary)) ≡ true
     unfolding value_meant
     value_own id os bytes =
-        let v : Value = cond (is_hidden id dictionary) (value_shown dictionary id os (shown secret authenticator os)) (value_of_octets id os dictionary) in
+        let v : Value = cond (is_hidden id dictionary) (value_shown dictionary id os (shown_by secret authenticator os)) (value_of_octets id os dictionary) in
         by_test (cond (is_hidden id dictionary) (is_shown v) (value_eq v (value_of_octets id (octets id v dictionary) dictionary)) ≡ true) (is_hidden id dictionary)
-        (λ h. rw h (shown_own id os h (shown secret authenticator os) refl (shown_holds secret authenticator os bytes)))
+        (λ h. rw h (shown_own id os h (shown_by secret authenticator os) refl (shown_by_holds secret authenticator os bytes)))
         (λ h. rw h (plain_own dictionary id os bytes))
 
     pair_own : (id : AttrId) (os : List ℕ) → is_known id dictionary ≡ true → AreBytes os → length os ≤ max_octets id dictionary → IsCanonicalOrContainer dictionary (pair_meant dictionary secret authenticator id os)

@@ -11,9 +11,9 @@ use Rattle.avp_dict.specs.Dictionary.{Dictionary}
 use Rattle.avp_dict.specs.Limits.{fits, greatest_length, is_known, is_of_kind, is_typed, is_within, max_octets}
 use Rattle.avp_dict.specs.Names.{Described, described}
 use Rattle.avp_dict.specs.Octets.{ends_in_nul, is_hidden, is_hideable, octets, octets_of, read_by, read_value, value_of_octets, value_read, max_hidden_octets}
-use Rattle.avp_packet.specs.Hiding.{shown}
+use Rattle.avp_packet.specs.Hiding.{shown_by}
 use Rattle.avp_packet.specs.Meanings.{pair_meant, value_meant, value_shown}
-use Rattle.avp_packet.proofs.OctetRanges.{AreBytes, IsRead, IsShown, octets_read, shown_holds}
+use Rattle.avp_packet.proofs.OctetRanges.{AreBytes, IsRead, IsShown, octets_read, shown_by_holds}
 use Rattle.avp_packet.proofs.Tests.{by_test}
 
 module _ (dictionary : Dictionary) where
@@ -92,8 +92,8 @@ module _ (dictionary : Dictionary) where
     value_fits : (id : AttrId) (os : List ℕ) → AreBytes os → length os ≤ max_octets id dictionary → IsFitting id (value_meant dictionary secret authenticator id os)
     unfolding value_meant
     value_fits id os bytes short =
-        by_test (IsFitting id (cond (is_hidden id dictionary) (value_shown dictionary id os (shown secret authenticator os)) (value_of_octets id os dictionary))) (is_hidden id dictionary)
-        (λ h. rw h (shown_fits id os bytes short (shown secret authenticator os) (shown_holds secret authenticator os bytes)))
+        by_test (IsFitting id (cond (is_hidden id dictionary) (value_shown dictionary id os (shown_by secret authenticator os)) (value_of_octets id os dictionary))) (is_hidden id dictionary)
+        (λ h. rw h (shown_fits id os bytes short (shown_by secret authenticator os) (shown_by_holds secret authenticator os bytes)))
         (λ h. rw h (octets_fit id os bytes short))
 
     -- a pair read fits where its id is known and holds so many octets

@@ -7,7 +7,7 @@ use Rattle.std.proofs.lemmas.Grind.{common_steps}
 use Rattle.std.proofs.lemmas.List.{append-nil, length-append, length-replicate}
 use Rattle.avp_dict.specs.Octets.{ends_in_nul, is_hideable, is_nul, max_hidden_octets}
 use Rattle.avp_dict.specs.Sent.{is_block_length}
-use Rattle.avp_packet.specs.Hiding.{block_count, hidden, hidden_blocks, padded, shown, without_last_nuls}
+use Rattle.avp_packet.specs.Hiding.{block_count, hidden, hidden_blocks, padded, shown, shown_by, without_last_nuls}
 use Rattle.avp_packet.proofs.Masks.{length-hidden_blocks, shown_blocks-hidden_blocks}
 
 pub last_of_more : (x y : ℕ) (ys : List ℕ) → ends_in_nul (x ∷ y ∷ ys) ≡ ends_in_nul (y ∷ ys)
@@ -85,6 +85,11 @@ shown-hidden secret authenticator password h =
     let whole : 16 * n / 16 ≡ n = omega arith in
     rw (all, block_length (length password) (short_of password h), whole, shown_blocks-hidden_blocks n secret authenticator (padded password) long)
     (ap Some (without_more_nuls password (16 * n - length password) (ending_of password h)))
+
+-- what there is a secret for is shown
+pub shown-with_secret : (secret authenticator os : List ℕ) → 0 < length secret → shown_by secret authenticator os ≡ shown secret authenticator os
+shown-with_secret [] authenticator os h = absurd (omega arith)
+shown-with_secret (s ∷ secret) authenticator os h = refl
 
 last_at_end : (xs : List ℕ) (x : ℕ) → ends_in_nul (xs ++ x ∷ []) ≡ is_nul x
 last_at_end [] x = refl

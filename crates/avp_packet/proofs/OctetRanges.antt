@@ -19,7 +19,7 @@ use Rattle.avp_dict.specs.Limits.{is_of_kind}
 use Rattle.avp_dict.specs.Octets.{ends_in_nul, is_hideable, is_nul, octets_of, of_length, value_read, max_hidden_octets}
 use Rattle.avp_dict.specs.Sent.{is_block_length}
 use Rattle.avp_dict.proofs.NumberOctets.{eight_octets}
-use Rattle.avp_packet.specs.Hiding.{masked, shown, shown_blocks, without_last_nuls}
+use Rattle.avp_packet.specs.Hiding.{masked, shown, shown_blocks, shown_by, without_last_nuls}
 use Rattle.avp_packet.proofs.Nuls.{last_of_more}
 use Rattle.avp_packet.proofs.Tests.{by_test}
 
@@ -151,6 +151,10 @@ shown_holds secret authenticator os h =
       hideable = rw (low, without-ends made);
     }))
     (λ e. rw e tt)
+
+pub shown_by_holds : (secret authenticator os : List ℕ) → AreBytes os → IfSome (shown_by secret authenticator os) (IsShown os)
+shown_by_holds [] authenticator os h = tt
+shown_by_holds (s ∷ secret) authenticator os h = shown_holds (s ∷ secret) authenticator os h
 
 -- ---- values read
 

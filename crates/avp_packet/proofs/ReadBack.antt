@@ -153,7 +153,7 @@ known_by n (Some f) h formats =
 
 -- ---- the attributes of an id
 
-module _ (dictionary : Dictionary) (sound : IsSound dictionary) (formats : HasKnownFormats dictionary) (secret authenticator : List ℕ) where
+module _ (dictionary : Dictionary) (sound : IsSound dictionary) (formats : HasKnownFormats dictionary) (secret authenticator : List ℕ) (keyed : 0 < length secret) where
   abbrev means : List Part → List Pair
   means ps = attribute_pairs dictionary secret authenticator ps
 
@@ -266,7 +266,7 @@ module _ (dictionary : Dictionary) (sound : IsSound dictionary) (formats : HasKn
       let there : not (length os == 0) ≡ true = sym (sent_by dictionary secret authenticator p outside) ∙ is in
       let some : 0 < length os = grind (arith, common_steps) in
       id_read p.id os rest (fits_known dictionary p fitting) plain ranged (sent_held dictionary secret authenticator p fitting outside) some
-      ∙ ap (λ (v : Value). record { id = p.id; value = v } ∷ means rest) (value_back dictionary sound secret authenticator p canonical)
+      ∙ ap (λ (v : Value). record { id = p.id; value = v } ∷ means rest) (value_back dictionary sound secret authenticator keyed p canonical)
 
   abbrev AreInRange : List Pair → Type 0
   AreInRange pairs = AllByRecursion (λ p. IsVendorInRange p.id) pairs

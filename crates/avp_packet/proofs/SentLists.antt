@@ -1,5 +1,5 @@
 -- What a divided list is sent as, and what its attributes mean.
-use Rattle.std.proofs.Common.{◌≡◌, ◌∙◌, ℕ, zero, suc, ◌-◌, ◌/◌, ◌≤◌, Bool, true, false, not, ◌==◌, cond, if◌then◌else◌, List, [], ◌∷◌, ◌++◌, length, drop, map, Option, Some, None, refl, sym, ap, arith, append-nil, append_assoc}
+use Rattle.std.proofs.Common.{◌≡◌, ◌∙◌, ℕ, ◌<◌, zero, suc, ◌-◌, ◌/◌, ◌≤◌, Bool, true, false, not, ◌==◌, cond, if◌then◌else◌, List, [], ◌∷◌, ◌++◌, length, drop, map, Option, Some, None, refl, sym, ap, arith, append-nil, append_assoc}
 use Rattle.std.specs.List.{All, AllByRecursion, flat_map, list_all}
 use Rattle.std.specs.Option.{option_map_or}
 use Rattle.std.proofs.lemmas.Grind.{common_steps, flat_map-append}
@@ -259,23 +259,23 @@ module _ (dictionary : Dictionary) (secret : List ℕ) (code id : ℕ) (authenti
 
   -- ---- what it means
 
-  module _ (sound : IsSound dictionary) (formats : HasKnownFormats dictionary) (before_clean : is_clean before dictionary ≡ true) (after_clean : is_clean after dictionary ≡ true) (proxies_clean : is_clean content.proxy_states dictionary ≡ true) (before_ranged : All (λ p. IsVendorInRange p.id) before) (after_ranged : All (λ p. IsVendorInRange p.id) division.after.now) (proxies_ranged : All (λ p. IsVendorInRange p.id) content.proxy_states) where
+  module _ (sound : IsSound dictionary) (formats : HasKnownFormats dictionary) (keyed : 0 < length secret) (before_clean : is_clean before dictionary ≡ true) (after_clean : is_clean after dictionary ≡ true) (proxies_clean : is_clean content.proxy_states dictionary ≡ true) (before_ranged : All (λ p. IsVendorInRange p.id) before) (after_ranged : All (λ p. IsVendorInRange p.id) division.after.now) (proxies_ranged : All (λ p. IsVendorInRange p.id) content.proxy_states) where
     abbrev means : List Part → List Pair
     means ps = attribute_pairs dictionary secret hide_by ps
 
     last_means : means (parts_of dictionary secret hide_by content.proxy_states) ≡ sent content.proxy_states dictionary
     last_means =
         ap means (sym (append-nil (parts_of dictionary secret hide_by content.proxy_states)))
-        ∙ clean_read dictionary sound formats secret hide_by content.proxy_states [] proxies_clean proxies_ranged
-        ∙ rw (nothing_read dictionary sound formats secret hide_by) (append-nil (sent content.proxy_states dictionary))
+        ∙ clean_read dictionary sound formats secret hide_by keyed content.proxy_states [] proxies_clean proxies_ranged
+        ∙ rw (nothing_read dictionary sound formats secret hide_by keyed) (append-nil (sent content.proxy_states dictionary))
 
     after_means : means (parts_of dictionary secret hide_by after ++ parts_of dictionary secret hide_by content.proxy_states) ≡ sent after dictionary ++ sent content.proxy_states dictionary
     after_means =
-        clean_read dictionary sound formats secret hide_by after (parts_of dictionary secret hide_by content.proxy_states) after_clean (All-filter (is_other message_authenticator_id) (λ (p : Pair). IsVendorInRange p.id) division.after.now after_ranged)
+        clean_read dictionary sound formats secret hide_by keyed after (parts_of dictionary secret hide_by content.proxy_states) after_clean (All-filter (is_other message_authenticator_id) (λ (p : Pair). IsVendorInRange p.id) division.after.now after_ranged)
         ∙ rw last_means refl
 
     rest_means : (t : Bool) (os : List ℕ) → means ((if t then part message_authenticator os ∷ [] else []) ++ (parts_of dictionary secret hide_by after ++ parts_of dictionary secret hide_by content.proxy_states)) ≡ (if t then pair_meant dictionary secret hide_by message_authenticator_id os ∷ [] else []) ++ (sent after dictionary ++ sent content.proxy_states dictionary)
-    rest_means true os = plain_read dictionary sound formats secret hide_by message_authenticator os (parts_of dictionary secret hide_by after ++ parts_of dictionary secret hide_by content.proxy_states) refl ∙ ap (λ (ps : List Pair). pair_meant dictionary secret hide_by message_authenticator_id os ∷ ps) after_means
+    rest_means true os = plain_read dictionary sound formats secret hide_by keyed message_authenticator os (parts_of dictionary secret hide_by after ++ parts_of dictionary secret hide_by content.proxy_states) refl ∙ ap (λ (ps : List Pair). pair_meant dictionary secret hide_by message_authenticator_id os ∷ ps) after_means
     rest_means false os = after_means
 
     regrouped : {A : Type 0} (a b d e : List A) → a ++ b ++ d ++ e ≡ a ++ (b ++ (d ++ e))
@@ -289,7 +289,7 @@ module _ (dictionary : Dictionary) (secret : List ℕ) (code id : ℕ) (authenti
         let one : List Part = if division.signed then part message_authenticator os ∷ [] else [] in
         let own : List Pair = if division.signed then pair_meant dictionary secret hide_by message_authenticator_id os ∷ [] else [] in
         ap means (regrouped first one middle last)
-        ∙ clean_read dictionary sound formats secret hide_by before (one ++ (middle ++ last)) before_clean before_ranged
+        ∙ clean_read dictionary sound formats secret hide_by keyed before (one ++ (middle ++ last)) before_clean before_ranged
         ∙ ap (λ (ps : List Pair). sent before dictionary ++ ps) (rest_means division.signed os)
         ∙ sym (regrouped (sent before dictionary) own (sent after dictionary) (sent content.proxy_states dictionary))
 

@@ -47,14 +47,14 @@ module _ (dictionary : Dictionary) (secret : List ℕ) (code id : ℕ) (authenti
     packet_whole = ap left attributes_again ∙ left_whole _
 
     module _ (division : Division) (divided : IsDivided content.kind content.pairs division) (kept : (q : Pair → Bool) → All (λ p. q p ≡ true) content.pairs → KeepsAll q division) where
-      pub packet_means : IsSound dictionary → HasKnownFormats dictionary → is_clean content.pairs dictionary ≡ true → is_clean content.proxy_states dictionary ≡ true
+      pub packet_means : IsSound dictionary → HasKnownFormats dictionary → 0 < length secret → is_clean content.pairs dictionary ≡ true → is_clean content.proxy_states dictionary ≡ true
           → AreVendorsInRange division content.proxy_states
           → Means dictionary secret (hiding_authenticator code authenticator) (parts (attributes_of octets)) (pairs_meant dictionary secret code id authenticator content)
-      packet_means sound formats clean proxies_clean ranged =
+      packet_means sound formats keyed clean proxies_clean ranged =
           let hide_by : List ℕ = hiding_authenticator code authenticator in
           meant_by dictionary secret hide_by (parts (attributes_of octets)) _
           (ap (λ (os : List ℕ). attribute_pairs dictionary secret hide_by (parts os)) attributes_again
-          ∙ signed_means dictionary secret code id authenticator content division divided sound formats (before_clean dictionary content.pairs division clean kept) (after_clean dictionary content.pairs division clean kept) proxies_clean ranged.before ranged.after ranged.proxies)
+          ∙ signed_means dictionary secret code id authenticator content division divided sound formats keyed (before_clean dictionary content.pairs division clean kept) (after_clean dictionary content.pairs division clean kept) proxies_clean ranged.before ranged.after ranged.proxies)
 
       pub packet_signed : division.signed ≡ true → without_signatures division.before.now ≡ division.before.now → without_signatures content.proxy_states ≡ content.proxy_states
           → All (λ p. fits p dictionary ≡ true) content.pairs → All (λ p. fits p dictionary ≡ true) content.proxy_states

@@ -1,5 +1,5 @@
 -- The value of a canonical pair is read back from the octets that it is sent in.
-use Rattle.std.proofs.Common.{◌≡◌, ◌∙◌, ℕ, Bool, true, false, cond, List, length, Option, Some, None, refl, sym, subst}
+use Rattle.std.proofs.Common.{◌≡◌, ◌∙◌, ℕ, ◌<◌, Bool, true, false, cond, List, length, Option, Some, None, refl, sym, subst}
 use Rattle.std.proofs.lemmas.Bool.{and_parts, false≢true, not-true}
 use Rattle.avp_lists.specs.declared.pairs.AttrId.{AttrId}
 use Rattle.avp_lists.specs.declared.pairs.Pair.{Pair}
@@ -18,9 +18,9 @@ use Rattle.avp_dict.specs.Soundness.{IsSound}
 use Rattle.avp_dict.specs.Types.{is_text_kind}
 use Rattle.avp_dict.proofs.PrintedNames.{is_described}
 use Rattle.avp_packet.specs.AttributeOctets.{sent_octets}
-use Rattle.avp_packet.specs.Hiding.{shown}
+use Rattle.avp_packet.specs.Hiding.{hidden, shown}
 use Rattle.avp_packet.specs.Meanings.{value_meant}
-use Rattle.avp_packet.proofs.Nuls.{shown-hidden}
+use Rattle.avp_packet.proofs.Nuls.{shown-hidden, shown-with_secret}
 use Rattle.avp_packet.proofs.AttributeRoom.{fits_typed, fits_within, within_hideable}
 use Rattle.avp_packet.proofs.Tests.{by_test}
 
@@ -66,10 +66,10 @@ module _ (dictionary : Dictionary) (sound : IsSound dictionary) where
       rw (e, hides, k, read)
 
   -- the value of a canonical pair is read back
-  module _ (secret authenticator : List ℕ) where
+  module _ (secret authenticator : List ℕ) (keyed : 0 < length secret) where
     raw_back : (id : AttrId) (os : List ℕ) → is_hidden id dictionary ≡ true → is_shown (Raw os) ≡ true → value_meant dictionary secret authenticator id (sent_octets dictionary secret authenticator (record { id = id; value = Raw os })) ≡ Raw os
     unfolding value_meant sent_octets octets
-    raw_back id os h s = rw (h, shown_none secret authenticator os (not-true (is_block_length (length os)) s))
+    raw_back id os h s = rw (h, shown-with_secret secret authenticator os keyed, shown_none secret authenticator os (not-true (is_block_length (length os)) s))
 
     typed_back : (id : AttrId) (v : Value) → fits (record { id = id; value = v }) dictionary ≡ true → is_hidden id dictionary ≡ true → is_raw v ≡ false → value_meant dictionary secret authenticator id (sent_octets dictionary secret authenticator (record { id = id; value = v })) ≡ v
     unfolding value_meant sent_octets
@@ -77,7 +77,7 @@ module _ (dictionary : Dictionary) (sound : IsSound dictionary) where
         let p : Pair = record { id = id; value = v } in
         let os : List ℕ = octets id v dictionary in
         let good : is_hideable os ≡ true = within_hideable dictionary id v h r (fits_within dictionary p f) in
-        rw (h, r, shown-hidden secret authenticator os good) (text_by id v (described id dictionary) refl h r (fits_typed dictionary p f) good)
+        rw (h, r, shown-with_secret secret authenticator (hidden secret authenticator os) keyed, shown-hidden secret authenticator os good) (text_by id v (described id dictionary) refl h r (fits_typed dictionary p f) good)
 
     hidden_back : (id : AttrId) (v : Value) → fits (record { id = id; value = v }) dictionary ≡ true → is_hidden id dictionary ≡ true → is_shown v ≡ true → value_meant dictionary secret authenticator id (sent_octets dictionary secret authenticator (record { id = id; value = v })) ≡ v
     hidden_back id (Raw os) f h s = raw_back id os h s

@@ -48,3 +48,8 @@ shown secret authenticator os =
     if is_block_length (length os)
     then Some (without_last_nuls (shown_blocks (length os / 16) secret authenticator os))
     else None
+
+-- hidden octets shown by a secret, which has octets (RFC 2865, section 3): without one, none are
+abbrev pub shown_by : List ℕ → List ℕ → List ℕ → Option (List ℕ)
+shown_by [] authenticator os = None
+shown_by (s ∷ secret) authenticator os = shown (s ∷ secret) authenticator os

@@ -13,5 +13,6 @@ pub mod Packets
 pub mod Sending
 pub mod Signed
 pub mod Splitting
+pub mod Unchecked
 pub mod VendorFormats
 pub mod internal

@@ -12,7 +12,7 @@ use Rattle.avp_dict.specs.AttributeNumbers.{vendor_specific}
 use Rattle.avp_dict.specs.Dictionary.{Dictionary}
 use Rattle.avp_dict.specs.Octets.{is_hidden, value_of_octets}
 use Rattle.avp_packet.specs.ExtendedTypes.{holds_long, holds_one, more_flag, piece_octets}
-use Rattle.avp_packet.specs.Hiding.{shown}
+use Rattle.avp_packet.specs.Hiding.{shown_by}
 use Rattle.avp_packet.specs.Splitting.{Part}
 use Rattle.avp_packet.specs.VendorFormats.{known_format}
 
@@ -143,11 +143,11 @@ module _ (dictionary : Dictionary) where
       else None
 
   module _ (secret authenticator : List ℕ) where
-    -- the value of an attribute's octets, shown first where they are hidden
+    -- the value of an attribute's octets, shown first where they are hidden and there is a secret
     unfoldable pub value_meant : AttrId → List ℕ → Value
     value_meant id os =
         if is_hidden id dictionary
-        then value_shown id os (shown secret authenticator os)
+        then value_shown id os (shown_by secret authenticator os)
         else value_of_octets id os dictionary
 
     abbrev pub pair_meant : AttrId → List ℕ → Pair

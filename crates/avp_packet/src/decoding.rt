@@ -5,4 +5,5 @@ pub mod packets;
 pub mod pairs;
 pub mod replies;
 pub mod requests;
+pub mod unchecked;
 pub mod values;

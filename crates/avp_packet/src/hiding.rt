@@ -5,7 +5,7 @@ ghost use Rattle.std.specs.Option.{option_map};
 ghost use Rattle.md5.specs.Md5.{md5};
 ghost use Rattle.avp_dict.specs.Octets.{is_hideable};
 ghost use Rattle.avp_dict.specs.Sent.{is_block_length};
-ghost use Rattle.avp_packet.specs.Hiding.{block_count, hidden, hidden_blocks, masked, padded, shown, shown_blocks, without_last_nuls};
+ghost use Rattle.avp_packet.specs.Hiding.{block_count, hidden, hidden_blocks, masked, padded, shown, shown_blocks, shown_by, without_last_nuls};
 
 use crate::faults::HideFault;
 use avp_dict::{MAX_HIDDEN_OCTETS, ends_in_nul, is_hideable};
@@ -169,6 +169,22 @@ pub(crate) fn shown(
     let mut octets = shown_blocks(alloc, secret, authenticator, hidden)?;
     drop_last_nuls(&mut octets);
     Ok(Some(octets))
+}
+
+/// Hidden octets shown where there is a secret.
+pub(crate) fn shown_by(
+    alloc: Global,
+    secret: &[u8],
+    authenticator: &[u8; 16],
+    hidden: &[u8],
+) -> Result<Option<Vec<u8>>, AllocError>
+    ensures { IfOk result (λ password. option_map (λ octets. octets.items) password
+        ≡ shown_by secret.now authenticator.now hidden.now) }
+{
+    match secret {
+        [] => Ok(None),
+        [..] => shown(alloc, secret, authenticator, hidden),
+    }
 }
 
 /// Hidden octets shown, without the NULs at their end; `None` where their number is not 16, 32, .. 128.

@@ -9,7 +9,8 @@ use crate::packets::{ACCOUNTING_REQUEST, ACCOUNTING_RESPONSE};
 use avp_dict::Dictionary;
 use avp_lists::AttrId;
 
-/// What a packet's values are read and written by: the dictionary of its attributes, the secret, and an authenticator.
+/// What a packet's values are read and written by: the dictionary of its attributes, the secret, which is empty where
+/// none is known, and an authenticator.
 /// `authenticator` is what hides passwords where values are read or written, and the Request Authenticator where a
 /// packet is signed.
 #[derive(Clone, Copy)]

@@ -1,4 +1,5 @@
-//! Packets from outside: digests, hidden passwords, attributes of each form, and what is refused.
+//! Packets from outside: digests, hidden passwords, attributes of each form, what is read without a secret, and what is
+//! refused.
 #![tactic(auto)]
 
 #[cfg(test)]
@@ -9,5 +10,7 @@ mod packets;
 mod replies;
 #[cfg(test)]
 mod signing;
+#[cfg(test)]
+mod unchecked;
 #[cfg(test)]
 mod written;

@@ -209,7 +209,12 @@ const REFUSED: [([u8; 4], &[u8], PacketFault); 7] = [
     ([4, 0, 0, 0x14], b"", PacketFault::WrongAuthenticator),
 ];
 
-fn packet_with_head(alloc: Global, head: [u8; 4], attributes: &[u8]) -> Result<Vec<u8>, Fail> {
+/// A packet with an authenticator of zeros.
+pub(crate) fn packet_with_head(
+    alloc: Global,
+    head: [u8; 4],
+    attributes: &[u8],
+) -> Result<Vec<u8>, Fail> {
     let mut octets = Vec::from_slice(alloc, &head)?;
     octets.resize(20, 0)?;
     octets.extend_from_slice(attributes)?;

@@ -3,7 +3,8 @@
 use avp_dict::Dictionary;
 use avp_packet::{
     ACCESS_ACCEPT, ACCESS_REQUEST, BadLength, PacketFault, attributes, check_message, check_reply,
-    decode, decode_reply, encode_reply, encode_request, hide, unhide,
+    decode, decode_reply, decode_reply_unchecked, decode_unchecked, encode_reply, encode_request,
+    hide, unhide,
 };
 use samples::test_dictionary;
 use std::alloc::Global;
@@ -44,6 +45,24 @@ fn reads_a_request(
     assert_eq!(rt; request.list.as_slice().len(), 2);
     let refused = decode(alloc, dictionary, b"testing123", b"\x01\x07\x00\x14").err();
     assert_eq!(rt; refused, Some(PacketFault::TooShort));
+    Ok(())
+}
+
+// Example: decode_unchecked
+fn reads_without_a_secret(
+    rt: &impl Abort,
+    alloc: Global,
+    dictionary: &Dictionary,
+    octets: &[u8],
+) -> Result<(), Fail> {
+    // The octets of `User-Name = "bob", NAS-Port = 3`, with the identifier 7.
+    let request = decode_unchecked(alloc, dictionary, octets)?;
+    assert_eq!(rt;
+        (request.code, request.list.as_slice().len()),
+        (ACCESS_REQUEST, 2)
+    );
+    let refused = decode_reply_unchecked(alloc, dictionary, octets).err();
+    assert_eq!(rt; refused, Some(PacketFault::CodeNotTaken));
     Ok(())
 }
 
@@ -143,6 +162,7 @@ fn signed_reply(alloc: Global, dictionary: &Dictionary) -> Result<Vec<u8>, Fail>
 
 fn read_and_write(rt: &impl Abort, alloc: Global, dictionary: &Dictionary) -> Result<(), Fail> {
     reads_a_request(rt, alloc, dictionary, &request_octets(alloc)?)?;
+    reads_without_a_secret(rt, alloc, dictionary, &request_octets(alloc)?)?;
     writes_a_request(rt, alloc, dictionary, &AUTHENTICATOR)?;
     writes_a_reply(rt, alloc, dictionary, &AUTHENTICATOR)?;
     let reply = signed_reply(alloc, dictionary)?;

@@ -9,7 +9,7 @@ use Rattle.radpolicy.specs.declared.jobs.Command.{Command}
 use Rattle.radpolicy.specs.declared.jobs.Form.{Form}
 use Rattle.radpolicy.specs.declared.plans.Plan.{Plan}
 use Rattle.radpolicy.specs.Plans.{asked_by_plan, names_of_paths}
-use Rattle.radpolicy.specs.WordPlans.{IsAuthenticatorOf, IsIdentifierOf, IsPlanBy}
+use Rattle.radpolicy.specs.WordPlans.{IsAuthenticatorOf, IsIdentifierOf, IsPlanOfRows}
 
 -- the names of paths are those of their texts
 names_by_texts : (paths : List (Bor (List ℕ))) → names_of_paths paths ≡ map last_component (map (λ path. path.now) paths)
@@ -37,7 +37,7 @@ same_authenticator : (word : Option Text) (a b : Option (List ℕ)) → IsAuthen
 same_authenticator None a b of_a of_b = ap is_some (of_a ∙ sym of_b)
 same_authenticator (Some word) a b (octets, _, is) (others, _, is_too) = ap is_some is ∙ sym (ap is_some is_too)
 
-module _ (asked : Command) (rows : List Row) (p q : Plan) (by : IsPlanBy asked rows p) (by_too : IsPlanBy asked rows q) where
+module _ (asked : Command) (rows : List Row) (p q : Plan) (by : IsPlanOfRows asked rows p) (by_too : IsPlanOfRows asked rows q) where
   same_names : names_of_paths p.dictionaries.items ≡ names_of_paths q.dictionaries.items
   same_names = same_names_by_texts p.dictionaries.items q.dictionaries.items (same_some _ _ (sym by.dictionaries ∙ by_too.dictionaries))
 

@@ -49,7 +49,7 @@ IsAuthenticatorOf (Some word) authenticator =
     (octets : List ℕ) × (decode_sized word 16 ≡ Ok octets) × (authenticator ≡ Some octets)
 
 -- this plan has what was found for the command's options and files
-pub record IsPlanBy (asked : Command) (rows : List Row) (plan : Plan) : Type 0 where
+pub record IsPlanOfRows (asked : Command) (rows : List Row) (plan : Plan) : Type 0 where
   pub command : plan.command ≡ asked
   pub form : form_of asked (is_given (codes "hex") rows) (is_given (codes "acct") rows)
       ≡ Some plan.form
@@ -64,8 +64,8 @@ pub record IsPlanBy (asked : Command) (rows : List Row) (plan : Plan) : Type 0 w
   pub script : first_of (codes "script") rows ≡ option_map (λ path. path.now) plan.script
 
 -- no sound plan is what was found
-abbrev pub HasNoPlan : Command → List Row → Type 0
-HasNoPlan command rows = (plan : Plan) → IsPlanBy command rows plan → IsSound (asked_by_plan plan) → ⊥
+abbrev pub RowsHaveNoPlan : Command → List Row → Type 0
+RowsHaveNoPlan command rows = (plan : Plan) → IsPlanOfRows command rows plan → IsSound (asked_by_plan plan) → ⊥
 
 -- nothing is wrong with the words, which name this command, and this is found for its options and files
 pub record NameCommand (words : List Text) (command : Command) (rows : List Row) : Type 0 where
@@ -73,15 +73,15 @@ pub record NameCommand (words : List Text) (command : Command) (rows : List Row)
   pub found : subcommand_of program words ≡ Some (command_name command, rows)
 
 -- what the words ask for
-abbrev pub IsPlanOf : List Text → Plan → Type 0
-IsPlanOf words plan =
-    (rows : List Row) × NameCommand words plan.command rows × IsPlanBy plan.command rows plan
+abbrev pub IsPlanOfWords : List Text → Plan → Type 0
+IsPlanOfWords words plan =
+    (rows : List Row) × NameCommand words plan.command rows × IsPlanOfRows plan.command rows plan
 
 -- something is wrong with the words, or they name no command
 abbrev pub NameNoCommand : List Text → Type 0
 NameNoCommand words = (command : Command) (rows : List Row) → NameCommand words command rows → ⊥
 
 -- the words name a command, and its options or files do not go together, or one cannot be read
-abbrev pub HaveNoPlan : List Text → Type 0
-HaveNoPlan words = (command : Command) × (rows : List Row)
-    × NameCommand words command rows × HasNoPlan command rows
+abbrev pub WordsHaveNoPlan : List Text → Type 0
+WordsHaveNoPlan words = (command : Command) × (rows : List Row)
+    × NameCommand words command rows × RowsHaveNoPlan command rows

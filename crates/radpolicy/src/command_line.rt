@@ -6,7 +6,7 @@ ghost use Rattle.clap.specs.Words.{IsAmong, Row, all_of, app_of, fault_of, first
 ghost use Rattle.hex.specs.Hex.{decode_sized};
 ghost use Rattle.radpolicy.specs.declared.faults.Fault.TheVariants.{Help, Memory, OptionValue, Usage};
 ghost use Rattle.radpolicy.specs.CommandLines.{accounting_option, authenticator_option, check_command, decode_command, dictionary_files, encode_command, hex_option, identifier_option, policy_option, program, request_option, run_command, script_option, secret_option, step_command, valued};
-ghost use Rattle.radpolicy.specs.WordPlans.{IsAuthenticatorOf, IsIdentifierOf, IsNumberWord, HasNoPlan, HaveNoPlan, IsPlanBy, IsPlanOf, NameNoCommand, command_name, form_of, is_given};
+ghost use Rattle.radpolicy.specs.WordPlans.{IsAuthenticatorOf, IsIdentifierOf, IsNumberWord, RowsHaveNoPlan, WordsHaveNoPlan, IsPlanOfRows, IsPlanOfWords, NameNoCommand, command_name, form_of, is_given};
 ghost use Rattle.radpolicy.specs.declared.jobs.Command.TheVariants.{Decode};
 ghost use Rattle.radpolicy.specs.declared.jobs.Form.TheVariants.{Hex};
 ghost use Rattle.radpolicy.specs.Faults.{IsWordFault};
@@ -426,10 +426,10 @@ fn keeps_rules(plan: &Plan<'_>) -> bool
 
 // The plan of a command's words. An option that the command does not have was not given.
 fn plan_of<'a>(alloc: Global, command: Command, found: &ArgMatches<'a>) -> Result<Plan<'a>, Fault>
-    ensures plan { IfOk result (IsPlanBy command (rows_of (found_of found.now))) }
+    ensures plan { IfOk result (IsPlanOfRows command (rows_of (found_of found.now))) }
     ensures sound { IfOk result (λ plan. IsSound (asked_by_plan plan)) }
     ensures refused { IfErr result (λ fault. fault ≢ Memory
-        → (fault ≡ OptionValue) × HasNoPlan command (rows_of (found_of found.now))) }
+        → (fault ≡ OptionValue) × RowsHaveNoPlan command (rows_of (found_of found.now))) }
     ensures fault { IfErr result IsWordFault }
 {
     let form = form_of(command, found)?;
@@ -483,7 +483,7 @@ fn command_in<'a, 'b>(matches: &'b ArgMatches<'a>) -> Option<(Command, &'b ArgMa
 /// assert_eq!(rt; refused, Some(Fault::Usage));
 /// ```
 pub fn read_words<'a, S: AsStr>(alloc: Global, words: &'a [S]) -> Result<Plan<'a>, Fault>
-    ensures plan { IfOk result (IsPlanOf (map S.text words.entry.now)) }
+    ensures plan { IfOk result (IsPlanOfWords (map S.text words.entry.now)) }
     ensures sound { IfOk result (λ plan. IsSound (asked_by_plan plan)) }
     ensures help { IfErr result (λ fault. fault ≡ Help
         → IsAmong ErrorKind.DisplayHelp (fault_of program (map S.text words.entry.now))) }
@@ -492,7 +492,7 @@ pub fn read_words<'a, S: AsStr>(alloc: Global, words: &'a [S]) -> Result<Plan<'a
     ensures no_help { IfErr result (λ fault. fault ≡ Usage
         → fault_of program (map S.text words.entry.now) ≢ ErrorKind.DisplayHelp ∷ []) }
     ensures value { IfErr result (λ fault. fault ≡ OptionValue
-        → HaveNoPlan (map S.text words.entry.now)) }
+        → WordsHaveNoPlan (map S.text words.entry.now)) }
     ensures fault { IfErr result IsWordFault }
 {
     let matches = match program(alloc)?.try_get_matches_from(words) {

@@ -11,6 +11,7 @@ ghost use Rattle.avp_dict.specs.Sent.{is_clean};
 ghost use Rattle.avp_forms.specs.Requests.{request_written};
 ghost use Rattle.avp_packet.specs.Decoded.{decoded};
 ghost use Rattle.avp_packet.specs.Packets.{IsRequestCode};
+ghost use Rattle.avp_packet.specs.Unchecked.{decoded_unchecked};
 ghost use Rattle.avp_step.specs.Walk.{last_outcome, walk_from};
 ghost use Rattle.avp_unlang.specs.Cleanness.{KeepsReplyClean};
 ghost use Rattle.avp_unlang.specs.Meaning.{Outcome as End};
@@ -36,7 +37,7 @@ use crate::secrets::Secret;
 use avp_dict::{Dictionary, LineFault, LineKind};
 use avp_forms::{Profile, read_request};
 use avp_lists::{MAX_PAIRS, Pair, Pairs, SlotStore, State, Store};
-use avp_packet::{Packet, decode};
+use avp_packet::{Packet, decode, decode_unchecked};
 use avp_step::Stepper;
 use avp_unlang::{Code, Policy, keeps_reply_clean};
 use std::alloc::{AllocError, Global};
@@ -207,6 +208,25 @@ impl<'a> Start<'a> {
     {
         let request = decode(alloc, prepared.dictionary(), secret.as_slice(), octets)?;
         Ok(Start::new(alloc, prepared, Some(secret), Form::Hex, request))
+    }
+
+    /// A run over a request packet whose secret is not known, which is refused as [`decode_unchecked`] refuses it. No
+    /// authenticator is looked at, the values of hidden attributes are their octets, and no reply is made.
+    pub fn of_packet_unchecked(
+        alloc: Global,
+        prepared: &'a PreparedPolicy<'a>,
+        octets: &[u8],
+    ) -> Result<Start<'a>, Fault>
+        ensures read { IfOk result (λ start.
+            decoded_unchecked prepared.entry.now.dictionary octets.now ≡ Ok start.request) }
+        ensures start { IfOk result (λ start. start
+            ≡ start_of prepared.entry.now None Hex start.request) }
+        ensures refused { IfErr result (IsUnreadPacket
+            (decoded_unchecked prepared.entry.now.dictionary octets.now)) }
+        ensures printed { IfErr result IsPrintedAnywhere }
+    {
+        let request = decode_unchecked(alloc, prepared.dictionary(), octets)?;
+        Ok(Start::new(alloc, prepared, None, Form::Hex, request))
     }
 
     /// A run over a request of lines, which are read by a profile ([`avp_forms::profile_of`] tells which one their

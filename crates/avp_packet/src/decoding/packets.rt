@@ -1,6 +1,6 @@
 //! What is read alike of requests and of replies (RFC 2865, section 3).
 
-ghost use Rattle.std.specs.Prelude.{◌≡◌, ◌≤◌, [], true, false, Err, Result, length, All, OnOk, IfOk, IfErr};
+ghost use Rattle.std.specs.Prelude.{◌≡◌, ◌≤◌, ◌<◌, [], true, false, Err, Result, length, All, OnOk, IfOk, IfErr};
 ghost use Rattle.avp_dict.specs.Limits.{fits};
 ghost use Rattle.avp_packet.specs.declared.packets.Packet.{Packet};
 ghost use Rattle.avp_packet.specs.CanonicalOrContainer.{IsCanonicalOrContainer};
@@ -73,7 +73,7 @@ pub(crate) fn read_packet(
     requires short { length_of octets.now ≤ MAX_PACKET_OCTETS }
     ensures fits { IfOk result (λ packet.
         All (λ pair. fits pair keys.now.dictionary.now ≡ true) packet.list) }
-    ensures own { IfOk result (λ packet.
+    ensures own { 0 < length keys.now.secret.now → IfOk result (λ packet.
         All (IsCanonicalOrContainer keys.now.dictionary.now) packet.list) }
     ensures means { IfOk result (λ packet. packet.list
         ≡ under keys.now attribute_pairs (parts (attributes_of octets.now))) }

@@ -104,7 +104,7 @@ pub(crate) fn attribute_pairs(
         ≡ under keys.now attribute_pairs (parts octets.now)) }
     ensures fits { IfOk result (λ pairs.
         All (λ pair. fits pair keys.now.dictionary.now ≡ true) pairs.items) }
-    ensures own { IfOk result (λ pairs.
+    ensures own { 0 < length keys.now.secret.now → IfOk result (λ pairs.
         All (IsCanonicalOrContainer keys.now.dictionary.now) pairs.items) }
 {
     keys.dictionary.is_sound();

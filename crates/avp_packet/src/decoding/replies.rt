@@ -23,7 +23,8 @@ use crate::signing::has_wrong_signature;
 use avp_dict::Dictionary;
 use std::alloc::Global;
 
-fn is_taken_reply_code(code: u8) -> bool
+/// Whether packets of this code are taken as replies.
+pub(crate) fn is_taken_reply_code(code: u8) -> bool
     ensures { result ≡ is_taken_reply_code code }
 {
     matches!(

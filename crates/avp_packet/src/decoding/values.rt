@@ -5,12 +5,12 @@ ghost use Rattle.avp_packet.specs.AttributeOctets.{part};
 ghost use Rattle.avp_packet.specs.Meanings.{extended_pair, pair_meant, raw_pair, value_meant};
 ghost use Rattle.avp_packet.specs.internal.Views.{under};
 
-use crate::hiding::shown;
+use crate::hiding::shown_by;
 use crate::keys::Keys;
 use avp_lists::{AttrId, Octets, Pair, Value};
 use std::alloc::{AllocError, Global};
 
-/// The value of an attribute's octets, shown first where they are hidden.
+/// The value of an attribute's octets, shown first where they are hidden and there is a secret.
 #[tactic(auto, unfolding(crate::specs::Meanings::value_meant))]
 fn value_meant(
     alloc: Global,
@@ -23,7 +23,7 @@ fn value_meant(
     if !keys.is_hidden(id) {
         return keys.dictionary.value_of_bytes(alloc, id, octets);
     }
-    match shown(alloc, keys.secret, keys.authenticator, octets)? {
+    match shown_by(alloc, keys.secret, keys.authenticator, octets)? {
         Some(password) => Ok(keys.dictionary.value_of_vec(id, password)),
         None => Ok(Value::Raw(Octets::from_slice(alloc, octets)?)),
     }
@@ -37,7 +37,7 @@ fn keep_value(keys: &Keys<'_>, id: AttrId, octets: Vec<u8>) -> Result<Value, All
     if !keys.is_hidden(id) {
         return Ok(keys.dictionary.value_of_vec(id, octets));
     }
-    match shown(
+    match shown_by(
         *octets.allocator(),
         keys.secret,
         keys.authenticator,

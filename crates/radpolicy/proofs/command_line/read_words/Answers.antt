@@ -2,7 +2,7 @@ use Rattle.std.proofs.Common.{◌≡◌, ◌∙◌, ap, inl, inr, map, subst, sy
 use Rattle.std.proofs.lemmas.Result.{IfErr-weaker, IfOk-weaker}
 use Rattle.clap.specs.Words.{App, HasKind, IsAmong, fault_of, found_of, is_simple, is_simple_and_free, rows_of, subcommand_of}
 use Rattle.radpolicy.specs.CommandLines.{program}
-use Rattle.radpolicy.specs.WordPlans.{IsPlanBy, command_name}
+use Rattle.radpolicy.specs.WordPlans.{IsPlanOfRows, command_name}
 use Rattle.radpolicy.proofs.CommandLines.{program_is_free, program_is_simple}
 use Rattle.radpolicy.proofs.command_line.read_words.Goals as goal
 
@@ -40,7 +40,7 @@ returns-in-Some-clause-plan g c =
         right = right;
         found = found ∙ ap (λ command. Some (command_name command, rows_of (found_of c.in-Some.found.now))) (sym by.command);
       },
-      subst (λ command. IsPlanBy command (rows_of (found_of c.in-Some.found.now)) plan) (sym by.command) by,
+      subst (λ command. IsPlanOfRows command (rows_of (found_of c.in-Some.found.now)) plan) (sym by.command) by,
     )) c.plan_of.ensures.plan
 
 pub returns-in-Some-clause-value : goal.returns-in-Some-clause-value

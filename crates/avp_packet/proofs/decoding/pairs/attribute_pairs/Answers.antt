@@ -28,7 +28,7 @@ returns-clause-fits c =
     rw (returns-clause-pairs c) (octets_fit c.args.keys.now.dictionary.now c.args.keys.now.secret.now c.args.keys.now.authenticator.now c.args.octets.now bytes c.requires)
 
 pub returns-clause-own : goal.returns-clause-own
-returns-clause-own c =
+returns-clause-own c = λ keyed.
     let below : (i : ℕ) → get_or c.args.octets.now i 0 < 256 = search rules in
     let bytes = bytes_by_index c.args.octets.now below in
-    rw (returns-clause-pairs c) (octets_own c.args.keys.now.dictionary.now c.is_sound.ensures.sound c.args.keys.now.secret.now c.args.keys.now.authenticator.now c.args.octets.now bytes c.requires)
+    rw (returns-clause-pairs c) (octets_own c.args.keys.now.dictionary.now c.is_sound.ensures.sound c.args.keys.now.secret.now c.args.keys.now.authenticator.now keyed c.args.octets.now bytes c.requires)

@@ -55,7 +55,7 @@ returns-clause-means c = λ clean proxies_clean.
     packet_means c.args.dictionary.now c.args.secret.now c.args.code c.args.id c.args.request_authenticator.now (reply_content c.args.signed c.args.list.now c.args.proxy_states.now) c.in_ok-octets.octets.items _
     (returns-clause-octets c) (length-digest_over _ _ _ _ _) (returns-clause-short c)
     c.divide_reply-division.result c.divide_reply-division.ensures.divided c.divide_reply-division.ensures.kept
-    c.is_sound.ensures.sound c.is_sound.ensures.formats clean proxies_clean
+    c.is_sound.ensures.sound c.is_sound.ensures.formats c.requires.secret clean proxies_clean
     c.in_ok-attributes.ensures.ranged
 
 pub returns-clause-signed : goal.returns-clause-signed

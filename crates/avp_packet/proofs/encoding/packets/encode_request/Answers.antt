@@ -48,7 +48,7 @@ returns-clause-means c = λ clean.
     packet_means c.args.dictionary.now c.args.secret.now c.args.code c.args.id c.args.authenticator.now (request_content c.args.code c.args.list.now) c.in_ok-octets.octets.items _
     (returns-clause-octets c) (length-request_authenticator _ _ _ _ _ c.told-authenticator) (returns-clause-short c)
     c.divide_request-division.result c.divide_request-division.ensures.divided c.divide_request-division.ensures.kept
-    c.is_sound.ensures.sound c.is_sound.ensures.formats clean refl
+    c.is_sound.ensures.sound c.is_sound.ensures.formats c.requires.secret clean refl
     c.in_ok-attributes.ensures.ranged
 
 pub returns-clause-signed : goal.returns-clause-signed
