@@ -1,6 +1,7 @@
 pub mod Agreeing
 pub mod Answered
 pub mod Blocks
+pub mod GroupedTrees
 pub mod Grouping
 pub mod Layers
 pub mod Negations
