@@ -3,13 +3,15 @@
  *     struct radpolicy_policy policy = RADPOLICY_CLOSED;
  *     status = radpolicy_open(&policy, files, count, text, text_length, room, room_length, &told);
  *     status = radpolicy_run(&policy, &request, &outcome, packet, packet_room, report, report_room);
+ *     status = radpolicy_run_pairs(&policy, &request, &lists, packet, packet_room, pairs, pair_room, octets,
+ *                                  octet_room);
  *     radpolicy_close(&policy);
  *
  * What the caller keeps
  * - No pointer is null, also where its length is 0: point at any octet then. An array may be of length 0.
  * - What a pointer points at is there during the call alone. All that is to last is copied, and all that is copied is
  *   given back by radpolicy_close. The caller frees what the caller made.
- * - The rooms, the outcome and the handle of one call do not overlap one another or what the call reads.
+ * - The rooms, the outcome or the lists and the handle of one call do not overlap one another or what the call reads.
  * - A handle begins as RADPOLICY_CLOSED. The caller does not look into it or change it, and uses no copy of it: once
  *   one copy was closed, using another is as wrong as using memory that was freed.
  * - A handle is used by one call at a time, and by the thread that opened it. Each thread opens a handle of its own.
@@ -35,8 +37,8 @@ extern "C" {
 /* How a call ended. The numbers never change. */
 enum radpolicy_status {
     RADPOLICY_DONE = 0,
-    /* What was given is refused. The room (of a run: that of the report) has the line that the program radpolicy
-     * prints, as "radpolicy: E32 policy:3: unknown attribute\n". */
+    /* What was given is refused. The room (of a run: that of the report or of the octets) has the line that the program
+     * radpolicy prints, as "radpolicy: E32 policy:3: unknown attribute\n". */
     RADPOLICY_REFUSED = 2,
     /* There is not enough memory. Nothing is told, and nothing has changed. */
     RADPOLICY_NO_MEMORY = 4,
@@ -136,6 +138,48 @@ struct radpolicy_outcome {
 uint8_t radpolicy_run(struct radpolicy_policy *policy, const struct radpolicy_request *request,
                       struct radpolicy_outcome *outcome, uint8_t *packet, size_t packet_room, uint8_t *report,
                       size_t report_room);
+
+/* The kind of an attribute. */
+enum radpolicy_kind {
+    RADPOLICY_PLAIN = 0,
+    RADPOLICY_VENDOR = 1,   /* a vendor's (RFC 2865, section 5.26) */
+    RADPOLICY_EXTENDED = 2, /* an extended one (RFC 6929, section 2) */
+};
+
+/* A pair of a list, and where its octets are in the room for octets: those of its value, and its line as the report has
+ * it, without the blanks before it and the newline after it, as "Class = 0x01". */
+struct radpolicy_pair {
+    size_t value; /* where the octets of the value begin: as they are sent, but of a hidden value in plain */
+    size_t value_length;
+    size_t line; /* where the line begins */
+    size_t line_length;
+    size_t name_length; /* of the name at the front of the line; after it come " = " and the text of the value */
+    uint32_t within;    /* the vendor's number, or the type of an extended attribute (241 to 246); of a plain one 0 */
+    uint32_t number;    /* the attribute's number; of an extended one its Extended-Type */
+    uint8_t kind;       /* enum radpolicy_kind */
+};
+
+/* What a run came to, with how many pairs its lists have. It is always written; where the status is not RADPOLICY_DONE
+ * or RADPOLICY_TOO_SHORT, all but octets_length is 0. */
+struct radpolicy_lists {
+    size_t packet_length; /* of the reply packet, at most 4096 */
+    size_t octets_length; /* of the octets of the pairs, or of a fault's line */
+    size_t request_count; /* the pairs of the request list are the first in the room for pairs, */
+    size_t reply_count;   /* those of the reply list are after them, */
+    size_t control_count; /* and those of the control list are last; each list has at most 4096 */
+    uint8_t code;         /* enum radpolicy_code */
+    uint8_t sends;        /* enum radpolicy_sends */
+    bool stopped;         /* whether the policy was stopped before its end */
+};
+
+/* Runs the policy on a request as radpolicy_run does, and tells the pairs of its lists one by one in place of the
+ * report: a record of each in the room for pairs, which has place for pair_room of them, and their octets in the room
+ * for octets, where also a fault's line is told.
+ *
+ * The statuses are those of radpolicy_run, with the same meaning. */
+uint8_t radpolicy_run_pairs(struct radpolicy_policy *policy, const struct radpolicy_request *request,
+                            struct radpolicy_lists *lists, uint8_t *packet, size_t packet_room,
+                            struct radpolicy_pair *pairs, size_t pair_room, uint8_t *octets, size_t octet_room);
 
 #ifdef __cplusplus
 }

@@ -34,9 +34,9 @@ def shared_library(subject: Subject, folder: Path) -> Path:
     return made
 
 
-def program(subject: Subject, folder: Path, source: str) -> Path:
-    """A program in C over the archive."""
+def program(subject: Subject, folder: Path, source: str, *options: str) -> Path:
+    """A program in C over the archive, made with these options."""
     made = folder / Path(source).stem
-    subprocess.run(["cc", *WARNINGS, f"-I{subject.root / 'c'}", "-o", made, subject.root / source, *archives(subject)],
-                   check=True)
+    words = ["cc", *WARNINGS, *options, f"-I{subject.root / 'c'}", "-o", made, subject.root / source]
+    subprocess.run([*words, *archives(subject)], check=True)
     return made

@@ -1,26 +1,41 @@
 """The library for C, as C and Python programs call it: what the program prints of each case, replies that FreeRADIUS's
-client accepts, and memory that valgrind sees used rightly."""
+client accepts, and memory that is used rightly."""
 import ctypes
 import importlib.util
+import re
 import shutil
+import socket
 import subprocess
 import sys
 from pathlib import Path
 from types import ModuleType
-from typing import List, Tuple
+from typing import List, Optional, Tuple
 
 from common.cases import Case, cases_below
 from common.program import run
 from common.report import Report
 from common.subject import Subject, new_folder
+from library import watched
 from library.building import missing, program, shared_library
 
-EXPORTED = ["radpolicy_close", "radpolicy_open", "radpolicy_run"]
+EXPORTED = ["radpolicy_close", "radpolicy_open", "radpolicy_run", "radpolicy_run_pairs"]
 CLIENT = "radclient"
 SECRET = "testing123"
 POLICY = 'update reply { Reply-Message := "hello" }\nif (&User-Name == "eve") { reject }\n'
 ASKED = "User-Name = {}, User-Password = hello, Message-Authenticator = 0x00\n"
 FORMS = {"--hex": 0, "--acct": 2}
+PAIRS, ROOM = 3 * 4096, 1 << 20
+
+
+class Pair(ctypes.Structure):
+    _fields_ = [(name, ctypes.c_size_t) for name in ("value", "value_length", "line", "line_length", "name_length")] + [
+        ("within", ctypes.c_uint32), ("number", ctypes.c_uint32), ("kind", ctypes.c_uint8)]
+
+
+class Lists(ctypes.Structure):
+    _fields_ = [(name, ctypes.c_size_t) for name in ("packet_length", "octets_length", "request_count", "reply_count",
+                                                     "control_count")] + [
+        ("code", ctypes.c_uint8), ("sends", ctypes.c_uint8), ("stopped", ctypes.c_bool)]
 
 
 def example(subject: Subject) -> ModuleType:
@@ -59,29 +74,75 @@ def request_of(case: Case, options: dict, python: ModuleType):
     return asked
 
 
-def told_by(library: ctypes.CDLL, python: ModuleType, case: Case) -> Tuple[int, bytes]:
-    """The status, and the report or the line of the fault, that the library tells of a case."""
+def value_of(text: bytes) -> Optional[bytes]:
+    """The octets that a printed value has, where that is plain to see."""
+    if text.startswith(b"0x"):
+        return bytes.fromhex(text[2:].decode())
+    if re.fullmatch(rb'"[^"\\]*"', text):
+        return text[1:-1]
+    return socket.inet_aton(text.decode()) if re.fullmatch(rb"\d+\.\d+\.\d+\.\d+", text) else None
+
+
+def faults_of_pair(case: Case, pair: Pair, octets: bytes) -> List[str]:
+    """What a record tells otherwise than its line and the dictionary. In a wider policy a line may stand for more."""
+    line = octets[pair.line:pair.line + pair.line_length]
+    name, text = line[:pair.name_length], line[pair.name_length + 3:]
+    value, wanted = octets[pair.value:pair.value + pair.value_length], value_of(text)
+    is_wider = any(re.match(rb"\s*#\s*profile:\s+wider", some) for some in case.files.values())
+    wrong = [] if line == name + b" = " + text else [f"a line {line!r}"]
+    is_other = int.from_bytes(value, "big") != int(text) if text.isdigit() else wanted not in (None, value)
+    wrong += [f"{line!r}: the value {value!r}"] if is_other and not is_wider else []
+    numbers = {int(number) for some in case.files.values()
+               for number in re.findall(rb"(?m)^ATTRIBUTE\s+" + re.escape(name) + rb"\s+(\d+)\s", some)}
+    return wrong + ([f"{line!r}: the number {pair.number}"] if numbers and pair.number not in numbers else [])
+
+
+def pairs_told(library: ctypes.CDLL, asked: Tuple, case: Case, report: bytes) -> List[str]:
+    """What the library tells of the pairs of a run, where it is not what is in the report."""
+    lists, pairs, room = Lists(), (Pair * PAIRS)(), ctypes.create_string_buffer(ROOM)
+    packet = ctypes.create_string_buffer(4096)
+    status = library.radpolicy_run_pairs(*asked, ctypes.byref(lists), packet, ctypes.c_size_t(len(packet)), pairs,
+                                         ctypes.c_size_t(PAIRS), room, ctypes.c_size_t(ROOM))
+    octets, wrong, at, said = room.raw[:lists.octets_length], [], 0, b""
+    if status != 0:
+        return [] if octets == report else [f"with pairs it tells {status} {octets!r}"]
+    for name, count in (("request", lists.request_count), ("reply", lists.reply_count),
+                        ("control", lists.control_count)):
+        said += name.encode() + b"\n"
+        for pair in pairs[at:at + count]:
+            said += b"  " + octets[pair.line:pair.line + pair.line_length] + b"\n"
+            wrong += faults_of_pair(case, pair, octets)
+        at += count
+    return wrong + ([] if report.startswith(said + b"result ") else [f"its pairs are {said!r}"])
+
+
+def told_by(library: ctypes.CDLL, python: ModuleType, case: Case) -> Tuple[int, bytes, List[str]]:
+    """The status, and the report or the line of the fault, that the library tells of a case; and what it tells otherwise
+    of the pairs."""
     options, names = words_of(case)
-    policy, told, room = python.Policy(), ctypes.c_size_t(), ctypes.create_string_buffer(1 << 20)
+    policy, told, room = python.Policy(), ctypes.c_size_t(), ctypes.create_string_buffer(ROOM)
     size = ctypes.c_size_t(len(room))
     files = (python.File * len(names))(*(python.File(python.octets(n.encode()), python.octets(case.files[n]))
                                          for n in names))
     text = case.files[options["--policy"]]
     status = library.radpolicy_open(ctypes.byref(policy), files, ctypes.c_size_t(len(names)), text,
                                     ctypes.c_size_t(len(text)), room, size, ctypes.byref(told))
+    wrong = []
     if status == 0:
         outcome, packet = python.Outcome(), ctypes.create_string_buffer(4096)
-        status = library.radpolicy_run(ctypes.byref(policy), ctypes.byref(request_of(case, options, python)),
-                                       ctypes.byref(outcome), packet, ctypes.c_size_t(len(packet)), room, size)
+        asked = ctypes.byref(policy), ctypes.byref(request_of(case, options, python))
+        status = library.radpolicy_run(*asked, ctypes.byref(outcome), packet, ctypes.c_size_t(len(packet)), room, size)
         told.value = outcome.report_length
+        wrong = pairs_told(library, asked, case, room.raw[: told.value])
         library.radpolicy_close(ctypes.byref(policy))
-    return status, room.raw[: told.value]
+    return status, room.raw[: told.value], wrong
 
 
 def check_cases(subject: Subject, report: Report, made: Path) -> None:
     """Each case of `run` that names files which exist."""
     python = example(subject)
     library = python.load(str(made))
+    library.radpolicy_run_pairs.restype = ctypes.c_uint8
     for folder in (subject.root / "examples", subject.root / "tests" / "cases"):
         for case in cases_below(folder):
             options, names = words_of(case)
@@ -91,10 +152,10 @@ def check_cases(subject: Subject, report: Report, made: Path) -> None:
             with new_folder() as place:
                 case.place(place)
                 ended = run([subject.program, *case.words], place, case.stdin)
-            status, text = told_by(library, python, case)
+            status, text, wrong = told_by(library, python, case)
             same = (status, text) == (ended.status, ended.errors.splitlines(True)[0] if ended.status else ended.output)
             fault = f"it tells {status} {text!r}, and the program {ended}"
-            report.check(f"the library tells of {case.name} what the program prints", [] if same else [fault])
+            report.check(f"the library tells of {case.name} what the program prints", wrong + [fault] * (not same))
 
 
 def check_example(subject: Subject, report: Report, made: Path) -> None:
@@ -128,22 +189,12 @@ def check_responder(subject: Subject, report: Report, folder: Path) -> None:
             responder.kill()
 
 
-def check_wrong_calls(subject: Subject, report: Report, folder: Path) -> None:
-    """Wrong calls and changed packets, watched by valgrind where it is installed."""
-    made = program(subject, folder, "tests/library/wrong_calls.c")
-    reply = subject.root / "tests" / "cases" / "reply-to-a-packet"
-    packet = bytes.fromhex((reply / "packet").read_text())
-    secret = (reply / "secret").read_text().split("\n")[0]
-    words = [made, secret, reply / "policy", subject.root / "tests" / "cases" / "dictionary"]
-    if shutil.which("valgrind") is None:
-        report.say("the library's use of memory: not watched, there is no valgrind")
-    else:
-        words = ["valgrind", "--quiet", "--error-exitcode=9", "--leak-check=full",
-                 "--show-leak-kinds=all", "--errors-for-leak-kinds=all", *words]
-    ended = subprocess.run(words, input=packet, capture_output=True, check=False)
-    holds = ended.returncode == 0 and ended.stdout == b"0 faults\n" and not ended.stderr
-    report.check("wrong calls of the library, rooms of every length and changed packets",
-                 [] if holds else [f"status {ended.returncode}: {ended.stdout!r} {ended.stderr[-2000:]!r}"])
+def check_watched(subject: Subject, report: Report, folder: Path) -> None:
+    """Wrong calls and changed packets, under tools that watch them."""
+    case = subject.root / "tests" / "cases" / "reply-to-a-packet"
+    secret = (case / "secret").read_text().split("\n")[0]
+    words = [secret, case / "policy", subject.root / "tests" / "cases" / "dictionary"]
+    watched.check_calls(subject, report, folder, words, bytes.fromhex((case / "packet").read_text()))
 
 
 def check(subject: Subject, report: Report) -> None:
@@ -160,4 +211,4 @@ def check(subject: Subject, report: Report) -> None:
         check_cases(subject, report, made)
         check_example(subject, report, made)
         check_responder(subject, report, folder)
-        check_wrong_calls(subject, report, folder)
+        check_watched(subject, report, folder)

@@ -1,13 +1,14 @@
 /* Calls the library with rooms of every length, closed and open handles, and changed packets, and says what is not as
  * the header has it.
- * usage: wrong_calls SECRET POLICY DICTIONARY <PACKET (its octets) */
+ * usage: wrong_calls SECRET POLICY DICTIONARY CHANGED <PACKET (its octets)
+ * CHANGED is how many changed packets it tries. */
 #include "radpolicy.h"
 
 #include <stdio.h>
 #include <stdlib.h>
 #include <string.h>
 
-enum { ROOM = 1 << 16, CHANGED = 1000 };
+enum { ROOM = 1 << 16, PAIRS = 1 << 8 };
 
 static int faults;
 
@@ -35,7 +36,20 @@ static uint8_t run(struct radpolicy_policy *policy, struct radpolicy_request *re
     return radpolicy_run(policy, request, outcome, *packet, packet_room, *report, report_room);
 }
 
-static bool is_untouched(const uint8_t *room, size_t length) {
+/* The same by radpolicy_run_pairs. The packet has all the room that it wants. */
+static uint8_t run_pairs(struct radpolicy_policy *policy, struct radpolicy_request *request,
+                         struct radpolicy_lists *lists, size_t pair_room, size_t octet_room,
+                         struct radpolicy_pair **pairs, uint8_t **octets) {
+    static uint8_t packet[4096];
+    *pairs = malloc((pair_room + !pair_room) * sizeof **pairs);
+    *octets = malloc(octet_room + !octet_room);
+    memset(*pairs, 0xa5, pair_room * sizeof **pairs);
+    memset(*octets, 0xa5, octet_room);
+    return radpolicy_run_pairs(policy, request, lists, packet, sizeof packet, *pairs, pair_room, *octets, octet_room);
+}
+
+static bool is_untouched(const void *at, size_t length) {
+    const uint8_t *room = at;
     for (size_t i = 0; i < length; i++)
         if (room[i] != 0xa5)
             return false;
@@ -60,11 +74,65 @@ static void try_rooms(struct radpolicy_policy *policy, struct radpolicy_request 
     }
 }
 
+static bool are_same(const struct radpolicy_pair *some, const struct radpolicy_pair *others, size_t count) {
+    for (size_t i = 0; i < count; i++) {
+        struct radpolicy_pair a = some[i], b = others[i];
+        if (a.value != b.value || a.value_length != b.value_length || a.line != b.line ||
+            a.line_length != b.line_length || a.name_length != b.name_length || a.within != b.within ||
+            a.number != b.number || a.kind != b.kind)
+            return false;
+    }
+    return true;
+}
+
+static size_t count_of(const struct radpolicy_lists *lists) {
+    return lists->request_count + lists->reply_count + lists->control_count;
+}
+
+/* Goes over the report's lines of a list: they are the lines of its pairs. */
+static const char *lines_of(const char *report, const struct radpolicy_pair *pairs, size_t count, const uint8_t *octets) {
+    report = strchr(report, '\n') + 1;
+    for (const struct radpolicy_pair *pair = pairs; pair < pairs + count; pair++) {
+        size_t end = pair->line + pair->line_length, value = pair->line + pair->name_length;
+        wanted(!memcmp(report, "  ", 2) && !memcmp(report + 2, octets + pair->line, pair->line_length) &&
+                   report[2 + pair->line_length] == '\n', "a pair's line", end);
+        wanted(pair->value + pair->value_length == pair->line, "a pair's value", end);
+        wanted(!memcmp(octets + value, " = ", 3), "a pair's name", end);
+        report += pair->line_length + 3;
+    }
+    return report;
+}
+
+static void try_pairs(struct radpolicy_policy *policy, struct radpolicy_request *request, const char *report) {
+    struct radpolicy_lists full, lists;
+    struct radpolicy_pair *all, *pairs;
+    uint8_t *whole, *octets;
+    wanted(run_pairs(policy, request, &full, PAIRS, ROOM, &all, &whole) == RADPOLICY_DONE, "no pairs", 0);
+    const char *reply = lines_of(report, all, full.request_count, whole);
+    const char *control = lines_of(reply, all + full.request_count, full.reply_count, whole);
+    const char *result = lines_of(control, all + full.request_count + full.reply_count, full.control_count, whole);
+    wanted(!strncmp(result, "result ", 7), "other pairs", 0);
+    size_t count = count_of(&full);
+    for (size_t i = 0; i <= count + full.octets_length + 1; i++) {
+        size_t for_pairs = i <= count ? i : count, for_octets = i <= count ? full.octets_length : i - count - 1;
+        bool fits = for_pairs >= count && for_octets >= full.octets_length;
+        uint8_t status = run_pairs(policy, request, &lists, for_pairs, for_octets, &pairs, &octets);
+        wanted(status == (fits ? RADPOLICY_DONE : RADPOLICY_TOO_SHORT), "another status with pairs", i);
+        wanted(count_of(&lists) == count && lists.octets_length == full.octets_length, "other lengths of pairs", i);
+        wanted(fits ? are_same(pairs, all, count) && !memcmp(octets, whole, full.octets_length)
+                    : is_untouched(pairs, for_pairs * sizeof *pairs) && is_untouched(octets, for_octets), "pairs", i);
+        free(pairs);
+        free(octets);
+    }
+    free(all);
+    free(whole);
+}
+
 static void try_changed(struct radpolicy_policy *policy, struct radpolicy_request *request,
-                        struct radpolicy_outcome full, const uint8_t *report) {
+                        struct radpolicy_outcome full, const uint8_t *report, size_t turns) {
     struct radpolicy_slice first = request->octets;
     uint32_t chance = 12345;
-    for (size_t i = 0; i < CHANGED; i++) {
+    for (size_t i = 0; i < turns; i++) {
         uint8_t changed[4096];
         memcpy(changed, first.at, first.length);
         for (int turn = 0; turn < 3; turn++) {
@@ -95,13 +163,17 @@ static void try_closed(struct radpolicy_policy *policy, struct radpolicy_request
     uint8_t *a, *b;
     wanted(run(policy, request, &outcome, 0, 0, &a, &b) == RADPOLICY_IS_CLOSED, "a closed handle is run", 0);
     wanted(outcome.report_length == 0 && outcome.packet_length == 0, "its lengths", 0);
+    struct radpolicy_lists lists;
+    struct radpolicy_pair pair;
+    uint8_t status = radpolicy_run_pairs(policy, request, &lists, a, 0, &pair, 0, b, 0);
+    wanted(status == RADPOLICY_IS_CLOSED && lists.octets_length == 0 && count_of(&lists) == 0, "with pairs", 0);
     wanted(radpolicy_close(policy) == RADPOLICY_IS_CLOSED, "a closed handle is closed", 0);
     free(a);
     free(b);
 }
 
 int main(int count, char **words) {
-    if (count != 4)
+    if (count != 5)
         return 2;
     struct radpolicy_policy policy = RADPOLICY_CLOSED;
     struct radpolicy_slice none = {(const uint8_t *)"", 0}, text = whole(fopen(words[2], "rb"));
@@ -130,7 +202,8 @@ int main(int count, char **words) {
     uint8_t *packet, *report;
     wanted(run(&policy, &request, &full, 4096, ROOM, &packet, &report) == RADPOLICY_DONE, "it does not run", 0);
     try_rooms(&policy, &request, full, packet, report);
-    try_changed(&policy, &request, full, report);
+    try_pairs(&policy, &request, (const char *)report);
+    try_changed(&policy, &request, full, report, strtoul(words[4], NULL, 10));
     wanted(radpolicy_close(&policy) == RADPOLICY_DONE, "it is not closed", 0);
     try_closed(&policy, &request);
     free(packet);

@@ -1,3 +1,5 @@
 pub mod HeldValues
 pub mod LooseValues
 pub mod Opened
+pub mod Records
+pub mod Told

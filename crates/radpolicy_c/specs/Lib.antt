@@ -3,6 +3,7 @@ pub mod Files
 pub mod Held
 pub mod Opening
 pub mod Outcomes
+pub mod Pairs
 pub mod Requests
 pub mod Rooms
 pub mod Runs

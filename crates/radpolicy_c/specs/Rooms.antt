@@ -3,13 +3,13 @@ use Rattle.std.specs.Prelude.{ℕ, Bool, ◌++◌, List, if◌then◌else◌, dr
 use Rattle.radpolicy_c.specs.declared.statuses.Status.{Status}
 use Rattle.radpolicy_c.specs.declared.statuses.Status.TheVariants.{TooShort}
 
--- whether a room is too short for these octets
-abbrev pub is_short : List ℕ → List ℕ → Bool
-is_short room octets = nat_lt (length room) (length octets)
+-- whether a room is too short for these items
+abbrev pub is_short : {X : Type 0} → List X → List X → Bool
+is_short room items = nat_lt (length room) (length items)
 
--- the room with these octets at its front, and the rest as it was
-abbrev pub with_front : List ℕ → List ℕ → List ℕ
-with_front octets room = octets ++ drop (length octets) room
+-- the room with these items at its front, and the rest as it was
+abbrev pub with_front : {X : Type 0} → List X → List X → List X
+with_front items room = items ++ drop (length items) room
 
 -- the room after: with the octets at its front, or as it was where it is too short
 abbrev pub room_told : List ℕ → List ℕ → List ℕ

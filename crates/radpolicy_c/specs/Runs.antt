@@ -9,9 +9,13 @@ use Rattle.radpolicy.specs.declared.faults.Fault.{Fault}
 use Rattle.radpolicy.specs.declared.faults.Fault.TheVariants as fault
 use Rattle.radpolicy.specs.declared.run_outcomes.Reply.{Reply}
 use Rattle.radpolicy.specs.declared.run_outcomes.Reply.TheVariants as reply
+use Rattle.radpolicy_c.specs.Pairs.{no_lists, outcome_lists, outcome_octets}
 use Rattle.radpolicy_c.specs.Requests.{BeginsRun, IsStartRefusal, secret_given}
+use Rattle.radpolicy_c.specs.declared.pairs.ToldLists.{ToldLists}
 use Rattle.radpolicy_c.specs.declared.requests.RadpolicyRequest.{RadpolicyRequest}
 use Rattle.radpolicy_c.specs.declared.runs.Ran.{Ran}
+use Rattle.radpolicy_c.specs.declared.runs.Wanted.{Wanted}
+use Rattle.radpolicy_c.specs.declared.runs.Wanted.TheVariants.{Pairs, Report}
 use Rattle.radpolicy_c.specs.declared.statuses.Status.{Status}
 use Rattle.radpolicy_c.specs.declared.statuses.Status.TheVariants.{Closed, Done, NoMemory, Refused}
 
@@ -31,15 +35,25 @@ abbrev pub packet_of : Reply → List ℕ
 packet_of (reply.Packet octets) = octets
 packet_of _ = []
 
--- what is told of an outcome: its numbers, its packet, and its report as the command `run` prints it
-abbrev pub told_of : RunOutcome → Ran
-told_of outcome = record {
+-- the report as the command `run` prints it, or the octets of the pairs
+abbrev pub text_wanted : Wanted → RunOutcome → List ℕ
+text_wanted Report outcome = (outcome_report outcome).text
+text_wanted Pairs outcome = outcome_octets outcome
+
+abbrev pub lists_wanted : Wanted → RunOutcome → ToldLists
+lists_wanted Report outcome = no_lists
+lists_wanted Pairs outcome = outcome_lists outcome
+
+-- what is told of an outcome: its numbers, its packet, and the text and the lists that are wanted
+abbrev pub told_of : Wanted → RunOutcome → Ran
+told_of wanted outcome = record {
   status = Done;
   code = code_number outcome.end.code;
   sends = sends_number outcome.reply;
   stopped = outcome.end.stopped;
   packet = packet_of outcome.reply;
-  text = (outcome_report outcome).text;
+  text = text_wanted wanted outcome;
+  lists = lists_wanted wanted outcome;
 }
 
 -- a status, with a text
@@ -51,23 +65,24 @@ only_told status text = record {
   stopped = false;
   packet = [];
   text = text;
+  lists = no_lists;
 }
 
 -- the outcome of the run from this start is told
-abbrev pub IsRunFrom : Start → Ran → Type 0
-IsRunFrom start ran =
-    (outcome : RunOutcome) × (outcome_of start ≡ Some outcome) × (ran ≡ told_of outcome)
+abbrev pub IsRunFrom : Wanted → Start → Ran → Type 0
+IsRunFrom wanted start ran =
+    (outcome : RunOutcome) × (outcome_of start ≡ Some outcome) × (ran ≡ told_of wanted outcome)
 
 -- the line of this fault is told
 abbrev pub IsLineOf : Fault → Ran → Type 0
 IsLineOf f ran = ran ≡ only_told Refused (fault_line [] f)
 
 -- what the run from a start tells, by the status
-abbrev pub RunsBegun : Start → Status → Ran → Type 0
-RunsBegun start Done ran = IsRunFrom start ran
-RunsBegun start Refused ran = (outcome_of start ≡ None) × IsLineOf fault.PacketTooLong ran
-RunsBegun start NoMemory ran = ran ≡ only_told NoMemory []
-RunsBegun start _ ran = ⊥
+abbrev pub RunsBegun : Wanted → Start → Status → Ran → Type 0
+RunsBegun wanted start Done ran = IsRunFrom wanted start ran
+RunsBegun wanted start Refused ran = (outcome_of start ≡ None) × IsLineOf fault.PacketTooLong ran
+RunsBegun wanted start NoMemory ran = ran ≡ only_told NoMemory []
+RunsBegun wanted start _ ran = ⊥
 
 -- no run begins, or it comes to nothing since a packet is too long
 abbrev pub IsRefused : Prepared → Option (List ℕ) → RadpolicyRequest → Ran → Type 0
@@ -77,22 +92,25 @@ IsRefused prepared secret asked ran =
     × (outcome_of start ≡ None) × IsLineOf fault.PacketTooLong ran)
 
 -- what a run of the request with this secret tells, by the status
-abbrev pub RunsWith : Prepared → Option (List ℕ) → RadpolicyRequest → Status → Ran → Type 0
-RunsWith prepared secret asked Done ran =
-    (start : Start) × BeginsRun prepared secret asked start × IsRunFrom start ran
-RunsWith prepared secret asked Refused ran = IsRefused prepared secret asked ran
-RunsWith prepared secret asked NoMemory ran = ran ≡ only_told NoMemory []
-RunsWith prepared secret asked _ ran = ⊥
+abbrev pub RunsWith
+    : Wanted → Prepared → Option (List ℕ) → RadpolicyRequest → Status → Ran → Type 0
+RunsWith wanted prepared secret asked Done ran =
+    (start : Start) × BeginsRun prepared secret asked start × IsRunFrom wanted start ran
+RunsWith wanted prepared secret asked Refused ran = IsRefused prepared secret asked ran
+RunsWith wanted prepared secret asked NoMemory ran = ran ≡ only_told NoMemory []
+RunsWith wanted prepared secret asked _ ran = ⊥
 
 -- what a run of the request tells; a secret of no octets is none
-abbrev pub RunsBy : Option (List ℕ) → Prepared → RadpolicyRequest → Ran → Type 0
-RunsBy (Some []) prepared asked ran = IsLineOf fault.EmptySecret ran ⊎ (ran ≡ only_told NoMemory [])
-RunsBy secret prepared asked ran = RunsWith prepared secret asked ran.status ran
+abbrev pub RunsBy
+    : Wanted → Option (List ℕ) → Prepared → RadpolicyRequest → Ran → Type 0
+RunsBy wanted (Some []) prepared asked ran =
+    IsLineOf fault.EmptySecret ran ⊎ (ran ≡ only_told NoMemory [])
+RunsBy wanted secret prepared asked ran = RunsWith wanted prepared secret asked ran.status ran
 
-abbrev pub RunsOpen : Prepared → RadpolicyRequest → Ran → Type 0
-RunsOpen prepared asked ran = RunsBy (secret_given asked) prepared asked ran
+abbrev pub RunsOpen : Wanted → Prepared → RadpolicyRequest → Ran → Type 0
+RunsOpen wanted prepared asked ran = RunsBy wanted (secret_given asked) prepared asked ran
 
--- what a run of the policy that is held tells
-abbrev pub Runs : Option Prepared → RadpolicyRequest → Ran → Type 0
-Runs None asked ran = ran ≡ only_told Closed []
-Runs (Some prepared) asked ran = RunsOpen prepared asked ran
+-- what a run of the policy that is held tells, of which this is wanted
+abbrev pub Runs : Wanted → Option Prepared → RadpolicyRequest → Ran → Type 0
+Runs wanted None asked ran = ran ≡ only_told Closed []
+Runs wanted (Some prepared) asked ran = RunsOpen wanted prepared asked ran

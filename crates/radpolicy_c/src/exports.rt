@@ -4,20 +4,22 @@ ghost use Rattle.std.specs.Prelude.{◌≡◌, None, length, map};
 ghost use Rattle.radpolicy_c.specs.Closing.{closing_status};
 ghost use Rattle.radpolicy_c.specs.Files.{file_given};
 ghost use Rattle.radpolicy_c.specs.Opening.{Opens};
-ghost use Rattle.radpolicy_c.specs.Outcomes.{outcome_told, packet_told, report_told, run_status};
+ghost use Rattle.radpolicy_c.specs.Outcomes.{are_lists_short, lists_status, lists_told, outcome_told, packet_told, report_told, room_after, run_status};
 ghost use Rattle.radpolicy_c.specs.Rooms.{room_told, status_told};
 ghost use Rattle.radpolicy_c.specs.Runs.{Runs};
 ghost use Rattle.radpolicy_c.specs.Statuses.{number_of};
 ghost use Rattle.radpolicy_c.specs.declared.opening.Opening.{Opening};
 ghost use Rattle.radpolicy_c.specs.declared.runs.Ran.{Ran};
+ghost use Rattle.radpolicy_c.specs.declared.runs.Wanted.TheVariants as wanted;
 
 use crate::files::RadpolicyFile;
 use crate::handles::RadpolicyPolicy;
 use crate::lines::tell;
 use crate::opening::open;
-use crate::outcomes::{RadpolicyOutcome, tell_run};
+use crate::outcomes::{RadpolicyLists, RadpolicyOutcome, tell_lists, tell_run};
+use crate::pairs::RadpolicyPair;
 use crate::requests::RadpolicyRequest;
-use crate::runs::run_held;
+use crate::runs::{Wanted, run_held};
 use crate::statuses::Status;
 use std::alloc::Global;
 use std::mem;
@@ -66,12 +68,41 @@ pub extern "C" fn radpolicy_run(
     report: &mut [u8],
 ) -> u8
     ensures kept { policy.new.held.policy ≡ policy.old.held.policy }
-    ensures runs { (ran : Ran) × Runs policy.old.held.policy asked.now ran
+    ensures runs { (ran : Ran)
+        × Runs wanted.Report policy.old.held.policy asked.now ran
         × (result ≡ number_of (run_status ran packet.old report.old))
         × (told.new ≡ outcome_told ran)
         × (packet.new ≡ packet_told ran packet.old report.old)
         × (report.new ≡ report_told ran packet.old report.old) }
 {
-    let ran = run_held(alloc, policy, asked);
+    let ran = run_held(alloc, Wanted::Report, policy, asked);
     tell_run(&ran, told, packet, report).number()
+}
+
+/// Runs the policy that is held on a request, as `radpolicy_run` does, and tells each pair of its lists. The reply packet,
+/// the records of the pairs and the octets to which these point go to the fronts of their rooms.
+#[unsafe(no_mangle)]
+pub extern "C" fn radpolicy_run_pairs(
+    alloc: Global,
+    policy: &mut RadpolicyPolicy,
+    asked: &RadpolicyRequest<'_>,
+    told: &mut RadpolicyLists,
+    packet: &mut [u8],
+    pairs: &mut [RadpolicyPair],
+    octets: &mut [u8],
+) -> u8
+    ensures kept { policy.new.held.policy ≡ policy.old.held.policy }
+    ensures runs { (ran : Ran)
+        × Runs wanted.Pairs policy.old.held.policy asked.now ran
+        × (result ≡ number_of (lists_status ran packet.old pairs.old octets.old))
+        × (told.new ≡ lists_told ran)
+        × (packet.new ≡ room_after (are_lists_short ran packet.old pairs.old octets.old)
+        ran.packet packet.old)
+        × (pairs.new ≡ room_after (are_lists_short ran packet.old pairs.old octets.old)
+        ran.lists.pairs pairs.old)
+        × (octets.new ≡ room_after (are_lists_short ran packet.old pairs.old octets.old)
+        ran.text octets.old) }
+{
+    let ran = run_held(alloc, Wanted::Pairs, policy, asked);
+    tell_lists(&ran, told, packet, pairs, octets).number()
 }

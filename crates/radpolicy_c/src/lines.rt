@@ -48,12 +48,12 @@ pub(crate) fn line_of(alloc: Global, fault: &Fault, files: &FileSet) -> Result<V
     }
 }
 
-/// Puts octets at the front of a room that has place for them. The rest of it stays.
-pub(crate) fn put_front(room: &mut [u8], octets: &[u8])
-    requires { length octets.now ≤ length room.old }
-    ensures { room.new ≡ octets.now ++ drop (length octets.now) room.old }
+/// Puts items at the front of a room that has place for them. The rest of it stays.
+pub(crate) fn put_front<T: Copy>(room: &mut [T], items: &[T])
+    requires { length items.now ≤ length room.old }
+    ensures { room.new ≡ items.now ++ drop (length items.now) room.old }
 {
-    room[..octets.len()].copy_from_slice(octets);
+    room[..items.len()].copy_from_slice(items);
 }
 
 /// Puts octets at the front of a room, and their length beside it. Gives this status, or `TooShort` for a room that is.

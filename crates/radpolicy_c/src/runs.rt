@@ -3,19 +3,30 @@
 ghost use Rattle.std.specs.Prelude.{◌≡◌, [], Some, None, IfOk};
 ghost use Rattle.std.specs.Option.{option_copied};
 ghost use Rattle.radpolicy.specs.Faults.{IsPrintedAnywhere};
-ghost use Rattle.radpolicy_c.specs.Runs.{Runs, RunsBegun, RunsOpen, RunsWith, code_number, only_told, packet_of, sends_number, told_of};
+ghost use Rattle.radpolicy_c.specs.Runs.{Runs, RunsBegun, RunsOpen, RunsWith, code_number, lists_wanted, only_told, packet_of, sends_number, text_wanted, told_of};
 ghost use Rattle.radpolicy_c.specs.internal.Telling.{TellsRunFault};
 
 use crate::handles::RadpolicyPolicy;
 use crate::lines::line_of;
+use crate::pairs::{ToldLists, lists_of};
 use crate::requests::{RadpolicyRequest, start_for};
 use crate::statuses::Status;
-use avp_dict::FileSet;
+use avp_dict::{Dictionary, FileSet};
+use avp_forms::Profile;
 use avp_lists::Octets;
 use avp_unlang::Code;
 use radpolicy::{Fault, OwnedPolicy, PreparedPolicy, Reply, RunOutcome, Secret, Start};
 use std::alloc::{AllocError, Global};
 use std::mem;
+
+/// What is wanted of the lists of a run.
+#[derive(Clone, Copy, Debug, PartialEq, Eq)]
+pub enum Wanted {
+    /// The report, as the command `run` prints it.
+    Report,
+    /// The pairs one by one.
+    Pairs,
+}
 
 /// What a run tells.
 #[derive(Debug, Drop)]
@@ -28,8 +39,10 @@ pub struct Ran {
     pub stopped: bool,
     /// The octets of the packet that is sent.
     pub packet: Octets,
-    /// The report of the run, as the command `run` prints it, or the line of the fault.
+    /// The report of the run, or the octets of its pairs, or the line of the fault.
     pub text: Octets,
+    /// The pairs, where they are wanted.
+    pub lists: ToldLists,
 }
 
 fn code_number(code: Code) -> u8
@@ -74,21 +87,53 @@ fn only_told(alloc: Global, status: Status, text: Vec<u8>) -> Ran
         stopped: false,
         packet: Octets::from_vec(Vec::new(alloc)),
         text: Octets::from_vec(text),
+        lists: ToldLists::none(alloc),
     }
 }
 
-fn told_of(alloc: Global, outcome: &RunOutcome<'_>) -> Result<Ran, AllocError>
-    ensures { IfOk result (λ ran. ran ≡ told_of outcome.now) }
+// The text and the lists that are wanted of an outcome.
+fn wanted_of(
+    alloc: Global,
+    wanted: Wanted,
+    dictionary: &Dictionary,
+    profile: Profile,
+    outcome: &RunOutcome<'_>,
+) -> Result<(Octets, ToldLists), AllocError>
+    requires dictionary { outcome.now.dictionary ≡ dictionary.now }
+    requires profile { outcome.now.profile ≡ profile }
+    ensures text { IfOk result (λ told. told.0 ≡ text_wanted wanted outcome.now) }
+    ensures lists { IfOk result (λ told. told.1 ≡ lists_wanted wanted outcome.now) }
 {
-    let text = outcome.text(alloc)?;
+    match wanted {
+        Wanted::Report => {
+            let text = outcome.text(alloc)?;
+            Ok((Octets::from_vec(text), ToldLists::none(alloc)))
+        }
+        Wanted::Pairs => lists_of(alloc, dictionary, profile, outcome),
+    }
+}
+
+fn told_of(
+    alloc: Global,
+    wanted: Wanted,
+    dictionary: &Dictionary,
+    profile: Profile,
+    outcome: &RunOutcome<'_>,
+) -> Result<Ran, AllocError>
+    requires dictionary { outcome.now.dictionary ≡ dictionary.now }
+    requires profile { outcome.now.profile ≡ profile }
+    ensures { IfOk result (λ ran. ran ≡ told_of wanted outcome.now) }
+{
     let packet = packet_of(alloc, outcome.reply())?;
+    let (text, lists) = wanted_of(alloc, wanted, dictionary, profile, outcome)?;
     Ok(Ran {
         status: Status::Done,
         code: code_number(outcome.code()),
         sends: sends_number(outcome.reply()),
         stopped: outcome.stopped(),
         packet,
-        text: Octets::from_vec(text),
+        text,
+        lists,
     })
 }
 
@@ -108,11 +153,13 @@ fn refusal(alloc: Global, fault: &Fault) -> Ran
 }
 
 // The run from its start.
-fn run_begun(alloc: Global, start: Start<'_>) -> Ran
-    ensures { RunsBegun start.entry result.status result }
+fn run_begun(alloc: Global, wanted: Wanted, start: Start<'_>) -> Ran
+    ensures { RunsBegun wanted start.entry result.status result }
 {
+    let dictionary = start.dictionary();
+    let profile = start.profile();
     match start.run(alloc) {
-        Ok(outcome) => match told_of(alloc, &outcome) {
+        Ok(outcome) => match told_of(alloc, wanted, dictionary, profile, &outcome) {
             Ok(ran) => ran,
             Err(_) => only_told(alloc, Status::NoMemory, Vec::new(alloc)),
         },
@@ -123,29 +170,30 @@ fn run_begun(alloc: Global, start: Start<'_>) -> Ran
 // The run with the secret that was given.
 fn run_with<'a>(
     alloc: Global,
+    wanted: Wanted,
     prepared: &'a PreparedPolicy<'a>,
     secret: Option<&'a Secret<'a>>,
     asked: &RadpolicyRequest<'_>,
 ) -> Ran
-    ensures { RunsWith prepared.entry.now (option_copied secret.entry) asked.now
+    ensures { RunsWith wanted prepared.entry.now (option_copied secret.entry) asked.now
         result.status result }
 {
     match start_for(alloc, prepared, secret, asked) {
-        Ok(start) => run_begun(alloc, start),
+        Ok(start) => run_begun(alloc, wanted, start),
         Err(fault) => refusal(alloc, &fault),
     }
 }
 
 // The run of a policy on a request.
-fn run(alloc: Global, policy: &OwnedPolicy, asked: &RadpolicyRequest<'_>) -> Ran
-    ensures { RunsOpen policy.now asked.now result }
+fn run(alloc: Global, wanted: Wanted, policy: &OwnedPolicy, asked: &RadpolicyRequest<'_>) -> Ran
+    ensures { RunsOpen wanted policy.now asked.now result }
 {
     let prepared = policy.prepared();
     if !asked.has_secret {
-        return run_with(alloc, &prepared, None, asked);
+        return run_with(alloc, wanted, &prepared, None, asked);
     }
     match Secret::new(asked.secret) {
-        Ok(secret) => run_with(alloc, &prepared, Some(&secret), asked),
+        Ok(secret) => run_with(alloc, wanted, &prepared, Some(&secret), asked),
         Err(fault) => refusal(alloc, &fault),
     }
 }
@@ -153,15 +201,16 @@ fn run(alloc: Global, policy: &OwnedPolicy, asked: &RadpolicyRequest<'_>) -> Ran
 /// The run of the policy that is held.
 pub(crate) fn run_held(
     alloc: Global,
+    wanted: Wanted,
     policy: &mut RadpolicyPolicy,
     asked: &RadpolicyRequest<'_>,
 ) -> Ran
-    ensures runs { Runs policy.old.held.policy asked.now result }
+    ensures runs { Runs wanted policy.old.held.policy asked.now result }
     ensures kept { policy.new.held.policy ≡ policy.old.held.policy }
 {
     match mem::replace(policy, RadpolicyPolicy::closed()).into_box(alloc) {
         Some(owned) => {
-            let ran = run(alloc, &owned, asked);
+            let ran = run(alloc, wanted, &owned, asked);
             mem::replace(policy, RadpolicyPolicy::of(owned)).end();
             ran
         }

@@ -1,0 +1,45 @@
+"""Wrong calls of the library for C, changed packets and threads, under tools that watch them: valgrind's memcheck and
+helgrind, and the compiler's sanitizers. What is not installed is left out, and a line says so."""
+import re
+import shutil
+import subprocess
+from pathlib import Path
+from typing import List
+
+from common.report import Report
+from common.subject import Subject
+from library.building import program
+
+MEMCHECK = ["valgrind", "--quiet", "--error-exitcode=9", "--leak-check=full", "--show-leak-kinds=all",
+            "--errors-for-leak-kinds=all"]
+HELGRIND = ["valgrind", "--quiet", "--tool=helgrind", "--error-exitcode=9"]
+SANITIZERS = ["-fsanitize=address,undefined", "-fno-sanitize-recover=all"]
+UNLIMITED = ["sh", "-c", 'ulimit -S -v "$(ulimit -H -v)"; exec "$@"', "sh"]  # sanitizers map more than tests/run allows
+SECONDS, MINUTE = 3, 60
+CHANGED = 10000
+
+
+def has_valgrind(report: Report, what: str) -> bool:
+    """Says what is not watched where there is no valgrind."""
+    if shutil.which("valgrind") is None:
+        report.say(f"{what}: not watched, there is no valgrind")
+        return False
+    return True
+
+
+def check_output(report: Report, what: str, words: List, packet: bytes, output: bytes) -> None:
+    """The output of a program that meets no fault, and nothing of a tool that watches it."""
+    ended = subprocess.run(words, input=packet, capture_output=True, check=False)
+    holds = ended.returncode == 0 and re.fullmatch(output, ended.stdout) and not ended.stderr
+    report.check(what, [] if holds else [f"status {ended.returncode}: {ended.stdout!r} {ended.stderr[-2000:]!r}"])
+
+
+def check_calls(subject: Subject, report: Report, folder: Path, words: List, packet: bytes) -> None:
+    """Rooms of every length, closed handles and changed packets."""
+    what = "wrong calls of the library, rooms of every length and changed packets"
+    made = program(subject, folder, "tests/library/wrong_calls.c")
+    watched = MEMCHECK if has_valgrind(report, "the library's use of memory") else []
+    check_output(report, what, [*watched, made, *words, str(CHANGED)], packet, rb"0 faults\n")
+    made = program(subject, folder, "tests/library/wrong_calls.c", *SANITIZERS)
+    check_output(report, f"{what}, by the compiler's sanitizers", [*UNLIMITED, made, *words, str(CHANGED)], packet,
+                 rb"0 faults\n")
