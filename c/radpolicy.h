@@ -5,16 +5,19 @@
  *     status = radpolicy_run(&policy, &request, &outcome, packet, packet_room, report, report_room);
  *     status = radpolicy_run_pairs(&policy, &request, &lists, packet, packet_room, pairs, pair_room, octets,
  *                                  octet_room);
+ *     status = radpolicy_share(&policy, &other);
  *     radpolicy_close(&policy);
  *
  * What the caller keeps
  * - No pointer is null, also where its length is 0: point at any octet then. An array may be of length 0.
  * - What a pointer points at is there during the call alone. All that is to last is copied, and all that is copied is
  *   given back by radpolicy_close. The caller frees what the caller made.
- * - The rooms, the outcome or the lists and the handle of one call do not overlap one another or what the call reads.
+ * - The rooms, the outcome or the lists and the handles of one call do not overlap one another or what the call reads.
  * - A handle begins as RADPOLICY_CLOSED. The caller does not look into it or change it, and uses no copy of it: once
  *   one copy was closed, using another is as wrong as using memory that was freed.
- * - A handle is used by one call at a time, and by the thread that opened it. Each thread opens a handle of its own.
+ * - A handle is used by one call at a time. It goes to another thread by that thread's start or end, by a lock, or by a
+ *   sequentially consistent atomic. radpolicy_share makes handles of one policy for several threads: calls with
+ *   different handles may run at the same time, and each handle is closed by itself, in any order.
  * - A call is not made from a signal handler, nor in the child of a process that had threads.
  *
  * The library opens no file, no socket and no process, starts no thread, writes nowhere but in the caller's rooms, and
@@ -76,7 +79,14 @@ struct radpolicy_file {
 uint8_t radpolicy_open(struct radpolicy_policy *policy, const struct radpolicy_file *files, size_t file_count,
                        const uint8_t *text, size_t text_length, uint8_t *room, size_t room_length, size_t *told);
 
-/* Gives the policy's memory back and leaves a closed handle. RADPOLICY_DONE, RADPOLICY_IS_CLOSED. */
+/* Gives the other handle, which is closed, the policy that the first one holds. It is not copied: its memory is given
+ * back with the last handle that holds it.
+ *
+ * RADPOLICY_DONE, RADPOLICY_NO_MEMORY, RADPOLICY_IS_CLOSED (the first one holds no policy), RADPOLICY_IS_OPEN (the other
+ * one holds a policy already, and keeps it). */
+uint8_t radpolicy_share(struct radpolicy_policy *policy, struct radpolicy_policy *other);
+
+/* Gives up the policy and leaves a closed handle. RADPOLICY_DONE, RADPOLICY_IS_CLOSED. */
 uint8_t radpolicy_close(struct radpolicy_policy *policy);
 
 /* How a request is given. */

@@ -18,7 +18,7 @@ from common.subject import Subject, new_folder
 from library import watched
 from library.building import missing, program, shared_library
 
-EXPORTED = ["radpolicy_close", "radpolicy_open", "radpolicy_run", "radpolicy_run_pairs"]
+EXPORTED = ["radpolicy_close", "radpolicy_open", "radpolicy_run", "radpolicy_run_pairs", "radpolicy_share"]
 CLIENT = "radclient"
 SECRET = "testing123"
 POLICY = 'update reply { Reply-Message := "hello" }\nif (&User-Name == "eve") { reject }\n'
@@ -177,6 +177,9 @@ def check_responder(subject: Subject, report: Report, folder: Path) -> None:
     made = program(subject, folder, "examples/c/responder.c")
     (folder / "policy").write_text(POLICY)
     words = [made, "0", SECRET, folder / "policy", *sorted((subject.root / "dictionaries").glob("dictionary*"))]
+    log = folder / "memcheck"
+    if watched.has_valgrind(report, "the example in C"):
+        words = ["valgrind", "--quiet", f"--log-file={log}", *words]
     with subprocess.Popen(words, stdout=subprocess.PIPE, text=True) as responder:
         try:
             port = responder.stdout.readline().split()[1]
@@ -187,14 +190,8 @@ def check_responder(subject: Subject, report: Report, folder: Path) -> None:
                 report.check(f"FreeRADIUS's client and the example in C: {verdict}", [] if holds else [ended.stdout])
         finally:
             responder.kill()
-
-
-def check_watched(subject: Subject, report: Report, folder: Path) -> None:
-    """Wrong calls and changed packets, under tools that watch them."""
-    case = subject.root / "tests" / "cases" / "reply-to-a-packet"
-    secret = (case / "secret").read_text().split("\n")[0]
-    words = [secret, case / "policy", subject.root / "tests" / "cases" / "dictionary"]
-    watched.check_calls(subject, report, folder, words, bytes.fromhex((case / "packet").read_text()))
+    said = log.read_text() if log.exists() else ""
+    report.check("the example in C uses memory rightly", [said] if said else [])
 
 
 def check(subject: Subject, report: Report) -> None:
@@ -211,4 +208,6 @@ def check(subject: Subject, report: Report) -> None:
         check_cases(subject, report, made)
         check_example(subject, report, made)
         check_responder(subject, report, folder)
-        check_watched(subject, report, folder)
+        words, packet = watched.case_of_a_packet(subject)
+        watched.check_calls(subject, report, folder, words, packet)
+        watched.check_threads(subject, report, folder, words, packet)

@@ -4,11 +4,11 @@ import re
 import shutil
 import subprocess
 from pathlib import Path
-from typing import List
+from typing import List, Tuple
 
 from common.report import Report
-from common.subject import Subject
-from library.building import program
+from common.subject import Subject, new_folder
+from library.building import missing, program
 
 MEMCHECK = ["valgrind", "--quiet", "--error-exitcode=9", "--leak-check=full", "--show-leak-kinds=all",
             "--errors-for-leak-kinds=all"]
@@ -34,6 +34,14 @@ def check_output(report: Report, what: str, words: List, packet: bytes, output: 
     report.check(what, [] if holds else [f"status {ended.returncode}: {ended.stdout!r} {ended.stderr[-2000:]!r}"])
 
 
+def case_of_a_packet(subject: Subject) -> Tuple[List, bytes]:
+    """The secret, the policy and the dictionary of a case, and its packet."""
+    folder = subject.root / "tests" / "cases" / "reply-to-a-packet"
+    secret = (folder / "secret").read_text().split("\n")[0]
+    words = [secret, folder / "policy", subject.root / "tests" / "cases" / "dictionary"]
+    return words, bytes.fromhex((folder / "packet").read_text())
+
+
 def check_calls(subject: Subject, report: Report, folder: Path, words: List, packet: bytes) -> None:
     """Rooms of every length, closed handles and changed packets."""
     what = "wrong calls of the library, rooms of every length and changed packets"
@@ -43,3 +51,24 @@ def check_calls(subject: Subject, report: Report, folder: Path, words: List, pac
     made = program(subject, folder, "tests/library/wrong_calls.c", *SANITIZERS)
     check_output(report, f"{what}, by the compiler's sanitizers", [*UNLIMITED, made, *words, str(CHANGED)], packet,
                  rb"0 faults\n")
+
+
+def check_threads(subject: Subject, report: Report, folder: Path, words: List, packet: bytes,
+                  seconds: int = SECONDS) -> None:
+    """Eight threads on one policy, each by handles of its own, which they close in the order in which they come to it."""
+    what, output = f"eight threads on one policy for {seconds} s", rb"[1-9]\d* runs, 0 faults\n"
+    made = program(subject, folder, "tests/library/threads.c", "-pthread")
+    check_output(report, what, [made, str(seconds), *words], packet, output)
+    if has_valgrind(report, "the library's threads"):
+        check_output(report, f"{what}, by helgrind", [*HELGRIND, made, str(seconds), *words], packet, output)
+        check_output(report, f"{what}, by memcheck", [*MEMCHECK, made, str(seconds), *words], packet, output)
+
+
+def check_minute(subject: Subject, report: Report) -> None:
+    """The threads for a minute."""
+    absent = missing(subject)
+    if absent:
+        report.say(f"the library for C: not tried, {absent}")
+        return
+    with new_folder() as folder:
+        check_threads(subject, report, folder, *case_of_a_packet(subject), MINUTE)

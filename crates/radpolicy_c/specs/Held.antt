@@ -5,7 +5,7 @@ use denote.RawPtr.{Ptr}
 use Rattle.std.specs.Box.Ownership.{box_owns}
 use Rattle.std.specs.contracts.impls.GlobalAllocator.TheImpl.{ghosts}
 use Rattle.radpolicy.specs.Starts.{Prepared}
-use Rattle.radpolicy.specs.contracts.prepared.OwnedPolicy.{the_row}
+use Rattle.radpolicy_c.specs.contracts.shared.SharedPolicy.{the_row}
 
 -- the policy in a block of its own, with the right to free the block; nothing where there is none
 abbrev pub held_at : Ptr → Option Prepared → Fml

@@ -7,5 +7,6 @@ pub mod Pairs
 pub mod Requests
 pub mod Rooms
 pub mod Runs
+pub mod Sharing
 pub mod Statuses
 pub mod internal

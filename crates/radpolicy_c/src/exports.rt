@@ -7,9 +7,11 @@ ghost use Rattle.radpolicy_c.specs.Opening.{Opens};
 ghost use Rattle.radpolicy_c.specs.Outcomes.{are_lists_short, lists_status, lists_told, outcome_told, packet_told, report_told, room_after, run_status};
 ghost use Rattle.radpolicy_c.specs.Rooms.{room_told, status_told};
 ghost use Rattle.radpolicy_c.specs.Runs.{Runs};
+ghost use Rattle.radpolicy_c.specs.Sharing.{SharesBy};
 ghost use Rattle.radpolicy_c.specs.Statuses.{number_of};
 ghost use Rattle.radpolicy_c.specs.declared.opening.Opening.{Opening};
 ghost use Rattle.radpolicy_c.specs.declared.runs.Ran.{Ran};
+ghost use Rattle.radpolicy_c.specs.declared.statuses.Status.{Status as Ending};
 ghost use Rattle.radpolicy_c.specs.declared.runs.Wanted.TheVariants as wanted;
 
 use crate::files::RadpolicyFile;
@@ -42,6 +44,20 @@ pub extern "C" fn radpolicy_open(
 {
     let opening = open(alloc, policy, files, text);
     tell(opening.status, opening.line.as_slice(), room, told).number()
+}
+
+/// Gives another handle the policy that this one holds. Each is closed by itself, in any order and by any thread.
+#[unsafe(no_mangle)]
+pub extern "C" fn radpolicy_share(
+    alloc: Global,
+    policy: &mut RadpolicyPolicy,
+    other: &mut RadpolicyPolicy,
+) -> u8
+    ensures kept { policy.new.held.policy ≡ policy.old.held.policy }
+    ensures shares { (status : Ending) × SharesBy status policy.old.held.policy
+        other.old.held.policy other.new.held.policy × (result ≡ number_of status) }
+{
+    policy.share(alloc, other).number()
 }
 
 /// Closes a policy: gives its memory back, and leaves a handle that holds none.

@@ -1,11 +1,14 @@
 //! The handle that C keeps for a policy.
 
-ghost use Rattle.std.specs.Prelude.{◌≡◌, None, Some, MatchOption, is_some};
+ghost use Rattle.std.specs.Prelude.{◌≡◌, None, Some, IfOk, MatchOption, is_some};
+ghost use Rattle.radpolicy_c.specs.Sharing.{SharesBy};
 
 use crate::held::Held;
 use crate::loose::Loose;
-use radpolicy::OwnedPolicy;
-use std::alloc::Global;
+use crate::shared::SharedPolicy;
+use crate::statuses::Status;
+use std::alloc::{AllocError, Global};
+use std::mem;
 
 /// A policy with its dictionary, or none. C begins with one of zeros, which holds none.
 // A copy in C of a handle that was closed since is C's fault, as a pointer that was freed is.
@@ -27,10 +30,11 @@ impl RadpolicyPolicy {
         }
     }
 
-    /// A handle that holds this policy.
-    pub(crate) fn of(policy: Box<OwnedPolicy>) -> RadpolicyPolicy
+    /// A handle that holds this policy. C may give it to another thread, since the policy may be given to one.
+    pub(crate) fn of(policy: Box<SharedPolicy>) -> RadpolicyPolicy
         ensures { result.held.policy ≡ Some policy.value }
     {
+        may_cross(&policy);
         RadpolicyPolicy {
             held: Held::of(Loose::of(policy)),
             is_open: true,
@@ -46,7 +50,7 @@ impl RadpolicyPolicy {
     }
 
     /// The policy that it holds.
-    pub(crate) fn into_box(self, alloc: Global) -> Option<Box<OwnedPolicy>>
+    pub(crate) fn into_box(self, alloc: Global) -> Option<Box<SharedPolicy>>
         ensures { MatchOption result (self.held.policy ≡ None)
             (λ policy. self.held.policy ≡ Some policy.value) }
     {
@@ -58,4 +62,46 @@ impl RadpolicyPolicy {
             None
         }
     }
+
+    /// Gives another handle the policy that this one holds.
+    pub(crate) fn share(&mut self, alloc: Global, other: &mut RadpolicyPolicy) -> Status
+        ensures kept { self.new.held.policy ≡ self.old.held.policy }
+        ensures shares { SharesBy result self.old.held.policy other.old.held.policy
+            other.new.held.policy }
+    {
+        match mem::replace(self, RadpolicyPolicy::closed()).into_box(alloc) {
+            Some(policy) => {
+                let status = other.take_share(alloc, &policy);
+                mem::replace(self, RadpolicyPolicy::of(policy)).end();
+                status
+            }
+            None => Status::Closed,
+        }
+    }
+
+    // Takes a share of this policy, where it holds none yet.
+    fn take_share(&mut self, alloc: Global, policy: &SharedPolicy) -> Status
+        ensures { SharesBy result (Some policy.now) self.old.held.policy self.new.held.policy }
+    {
+        if self.is_open {
+            return Status::AlreadyOpen;
+        }
+        match boxed_share(alloc, policy) {
+            Ok(shared) => {
+                mem::replace(self, RadpolicyPolicy::of(shared)).end();
+                Status::Done
+            }
+            Err(_) => Status::NoMemory,
+        }
+    }
 }
+
+fn boxed_share(alloc: Global, policy: &SharedPolicy) -> Result<Box<SharedPolicy>, AllocError>
+    ensures { IfOk result (λ shared. shared.value ≡ policy.now) }
+{
+    let shared = policy.share()?;
+    Ok(Box::new(alloc, shared)?)
+}
+
+// Where it is called, another thread may have the value.
+fn may_cross<T: Send>(_value: &T) {}

@@ -7,7 +7,7 @@ ghost use Rattle.radpolicy.specs.Starts.{Prepared};
 ghost use Rattle.radpolicy_c.specs.Held.{held_at};
 
 use crate::loose::Loose;
-use radpolicy::OwnedPolicy;
+use crate::shared::SharedPolicy;
 use std::alloc::Global;
 use std::marker::Model;
 use std::ptr;
@@ -40,20 +40,20 @@ impl Held {
         let Held { at: _ } = self;
     }
 
-    pub(crate) fn of(policy: Loose<OwnedPolicy, Global>) -> Held
+    pub(crate) fn of(policy: Loose<SharedPolicy, Global>) -> Held
         ensures { result.policy ≡ Some policy.value }
     {
         let Loose { at, alloc: _ } = policy;
         Held { at: at as *mut u8 }
     }
 
-    pub(crate) fn into_loose(self, alloc: Global) -> Loose<OwnedPolicy, Global>
+    pub(crate) fn into_loose(self, alloc: Global) -> Loose<SharedPolicy, Global>
         requires { self.policy ≢ None }
         ensures { self.policy ≡ Some result.value }
     {
         let Held { at } = self;
         Loose {
-            at: at as *mut OwnedPolicy,
+            at: at as *mut SharedPolicy,
             alloc,
         }
     }

@@ -12,9 +12,12 @@ mod outcomes;
 mod pairs;
 mod requests;
 mod runs;
+mod shared;
 mod statuses;
 
-pub use exports::{radpolicy_close, radpolicy_open, radpolicy_run, radpolicy_run_pairs};
+pub use exports::{
+    radpolicy_close, radpolicy_open, radpolicy_run, radpolicy_run_pairs, radpolicy_share,
+};
 pub use files::RadpolicyFile;
 pub use handles::RadpolicyPolicy;
 pub use held::Held;
@@ -23,4 +26,5 @@ pub use outcomes::{RadpolicyLists, RadpolicyOutcome};
 pub use pairs::{RadpolicyPair, ToldLists, ToldPairs};
 pub use requests::RadpolicyRequest;
 pub use runs::{Ran, Wanted};
+pub use shared::SharedPolicy;
 pub use statuses::Status;

@@ -10,11 +10,12 @@ ghost use Rattle.radpolicy_c.specs.internal.Telling.{TellsFault};
 use crate::files::{RadpolicyFile, file_set_of};
 use crate::handles::RadpolicyPolicy;
 use crate::lines::line_of;
+use crate::shared::SharedPolicy;
 use crate::statuses::Status;
 use avp_dict::{Dictionary, FileSet};
 use avp_lists::Octets;
 use radpolicy::{Fault, OwnedPolicy};
-use std::alloc::Global;
+use std::alloc::{AllocError, Global};
 use std::mem;
 
 /// What the opening of a policy tells: its status, and the line of a fault.
@@ -81,13 +82,24 @@ fn refusal(alloc: Global, fault: &Fault, files: &FileSet) -> Opening
     }
 }
 
+fn boxed(alloc: Global, policy: OwnedPolicy) -> Result<Box<SharedPolicy>, AllocError>
+    ensures { IfOk result (λ boxed. boxed.value ≡ policy) }
+{
+    let shared = SharedPolicy::new(alloc, policy)?;
+    Ok(Box::new(alloc, shared)?)
+}
+
 // The policy in a box, or what is told of its refusal.
-fn boxed_policy_of(alloc: Global, files: &FileSet, text: &[u8]) -> Result<Box<OwnedPolicy>, Opening>
+fn boxed_policy_of(
+    alloc: Global,
+    files: &FileSet,
+    text: &[u8],
+) -> Result<Box<SharedPolicy>, Opening>
     ensures ok { IfOk result (λ policy. IsOpenedFrom files.now text.now policy.value) }
     ensures refused { IfErr result (λ opening. Opens None files.now text.now opening None) }
 {
     match policy_of(alloc, files, text) {
-        Ok(policy) => match Box::new(alloc, policy) {
+        Ok(policy) => match boxed(alloc, policy) {
             Ok(policy) => Ok(policy),
             Err(_) => Err(nothing_told(alloc, Status::NoMemory)),
         },
@@ -100,7 +112,7 @@ fn opened(
     alloc: Global,
     files: &[RadpolicyFile<'_>],
     text: &[u8],
-) -> Result<Box<OwnedPolicy>, Opening>
+) -> Result<Box<SharedPolicy>, Opening>
     ensures ok { IfOk result (λ policy.
         IsOpenedFrom (map file_given files.now) text.now policy.value) }
     ensures refused { IfErr result (λ opening.

@@ -209,9 +209,9 @@ pub(crate) fn run_held(
     ensures kept { policy.new.held.policy ≡ policy.old.held.policy }
 {
     match mem::replace(policy, RadpolicyPolicy::closed()).into_box(alloc) {
-        Some(owned) => {
-            let ran = run(alloc, wanted, &owned, asked);
-            mem::replace(policy, RadpolicyPolicy::of(owned)).end();
+        Some(shared) => {
+            let ran = run(alloc, wanted, shared.policy(), asked);
+            mem::replace(policy, RadpolicyPolicy::of(shared)).end();
             ran
         }
         None => only_told(alloc, Status::Closed, Vec::new(alloc)),

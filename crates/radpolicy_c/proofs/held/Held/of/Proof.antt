@@ -20,7 +20,7 @@ use Rattle.std.proofs.raw_atomic.Walks.{proved_at, leaves}
 use Rattle.std.proofs.alloc.Global.TheLaws as heap_laws
 use Rattle.std.specs.contracts.alloc.Global as heap
 use Rattle.std.specs.contracts.impls.GlobalAllocator.TheImpl.{ghosts}
-use Rattle.radpolicy.specs.contracts.prepared.OwnedPolicy as owned
+use Rattle.radpolicy_c.specs.contracts.shared.SharedPolicy as shared
 use Rattle.radpolicy_c.proofs.LooseValues.{both, Loose, loose_good, loose_out}
 use Rattle.radpolicy_c.proofs.HeldValues.{word, held_in}
 use Rattle.radpolicy_c.specs.contracts.held.Held.of as f
@@ -31,7 +31,7 @@ use Rattle.radpolicy_c.proofs.held.Held.of.Code as code
 pub of_spec : {M : Type 1} → statement M
 of_spec 𝓤 𝓛 𝓜 𝓡 wired =
     let H = 𝓛.H in let 𝓣 = tables 𝓤 H 𝓜 𝓡 𝓡.env in let c = f.clauses 𝓛 𝓜.mem 𝓡.returns in let fn = code.function in
-    let R = owned.the_row in let Z = heap.the_row in let LZ = heap_laws.the_row_laws in let Row = Loose R Z LZ ghosts in
+    let R = shared.the_row in let Z = heap.the_row in let LZ = heap_laws.the_row_laws in let Row = Loose R Z LZ ghosts in
     let hs : Stays f.ended.signature.params f.ended.kept = (stay_dropped (plain (λ _. Row)) yes, tt) in
     proved_at 𝓛 f.ended hs c 𝓜 𝓡 (Goes-dropped 𝓛 0 (plain (λ _. Row)) yes (λ κs x w. refl), tt) #self fn (code.unfolded 𝓤 H 𝓜 𝓡 wired) (λ z are.
     let v = z.0.3.0 in let Post : Val → SProp 𝓤 = (walk_of 𝓛 f.ended hs c).post z in let Run : List Val → SProp 𝓤 = λ ws. WpFn 𝓤 H 𝓣.C 𝓣.Λ fn ws Post in
