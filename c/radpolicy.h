@@ -11,7 +11,7 @@
  * What the caller keeps
  * - No pointer is null, also where its length is 0: point at any octet then. An array may be of length 0.
  * - What a pointer points at is there during the call alone. All that is to last is copied, and all that is copied is
- *   given back by radpolicy_close. The caller frees what the caller made.
+ *   given back by radpolicy_close, of the last handle that holds it. The caller frees what the caller made.
  * - The rooms, the outcome or the lists and the handles of one call do not overlap one another or what the call reads.
  * - A handle begins as RADPOLICY_CLOSED. The caller does not look into it or change it, and uses no copy of it: once
  *   one copy was closed, using another is as wrong as using memory that was freed.
@@ -82,8 +82,8 @@ uint8_t radpolicy_open(struct radpolicy_policy *policy, const struct radpolicy_f
 /* Gives the other handle, which is closed, the policy that the first one holds. It is not copied: its memory is given
  * back with the last handle that holds it.
  *
- * RADPOLICY_DONE, RADPOLICY_NO_MEMORY, RADPOLICY_IS_CLOSED (the first one holds no policy), RADPOLICY_IS_OPEN (the other
- * one holds a policy already, and keeps it). */
+ * RADPOLICY_DONE, RADPOLICY_NO_MEMORY, RADPOLICY_IS_CLOSED (the first one holds no policy), RADPOLICY_IS_OPEN (the
+ * other one holds a policy already, and keeps it). */
 uint8_t radpolicy_share(struct radpolicy_policy *policy, struct radpolicy_policy *other);
 
 /* Gives up the policy and leaves a closed handle. RADPOLICY_DONE, RADPOLICY_IS_CLOSED. */
@@ -190,6 +190,41 @@ struct radpolicy_lists {
 uint8_t radpolicy_run_pairs(struct radpolicy_policy *policy, const struct radpolicy_request *request,
                             struct radpolicy_lists *lists, uint8_t *packet, size_t packet_room,
                             struct radpolicy_pair *pairs, size_t pair_room, uint8_t *octets, size_t octet_room);
+
+/* What a job does: the commands of the program. */
+enum radpolicy_command {
+    RADPOLICY_RUN = 0,
+    RADPOLICY_STEP = 1,
+    RADPOLICY_ENCODE = 2,
+    RADPOLICY_DECODE = 3,
+    RADPOLICY_CHECK = 4,
+};
+
+/* A whole job, as a command line of the program with what is in its files. What goes together, and what a command wants,
+ * is as it is there; any other job is refused as an option's value (E02). A slice that is not given is of length 0. */
+struct radpolicy_job {
+    const struct radpolicy_file *files; /* the dictionary files, the main file first */
+    size_t file_count;
+    struct radpolicy_slice request; /* lines, or a packet in hexadecimal digits */
+    struct radpolicy_slice secret;  /* a file whose first line is the secret, where has_secret */
+    struct radpolicy_slice policy;  /* where has_policy */
+    struct radpolicy_slice script;  /* the moves of a walk, where has_script */
+    uint8_t authenticator[16];      /* the Request Authenticator, where has_authenticator */
+    uint8_t command;                /* enum radpolicy_command; any other is refused (E02) */
+    uint8_t form;                   /* enum radpolicy_form; to decode it is RADPOLICY_PACKET */
+    uint8_t identifier;             /* 0 where none is given */
+    bool has_authenticator;
+    bool has_secret;
+    bool has_policy;
+    bool has_script;
+};
+
+/* Does a whole job: what the program prints goes into the room. It reads the dictionary each time, and so it is slow
+ * beside radpolicy_run: it is for those who want the program's behaviour.
+ *
+ * RADPOLICY_DONE (the room has the report), RADPOLICY_REFUSED (it has the line of the fault), RADPOLICY_NO_MEMORY,
+ * RADPOLICY_TOO_SHORT. *told becomes the length of what is told. */
+uint8_t radpolicy_answer(const struct radpolicy_job *job, uint8_t *room, size_t room_length, size_t *told);
 
 #ifdef __cplusplus
 }

@@ -15,10 +15,11 @@ from common.cases import Case, cases_below
 from common.program import run
 from common.report import Report
 from common.subject import Subject, new_folder
-from library import watched
+from library import jobs, watched
 from library.building import missing, program, shared_library
 
-EXPORTED = ["radpolicy_close", "radpolicy_open", "radpolicy_run", "radpolicy_run_pairs", "radpolicy_share"]
+EXPORTED = ["radpolicy_answer", "radpolicy_close", "radpolicy_open", "radpolicy_run", "radpolicy_run_pairs",
+            "radpolicy_share"]
 CLIENT = "radclient"
 SECRET = "testing123"
 POLICY = 'update reply { Reply-Message := "hello" }\nif (&User-Name == "eve") { reject }\n'
@@ -206,6 +207,8 @@ def check(subject: Subject, report: Report) -> None:
         names = sorted(line.split()[-1] for line in shown.stdout.splitlines())
         report.check("the library shows its own calls alone", [] if names == EXPORTED else [f"it shows {names}"])
         check_cases(subject, report, made)
+        python = example(subject)
+        jobs.check(subject, report, python.load(str(made)), python)
         check_example(subject, report, made)
         check_responder(subject, report, folder)
         words, packet = watched.case_of_a_packet(subject)

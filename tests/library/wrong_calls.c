@@ -172,6 +172,37 @@ static void try_closed(struct radpolicy_policy *policy, struct radpolicy_request
     free(b);
 }
 
+/* A policy that is shared is held by both handles. Afterwards the handle is the other one. */
+static void try_shared(struct radpolicy_policy *policy) {
+    struct radpolicy_policy none = RADPOLICY_CLOSED, other = RADPOLICY_CLOSED;
+    wanted(radpolicy_share(&none, &other) == RADPOLICY_IS_CLOSED, "a closed handle is shared", 0);
+    wanted(radpolicy_share(policy, &other) == RADPOLICY_DONE, "it is not shared", 0);
+    wanted(radpolicy_share(policy, &other) == RADPOLICY_IS_OPEN, "it is shared with an open handle", 0);
+    wanted(radpolicy_share(&none, &other) == RADPOLICY_IS_CLOSED, "an open handle is lost", 0);
+    wanted(radpolicy_close(policy) == RADPOLICY_DONE, "a shared handle is not closed", 0);
+    *policy = other;
+}
+
+/* A whole job, into rooms of every length: a check of the dictionary, and one of a policy that is refused. */
+static void try_answers(struct radpolicy_file *file, struct radpolicy_slice none) {
+    struct radpolicy_slice refused = {(const uint8_t *)"reject", 5};
+    struct radpolicy_job job = {.files = file, .file_count = 1, .request = none, .secret = none, .policy = refused,
+                                .script = none, .command = RADPOLICY_CHECK};
+    for (int turn = 0; turn < 2; turn++, job.has_policy = true) {
+        size_t length = 0, told;
+        uint8_t empty, ending = turn ? RADPOLICY_REFUSED : RADPOLICY_DONE;
+        wanted(radpolicy_answer(&job, &empty, 0, &length) == RADPOLICY_TOO_SHORT && length > 0, "no answer", turn);
+        for (size_t i = 0; i <= length + 1; i++) {
+            uint8_t *room = malloc(i + !i);
+            memset(room, 0xa5, i);
+            uint8_t status = radpolicy_answer(&job, room, i, &told);
+            wanted(status == (i < length ? RADPOLICY_TOO_SHORT : ending), "another answer", i);
+            wanted(told == length && (i < length ? is_untouched(room, i) : room[length - 1] == '\n'), "its text", i);
+            free(room);
+        }
+    }
+}
+
 int main(int count, char **words) {
     if (count != 5)
         return 2;
@@ -197,7 +228,9 @@ int main(int count, char **words) {
     opened = radpolicy_open(&policy, &file, 1, text.at, text.length, line, ROOM, &told);
     wanted(opened == RADPOLICY_IS_OPEN && told == 0, "it is opened twice", 0);
     free((void *)text.at);
+    try_answers(&file, none);
     free((void *)file.text.at);
+    try_shared(&policy);
     struct radpolicy_outcome full;
     uint8_t *packet, *report;
     wanted(run(&policy, &request, &full, 4096, ROOM, &packet, &report) == RADPOLICY_DONE, "it does not run", 0);

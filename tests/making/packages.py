@@ -13,7 +13,7 @@ from making.copies import SYSTEM_PATH, Copy, new_copy
 
 NEEDED = ("dpkg", "dpkg-deb", "dpkg-shlibdeps", "strip", "objdump", "cc")
 LIBRARY = "crates/radpolicy_c/out/libradpolicy_c.a"
-EXPORTED = {"radpolicy_close", "radpolicy_open", "radpolicy_run", "radpolicy_run_pairs",
+EXPORTED = {"radpolicy_answer", "radpolicy_close", "radpolicy_open", "radpolicy_run", "radpolicy_run_pairs",
             "radpolicy_share"}
 # Opens nothing, and says so.
 IN_C = """#include <radpolicy.h>

@@ -1,6 +1,8 @@
+pub mod Answers
 pub mod Closing
 pub mod Files
 pub mod Held
+pub mod Jobs
 pub mod Opening
 pub mod Outcomes
 pub mod Pairs

@@ -1,6 +1,7 @@
 //! The functions that C calls. `c/radpolicy.h` says what C has to keep.
 
 ghost use Rattle.std.specs.Prelude.{◌≡◌, None, length, map};
+ghost use Rattle.radpolicy_c.specs.Answers.{Answers};
 ghost use Rattle.radpolicy_c.specs.Closing.{closing_status};
 ghost use Rattle.radpolicy_c.specs.Files.{file_given};
 ghost use Rattle.radpolicy_c.specs.Opening.{Opens};
@@ -9,13 +10,16 @@ ghost use Rattle.radpolicy_c.specs.Rooms.{room_told, status_told};
 ghost use Rattle.radpolicy_c.specs.Runs.{Runs};
 ghost use Rattle.radpolicy_c.specs.Sharing.{SharesBy};
 ghost use Rattle.radpolicy_c.specs.Statuses.{number_of};
+ghost use Rattle.radpolicy_c.specs.declared.answers.Answered.{Answered};
 ghost use Rattle.radpolicy_c.specs.declared.opening.Opening.{Opening};
 ghost use Rattle.radpolicy_c.specs.declared.runs.Ran.{Ran};
 ghost use Rattle.radpolicy_c.specs.declared.statuses.Status.{Status as Ending};
 ghost use Rattle.radpolicy_c.specs.declared.runs.Wanted.TheVariants as wanted;
 
+use crate::answers::answer_given;
 use crate::files::RadpolicyFile;
 use crate::handles::RadpolicyPolicy;
+use crate::jobs::RadpolicyJob;
 use crate::lines::tell;
 use crate::opening::open;
 use crate::outcomes::{RadpolicyLists, RadpolicyOutcome, tell_lists, tell_run};
@@ -121,4 +125,22 @@ pub extern "C" fn radpolicy_run_pairs(
 {
     let ran = run_held(alloc, Wanted::Pairs, policy, asked);
     tell_lists(&ran, told, packet, pairs, octets).number()
+}
+
+/// Does a whole job, as the program does it. Its report, or the line of the fault for which it is refused, goes to the
+/// front of the room.
+#[unsafe(no_mangle)]
+pub extern "C" fn radpolicy_answer(
+    alloc: Global,
+    asked: &RadpolicyJob<'_>,
+    room: &mut [u8],
+    told: &mut usize,
+) -> u8
+    ensures { (answered : Answered) × Answers asked.now answered
+        × (result ≡ number_of (status_told answered.status answered.text room.old))
+        × (room.new ≡ room_told answered.text room.old)
+        × (told.new ≡ length answered.text) }
+{
+    let answered = answer_given(alloc, asked);
+    tell(answered.status, answered.text.as_slice(), room, told).number()
 }

@@ -11,9 +11,21 @@ use std::alloc::{AllocError, Global};
 
 // The octets that were put so far.
 #[derive(Drop)]
-struct Collected {
-    octets: Vec<u8>,
-    has_failed: bool,
+pub(crate) struct Collected {
+    pub(crate) octets: Vec<u8>,
+    pub(crate) has_failed: bool,
+}
+
+impl Collected {
+    pub(crate) fn new(alloc: Global) -> Collected
+        ensures octets { result.octets.items ≡ [] }
+        ensures works { result.has_failed ≡ false }
+    {
+        Collected {
+            octets: Vec::new(alloc),
+            has_failed: false,
+        }
+    }
 }
 
 impl Output for Collected {
@@ -37,10 +49,7 @@ pub(crate) fn line_of(alloc: Global, fault: &Fault, files: &FileSet) -> Result<V
     requires { IsPrintedWith files.now fault.now }
     ensures { IfOk result (λ line. line.items ≡ fault_line files.now fault.now) }
 {
-    let mut line = Collected {
-        octets: Vec::new(alloc),
-        has_failed: false,
-    };
+    let mut line = Collected::new(alloc);
     if print_fault(fault, files, &mut line) {
         Ok(line.octets)
     } else {

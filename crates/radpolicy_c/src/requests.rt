@@ -33,7 +33,7 @@ pub struct RadpolicyRequest<'a> {
     pub has_secret: bool,
 }
 
-fn form_given(number: u8) -> Option<Form>
+pub(crate) fn form_given(number: u8) -> Option<Form>
     ensures { result ≡ form_given number }
 {
     match number {

@@ -19,3 +19,10 @@ abbrev pub TellsRunFault : Fault → Status → Ran → Type 0
 TellsRunFault f Refused ran = (f ≢ fault.Memory) × (ran ≡ only_told Refused (fault_line [] f))
 TellsRunFault f NoMemory ran = ran ≡ only_told NoMemory []
 TellsRunFault f _ ran = ⊥
+
+-- the same of the answer to a job, whose report is written in memory
+abbrev pub TellsAnswerFault : List NamedFile → Fault → Status → List ℕ → Type 0
+TellsAnswerFault files f Refused text =
+    (f ≢ fault.Memory) × (f ≢ fault.Write) × (text ≡ fault_line files f)
+TellsAnswerFault files f NoMemory text = text ≡ []
+TellsAnswerFault files f _ text = ⊥
