@@ -213,4 +213,5 @@ def check(subject: Subject, report: Report) -> None:
         check_responder(subject, report, folder)
         words, packet = watched.case_of_a_packet(subject)
         watched.check_calls(subject, report, folder, words, packet)
+        watched.check_no_memory(subject, report, folder, words, packet)
         watched.check_threads(subject, report, folder, words, packet)

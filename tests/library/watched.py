@@ -53,6 +53,13 @@ def check_calls(subject: Subject, report: Report, folder: Path, words: List, pac
                  rb"0 faults\n")
 
 
+def check_no_memory(subject: Subject, report: Report, folder: Path, words: List, packet: bytes) -> None:
+    """Each allocation of each call fails in turn."""
+    made = program(subject, folder, "tests/library/no_memory.c", "-Wl,--wrap=malloc,--wrap=realloc")
+    watched = MEMCHECK if has_valgrind(report, "what the library gives back") else []
+    check_output(report, "calls of the library whose allocations fail", [*watched, made, *words], packet, rb"0 faults\n")
+
+
 def check_threads(subject: Subject, report: Report, folder: Path, words: List, packet: bytes,
                   seconds: int = SECONDS) -> None:
     """Eight threads on one policy, each by handles of its own, which they close in the order in which they come to it."""
