@@ -7,7 +7,7 @@ use avp_forms::Profile;
 use clap::error::ErrorKind;
 use clap::{Arg, ArgAction, ArgMatches};
 use radpolicy::Fault;
-use radpolicy_import_policies::{Meaning, Stubs};
+use radpolicy_import_policies::{LineEnds, Meaning, Stubs};
 use std::alloc::{AllocError, Global};
 use std::convert::AsStr;
 
@@ -26,6 +26,12 @@ const OWN_DICTIONARY: &str = "dictionary";
 const STUB_FUNCTIONS: &str = "stub-functions";
 
 const OUTPUT: &str = "output";
+
+const MAP: &str = "map";
+
+const INITIAL: &str = "initial";
+
+const INITIAL_TEMPLATE: &str = "initial-template";
 
 const PLAIN: &str = "plain";
 
@@ -55,6 +61,12 @@ pub struct Plan<'a> {
     /// Which expansions it has attributes for.
     pub stubs: Stubs,
     pub output: Option<&'a str>,
+    /// Where the origins of the policy's lines are written, in place of comments.
+    pub map: Option<&'a str>,
+    /// Pairs of initial lists, which are put in front of the policy.
+    pub initial: Option<&'a str>,
+    /// Where those that the policy wants are written.
+    pub initial_template: Option<&'a str>,
     pub meaning: Meaning,
     pub profile: Profile,
     pub only_checks: bool,
@@ -63,6 +75,21 @@ pub struct Plan<'a> {
     pub is_json: bool,
     /// A server's folder, or files.
     pub configuration: Vec<&'a str>,
+}
+
+impl Plan<'_> {
+    // Whether words name a file for the policy, or for what is told of it.
+    fn writes(&self) -> bool {
+        self.output.is_some() || self.map.is_some() || self.initial_template.is_some()
+    }
+
+    /// What the lines of the policy end in.
+    pub fn line_ends(&self) -> LineEnds {
+        match self.map {
+            Some(_) => LineEnds::Nothing,
+            None => LineEnds::Origins,
+        }
+    }
 }
 
 fn valued<'a>(alloc: Global, name: &'a str, value: &'a str, help: &'a str) -> Arg<'a> {
@@ -152,6 +179,24 @@ fn program<'a>(alloc: Global) -> Result<clap::Command<'a>, AllocError> {
             "With --dictionary: takes the results of functions as given too",
         ))?
         .arg(output_option(alloc))?
+        .arg(valued(
+            alloc,
+            MAP,
+            "FILE",
+            "Writes what each line comes from to this file, and no comments at the lines' ends",
+        ))?
+        .arg(valued(
+            alloc,
+            INITIAL,
+            "FILE",
+            "Puts updates in front of the policy for lines reply:Name = .. and control:Name = ..",
+        ))?
+        .arg(valued(
+            alloc,
+            INITIAL_TEMPLATE,
+            "OUT",
+            "Writes such lines, to be filled in, for what the policy reads and does not set",
+        ))?
         .arg(flag(
             alloc,
             PLAIN,
@@ -227,6 +272,9 @@ fn plan_of<'a>(alloc: Global, found: &ArgMatches<'a>) -> Result<Plan<'a>, Fault>
         own_dictionary: found.get_str(OWN_DICTIONARY),
         stubs: stubs(found),
         output: found.get_str(OUTPUT),
+        map: found.get_str(MAP),
+        initial: found.get_str(INITIAL),
+        initial_template: found.get_str(INITIAL_TEMPLATE),
         meaning: meaning(found),
         profile: profile(found),
         only_checks: found.get_flag(CHECK),
@@ -234,7 +282,10 @@ fn plan_of<'a>(alloc: Global, found: &ArgMatches<'a>) -> Result<Plan<'a>, Fault>
         is_json: found.get_flag(JSON),
         configuration: all_of(alloc, found, CONFIGURATION)?,
     };
-    if plan.only_checks && plan.output.is_some() || plan.policy.is_some() && plan.server.is_some() {
+    if plan.only_checks && plan.writes() {
+        return Err(Fault::Usage);
+    }
+    if plan.policy.is_some() && plan.server.is_some() {
         return Err(Fault::Usage);
     }
     if plan.stubs == Stubs::Functions && plan.own_dictionary.is_none() {
@@ -243,10 +294,16 @@ fn plan_of<'a>(alloc: Global, found: &ArgMatches<'a>) -> Result<Plan<'a>, Fault>
     Ok(plan)
 }
 
+fn names_output(found: &ArgMatches<'_>) -> bool {
+    found.get_str(OUTPUT).is_some()
+        || found.get_str(MAP).is_some()
+        || found.get_str(INITIAL_TEMPLATE).is_some()
+}
+
 // What is wrong with words that are options and their values, if they are refused.
 fn refusal_of(found: &ArgMatches<'_>) -> &'static str {
-    if found.get_flag(CHECK) && found.get_str(OUTPUT).is_some() {
-        "--check writes no policy, so it goes without -o\n"
+    if found.get_flag(CHECK) && names_output(found) {
+        "--check writes the report alone, so it goes without -o, --map and --initial-template\n"
     } else if found.get_flag(STUB_FUNCTIONS) && found.get_str(OWN_DICTIONARY).is_none() {
         "--stub-functions goes with --dictionary, which defines what is in their place\n"
     } else {

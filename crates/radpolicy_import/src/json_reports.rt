@@ -30,6 +30,7 @@ fn push_counts(out: &mut Vec<u8>, imported: &Imported) -> Result<(), AllocError>
     push_number(out, b'{', "kept", imported.kept)?;
     push_number(out, b',', "read", imported.read)?;
     push_number(out, b',', "calls", imported.calls)?;
+    push_number(out, b',', "given", imported.given)?;
     out.extend_from_slice(b"}\n")
 }
 

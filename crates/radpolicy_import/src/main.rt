@@ -11,9 +11,12 @@ ghost use Rattle.avp_dict.specs.Lines.{HasDistinctNames};
 ghost use Rattle.radpolicy.specs.Faults.{IsPrintedAnywhere, IsPrintedWith};
 
 use crate::command_line::{Plan, help_text, read_words};
-use crate::reports::{show_fault, show_others, show_report, write_file, write_policy};
+use crate::reports::{
+    show_fault, show_initial_fault, show_initial_line, show_others, show_report, write_file,
+    write_policy,
+};
 use crate::sources::{
-    FIRST, NamedFiles, first_file, main_file, read_modules, system_dictionaries, with_main,
+    FIRST, Given, NamedFiles, first_file, main_file, read_given, system_dictionaries, with_main,
 };
 use avp_dict::{Dictionary, FileSet};
 use avp_forms::Profile;
@@ -22,9 +25,9 @@ use radpolicy::{Fault, status};
 use radpolicy_common::{read_dictionary_set, refuse, refuse_early};
 use radpolicy_help::{Sources, refuse_explained, refuse_unread_explained, refuse_words_of};
 use radpolicy_import_policies::{
-    ImportFault, Imported, Module, OtherAttribute, Settings, Statement, Wanted, import_statements,
-    keeps_names, other_attributes, other_dictionary, policy_of, section_of, statements_of,
-    unset_attributes,
+    ImportFault, Imported, Module, OtherAttribute, Settings, Statement, Wanted, add_initial,
+    import_statements, initial_template, keeps_names, origin_map, other_attributes,
+    other_dictionary, policy_of, section_of, statements_of, unset_attributes,
 };
 use server_configuration::{Configuration, ConfigurationFault, SystemFiles, read_configuration};
 use std::alloc::{AllocError, Global};
@@ -67,6 +70,7 @@ fn fault_of_import(fault: ImportFault) -> Fault
         ImportFault::Memory => Fault::Memory,
         ImportFault::TooManyStatements => Fault::OptionValue,
         ImportFault::Policy(fault) => Fault::Policy(fault),
+        ImportFault::Initial(..) => Fault::OptionValue,
     }
 }
 
@@ -89,6 +93,8 @@ struct Import<'a, 'p> {
     plan: &'a Plan<'p>,
     configuration: &'a Configuration,
     modules: &'a [Module],
+    // How many of the configuration's last items are pairs of initial lists.
+    initial: usize,
     statements: &'a [Statement],
 }
 
@@ -102,9 +108,11 @@ fn imported(
     let (configuration, statements) = (import.configuration, import.statements);
     let settings = Settings {
         meaning: import.plan.meaning,
+        line_ends: import.plan.line_ends(),
         profile: import.plan.profile,
         modules: import.modules,
         others,
+        initial: import.initial,
     };
     match import_statements(alloc, configuration, dictionary, settings, statements) {
         // Should a statement not be one of the wider profile, lines that need it are left out.
@@ -129,20 +137,44 @@ fn refuse_section(rt: &HostRuntime, plan: &Plan<'_>) -> u8 {
     status(&fault)
 }
 
+/// What was made.
+#[derive(Clone, Copy)]
+struct Made<'a> {
+    imported: &'a Imported,
+    dictionary: &'a Dictionary,
+    others: &'a [OtherAttribute],
+}
+
+// Writes where the policy's lines come from and the initial lists that it wants, as far as that is asked for.
+fn write_beside(rt: &HostRuntime, import: &Import<'_, '_>, made: Made<'_>) -> io::Result<()> {
+    let (alloc, configuration, imported) = (rt.alloc(), import.configuration, made.imported);
+    if let Some(path) = import.plan.map {
+        let map = origin_map(alloc, configuration, &imported.lines)?;
+        write_file(rt, path, &map)?;
+    }
+    if let Some(path) = import.plan.initial_template {
+        let (dictionary, others) = (made.dictionary, made.others);
+        let template = initial_template(alloc, configuration, dictionary, imported, others)?;
+        write_file(rt, path, &template)?;
+    }
+    Ok(())
+}
+
+fn write_made(rt: &HostRuntime, import: &Import<'_, '_>, made: Made<'_>) -> io::Result<()> {
+    write_beside(rt, import, made)?;
+    write_policy(rt, import.plan.output, &made.imported.text)
+}
+
 // Writes the policy and the report, and gives the status.
-fn show(
-    rt: &HostRuntime,
-    plan: &Plan<'_>,
-    configuration: &Configuration,
-    imported: &Imported,
-) -> u8 {
-    if !plan.only_checks && write_policy(rt, plan.output, &imported.text).is_err() {
+fn show(rt: &HostRuntime, import: &Import<'_, '_>, made: Made<'_>) -> u8 {
+    let plan = import.plan;
+    if !plan.only_checks && write_made(rt, import, made).is_err() {
         return refuse_early(rt, &Fault::Write);
     }
-    if show_report(rt, plan.is_json, configuration, imported).is_err() {
+    if show_report(rt, plan.is_json, import.configuration, made.imported).is_err() {
         return refuse_early(rt, &Fault::Memory);
     }
-    if plan.strict && !imported.left_out.is_empty() {
+    if plan.strict && !made.imported.left_out.is_empty() {
         LEFT_OUT
     } else {
         0
@@ -179,14 +211,14 @@ fn show_with_others(
     import: &Import<'_, '_>,
     path: &str,
     text: &[u8],
-    imported: &Imported,
+    made: Made<'_>,
     unset: &[&OtherAttribute],
-    count: usize,
 ) -> u8 {
     if !import.plan.only_checks && write_file(rt, path, text).is_err() {
         return refuse_early(rt, &Fault::Write);
     }
-    let status = show(rt, import.plan, import.configuration, imported);
+    let status = show(rt, import, made);
+    let count = made.others.len();
     if show_others(rt, import.plan.is_json, path, count, unset).is_err() {
         return refuse_early(rt, &Fault::Memory);
     }
@@ -219,8 +251,12 @@ fn import_others(
     }
     let imported = imported(alloc, import, &own, &others)?;
     let unset = unset_attributes(alloc, &own, &imported.policy, &others)?;
-    let status = show_with_others(rt, import, path, &text, &imported, &unset, others.len());
-    Ok(status)
+    let made = Made {
+        imported: &imported,
+        dictionary: &own,
+        others: &others,
+    };
+    Ok(show_with_others(rt, import, path, &text, made, &unset))
 }
 
 fn dictionary_of(alloc: Global, files: &FileSet) -> Result<Dictionary, Fault>
@@ -237,7 +273,12 @@ fn import_alone(
     dictionary: &Dictionary,
 ) -> Result<u8, ImportFault> {
     let imported = imported(rt.alloc(), import, dictionary, &[])?;
-    Ok(show(rt, import.plan, import.configuration, &imported))
+    let made = Made {
+        imported: &imported,
+        dictionary,
+        others: &[],
+    };
+    Ok(show(rt, import, made))
 }
 
 fn import_statements_meant(
@@ -252,24 +293,47 @@ fn import_statements_meant(
         Some(path) => import_others(rt, import, path, files, dictionary),
         None => import_alone(rt, import, dictionary),
     };
-    match made {
-        Ok(status) => Ok(status),
-        Err(fault) => Err(fault_of_import(fault)),
+    match (made, import.plan.initial) {
+        (Ok(status), _) => Ok(status),
+        (Err(ImportFault::Initial(origin, reason)), Some(path)) => {
+            show_initial_line(rt, path, origin.line, reason);
+            Ok(status(&Fault::OptionValue))
+        }
+        (Err(fault), _) => Err(fault_of_import(fault)),
     }
 }
 
-fn import_by(
+// Adds the pairs of initial lists to the configuration, and says how many there are. None where they are not read.
+fn add_pairs(
     rt: &HostRuntime,
     plan: &Plan<'_>,
-    files: &FileSet,
-    modules: &[Module],
-) -> Result<u8, Fault>
+    given: &Given,
+    configuration: &mut Configuration,
+) -> Option<usize> {
+    let (Some(path), Some(initial)) = (plan.initial, &given.initial) else {
+        return Some(0);
+    };
+    match add_initial(
+        rt.alloc(),
+        configuration,
+        path.as_bytes(),
+        initial.as_slice(),
+    ) {
+        Ok(count) => Some(count),
+        Err(fault) => {
+            show_initial_fault(rt, path, &fault);
+            None
+        }
+    }
+}
+
+fn import_by(rt: &HostRuntime, plan: &Plan<'_>, files: &FileSet, given: &Given) -> Result<u8, Fault>
     requires first { 0 < length files.now }
     requires distinct { HasDistinctNames files.now }
     ensures { IfErr result (IsPrintedWith files.now) }
 {
     let dictionary = dictionary_of(rt.alloc(), files)?;
-    let configuration = match read_named(rt, plan)? {
+    let mut configuration = match read_named(rt, plan)? {
         Ok(configuration) => configuration,
         Err(fault) => {
             show_fault(rt, &fault);
@@ -281,10 +345,14 @@ fn import_by(
         Ok(None) => return Ok(refuse_section(rt, plan)),
         Err(fault) => return Err(fault_of_import(fault)),
     };
+    let Some(initial) = add_pairs(rt, plan, given, &mut configuration) else {
+        return Ok(status(&Fault::OptionValue));
+    };
     let import = Import {
         plan,
         configuration: &configuration,
-        modules,
+        modules: &given.modules,
+        initial,
         statements: statements.as_slice(),
     };
     import_statements_meant(rt, &import, files, &dictionary)
@@ -303,15 +371,15 @@ fn refuse_import(rt: &HostRuntime, dictionaries: &[&str], files: &FileSet, fault
 }
 
 fn import_with<'p, 'd>(rt: &HostRuntime, plan: &Plan<'p>, dictionaries: &[&'d str]) -> u8 {
-    let modules = match read_modules(rt, plan) {
-        Ok(modules) => modules,
+    let given = match read_given(rt, plan) {
+        Ok(given) => given,
         Err(unread) => return refuse_unread_explained(rt, unread),
     };
     let files = match read_dictionary_set(rt, dictionaries) {
         Ok(files) => files,
         Err(unread) => return refuse_unread_explained(rt, unread),
     };
-    match import_by(rt, plan, &files, &modules) {
+    match import_by(rt, plan, &files, &given) {
         Ok(status) => status,
         Err(fault) => refuse_import(rt, dictionaries, &files, &fault),
     }

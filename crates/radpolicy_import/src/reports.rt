@@ -2,7 +2,9 @@
 
 use crate::json_reports::{json_others, json_report};
 use radpolicy_common::{LineBreaks, visible_text};
-use radpolicy_import_policies::{Imported, LeftOut, OtherAttribute, OtherSource, push_origin};
+use radpolicy_import_policies::{
+    Imported, LeftOut, OtherAttribute, OtherSource, Reason, push_origin,
+};
 use server_configuration::{Configuration, ConfigurationFault};
 use std::alloc::{AllocError, Global};
 use std::{fs, io};
@@ -33,8 +35,10 @@ fn report(
     imported: &Imported,
 ) -> Result<Vec<u8>, AllocError> {
     let (kept, read, calls) = (imported.kept, imported.read, imported.calls);
+    let given = imported.given;
     let head = format!(in alloc;
-        "{kept} of {read} statements kept, {calls} module calls are comments\n"
+        "{kept} of {read} statements kept, {calls} module calls are comments\n\
+        {given} of the kept have a value that is given\n"
     )?;
     let mut out = Vec::from_slice(alloc, head.as_bytes())?;
     for part in &imported.left_out {
@@ -109,6 +113,17 @@ pub fn show_fault(rt: &HostRuntime, fault: &ConfigurationFault) {
     let (line, kind) = (fault.line, fault.kind);
     let path = str::from_utf8(&fault.file.path).unwrap_or("");
     let _ = eprintln!(rt; "radpolicy-import: {path}:{line}: {kind}");
+}
+
+/// Writes where and why the file of initial lists is not read.
+pub fn show_initial_fault(rt: &HostRuntime, path: &str, fault: &server_configuration::Fault) {
+    let (line, kind) = (fault.line, fault.kind);
+    let _ = eprintln!(rt; "radpolicy-import: {path}:{line}: {kind}");
+}
+
+/// Writes which line of the file of initial lists is no pair of one, and why.
+pub fn show_initial_line(rt: &HostRuntime, path: &str, line: usize, reason: Reason) {
+    let _ = eprintln!(rt; "radpolicy-import: {path}:{line}: {reason}");
 }
 
 /// Writes beside the file, and then renames, so that a file is there whole or not at all.

@@ -122,8 +122,8 @@ fn read_answer<'a>(rt: &HostRuntime, word: &'a str) -> Result<ModuleAnswer, Unre
     }
 }
 
-/// What stands for the calls of modules. A word without `=` names a module whose calls do nothing.
-pub fn read_modules<'a>(rt: &HostRuntime, plan: &Plan<'a>) -> Result<Vec<Module>, Unread<'a>> {
+// What stands for the calls of modules. A word without `=` names a module whose calls do nothing.
+fn read_modules<'a>(rt: &HostRuntime, plan: &Plan<'a>) -> Result<Vec<Module>, Unread<'a>> {
     let mut modules = Vec::new(rt.alloc());
     for word in &plan.modules {
         let (name, answer) = word.split_once('=').unwrap_or((word, "noop"));
@@ -132,6 +132,24 @@ pub fn read_modules<'a>(rt: &HostRuntime, plan: &Plan<'a>) -> Result<Vec<Module>
         modules.push(Module { name, answer })?;
     }
     Ok(modules)
+}
+
+/// What files hold that are put in places of the policy, or in front of it.
+#[derive(Drop)]
+pub struct Given {
+    pub modules: Vec<Module>,
+    /// The pairs of initial lists.
+    pub initial: Option<Octets>,
+}
+
+/// What the files hold that the words name for it.
+pub fn read_given<'a>(rt: &HostRuntime, plan: &Plan<'a>) -> Result<Given, Unread<'a>> {
+    let modules = read_modules(rt, plan)?;
+    let initial = match plan.initial {
+        Some(path) => Some(read_file(rt, path)?),
+        None => None,
+    };
+    Ok(Given { modules, initial })
 }
 
 /// The files of a set, with another in front of them: its main file.

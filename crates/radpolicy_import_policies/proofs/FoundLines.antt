@@ -3,15 +3,17 @@ use Rattle.std.proofs.Common.{◌≡◌, ℕ, zero, suc, ◌++◌, List, [], ◌
 use Rattle.server_configuration.specs.Places.{AreOnLines, HasLine}
 use Rattle.server_configuration.specs.declared.items.Item.{Item}
 use Rattle.server_configuration.specs.declared.sources.SourceFile.{SourceFile}
-use Rattle.radpolicy_import_policies.specs.Origins.{AreLines, origin_in}
+use Rattle.radpolicy_import_policies.specs.Origins.{AreLines, line_origins, origin_in}
 use Rattle.radpolicy_import_policies.specs.Imports.{part_origins}
 use Rattle.radpolicy_import_policies.specs.declared.imports.LeftOut.{LeftOut}
+use Rattle.radpolicy_import_policies.specs.declared.origins.LineOrigin.{LineOrigin}
 use Rattle.radpolicy_import_policies.specs.declared.origins.Origin.{Origin}
 
-pub lines_with_one : (files : List SourceFile) (origins : List Origin) (origin : Origin)
-    → HasLine files origin.file origin.line → AreLines files origins → AreLines files (origins ++ origin ∷ [])
-lines_with_one files [] origin line h = (line, tt)
-lines_with_one files (other ∷ origins) origin line h = (h.0, lines_with_one files origins origin line h.1)
+lines_with_one : (files : List SourceFile) (lines : List LineOrigin) (line : LineOrigin)
+    → HasLine files line.origin.file line.origin.line → AreLines files (line_origins lines)
+    → AreLines files (line_origins (lines ++ line ∷ []))
+lines_with_one files [] line here h = (here, tt)
+lines_with_one files (other ∷ lines) line here h = (h.0, lines_with_one files lines line here h.1)
 
 line_found : (files : List SourceFile) (item : Item) (origin : Origin) → HasLine files item.file item.line
     → origin_in item ≡ origin → HasLine files origin.file origin.line
@@ -24,11 +26,12 @@ line_of_origin files (item ∷ items) zero origin h e =
     let same : origin_in item ≡ origin = cc in line_found files item origin h.0 same
 line_of_origin files (item ∷ items) (suc place) origin h e = line_of_origin files items place origin h.1 e
 
-pub lines_after : (files : List SourceFile) (items : List Item) (place : ℕ) (origin : Origin) (old new : List Origin)
-    → new ≡ old ++ origin ∷ [] → option_map origin_in (slice_get items place) ≡ Some origin → AreOnLines files items
-    → AreLines files old → AreLines files new
-lines_after files items place origin old new e found read h =
-    subst (AreLines files) (sym e) (lines_with_one files old origin (line_of_origin files items place origin read found) h)
+pub lines_after : (files : List SourceFile) (items : List Item) (place : ℕ) (line : LineOrigin) (old new : List LineOrigin)
+    → new ≡ old ++ line ∷ [] → option_map origin_in (slice_get items place) ≡ Some line.origin → AreOnLines files items
+    → AreLines files (line_origins old) → AreLines files (line_origins new)
+lines_after files items place line old new e found read h =
+    subst (λ (made : List LineOrigin). AreLines files (line_origins made)) (sym e)
+    (lines_with_one files old line (line_of_origin files items place line.origin read found) h)
 
 parts_with_one : (files : List SourceFile) (parts : List LeftOut) (part : LeftOut)
     → HasLine files part.origin.file part.origin.line → AreLines files (part_origins parts)

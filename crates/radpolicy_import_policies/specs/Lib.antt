@@ -1,6 +1,7 @@
 pub mod Conditions
 pub mod Imports
 pub mod KeptNames
+pub mod OriginTexts
 pub mod Origins
 pub mod Statements
 pub mod Switches

@@ -116,7 +116,7 @@ impl<'a> Lines<'a> {
     fn asked(&mut self) -> Result<(), AllocError> {
         let others = self.others;
         for other in others {
-            if let OtherSource::Asked(_) = &other.source {
+            if let OtherSource::Asked(_) | OtherSource::Returned = &other.source {
                 self.attribute(&other.own, b"string", &[])?;
             }
         }

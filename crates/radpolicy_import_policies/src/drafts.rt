@@ -1,5 +1,9 @@
 //! Lines of a policy before they have their origins.
 
+ghost use Rattle.std.specs.Prelude.{◌≡◌, ◌++◌, [], map, slice_get, OnOk};
+ghost use Rattle.std.specs.Option.{option_map_or};
+ghost use Rattle.radpolicy_import_policies.specs.OriginTexts.{content_name, visible};
+
 use crate::origins::{Origin, origin_of};
 use crate::reasons::Reason;
 use avp_dict::Dictionary;
@@ -27,7 +31,9 @@ pub(crate) struct DraftPart {
 }
 
 // An octet that a comment can have.
-fn visible(octet: u8) -> u8 {
+fn visible(octet: u8) -> u8
+    ensures { result ≡ visible octet }
+{
     if octet < b' ' || octet == 0x7f {
         b'?'
     } else {
@@ -36,7 +42,9 @@ fn visible(octet: u8) -> u8 {
 }
 
 /// A text in a comment.
-pub(crate) fn push_visible(out: &mut Vec<u8>, text: &[u8]) -> Result<(), AllocError> {
+pub(crate) fn push_visible(out: &mut Vec<u8>, text: &[u8]) -> Result<(), AllocError>
+    ensures { OnOk result (out.new.items ≡ out.old.items ++ map visible text.now) }
+{
     for octet in text {
         out.push(visible(*octet))?;
     }
@@ -125,7 +133,10 @@ pub(crate) fn shown_item(
 }
 
 /// The name of the section at a place.
-pub(crate) fn section_name(configuration: &Configuration, place: usize) -> &[u8] {
+pub(crate) fn section_name(configuration: &Configuration, place: usize) -> &[u8]
+    ensures { result.now ≡ option_map_or (λ item. content_name item.content)
+        (slice_get configuration.now.items.items place) [] }
+{
     match configuration.items.get(place) {
         Some(item) => match &item.content {
             Content::Section { name, .. } => name.octets.as_slice(),

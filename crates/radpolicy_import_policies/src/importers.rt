@@ -1,68 +1,25 @@
 //! What becomes of the statements of a server.
 
-use crate::condition_texts::{ConditionReader, Operand};
+use crate::alternatives::ChosenLine;
 use crate::drafts::{Draft, DraftPart, push_visible, section_name, shown_item};
-use crate::lines::{LineReader, UpdateLine};
+use crate::item_readers::{ItemReader, PairLines};
+use crate::lines::UpdateLine;
+use crate::origins::origin_of;
 use crate::other_lists::ServerList;
-use crate::others::OtherAttribute;
-use crate::printing::ConditionPrinter;
 use crate::reasons::{ImportFault, Reason, Refusal};
-use crate::references::{Names, list_name};
-use crate::rewriting::rewritten;
+use crate::references::list_name;
+use crate::settings::{Meaning, ModuleAnswer};
 use crate::statements::{Statement, StatementKind, counted};
-use crate::switches::{SwitchChain, chain_of};
-use avp_dict::Dictionary;
-use avp_forms::Profile;
+use crate::switches::SwitchChain;
+use crate::texts::between;
 use avp_lists::List;
-use avp_unlang::{Code, Comparison, Cond, Relation, read_policy};
-use server_configuration::{Configuration, Content, Operator, Quote, Text, has_reference};
-use std::alloc::{AllocError, Global};
-
-/// Whose meaning conditions and update lines keep.
-#[derive(Clone, Copy, Debug, PartialEq, Eq)]
-pub enum Meaning {
-    /// The server's, where ours is another.
-    Server,
-    /// That of their text here.
-    Plain,
-}
-
-/// What stands for the call of a module.
-#[derive(Debug, Drop)]
-pub enum ModuleAnswer {
-    Code(Code),
-    /// A policy.
-    Policy(Vec<u8>),
-}
-
-/// A module, and what stands for its calls.
-#[derive(Debug, Drop)]
-pub struct Module {
-    pub name: Vec<u8>,
-    pub answer: ModuleAnswer,
-}
-
-/// How statements are imported.
-#[derive(Clone, Copy)]
-pub struct Settings<'a> {
-    pub meaning: Meaning,
-    /// The wider profile is asked for where a line needs it, and by the plain one such lines are left out.
-    pub profile: Profile,
-    pub modules: &'a [Module],
-    /// The attributes of control in place of what policies do not have, where the dictionary defines them.
-    pub others: &'a [OtherAttribute],
-}
-
-/// The first line of a policy of the wider profile.
-pub(crate) const PROFILE_LINE: &[u8] = b"# profile: wider";
+use avp_unlang::Code;
+use std::alloc::AllocError;
 
 /// Makes lines of a policy.
 #[derive(Drop)]
 pub(crate) struct Importer<'a> {
-    alloc: Global,
-    configuration: &'a Configuration,
-    dictionary: &'a Dictionary,
-    settings: Settings<'a>,
+    pub(crate) reader: ItemReader<'a>,
     pub(crate) drafts: Vec<Draft>,
     pub(crate) parts: Vec<DraftPart>,
     pub(crate) calls: usize,
@@ -73,6 +30,20 @@ pub(crate) struct Importer<'a> {
     depth: usize,
     // Whether the last code is that of the server.
     knows_code: bool,
+    /// Whether a statement of the section may follow the one that is being imported.
+    pub(crate) follows: bool,
+    /// How often the mark of the section's end is set.
+    pub(crate) returns: usize,
+    /// How many of the statements that are kept have a value that is given.
+    pub(crate) given: usize,
+}
+
+/// Whether a place is before another, if there is another.
+pub(crate) fn is_before(at: usize, last: Option<usize>) -> bool {
+    match last {
+        Some(last) => at < last,
+        None => false,
+    }
 }
 
 fn code_name(code: Code) -> &'static [u8] {
@@ -93,14 +64,6 @@ fn reason_of(refusal: Refusal) -> Result<Reason, ImportFault> {
     }
 }
 
-// A text with another before it and one after it.
-fn between(alloc: Global, before: &[u8], text: &[u8], after: &[u8]) -> Result<Vec<u8>, AllocError> {
-    let mut joined = Vec::from_slice(alloc, before)?;
-    joined.extend_from_slice(text)?;
-    joined.extend_from_slice(after)?;
-    Ok(joined)
-}
-
 // The condition of the case at a place, if the chain has a branch for it.
 fn condition_of<'b>(chain: &SwitchChain, conditions: &'b [Vec<u8>], at: usize) -> Option<&'b [u8]> {
     for (branch, condition) in chain.branches.iter().zip(conditions) {
@@ -112,17 +75,10 @@ fn condition_of<'b>(chain: &SwitchChain, conditions: &'b [Vec<u8>], at: usize) -
 }
 
 impl<'a> Importer<'a> {
-    pub(crate) fn new(
-        alloc: Global,
-        configuration: &'a Configuration,
-        dictionary: &'a Dictionary,
-        settings: Settings<'a>,
-    ) -> Importer<'a> {
+    pub(crate) fn new(reader: ItemReader<'a>) -> Importer<'a> {
+        let alloc = reader.alloc;
         Importer {
-            alloc,
-            configuration,
-            dictionary,
-            settings,
+            reader,
             drafts: Vec::new(alloc),
             parts: Vec::new(alloc),
             calls: 0,
@@ -130,13 +86,24 @@ impl<'a> Importer<'a> {
             open: Vec::new(alloc),
             depth: 0,
             knows_code: false,
+            follows: false,
+            returns: 0,
+            given: 0,
         }
+    }
+
+    // Counts the statement at a place if it has a value that is given.
+    fn count_given(&mut self, place: usize) -> Result<(), ImportFault> {
+        if self.reader.is_given(place)? {
+            self.given = self.given.saturating_add(1);
+        }
+        Ok(())
     }
 
     // ---- lines
 
     fn push(&mut self, place: usize, text: Vec<u8>) -> Result<(), ImportFault> {
-        let policies = Vec::from_slice(self.alloc, &self.open)?;
+        let policies = Vec::from_slice(self.reader.alloc, &self.open)?;
         self.drafts.push(Draft {
             depth: self.depth,
             text,
@@ -153,12 +120,12 @@ impl<'a> Importer<'a> {
         text: &[u8],
         after: &[u8],
     ) -> Result<(), ImportFault> {
-        let text = between(self.alloc, before, text, after)?;
+        let text = between(self.reader.alloc, before, text, after)?;
         self.push(place, text)
     }
 
     fn push_text(&mut self, place: usize, text: &[u8]) -> Result<(), ImportFault> {
-        let text = Vec::from_slice(self.alloc, text)?;
+        let text = Vec::from_slice(self.reader.alloc, text)?;
         self.push(place, text)
     }
 
@@ -176,7 +143,7 @@ impl<'a> Importer<'a> {
     }
 
     fn comment(&mut self, place: usize, word: &[u8], text: &[u8]) -> Result<(), ImportFault> {
-        let mut line = between(self.alloc, b"# ", word, b" ")?;
+        let mut line = between(self.reader.alloc, b"# ", word, b" ")?;
         push_visible(&mut line, text)?;
         self.push(place, line)
     }
@@ -188,9 +155,9 @@ impl<'a> Importer<'a> {
         count: usize,
         reason: Reason,
     ) -> Result<(), ImportFault> {
-        let why = format!(in self.alloc; "{reason}")?;
-        let shown = shown_item(self.alloc, self.configuration, place)?;
-        let mut line = between(self.alloc, b"# left out, ", why.as_bytes(), b": ")?;
+        let why = format!(in self.reader.alloc; "{reason}")?;
+        let shown = shown_item(self.reader.alloc, self.reader.configuration, place)?;
+        let mut line = between(self.reader.alloc, b"# left out, ", why.as_bytes(), b": ")?;
         line.extend_from_slice(&shown)?;
         self.push(place, line)?;
         self.parts.push(DraftPart {
@@ -202,141 +169,7 @@ impl<'a> Importer<'a> {
         Ok(())
     }
 
-    // ---- texts
-
-    // A text of the item at a place, with its references filled in.
-    fn filled(&self, place: usize, text: &[u8]) -> Result<Vec<u8>, Refusal> {
-        if !has_reference(text) {
-            return Ok(Vec::from_slice(self.alloc, text)?);
-        }
-        let section = match self.configuration.items.get(place) {
-            Some(item) => item.section,
-            None => None,
-        };
-        Ok(self.configuration.resolved(self.alloc, section, text, &[])?)
-    }
-
-    fn check(&self, before: &[u8], text: &[u8], after: &[u8]) -> Result<(), Refusal> {
-        let text = between(self.alloc, before, text, after)?;
-        let _policy = read_policy(self.alloc, self.dictionary, &text)?;
-        Ok(())
-    }
-
-    fn names(&self) -> Names<'a> {
-        Names {
-            dictionary: self.dictionary,
-            others: self.settings.others,
-        }
-    }
-
-    fn reader(&self) -> ConditionReader<'a> {
-        ConditionReader {
-            alloc: self.alloc,
-            names: self.names(),
-            knows_code: self.knows_code,
-        }
-    }
-
-    fn printed(&self, cond: &Cond) -> Result<Vec<u8>, Refusal> {
-        let printer = ConditionPrinter {
-            alloc: self.alloc,
-            dictionary: self.dictionary,
-        };
-        let mut text = Vec::new(self.alloc);
-        printer.push_condition(&mut text, cond)?;
-        self.check(b"if ", &text, b" { }")?;
-        Ok(text)
-    }
-
-    // The condition of the branch at a place, between brackets.
-    fn condition(&self, place: usize) -> Result<Vec<u8>, Refusal> {
-        let text = match self.arguments(place) {
-            [text, ..] => self.filled(place, &text.octets)?,
-            [] => return Err(Refusal::LeftOut(Reason::Condition)),
-        };
-        let condition = self.reader().condition(&text)?;
-        if self.settings.meaning == Meaning::Plain && self.check(b"if ", &text, b" { }").is_ok() {
-            return Ok(text);
-        }
-        let cond = rewritten(self.alloc, &condition)?;
-        self.printed(&cond)
-    }
-
-    fn arguments(&self, place: usize) -> &'a [Text] {
-        match self.configuration.items.get(place) {
-            Some(item) => match &item.content {
-                Content::Section { arguments, .. } => arguments.as_slice(),
-                _ => &[],
-            },
-            None => &[],
-        }
-    }
-
     // ---- updates
-
-    // The line, where a policy of its profile can have it.
-    fn checked(&self, own: List, line: UpdateLine) -> Result<UpdateLine, Refusal> {
-        let mut head = Vec::new(self.alloc);
-        if line.is_wider {
-            head.extend_from_slice(PROFILE_LINE)?;
-            head.push(b'\n')?;
-        }
-        head.extend_from_slice(b"update ")?;
-        head.extend_from_slice(list_name(own))?;
-        head.extend_from_slice(b" { ")?;
-        self.check(&head, &line.text, b" }")?;
-        Ok(line)
-    }
-
-    // The line of a name, an operator and a value, in an update of a list.
-    fn line_of(
-        &self,
-        own: ServerList,
-        name: &[u8],
-        operator: Operator,
-        value: Option<&Text>,
-    ) -> Result<UpdateLine, Refusal> {
-        let reader = LineReader {
-            alloc: self.alloc,
-            names: self.names(),
-            own,
-            skips: self.settings.meaning == Meaning::Server,
-        };
-        let reason = match reader.line(name, operator, value) {
-            Ok(line) => return self.checked(own.list(), line),
-            Err(Refusal::LeftOut(reason)) => reason,
-            Err(Refusal::Memory) => return Err(Refusal::Memory),
-        };
-        let may_be_wider = matches!(reason, Reason::OctetsHere | Reason::Tag)
-            && self.settings.profile == Profile::Wider;
-        if may_be_wider && let Some(line) = reader.wider_line(name, operator, value)? {
-            return self.checked(own.list(), line);
-        }
-        Err(Refusal::LeftOut(reason))
-    }
-
-    // The line of the pair at a place, in an update of a list.
-    fn line(&self, place: usize, own: ServerList) -> Result<UpdateLine, Refusal> {
-        let Some(item) = self.configuration.items.get(place) else {
-            return Err(Refusal::LeftOut(Reason::NoLine));
-        };
-        let Content::Pair {
-            name,
-            operator,
-            value,
-        } = &item.content
-        else {
-            return Err(Refusal::LeftOut(Reason::NoLine));
-        };
-        match value {
-            Some(text) => {
-                let octets = self.filled(place, &text.octets)?;
-                let quote = text.quote;
-                self.line_of(own, &name.octets, *operator, Some(&Text { quote, octets }))
-            }
-            None => self.line_of(own, &name.octets, *operator, None),
-        }
-    }
 
     fn open_update(&mut self, place: usize, own: List) -> Result<(), ImportFault> {
         self.push_between(place, b"update ", list_name(own), b" {")?;
@@ -390,6 +223,40 @@ impl<'a> Importer<'a> {
         Ok(true)
     }
 
+    // The branch of a line that is meant where its condition is met; without one, where no other's is.
+    fn push_chosen(
+        &mut self,
+        place: usize,
+        own: List,
+        word: &[u8],
+        chosen: ChosenLine,
+    ) -> Result<(), ImportFault> {
+        let ChosenLine { condition, line } = chosen;
+        if condition.is_empty() {
+            self.push_text(place, b"else {")?;
+        } else {
+            self.push_between(place, word, &condition, b") {")?;
+        }
+        self.indent();
+        self.push_ready(place, place, own, false, line)?;
+        self.close(place)?;
+        self.close(place)
+    }
+
+    fn push_chain(
+        &mut self,
+        place: usize,
+        own: List,
+        lines: Vec<ChosenLine>,
+    ) -> Result<(), ImportFault> {
+        let mut word: &[u8] = b"if (";
+        for chosen in lines {
+            self.push_chosen(place, own, word, chosen)?;
+            word = b"elsif (";
+        }
+        Ok(())
+    }
+
     // A line of an update, or why it is left out. Whether the block of the update is open: before it, and after it.
     fn push_line(
         &mut self,
@@ -398,8 +265,19 @@ impl<'a> Importer<'a> {
         own: ServerList,
         is_open: bool,
     ) -> Result<bool, ImportFault> {
-        match self.line(place, own) {
-            Ok(line) => self.push_ready(update, place, own.list(), is_open, line),
+        match self.reader.lines(place, own) {
+            Ok(PairLines::One(line)) => {
+                self.count_given(place)?;
+                self.push_ready(update, place, own.list(), is_open, line)
+            }
+            Ok(PairLines::Chosen(lines)) => {
+                self.count_given(place)?;
+                if is_open {
+                    self.close(update)?;
+                }
+                self.push_chain(place, own.list(), lines)?;
+                Ok(false)
+            }
             Err(refusal) => {
                 self.leave(place, 1, reason_of(refusal)?)?;
                 Ok(is_open)
@@ -408,11 +286,11 @@ impl<'a> Importer<'a> {
     }
 
     fn update(&mut self, place: usize, lines: &[Statement]) -> Result<(), ImportFault> {
-        let own = match self.arguments(place) {
+        let own = match self.reader.arguments(place) {
             [] => Some(ServerList::Own(List::Request)),
             [name, ..] => ServerList::named(&name.octets),
         };
-        let has_others = !self.settings.others.is_empty();
+        let has_others = !self.reader.settings.others.is_empty();
         let own = own.filter(|own| has_others || matches!(own, ServerList::Own(_)));
         let Some(own) = own else {
             return self.leave(place, counted(lines)?, Reason::OtherList);
@@ -428,10 +306,57 @@ impl<'a> Importer<'a> {
         Ok(())
     }
 
+    // ---- initial lists
+
+    // Adds the pair of an initial list at a place, after those in the update that is open.
+    fn push_initial(
+        &mut self,
+        place: usize,
+        open: Option<(usize, List)>,
+    ) -> Result<Option<(usize, List)>, ImportFault> {
+        let (list, line) = match self.reader.initial_line(place) {
+            Ok(read) => read,
+            Err(refusal) => {
+                let reason = reason_of(refusal)?;
+                return Err(match origin_of(self.reader.configuration, place) {
+                    Some(origin) => ImportFault::Initial(origin, reason),
+                    None => ImportFault::Memory,
+                });
+            }
+        };
+        let (update, is_open) = match open {
+            Some((update, own)) if own == list => (update, true),
+            Some((update, _)) => {
+                self.close(update)?;
+                (place, false)
+            }
+            None => (place, false),
+        };
+        let is_open = self.push_ready(update, place, list, is_open, line)?;
+        Ok(is_open.then_some((update, list)))
+    }
+
+    /// Adds updates for the pairs of initial lists.
+    pub(crate) fn initial(&mut self) -> Result<(), ImportFault> {
+        let count = self.reader.configuration.items.len();
+        let first = count.saturating_sub(self.reader.settings.initial);
+        let mut open = None;
+        for place in first..count {
+            if place == first {
+                self.push_text(place, b"# initial lists")?;
+            }
+            open = self.push_initial(place, open)?;
+        }
+        match open {
+            Some((update, _)) => self.close(update),
+            None => Ok(()),
+        }
+    }
+
     // ---- modules
 
     fn push_policy(&mut self, place: usize, policy: &[u8]) -> Result<(), ImportFault> {
-        if let Err(refusal) = self.check(policy, b"", b"") {
+        if let Err(refusal) = self.reader.check(policy, b"", b"") {
             let reason = reason_of(refusal)?;
             return self.leave(place, 0, reason);
         }
@@ -445,7 +370,7 @@ impl<'a> Importer<'a> {
     fn push_code(&mut self, place: usize, code: Code) -> Result<(), ImportFault> {
         // A server's reply after `fail` is that after `reject`.
         let code = match code {
-            Code::Fail if self.settings.meaning == Meaning::Server => Code::Reject,
+            Code::Fail if self.reader.settings.meaning == Meaning::Server => Code::Reject,
             code => code,
         };
         self.push_text(place, code_name(code))?;
@@ -454,20 +379,56 @@ impl<'a> Importer<'a> {
     }
 
     fn module(&mut self, place: usize) -> Result<(), ImportFault> {
-        let shown = shown_item(self.alloc, self.configuration, place)?;
-        let name = shown.strip_prefix(b"-").unwrap_or(&shown);
-        let modules = self.settings.modules;
-        for module in modules {
-            if module.name.as_slice() == name {
-                return match &module.answer {
-                    ModuleAnswer::Code(code) => self.push_code(place, *code),
-                    ModuleAnswer::Policy(policy) => self.push_policy(place, policy),
-                };
+        match self.reader.answer(place) {
+            Some(ModuleAnswer::Code(code)) => self.push_code(place, *code),
+            Some(ModuleAnswer::Policy(policy)) => self.push_policy(place, policy),
+            None => {
+                self.calls = self.calls.saturating_add(1);
+                self.knows_code = false;
+                let shown = shown_item(self.reader.alloc, self.reader.configuration, place)?;
+                self.comment(place, b"module", &shown)
             }
         }
-        self.calls = self.calls.saturating_add(1);
-        self.knows_code = false;
-        self.comment(place, b"module", &shown)
+    }
+
+    // ---- the end of the section
+
+    // `return`: nothing where no statement follows, else a mark under whose contrary what follows is.
+    fn end(&mut self, place: usize) -> Result<(), ImportFault> {
+        if !self.follows {
+            return self.comment(place, b"return,", b"and nothing follows");
+        }
+        let Some(name) = self.reader.names().returned() else {
+            return self.leave(place, 1, Reason::OtherCode);
+        };
+        self.open_update(place, List::Control)?;
+        self.push_between(place, b"", name, b" := \"yes\"")?;
+        self.close(place)?;
+        self.returns = self.returns.saturating_add(1);
+        Ok(())
+    }
+
+    /// Begins the branch of what is done where the section has not ended, and ends the one before it.
+    pub(crate) fn begin_rest(
+        &mut self,
+        before: Option<usize>,
+        place: usize,
+    ) -> Result<Option<usize>, ImportFault> {
+        self.end_rest(before)?;
+        let Some(name) = self.reader.names().returned() else {
+            return Ok(None);
+        };
+        self.push_between(place, b"if (!&control:", name, b") {")?;
+        self.indent();
+        Ok(Some(place))
+    }
+
+    /// Ends the branch that began at a place, if one did.
+    pub(crate) fn end_rest(&mut self, began: Option<usize>) -> Result<(), ImportFault> {
+        match began {
+            Some(place) => self.close(place),
+            None => Ok(()),
+        }
     }
 
     // ---- chains
@@ -480,19 +441,6 @@ impl<'a> Importer<'a> {
         }
     }
 
-    // The conditions of branches, up to the first that cannot be read.
-    fn conditions(&self, branches: &[Statement]) -> Result<Vec<Vec<u8>>, Refusal> {
-        let mut texts = Vec::new(self.alloc);
-        for branch in branches {
-            let text = match branch.kind {
-                StatementKind::If | StatementKind::Elsif => self.condition(branch.place)?,
-                _ => Vec::new(self.alloc),
-            };
-            texts.push(text)?;
-        }
-        Ok(texts)
-    }
-
     #[cycle(importing)]
     fn branches(
         &mut self,
@@ -501,6 +449,7 @@ impl<'a> Importer<'a> {
     ) -> Result<(), ImportFault> {
         let knows_code = self.knows_code;
         for (branch, condition) in branches.iter().zip(conditions) {
+            self.count_given(branch.place)?;
             self.push_between(branch.place, Self::keyword(branch.kind), condition, b" {")?;
             self.indent();
             self.knows_code = knows_code;
@@ -513,7 +462,7 @@ impl<'a> Importer<'a> {
 
     #[cycle(importing)]
     fn chain(&mut self, place: usize, branches: &[Statement]) -> Result<(), ImportFault> {
-        match self.conditions(branches) {
+        match self.reader.conditions(branches, self.knows_code) {
             Ok(conditions) => self.branches(branches, &conditions),
             Err(refusal) => {
                 let reason = reason_of(refusal)?;
@@ -524,63 +473,6 @@ impl<'a> Importer<'a> {
 
     // ---- switches
 
-    // What the case at a place compares; none for the default.
-    fn case(&self, compared: Operand<'_>, case: &Statement) -> Result<Option<Comparison>, Refusal> {
-        if case.kind != StatementKind::Case {
-            return Err(Refusal::LeftOut(Reason::Switch));
-        }
-        let [text, ..] = self.arguments(case.place) else {
-            return Ok(None);
-        };
-        let octets = self.filled(case.place, &text.octets)?;
-        let value = Operand {
-            quote: text.quote,
-            octets: octets.as_slice(),
-        };
-        let comparison = self.reader().comparison(compared, Relation::Equal, value)?;
-        Ok(Some(comparison))
-    }
-
-    fn cases(&self, place: usize, cases: &[Statement]) -> Result<SwitchChain, Refusal> {
-        let [text] = self.arguments(place) else {
-            return Err(Refusal::LeftOut(Reason::Switch));
-        };
-        let octets = self.filled(place, &text.octets)?;
-        let compared = Operand {
-            quote: text.quote,
-            octets: octets.as_slice(),
-        };
-        if self.reader().attribute(compared, true)?.is_none() {
-            return Err(Refusal::LeftOut(Reason::Switch));
-        }
-        let mut comparisons = Vec::new(self.alloc);
-        for case in cases {
-            let comparison = self.case(compared, case)?;
-            comparisons.push(comparison)?;
-        }
-        Ok(chain_of(self.alloc, &comparisons)?)
-    }
-
-    // The texts of a chain's conditions.
-    fn chain_conditions(&self, chain: &SwitchChain) -> Result<Vec<Vec<u8>>, Refusal> {
-        let mut texts = Vec::new(self.alloc);
-        for branch in &chain.branches {
-            let text = self.printed(&branch.cond)?;
-            texts.push(text)?;
-        }
-        Ok(texts)
-    }
-
-    fn switch_chain(
-        &self,
-        place: usize,
-        cases: &[Statement],
-    ) -> Result<(SwitchChain, Vec<Vec<u8>>), Refusal> {
-        let chain = self.cases(place, cases)?;
-        let conditions = self.chain_conditions(&chain)?;
-        Ok((chain, conditions))
-    }
-
     // The block of a case, after the line of its `if`, `elsif` or `else`.
     #[cycle(importing)]
     fn case_block(
@@ -589,6 +481,7 @@ impl<'a> Importer<'a> {
         word: &[u8],
         condition: &[u8],
     ) -> Result<(), ImportFault> {
+        self.count_given(case.place)?;
         self.push_between(case.place, word, condition, b" {")?;
         self.indent();
         self.knows_code = false;
@@ -638,8 +531,9 @@ impl<'a> Importer<'a> {
 
     #[cycle(importing)]
     fn switch(&mut self, place: usize, cases: &[Statement]) -> Result<(), ImportFault> {
-        match self.switch_chain(place, cases) {
+        match self.reader.switch_chain(place, cases) {
             Ok((chain, conditions)) => {
+                self.count_given(place)?;
                 self.valued_cases(cases, &chain, &conditions)?;
                 self.default_case(cases, &chain)?;
                 self.knows_code = false;
@@ -676,7 +570,11 @@ impl<'a> Importer<'a> {
         policy: usize,
         statements: &[Statement],
     ) -> Result<(), ImportFault> {
-        self.comment(place, b"policy", section_name(self.configuration, policy))?;
+        self.comment(
+            place,
+            b"policy",
+            section_name(self.reader.configuration, policy),
+        )?;
         self.open.push(policy)?;
         self.block(statements)?;
         let _ = self.open.pop();
@@ -696,8 +594,9 @@ impl<'a> Importer<'a> {
             StatementKind::Policy(policy) => self.policy(place, policy, block),
             StatementKind::Module => self.module(place),
             StatementKind::Code(code) => self.push_code(place, code),
+            StatementKind::Return => self.end(place),
             StatementKind::OwnSection => {
-                let shown = shown_item(self.alloc, self.configuration, place)?;
+                let shown = shown_item(self.reader.alloc, self.reader.configuration, place)?;
                 self.comment(place, b"a section of its own,", &shown)
             }
             StatementKind::LeftOut(reason) => {
@@ -717,9 +616,18 @@ impl<'a> Importer<'a> {
 
     #[cycle(importing)]
     fn block(&mut self, statements: &[Statement]) -> Result<(), ImportFault> {
-        for statement in statements {
+        let (follows, last) = (self.follows, self.reader.last_acting(statements));
+        let mut rest = None;
+        for (at, statement) in statements.iter().enumerate() {
+            let is_followed = is_before(at, last);
+            let returns = self.returns;
+            self.follows = follows || is_followed;
             self.statement(statement)?;
+            if is_followed && self.returns != returns {
+                rest = self.begin_rest(rest, statement.place)?;
+            }
         }
-        Ok(())
+        self.follows = follows;
+        self.end_rest(rest)
     }
 }

@@ -1,20 +1,22 @@
 //! Policies that are made of a server's statements.
 
-ghost use Rattle.std.specs.Prelude.{◌≡◌, ◌+◌, IfOk, IfSome, OnOk};
-ghost use Rattle.server_configuration.specs.Places.{AreOnLines};
+ghost use Rattle.std.specs.Prelude.{◌≡◌, ◌+◌, length, IfOk, IfSome, OnOk};
+ghost use Rattle.server_configuration.specs.Places.{AreOnLines, line_feeds};
 ghost use Rattle.avp_unlang.specs.Policies.{SpellsPolicy};
 ghost use Rattle.radpolicy_import_policies.specs.Imports.{left_in, part_origins};
-ghost use Rattle.radpolicy_import_policies.specs.Origins.{AreLines};
+ghost use Rattle.radpolicy_import_policies.specs.Origins.{AreLines, line_origins};
 ghost use Rattle.radpolicy_import_policies.specs.Statements.{count_of};
 
-use crate::drafts::{Draft, DraftPart, push_visible, section_name, shown_item};
-use crate::importers::{Importer, PROFILE_LINE, Settings};
-use crate::origins::{Origin, origin_of};
+use crate::drafts::{Draft, DraftPart, shown_item};
+use crate::importers::{Importer, is_before};
+use crate::item_readers::ItemReader;
+use crate::origin_texts::{line_feeds, push_origin, push_policies};
+use crate::origins::{LineOrigin, Origin, origin_of};
 use crate::reasons::{ImportFault, Reason};
+use crate::settings::{LineEnds, PROFILE_LINE, Settings};
 use crate::statements::{Statement, counted};
 use avp_dict::Dictionary;
 use avp_unlang::{Policy, PolicyKind, read_policy};
-use itoa::Buffer;
 use server_configuration::Configuration;
 use std::alloc::{AllocError, Global};
 
@@ -32,17 +34,19 @@ pub struct LeftOut {
 /// A policy, and what was left out of it.
 #[derive(Debug, Drop)]
 pub struct Imported {
-    /// The policy's text. Each line ends in its origin, as `# policy.d/filter:12 (filter_username)`.
+    /// The policy's text. Each line ends as the settings ask for.
     pub text: Vec<u8>,
     /// The policy.
     pub policy: Policy,
     /// Where each line comes from.
-    pub origins: Vec<Origin>,
+    pub lines: Vec<LineOrigin>,
     pub left_out: Vec<LeftOut>,
     /// How many statements were read.
     pub read: usize,
     /// How many of them are in the policy.
     pub kept: usize,
+    /// How many of those have a value that is given: the result of an expansion that an attribute is in place of.
+    pub given: usize,
     /// How many calls of modules are comments.
     pub calls: usize,
 }
@@ -71,63 +75,6 @@ fn kept_of(read: usize, parts: &[LeftOut]) -> Result<usize, ImportFault>
     }
 }
 
-fn push_number(out: &mut Vec<u8>, number: usize) -> Result<(), AllocError> {
-    let mut buffer = Buffer::new();
-    out.extend_from_slice(buffer.format(number).as_bytes())
-}
-
-// A path in the folder of a configuration's first file.
-fn short_path<'a>(configuration: &Configuration, path: &'a [u8]) -> &'a [u8] {
-    let Some(first) = configuration.files.first() else {
-        return path;
-    };
-    let Some(end) = first.path.iter().rposition(|octet| *octet == b'/') else {
-        return path;
-    };
-    let (folder, _) = first.path.split_at(end);
-    match path.strip_prefix(folder) {
-        Some(rest) => rest.strip_prefix(b"/").unwrap_or(path),
-        None => path,
-    }
-}
-
-/// The path of an origin's file, from the folder of the configuration's first file on.
-pub fn origin_path(configuration: &Configuration, origin: Origin) -> &[u8] {
-    match configuration.files.get(origin.file) {
-        Some(file) => short_path(configuration, &file.path),
-        None => b"",
-    }
-}
-
-/// `FILE:LINE` of an origin, its path from the folder of the configuration's first file on.
-pub fn push_origin(
-    out: &mut Vec<u8>,
-    configuration: &Configuration,
-    origin: Origin,
-) -> Result<(), AllocError> {
-    push_visible(out, origin_path(configuration, origin))?;
-    out.push(b':')?;
-    push_number(out, origin.line)
-}
-
-// The names of the policies that a line was put in by.
-fn push_policies(
-    out: &mut Vec<u8>,
-    configuration: &Configuration,
-    policies: &[usize],
-) -> Result<(), AllocError> {
-    let mut between: &[u8] = b" (";
-    for policy in policies {
-        out.extend_from_slice(between)?;
-        push_visible(out, section_name(configuration, *policy))?;
-        between = b" > ";
-    }
-    if !policies.is_empty() {
-        out.push(b')')?;
-    }
-    Ok(())
-}
-
 fn push_indented(out: &mut Vec<u8>, draft: &Draft) -> Result<(), AllocError> {
     for _ in 0..draft.depth {
         out.push(b'\t')?;
@@ -138,55 +85,66 @@ fn push_indented(out: &mut Vec<u8>, draft: &Draft) -> Result<(), AllocError> {
 fn push_draft(
     out: &mut Vec<u8>,
     configuration: &Configuration,
+    line_ends: LineEnds,
     draft: &Draft,
     origin: Origin,
 ) -> Result<(), AllocError> {
     push_indented(out, draft)?;
     // Words after those of the profile's line would make it another comment.
-    if draft.text.as_slice() == PROFILE_LINE {
-        return Ok(out.push(b'\n')?);
+    if line_ends == LineEnds::Origins && draft.text.as_slice() != PROFILE_LINE {
+        out.extend_from_slice(b"  # ")?;
+        push_origin(out, configuration, origin)?;
+        push_policies(out, configuration, &draft.policies)?;
     }
-    out.extend_from_slice(b"  # ")?;
-    push_origin(out, configuration, origin)?;
-    push_policies(out, configuration, &draft.policies)?;
     Ok(out.push(b'\n')?)
 }
 
-// Adds where an item begins, and gives it.
+// Adds where a line comes from, and gives its origin.
 #[tactic(auto, using(crate::proofs::FoundLines::lines_after))]
-fn add_origin(
-    origins: &mut Vec<Origin>,
+fn add_line(
+    lines: &mut Vec<LineOrigin>,
+    alloc: Global,
     configuration: &Configuration,
-    place: usize,
+    draft: &Draft,
 ) -> Result<Option<Origin>, AllocError>
     ensures { AreOnLines configuration.now.files.items configuration.now.items.items
-        → AreLines configuration.now.files.items origins.old.items
-        → OnOk result (AreLines configuration.now.files.items origins.new.items) }
+        → AreLines configuration.now.files.items (line_origins lines.old.items)
+        → OnOk result (AreLines configuration.now.files.items (line_origins lines.new.items)) }
 {
-    let Some(origin) = origin_of(configuration, place) else {
+    let Some(origin) = origin_of(configuration, draft.place) else {
         return Ok(None);
     };
-    origins.push(origin)?;
+    let policies = Vec::from_slice(alloc, &draft.policies)?;
+    lines.push(LineOrigin { origin, policies })?;
     Ok(Some(origin))
+}
+
+// A policy's text, and where each line of it comes from.
+#[derive(Drop)]
+struct PolicyText {
+    text: Vec<u8>,
+    lines: Vec<LineOrigin>,
 }
 
 // The lines of a policy, and where each comes from.
 fn rendered(
     alloc: Global,
     configuration: &Configuration,
+    line_ends: LineEnds,
     drafts: &[Draft],
-) -> Result<(Vec<u8>, Vec<Origin>), AllocError>
+) -> Result<PolicyText, AllocError>
     ensures { AreOnLines configuration.now.files.items configuration.now.items.items
-        → IfOk result (λ made. AreLines configuration.now.files.items made.1.items) }
+        → IfOk result (λ made.
+        AreLines configuration.now.files.items (line_origins made.lines.items)) }
 {
     let mut text = Vec::new(alloc);
-    let mut origins = Vec::new(alloc);
+    let mut lines = Vec::new(alloc);
     for draft in drafts {
-        if let Some(origin) = add_origin(&mut origins, configuration, draft.place)? {
-            push_draft(&mut text, configuration, draft, origin)?;
+        if let Some(origin) = add_line(&mut lines, alloc, configuration, draft)? {
+            push_draft(&mut text, configuration, line_ends, draft, origin)?;
         }
     }
-    Ok((text, origins))
+    Ok(PolicyText { text, lines })
 }
 
 // Adds a part, with its place.
@@ -230,11 +188,13 @@ fn left_out(
     Ok(made)
 }
 
-// Why lines are no policy by themselves, if they are none.
+// Why lines are no policy by themselves, if they are none: those of a statement, and before and after them those of the
+// branch that they are in.
 fn fault_of(
     alloc: Global,
     dictionary: &Dictionary,
     is_wider: bool,
+    begin: Option<&Draft>,
     drafts: &[Draft],
 ) -> Result<Option<PolicyKind>, ImportFault> {
     let mut text = Vec::new(alloc);
@@ -242,9 +202,16 @@ fn fault_of(
         text.extend_from_slice(PROFILE_LINE)?;
         text.push(b'\n')?;
     }
+    if let Some(draft) = begin {
+        text.extend_from_slice(&draft.text)?;
+        text.push(b'\n')?;
+    }
     for draft in drafts {
         text.extend_from_slice(&draft.text)?;
         text.push(b'\n')?;
+    }
+    if begin.is_some() {
+        text.push(b'}')?;
     }
     match read_policy(alloc, dictionary, &text) {
         Ok(_) => Ok(None),
@@ -253,30 +220,59 @@ fn fault_of(
     }
 }
 
-// Adds what becomes of a statement. What is refused as a whole is left out as one.
+// Adds what becomes of a statement, in the branch that begins with a draft, if it is in one. What is refused as a whole
+// is left out as one.
 fn add_statement(
     alloc: Global,
     dictionary: &Dictionary,
     importer: &mut Importer<'_>,
+    begin: Option<usize>,
     statement: &Statement,
 ) -> Result<(), ImportFault> {
     let (drafts, parts, calls) = (importer.drafts.len(), importer.parts.len(), importer.calls);
-    let wider = importer.wider;
+    let (wider, returns, given) = (importer.wider, importer.returns, importer.given);
     importer.statement(statement)?;
     let Some(added) = importer.drafts.get(drafts..) else {
         return Ok(());
     };
     let is_wider = importer.wider.is_some();
-    let Some(kind) = fault_of(alloc, dictionary, is_wider, added)? else {
+    let begin = match begin {
+        Some(at) => importer.drafts.get(at),
+        None => None,
+    };
+    let Some(kind) = fault_of(alloc, dictionary, is_wider, begin, added)? else {
         return Ok(());
     };
     importer.drafts.truncate(drafts);
     importer.parts.truncate(parts);
     importer.calls = calls;
     importer.wider = wider;
+    importer.returns = returns;
+    importer.given = given;
     let alone = std::slice::from_ref(statement);
     let count = counted(alone)?;
     importer.leave(statement.place, count, Reason::Refused(kind))
+}
+
+// Adds what becomes of the statements of the section. What may follow `return` is in a branch.
+fn add_statements(
+    alloc: Global,
+    dictionary: &Dictionary,
+    importer: &mut Importer<'_>,
+    statements: &[Statement],
+) -> Result<(), ImportFault> {
+    let last = importer.reader.last_acting(statements);
+    let (mut rest, mut begin) = (None, None);
+    for (at, statement) in statements.iter().enumerate() {
+        let returns = importer.returns;
+        importer.follows = is_before(at, last);
+        add_statement(alloc, dictionary, importer, begin, statement)?;
+        if is_before(at, last) && importer.returns != returns {
+            rest = importer.begin_rest(rest, statement.place)?;
+            begin = importer.drafts.len().checked_sub(1);
+        }
+    }
+    importer.end_rest(rest)
 }
 
 // The lines of the policy, below that of the wider profile where one needs it.
@@ -318,24 +314,36 @@ pub fn import_statements(
         ≡ imported.read) }
     // Each line comes from a line of a file that was read, and so does each part that is left out.
     ensures lines { AreOnLines configuration.now.files.items configuration.now.items.items
-        → IfOk result (λ imported. AreLines configuration.now.files.items imported.origins.items) }
+        → IfOk result (λ imported.
+        AreLines configuration.now.files.items (line_origins imported.lines.items)) }
+    ensures numbers { IfOk result (λ imported.
+        line_feeds imported.text.items ≡ length imported.lines.items) }
     ensures parts { AreOnLines configuration.now.files.items configuration.now.items.items
         → IfOk result (λ imported. AreLines configuration.now.files.items
         (part_origins imported.left_out.items)) }
 {
-    let mut importer = Importer::new(alloc, configuration, dictionary, settings);
-    for statement in statements {
-        add_statement(alloc, dictionary, &mut importer, statement)?;
-    }
+    let mut importer = Importer::new(ItemReader {
+        alloc,
+        configuration,
+        dictionary,
+        settings,
+    });
+    importer.initial()?;
+    add_statements(alloc, dictionary, &mut importer, statements)?;
     let Importer {
         drafts,
         parts,
         calls,
         wider,
+        given,
         ..
     } = importer;
     let drafts = with_profile(alloc, wider, drafts)?;
-    let (text, origins) = rendered(alloc, configuration, &drafts)?;
+    let PolicyText { text, lines } = rendered(alloc, configuration, settings.line_ends, &drafts)?;
+    // No line of a draft has a line end in it.
+    if line_feeds(&text) != lines.len() {
+        return Err(ImportFault::TooManyStatements);
+    }
     let left_out = left_out(alloc, configuration, &parts)?;
     let policy = read_policy(alloc, dictionary, &text)?;
     let read = counted(statements)?;
@@ -343,10 +351,11 @@ pub fn import_statements(
     Ok(Imported {
         text,
         policy,
-        origins,
+        lines,
         left_out,
         read,
         kept,
+        given,
         calls,
     })
 }

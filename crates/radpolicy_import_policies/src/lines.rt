@@ -7,7 +7,7 @@ use crate::references::{
 };
 use crate::texts::{has_expansion, push_double, push_octets, push_reference, single_octets};
 use avp_dict::Kind;
-use avp_lists::List;
+use avp_lists::{AttrId, List};
 use server_configuration::{Operator, Quote, Text};
 use std::alloc::{AllocError, Global};
 
@@ -65,6 +65,24 @@ fn is_word(octets: &[u8]) -> bool {
 }
 
 impl<'a> LineReader<'a> {
+    /// Whether an attribute's text, put into the attribute of a name, gives the value again.
+    pub(crate) fn copies(&self, name: &[u8], source: AttrId) -> bool {
+        let name = name.strip_prefix(b"&").unwrap_or(name);
+        let Ok(target) = reference_in(&self.names, self.own, name) else {
+            return false;
+        };
+        let dictionary = self.names.dictionary;
+        match (dictionary.by_id(target.named.id), dictionary.by_id(source)) {
+            (Some(own), Some(entry)) if own.kind == entry.kind => match own.kind {
+                Kind::Text => false,
+                Kind::Bytes | Kind::Addr => true,
+                // Numbers may have names, each attribute its own.
+                _ => target.named.id.equals(source),
+            },
+            _ => false,
+        }
+    }
+
     // Whether a text with expansions may be put into an attribute: into others a server puts numbers that a policy
     // would refuse.
     fn takes_expansions(&self, target: &Reference<'_>) -> bool {

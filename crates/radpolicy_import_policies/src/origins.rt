@@ -14,6 +14,14 @@ pub struct Origin {
     pub line: usize,
 }
 
+/// Where a line of a policy comes from.
+#[derive(Debug, Drop)]
+pub struct LineOrigin {
+    pub origin: Origin,
+    /// The places of the policies that it was put in by, the outermost first.
+    pub policies: Vec<usize>,
+}
+
 /// Where the item at a place begins.
 pub fn origin_of(configuration: &Configuration, place: usize) -> Option<Origin>
     ensures { result ≡ option_map origin_in (slice_get configuration.now.items.items place) }

@@ -1,8 +1,9 @@
 //! What policies do not have, and the attributes of `control` that it is in a policy: attributes of other lists, and
 //! expansions that ask something outside of the policy.
 
-ghost use Rattle.std.specs.Prelude.{◌<◌, IfOk, IfSome, length};
+ghost use Rattle.std.specs.Prelude.{◌<◌, IfSome, length};
 
+use crate::expansions::expansions_in;
 use crate::other_lists::{OtherList, ServerList};
 use crate::references::is_name_octet;
 use crate::statements::{Statement, StatementKind};
@@ -19,6 +20,8 @@ pub enum OtherSource {
     Attribute(OtherList, AttrId, Vec<u8>),
     /// An expansion that asks something, as `sql:SELECT ..`, by the text between its braces.
     Asked(Vec<u8>),
+    /// Whether the section has ended by `return`: it is set there, and what may follow asks for it.
+    Returned,
 }
 
 /// An attribute of `control` in place of something that policies do not have.
@@ -70,7 +73,8 @@ const ASKING: [&[u8]; 14] = [
 
 // The module or function that an expansion calls, by the text between its braces.
 fn called(word: &[u8]) -> Option<&[u8]> {
-    let colon = word.iter().position(|octet| *octet == b':')?;
+    let begin = word.get(..word.len().min(MOST_OCTETS))?;
+    let colon = begin.iter().position(|octet| *octet == b':')?;
     let name = word.split_at(colon).0;
     let is_name = name.iter().all(|octet| octet.is_ascii_alphanumeric()
         || matches!(*octet, b'_' | b'-' | b'.'));
@@ -137,6 +141,9 @@ fn are_alike(dictionary: &Dictionary, one: Named, other: Named) -> bool {
     }
 }
 
+// The name of the attribute that is set by `return`.
+const RETURNED: &[u8] = b"Import-Returned";
+
 // How many names are tried where others have them.
 const MOST_NAMES: usize = 100;
 
@@ -169,13 +176,13 @@ impl<'a> Finder<'a> {
     fn has(&self, list: OtherList, id: AttrId) -> bool {
         self.found.iter().any(|other| match &other.source {
             OtherSource::Attribute(own, known, _) => *own == list && known.equals(id),
-            OtherSource::Asked(_) => false,
+            OtherSource::Asked(_) | OtherSource::Returned => false,
         })
     }
 
     fn has_asked(&self, word: &[u8]) -> bool {
         self.found.iter().any(|other| match &other.source {
-            OtherSource::Attribute(..) => false,
+            OtherSource::Attribute(..) | OtherSource::Returned => false,
             OtherSource::Asked(text) => text.as_slice() == word,
         })
     }
@@ -189,7 +196,7 @@ impl<'a> Finder<'a> {
         self.found
             .iter()
             .filter(|other| match &other.source {
-                OtherSource::Attribute(..) => false,
+                OtherSource::Attribute(..) | OtherSource::Returned => false,
                 OtherSource::Asked(text) => called(text) == Some(module),
             })
             .count()
@@ -241,25 +248,16 @@ impl<'a> Finder<'a> {
         Ok(true)
     }
 
-    // The expansion that a text begins with, and what follows it where it becomes an attribute.
-    fn expansion<'b>(&mut self, text: &'b [u8]) -> Result<Option<&'b [u8]>, AllocError>
-        ensures { IfOk result (λ found. IfSome found (λ rest. length rest.now < length text.now)) }
-    {
-        let [b'%', b'{', inside @ ..] = text else {
-            return Ok(None);
-        };
-        let Some(end) = closing_brace(inside) else {
-            return Ok(None);
-        };
-        let (word, rest) = inside.split_at(end);
-        Ok(self.asked(word)?.then_some(rest))
-    }
-
-    // The expansions of a text.
+    // The expansions of a text. What is in one that becomes an attribute is a part of it.
     fn expansions(&mut self, text: &[u8]) -> Result<(), AllocError> {
-        let mut rest = text;
-        while let [_, after @ ..] = rest {
-            rest = self.expansion(rest)?.unwrap_or(after);
+        let mut passed = 0usize;
+        for expansion in &expansions_in(self.alloc, text)? {
+            let Some(word) = expansion.word(text) else {
+                continue;
+            };
+            if expansion.start >= passed && self.asked(word)? {
+                passed = expansion.end;
+            }
         }
         Ok(())
     }
@@ -401,9 +399,37 @@ impl<'a> Finder<'a> {
         Ok(())
     }
 
+    fn has_returned(&self) -> bool {
+        self.found
+            .iter()
+            .any(|other| matches!(&other.source, OtherSource::Returned))
+    }
+
+    // Adds the attribute that is set by `return`, once.
+    fn returned(&mut self) -> Result<(), AllocError> {
+        if self.has_returned() || self.is_full() {
+            return Ok(());
+        }
+        for number in 1..=MOST_NAMES {
+            let own = numbered_name(self.alloc, RETURNED, number)?;
+            if self.dictionary.by_name(&own).is_none() && !self.has_own(&own) {
+                self.found.push(OtherAttribute {
+                    source: OtherSource::Returned,
+                    own,
+                    is_new: true,
+                })?;
+                break;
+            }
+        }
+        Ok(())
+    }
+
     #[cycle(finding)]
     fn statement(&mut self, statement: &Statement) -> Result<(), AllocError> {
         self.item(statement.place)?;
+        if statement.kind == StatementKind::Return {
+            self.returned()?;
+        }
         let block = statement.block.as_slice();
         if statement.kind == StatementKind::Update {
             self.lines(statement.place, block)?;

@@ -1,5 +1,6 @@
 //! Why a part of a server's policy is left out, and why an import ends.
 
+use crate::origins::Origin;
 use avp_dict::ValueFault;
 use avp_unlang::{PolicyFault, PolicyKind};
 use server_configuration::{ReferenceFault, ReferenceFaultKind};
@@ -69,6 +70,8 @@ pub enum Reason {
     TooDeep,
     #[error("not a line of an update")]
     NoLine,
+    #[error("not a pair of an initial list, as reply:Class = 1 or control:User-Name = \"bob\"")]
+    NoInitial,
     /// A reference to the configuration, as `${name}`.
     #[error("a reference to the configuration: {0}")]
     Reference(ReferenceFaultKind),
@@ -141,6 +144,9 @@ pub enum ImportFault {
     /// Each statement is taken by itself, and all together are not.
     #[error("{0}")]
     Policy(PolicyFault),
+    /// A line of the file of initial lists is no pair of one.
+    #[error("{1}")]
+    Initial(Origin, Reason),
 }
 
 impl From<AllocError> for ImportFault {

@@ -56,6 +56,17 @@ impl<'a> Names<'a> {
         None
     }
 
+    /// The name of the attribute of control that is set where a section has ended by `return`.
+    pub(crate) fn returned(&self) -> Option<&'a [u8]> {
+        let others = self.others;
+        for other in others {
+            if let OtherSource::Returned = &other.source {
+                return Some(&other.own);
+            }
+        }
+        None
+    }
+
     /// The attribute of control that is in place of an expansion, by the text between its braces.
     pub(crate) fn asked(&self, word: &[u8]) -> Option<Named> {
         let others = self.others;

@@ -39,6 +39,8 @@ pub enum StatementKind {
     /// The call of a module.
     Module,
     Code(Code),
+    /// `return`, which ends the section, also in a policy that is called.
+    Return,
     /// `Auth-Type NAME` and the like: a section of its own, which other sections do not run.
     OwnSection,
     LeftOut(Reason),
@@ -186,7 +188,7 @@ fn code_named(word: &[u8]) -> Option<Code> {
 fn is_other_word(word: &[u8]) -> bool {
     matches!(
         word,
-        b"notfound" | b"invalid" | b"userlock" | b"handled" | b"return" | b"break"
+        b"notfound" | b"invalid" | b"userlock" | b"handled" | b"break"
     )
 }
 
@@ -397,6 +399,9 @@ impl<'a> Builder<'a> {
         let word = name.octets.strip_prefix(b"-").unwrap_or(&name.octets);
         if let Some(code) = code_named(word) {
             return Ok(self.leaf(place, StatementKind::Code(code)));
+        }
+        if word == b"return".as_slice() {
+            return Ok(self.leaf(place, StatementKind::Return));
         }
         if is_other_word(word) {
             return Ok(self.leaf(place, StatementKind::LeftOut(Reason::OtherCode)));

@@ -51,8 +51,8 @@ fn expanded<'a>(names: &Names<'_>, text: &'a [u8]) -> Result<(Part<'a>, &'a [u8]
     }
 }
 
-// The attribute that an expansion names, or that is in its place.
-fn expansion<'a>(names: &Names<'_>, word: &'a [u8]) -> Result<Reference<'a>, Reason> {
+/// The attribute that an expansion names, or that is in its place, by the text between its braces.
+pub(crate) fn expansion<'a>(names: &Names<'_>, word: &'a [u8]) -> Result<Reference<'a>, Reason> {
     if let Some(named) = names.asked(word) {
         return Ok(Reference {
             list: List::Control,
@@ -219,4 +219,17 @@ pub(crate) fn sole_expansion<'a>(names: &Names<'_>, text: &'a [u8]) -> Option<Re
         Ok(found) => Some(found),
         Err(_) => None,
     }
+}
+
+/// A text with another before it and one after it.
+pub(crate) fn between(
+    alloc: Global,
+    before: &[u8],
+    text: &[u8],
+    after: &[u8],
+) -> Result<Vec<u8>, AllocError> {
+    let mut joined = Vec::from_slice(alloc, before)?;
+    joined.extend_from_slice(text)?;
+    joined.extend_from_slice(after)?;
+    Ok(joined)
 }

@@ -1,6 +1,6 @@
 //! Which attributes no line of a policy sets.
 
-use crate::others::OtherAttribute;
+use crate::others::{OtherAttribute, OtherSource};
 use avp_dict::Dictionary;
 use avp_lists::{AttrId, List, Op};
 use avp_unlang::{Branch, Line, Policy, Statement};
@@ -14,16 +14,15 @@ fn makes(op: Op) -> bool {
     }
 }
 
-fn is_set_by(lines: &[Line], id: AttrId) -> bool {
-    lines.iter().any(|line| matches!(line.list, List::Control)
-        && line.id.equals(id)
-        && makes(line.op))
+fn is_set_by(lines: &[Line], list: List, id: AttrId) -> bool {
+    lines.iter().any(|line| line.list == list && line.id.equals(id) && makes(line.op))
 }
 
+/// Whether a line of a block sets an attribute in a list.
 #[cycle(blocks)]
-fn is_set_in(block: &[Statement], id: AttrId) -> bool {
+pub(crate) fn is_set(block: &[Statement], list: List, id: AttrId) -> bool {
     for statement in block {
-        if is_set_by_statement(statement, id) {
+        if is_set_by_statement(statement, list, id) {
             return true;
         }
     }
@@ -31,9 +30,9 @@ fn is_set_in(block: &[Statement], id: AttrId) -> bool {
 }
 
 #[cycle(blocks)]
-fn is_set_in_branches(branches: &[Branch], id: AttrId) -> bool {
+fn is_set_in_branches(branches: &[Branch], list: List, id: AttrId) -> bool {
     for branch in branches {
-        if is_set_in(branch.block.as_slice(), id) {
+        if is_set(branch.block.as_slice(), list, id) {
             return true;
         }
     }
@@ -41,17 +40,17 @@ fn is_set_in_branches(branches: &[Branch], id: AttrId) -> bool {
 }
 
 #[cycle(blocks)]
-fn is_set_by_statement(statement: &Statement, id: AttrId) -> bool {
+fn is_set_by_statement(statement: &Statement, list: List, id: AttrId) -> bool {
     match statement {
-        Statement::Update(_, lines) => is_set_by(lines.as_slice(), id),
+        Statement::Update(_, lines) => is_set_by(lines.as_slice(), list, id),
         Statement::If(branches, otherwise) => {
-            is_set_in_branches(branches.as_slice(), id)
+            is_set_in_branches(branches.as_slice(), list, id)
                 || match otherwise {
-                    Some(block) => is_set_in(block.as_slice(), id),
+                    Some(block) => is_set(block.as_slice(), list, id),
                     None => false,
                 }
         }
-        Statement::Transaction(_, block) => is_set_in(block.as_slice(), id),
+        Statement::Transaction(_, block) => is_set(block.as_slice(), list, id),
         Statement::Word(_, _) => false,
     }
 }
@@ -65,8 +64,12 @@ pub fn unset_attributes<'a>(
 ) -> Result<Vec<&'a OtherAttribute>, AllocError> {
     let mut unset = Vec::new(alloc);
     for other in others {
+        // That no `return` is kept says nothing of what has to be given.
+        if let OtherSource::Returned = &other.source {
+            continue;
+        }
         if let Some(named) = dictionary.by_name(&other.own)
-            && !is_set_in(policy.statements().as_slice(), named.id)
+            && !is_set(policy.statements().as_slice(), List::Control, named.id)
         {
             unset.push(other)?;
         }

@@ -5,8 +5,8 @@ use avp_dict::Dictionary;
 use avp_forms::Profile;
 use avp_unlang::Items;
 use radpolicy_import_policies::{
-    Imported, Meaning, Module, ModuleAnswer, Settings, Statement, Wanted, import_statements,
-    section_of, statements_of,
+    Imported, LineEnds, Meaning, Module, ModuleAnswer, Settings, Statement, Wanted,
+    import_statements, origin_map, section_of, statements_of,
 };
 use samples::{one_file, test_dictionary};
 use server_configuration::{Configuration, read_configuration};
@@ -83,9 +83,11 @@ fn becomes(
 ) -> Result<bool, Fail> {
     let settings = Settings {
         meaning: Meaning::Server,
+        line_ends: LineEnds::Origins,
         profile: Profile::Wider,
         modules: &[],
         others: &[],
+        initial: 0,
     };
     is_imported_by(alloc, settings, text, wanted, counts)
 }
@@ -199,9 +201,11 @@ fn an_answer_for_a_module(rt: HostRuntime) -> Result<(), Fail> {
     ]?;
     let settings = Settings {
         meaning: Meaning::Server,
+        line_ends: LineEnds::Origins,
         profile: Profile::Wider,
         modules: &modules,
         others: &[],
+        initial: 0,
     };
     assert!(rt;
         is_imported_by(
@@ -227,9 +231,11 @@ fn vlan(alloc: Global, profile: Profile) -> Result<(Vec<u8>, usize), Fail> {
     let dictionary = Dictionary::read(alloc, &files)?;
     let settings = Settings {
         meaning: Meaning::Server,
+        line_ends: LineEnds::Origins,
         profile,
         modules: &[],
         others: &[],
+        initial: 0,
     };
     let text = b"authorize {\n update reply {\n Tunnel-Type := VLAN\n \
         Tunnel-Private-Group-Id:1 := \"20\"\n }\n}";
@@ -250,5 +256,111 @@ fn lines_of_the_wider_profile(rt: HostRuntime) -> Result<(), Fail> {
 fn without_the_wider_profile(rt: HostRuntime) -> Result<(), Fail> {
     let (text, kept) = vlan(rt.alloc(), Profile::Plain)?;
     assert!(rt; text.starts_with(b"# left out, ") && kept == 0);
+    Ok(())
+}
+
+const NAMED: &[u8] = b"policy {\n p {\n q\n }\n q {\n update reply {\n \
+    Tunnel-Type := VLAN\n }\n }\n}\nauthorize {\n p\n}";
+
+// The policy without comments at the ends of its lines, and where these come from.
+fn mapped(alloc: Global, text: &[u8]) -> Result<(Vec<u8>, Vec<u8>), Fail> {
+    let files = one_file(alloc, TUNNELS)?;
+    if files.is_empty() || !files.has_distinct_names() {
+        return Err(Fail::new("no files"));
+    }
+    let dictionary = Dictionary::read(alloc, &files)?;
+    let settings = Settings {
+        meaning: Meaning::Plain,
+        line_ends: LineEnds::Nothing,
+        profile: Profile::Wider,
+        modules: &[],
+        others: &[],
+        initial: 0,
+    };
+    let configuration = configuration(alloc, text)?;
+    let imported = imported(alloc, &dictionary, settings, text)?;
+    let map = origin_map(alloc, &configuration, &imported.lines)?;
+    Ok((imported.text, map))
+}
+
+#[test]
+fn origins_by_themselves(rt: HostRuntime) -> Result<(), Fail> {
+    let (text, map) = mapped(rt.alloc(), NAMED)?;
+    let wanted =
+        b"# profile: wider\n# policy p\n# policy q\nupdate reply {\n\tTunnel-Type := VLAN\n}\n";
+    assert_eq!(rt; text.as_slice(), wanted.as_slice());
+    let wanted = b"1 main:7\n2 main:12\n3 main:3 (p)\n4 main:6 (p > q)\n\
+        5 main:7 (p > q)\n6 main:6 (p > q)\n";
+    assert_eq!(rt; map.as_slice(), wanted.as_slice());
+    Ok(())
+}
+
+#[test]
+fn one_of_two_texts(rt: HostRuntime) -> Result<(), Fail> {
+    assert!(rt;
+        becomes(
+            rt.alloc(),
+            b"authorize {\n update reply {\n Reply-Message := \"Hi %{%{User-Name}:-you}\"\n \
+          Session-Timeout := \"%{%{Session-Timeout}:-60}\"\n Class := 1\n }\n}",
+            b"if (&User-Name && &User-Name != \"\") {  # main:3\n\tupdate reply {  # main:3\n\
+          \t\tReply-Message := \"Hi %{User-Name}\"  # main:3\n\t}  # main:3\n}  # main:3\n\
+          else {  # main:3\n\tupdate reply {  # main:3\n\
+          \t\tReply-Message := \"Hi you\"  # main:3\n\t}  # main:3\n}  # main:3\n\
+          if (&Session-Timeout) {  # main:4\n\tupdate reply {  # main:4\n\
+          \t\tSession-Timeout := &Session-Timeout  # main:4\n\t}  # main:4\n}  # main:4\n\
+          else {  # main:4\n\tupdate reply {  # main:4\n\
+          \t\tSession-Timeout := \"60\"  # main:4\n\t}  # main:4\n}  # main:4\n\
+          update reply {  # main:2\n\tClass := 1  # main:5\n}  # main:2\n",
+            (3, 3, 0),
+        )?
+    );
+    Ok(())
+}
+
+#[test]
+fn one_of_three_texts(rt: HostRuntime) -> Result<(), Fail> {
+    assert!(rt;
+        becomes(
+            rt.alloc(),
+            b"authorize {\n update reply {\n \
+          Reply-Message := \"%{%{User-Name}:-%{%{control:Class}:-%{NAS-Port}%%}}\"\n }\n}",
+            b"if (&User-Name && &User-Name != \"\") {  # main:3\n\tupdate reply {  # main:3\n\
+          \t\tReply-Message := \"%{User-Name}\"  # main:3\n\t}  # main:3\n}  # main:3\n\
+          elsif (&control:Class) {  # main:3\n\tupdate reply {  # main:3\n\
+          \t\tReply-Message := \"%{control:Class}\"  # main:3\n\t}  # main:3\n}  # main:3\n\
+          else {  # main:3\n\tupdate reply {  # main:3\n\
+          \t\tReply-Message := \"%{NAS-Port}%%\"  # main:3\n\t}  # main:3\n}  # main:3\n",
+            (1, 1, 0),
+        )?
+    );
+    Ok(())
+}
+
+#[test]
+fn a_return_that_nothing_follows(rt: HostRuntime) -> Result<(), Fail> {
+    assert!(rt;
+        becomes(
+            rt.alloc(),
+            b"policy {\n p {\n if (&User-Name) {\n ok\n return\n }\n }\n}\nauthorize {\n p\n sql\n}",
+            b"# policy p  # main:10\nif (&User-Name) {  # main:3 (p)\n\tok  # main:4 (p)\n\
+          \t# return, and nothing follows  # main:5 (p)\n}  # main:3 (p)\n# module sql  # main:11\n",
+            (4, 4, 1),
+        )?
+    );
+    Ok(())
+}
+
+#[test]
+fn a_return_without_a_mark(rt: HostRuntime) -> Result<(), Fail> {
+    assert!(rt;
+        becomes(
+            rt.alloc(),
+            b"authorize {\n if (&User-Name) {\n return\n }\n reject\n}",
+            b"if (&User-Name) {  # main:2\n\
+          \t# left out, a code that policies do not have: return  # main:3\n}  # main:2\n\
+          reject  # main:5\n",
+            (2, 3, 0),
+        )?
+    );
     Ok(())
 }

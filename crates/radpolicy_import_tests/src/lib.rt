@@ -4,6 +4,8 @@
 #[cfg(test)]
 mod imports;
 #[cfg(test)]
+mod initial;
+#[cfg(test)]
 mod memory_files;
 #[cfg(test)]
 mod other_lists;

@@ -5,8 +5,8 @@ use avp_dict::{Dictionary, FileSet, NamedFile};
 use avp_forms::Profile;
 use avp_lists::Octets;
 use radpolicy_import_policies::{
-    Meaning, OtherAttribute, Settings, Stubs, keeps_names, other_attributes, other_dictionary,
-    unset_attributes,
+    Imported, LineEnds, Meaning, OtherAttribute, Settings, Stubs, keeps_names, other_attributes,
+    other_dictionary, unset_attributes,
 };
 use samples::one_file;
 use std::alloc::Global;
@@ -51,12 +51,21 @@ fn named(alloc: Global, name: &[u8], text: &[u8]) -> Result<NamedFile, Fail> {
     Ok(NamedFile { name, octets })
 }
 
-// The attributes of other lists that the configuration names.
-fn others(alloc: Global, dictionary: &Dictionary) -> Result<Vec<OtherAttribute>, Fail> {
-    let configuration = configuration(alloc, CONFIGURATION)?;
+// The attributes in place of what a configuration has and policies do not.
+fn others_of(
+    alloc: Global,
+    dictionary: &Dictionary,
+    text: &[u8],
+) -> Result<Vec<OtherAttribute>, Fail> {
+    let configuration = configuration(alloc, text)?;
     let statements = authorize(alloc, &configuration)?;
     let (stubs, statements) = (Stubs::Asking, statements.as_slice());
     Ok(other_attributes(alloc, &configuration, dictionary, stubs, statements)?)
+}
+
+// The attributes of other lists that the configuration names.
+fn others(alloc: Global, dictionary: &Dictionary) -> Result<Vec<OtherAttribute>, Fail> {
+    others_of(alloc, dictionary, CONFIGURATION)
 }
 
 // The dictionary that defines them.
@@ -77,18 +86,20 @@ fn both(alloc: Global, main: &[u8]) -> Result<FileSet, Fail> {
 }
 
 // The policy by the dictionary, and how many of the attributes no line sets.
-fn policy(alloc: Global, dictionary: &Dictionary) -> Result<(Vec<u8>, usize), Fail> {
+fn policy(alloc: Global, dictionary: &Dictionary) -> Result<(Imported, usize), Fail> {
     let plain = dictionary_of(alloc, &one_file(alloc, ATTRIBUTES)?)?;
     let others = others(alloc, &plain)?;
     let settings = Settings {
         meaning: Meaning::Server,
+        line_ends: LineEnds::Origins,
         profile: Profile::Wider,
         modules: &[],
         others: &others,
+        initial: 0,
     };
     let imported = imported(alloc, dictionary, settings, CONFIGURATION)?;
     let unset = unset_attributes(alloc, dictionary, &imported.policy, &others)?.len();
-    Ok((imported.text, unset))
+    Ok((imported, unset))
 }
 
 #[test]
@@ -102,9 +113,9 @@ fn a_dictionary_defines_them(rt: HostRuntime) -> Result<(), Fail> {
 fn they_are_attributes_of_control(rt: HostRuntime) -> Result<(), Fail> {
     let files = both(rt.alloc(), &defined(rt.alloc())?)?;
     let dictionary = dictionary_of(rt.alloc(), &files)?;
-    let (text, unset) = policy(rt.alloc(), &dictionary)?;
-    assert_eq!(rt; text.as_slice(), POLICY);
-    assert_eq!(rt; unset, 3);
+    let (imported, unset) = policy(rt.alloc(), &dictionary)?;
+    assert_eq!(rt; imported.text.as_slice(), POLICY);
+    assert!(rt; (unset, imported.given) == (3, 2));
     Ok(())
 }
 
@@ -115,5 +126,44 @@ fn names_stay_what_they_were(rt: HostRuntime) -> Result<(), Fail> {
     assert!(rt; keeps_names(&plain, &dictionary_of(rt.alloc(), &files)?));
     let other = one_file(rt.alloc(), b"ATTRIBUTE User-Name 1 octets\n")?;
     assert!(rt; !keeps_names(&plain, &dictionary_of(rt.alloc(), &other)?));
+    Ok(())
+}
+
+const RETURNS: &[u8] =
+    b"policy {\n p {\n if (&User-Name) {\n return\n }\n ok\n return\n updated\n }\n}\n\
+    authorize {\n p\n group {\n return\n }\n reject\n return\n}";
+
+const ENDED: &[u8] =
+    b"# policy p\nif (&User-Name) {\n\tupdate control {\n\t\tImport-Returned := \"yes\"\n\t}\n}\n\
+    if (!&control:Import-Returned) {\n\tok\n\tupdate control {\n\t\tImport-Returned := \"yes\"\n\t}\n}\n\
+    if (!&control:Import-Returned) {\n\tupdated\n}\n\
+    if (!&control:Import-Returned) {\n\tupdate control {\n\t\tImport-Returned := \"yes\"\n\t}\n}\n\
+    if (!&control:Import-Returned) {\n\treject\n\t# return, and nothing follows\n}\n";
+
+// The policy of a section that may end early, and how many attributes it wants.
+fn ended(alloc: Global) -> Result<(Vec<u8>, usize), Fail> {
+    let files = one_file(alloc, ATTRIBUTES)?;
+    let plain = dictionary_of(alloc, &files)?;
+    let others = others_of(alloc, &plain, RETURNS)?;
+    let text = other_dictionary(alloc, &files, &plain, &others)?;
+    let dictionary = dictionary_of(alloc, &both(alloc, &text)?)?;
+    let settings = Settings {
+        meaning: Meaning::Server,
+        line_ends: LineEnds::Nothing,
+        profile: Profile::Wider,
+        modules: &[],
+        others: &others,
+        initial: 0,
+    };
+    let imported = imported(alloc, &dictionary, settings, RETURNS)?;
+    let unset = unset_attributes(alloc, &dictionary, &imported.policy, &others)?.len();
+    Ok((imported.text, unset))
+}
+
+#[test]
+fn what_follows_a_return(rt: HostRuntime) -> Result<(), Fail> {
+    let (text, unset) = ended(rt.alloc())?;
+    assert_eq!(rt; text.as_slice(), ENDED);
+    assert_eq!(rt; unset, 0);
     Ok(())
 }

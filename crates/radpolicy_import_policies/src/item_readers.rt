@@ -1,0 +1,413 @@
+//! What items of a configuration say, as policies have it.
+
+use crate::alternatives::{Alternative, ChosenLine, alternatives, has_choices};
+use crate::condition_texts::{ConditionReader, Operand};
+use crate::expansions::expansions_in;
+use crate::lines::{LineReader, UpdateLine};
+use crate::other_lists::ServerList;
+use crate::printing::ConditionPrinter;
+use crate::reasons::{ImportFault, Reason, Refusal};
+use crate::references::{Names, list_name, parts_of};
+use crate::rewriting::rewritten;
+use crate::settings::{Meaning, ModuleAnswer, PROFILE_LINE, Settings};
+use crate::statements::{Statement, StatementKind};
+use crate::switches::{SwitchChain, chain_of};
+use crate::texts::between;
+use avp_dict::Dictionary;
+use avp_forms::Profile;
+use avp_lists::List;
+use avp_unlang::{Comparison, Cond, Relation, read_policy};
+use server_configuration::{Configuration, Content, Operator, Quote, Text, has_reference};
+use std::alloc::Global;
+
+/// What becomes of a line of an update.
+#[derive(Drop)]
+pub(crate) enum PairLines {
+    One(UpdateLine),
+    /// A chain of branches with a line each.
+    Chosen(Vec<ChosenLine>),
+}
+
+/// Reads items of a configuration.
+#[derive(Clone, Copy)]
+pub(crate) struct ItemReader<'a> {
+    pub(crate) alloc: Global,
+    pub(crate) configuration: &'a Configuration,
+    pub(crate) dictionary: &'a Dictionary,
+    pub(crate) settings: Settings<'a>,
+}
+
+impl<'a> ItemReader<'a> {
+    // A text of the item at a place, with its references filled in.
+    fn filled(&self, place: usize, text: &[u8]) -> Result<Vec<u8>, Refusal> {
+        if !has_reference(text) {
+            return Ok(Vec::from_slice(self.alloc, text)?);
+        }
+        let section = match self.configuration.items.get(place) {
+            Some(item) => item.section,
+            None => None,
+        };
+        Ok(self.configuration.resolved(self.alloc, section, text, &[])?)
+    }
+
+    pub(crate) fn check(&self, before: &[u8], text: &[u8], after: &[u8]) -> Result<(), Refusal> {
+        let text = between(self.alloc, before, text, after)?;
+        let _policy = read_policy(self.alloc, self.dictionary, &text)?;
+        Ok(())
+    }
+
+    pub(crate) fn names(&self) -> Names<'a> {
+        Names {
+            dictionary: self.dictionary,
+            others: self.settings.others,
+        }
+    }
+
+    fn reader(&self, knows_code: bool) -> ConditionReader<'a> {
+        ConditionReader {
+            alloc: self.alloc,
+            names: self.names(),
+            knows_code,
+        }
+    }
+
+    fn printed(&self, cond: &Cond) -> Result<Vec<u8>, Refusal> {
+        let printer = ConditionPrinter {
+            alloc: self.alloc,
+            dictionary: self.dictionary,
+        };
+        let mut text = Vec::new(self.alloc);
+        printer.push_condition(&mut text, cond)?;
+        self.check(b"if ", &text, b" { }")?;
+        Ok(text)
+    }
+
+    // The condition of the branch at a place, between brackets.
+    fn condition(&self, place: usize, knows_code: bool) -> Result<Vec<u8>, Refusal> {
+        let text = match self.arguments(place) {
+            [text, ..] => self.filled(place, &text.octets)?,
+            [] => return Err(Refusal::LeftOut(Reason::Condition)),
+        };
+        let condition = self.reader(knows_code).condition(&text)?;
+        if self.settings.meaning == Meaning::Plain && self.check(b"if ", &text, b" { }").is_ok() {
+            return Ok(text);
+        }
+        let cond = rewritten(self.alloc, &condition)?;
+        self.printed(&cond)
+    }
+
+    pub(crate) fn arguments(&self, place: usize) -> &'a [Text] {
+        match self.configuration.items.get(place) {
+            Some(item) => match &item.content {
+                Content::Section { arguments, .. } => arguments.as_slice(),
+                _ => &[],
+            },
+            None => &[],
+        }
+    }
+
+    // The line, where a policy of its profile can have it.
+    fn checked(&self, own: List, line: UpdateLine) -> Result<UpdateLine, Refusal> {
+        let mut head = Vec::new(self.alloc);
+        if line.is_wider {
+            head.extend_from_slice(PROFILE_LINE)?;
+            head.push(b'\n')?;
+        }
+        head.extend_from_slice(b"update ")?;
+        head.extend_from_slice(list_name(own))?;
+        head.extend_from_slice(b" { ")?;
+        self.check(&head, &line.text, b" }")?;
+        Ok(line)
+    }
+
+    /// What is put in the place of the call of a module, if anything is.
+    pub(crate) fn answer(&self, place: usize) -> Option<&'a ModuleAnswer> {
+        let configuration = self.configuration;
+        let name = match &configuration.items.get(place)?.content {
+            Content::Section { name, arguments } | Content::Word { name, arguments }
+                if arguments.is_empty() => { name.octets.as_slice() }
+            _ => return None,
+        };
+        let name = name.strip_prefix(b"-").unwrap_or(name);
+        let modules = self.settings.modules;
+        for module in modules {
+            if module.name.as_slice() == name {
+                return Some(&module.answer);
+            }
+        }
+        None
+    }
+
+    // Whether a statement becomes more than a comment.
+    fn acts(&self, statement: &Statement) -> bool {
+        match statement.kind {
+            StatementKind::OwnSection => false,
+            StatementKind::Module => self.answer(statement.place).is_some(),
+            _ => true,
+        }
+    }
+
+    /// The place among statements of the last that becomes more than a comment.
+    pub(crate) fn last_acting(&self, statements: &[Statement]) -> Option<usize> {
+        statements
+            .iter()
+            .rposition(|statement| self.acts(statement))
+    }
+
+    fn line_reader(&self, own: ServerList) -> LineReader<'a> {
+        LineReader {
+            alloc: self.alloc,
+            names: self.names(),
+            own,
+            skips: self.settings.meaning == Meaning::Server,
+        }
+    }
+
+    // The line of a name, an operator and a value, in an update of a list.
+    fn line_of(
+        &self,
+        own: ServerList,
+        name: &[u8],
+        operator: Operator,
+        value: Option<&Text>,
+    ) -> Result<UpdateLine, Refusal> {
+        let reader = self.line_reader(own);
+        let reason = match reader.line(name, operator, value) {
+            Ok(line) => return self.checked(own.list(), line),
+            Err(Refusal::LeftOut(reason)) => reason,
+            Err(Refusal::Memory) => return Err(Refusal::Memory),
+        };
+        let may_be_wider = matches!(reason, Reason::OctetsHere | Reason::Tag)
+            && self.settings.profile == Profile::Wider;
+        if may_be_wider && let Some(line) = reader.wider_line(name, operator, value)? {
+            return self.checked(own.list(), line);
+        }
+        Err(Refusal::LeftOut(reason))
+    }
+
+    // The line of an alternative. That its attribute is there is its condition.
+    fn chosen_line(
+        &self,
+        own: ServerList,
+        name: &[u8],
+        operator: Operator,
+        alternative: Alternative,
+    ) -> Result<ChosenLine, Refusal> {
+        let Alternative {
+            condition,
+            text,
+            whole,
+        } = alternative;
+        if !condition.is_empty() {
+            self.check(b"if (", &condition, b") { }")?;
+        }
+        let value = match (whole, text.strip_prefix(b"%{")) {
+            (Some(source), Some(word)) if self.line_reader(own).copies(name, source) => Text {
+                quote: Quote::Bare,
+                octets: between(
+                    self.alloc,
+                    b"&",
+                    word.strip_suffix(b"}").unwrap_or(word),
+                    b"",
+                )?,
+            },
+            _ => Text {
+                quote: Quote::Double,
+                octets: text,
+            },
+        };
+        let line = self.line_of(own, name, operator, Some(&value))?;
+        Ok(ChosenLine {
+            condition,
+            line: UpdateLine {
+                needs: None,
+                ..line
+            },
+        })
+    }
+
+    // The lines of what a text with alternatives may be.
+    fn chosen_lines(
+        &self,
+        own: ServerList,
+        name: &[u8],
+        operator: Operator,
+        text: &[u8],
+    ) -> Result<Vec<ChosenLine>, Refusal> {
+        let mut lines = Vec::new(self.alloc);
+        for alternative in alternatives(self.alloc, &self.names(), text)? {
+            lines.push(self.chosen_line(own, name, operator, alternative)?)?;
+        }
+        Ok(lines)
+    }
+
+    // Whether a text has an expansion that an attribute is in place of.
+    fn is_given_text(&self, place: usize, text: &[u8]) -> Result<bool, Refusal> {
+        let text = self.filled(place, text)?;
+        for expansion in &expansions_in(self.alloc, &text)? {
+            if let Some(word) = expansion.word(&text)
+                && self.names().asked(word).is_some()
+            {
+                return Ok(true);
+            }
+        }
+        Ok(false)
+    }
+
+    fn has_given(&self, place: usize) -> Result<bool, Refusal> {
+        let configuration = self.configuration;
+        match configuration.items.get(place) {
+            Some(item) => match &item.content {
+                Content::Pair {
+                    value: Some(value),
+                    ..
+                } => self.is_given_text(place, &value.octets),
+                Content::Section { arguments, .. } => match arguments.first() {
+                    Some(argument) => self.is_given_text(place, &argument.octets),
+                    None => Ok(false),
+                },
+                _ => Ok(false),
+            },
+            None => Ok(false),
+        }
+    }
+
+    /// Whether the value or the condition of the item at a place has an expansion whose result is given.
+    pub(crate) fn is_given(&self, place: usize) -> Result<bool, ImportFault> {
+        match self.has_given(place) {
+            Ok(is_given) => Ok(is_given),
+            Err(Refusal::Memory) => Err(ImportFault::Memory),
+            Err(Refusal::LeftOut(_)) => Ok(false),
+        }
+    }
+
+    /// The list and the line of the pair of an initial list at a place.
+    pub(crate) fn initial_line(&self, place: usize) -> Result<(List, UpdateLine), Refusal> {
+        let configuration = self.configuration;
+        let (name, value) = match configuration.items.get(place) {
+            Some(item) => match &item.content {
+                Content::Pair {
+                    name,
+                    operator: Operator::Equals,
+                    value: Some(value),
+                } => (name.octets.as_slice(), value),
+                _ => return Err(Refusal::LeftOut(Reason::NoInitial)),
+            },
+            None => return Err(Refusal::LeftOut(Reason::NoInitial)),
+        };
+        let name = name.strip_prefix(b"&").unwrap_or(name);
+        let list = match parts_of(ServerList::Own(List::Request), name) {
+            (ServerList::Own(list), _, _) if list != List::Request => list,
+            _ => return Err(Refusal::LeftOut(Reason::NoInitial)),
+        };
+        // Each pair is one more of its list.
+        let line = self.line_of(ServerList::Own(list), name, Operator::Add, Some(value))?;
+        Ok((list, line))
+    }
+
+    /// What becomes of the pair at a place, in an update of a list.
+    pub(crate) fn lines(&self, place: usize, own: ServerList) -> Result<PairLines, Refusal> {
+        let Some(item) = self.configuration.items.get(place) else {
+            return Err(Refusal::LeftOut(Reason::NoLine));
+        };
+        let Content::Pair {
+            name,
+            operator,
+            value,
+        } = &item.content
+        else {
+            return Err(Refusal::LeftOut(Reason::NoLine));
+        };
+        let Some(text) = value else {
+            let line = self.line_of(own, &name.octets, *operator, None)?;
+            return Ok(PairLines::One(line));
+        };
+        let (quote, octets) = (text.quote, self.filled(place, &text.octets)?);
+        if quote == Quote::Double && has_choices(&octets) {
+            let lines = self.chosen_lines(own, &name.octets, *operator, &octets)?;
+            return Ok(PairLines::Chosen(lines));
+        }
+        let value = Text { quote, octets };
+        let line = self.line_of(own, &name.octets, *operator, Some(&value))?;
+        Ok(PairLines::One(line))
+    }
+
+    // The conditions of branches, up to the first that cannot be read.
+    pub(crate) fn conditions(
+        &self,
+        branches: &[Statement],
+        knows_code: bool,
+    ) -> Result<Vec<Vec<u8>>, Refusal> {
+        let mut texts = Vec::new(self.alloc);
+        for branch in branches {
+            let text = match branch.kind {
+                StatementKind::If | StatementKind::Elsif => self.condition(
+                    branch.place,
+                    knows_code,
+                )?,
+                _ => Vec::new(self.alloc),
+            };
+            texts.push(text)?;
+        }
+        Ok(texts)
+    }
+
+    // What the case at a place compares; none for the default.
+    fn case(&self, compared: Operand<'_>, case: &Statement) -> Result<Option<Comparison>, Refusal> {
+        if case.kind != StatementKind::Case {
+            return Err(Refusal::LeftOut(Reason::Switch));
+        }
+        let [text, ..] = self.arguments(case.place) else {
+            return Ok(None);
+        };
+        let octets = self.filled(case.place, &text.octets)?;
+        let value = Operand {
+            quote: text.quote,
+            octets: octets.as_slice(),
+        };
+        let comparison = self
+            .reader(false)
+            .comparison(compared, Relation::Equal, value)?;
+        Ok(Some(comparison))
+    }
+
+    fn cases(&self, place: usize, cases: &[Statement]) -> Result<SwitchChain, Refusal> {
+        let [text] = self.arguments(place) else {
+            return Err(Refusal::LeftOut(Reason::Switch));
+        };
+        let octets = self.filled(place, &text.octets)?;
+        let compared = Operand {
+            quote: text.quote,
+            octets: octets.as_slice(),
+        };
+        if self.reader(false).attribute(compared, true)?.is_none() {
+            return Err(Refusal::LeftOut(Reason::Switch));
+        }
+        let mut comparisons = Vec::new(self.alloc);
+        for case in cases {
+            let comparison = self.case(compared, case)?;
+            comparisons.push(comparison)?;
+        }
+        Ok(chain_of(self.alloc, &comparisons)?)
+    }
+
+    // The texts of a chain's conditions.
+    fn chain_conditions(&self, chain: &SwitchChain) -> Result<Vec<Vec<u8>>, Refusal> {
+        let mut texts = Vec::new(self.alloc);
+        for branch in &chain.branches {
+            let text = self.printed(&branch.cond)?;
+            texts.push(text)?;
+        }
+        Ok(texts)
+    }
+
+    pub(crate) fn switch_chain(
+        &self,
+        place: usize,
+        cases: &[Statement],
+    ) -> Result<(SwitchChain, Vec<Vec<u8>>), Refusal> {
+        let chain = self.cases(place, cases)?;
+        let conditions = self.chain_conditions(&chain)?;
+        Ok((chain, conditions))
+    }
+}

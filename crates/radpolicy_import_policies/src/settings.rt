@@ -1,0 +1,56 @@
+//! How statements are imported.
+
+use crate::others::OtherAttribute;
+use avp_forms::Profile;
+use avp_unlang::Code;
+
+/// Whose meaning conditions and update lines keep.
+#[derive(Clone, Copy, Debug, PartialEq, Eq)]
+pub enum Meaning {
+    /// The server's, where ours is another.
+    Server,
+    /// That of their text here.
+    Plain,
+}
+
+/// What stands for the call of a module.
+#[derive(Debug, Drop)]
+pub enum ModuleAnswer {
+    Code(Code),
+    /// A policy.
+    Policy(Vec<u8>),
+}
+
+/// A module, and what stands for its calls.
+#[derive(Debug, Drop)]
+pub struct Module {
+    pub name: Vec<u8>,
+    pub answer: ModuleAnswer,
+}
+
+/// What the lines of a policy end in.
+#[derive(Clone, Copy, Debug, PartialEq, Eq)]
+pub enum LineEnds {
+    /// Comments that tell their origins, as `# policy.d/filter:12 (filter_username)`.
+    Origins,
+    /// No comments: [`crate::origin_map`] tells the origins.
+    Nothing,
+}
+
+/// How statements are imported.
+#[derive(Clone, Copy)]
+pub struct Settings<'a> {
+    pub meaning: Meaning,
+    pub line_ends: LineEnds,
+    /// The wider profile is asked for where a line needs it, and by the plain one such lines are left out.
+    pub profile: Profile,
+    pub modules: &'a [Module],
+    /// The attributes of control in place of what policies do not have, where the dictionary defines them.
+    pub others: &'a [OtherAttribute],
+    /// How many of the configuration's last items are pairs of initial lists, as [`crate::add_initial`] adds them. They
+    /// are updates in front of the policy.
+    pub initial: usize,
+}
+
+/// The first line of a policy of the wider profile.
+pub(crate) const PROFILE_LINE: &[u8] = b"# profile: wider";

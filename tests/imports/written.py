@@ -1,0 +1,228 @@
+"""What `radpolicy-import` writes beside the policy, and what it makes of small configurations and of crafted ones."""
+from pathlib import Path
+from typing import Dict, List, Tuple
+
+from common.program import Ended, run
+from common.report import Report
+from common.subject import Subject, new_folder, on_all
+from configurations.hostile import KILOBYTES, SECONDS, WHOLE, cases, written
+
+DICTIONARY = "crates/radpolicy_import/data/dictionary"
+SITE = b"""authorize {
+	q
+	if (&outer.request:User-Name == "bob" && "%{sql:SELECT 1}" == "yes") {
+		update reply {
+			Reply-Message := "Hi %{%{reply:Framed-Pool}:-you}"
+		}
+		return
+	}
+	reject
+}
+policy {
+	q {
+		update control {
+			User-Name := &User-Name
+		}
+	}
+}
+"""
+POLICY = b"""# initial lists
+update control {
+	Import-Sql-1 += "yes"
+	Outer-Request-User-Name += "bob"
+}
+# policy q
+if (&User-Name) {
+	update control {
+		User-Name := &User-Name
+	}
+}
+if (&control:Outer-Request-User-Name == "bob" && (&control:Import-Sql-1 && &control:Import-Sql-1 == "yes")) {
+	if (&reply:Framed-Pool && &reply:Framed-Pool != "") {
+		update reply {
+			Reply-Message := "Hi %{reply:Framed-Pool}"
+		}
+	}
+	else {
+		update reply {
+			Reply-Message := "Hi you"
+		}
+	}
+	update control {
+		Import-Returned := "yes"
+	}
+}
+if (!&control:Import-Returned) {
+	reject
+}
+"""
+MAP = b"""1 first:2
+2 first:2
+3 first:2
+4 first:3
+5 first:2
+6 site:2
+7 site:14 (q)
+8 site:14 (q)
+9 site:14 (q)
+10 site:14 (q)
+11 site:14 (q)
+12 site:3
+13 site:5
+14 site:5
+15 site:5
+16 site:5
+17 site:5
+18 site:5
+19 site:5
+20 site:5
+21 site:5
+22 site:5
+23 site:7
+24 site:7
+25 site:7
+26 site:3
+27 site:3
+28 site:9
+29 site:3
+"""
+INITIAL = b"""# an answer
+control:Import-Sql-1 = "yes"
+control:Outer-Request-User-Name = 'bob'
+"""
+TEMPLATE = b"""# site:5
+#reply:Framed-Pool = 
+"""
+REPORT = b"""6 of 6 statements kept, 0 module calls are comments
+1 of the kept have a value that is given
+"""
+OPTIONS = ["--map", "map", "--initial-template", "template", "--dictionary", "dictionary.others", "-o", "policy"]
+OUTPUTS = ("map", "template", "dictionary.others", "policy")
+
+
+def imported(subject: Subject, folder: Path, words: List[str]) -> Ended:
+    command = [subject.driver("radpolicy_import"), "--dict", subject.root / DICTIONARY, *OPTIONS, *words]
+    return run(command, folder)
+
+
+def outputs_of(folder: Path) -> List[str]:
+    return [name for name in OUTPUTS if (folder / name).exists()]
+
+
+def check_files(subject: Subject, report: Report) -> None:
+    """All that is written beside the policy of one section."""
+    with new_folder() as folder:
+        (folder / "site").write_bytes(SITE)
+        (folder / "first").write_bytes(INITIAL)
+        ended = imported(subject, folder, ["--initial", "first", "site"])
+        faults = [] if ended.status == 0 and ended.errors.startswith(REPORT) else [f"{ended.status}, {ended.errors!r}"]
+        for name, wanted in (("policy", POLICY), ("map", MAP), ("template", TEMPLATE)):
+            found = (folder / name).read_bytes() if (folder / name).exists() else b""
+            faults += [] if found == wanted else [f"{name}: {found!r}"]
+        report.check("a policy, its map and its initial lists imported", faults)
+
+
+FAULTS: Dict[str, Tuple[bytes, bytes]] = {
+    "a word": (b"# c\nreply:Class\n", b"radpolicy-import: first:2: not a pair of an initial list"),
+    "the request": (b"User-Name = 'bob'\n", b"radpolicy-import: first:1: not a pair of an initial list"),
+    "a section": (b"\n\nserver {\n}\n", b"radpolicy-import: first:3: not a pair of an initial list"),
+    "no attribute": (b"reply:No-Name = 1\n", b"radpolicy-import: first:1: an attribute that no dictionary has"),
+    "no value": (b"reply:Framed-IP-Address = x\n", b"radpolicy-import: first:1: "),
+    "a brace": (b"reply:Framed-Pool = 'a'\n}\n", b"radpolicy-import: first:2: closing brace without a section"),
+    "a quote": (b"reply:Framed-Pool = 'a\n", b"radpolicy-import: first:1: quote without its end"),
+}
+
+
+def check_faults(subject: Subject, report: Report) -> None:
+    """Lines that are no pairs of initial lists: a fault with its place, and nothing is written."""
+    for name, (initial, wanted) in FAULTS.items():
+        with new_folder() as folder:
+            (folder / "site").write_bytes(SITE)
+            (folder / "first").write_bytes(initial)
+            ended = imported(subject, folder, ["--initial", "first", "site"])
+            faults = [] if ended.status == 2 and ended.errors.startswith(wanted) else [f"{ended.status}, {ended.errors!r}"]
+            report.check(f"initial lists with {name} refused", faults + outputs_of(folder))
+
+
+def hostile_cases() -> Dict[str, Dict[str, bytes]]:
+    """Those that every configuration is tried with, and those of what is done with texts, policies and initial lists."""
+    def section(text: bytes) -> Dict[str, bytes]:
+        return {"main": b"authorize {\n" + text + b"}\n"}
+
+    def update(value: bytes) -> Dict[str, bytes]:
+        return section(b'update reply {\nReply-Message := "' + value + b'"\n}\n')
+
+    deep = b"if (&User-Name) {\n" * 60 + b"return\n" + b"}\nok\n" * 60
+    return {
+        **cases(),
+        "expansions that stay open": update(b"%{sql:" * 600_000),
+        "expansions in one another": update(b"%{sql:" * 300_000 + b"}" * 300_000),
+        "alternatives that stay open": update(b"%{%{User-Name}:-" * 200_000),
+        "alternatives in one another": update(b"%{%{User-Name}:-" * 200_000 + b"x" + b"}" * 200_000),
+        "alternatives beside one another": update(b"%{%{User-Name}:-x}" * 200_000),
+        "alternatives in brackets": update(b"%{%{" * 500_000 + b"}:-x}" * 500_000),
+        "short expansions": update(b"%{a:}" * 700_000),
+        "many names of other lists": update(b"%{coa:User-Name}" * 200_000),
+        "20,000 returns": section(b"return\n" * 20_000),
+        "returns after each other": section(b"if (&User-Name) {\nreturn\n}\n" * 10_000),
+        "returns in one another": section(deep),
+        "a condition of 4 MB": section(b"if (" + b"&User-Name && " * 280_000 + b"&User-Name) {\nok\n}\n"),
+        "60,000 lines": section(b"update reply {\n" + b"Reply-Message += \"%{%{User-Name}:-x}\"\n" * 60_000 + b"}\n"),
+    }
+
+
+INITIALS = {
+    "none": b"",
+    "NUL": b"\x00\xff\n",
+    "pairs": b"reply:Reply-Message = 'a'\ncontrol:Reply-Message = 'b'\n" * 5_000,
+    "a long one": b"reply:Reply-Message = '" + b"a" * 4_000_000 + b"'\n",
+    "sections": b"a {\n" * 1_000_000,
+    "blank": b"\n" * 4_000_000,
+    "a file of 100 MB": b"#" * 100_000_000,
+}
+
+
+def hostile_faults(ended: Ended, folder: Path) -> List[str]:
+    """A result or a fault, in bounded time and memory; of a fault nothing is written."""
+    found = []
+    if ended.status not in (0, 2, 3) or ended.status and not ended.errors:
+        found.append(f"{ended.status}, {ended.errors[-200:]!r}")
+    if ended.status:
+        found += outputs_of(folder)
+    if ended.seconds > SECONDS or ended.kilobytes > KILOBYTES:
+        found.append(f"{ended.seconds:.1f} s, {ended.kilobytes} kB")
+    return found
+
+
+def check_hostile(subject: Subject, report: Report) -> None:
+    for name, files in hostile_cases().items():
+        with new_folder() as folder:
+            written(folder, files)
+            ended = imported(subject, folder, ["--stub-functions", "main"])
+            report.check(f"import: {name}", hostile_faults(ended, folder))
+    for name, initial in INITIALS.items():
+        with new_folder() as folder:
+            written(folder, {"main": SITE, "first": initial})
+            ended = imported(subject, folder, ["--initial", "first", "main"])
+            report.check(f"import with initial lists: {name}", hostile_faults(ended, folder))
+
+
+def check_cuts(subject: Subject, report: Report) -> None:
+    """A section and initial lists that are cut off at each octet."""
+    def fault(length: int) -> List[str]:
+        with new_folder() as folder:
+            written(folder, {"main": (WHOLE + SITE)[:length], "part/a": b"l = m\n", "first": INITIAL[: length % len(INITIAL)]})
+            return hostile_faults(imported(subject, folder, ["--initial", "first", "main"]), folder)
+
+    found = on_all(fault, range(len(WHOLE + SITE) + 1))
+    report.check("a section cut off at each octet", [each for faults in found for each in faults])
+
+
+def check(subject: Subject, report: Report) -> None:
+    check_files(subject, report)
+    check_faults(subject, report)
+
+
+def check_crafted(subject: Subject, report: Report) -> None:
+    check_hostile(subject, report)
+    check_cuts(subject, report)
