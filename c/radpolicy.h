@@ -43,7 +43,7 @@ enum radpolicy_status {
     /* What was given is refused. The room (of a run: that of the report or of the octets) has the line that the program
      * radpolicy prints, as "radpolicy: E32 policy:3: unknown attribute\n". */
     RADPOLICY_REFUSED = 2,
-    /* There is not enough memory. Nothing is told, and nothing has changed. */
+    /* There is not enough memory. No text is told, and no handle has changed. */
     RADPOLICY_NO_MEMORY = 4,
     /* A room is too short. Nothing was written into a room; the lengths say what is wanted. */
     RADPOLICY_TOO_SHORT = 5,
@@ -200,8 +200,10 @@ enum radpolicy_command {
     RADPOLICY_CHECK = 4,
 };
 
-/* A whole job, as a command line of the program with what is in its files. What goes together, and what a command wants,
- * is as it is there; any other job is refused as an option's value (E02). A slice that is not given is of length 0. */
+/* A whole job, as a command line of the program with what is in its files. What a command wants, and what it takes
+ * together, is as it is there: a job that lacks a part, or has parts that do not go together, is refused as an option's
+ * value (E02), as is one whose command or form is none. A part that the command does not use is not looked at. A slice
+ * that is not given is of length 0. */
 struct radpolicy_job {
     const struct radpolicy_file *files; /* the dictionary files, the main file first */
     size_t file_count;

@@ -100,7 +100,7 @@ RunsWith wanted prepared secret asked Refused ran = IsRefused prepared secret as
 RunsWith wanted prepared secret asked NoMemory ran = ran ≡ only_told NoMemory []
 RunsWith wanted prepared secret asked _ ran = ⊥
 
--- what a run of the request tells; a secret of no octets is none
+-- what a run of the request tells; a secret of no octets is refused
 abbrev pub RunsBy
     : Wanted → Option (List ℕ) → Prepared → RadpolicyRequest → Ran → Type 0
 RunsBy wanted (Some []) prepared asked ran =
