@@ -5,20 +5,17 @@ The files are cut into blocks of whole lines. A worker, which needs the same fol
 when it dies, another takes the block. The answers are printed in order. Standard error has the sums of what the
 commands count there, and the exit status is the greatest of theirs."""
 import os
-import re
 import subprocess
 import sys
-from collections import Counter, deque
+from collections import deque
 from pathlib import Path
 
 from distributed import Client
+from summaries import Sums
 
 BLOCK = 1 << 20
 # Blocks that are under way or whose answers wait for those before them, for each worker.
 AHEAD = 4
-COUNT = re.compile(r"(\d+) ([a-z]+)")
-LINE_COUNT = re.compile(r"  (\d+) (by (.*?):(\d+): .*)\n")
-SUMMARY = re.compile(r"(\d+ [a-z]+(?:, \d+ [a-z]+)*\n)((?:  \d+ by .*\n)*)")
 
 
 def blocks_of(path):
@@ -57,21 +54,14 @@ def main():
     at = words.index("--")
     files, command = [Path(word).resolve() for word in words[:at]], words[at + 1 :]
     blocks = (block for file in files for block in blocks_of(file))
-    counts, lines, places, status = Counter(), Counter(), {}, 0
+    sums, status = Sums(), 0
     with Client(scheduler) as client:
         for ended, said, complained in answers(client, command, blocks):
             sys.stdout.buffer.write(said)
-            if summary := SUMMARY.fullmatch(complained):
-                counts.update({name: int(number) for number, name in COUNT.findall(summary[1])})
-                for number, said_of, file, line in LINE_COUNT.findall(summary[2]):
-                    lines[said_of] += int(number)
-                    places[said_of] = (file, int(line))
-            else:
+            if not sums.add(complained):
                 sys.stderr.write(complained)
             status = max(status, ended)
-    print(", ".join(f"{number} {name}" for name, number in counts.items()), file=sys.stderr)
-    for said_of in sorted(lines, key=places.get):
-        print(f"  {lines[said_of]} {said_of}", file=sys.stderr)
+    sys.stderr.write(str(sums))
     sys.exit(status)
 
 

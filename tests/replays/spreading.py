@@ -5,7 +5,7 @@ import subprocess
 import time
 from contextlib import contextmanager
 from pathlib import Path
-from typing import Iterator, List
+from typing import Iterator, List, Sequence
 
 from common.program import Ended
 from common.report import Report
@@ -17,6 +17,9 @@ RECORDS = 20_000
 PYTHON = "/usr/bin/python3"
 WORKERS = 3
 SECONDS = 120
+# Counts and lines of policies are added up of JSON too.
+JSON = ["--json", "--against", "old"]
+OLD = b"update reply {\n    Session-Timeout := 300\n}\n"
 
 
 def has_dask() -> bool:
@@ -58,8 +61,8 @@ def started(*command: object) -> Iterator["subprocess.Popen[bytes]"]:
             process.kill()
 
 
-def spread(place: Place, scheduler: str, script: Path) -> "subprocess.Popen[bytes]":
-    command = [PYTHON, script, scheduler, place.folder / "records", "--", *place.command()]
+def spread(place: Place, scheduler: str, script: Path, options: Sequence[str] = ()) -> "subprocess.Popen[bytes]":
+    command = [PYTHON, script, scheduler, place.folder / "records", "--", *place.command(options)]
     pipes = {"stdout": subprocess.PIPE, "stderr": subprocess.PIPE}
     return subprocess.Popen(list(map(str, command)), cwd=place.folder, **pipes)
 
@@ -78,6 +81,10 @@ def check_dask(place: Place, whole: Ended, report: Report) -> None:
             said = subprocess.CompletedProcess([], process.returncode, out, errors)
             wrong = faults(said, whole) + ([] if errors == whole.errors else [f"{errors!r}, not {whole.errors!r}"])
             report.check("replay: by dask", wrong)
+            with spread(place, scheduler, script, JSON) as process:
+                _, errors = process.communicate(timeout=SECONDS)
+            wanted = place.replay((place.folder / "records").read_bytes(), JSON).errors
+            report.check("replay: by dask, as JSON", [] if errors == wanted else [f"{errors!r}, not {wanted!r}"])
             with spread(place, scheduler, script) as process:
                 time.sleep(2)
                 last.kill()
@@ -90,6 +97,7 @@ def check(subject: Subject, report: Report) -> None:
     with new_folder() as folder:
         place = Place(subject, folder)
         (folder / "records").write_bytes(records(RECORDS))
+        (folder / "old").write_bytes(OLD)
         whole = place.replay((folder / "records").read_bytes())
         check_parallel(place, whole, report)
         check_dask(place, whole, report)

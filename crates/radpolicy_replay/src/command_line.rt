@@ -9,7 +9,8 @@ use clap::error::ErrorKind;
 use clap::{Arg, ArgAction, ArgMatches};
 use radpolicy::Fault;
 use radpolicy_common::SecretValues;
-use radpolicy_replay_records::{Layout, Order, Told};
+use radpolicy_record_answers::{Order, Told};
+use radpolicy_replay_records::Layout;
 use std::alloc::{AllocError, Global};
 use std::convert::AsStr;
 
@@ -36,6 +37,8 @@ const TO_HEX: &str = "to-hex";
 const SECRET: &str = "secret";
 
 const CLIENTS: &str = "clients";
+
+const NO_SECRET: &str = "no-secret";
 
 const FORMAT: &str = "format";
 
@@ -64,14 +67,16 @@ pub enum SecretPlan<'a> {
     File(&'a str),
     /// One for each client of this file.
     Clients(&'a str),
+    /// None is known.
+    Unknown,
 }
 
 impl<'a> SecretPlan<'a> {
-    /// The path of the secret's file; empty where there are clients.
+    /// The path of the secret's file; empty where there is none.
     pub fn path(self) -> &'a str {
         match self {
             SecretPlan::File(path) => path,
-            SecretPlan::Clients(_) => "",
+            SecretPlan::Clients(_) | SecretPlan::Unknown => "",
         }
     }
 }
@@ -222,6 +227,15 @@ fn clients_option<'a>(alloc: Global) -> Arg<'a> {
         .help("The file of the clients and their secrets: lines, or a server's clients.conf")
 }
 
+fn no_secret_option<'a>(alloc: Global) -> Arg<'a> {
+    Arg::new(alloc, NO_SECRET)
+        .long(NO_SECRET)
+        .action(ArgAction::SetTrue)
+        .help(
+            "Reads packets without a secret: hidden values stay octets, no authenticator is checked, no reply packet is made",
+        )
+}
+
 fn format_option<'a>(alloc: Global) -> Arg<'a> {
     Arg::new(alloc, FORMAT)
         .long(FORMAT)
@@ -279,6 +293,7 @@ fn program<'a>(alloc: Global) -> Result<clap::Command<'a>, AllocError> {
         .arg(to_hex_option(alloc))?
         .arg(secret_option(alloc))?
         .arg(clients_option(alloc))?
+        .arg(no_secret_option(alloc))?
         .arg(format_option(alloc))?
         .arg(zone_option(alloc))?
         .arg(show_secrets_option(alloc))?
@@ -371,13 +386,15 @@ fn comparison_of<'a>(
     }
 }
 
-// One of the two.
+// One of the three.
 fn secret_plan<'a>(found: &ArgMatches<'a>) -> Result<SecretPlan<'a>, Fault>
     ensures { IfErr result IsWordFault }
 {
+    let is_unknown = found.get_flag(NO_SECRET);
     match (found.get_str(SECRET), found.get_str(CLIENTS)) {
-        (Some(path), None) => Ok(SecretPlan::File(path)),
-        (None, Some(path)) => Ok(SecretPlan::Clients(path)),
+        (Some(path), None) if !is_unknown => Ok(SecretPlan::File(path)),
+        (None, Some(path)) if !is_unknown => Ok(SecretPlan::Clients(path)),
+        (None, None) if is_unknown => Ok(SecretPlan::Unknown),
         _ => Err(Fault::Usage),
     }
 }
@@ -436,7 +453,7 @@ fn packets_plan<'a>(alloc: Global, found: &ArgMatches<'a>) -> Result<PacketsPlan
     })
 }
 
-// Whether it is said how records are answered, or how answers are printed.
+// Whether it is said how records are answered, or how answers are printed. Packets are made by a secret.
 fn has_replay(found: &ArgMatches<'_>) -> bool {
     found.get_str(POLICY).is_some()
         || found.get_str(AGAINST).is_some()
@@ -445,6 +462,7 @@ fn has_replay(found: &ArgMatches<'_>) -> bool {
         || found.get_flag(TAP)
         || found.get_flag(JSON)
         || found.get_flag(SHOW_SECRETS)
+        || found.get_flag(NO_SECRET)
         || has_comparison(found)
 }
 
@@ -476,7 +494,7 @@ fn refusal_of(found: &ArgMatches<'_>) -> &'static str {
     } else if asked_layout(found).is_err() {
         "--tap and --json exclude each other\n"
     } else if secret_plan(found).is_err() {
-        "write one of -S SECRET-FILE and --clients CLIENTS-FILE\n"
+        "write one of -S SECRET-FILE, --clients CLIENTS-FILE and --no-secret\n"
     } else if traffic_of(found).is_err() {
         "--format takes hex, records, detail, log, radclient or radsniff\n"
     } else {

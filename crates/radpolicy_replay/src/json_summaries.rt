@@ -1,7 +1,7 @@
 //! What is said at the end of a replay, as JSON.
 
 use crate::command_line::{AgainstPlan, Plan};
-use crate::summaries::{PolicyTexts, counts_in_order, line_of};
+use crate::summaries::{Ended, PolicyTexts, counts_in_order, line_of};
 use radpolicy_replay_layouts::push_string;
 use radpolicy_replay_records::Summary;
 use std::alloc::{AllocError, Global};
@@ -52,10 +52,14 @@ pub fn json_summary(
     alloc: Global,
     plan: &Plan<'_>,
     texts: PolicyTexts<'_>,
-    summary: &Summary,
+    ended: &Ended,
 ) -> Result<Vec<u8>, AllocError> {
     let mut text = Vec::from_slice(alloc, b"{")?;
+    let summary = &ended.summary;
     push_kinds(&mut text, plan, summary)?;
+    if ended.is_unchecked {
+        text.extend_from_slice(b"\"no_secret\":true,")?;
+    }
     text.extend_from_slice(b"\"lines\":[")?;
     let (new, old) = counts_in_order(alloc, summary.lines.as_slice())?;
     push_lines(&mut text, plan.policy, texts.new, &new)?;

@@ -15,11 +15,11 @@ ghost use Rattle.std.specs.Prelude.{◌<◌, IfErr, IfOk, length};
 ghost use Rattle.avp_dict.specs.Lines.{HasDistinctNames};
 ghost use Rattle.radpolicy.specs.Faults.{IsPrintedAnywhere, IsPrintedWith};
 
-use crate::command_line::{Asked, Plan, help_text, read_words};
+use crate::command_line::{Asked, Plan, SecretPlan, help_text, read_words};
 use crate::expected::{DIFFERENT, expected_status, open_expected};
 use crate::secrets::{HeldSecrets, held_secrets, read_secret};
 use crate::streams::{flush, refuse_replay, write_text};
-use crate::summaries::{PolicyTexts, show_summary};
+use crate::summaries::{Ended, PolicyTexts, show_summary};
 use crate::to_hex::write_packets;
 use crate::traffic::{Traffic, read_beginning};
 use avp_dict::{Dictionary, FileSet};
@@ -30,9 +30,8 @@ use radpolicy_help::{
     Source, Sources, explain_name, refuse_explained, refuse_unread_explained, refuse_words_of,
     tell_help,
 };
-use radpolicy_replay_records::{
-    Against, Comparison, Layout, RecordReader, Replay, ReplayFault, Summary,
-};
+use radpolicy_record_answers::{Against, Comparison};
+use radpolicy_replay_records::{Layout, RecordReader, Replay, ReplayFault, Summary};
 use std::alloc::{AllocError, Global};
 use std::fs::File;
 use std::io;
@@ -47,7 +46,7 @@ struct Files {
     policy: Octets,
     // Empty where answers are compared with no policy's.
     against: Octets,
-    // Empty where there are clients.
+    // Empty where there is none.
     secret: Octets,
 }
 
@@ -88,13 +87,19 @@ fn run_traffic<R: Read + Drop, W: Write>(
     traffic: Traffic,
     mut input: R,
     out: &mut W,
-) -> Result<Summary, ReplayFault> {
+) -> Result<Ended, ReplayFault> {
     let alloc = rt.alloc();
     match traffic {
-        Traffic::Hex => replay.run(alloc, &mut input, out),
+        Traffic::Hex => Ok(Ended {
+            summary: replay.run(alloc, &mut input, out)?,
+            is_unchecked: matches!(plan.secret, SecretPlan::Unknown),
+        }),
         Traffic::Text(format) => {
             let mut records = RecordReader::new(alloc, input, format)?;
-            replay.run_records(alloc, plan.zone, &mut records, out)
+            Ok(Ended {
+                summary: replay.run_records(alloc, plan.zone, &mut records, out)?,
+                is_unchecked: false,
+            })
         }
     }
 }
@@ -105,7 +110,7 @@ fn run_input<W: Write>(
     plan: &Plan<'_>,
     replay: &Replay<'_>,
     out: &mut W,
-) -> Result<Summary, ReplayFault> {
+) -> Result<Ended, ReplayFault> {
     let mut input = rt.stdin();
     if let Some(traffic) = plan.traffic {
         return run_traffic(rt, plan, replay, traffic, input, out);
@@ -128,14 +133,14 @@ fn run_laid_out<W: Write>(
     plan: &Plan<'_>,
     replay: &Replay<'_>,
     out: &mut W,
-) -> Result<Summary, ReplayFault> {
+) -> Result<Ended, ReplayFault> {
     if matches!(plan.layout, Layout::Plain | Layout::Json) {
         return run_input(rt, plan, replay, out);
     }
     write_text(out, b"TAP version 13\n")?;
-    let summary = run_input(rt, plan, replay, out)?;
-    write_count(rt.alloc(), out, summary.read)?;
-    Ok(summary)
+    let ended = run_input(rt, plan, replay, out)?;
+    write_count(rt.alloc(), out, ended.summary.read)?;
+    Ok(ended)
 }
 
 fn replay_to<W: Write>(
@@ -146,8 +151,8 @@ fn replay_to<W: Write>(
     out: &mut W,
 ) -> u8 {
     match run_laid_out(rt, plan, replay, out) {
-        Ok(summary) => match show_summary(rt, plan, texts, &summary) {
-            Ok(()) => status_of(plan.strict, &summary),
+        Ok(ended) => match show_summary(rt, plan, texts, &ended) {
+            Ok(()) => status_of(plan.strict, &ended.summary),
             Err(_) => refuse_early(rt, &Fault::Memory),
         },
         Err(fault) => refuse_replay(rt, fault),

@@ -13,11 +13,13 @@ use radpolicy_help::{refuse_unread_explained, tell_help};
 use radpolicy_replay_records::SharedSecrets;
 use server_configuration::SystemFiles;
 
-/// What the secret's file holds; nothing where there are clients.
+/// What the secret's file holds; nothing where there is none.
 pub fn read_secret<'a>(rt: &HostRuntime, plan: SecretPlan<'a>) -> Result<Octets, Unread<'a>> {
     match plan {
         SecretPlan::File(path) => read_file(rt, path),
-        SecretPlan::Clients(_) => Ok(Octets::from_vec(Vec::new(rt.alloc()))),
+        SecretPlan::Clients(_) | SecretPlan::Unknown => {
+            Ok(Octets::from_vec(Vec::new(rt.alloc())))
+        }
     }
 }
 
@@ -38,11 +40,12 @@ fn refuse_clients<'a>(rt: &HostRuntime, path: &'a str, refused: &ClientsFault) -
     }
 }
 
-/// The secret of a file, or those of clients.
+/// The secret of a file, or those of clients, if one is known.
 #[derive(Drop)]
 pub enum HeldSecrets<'a> {
     One(Secret<'a>),
     ByClient(Clients),
+    Unknown,
 }
 
 impl<'a> HeldSecrets<'a> {
@@ -51,6 +54,7 @@ impl<'a> HeldSecrets<'a> {
         match self {
             HeldSecrets::One(secret) => SharedSecrets::One(secret),
             HeldSecrets::ByClient(clients) => SharedSecrets::ByClient(clients),
+            HeldSecrets::Unknown => SharedSecrets::NoSecret,
         }
     }
 }
@@ -65,6 +69,7 @@ pub fn held_secrets<'a>(
 {
     match plan {
         SecretPlan::File(_) => Ok(Ok(HeldSecrets::One(Secret::in_file(octets)?))),
+        SecretPlan::Unknown => Ok(Ok(HeldSecrets::Unknown)),
         SecretPlan::Clients(path) => {
             match read_clients(rt.alloc(), &SystemFiles::new(rt), path.as_bytes()) {
                 Ok(clients) => Ok(Ok(HeldSecrets::ByClient(clients))),

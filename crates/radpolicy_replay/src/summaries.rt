@@ -15,6 +15,14 @@ pub struct PolicyTexts<'a> {
     pub old: &'a [u8],
 }
 
+/// What a replay came to.
+#[derive(Drop)]
+pub struct Ended {
+    pub summary: Summary,
+    /// Whether packets were read without a secret.
+    pub is_unchecked: bool,
+}
+
 // How many records there were, and of which kinds.
 fn show_kinds(rt: &HostRuntime, plan: &Plan<'_>, summary: &Summary) {
     let (read, refused) = (summary.read, summary.refused);
@@ -102,16 +110,22 @@ pub fn show_summary(
     rt: &HostRuntime,
     plan: &Plan<'_>,
     texts: PolicyTexts<'_>,
-    summary: &Summary,
+    ended: &Ended,
 ) -> Result<(), AllocError> {
     if plan.layout == Layout::Json {
         let line = String::from_utf8_lossy(
             rt.alloc(),
-            &json_summary(rt.alloc(), plan, texts, summary)?,
+            &json_summary(rt.alloc(), plan, texts, ended)?,
         )?;
         let _ = eprintln!(rt; "{line}");
         return Ok(());
     }
-    show_kinds(rt, plan, summary);
-    show_lines(rt, plan, texts, summary)
+    show_kinds(rt, plan, &ended.summary);
+    show_lines(rt, plan, texts, &ended.summary)?;
+    if ended.is_unchecked {
+        let _ = eprintln!(rt;
+            "no secret: hidden values are octets, no authenticator was checked, no reply packet was made"
+        );
+    }
+    Ok(())
 }

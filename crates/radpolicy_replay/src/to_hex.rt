@@ -13,9 +13,8 @@ use avp_lists::Octets;
 use radpolicy::Fault;
 use radpolicy_common::{read_dictionary_set, refuse_early};
 use radpolicy_help::{Source, Sources, refuse_explained, refuse_unread_explained};
-use radpolicy_replay_records::{
-    RecordReader, Records, ReplayFault, SharedSecrets, entry_of_record, text_source,
-};
+use radpolicy_record_answers::{entry_of_record, text_source};
+use radpolicy_replay_records::{RecordReader, Records, ReplayFault, SharedSecrets};
 use radpolicy_traffic::Record;
 use std::alloc::Global;
 use std::io::{BufWriter, Read, Write};

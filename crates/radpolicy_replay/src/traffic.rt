@@ -1,6 +1,7 @@
 //! What the records of standard input are.
 
-use radpolicy_replay_records::{ReplayFault, request_octets};
+use radpolicy_record_answers::request_octets;
+use radpolicy_replay_records::ReplayFault;
 use radpolicy_traffic::{Format, format_of};
 use std::alloc::Global;
 use std::io::Read;

@@ -8,8 +8,8 @@ use Rattle.radpolicy_replay_records.specs.LineCounts.{counted_once, first_count,
 use Rattle.radpolicy_replay_records.specs.Replays.{counted, counted_with}
 use Rattle.radpolicy_replay_records.specs.declared.line_counts.LineCount.{LineCount}
 use Rattle.radpolicy_replay_records.specs.declared.summaries.Summary.{Summary}
-use Rattle.radpolicy_replay_records.specs.declared.summaries.Verdict.{Verdict}
-use Rattle.radpolicy_replay_records.specs.declared.summaries.Verdict.TheVariants.{Answered, Challenged, Different, Refused, Same, Unanswered}
+use Rattle.radpolicy_record_answers.specs.declared.verdicts.Verdict.{Verdict}
+use Rattle.radpolicy_record_answers.specs.declared.verdicts.Verdict.TheVariants.{Answered, Challenged, Different, Refused, Same, Unanswered}
 
 -- ---- the bound
 

@@ -1,11 +1,5 @@
-pub mod Answering
 pub mod Counting
 pub mod Cutting
-pub mod Fitting
 pub mod Progress
-pub mod Replying
-pub mod RequestRuns
-pub mod RequestStarts
-pub mod SameLists
 pub mod Telling
 pub mod Writing

@@ -6,7 +6,7 @@ use Rattle.std.proofs.lemmas.List.{take-take, take_all}
 use Rattle.std.proofs.lemmas.List.Elements.{All-append, All-nil}
 use Rattle.std.proofs.KnownBytes.{Appends-kept, Appends-nil, Appends-trans, Consumes-kept}
 use Rattle.avp_dict.specs.Lines.{is_line_end}
-use Rattle.radpolicy_replay_records.specs.declared.lines.TheConstants.{MAX_LINE_OCTETS}
+use Rattle.radpolicy_record_answers.specs.declared.records.TheConstants.{MAX_LINE_OCTETS}
 use Rattle.radpolicy_replay_records.specs.Lines.{cut, ended_records_of, is_record, records_of}
 use Rattle.radpolicy_replay_records.specs.Replays.{AppendsFront, IsReason, counted, counted_with, ended_text, ended_text_from, no_records, record_counted, record_lines, record_text, records_text, replayed_text, summary_from, summary_of, text_from, verdict_of}
 use Rattle.radpolicy_changing_lines.specs.declared.differences.PolicyLine.{PolicyLine}
@@ -15,8 +15,8 @@ use Rattle.radpolicy_replay_records.specs.declared.replays.Replay.{Replay}
 use Rattle.radpolicy_replay_records.specs.declared.replays.ReplayFault.{ReplayFault}
 use Rattle.radpolicy_replay_records.specs.declared.replays.ReplayFault.TheVariants.{Input, Memory, Output, TooManyRecords}
 use Rattle.radpolicy_replay_records.specs.declared.summaries.Summary.{Summary}
-use Rattle.radpolicy_replay_records.specs.declared.summaries.Verdict.{Verdict}
-use Rattle.radpolicy_replay_records.specs.declared.summaries.Verdict.TheVariants.{Answered, Challenged, Different, Refused, Same, Unanswered}
+use Rattle.radpolicy_record_answers.specs.declared.verdicts.Verdict.{Verdict}
+use Rattle.radpolicy_record_answers.specs.declared.verdicts.Verdict.TheVariants.{Answered, Challenged, Different, Refused, Same, Unanswered}
 use Rattle.radpolicy_replay_records.specs.internal.Positions.{Continues, CountsWithin, HasCome, HasNoEnd, IsLineReason, IsOctetsReason, Writes, WritesFront, line_counted, line_text}
 use Rattle.radpolicy_replay_records.proofs.Counting.{lines_within}
 use Rattle.radpolicy_replay_records.proofs.Cutting.{NoEnd, cut_has_no_end, ended_records_cut, ended_records_line, ended_records_none, first_clean, parts_joined, records_cut, records_last, records_line}

@@ -3,12 +3,13 @@ use Rattle.std.proofs.Common.{◌≡◌, ◌∙◌, ◌⊎◌, inl, inr, ℕ, �
 use Rattle.std.specs.Io.KnownBytes.{Appends, Keeps}
 use Rattle.std.proofs.KnownBytes.{Appends-kept, Appends-nil, Appends-trans}
 use Rattle.std.proofs.lemmas.List.{length-append}
-use Rattle.radpolicy_replay_records.specs.Entries.{entry_of_line}
+use Rattle.radpolicy_record_answers.specs.Entries.{entry_of_line}
 use Rattle.radpolicy_replay_records.specs.Lines.{is_record}
 use Rattle.radpolicy_replay_records.specs.Replays.{AppendsFront, entry_counted, entry_text, entry_verdict, no_records, record_secret, record_text}
-use Rattle.radpolicy_replay_records.specs.TextEntries.{IsEntryOf, text_secret}
-use Rattle.radpolicy_replay_records.specs.TextReplays.{Gives, HasNone, IsInputFault, IsRecordsReason, IsReplayed, IsReplayedFront, IsTelling}
-use Rattle.radpolicy_replay_records.specs.declared.entries.Entry.{Entry}
+use Rattle.radpolicy_record_answers.specs.TextEntries.{IsEntryOf}
+use Rattle.radpolicy_replay_records.specs.TextReplays.{Gives, HasNone, IsInputFault, IsRecordsReason, IsReplayed, IsReplayedFront, IsTelling, lines_secret, text_secret}
+use Rattle.radpolicy_record_answers.specs.declared.entries.Entry.{Entry}
+use Rattle.radpolicy_record_answers.specs.declared.requests.RecordSecret.{RecordSecret}
 use Rattle.radpolicy_replay_records.specs.declared.replays.Replay.{Replay}
 use Rattle.radpolicy_replay_records.specs.declared.replays.ReplayFault.{ReplayFault}
 use Rattle.radpolicy_replay_records.specs.declared.replays.ReplayFault.TheVariants.{Input, Memory, Output, TooManyRecords}
@@ -19,11 +20,11 @@ use Rattle.radpolicy_replay_records.proofs.Progress.{counted_read}
 use Rattle.radpolicy_traffic.specs.declared.records.Record.{Record}
 
 -- what is told of a line is what is told of what it says
-pub line_told : (replay : Replay) (summary : Summary) (line : List ℕ) (secret : Option (List ℕ)) (entry : Entry) → is_record line ≡ true → secret ≡ record_secret replay.shared line → entry ≡ entry_of_line line → entry_text replay (summary.read + 1) secret entry ≡ line_text replay summary line
+pub line_told : (replay : Replay) (summary : Summary) (line : List ℕ) (secret : RecordSecret) (entry : Entry) → is_record line ≡ true → secret ≡ record_secret replay.shared line → entry ≡ entry_of_line line → entry_text replay (summary.read + 1) secret entry ≡ line_text replay summary line
 unfolding record_text
 line_told replay summary line secret entry is same says =
     let text : entry_text replay (summary.read + 1) secret entry ≡ record_text replay (summary.read + 1) line =
-    ap (λ (s : Option (List ℕ)). entry_text replay (summary.read + 1) s entry) same ∙ ap (λ (e : Entry). entry_text replay (summary.read + 1) (record_secret replay.shared line) e) says in
+    ap (λ (s : RecordSecret). entry_text replay (summary.read + 1) s entry) same ∙ ap (λ (e : Entry). entry_text replay (summary.read + 1) (record_secret replay.shared line) e) says in
     rw is text
 
 module _ (replay : Replay) (offset : Option ℤ) where
@@ -32,10 +33,10 @@ module _ (replay : Replay) (offset : Option ℤ) where
   Says given entry = IsEntryOf replay.policy.now.dictionary offset (text_secret replay.shared given) given entry
 
   abbrev text_of : Summary → Record → Entry → List ℕ
-  text_of summary given entry = entry_text replay (summary.read + 1) (text_secret replay.shared given) entry
+  text_of summary given entry = entry_text replay (summary.read + 1) (lines_secret replay.shared given) entry
 
   abbrev counts_with : Summary → Record → Entry → Summary
-  counts_with summary given entry = entry_counted replay summary (text_secret replay.shared given) entry
+  counts_with summary given entry = entry_counted replay summary (lines_secret replay.shared given) entry
 
   -- ---- a record more
 
@@ -61,7 +62,7 @@ module _ (replay : Replay) (offset : Option ℤ) where
       omega (arith, here)
   told_count before after (first ∷ told) text (said, rest, is, parts, later) =
       let others = told_count (counts_with before first said) after told rest later in
-      let here = counted_read before (entry_verdict replay (text_secret replay.shared first) said) in
+      let here = counted_read before (entry_verdict replay (lines_secret replay.shared first) said) in
       omega (arith, others, here)
 
   -- ---- one record after another

@@ -14,18 +14,18 @@ use Rattle.radpolicy.specs.declared.run_outcomes.Reply.{Reply as Sent}
 use Rattle.radpolicy.specs.declared.run_outcomes.Reply.TheVariants as sent
 use Rattle.radpolicy_common.specs.declared.change_texts.SecretValues.{SecretValues}
 use Rattle.radpolicy_replay_layouts.specs.JsonTexts.{flag, string, strings}
-use Rattle.radpolicy_replay_records.specs.Answers.{hides_reply, refusal_shown, reply_shown}
-use Rattle.radpolicy_replay_records.specs.Captured.{captured_fault_shown, packets_lines, reply_name, same_replies}
-use Rattle.radpolicy_replay_records.specs.Comparisons.{same_answers}
-use Rattle.radpolicy_replay_records.specs.Differences.{added_line, change_of, removed_line}
-use Rattle.radpolicy_replay_records.specs.declared.answers.RecordFault.{RecordFault}
-use Rattle.radpolicy_replay_records.specs.declared.captured.Replies.{Replies}
-use Rattle.radpolicy_replay_records.specs.declared.captured.Replies.TheVariants.{Both, Challenge, Refused, Unanswered, Unread}
-use Rattle.radpolicy_replay_records.specs.declared.comparisons.Comparison.{Comparison}
-use Rattle.radpolicy_replay_records.specs.declared.comparisons.Told.{Told}
-use Rattle.radpolicy_replay_records.specs.declared.comparisons.Told.TheVariants.{All, Different}
-use Rattle.radpolicy_replay_records.specs.declared.summaries.Verdict.{Verdict}
-use Rattle.radpolicy_replay_records.specs.declared.summaries.Verdict.TheVariants as verdict
+use Rattle.radpolicy_record_answers.specs.Answers.{hides_reply, refusal_shown, reply_shown}
+use Rattle.radpolicy_record_answers.specs.Captured.{captured_fault_shown, packets_lines, reply_name, same_replies}
+use Rattle.radpolicy_record_answers.specs.Comparisons.{same_answers}
+use Rattle.radpolicy_record_answers.specs.Differences.{added_line, change_of, removed_line}
+use Rattle.radpolicy_record_answers.specs.declared.answers.RecordFault.{RecordFault}
+use Rattle.radpolicy_record_answers.specs.declared.captured.Replies.{Replies}
+use Rattle.radpolicy_record_answers.specs.declared.captured.Replies.TheVariants.{Both, Challenge, Refused, Unanswered, Unread}
+use Rattle.radpolicy_record_answers.specs.declared.comparisons.Comparison.{Comparison}
+use Rattle.radpolicy_record_answers.specs.declared.comparisons.Told.{Told}
+use Rattle.radpolicy_record_answers.specs.declared.comparisons.Told.TheVariants.{All, Different}
+use Rattle.radpolicy_record_answers.specs.declared.verdicts.Verdict.{Verdict}
+use Rattle.radpolicy_record_answers.specs.declared.verdicts.Verdict.TheVariants as verdict
 
 -- ---- answers
 

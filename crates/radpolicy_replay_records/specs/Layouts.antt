@@ -1,7 +1,7 @@
 -- Records as tests.
 use Rattle.std.specs.Prelude.{ℕ, ◌-◌, Bool, true, false, not, List, length, take}
-use Rattle.radpolicy_replay_records.specs.declared.summaries.Verdict.{Verdict}
-use Rattle.radpolicy_replay_records.specs.declared.summaries.Verdict.TheVariants.{Different, Refused}
+use Rattle.radpolicy_record_answers.specs.declared.verdicts.Verdict.{Verdict}
+use Rattle.radpolicy_record_answers.specs.declared.verdicts.Verdict.TheVariants.{Different, Refused}
 
 -- the test of a record of which this became: one fails that is different, and by choice one that is refused
 abbrev pub has_passed : Bool → Verdict → Bool

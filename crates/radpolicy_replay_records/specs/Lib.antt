@@ -1,17 +1,7 @@
-pub mod Answers
-pub mod Captured
-pub mod Comparisons
-pub mod Differences
-pub mod Entries
 pub mod JsonEntries
 pub mod Layouts
 pub mod LineCounts
 pub mod Lines
-pub mod PacketLines
-pub mod RecordLines
-pub mod Records
 pub mod Replays
-pub mod Requests
-pub mod TextEntries
 pub mod TextReplays
 pub mod internal

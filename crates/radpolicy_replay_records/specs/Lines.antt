@@ -3,7 +3,7 @@ use Rattle.std.specs.Prelude.{ℕ, ◌+◌, ◌==◌, Bool, ◌||◌, not, List,
 use Rattle.std.specs.List.{list_all, slice_split}
 use Rattle.avp_dict.specs.Ascii.{carriage_return, space, tab}
 use Rattle.avp_dict.specs.Lines.{is_line_end}
-use Rattle.radpolicy_replay_records.specs.declared.lines.TheConstants.{MAX_LINE_OCTETS}
+use Rattle.radpolicy_record_answers.specs.declared.records.TheConstants.{MAX_LINE_OCTETS}
 
 -- a line, or as much of it as shows that it is too long
 abbrev pub cut : List ℕ → List ℕ

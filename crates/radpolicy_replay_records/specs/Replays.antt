@@ -4,62 +4,55 @@ use Rattle.std.specs.Io.KnownBytes.{Appends, Consumes}
 use Rattle.std.specs.List.{enumerate_from, flat_map, fold}
 use Rattle.std.specs.Option.{option_and_then}
 use Rattle.radpolicy.specs.RunOutcomes.{RunOutcome}
-use Rattle.radpolicy.specs.Starts.{Prepared}
 use Rattle.radpolicy_changing_lines.specs.declared.differences.PolicyLine.{PolicyLine}
 use Rattle.radpolicy_clients.specs.Clients.{secret_for}
 use Rattle.radpolicy_replay_layouts.specs.TestLines.{test_text}
-use Rattle.radpolicy_replay_records.specs.Answers.{answer_shown, answered_record}
-use Rattle.radpolicy_replay_records.specs.Captured.{replies_told, replies_with, verdict_of_replies}
-use Rattle.radpolicy_replay_records.specs.Differences.{answers_told, verdict_of_answers}
-use Rattle.radpolicy_replay_records.specs.Entries.{entry_of_line}
+use Rattle.radpolicy_record_answers.specs.Answers.{answer_shown}
+use Rattle.radpolicy_record_answers.specs.Captured.{replies_told, replies_with, verdict_of_replies}
+use Rattle.radpolicy_record_answers.specs.Differences.{answers_told, verdict_of_answers}
+use Rattle.radpolicy_record_answers.specs.Entries.{entry_of_line}
 use Rattle.radpolicy_replay_records.specs.JsonEntries.{answer_members, answers_members, has_line, json_line, line_if, replies_members}
 use Rattle.radpolicy_replay_records.specs.Layouts.{has_passed, without_last}
 use Rattle.radpolicy_replay_records.specs.LineCounts.{with_lines}
 use Rattle.radpolicy_replay_records.specs.Lines.{ended_records_of, records_of}
-use Rattle.radpolicy_replay_records.specs.RecordLines.{lines_alone, lines_beside, request_trace}
-use Rattle.radpolicy_replay_records.specs.Records.{or_number, source_of}
-use Rattle.radpolicy_replay_records.specs.Requests.{answered_from}
-use Rattle.radpolicy_replay_records.specs.declared.answers.RecordFault.{RecordFault}
-use Rattle.radpolicy_replay_records.specs.declared.answers.RecordFault.TheVariants.{NoClient}
-use Rattle.radpolicy_replay_records.specs.declared.captured.Replies.{Replies}
-use Rattle.radpolicy_replay_records.specs.declared.comparisons.Against.{Against}
-use Rattle.radpolicy_replay_records.specs.declared.comparisons.Against.TheVariants.{Captured, Policy}
-use Rattle.radpolicy_replay_records.specs.declared.comparisons.Comparison.{Comparison}
-use Rattle.radpolicy_replay_records.specs.declared.entries.Entry.{Entry}
+use Rattle.radpolicy_record_answers.specs.RecordLines.{lines_alone, lines_beside, request_trace}
+use Rattle.radpolicy_record_answers.specs.Records.{or_number, source_of}
+use Rattle.radpolicy_record_answers.specs.Requests.{answer_by, or_missing}
+use Rattle.radpolicy_record_answers.specs.declared.answers.RecordFault.{RecordFault}
+use Rattle.radpolicy_record_answers.specs.declared.captured.Replies.{Replies}
+use Rattle.radpolicy_record_answers.specs.declared.comparisons.Against.{Against}
+use Rattle.radpolicy_record_answers.specs.declared.comparisons.Against.TheVariants.{Captured, Policy}
+use Rattle.radpolicy_record_answers.specs.declared.comparisons.Comparison.{Comparison}
+use Rattle.radpolicy_record_answers.specs.declared.entries.Entry.{Entry}
+use Rattle.radpolicy_record_answers.specs.declared.requests.RecordSecret.{RecordSecret}
+use Rattle.radpolicy_record_answers.specs.declared.requests.RecordSecret.TheVariants.{Known, Unknown}
 use Rattle.radpolicy_replay_records.specs.declared.layouts.Layout.{Layout}
 use Rattle.radpolicy_replay_records.specs.declared.layouts.Layout.TheVariants.{Json, Plain, StrictTests, Tests}
 use Rattle.radpolicy_replay_records.specs.declared.replays.Replay.{Replay}
 use Rattle.radpolicy_replay_records.specs.declared.replays.ReplayFault.{ReplayFault}
 use Rattle.radpolicy_replay_records.specs.declared.replays.ReplayFault.TheVariants.{Input, TooManyRecords}
 use Rattle.radpolicy_replay_records.specs.declared.replays.SharedSecrets.{SharedSecrets}
-use Rattle.radpolicy_replay_records.specs.declared.replays.SharedSecrets.TheVariants.{ByClient, One}
-use Rattle.radpolicy_replay_records.specs.declared.requests.RecordRequest.{RecordRequest}
+use Rattle.radpolicy_replay_records.specs.declared.replays.SharedSecrets.TheVariants.{ByClient, NoSecret, One}
 use Rattle.radpolicy_replay_records.specs.declared.summaries.Summary.{Summary}
-use Rattle.radpolicy_replay_records.specs.declared.summaries.Verdict.{Verdict}
-use Rattle.radpolicy_replay_records.specs.declared.summaries.Verdict.TheVariants.{Answered, Challenged, Different, Refused, Same, Unanswered}
+use Rattle.radpolicy_record_answers.specs.declared.verdicts.Verdict.{Verdict}
+use Rattle.radpolicy_record_answers.specs.declared.verdicts.Verdict.TheVariants.{Answered, Challenged, Different, Refused, Same, Unanswered}
 
 -- ---- one record
 
--- the secret that is shared with the source of a record
-abbrev pub record_secret : SharedSecrets → List ℕ → Option (List ℕ)
-record_secret (One secret) line = Some secret.now
-record_secret (ByClient clients) line = option_and_then (secret_for clients.now) (source_of line)
-
--- what a policy answers to a request, by the secret if there is one
-abbrev pub answer_by : Prepared → Option (List ℕ) → Result RecordRequest RecordFault
-    → Result RunOutcome RecordFault
-answer_by prepared secret (Err f) = Err f
-answer_by prepared None (Ok request) = Err NoClient
-answer_by prepared (Some secret) (Ok request) =
-    answered_record (answered_from prepared secret request)
+-- by which secret the packets of a line are read
+abbrev pub record_secret : SharedSecrets → List ℕ → RecordSecret
+record_secret (One secret) line = Known secret.now
+record_secret (ByClient clients) line =
+    or_missing (option_and_then (secret_for clients.now) (source_of line))
+record_secret NoSecret line = Unknown
 
 -- the reply to a record that was captured, and this policy's own
-abbrev pub entry_replies : Replay → Option (List ℕ) → Entry → Replies
+abbrev pub entry_replies : Replay → RecordSecret → Entry → Replies
 entry_replies replay secret entry =
     replies_with replay.policy.now secret entry.reply entry.request
 
 -- what is written for a record with this number whose answer is compared with these
-abbrev pub compared_text : Replay → Comparison → Against → ℕ → Option (List ℕ) → Entry → List ℕ
+abbrev pub compared_text : Replay → Comparison → Against → ℕ → RecordSecret → Entry → List ℕ
 compared_text replay comparison (Policy against) number secret entry =
     answers_told replay.secrets comparison (or_number number entry.identifier)
     (answer_by against.now secret entry.request)
@@ -69,7 +62,7 @@ compared_text replay comparison Captured number secret entry =
     (or_number number entry.identifier) (entry_replies replay secret entry)
 
 -- what is written for a record with this number, where its answer is compared and where it is not
-abbrev pub text_by : Replay → Option Comparison → ℕ → Option (List ℕ) → Entry → List ℕ
+abbrev pub text_by : Replay → Option Comparison → ℕ → RecordSecret → Entry → List ℕ
 text_by replay None number secret entry = or_number number entry.identifier
     ++ answer_shown replay.policy.now.dictionary replay.secrets
     (answer_by replay.policy.now secret entry.request)
@@ -81,32 +74,32 @@ abbrev pub verdict_by : Result RunOutcome RecordFault → Verdict
 verdict_by (Ok _) = Answered
 verdict_by (Err _) = Refused
 
-abbrev pub compared_verdict : Replay → Comparison → Against → Option (List ℕ) → Entry → Verdict
+abbrev pub compared_verdict : Replay → Comparison → Against → RecordSecret → Entry → Verdict
 compared_verdict replay comparison (Policy against) secret entry =
     verdict_of_answers comparison (answer_by against.now secret entry.request)
     (answer_by replay.policy.now secret entry.request)
 compared_verdict replay comparison Captured secret entry =
     verdict_of_replies comparison (entry_replies replay secret entry)
 
-abbrev pub verdict_on : Replay → Option Comparison → Option (List ℕ) → Entry → Verdict
+abbrev pub verdict_on : Replay → Option Comparison → RecordSecret → Entry → Verdict
 verdict_on replay None secret entry =
     verdict_by (answer_by replay.policy.now secret entry.request)
 verdict_on replay (Some comparison) secret entry =
     compared_verdict replay comparison comparison.against secret entry
 
 -- what became of a record that says this
-unfoldable pub entry_verdict : Replay → Option (List ℕ) → Entry → Verdict
+unfoldable pub entry_verdict : Replay → RecordSecret → Entry → Verdict
 entry_verdict replay secret entry = verdict_on replay replay.comparison secret entry
 
 -- the same as a test
-abbrev pub test_of : Replay → Bool → ℕ → Option (List ℕ) → Entry → List ℕ
+abbrev pub test_of : Replay → Bool → ℕ → RecordSecret → Entry → List ℕ
 test_of replay strict number secret entry =
     test_text (has_passed strict (entry_verdict replay secret entry)) number
     (without_last (or_number number entry.identifier))
     (text_by replay replay.comparison number secret entry)
 
 -- what the object of a record has besides its name, where its answer is compared with these
-abbrev pub compared_members : Replay → Comparison → Against → Option (List ℕ) → Entry → List ℕ
+abbrev pub compared_members : Replay → Comparison → Against → RecordSecret → Entry → List ℕ
 compared_members replay comparison (Policy against) secret entry =
     answers_members replay.secrets comparison (answer_by against.now secret entry.request)
     (answer_by replay.policy.now secret entry.request)
@@ -115,27 +108,27 @@ compared_members replay comparison Captured secret entry =
     (entry_replies replay secret entry)
 
 -- the same, where its answer is compared and where it is not
-abbrev pub members_by : Replay → Option Comparison → Option (List ℕ) → Entry → List ℕ
+abbrev pub members_by : Replay → Option Comparison → RecordSecret → Entry → List ℕ
 members_by replay None secret entry = answer_members replay.policy.now.dictionary replay.secrets
     (answer_by replay.policy.now secret entry.request)
 members_by replay (Some comparison) secret entry =
     compared_members replay comparison comparison.against secret entry
 
 -- what is written for a record as JSON
-abbrev pub entry_json : Replay → ℕ → Option (List ℕ) → Entry → List ℕ
+abbrev pub entry_json : Replay → ℕ → RecordSecret → Entry → List ℕ
 entry_json replay number secret entry =
     line_if (has_line replay.comparison (entry_verdict replay secret entry))
     (json_line (without_last (or_number number entry.identifier))
     (entry_verdict replay secret entry) (members_by replay replay.comparison secret entry))
 
-abbrev pub text_in : Layout → Replay → ℕ → Option (List ℕ) → Entry → List ℕ
+abbrev pub text_in : Layout → Replay → ℕ → RecordSecret → Entry → List ℕ
 text_in Plain replay number secret entry = text_by replay replay.comparison number secret entry
 text_in Tests replay number secret entry = test_of replay false number secret entry
 text_in StrictTests replay number secret entry = test_of replay true number secret entry
 text_in Json replay number secret entry = entry_json replay number secret entry
 
 -- what is written for a record with this number that says this, by the secret of its source if there is one
-unfoldable pub entry_text : Replay → ℕ → Option (List ℕ) → Entry → List ℕ
+unfoldable pub entry_text : Replay → ℕ → RecordSecret → Entry → List ℕ
 entry_text replay number secret entry = text_in replay.layout replay number secret entry
 
 -- what is written for the record of a line with this number
@@ -150,7 +143,7 @@ verdict_of replay line =
 
 -- ---- the lines to which the difference goes back
 
-abbrev pub compared_lines : Replay → Comparison → Against → Option (List ℕ) → Entry
+abbrev pub compared_lines : Replay → Comparison → Against → RecordSecret → Entry
     → List PolicyLine
 compared_lines replay comparison (Policy against) secret entry =
     lines_beside comparison (request_trace replay.policy.now secret entry.request)
@@ -159,7 +152,7 @@ compared_lines replay comparison Captured secret entry =
     lines_alone comparison (request_trace replay.policy.now secret entry.request)
     (entry_replies replay secret entry)
 
-abbrev pub lines_on : Replay → Option Comparison → Option (List ℕ) → Entry → List PolicyLine
+abbrev pub lines_on : Replay → Option Comparison → RecordSecret → Entry → List PolicyLine
 lines_on replay None secret entry = []
 lines_on replay (Some comparison) secret entry =
     compared_lines replay comparison comparison.against secret entry
@@ -170,7 +163,7 @@ lines_if Different lines = lines
 lines_if _ lines = []
 
 -- the lines of a record that says this
-unfoldable pub entry_lines : Replay → Option (List ℕ) → Entry → List PolicyLine
+unfoldable pub entry_lines : Replay → RecordSecret → Entry → List PolicyLine
 entry_lines replay secret entry =
     lines_if (entry_verdict replay secret entry) (lines_on replay replay.comparison secret entry)
 
@@ -211,7 +204,7 @@ abbrev pub counted_with : Summary → Verdict → List PolicyLine → Summary
 counted_with summary verdict lines =
     record (counted summary verdict) { lines = with_lines summary.lines lines }
 
-abbrev pub entry_counted : Replay → Summary → Option (List ℕ) → Entry → Summary
+abbrev pub entry_counted : Replay → Summary → RecordSecret → Entry → Summary
 entry_counted replay summary secret entry =
     counted_with summary (entry_verdict replay secret entry) (entry_lines replay secret entry)
 

@@ -1,4 +1,2 @@
-pub mod Fitting
-pub mod Over
 pub mod Positions
 pub mod Tellings

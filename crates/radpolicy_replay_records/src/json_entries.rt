@@ -3,18 +3,16 @@
 ghost use Rattle.std.specs.Prelude.{◌≡◌, ◌++◌, IfOk, None, OnOk, Some};
 ghost use Rattle.radpolicy_replay_records.specs.JsonEntries.{has_line, is_told, json_line, line_if, verdict_text};
 ghost use Rattle.radpolicy_replay_records.specs.Replays.{compared_members, compared_verdict, entry_json, entry_verdict, members_by, verdict_on};
-ghost use Rattle.radpolicy_replay_records.specs.declared.comparisons.Against.TheVariants.{Captured, Policy};
+ghost use Rattle.radpolicy_record_answers.specs.declared.comparisons.Against.TheVariants.{Captured, Policy};
 
-use crate::captured::entry_replies;
-use crate::comparisons::{Against, Comparison, Told};
-use crate::differences::Printer;
-use crate::entries::Entry;
-use crate::json_members::push_answer_members;
+use crate::json_members::{push_answer_members, push_answers_members, push_replies_members};
 use crate::layouts::without_last;
-use crate::records::push_name;
-use crate::replays::{Replay, answer_over, entry_answer};
-use crate::summaries::Verdict;
-use radpolicy::{PreparedPolicy, Secret};
+use crate::replays::Replay;
+use radpolicy::PreparedPolicy;
+use radpolicy_record_answers::{
+    Against, Comparison, Entry, Printer, RecordSecret, Told, Verdict, answer_over, entry_answer,
+    entry_replies, push_name,
+};
 use radpolicy_replay_layouts::push_string;
 use std::alloc::AllocError;
 
@@ -73,7 +71,7 @@ impl<'a> Replay<'a> {
     fn push_members_alone<'b>(
         &'b self,
         text: &mut Vec<u8>,
-        secret: &'b Option<Secret<'b>>,
+        secret: &'b RecordSecret<'b>,
         entry: &Entry,
     ) -> Result<Verdict, AllocError>
         ensures text { OnOk result (text.new.items
@@ -94,7 +92,7 @@ impl<'a> Replay<'a> {
         text: &mut Vec<u8>,
         comparison: &'b Comparison<'b>,
         against: &'b PreparedPolicy<'b>,
-        secret: &'b Option<Secret<'b>>,
+        secret: &'b RecordSecret<'b>,
         entry: &Entry,
     ) -> Result<Verdict, AllocError>
         ensures text { OnOk result (text.new.items ≡ text.old.items ++ compared_members self.now
@@ -110,14 +108,14 @@ impl<'a> Replay<'a> {
             new: self.policy.dictionary(),
             secrets: self.secrets,
         };
-        comparison.push_answers_members(text, &printer, &old, &new)
+        push_answers_members(comparison, text, &printer, &old, &new)
     }
 
     fn push_members_beside_captured<'b>(
         &'b self,
         text: &mut Vec<u8>,
         comparison: &'b Comparison<'b>,
-        secret: &'b Option<Secret<'b>>,
+        secret: &'b RecordSecret<'b>,
         entry: &Entry,
     ) -> Result<Verdict, AllocError>
         ensures text { OnOk result (text.new.items ≡ text.old.items
@@ -127,14 +125,14 @@ impl<'a> Replay<'a> {
     {
         let replies = entry_replies(*text.allocator(), self.policy, secret, entry)?;
         let dictionary = self.policy.dictionary();
-        comparison.push_replies_members(text, dictionary, self.secrets, &replies)
+        push_replies_members(comparison, text, dictionary, self.secrets, &replies)
     }
 
     fn push_members_compared<'b>(
         &'b self,
         text: &mut Vec<u8>,
         comparison: &'b Comparison<'b>,
-        secret: &'b Option<Secret<'b>>,
+        secret: &'b RecordSecret<'b>,
         entry: &Entry,
     ) -> Result<Verdict, AllocError>
         ensures text { OnOk result (text.new.items ≡ text.old.items
@@ -157,7 +155,7 @@ impl<'a> Replay<'a> {
     fn push_members<'b>(
         &'b self,
         text: &mut Vec<u8>,
-        secret: &'b Option<Secret<'b>>,
+        secret: &'b RecordSecret<'b>,
         entry: &Entry,
     ) -> Result<Verdict, AllocError>
         ensures text { OnOk result (text.new.items
@@ -176,7 +174,7 @@ impl<'a> Replay<'a> {
         &'b self,
         text: &mut Vec<u8>,
         number: u64,
-        secret: &'b Option<Secret<'b>>,
+        secret: &'b RecordSecret<'b>,
         entry: &Entry,
     ) -> Result<Verdict, AllocError>
         ensures text { OnOk result (text.new.items

@@ -4,25 +4,24 @@ ghost use Rattle.std.specs.Prelude.{◌≡◌, ◌++◌, ◌∷◌, [], IfOk, Ok
 ghost use Rattle.avp_dict.specs.Lines.{is_line_end};
 ghost use Rattle.avp_dict.specs.Words.{is_word};
 ghost use Rattle.avp_dict.specs.internal.Views.{views};
-ghost use Rattle.radpolicy_replay_records.specs.Answers.{hides_reply, refusal_shown};
-ghost use Rattle.radpolicy_replay_records.specs.Captured.{captured_fault_shown, verdict_of_replies};
-ghost use Rattle.radpolicy_replay_records.specs.Differences.{added_line, removed_line, verdict_of_answers};
+ghost use Rattle.radpolicy_record_answers.specs.Answers.{hides_reply, refusal_shown};
+ghost use Rattle.radpolicy_record_answers.specs.Captured.{captured_fault_shown, verdict_of_replies};
+ghost use Rattle.radpolicy_record_answers.specs.Differences.{added_line, removed_line, verdict_of_answers};
 ghost use Rattle.radpolicy_replay_records.specs.JsonEntries.{answer_members, answers_members, captured_member, change_member, change_members, change_strings, difference_members, end_members, fault_member, named_changes, other_members, own_members, own_reply_members, replies_members, reply_string, reply_value, result_members};
-ghost use Rattle.radpolicy_replay_records.specs.declared.captured.Replies.TheVariants.{Both};
-ghost use Rattle.radpolicy_replay_records.specs.internal.Fitting.{OwnFits, PacketFits, RepliesFit};
-ghost use Rattle.radpolicy_replay_records.specs.internal.Over.{IsOver};
+ghost use Rattle.radpolicy_record_answers.specs.declared.captured.Replies.TheVariants.{Both};
+ghost use Rattle.radpolicy_record_answers.specs.internal.Fitting.{OwnFits, PacketFits, RepliesFit};
+ghost use Rattle.radpolicy_record_answers.specs.internal.Over.{IsOver};
 
-use crate::answers::{RecordFault, hides_reply, push_refusal, push_reply};
-use crate::captured::{CapturedFault, Replies, push_captured_fault, reply_name};
-use crate::comparisons::Comparison;
-use crate::differences::{Printer, verdict_of_same};
 use crate::lines::first_line_end;
-use crate::summaries::Verdict;
 use avp_dict::Dictionary;
 use avp_lists::List;
 use avp_packet::Packet;
 use radpolicy::{Reply, RunOutcome, code_text};
 use radpolicy_common::SecretValues;
+use radpolicy_record_answers::{
+    CapturedFault, Comparison, Printer, RecordFault, Replies, Verdict, hides_reply,
+    push_captured_fault, push_refusal, push_reply, reply_name, verdict_of_same,
+};
 use radpolicy_replay_layouts::{push_flag, push_string, push_strings};
 use std::alloc::{AllocError, Global};
 
@@ -175,211 +174,209 @@ fn push_captured_member(text: &mut Vec<u8>, captured: &Packet) -> Result<(), All
     push_reply_name(text, captured.code)
 }
 
-impl Comparison<'_> {
-    fn push_change_members_of_ends(
-        &self,
-        text: &mut Vec<u8>,
-        printer: &Printer<'_>,
-        old: &RunOutcome<'_>,
-        new: &RunOutcome<'_>,
-    ) -> Result<(), AllocError>
-        requires old { old.now.dictionary ≡ printer.now.old.now }
-        requires new { new.now.dictionary ≡ printer.now.new.now }
-        ensures { OnOk result (text.new.items ≡ text.old.items
-            ++ change_members printer.now.secrets self.now (Ok old.now) (Ok new.now)) }
-    {
-        let alloc = *text.allocator();
-        let reply = self.change_of(alloc, printer, List::Reply, old, new)?;
-        let control = self.change_of(alloc, printer, List::Control, old, new)?;
-        push_change_member(text, b"reply_changes", &reply)?;
-        push_change_member(text, b"control_changes", &control)
-    }
+fn push_change_members_of_ends(
+    comparison: &Comparison<'_>,
+    text: &mut Vec<u8>,
+    printer: &Printer<'_>,
+    old: &RunOutcome<'_>,
+    new: &RunOutcome<'_>,
+) -> Result<(), AllocError>
+    requires old { old.now.dictionary ≡ printer.now.old.now }
+    requires new { new.now.dictionary ≡ printer.now.new.now }
+    ensures { OnOk result (text.new.items ≡ text.old.items
+        ++ change_members printer.now.secrets comparison.now (Ok old.now) (Ok new.now)) }
+{
+    let alloc = *text.allocator();
+    let reply = comparison.change_of(alloc, printer, List::Reply, old, new)?;
+    let control = comparison.change_of(alloc, printer, List::Control, old, new)?;
+    push_change_member(text, b"reply_changes", &reply)?;
+    push_change_member(text, b"control_changes", &control)
+}
 
-    // How the reply and control lists differ, where both ran.
-    fn push_change_members(
-        &self,
-        text: &mut Vec<u8>,
-        printer: &Printer<'_>,
-        old: &Result<RunOutcome<'_>, RecordFault>,
-        new: &Result<RunOutcome<'_>, RecordFault>,
-    ) -> Result<(), AllocError>
-        requires old { IsOver printer.now.old.now old.now }
-        requires new { IsOver printer.now.new.now new.now }
-        ensures { OnOk result (text.new.items
-            ≡ text.old.items ++ change_members printer.now.secrets self.now old.now new.now) }
-    {
-        if let Ok(old) = old {
-            if let Ok(new) = new {
-                return self.push_change_members_of_ends(text, printer, old, new);
-            }
+// How the reply and control lists differ, where both ran.
+fn push_change_members(
+    comparison: &Comparison<'_>,
+    text: &mut Vec<u8>,
+    printer: &Printer<'_>,
+    old: &Result<RunOutcome<'_>, RecordFault>,
+    new: &Result<RunOutcome<'_>, RecordFault>,
+) -> Result<(), AllocError>
+    requires old { IsOver printer.now.old.now old.now }
+    requires new { IsOver printer.now.new.now new.now }
+    ensures { OnOk result (text.new.items
+        ≡ text.old.items ++ change_members printer.now.secrets comparison.now old.now new.now) }
+{
+    if let Ok(old) = old {
+        if let Ok(new) = new {
+            return push_change_members_of_ends(comparison, text, printer, old, new);
         }
-        Ok(())
     }
+    Ok(())
+}
 
-    // A record that two policies answer otherwise.
-    fn push_difference_members(
-        &self,
-        text: &mut Vec<u8>,
-        printer: &Printer<'_>,
-        old: &Result<RunOutcome<'_>, RecordFault>,
-        new: &Result<RunOutcome<'_>, RecordFault>,
-    ) -> Result<(), AllocError>
-        requires old { IsOver printer.now.old.now old.now }
-        requires new { IsOver printer.now.new.now new.now }
-        ensures { OnOk result (text.new.items
-            ≡ text.old.items ++ difference_members printer.now.secrets self.now old.now new.now) }
-    {
-        text.extend_from_slice(b",\"old\":{")?;
-        push_end_members(text, old)?;
-        text.extend_from_slice(b"},\"new\":{")?;
+// A record that two policies answer otherwise.
+fn push_difference_members(
+    comparison: &Comparison<'_>,
+    text: &mut Vec<u8>,
+    printer: &Printer<'_>,
+    old: &Result<RunOutcome<'_>, RecordFault>,
+    new: &Result<RunOutcome<'_>, RecordFault>,
+) -> Result<(), AllocError>
+    requires old { IsOver printer.now.old.now old.now }
+    requires new { IsOver printer.now.new.now new.now }
+    ensures { OnOk result (text.new.items
+        ≡ text.old.items ++ difference_members printer.now.secrets comparison.now old.now new.now) }
+{
+    text.extend_from_slice(b",\"old\":{")?;
+    push_end_members(text, old)?;
+    text.extend_from_slice(b"},\"new\":{")?;
+    push_end_members(text, new)?;
+    text.extend_from_slice(b"}")?;
+    push_change_members(comparison, text, printer, old, new)
+}
+
+/// The answers of two policies, and what became of their record.
+#[tactic(auto, unfolding(crate::specs::JsonEntries::answers_members, radpolicy_record_answers::specs::Differences::verdict_of_answers))]
+pub(crate) fn push_answers_members(
+    comparison: &Comparison<'_>,
+    text: &mut Vec<u8>,
+    printer: &Printer<'_>,
+    old: &Result<RunOutcome<'_>, RecordFault>,
+    new: &Result<RunOutcome<'_>, RecordFault>,
+) -> Result<Verdict, AllocError>
+    requires old { IsOver printer.now.old.now old.now }
+    requires new { IsOver printer.now.new.now new.now }
+    ensures text { OnOk result (text.new.items
+        ≡ text.old.items ++ answers_members printer.now.secrets comparison.now old.now new.now) }
+    ensures verdict { IfOk result (λ verdict.
+        verdict ≡ verdict_of_answers comparison.now old.now new.now) }
+{
+    if comparison.same_answers(*text.allocator(), old, new)? {
+        text.push(b',')?;
         push_end_members(text, new)?;
-        text.extend_from_slice(b"}")?;
-        self.push_change_members(text, printer, old, new)
+        return Ok(verdict_of_same(new));
     }
+    push_difference_members(comparison, text, printer, old, new)?;
+    Ok(Verdict::Different)
+}
 
-    /// The answers of two policies, and what became of their record.
-    #[tactic(auto, unfolding(crate::specs::JsonEntries::answers_members, crate::specs::Differences::verdict_of_answers))]
-    pub(crate) fn push_answers_members(
-        &self,
-        text: &mut Vec<u8>,
-        printer: &Printer<'_>,
-        old: &Result<RunOutcome<'_>, RecordFault>,
-        new: &Result<RunOutcome<'_>, RecordFault>,
-    ) -> Result<Verdict, AllocError>
-        requires old { IsOver printer.now.old.now old.now }
-        requires new { IsOver printer.now.new.now new.now }
-        ensures text { OnOk result (text.new.items
-            ≡ text.old.items ++ answers_members printer.now.secrets self.now old.now new.now) }
-        ensures verdict { IfOk result (λ verdict.
-            verdict ≡ verdict_of_answers self.now old.now new.now) }
-    {
-        if self.same_answers(*text.allocator(), old, new)? {
-            text.push(b',')?;
-            push_end_members(text, new)?;
-            return Ok(verdict_of_same(new));
-        }
-        self.push_difference_members(text, printer, old, new)?;
-        Ok(Verdict::Different)
-    }
+// How the policy's own reply differs.
+fn push_own_reply(
+    comparison: &Comparison<'_>,
+    text: &mut Vec<u8>,
+    printer: &Printer<'_>,
+    captured: &Packet,
+    own: &Packet,
+) -> Result<(), AllocError>
+    requires captured { PacketFits printer.now.old.now captured.now }
+    requires own { PacketFits printer.now.new.now own.now }
+    ensures { OnOk result (text.new.items ≡ text.old.items ++ own_reply_members
+        (removed_line printer.now.old.now printer.now.secrets)
+        (added_line printer.now.new.now printer.now.secrets) comparison.now captured.now own.now) }
+{
+    let lines = comparison.packets_lines(*text.allocator(), printer, captured, own)?;
+    push_named_changes(text, own.code, &lines)
+}
 
-    // How the policy's own reply differs.
-    fn push_own_reply(
-        &self,
-        text: &mut Vec<u8>,
-        printer: &Printer<'_>,
-        captured: &Packet,
-        own: &Packet,
-    ) -> Result<(), AllocError>
-        requires captured { PacketFits printer.now.old.now captured.now }
-        requires own { PacketFits printer.now.new.now own.now }
-        ensures { OnOk result (text.new.items ≡ text.old.items ++ own_reply_members
-            (removed_line printer.now.old.now printer.now.secrets)
-            (added_line printer.now.new.now printer.now.secrets) self.now captured.now own.now) }
-    {
-        let lines = self.packets_lines(*text.allocator(), printer, captured, own)?;
-        push_named_changes(text, own.code, &lines)
-    }
+// The same, where it sends one.
+fn push_own_members(
+    comparison: &Comparison<'_>,
+    text: &mut Vec<u8>,
+    dictionary: &Dictionary,
+    secrets: SecretValues,
+    captured: &Packet,
+    own: &Option<Packet>,
+) -> Result<(), AllocError>
+    requires captured { PacketFits dictionary.now captured.now }
+    requires own { OwnFits dictionary.now own.now }
+    ensures { OnOk result (text.new.items ≡ text.old.items
+        ++ own_members secrets dictionary.now comparison.now captured.now own.now) }
+{
+    let Some(own) = own else {
+        text.extend_from_slice(b"null")?;
+        return Ok(());
+    };
+    let printer = Printer {
+        old: dictionary,
+        new: dictionary,
+        secrets,
+    };
+    push_own_reply(comparison, text, &printer, captured, own)
+}
 
-    // The same, where it sends one.
-    fn push_own_members(
-        &self,
-        text: &mut Vec<u8>,
-        dictionary: &Dictionary,
-        secrets: SecretValues,
-        captured: &Packet,
-        own: &Option<Packet>,
-    ) -> Result<(), AllocError>
-        requires captured { PacketFits dictionary.now captured.now }
-        requires own { OwnFits dictionary.now own.now }
-        ensures { OnOk result (text.new.items ≡ text.old.items
-            ++ own_members secrets dictionary.now self.now captured.now own.now) }
-    {
-        let Some(own) = own else {
-            text.extend_from_slice(b"null")?;
-            return Ok(());
-        };
-        let printer = Printer {
-            old: dictionary,
-            new: dictionary,
-            secrets,
-        };
-        self.push_own_reply(text, &printer, captured, own)
-    }
+fn push_other_members(
+    comparison: &Comparison<'_>,
+    text: &mut Vec<u8>,
+    dictionary: &Dictionary,
+    secrets: SecretValues,
+    captured: &Packet,
+    own: &Option<Packet>,
+) -> Result<(), AllocError>
+    requires captured { PacketFits dictionary.now captured.now }
+    requires own { OwnFits dictionary.now own.now }
+    ensures { OnOk result (text.new.items ≡ text.old.items
+        ++ other_members secrets dictionary.now comparison.now captured.now own.now) }
+{
+    push_captured_member(text, captured)?;
+    text.extend_from_slice(b",\"own\":")?;
+    push_own_members(comparison, text, dictionary, secrets, captured, own)
+}
 
-    fn push_other_members(
-        &self,
-        text: &mut Vec<u8>,
-        dictionary: &Dictionary,
-        secrets: SecretValues,
-        captured: &Packet,
-        own: &Option<Packet>,
-    ) -> Result<(), AllocError>
-        requires captured { PacketFits dictionary.now captured.now }
-        requires own { OwnFits dictionary.now own.now }
-        ensures { OnOk result (text.new.items ≡ text.old.items
-            ++ other_members secrets dictionary.now self.now captured.now own.now) }
-    {
+// Two replies, and what became of their record.
+#[tactic(auto, unfolding(crate::specs::JsonEntries::replies_members, radpolicy_record_answers::specs::Captured::verdict_of_replies))]
+fn push_both_members(
+    comparison: &Comparison<'_>,
+    text: &mut Vec<u8>,
+    dictionary: &Dictionary,
+    secrets: SecretValues,
+    captured: &Packet,
+    own: &Option<Packet>,
+) -> Result<Verdict, AllocError>
+    requires captured { PacketFits dictionary.now captured.now }
+    requires own { OwnFits dictionary.now own.now }
+    ensures text { OnOk result (text.new.items ≡ text.old.items
+        ++ replies_members secrets dictionary.now comparison.now (Both captured.now own.now)) }
+    ensures verdict { IfOk result (λ verdict.
+        verdict ≡ verdict_of_replies comparison.now (Both captured.now own.now)) }
+{
+    if comparison.same_replies(*text.allocator(), captured, own)? {
         push_captured_member(text, captured)?;
-        text.extend_from_slice(b",\"own\":")?;
-        self.push_own_members(text, dictionary, secrets, captured, own)
+        return Ok(Verdict::Same);
     }
+    push_other_members(comparison, text, dictionary, secrets, captured, own)?;
+    Ok(Verdict::Different)
+}
 
-    // Two replies, and what became of their record.
-    #[tactic(auto, unfolding(crate::specs::JsonEntries::replies_members, crate::specs::Captured::verdict_of_replies))]
-    fn push_both_members(
-        &self,
-        text: &mut Vec<u8>,
-        dictionary: &Dictionary,
-        secrets: SecretValues,
-        captured: &Packet,
-        own: &Option<Packet>,
-    ) -> Result<Verdict, AllocError>
-        requires captured { PacketFits dictionary.now captured.now }
-        requires own { OwnFits dictionary.now own.now }
-        ensures text { OnOk result (text.new.items ≡ text.old.items
-            ++ replies_members secrets dictionary.now self.now (Both captured.now own.now)) }
-        ensures verdict { IfOk result (λ verdict.
-            verdict ≡ verdict_of_replies self.now (Both captured.now own.now)) }
-    {
-        if self.same_replies(*text.allocator(), captured, own)? {
-            push_captured_member(text, captured)?;
-            return Ok(Verdict::Same);
+/// The reply that was captured and the policy's own, and what became of their record.
+#[tactic(auto, unfolding(crate::specs::JsonEntries::replies_members, radpolicy_record_answers::specs::Captured::verdict_of_replies))]
+pub(crate) fn push_replies_members(
+    comparison: &Comparison<'_>,
+    text: &mut Vec<u8>,
+    dictionary: &Dictionary,
+    secrets: SecretValues,
+    replies: &Replies,
+) -> Result<Verdict, AllocError>
+    requires { RepliesFit dictionary.now replies.now }
+    ensures text { OnOk result (text.new.items
+        ≡ text.old.items ++ replies_members secrets dictionary.now comparison.now replies.now) }
+    ensures verdict { IfOk result (λ verdict.
+        verdict ≡ verdict_of_replies comparison.now replies.now) }
+{
+    match replies {
+        Replies::Refused(fault) => {
+            text.push(b',')?;
+            push_refusal_member(text, *fault)?;
+            Ok(Verdict::Refused)
         }
-        self.push_other_members(text, dictionary, secrets, captured, own)?;
-        Ok(Verdict::Different)
-    }
-
-    /// The reply that was captured and the policy's own, and what became of their record.
-    #[tactic(auto, unfolding(crate::specs::JsonEntries::replies_members, crate::specs::Captured::verdict_of_replies))]
-    pub(crate) fn push_replies_members(
-        &self,
-        text: &mut Vec<u8>,
-        dictionary: &Dictionary,
-        secrets: SecretValues,
-        replies: &Replies,
-    ) -> Result<Verdict, AllocError>
-        requires { RepliesFit dictionary.now replies.now }
-        ensures text { OnOk result (text.new.items
-            ≡ text.old.items ++ replies_members secrets dictionary.now self.now replies.now) }
-        ensures verdict { IfOk result (λ verdict.
-            verdict ≡ verdict_of_replies self.now replies.now) }
-    {
-        match replies {
-            Replies::Refused(fault) => {
-                text.push(b',')?;
-                push_refusal_member(text, *fault)?;
-                Ok(Verdict::Refused)
-            }
-            Replies::Unanswered => Ok(Verdict::Unanswered),
-            Replies::Unread(fault) => {
-                text.push(b',')?;
-                push_unread_member(text, *fault)?;
-                Ok(Verdict::Refused)
-            }
-            Replies::Challenge => Ok(Verdict::Challenged),
-            Replies::Both { captured, own } => {
-                self.push_both_members(text, dictionary, secrets, captured, own)
-            }
+        Replies::Unanswered => Ok(Verdict::Unanswered),
+        Replies::Unread(fault) => {
+            text.push(b',')?;
+            push_unread_member(text, *fault)?;
+            Ok(Verdict::Refused)
+        }
+        Replies::Challenge => Ok(Verdict::Challenged),
+        Replies::Both { captured, own } => {
+            push_both_members(comparison, text, dictionary, secrets, captured, own)
         }
     }
 }

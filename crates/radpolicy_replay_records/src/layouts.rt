@@ -3,7 +3,7 @@
 ghost use Rattle.std.specs.Prelude.{◌≡◌};
 ghost use Rattle.radpolicy_replay_records.specs.Layouts.{has_passed, without_last};
 
-use crate::summaries::Verdict;
+use radpolicy_record_answers::Verdict;
 
 /// How what is said of records is laid out.
 #[derive(Clone, Copy, Debug, PartialEq, Eq)]

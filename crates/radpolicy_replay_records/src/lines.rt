@@ -5,10 +5,8 @@ ghost use Rattle.std.specs.List.{list_all, position, slice_split};
 ghost use Rattle.avp_dict.specs.Lines.{is_line_end};
 ghost use Rattle.radpolicy_replay_records.specs.Lines.{cut, is_blank, is_record};
 
+use radpolicy_record_answers::MAX_LINE_OCTETS;
 use std::alloc::AllocError;
-
-/// The most octets of a line: two packets of 8,192 digits each, and 1,024 octets of words.
-pub const MAX_LINE_OCTETS: usize = 17_408;
 
 fn is_blank(octet: u8) -> bool
     ensures { result ≡ is_blank octet }

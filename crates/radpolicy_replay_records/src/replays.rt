@@ -3,33 +3,29 @@
 ghost use Rattle.std.specs.Prelude.{◌≡◌, ◌<◌, ◌≤◌, ◌+◌, ◌^◌, ◌++◌, Err, IfErr, IfOk, IfSome, None, Ok, OnErr, OnOk, Some, length, take};
 ghost use Rattle.std.specs.Io.KnownBytes.{Appends, Consumes, IsAtEnd, Keeps};
 ghost use Rattle.radpolicy_replay_records.specs.Lines.{cut};
-ghost use Rattle.radpolicy_replay_records.specs.Answers.{answer_shown};
-ghost use Rattle.radpolicy_replay_records.specs.Replays.{AppendsFront, IsReason, answer_by, compared_lines, compared_text, compared_verdict, entry_counted, entry_lines, entry_text, entry_verdict, lines_if, lines_on, record_lines, record_secret, record_text, replayed_text, summary_of, test_of, text_by, verdict_by, verdict_of, verdict_on};
-ghost use Rattle.radpolicy_replay_records.specs.Entries.{entry_of_line};
-ghost use Rattle.radpolicy_replay_records.specs.TextEntries.{IsEntryOf, text_secret};
-ghost use Rattle.radpolicy_replay_records.specs.TextReplays.{IsRecordsReason, IsReplayed, IsReplayedFront};
-ghost use Rattle.radpolicy_replay_records.specs.internal.Over.{IsOver};
-ghost use Rattle.radpolicy_replay_records.specs.declared.comparisons.Against.TheVariants.{Captured, Policy};
+ghost use Rattle.radpolicy_record_answers.specs.Answers.{answer_shown};
+ghost use Rattle.radpolicy_record_answers.specs.Requests.{answer_by};
+ghost use Rattle.radpolicy_replay_records.specs.Replays.{AppendsFront, IsReason, compared_lines, compared_text, compared_verdict, entry_counted, entry_lines, entry_text, entry_verdict, lines_if, lines_on, record_lines, record_secret, record_text, replayed_text, summary_of, test_of, text_by, verdict_by, verdict_of, verdict_on};
+ghost use Rattle.radpolicy_record_answers.specs.Entries.{entry_of_line};
+ghost use Rattle.radpolicy_record_answers.specs.TextEntries.{IsEntryOf};
+ghost use Rattle.radpolicy_replay_records.specs.TextReplays.{IsRecordsReason, IsReplayed, IsReplayedFront, text_secret};
+ghost use Rattle.radpolicy_record_answers.specs.declared.comparisons.Against.TheVariants.{Captured, Policy};
 ghost use Rattle.radpolicy_replay_records.specs.declared.replays.ReplayFault.TheVariants.{Input as NotRead, Memory as OutOfMemory, Output as NotWritten};
 ghost use Rattle.radpolicy_replay_records.specs.internal.Positions.{CountsWithin, HasNoEnd, IsEntryReason, IsLineReason, IsOctetsReason, Writes, WritesFront, line_counted, line_text};
 
-use crate::answers::{RecordFault, push_outcome, push_refusal};
-use crate::captured::entry_replies;
-use crate::comparisons::{Against, Comparison};
-use crate::differences::Printer;
-use crate::entries::{Entry, entry_of_line};
 use crate::inputs::Records;
 use crate::layouts::{Layout, has_passed, without_last};
-use crate::lines::{MAX_LINE_OCTETS, first_line_end, is_record, keep};
-use crate::record_lines::run_of;
-use crate::records::{push_name, source_of};
-use crate::requests::RecordRequest;
-use crate::summaries::{Summary, Verdict};
-use crate::text_entries::{entry_of_record, text_source};
-use radpolicy::{Fault, PreparedPolicy, RunOutcome, Secret};
+use crate::lines::{first_line_end, is_record, keep};
+use crate::summaries::Summary;
+use radpolicy::{PreparedPolicy, Secret};
 use radpolicy_changing_lines::PolicyLine;
 use radpolicy_clients::Clients;
 use radpolicy_common::SecretValues;
+use radpolicy_record_answers::{
+    Against, Comparison, Entry, MAX_LINE_OCTETS, Printer, RecordSecret, Verdict, answer_over,
+    entry_answer, entry_of_line, entry_of_record, entry_replies, push_name, push_outcome,
+    push_refusal, run_of, source_of, text_source,
+};
 use radpolicy_replay_layouts::push_test;
 use radpolicy_traffic::Record;
 use std::alloc::{AllocError, AllocFailed, Global};
@@ -37,6 +33,9 @@ use std::io::{ErrorKind, Read, Write};
 
 // The octets that are asked for by one read.
 const BLOCK_OCTETS: usize = 65_536;
+
+// By which the packets of lines are made where no secret is known.
+const SECRET_OF_LINES: &[u8] = b"radpolicy";
 
 /// Why a replay ended before its input did.
 #[derive(Clone, Copy, Debug, PartialEq, Eq)]
@@ -73,6 +72,8 @@ pub enum SharedSecrets<'a> {
     One(&'a Secret<'a>),
     /// One with each client.
     ByClient(&'a Clients),
+    /// None is known: packets are read without one.
+    NoSecret,
 }
 
 /// What is asked of records: which policy answers them, by which secrets, what its answers are compared with, and what
@@ -155,72 +156,25 @@ fn flush<W: Write>(out: &mut W) -> Result<(), ReplayFault>
     }
 }
 
-// What a policy answers to a request.
-fn answer_by<'a>(
-    alloc: Global,
-    policy: &'a PreparedPolicy<'a>,
-    secret: &'a Option<Secret<'a>>,
-    request: &RecordRequest,
-) -> Result<Result<RunOutcome<'a>, RecordFault>, AllocError>
-    ensures { IfOk result (λ answer.
-        answer ≡ answer_by policy.entry.now secret.entry.now (Ok request.now)) }
-{
-    let Some(secret) = secret else {
-        return Ok(Err(RecordFault::NoClient));
-    };
-    match request.answer(alloc, policy, secret) {
-        Ok(outcome) => Ok(Ok(outcome)),
-        Err(Fault::Memory) => Err(AllocError),
-        Err(fault) => Ok(Err(RecordFault::Request(fault))),
-    }
-}
-
-/// What a policy answers to a record.
-pub(crate) fn entry_answer<'a>(
-    alloc: Global,
-    policy: &'a PreparedPolicy<'a>,
-    secret: &'a Option<Secret<'a>>,
-    entry: &Entry,
-) -> Result<Result<RunOutcome<'a>, RecordFault>, AllocError>
-    ensures { IfOk result (λ answer.
-        answer ≡ answer_by policy.entry.now secret.entry.now entry.now.request) }
-{
-    match &entry.request {
-        Ok(request) => answer_by(alloc, policy, secret, request),
-        Err(fault) => Ok(Err(*fault)),
-    }
-}
-
-/// The same, which is over the dictionary of its policy.
-pub(crate) fn answer_over<'a>(
-    alloc: Global,
-    policy: &'a PreparedPolicy<'a>,
-    secret: &'a Option<Secret<'a>>,
-    entry: &Entry,
-) -> Result<Result<RunOutcome<'a>, RecordFault>, AllocError>
-    ensures answer { IfOk result (λ answer.
-        answer ≡ answer_by policy.entry.now secret.entry.now entry.now.request) }
-    ensures over { IfOk result (IsOver policy.entry.now.dictionary) }
-{
-    let answer = entry_answer(alloc, policy, secret, entry)?;
-    Ok(answer)
-}
-
 impl SharedSecrets<'_> {
-    // The secret that is shared with the source of a record.
-    fn of_record(&self, alloc: Global, line: &[u8]) -> Result<Option<Secret<'_>>, AllocError>
+    // By which secret the packets of a line are read.
+    fn of_record(&self, alloc: Global, line: &[u8]) -> Result<RecordSecret<'_>, AllocError>
         ensures { IfOk result (λ secret. secret ≡ record_secret self.now line.now) }
     {
         match self {
-            SharedSecrets::One(secret) => Ok(Secret::new(secret.as_slice()).ok()),
+            SharedSecrets::One(secret) => {
+                Ok(RecordSecret::or_missing(Secret::new(secret.as_slice()).ok()))
+            }
             SharedSecrets::ByClient(clients) => match source_of(alloc, line)? {
-                Some(address) => Ok(clients.secret_for(address)),
-                None => Ok(None),
+                Some(address) => Ok(RecordSecret::or_missing(clients.secret_for(address))),
+                None => Ok(RecordSecret::Missing),
             },
+            SharedSecrets::NoSecret => Ok(RecordSecret::Unknown),
         }
     }
 
-    /// The secret that is shared with the source of a record of attribute lines.
+    /// The secret by which the packets of a record of attribute lines are made and read: the one that is shared with
+    /// its source, if that has one. Where none is known, any will do, as no line has anything hidden by it.
     pub fn of_text(&self, record: &Record) -> Option<Secret<'_>>
         ensures { result ≡ text_secret self.now record.now }
     {
@@ -230,6 +184,7 @@ impl SharedSecrets<'_> {
                 Some(address) => clients.secret_for(address),
                 None => None,
             },
+            SharedSecrets::NoSecret => Secret::new(SECRET_OF_LINES).ok(),
         }
     }
 }
@@ -239,7 +194,7 @@ impl<'a> Replay<'a> {
     fn push_answer<'b>(
         &'b self,
         text: &mut Vec<u8>,
-        secret: &'b Option<Secret<'b>>,
+        secret: &'b RecordSecret<'b>,
         entry: &Entry,
     ) -> Result<Verdict, AllocError>
         ensures text { OnOk result (text.new.items ≡ text.old.items
@@ -265,7 +220,7 @@ impl<'a> Replay<'a> {
         &'b self,
         text: &mut Vec<u8>,
         number: u64,
-        secret: &'b Option<Secret<'b>>,
+        secret: &'b RecordSecret<'b>,
         entry: &Entry,
     ) -> Result<Verdict, AllocError>
         ensures text { OnOk result (text.new.items
@@ -286,7 +241,7 @@ impl<'a> Replay<'a> {
         comparison: &'b Comparison<'b>,
         against: &'b PreparedPolicy<'b>,
         number: u64,
-        secret: &'b Option<Secret<'b>>,
+        secret: &'b RecordSecret<'b>,
         entry: &Entry,
     ) -> Result<Verdict, AllocError>
         ensures text { OnOk result (text.new.items ≡ text.old.items ++ compared_text self.now
@@ -313,7 +268,7 @@ impl<'a> Replay<'a> {
         text: &mut Vec<u8>,
         comparison: &'b Comparison<'b>,
         number: u64,
-        secret: &'b Option<Secret<'b>>,
+        secret: &'b RecordSecret<'b>,
         entry: &Entry,
     ) -> Result<Verdict, AllocError>
         ensures text { OnOk result (text.new.items ≡ text.old.items
@@ -335,7 +290,7 @@ impl<'a> Replay<'a> {
         text: &mut Vec<u8>,
         comparison: &'b Comparison<'b>,
         number: u64,
-        secret: &'b Option<Secret<'b>>,
+        secret: &'b RecordSecret<'b>,
         entry: &Entry,
     ) -> Result<Verdict, AllocError>
         ensures text { OnOk result (text.new.items ≡ text.old.items
@@ -359,7 +314,7 @@ impl<'a> Replay<'a> {
         &'b self,
         text: &mut Vec<u8>,
         number: u64,
-        secret: &'b Option<Secret<'b>>,
+        secret: &'b RecordSecret<'b>,
         entry: &Entry,
     ) -> Result<Verdict, AllocError>
         ensures text { OnOk result (text.new.items
@@ -379,7 +334,7 @@ impl<'a> Replay<'a> {
         text: &mut Vec<u8>,
         strict: bool,
         number: u64,
-        secret: &'b Option<Secret<'b>>,
+        secret: &'b RecordSecret<'b>,
         entry: &Entry,
     ) -> Result<Verdict, AllocError>
         ensures text { OnOk result (text.new.items
@@ -407,7 +362,7 @@ impl<'a> Replay<'a> {
         &'b self,
         text: &mut Vec<u8>,
         number: u64,
-        secret: &'b Option<Secret<'b>>,
+        secret: &'b RecordSecret<'b>,
         entry: &Entry,
     ) -> Result<Verdict, AllocError>
         ensures text { OnOk result (text.new.items
@@ -429,7 +384,7 @@ impl<'a> Replay<'a> {
         alloc: Global,
         comparison: &'b Comparison<'b>,
         against: &'b PreparedPolicy<'b>,
-        secret: &'b Option<Secret<'b>>,
+        secret: &'b RecordSecret<'b>,
         entry: &Entry,
     ) -> Result<Vec<PolicyLine>, AllocError>
         ensures { IfOk result (λ lines. lines.items ≡ compared_lines self.now comparison.now
@@ -445,7 +400,7 @@ impl<'a> Replay<'a> {
         &'b self,
         alloc: Global,
         comparison: &'b Comparison<'b>,
-        secret: &'b Option<Secret<'b>>,
+        secret: &'b RecordSecret<'b>,
         entry: &Entry,
     ) -> Result<Vec<PolicyLine>, AllocError>
         ensures { IfOk result (λ lines. lines.items
@@ -461,7 +416,7 @@ impl<'a> Replay<'a> {
         &'b self,
         alloc: Global,
         comparison: &'b Comparison<'b>,
-        secret: &'b Option<Secret<'b>>,
+        secret: &'b RecordSecret<'b>,
         entry: &Entry,
     ) -> Result<Vec<PolicyLine>, AllocError>
         ensures { IfOk result (λ lines. lines.items
@@ -480,7 +435,7 @@ impl<'a> Replay<'a> {
         &'b self,
         alloc: Global,
         verdict: Verdict,
-        secret: &'b Option<Secret<'b>>,
+        secret: &'b RecordSecret<'b>,
         entry: &Entry,
     ) -> Result<Vec<PolicyLine>, AllocError>
         ensures { IfOk result (λ lines. lines.items
@@ -499,7 +454,7 @@ impl<'a> Replay<'a> {
     fn push_counted<'b>(
         &'b self,
         text: &mut Vec<u8>,
-        secret: &'b Option<Secret<'b>>,
+        secret: &'b RecordSecret<'b>,
         entry: &Entry,
         number: u64,
         summary: Summary,
@@ -521,7 +476,7 @@ impl<'a> Replay<'a> {
     fn tell_entry<'b, W: Write>(
         &'b self,
         alloc: Global,
-        secret: &'b Option<Secret<'b>>,
+        secret: &'b RecordSecret<'b>,
         entry: &Entry,
         summary: Summary,
         out: &mut W,
@@ -676,7 +631,8 @@ impl<'a> Replay<'a> {
             let secret = self.shared.of_text(&record);
             let dictionary = self.policy.dictionary();
             let entry = entry_of_record(alloc, dictionary, zone, &secret, &record)?;
-            summary = (&*self).tell_entry(alloc, &secret, &entry, summary, out)?;
+            let read_by = RecordSecret::or_missing(secret);
+            summary = (&*self).tell_entry(alloc, &read_by, &entry, summary, out)?;
             flush(out)?;
         }
         Err(ReplayFault::Input)

@@ -1,4 +1,4 @@
-//! What became of records, and how many there were of each kind.
+//! How many records there were of each kind.
 
 ghost use Rattle.std.specs.Prelude.{◌≡◌, ◌<◌, ◌+◌, ◌^◌, IfOk};
 ghost use Rattle.radpolicy_replay_records.specs.Replays.{counted, counted_with, no_records};
@@ -6,25 +6,8 @@ ghost use Rattle.radpolicy_replay_records.specs.internal.Positions.{CountsWithin
 
 use crate::line_counts::LineCounts;
 use radpolicy_changing_lines::PolicyLine;
+use radpolicy_record_answers::Verdict;
 use std::alloc::{AllocError, Global};
-
-/// What became of a record.
-#[derive(Clone, Copy, Debug, PartialEq, Eq)]
-pub enum Verdict {
-    /// The policy ran, and its answer was compared with none.
-    Answered,
-    /// Both policies ran, and came to the same; or the reply that was captured is the policy's.
-    Same,
-    /// Two policies answer it otherwise, or another reply was captured.
-    Different,
-    /// No reply was captured with which the policy's is compared.
-    Unanswered,
-    /// An Access-Challenge was captured, with which nothing is compared.
-    Challenged,
-    /// The line has no packet, or the packet was not taken, by both policies where two are compared; or what was
-    /// captured is no reply to it.
-    Refused,
-}
 
 /// How many records there were.
 #[derive(Drop)]

@@ -5,9 +5,8 @@ use avp_dict::Dictionary;
 use radpolicy::{PreparedPolicy, Secret};
 use radpolicy_changing_lines::PolicyLine;
 use radpolicy_common::SecretValues;
-use radpolicy_replay_records::{
-    Against, Comparison, Layout, Order, Replay, SharedSecrets, Summary, Told,
-};
+use radpolicy_record_answers::{Against, Comparison, Order, Told};
+use radpolicy_replay_records::{Layout, Replay, SharedSecrets, Summary};
 use samples::test_dictionary;
 use std::alloc::Global;
 use std::test::Fail;
@@ -33,10 +32,10 @@ digest 0107001a00112233445566778899aabbccddeeff050600000003 0307001483111e9861b8
 request 0207001400112233445566778899aabbccddeeff 0307001483111e9861b83e3085b2622fa3f4a8e7
 ";
 
-// The replay by a policy that is compared with what was captured.
-fn replay_captured<'a>(
+/// The replay by a policy that is compared with what was captured.
+pub(crate) fn replay_captured<'a>(
     policy: &'a PreparedPolicy<'a>,
-    secret: &'a Secret<'a>,
+    shared: SharedSecrets<'a>,
     order: Order,
     told: Told,
 ) -> Replay<'a> {
@@ -47,7 +46,6 @@ fn replay_captured<'a>(
         ignored: &[],
         told,
     });
-    let shared = SharedSecrets::One(secret);
     Replay {
         policy,
         shared,
@@ -62,7 +60,7 @@ fn told(alloc: Global, order: Order, told: Told) -> Result<(Vec<u8>, Summary), F
     let dictionary: Dictionary = test_dictionary(alloc)?;
     let policy = PreparedPolicy::read(alloc, &dictionary, POLICY)?;
     let secret = Secret::new(b"testing123")?;
-    let replay = replay_captured(&policy, &secret, order, told);
+    let replay = replay_captured(&policy, SharedSecrets::One(&secret), order, told);
     let mut input = RECORDS;
     let mut out = Vec::new(alloc);
     let summary = replay.run(alloc, &mut input, &mut out)?;

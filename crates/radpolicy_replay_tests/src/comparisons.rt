@@ -6,9 +6,8 @@ use avp_lists::AttrId;
 use radpolicy::{PreparedPolicy, Secret};
 use radpolicy_changing_lines::PolicyLine;
 use radpolicy_common::SecretValues;
-use radpolicy_replay_records::{
-    Against, Comparison, Layout, Order, Replay, SharedSecrets, Summary, Told,
-};
+use radpolicy_record_answers::{Against, Comparison, Order, Told};
+use radpolicy_replay_records::{Layout, Replay, SharedSecrets, Summary};
 use samples::test_dictionary;
 use std::alloc::Global;
 use std::test::Fail;

@@ -3,9 +3,8 @@
 use avp_dict::Dictionary;
 use radpolicy::{PreparedPolicy, Secret};
 use radpolicy_common::SecretValues;
-use radpolicy_replay_records::{
-    Against, Comparison, Layout, Order, RecordReader, Replay, SharedSecrets, Told,
-};
+use radpolicy_record_answers::{Against, Comparison, Order, Told};
+use radpolicy_replay_records::{Layout, RecordReader, Replay, SharedSecrets};
 use radpolicy_traffic::Format;
 use samples::test_dictionary;
 use std::alloc::Global;

@@ -21,3 +21,5 @@ mod replays;
 mod sources;
 #[cfg(test)]
 mod text_records;
+#[cfg(test)]
+mod unchecked;

@@ -1,7 +1,8 @@
 //! Records as lines of packets.
 
 use radpolicy::Secret;
-use radpolicy_replay_records::{RecordReader, Records, entry_of_record};
+use radpolicy_record_answers::entry_of_record;
+use radpolicy_replay_records::{RecordReader, Records};
 use radpolicy_traffic::Format;
 use samples::test_dictionary;
 use std::alloc::Global;

@@ -1,7 +1,7 @@
 //! The request of a record's line.
 
 use radpolicy::Fault;
-use radpolicy_replay_records::{MAX_LINE_OCTETS, request_octets};
+use radpolicy_record_answers::{MAX_LINE_OCTETS, request_octets};
 use std::test::Fail;
 
 // Lines, and the last octets of their requests.

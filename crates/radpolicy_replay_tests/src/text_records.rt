@@ -6,9 +6,8 @@ use radpolicy::{PreparedPolicy, Secret};
 use radpolicy_changing_lines::PolicyLine;
 use radpolicy_clients::{Clients, read_lines};
 use radpolicy_common::SecretValues;
-use radpolicy_replay_records::{
-    Against, Comparison, Layout, Order, RecordReader, Replay, SharedSecrets, Summary, Told,
-};
+use radpolicy_record_answers::{Against, Comparison, Order, Told};
+use radpolicy_replay_records::{Layout, RecordReader, Replay, SharedSecrets, Summary};
 use radpolicy_traffic::Format;
 use samples::test_dictionary;
 use std::alloc::Global;

@@ -1,5 +1,5 @@
 use Rattle.std.proofs.Common.{◌≤◌, ◌<◌, ◌+◌, length}
-use Rattle.radpolicy_replay_records.specs.declared.lines.TheConstants.{MAX_LINE_OCTETS}
+use Rattle.radpolicy_record_answers.specs.declared.records.TheConstants.{MAX_LINE_OCTETS}
 use Rattle.radpolicy_replay_records.specs.internal.Positions.{CountsWithin, HasCome, HasNoEnd}
 use Rattle.radpolicy_replay_records.proofs.replays.Replay.run.Given as goal
 

@@ -2,8 +2,8 @@ use Rattle.std.proofs.Common.{◌≡◌, ◌+◌, sym, subst}
 use Rattle.std.specs.Io.KnownBytes.{Appends}
 use Rattle.std.proofs.lemmas.Result.{err_from_is_err_and}
 use Rattle.radpolicy_replay_records.specs.Replays.{AppendsFront, entry_counted, entry_lines, entry_text, entry_verdict}
-use Rattle.radpolicy_replay_records.specs.TextEntries.{IsEntryOf, text_secret}
-use Rattle.radpolicy_replay_records.specs.TextReplays.{Gives}
+use Rattle.radpolicy_record_answers.specs.TextEntries.{IsEntryOf}
+use Rattle.radpolicy_replay_records.specs.TextReplays.{Gives, lines_secret, text_secret}
 use Rattle.radpolicy_replay_records.specs.internal.Positions.{CountsWithin}
 use Rattle.radpolicy_replay_records.proofs.Progress.{counted_within}
 use Rattle.radpolicy_replay_records.proofs.Telling.{broken_front, entry_reason, told_front, told_further}
@@ -16,8 +16,8 @@ returns-in_err-summary-clause-front g c =
     rw c.in-Some.is at c.in_ok-record.ensures.given in
     let says : IsEntryOf c.args.self.now.policy.now.dictionary c.args.zone (text_secret c.args.self.now.shared c.in-Some.record) c.in-Some.record c.in_ok-entry.entry =
     rw (c.dictionary-dictionary.ensures, c.of_text-secret.ensures) at c.in_ok-entry.ensures in
-    let puts : AppendsFront (g.W.Write.contents c.loop.out) (g.W.Write.contents c.tell_entry.new.out) (entry_text c.args.self.now (c.loop.summary.read + 1) (text_secret c.args.self.now.shared c.in-Some.record) c.in_ok-entry.entry) =
-    rw c.of_text-secret.ensures at c.in_err-summary.ensures.front in
+    let puts : AppendsFront (g.W.Write.contents c.loop.out) (g.W.Write.contents c.tell_entry.new.out) (entry_text c.args.self.now (c.loop.summary.read + 1) (lines_secret c.args.self.now.shared c.in-Some.record) c.in_ok-entry.entry) =
+    rw (c.or_missing-read_by.ensures, c.of_text-secret.ensures) at c.in_err-summary.ensures.front in
     rw p.1 (broken_front c.args.self.now c.args.zone c.loop.summary c.in-Some.record c.in_ok-entry.entry
     (g.R.Records.remaining c.args.records.now) (g.R.Records.remaining c.loop.records) (g.R.Records.remaining c.next_record.new.self)
     (g.W.Write.contents c.args.out.now) (g.W.Write.contents c.loop.out) (g.W.Write.contents c.tell_entry.new.out) gives says puts c.loop.invariant.so_far)
@@ -38,10 +38,10 @@ returns-in_err-flush-clause-front g c =
     rw c.in-Some.is at c.in_ok-record.ensures.given in
     let says : IsEntryOf c.args.self.now.policy.now.dictionary c.args.zone (text_secret c.args.self.now.shared c.in-Some.record) c.in-Some.record c.in_ok-entry.entry =
     rw (c.dictionary-dictionary.ensures, c.of_text-secret.ensures) at c.in_ok-entry.ensures in
-    let puts : Appends (g.W.Write.contents c.loop.out) (g.W.Write.contents c.tell_entry.new.out) (entry_text c.args.self.now (c.loop.summary.read + 1) (text_secret c.args.self.now.shared c.in-Some.record) c.in_ok-entry.entry) =
-    rw c.of_text-secret.ensures at c.in_ok-summary.ensures.text in
-    let counts : c.in_ok-summary.summary ≡ entry_counted c.args.self.now c.loop.summary (text_secret c.args.self.now.shared c.in-Some.record) c.in_ok-entry.entry =
-    rw c.of_text-secret.ensures at c.in_ok-summary.ensures.summary in
+    let puts : Appends (g.W.Write.contents c.loop.out) (g.W.Write.contents c.tell_entry.new.out) (entry_text c.args.self.now (c.loop.summary.read + 1) (lines_secret c.args.self.now.shared c.in-Some.record) c.in_ok-entry.entry) =
+    rw (c.or_missing-read_by.ensures, c.of_text-secret.ensures) at c.in_ok-summary.ensures.text in
+    let counts : c.in_ok-summary.summary ≡ entry_counted c.args.self.now c.loop.summary (lines_secret c.args.self.now.shared c.in-Some.record) c.in_ok-entry.entry =
+    rw (c.or_missing-read_by.ensures, c.of_text-secret.ensures) at c.in_ok-summary.ensures.summary in
     rw p.1 (told_front c.args.self.now c.args.zone c.in_ok-summary.summary
     (g.R.Records.remaining c.args.records.now) (g.R.Records.remaining c.next_record.new.self) (g.W.Write.contents c.args.out.now) (g.W.Write.contents c.flush.new.out)
     (told_further c.args.self.now c.args.zone c.loop.summary c.in_ok-summary.summary c.in-Some.record c.in_ok-entry.entry
@@ -55,13 +55,13 @@ loop-preserved g c =
     rw c.in-Some.is at c.in_ok-record.ensures.given in
     let says : IsEntryOf c.args.self.now.policy.now.dictionary c.args.zone (text_secret c.args.self.now.shared c.in-Some.record) c.in-Some.record c.in_ok-entry.entry =
     rw (c.dictionary-dictionary.ensures, c.of_text-secret.ensures) at c.in_ok-entry.ensures in
-    let puts : Appends (g.W.Write.contents c.loop.out) (g.W.Write.contents c.tell_entry.new.out) (entry_text c.args.self.now (c.loop.summary.read + 1) (text_secret c.args.self.now.shared c.in-Some.record) c.in_ok-entry.entry) =
-    rw c.of_text-secret.ensures at c.in_ok-summary.ensures.text in
-    let counts : c.in_ok-summary.summary ≡ entry_counted c.args.self.now c.loop.summary (text_secret c.args.self.now.shared c.in-Some.record) c.in_ok-entry.entry =
-    rw c.of_text-secret.ensures at c.in_ok-summary.ensures.summary in
+    let puts : Appends (g.W.Write.contents c.loop.out) (g.W.Write.contents c.tell_entry.new.out) (entry_text c.args.self.now (c.loop.summary.read + 1) (lines_secret c.args.self.now.shared c.in-Some.record) c.in_ok-entry.entry) =
+    rw (c.or_missing-read_by.ensures, c.of_text-secret.ensures) at c.in_ok-summary.ensures.text in
+    let counts : c.in_ok-summary.summary ≡ entry_counted c.args.self.now c.loop.summary (lines_secret c.args.self.now.shared c.in-Some.record) c.in_ok-entry.entry =
+    rw (c.or_missing-read_by.ensures, c.of_text-secret.ensures) at c.in_ok-summary.ensures.summary in
     record {
-      within = subst CountsWithin (sym counts) (counted_within c.loop.summary (entry_verdict c.args.self.now (text_secret c.args.self.now.shared c.in-Some.record) c.in_ok-entry.entry)
-          (entry_lines c.args.self.now (text_secret c.args.self.now.shared c.in-Some.record) c.in_ok-entry.entry) c.loop.invariant.within);
+      within = subst CountsWithin (sym counts) (counted_within c.loop.summary (entry_verdict c.args.self.now (lines_secret c.args.self.now.shared c.in-Some.record) c.in_ok-entry.entry)
+          (entry_lines c.args.self.now (lines_secret c.args.self.now.shared c.in-Some.record) c.in_ok-entry.entry) c.loop.invariant.within);
       so_far = told_further c.args.self.now c.args.zone c.loop.summary c.in_ok-summary.summary c.in-Some.record c.in_ok-entry.entry
           (g.R.Records.remaining c.args.records.now) (g.R.Records.remaining c.loop.records) (g.R.Records.remaining c.next_record.new.self)
           (g.W.Write.contents c.args.out.now) (g.W.Write.contents c.loop.out) (g.W.Write.contents c.tell_entry.new.out) (g.W.Write.contents c.flush.new.out)

@@ -1,0 +1,21 @@
+use Rattle.std.specs.Option.{option_copied}
+use Rattle.std.proofs.lemmas.Result.{IfErr-weaker, IfOk-weaker, err_from_is_err_and}
+use Rattle.radpolicy_record_answers.proofs.RequestStarts.{start_answered, start_refused, start_too_long}
+use Rattle.radpolicy_record_answers.proofs.requests.RecordRequest.answer.Goals as goal
+
+pub returns-in_err-start-clause-refused : goal.returns-in_err-start-clause-refused
+returns-in_err-start-clause-refused c =
+    let p = err_from_is_err_and c.from_residual.result c.from_residual.ensures.1 in
+    rw (p.1, p.2) (start_refused c.args.policy.now (option_copied c.args.secret) c.args.self.now c.in_err-start.field-0.0 c.in_err-start.ensures.refused)
+
+pub returns-clause-ok : goal.returns-clause-ok
+returns-clause-ok c =
+    IfOk-weaker c.run.result _ _
+    (start_answered c.args.policy.now (option_copied c.args.secret) c.args.self.now c.in_ok-start.start c.in_ok-start.ensures.ok)
+    c.run.ensures.ok
+
+pub returns-clause-refused : goal.returns-clause-refused
+returns-clause-refused c =
+    IfErr-weaker c.run.result _ _
+    (start_too_long c.args.policy.now (option_copied c.args.secret) c.args.self.now c.in_ok-start.start c.in_ok-start.ensures.ok)
+    c.run.ensures.refused

@@ -1,0 +1,12 @@
+pub mod Answers
+pub mod Captured
+pub mod Comparisons
+pub mod Differences
+pub mod Entries
+pub mod PacketLines
+pub mod RecordLines
+pub mod Records
+pub mod Requests
+pub mod TextEntries
+pub mod UnmadeReplies
+pub mod internal

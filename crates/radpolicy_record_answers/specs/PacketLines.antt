@@ -1,0 +1,47 @@
+-- Records as lines of packets.
+use Rattle.std.specs.Prelude.{ℕ, ◌==◌, Bool, false, not, ◌&&◌, if◌then◌else◌, List, [], ◌∷◌, ◌++◌, codes, length, Result, Ok, Err}
+use Rattle.hex.specs.Hex.{encode_lower}
+use Rattle.radpolicy_record_answers.specs.Answers.{refusal_shown}
+use Rattle.radpolicy_record_answers.specs.Records.{or_number}
+use Rattle.radpolicy_record_answers.specs.declared.answers.RecordFault.{RecordFault}
+use Rattle.radpolicy_record_answers.specs.declared.captured.CapturedReply.{CapturedReply}
+use Rattle.radpolicy_record_answers.specs.declared.captured.CapturedReply.TheVariants.{Challenge, Missing, Octets, Unread}
+use Rattle.radpolicy_record_answers.specs.declared.entries.Entry.{Entry}
+use Rattle.radpolicy_record_answers.specs.declared.requests.RecordRequest.{RecordRequest}
+
+-- its run begins with empty lists: a line of packets gives none
+abbrev pub is_alone : RecordRequest → Bool
+is_alone request = (length request.reply == 0) && (length request.control == 0)
+
+abbrev pub has_packet_of : Result RecordRequest RecordFault → Bool
+has_packet_of (Err f) = false
+has_packet_of (Ok request) = is_alone request
+
+-- the line of a record has its request
+abbrev pub has_packet : Entry → Bool
+has_packet entry = has_packet_of entry.request
+
+-- the address of the source, where it is given
+abbrev pub source_shown : List ℕ → List ℕ
+source_shown [] = []
+source_shown (o ∷ os) = (o ∷ os) ++ codes " "
+
+-- a request, and the reply that was captured: there is none of a challenge, and of lines that make no packet
+abbrev pub packets_shown : List ℕ → List ℕ → CapturedReply → List ℕ
+packets_shown source request Missing = source_shown source ++ encode_lower request
+packets_shown source request (Octets reply) =
+    source_shown source ++ encode_lower request ++ codes " " ++ encode_lower reply
+packets_shown source request Challenge = source_shown source ++ encode_lower request
+packets_shown source request (Unread f) = source_shown source ++ encode_lower request
+
+-- what is after the name: the packets, or why there are none
+abbrev pub after_name : List ℕ → CapturedReply → Result RecordRequest RecordFault → List ℕ
+after_name source reply (Err f) = refusal_shown f
+after_name source reply (Ok request) =
+    if is_alone request then packets_shown source request.octets reply
+    else codes "initial lists"
+
+-- the line of a record with this number, from this source
+abbrev pub packet_line : ℕ → List ℕ → Entry → List ℕ
+packet_line number source entry = or_number number entry.identifier
+    ++ after_name source entry.reply entry.request ++ codes "\n"

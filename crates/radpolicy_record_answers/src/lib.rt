@@ -1,0 +1,29 @@
+//! What records of traffic say, what a policy answers to them, and how two answers differ.
+#![tactic(auto)]
+
+mod answers;
+mod captured;
+mod comparisons;
+mod differences;
+mod entries;
+mod packet_lines;
+mod record_lines;
+mod records;
+mod requests;
+mod text_entries;
+mod unmade_replies;
+mod verdicts;
+
+pub use answers::{RecordFault, answer, hides_reply, push_outcome, push_refusal, push_reply};
+pub use captured::{
+    CapturedFault, CapturedReply, Replies, entry_replies, push_captured_fault, replies_to,
+    reply_name,
+};
+pub use comparisons::{Against, Comparison, Order, Told, compared, same_lists};
+pub use differences::{Printer, verdict_of_same};
+pub use entries::{Entry, answer_over, entry_answer, entry_of_line};
+pub use record_lines::run_of;
+pub use records::{MAX_LINE_OCTETS, push_name, request_octets, source_of};
+pub use requests::{RecordRequest, RecordSecret};
+pub use text_entries::{entry_of_record, text_source};
+pub use verdicts::Verdict;
