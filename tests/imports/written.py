@@ -37,7 +37,7 @@ if (&User-Name) {
 		User-Name := &User-Name
 	}
 }
-if (&control:Outer-Request-User-Name == "bob" && (&control:Import-Sql-1 && &control:Import-Sql-1 == "yes")) {
+if (&control:Outer-Request-User-Name == "bob" && &control:Import-Sql-1 && &control:Import-Sql-1 == "yes") {
 	if (&reply:Framed-Pool && &reply:Framed-Pool != "") {
 		update reply {
 			Reply-Message := "Hi %{reply:Framed-Pool}"
