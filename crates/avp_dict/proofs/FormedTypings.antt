@@ -1,5 +1,5 @@
 -- The type of an ATTRIBUTE line holds what its values stand for.
-use Rattle.std.proofs.Common.{◌≡◌, ◌∙◌, ℕ, Bool, true, false, not, cond, ◌&&◌, ◌||◌, ◌==◌, codes, List, [], ◌∷◌, Option, Some, None, refl, sym, ap, ap₂, arith, unwrap_or}
+use Rattle.std.proofs.Common.{◌≡◌, ℕ, Bool, true, false, cond, ◌&&◌, ◌||◌, ◌==◌, codes, List, [], ◌∷◌, Option, Some, refl, ap, ap₂, arith, unwrap_or}
 use Rattle.std.specs.List.{list_any}
 use Rattle.std.specs.Map.{lookup}
 use Rattle.std.proofs.Math.Bool.{or-true}
@@ -7,12 +7,11 @@ use Rattle.std.proofs.lemmas.Bool.{and_parts, cond_both, or_parts}
 use Rattle.std.proofs.lemmas.Grind.{common_steps}
 use Rattle.avp_lists.specs.declared.pairs.AttrId.{AttrId}
 use Rattle.avp_dict.specs.declared.entries.Kind.{Kind}
-use Rattle.avp_dict.specs.declared.entries.Kind.TheVariants as kinds
 use Rattle.avp_dict.specs.declared.entries.Typing.{Typing}
 use Rattle.avp_dict.specs.declared.forms.Form.{Form}
 use Rattle.avp_dict.specs.declared.forms.Form.TheVariants as forms
 use Rattle.avp_dict.specs.Letters.{word_before_bracket}
-use Rattle.avp_dict.specs.Types.{form_by, form_words, has_flag, is_encrypted, is_fixed, is_formed, is_hiding, is_kind_of_form, is_marked, is_opaque, kind_word, kind_words, own_form, tagged_form, typing_by, typing_of}
+use Rattle.avp_dict.specs.Types.{form_by, has_flag, is_encrypted, is_fixed, is_formed, is_hiding, is_marked, is_opaque, kind_word, kind_words, own_form, tagged_form, typing_by, typing_of}
 use Rattle.avp_dict.specs.Words.{lower, same_name}
 
 -- ---- words that are the same

@@ -11,6 +11,7 @@ pub mod FoundPositions
 pub mod Gathering
 pub mod LastPlaces
 pub mod Lexing
+pub mod LineEnds
 pub mod LineTables
 pub mod LinesRead
 pub mod Misspellings
@@ -25,6 +26,7 @@ pub mod Passes
 pub mod PrintedAddresses
 pub mod PrintedNames
 pub mod ReadingBack
+pub mod RefusedLines
 pub mod Resolving
 pub mod SoundDictionary
 pub mod SoundLines

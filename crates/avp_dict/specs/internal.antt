@@ -1,6 +1,7 @@
 pub mod AttributeRows
 pub mod Contents
 pub mod Entries
+pub mod LineEnds
 pub mod LineReading
 pub mod LineViews
 pub mod Meanings

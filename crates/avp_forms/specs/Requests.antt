@@ -4,7 +4,10 @@ use Rattle.std.specs.Option.{option_map}
 use Rattle.std.specs.Result.{result_ok}
 use Rattle.avp_lists.specs.declared.pairs.Pair.{Pair}
 use Rattle.avp_dict.specs.Dictionary.{Dictionary}
-use Rattle.avp_dict.specs.Requests.{pair_assigned, pair_with, request_by, request_spelled}
+use Rattle.avp_dict.specs.Names.{named}
+use Rattle.avp_dict.specs.RefusedPlaces.{IsRefusedAt, line_from}
+use Rattle.avp_dict.specs.Requests.{pair_assigned, pair_named, pair_with, request_by, request_spelled}
+use Rattle.avp_dict.specs.declared.request.faults.LineKind.{LineKind}
 use Rattle.avp_forms.specs.Targets.{target_of}
 use Rattle.avp_forms.specs.Written.{value_written}
 use Rattle.avp_forms.specs.declared.profiles.Profile.{Profile}
@@ -23,3 +26,11 @@ unfoldable pub request_written : Profile → Option ℤ → List ℕ → Diction
 request_written Plain offset text dictionary = request_spelled text dictionary
 request_written Wider offset text dictionary =
     request_by (pair_assigned (target_of Wider dictionary) (pair_written offset dictionary)) text
+
+-- what there is where a text is refused for this: names and values as the profile reads them
+abbrev pub IsRefusedIn : Profile → Option ℤ → Dictionary → List ℕ → LineKind → ℕ → Type 0
+IsRefusedIn Plain offset dictionary text kind place =
+    IsRefusedAt (line_from text) (λ name. named name dictionary)
+    (λ target value. pair_named dictionary value target) kind place
+IsRefusedIn Wider offset dictionary text kind place =
+    IsRefusedAt (line_from text) (target_of Wider dictionary) (pair_written offset dictionary) kind place

@@ -7,7 +7,7 @@ ghost use Rattle.avp_dict.specs.Limits.{fits};
 ghost use Rattle.avp_dict.specs.LineNumbers.{line_after};
 ghost use Rattle.avp_dict.specs.RefusedPlaces.{is_before_filled};
 ghost use Rattle.avp_dict.specs.Sent.{is_clean};
-ghost use Rattle.avp_forms.specs.Requests.{request_written};
+ghost use Rattle.avp_forms.specs.Requests.{IsRefusedIn, request_written};
 
 use crate::profiles::Profile;
 use crate::targets::{Target, target_of};
@@ -90,6 +90,8 @@ pub fn read_request(
     ensures within { IfErr result (λ fault. fault.offset ≤ length text.now) }
     ensures line { IfErr result (λ fault. fault.line ≡ line_after (take fault.offset text.now)) }
     ensures filled { IfErr result (λ fault. is_before_filled fault.offset text.now ≡ true) }
+    ensures place { IfErr result (λ fault.
+        IsRefusedIn profile zone dictionary.now text.now fault.kind fault.offset) }
 {
     match profile {
         Profile::Plain => dictionary.read_request(alloc, text),

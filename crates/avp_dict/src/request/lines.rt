@@ -1,6 +1,6 @@
 //! The request of a text of lines.
 
-ghost use Rattle.std.specs.Prelude.{◌≡◌, ◌≢◌, ◌≤◌, ◌<◌, ◌++◌, ◌∷◌, [], Some, None, true, false, IfOk, IfErr, OnOk, OnErr, IfSome, MatchOption, length, take, List, All, IsTrue};
+ghost use Rattle.std.specs.Prelude.{◌≡◌, ◌≢◌, ℕ, ◌≤◌, ◌<◌, ◌++◌, ◌∷◌, [], Some, None, true, false, IfOk, IfErr, OnOk, OnErr, IfSome, MatchOption, length, take, List, All, IsTrue};
 ghost use Rattle.std.specs.List.{before_first, after_first, list_all};
 ghost use Rattle.avp_lists.specs.Meets.{Finds, Unless};
 ghost use Rattle.avp_lists.specs.States.{max_pairs};
@@ -9,10 +9,12 @@ ghost use Rattle.avp_dict.specs.Limits.{fits};
 ghost use Rattle.avp_dict.specs.LineNumbers.{line_after};
 ghost use Rattle.avp_dict.specs.Lines.{is_line_end, texts_of};
 ghost use Rattle.avp_dict.specs.Outcomes.{is_memory_line};
-ghost use Rattle.avp_dict.specs.RefusedPlaces.{is_before_filled};
-ghost use Rattle.avp_dict.specs.RequestLines.{is_blank_line, is_idle_line, pairs_of, tokens_at, without_front};
-ghost use Rattle.avp_dict.specs.Requests.{pair_assigned, request_by, request_spelled};
+ghost use Rattle.avp_dict.specs.RefusedPlaces.{IsRefusedAt, IsValueKind, is_before_filled, line_from};
+ghost use Rattle.avp_dict.specs.RequestLines.{Run, is_blank_line, is_idle_line, pairs_of, tokens_at, without_front};
+ghost use Rattle.avp_dict.specs.Names.{named};
+ghost use Rattle.avp_dict.specs.Requests.{pair_assigned, pair_named, request_by, request_spelled};
 ghost use Rattle.avp_dict.specs.Sent.{is_clean};
+ghost use Rattle.avp_dict.specs.internal.LineEnds.{IsCountKind, IsEnd, IsRefusedEnd, last_of, line_left, refused_from};
 ghost use Rattle.avp_dict.specs.internal.LineReading.{IsNoRequest, after_pairs, assigned_after, pair_of_token, pairs_after, pairs_at};
 ghost use Rattle.avp_dict.specs.internal.RequestTokens.{side_after, token_view};
 
@@ -34,6 +36,8 @@ pub fn next_line(text: &[u8]) -> Option<(&[u8], &[u8])>
     ensures line { IfSome result (λ x. x.0.now ≡ before_first is_line_end text.now) }
     ensures rest { IfSome result (λ x. x.1.now ≡ after_first is_line_end text.now) }
     ensures shorter { IfSome result (λ x. length x.1.now < length text.now) }
+    ensures within { IfSome result (λ x. length x.0.now ≤ length text.now) }
+    ensures end { IfSome result (λ x. IsEnd x.1.now text.now) }
 {
     if text.is_empty() {
         return None;
@@ -55,7 +59,8 @@ fn is_idle_line(line: &[u8]) -> bool
 
 // The text from its first line on that holds more than blanks and a comment.
 fn without_idle_lines(text: &[u8]) -> &[u8]
-    ensures { texts_of result.now ≡ without_front is_idle_line (texts_of text.now) }
+    ensures lines { texts_of result.now ≡ without_front is_idle_line (texts_of text.now) }
+    ensures end { IsEnd result.now text.now }
 {
     let mut rest = text;
     while let Some((line, after)) = next_line(rest)
@@ -70,16 +75,18 @@ fn without_idle_lines(text: &[u8]) -> &[u8]
 fn end_of_packet(rest: &[u8]) -> Result<(), Refusal>
     ensures ok { OnOk result (list_all is_idle_line (texts_of rest.now) ≡ true) }
     ensures err { OnErr result (list_all is_idle_line (texts_of rest.now) ≡ false) }
+    ensures within { IfErr result (λ refusal. refusal.left ≤ length rest.now) }
+    ensures place { IfErr result (λ refusal.
+        IsRefusedEnd (line_left rest.now) refusal.kind refusal.left) }
 {
     let rest = without_idle_lines(rest);
     let Some((line, _)) = next_line(rest) else {
         return Ok(());
     };
-    let kind = match next_token(Side::Name, line) {
-        Some((Token::Run(_), _)) => LineKind::SecondPacket,
-        _ => LineKind::Unreadable,
-    };
-    Err(kind.at(rest.len()))
+    match next_token(Side::Name, line) {
+        Some((Token::Run(_), _)) => Err(LineKind::SecondPacket.at(rest.len())),
+        _ => Err(LineKind::Unreadable.at(rest.len())),
+    }
 }
 
 // What follows a pair on its line: the text after a comma, or nothing.
@@ -88,7 +95,10 @@ fn after_pair(rest: &[u8]) -> Result<&[u8], Refusal>
     ensures read { IfOk result (λ after. assigned_after (tokens_at Side.Value rest.now)
         ≡ pairs_of (tokens_at Side.Name after.now)) }
     ensures shorter { IfOk result (λ after. length after.now ≤ length rest.now) }
+    ensures end { IfOk result (λ after. IsEnd after.now rest.now) }
     ensures refused { OnErr result (assigned_after (tokens_at Side.Value rest.now) ≡ None) }
+    ensures kind { IfErr result (λ refusal. refusal.kind ≡ LineKind.Unreadable) }
+    ensures within { IfErr result (λ refusal. refusal.left ≤ length rest.now) }
 {
     match next_token(Side::Value, rest) {
         None => Ok(&[]),
@@ -99,7 +109,9 @@ fn after_pair(rest: &[u8]) -> Result<&[u8], Refusal>
 
 // How many octets are left where a pair is refused for this, of those from the name on and those from the value on: a
 // name that is not writable is refused only after its value was found.
-fn refused_from(kind: LineKind, name: usize, value: usize) -> usize {
+fn refused_from(kind: LineKind, name: usize, value: usize) -> usize
+    ensures { result ≡ refused_from kind name value }
+{
     match kind {
         LineKind::NotWritable => name,
         _ => value,
@@ -113,6 +125,7 @@ fn push_pair(pairs: &mut Vec<Pair>, pair: Pair) -> Result<(), LineKind>
     ensures few { OnOk result (length pairs.new.items ≤ max_pairs) }
     ensures refused { IfErr result (λ kind. kind ≢ LineKind.Memory → length pairs.old.items
         ≡ max_pairs) }
+    ensures kind { IfErr result IsCountKind }
 {
     if pairs.len() == MAX_PAIRS {
         return Err(LineKind::TooMany);
@@ -128,8 +141,9 @@ fn pair_of_token<R: PairReader>(
     target: R::Target,
     token: Token,
 ) -> Result<Pair, LineKind>
-    ensures { Finds is_memory_line result
+    ensures pair { Finds is_memory_line result
         (pair_of_token (R.pair_of reader.now) target (token_view token.entry)) }
+    ensures kind { IfErr result IsValueKind }
 {
     match token {
         Token::Run([b'=', ..]) => Err(LineKind::Unreadable),
@@ -142,15 +156,18 @@ fn pair_of_token<R: PairReader>(
     }
 }
 
-// The pair of a name, the first token, and a value, and what follows it. So many octets are left from the name on.
+// The pair of a name, the first token of a line, and a value, and what follows it.
 #[tactic(auto, unfolding(crate::specs::RequestLines::pairs_of, crate::specs::internal::LineReading::pairs_at))]
 fn read_pair<'a, R: PairReader>(
     reader: &R,
     alloc: Global,
+    line: &'a [u8],
     first: Token,
-    left: usize,
     rest: &'a [u8],
 ) -> Result<(Pair, &'a [u8]), Refusal>
+    requires token { tokens_at Side.Name line.now
+        ≡ token_view first ∷ tokens_at (side_after Side.Name first) rest.now }
+    requires end { IsEnd rest.now line.now }
     ensures read { IfOk result (λ x.
         pairs_at (pair_assigned (R.target_of reader.now) (R.pair_of reader.now))
         (token_view first.entry ∷ tokens_at (side_after Side.Name first.entry) rest.now)
@@ -163,22 +180,27 @@ fn read_pair<'a, R: PairReader>(
         (pairs_at (pair_assigned (R.target_of reader.now) (R.pair_of reader.now))
         (token_view first.entry ∷ tokens_at (side_after Side.Name first.entry) rest.now)
         ≡ None)) }
+    ensures name { OnOk result ((name : List ℕ) × (token_view first.entry ≡ Run name)) }
+    ensures end { IfOk result (λ x. IsEnd x.1.now line.now) }
+    ensures within { IfErr result (λ refusal. refusal.left ≤ length line.now) }
+    ensures place { IfErr result (λ refusal. IsRefusedAt (last_of line.now)
+        (R.target_of reader.now) (R.pair_of reader.now) refusal.kind refusal.left) }
 {
     let Token::Run(name) = first else {
-        return Err(LineKind::Unreadable.at(left));
+        return Err(LineKind::Unreadable.at(line.len()));
     };
     let Some(target) = reader.target(name) else {
-        return Err(LineKind::Unknown.at(left));
+        return Err(LineKind::Unknown.at(line.len()));
     };
-    let Some((Token::Sign, rest)) = next_token(Side::Name, rest) else {
+    let Some((Token::Sign, text)) = next_token(Side::Name, rest) else {
         return Err(LineKind::Unreadable.at(rest.len()));
     };
-    let Some((value, after)) = next_token(Side::Value, rest) else {
-        return Err(LineKind::Unreadable.at(rest.len()));
+    let Some((value, after)) = next_token(Side::Value, text) else {
+        return Err(LineKind::Unreadable.at(text.len()));
     };
     match pair_of_token(reader, alloc, target, value) {
         Ok(pair) => Ok((pair, after)),
-        Err(kind) => Err(kind.at(refused_from(kind, left, rest.len()))),
+        Err(kind) => Err(kind.at(refused_from(kind, line.len(), text.len()))),
     }
 }
 
@@ -198,13 +220,15 @@ fn read_line<R: PairReader>(
         → IsNoRequest pairs.old.items
         (pairs_at (pair_assigned (R.target_of reader.now) (R.pair_of reader.now))
         (tokens_at Side.Name line.now))) }
+    ensures within { IfErr result (λ refusal. refusal.left ≤ length line.now) }
+    ensures place { IfErr result (λ refusal. IsRefusedAt (last_of line.now)
+        (R.target_of reader.now) (R.pair_of reader.now) refusal.kind refusal.left) }
 {
     let mut rest = line;
     while let Some((first, after)) = next_token(Side::Name, rest) {
-        let left = rest.len();
-        let (pair, after) = read_pair(reader, alloc, first, left, after)?;
+        let (pair, after) = read_pair(reader, alloc, rest, first, after)?;
         if let Err(kind) = push_pair(pairs, pair) {
-            return Err(kind.at(left));
+            return Err(kind.at(rest.len()));
         }
         rest = after_pair(after)?;
     }
@@ -235,6 +259,8 @@ pub fn read_pairs<R: PairReader>(
     ensures within { IfErr result (λ fault. fault.offset ≤ length text.now) }
     ensures line { IfErr result (λ fault. fault.line ≡ line_after (take fault.offset text.now)) }
     ensures filled { IfErr result (λ fault. is_before_filled fault.offset text.now ≡ true) }
+    ensures place { IfErr result (λ fault. IsRefusedAt (line_from text.now)
+        (R.target_of reader.now) (R.pair_of reader.now) fault.kind fault.offset) }
 {
     let mut pairs = Vec::new(alloc);
     let mut rest = without_idle_lines(text);
@@ -246,7 +272,7 @@ pub fn read_pairs<R: PairReader>(
             return Ok(pairs);
         }
         if let Err(refusal) = read_line(reader, alloc, line, &mut pairs) {
-            return Err(refusal.in_text(text, rest.len().saturating_sub(line.len())));
+            return Err(refusal.in_text(text, rest.len() - line.len()));
         }
         rest = after;
     }
@@ -283,6 +309,9 @@ impl Dictionary {
         ensures line { IfErr result (λ fault.
             fault.line ≡ line_after (take fault.offset text.now)) }
         ensures filled { IfErr result (λ fault. is_before_filled fault.offset text.now ≡ true) }
+        ensures place { IfErr result (λ fault. IsRefusedAt (line_from text.now)
+            (λ name. named name self.now) (λ target value. pair_named self.now value target)
+            fault.kind fault.offset) }
     {
         // That each pair fits rests on what holds of the lines of every dictionary.
         self.sound();

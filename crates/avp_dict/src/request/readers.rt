@@ -11,10 +11,11 @@ pub trait PairReader {
     /// What a name stands for.
     type Target: Copy;
 
-    ghost use Rattle.std.specs.Prelude.{◌≡◌, ℕ, List, Option};
+    ghost use Rattle.std.specs.Prelude.{◌≡◌, ℕ, IfErr, List, Option};
     ghost use Rattle.avp_lists.specs.Meets.{Finds};
     ghost use Rattle.avp_lists.specs.declared.pairs.Pair.{Pair};
     ghost use Rattle.avp_dict.specs.Outcomes.{is_memory_line};
+    ghost use Rattle.avp_dict.specs.RefusedPlaces.{IsValueKind};
 
     /// What names stand for.
     ghost target_of: { Self → List ℕ → Option Self.Target };
@@ -28,7 +29,8 @@ pub trait PairReader {
 
     /// The pair of what a name stands for and a text.
     fn pair(&self, alloc: Global, target: Self::Target, text: &[u8]) -> Result<Pair, LineKind>
-        ensures { Finds is_memory_line result (pair_of self.now target text.now) };
+        ensures pair { Finds is_memory_line result (pair_of self.now target text.now) }
+        ensures kind { IfErr result IsValueKind };
 }
 
 impl PairReader for Dictionary {

@@ -3,6 +3,7 @@
 ghost use Rattle.std.specs.Prelude.{◌≡◌, ◌∷◌, [], ◌<◌, ◌≤◌, ◌+◌, MatchOption, IfSome, length, take, drop, false};
 ghost use Rattle.std.specs.List.{position, position_or_len};
 ghost use Rattle.avp_dict.specs.RequestLines.{Between, Outside, Quoted, Run, Unended, quote_octet, tokens_at, tokens_from};
+ghost use Rattle.avp_dict.specs.internal.LineEnds.{IsEnd};
 ghost use Rattle.avp_dict.specs.internal.RequestTokens.{begins_blank, ends_run, side_after, token_view};
 
 use crate::file::words::is_blank;
@@ -38,11 +39,12 @@ fn first_octet(octets: &[u8]) -> Option<(u8, &[u8])>
     }
 }
 
-#[tactic(auto, using(crate::proofs::Lexing::after_blank))]
+#[tactic(auto, using(crate::proofs::LineEnds::whole_end))]
 fn without_blanks(side: Side, line: &[u8]) -> &[u8]
     ensures tokens { tokens_at side result.now ≡ tokens_at side line.now }
     ensures filled { begins_blank result.now ≡ false }
     ensures shorter { length result.now ≤ length line.now }
+    ensures end { IsEnd result.now line.now }
 {
     let mut rest = line;
     while let Some((octet, after)) = first_octet(rest)
@@ -75,6 +77,7 @@ fn cut_run(side: Side, octets: &[u8]) -> (Token<'_>, &[u8])
         (take (position_or_len (ends_run side) octets.now) octets.now) }
     ensures side { side_after side result.0 ≡ side }
     ensures rest { result.1.now ≡ drop (position_or_len (ends_run side) octets.now) octets.now }
+    ensures end { IsEnd result.1.now octets.now }
 {
     match run_end(side, octets) {
         Some(end) => (Token::Run(&octets[..end]), &octets[end..]),
@@ -119,6 +122,7 @@ fn cut_quoted(mark: QuoteMark, octets: &[u8]) -> (Token<'_>, &[u8])
     ensures token { (side : Side) → tokens_at side (quote_octet mark ∷ octets.now)
         ≡ token_view result.0 ∷ tokens_at (side_after side result.0) result.1.now }
     ensures shorter { length result.1.now ≤ length octets.now }
+    ensures end { IsEnd result.1.now octets.now }
 {
     match text_end(mark, octets) {
         Some(end) => (Token::Quoted(mark, &octets[..end]), &octets[end + 1..]),
@@ -132,6 +136,7 @@ pub fn next_token(side: Side, line: &[u8]) -> Option<(Token<'_>, &[u8])>
     ensures token { MatchOption result (tokens_at side line.now ≡ [])
         (λ x. tokens_at side line.now ≡ token_view x.0 ∷ tokens_at (side_after side x.0) x.1.now) }
     ensures shorter { IfSome result (λ x. length x.1.now < length line.now) }
+    ensures end { IfSome result (λ x. IsEnd x.1.now line.now) }
 {
     let filled = without_blanks(side, line);
     match first_octet(filled) {
