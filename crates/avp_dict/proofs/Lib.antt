@@ -4,6 +4,7 @@ pub mod Appending
 pub mod AttributeRows
 pub mod CountedNames
 pub mod FaultPlaces
+pub mod FirstPlaces
 pub mod Fitting
 pub mod Folding
 pub mod FormedTypings

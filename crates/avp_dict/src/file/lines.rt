@@ -9,6 +9,7 @@ ghost use Rattle.avp_dict.specs.internal.Views.{views};
 use crate::file::files::{NamedFile, last_component};
 use crate::file::keywords::{DOLLAR_INCLUDE, DOLLAR_INCLUDE_IF_THERE};
 use crate::file::words::same_name;
+use memchr::memchr;
 
 /// The most lines that are read in all; a file that is included twice counts twice.
 pub const MAX_LINES: usize = 200_000;
@@ -26,10 +27,11 @@ pub struct Line<'a> {
     pub text: &'a [u8],
 }
 
+#[tactic(auto, using(crate::proofs::FirstPlaces::first_place))]
 fn line_end(text: &[u8]) -> Option<usize>
     ensures { result ≡ position is_line_end text.now }
 {
-    text.iter().position(|octet| *octet == b'\n')
+    memchr(b'\n', text)
 }
 
 /// The first line of a text, and what follows it.

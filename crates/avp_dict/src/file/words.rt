@@ -5,15 +5,17 @@ ghost use Rattle.std.specs.List.{before_first, position, filter, slice_split};
 ghost use Rattle.avp_dict.specs.Words.{is_blank, is_hash, is_word, lower, same_name, words_of};
 ghost use Rattle.avp_dict.specs.internal.Views.{views};
 
+use memchr::memchr;
 use std::alloc::{AllocError, Global};
 
 /// The most octets of a name.
 pub const MAX_NAME: usize = 128;
 
+#[tactic(auto, using(crate::proofs::FirstPlaces::first_place))]
 fn comment_start(text: &[u8]) -> Option<usize>
     ensures { result ≡ position is_hash text.now }
 {
-    text.iter().position(|octet| *octet == b'#')
+    memchr(b'#', text)
 }
 
 pub(crate) fn without_comment(text: &[u8]) -> &[u8]
