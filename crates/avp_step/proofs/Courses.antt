@@ -6,6 +6,7 @@ use Rattle.avp_lists.specs.History.{History, continued, present, state_at}
 use Rattle.avp_lists.specs.States.{empty_state}
 use Rattle.avp_lists.specs.declared.lists.State.{State}
 use Rattle.avp_dict.specs.Dictionary.{Dictionary}
+use Rattle.avp_patterns.specs.Patterns.{Written}
 use Rattle.avp_unlang.specs.Meaning.{Outcome}
 use Rattle.avp_unlang.specs.Resolutions.{StateFits}
 use Rattle.avp_unlang.specs.declared.meaning.reasons.Reason.{Reason}
@@ -27,16 +28,16 @@ frame_agrees d at at' (Lines ls entry) o h = ap (λ s. unless_stopped (line_step
 frame_agrees d at at' (Branches bs otherwise) o h = refl
 frame_agrees d at at' (End n entry) o h = ap (λ s. closed n s o ∷ []) h
 
-rest_agrees : (d : Dictionary) (at at' : States) (end : ℕ) (fs : List Frame) (o : Outcome) → AllFit d end fs → ((k : ℕ) → k < end → at k ≡ at' k) → rest d at fs o ≡ rest d at' fs o
-rest_agrees d at at' end [] o fit h = refl
-rest_agrees d at at' end (f ∷ fs) o fit h =
+rest_agrees : (d : Dictionary) (at at' : States) (ps : List Written) (end : ℕ) (fs : List Frame) (o : Outcome) → AllFit d ps end fs → ((k : ℕ) → k < end → at k ≡ at' k) → rest d at fs o ≡ rest d at' fs o
+rest_agrees d at at' ps end [] o fit h = refl
+rest_agrees d at at' ps end (f ∷ fs) o fit h =
     then_cong (frame_steps d at f) (frame_steps d at' f) (rest d at fs) o (frame_agrees d at at' f o (h (frame_entry f) fit.0.entry))
-    ∙ then_cong_right (frame_steps d at' f) (rest d at fs) (rest d at' fs) o (λ r. rest_agrees d at at' end fs r fit.1 h)
+    ∙ then_cong_right (frame_steps d at' f) (rest d at fs) (rest d at' fs) o (λ r. rest_agrees d at at' ps end fs r fit.1 h)
 
-fit_later : (d : Dictionary) (end later : ℕ) (fs : List Frame) → end ≤ later → AllFit d end fs → AllFit d later fs
-fit_later d end later [] le h = tt
-fit_later d end later (f ∷ fs) le h =
-    (record { room = h.0.room; entry = omega (arith, h.0.entry); suits = h.0.suits }, fit_later d end later fs le h.1)
+fit_later : (d : Dictionary) (ps : List Written) (end later : ℕ) (fs : List Frame) → end ≤ later → AllFit d ps end fs → AllFit d ps later fs
+fit_later d ps end later [] le h = tt
+fit_later d ps end later (f ∷ fs) le h =
+    (record { room = h.0.room; entry = omega (arith, h.0.entry); suits = h.0.suits; passes = h.0.passes }, fit_later d ps end later fs le h.1)
 
 -- the first of a list
 pub front : {A : Type 0} (xs : List A) (x : A) → 1 ≤ length xs → x ≡ get_or xs 0 x → xs ≡ x ∷ take (length xs - 1) (drop 1 xs)
@@ -63,15 +64,15 @@ pub state_stays : (h h1 : History) (s : State) (k : ℕ) → h.place + 1 ≡ len
 state_stays h h1 s k last e lt =
     ap (λ l. get_or l k empty_state) (states_added h h1 s last e) ∙ get_or_append_left h.states (s ∷ []) empty_state k lt
 
-module _ (d : Dictionary) (h : History) (room : ℕ) (fs : List Frame) (capacity : ℕ) (sound : IsSound (course_of d h room fs) capacity) where
+module _ (d : Dictionary) (ps : List Written) (h : History) (room : ℕ) (fs : List Frame) (capacity : ℕ) (sound : IsSound (course_of d ps h room fs) capacity) where
   abbrev old : Course
-  old = course_of d h room fs
+  old = course_of d ps h room fs
 
   -- one more state
   module _ (h1 : History) (room1 : ℕ) (last : h.place + 1 ≡ length h.states) where
-    pub longer_sound : length h.states ≤ length h1.states → StatesFit d h1 → IsSound (course_of d h1 room1 fs) capacity
+    pub longer_sound : length h.states ≤ length h1.states → StatesFit d h1 → IsSound (course_of d ps h1 room1 fs) capacity
     longer_sound le states = record {
-      frames = fit_later d (length h.states) (length h1.states) (reverse fs) le sound.frames;
+      frames = fit_later d ps (length h.states) (length h1.states) (reverse fs) le sound.frames;
       states = states;
       capacity = sound.capacity;
     }
@@ -79,25 +80,25 @@ module _ (d : Dictionary) (h : History) (room : ℕ) (fs : List Frame) (capacity
     added_longer : (s : State) → h1 ≡ continued s h → length h.states ≤ length h1.states
     added_longer s e = omega (arith, ap length (states_added h h1 s last e), length-append h.states (s ∷ []))
 
-    pub added_sound : (s : State) → h1 ≡ continued s h → StateFits d s → IsSound (course_of d h1 room1 fs) capacity
+    pub added_sound : (s : State) → h1 ≡ continued s h → StateFits d s → IsSound (course_of d ps h1 room1 fs) capacity
     added_sound s e fits = longer_sound (added_longer s e) (continued_fits d h h1 s e fits sound.states)
 
-    pub added_is : (s : State) → h1 ≡ continued s h → h.place + room ≤ h1.place + room1 → IsContinued s old (course_of d h1 room1 fs)
+    pub added_is : (s : State) → h1 ≡ continued s h → h.place + room ≤ h1.place + room1 → IsContinued s old (course_of d ps h1 room1 fs)
     added_is s e le = record {
       dictionary = refl;
       history = e;
       reach = le;
       frames = refl;
-      same = λ o. rest_agrees d (state_at h1) (state_at h) (length h.states) (reverse fs) o sound.frames (λ k lt. state_stays h h1 s k last e lt);
+      same = λ o. rest_agrees d (state_at h1) (state_at h) ps (length h.states) (reverse fs) o sound.frames (λ k lt. state_stays h h1 s k last e lt);
     }
 
     -- an edit by a line
-    pub edited_sound : (line : Line) (r : Result (Option Reason) AllocError) → IfOk r (λ failed. IsLineDone d line h h1 failed) → OnErr r (h1 ≡ h) → StatesFit d h1 → IsSound (course_of d h1 room1 fs) capacity
+    pub edited_sound : (line : Line) (r : Result (Option Reason) AllocError) → IfOk r (λ failed. IsLineDone d line h h1 failed) → OnErr r (h1 ≡ h) → StatesFit d h1 → IsSound (course_of d ps h1 room1 fs) capacity
     edited_sound line (Ok None) done refused states = longer_sound (added_longer (present h1) done.1) states
     edited_sound line (Ok (Some why)) done refused states = longer_sound (omega (arith, ap (λ (k : History). length k.states) done.1)) states
     edited_sound line (Err e) done refused states = longer_sound (omega (arith, ap (λ (k : History). length k.states) refused)) states
 
-    pub edited_is : (line : Line) (r : Result (Option Reason) AllocError) → IfOk r (λ failed. IsLineDone d line h h1 failed) → h.place + room ≤ h1.place + room1 → IfOk r (λ failed. IsEdited line old (course_of d h1 room1 fs) failed)
+    pub edited_is : (line : Line) (r : Result (Option Reason) AllocError) → IfOk r (λ failed. IsLineDone d line h h1 failed) → h.place + room ≤ h1.place + room1 → IfOk r (λ failed. IsEdited line old (course_of d ps h1 room1 fs) failed)
     edited_is line (Ok None) done le = (done.0, added_is (present h1) done.1 le)
     edited_is line (Ok (Some why)) done le = (done.0, record { dictionary = refl; history = done.1; reach = le }, refl)
     edited_is line (Err e) done le = done

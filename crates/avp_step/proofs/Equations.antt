@@ -18,7 +18,7 @@ steps_Update d n lines o =
     ap (λ s. steps d s o) (sym (rolls-Update n lines))
     ∙ ap (λ (f : Steps). f o) (fold-roll-Statement Steps Guarded (statement_steps d) guarded_steps (open'.Update n lines))
 
-pub steps_If : (d : Dictionary) (bs : List Branch) (otherwise : Option (List Statement)) (o : Outcome) → steps d (If bs otherwise) o ≡ branch_steps (map (guarded d) bs) (else_steps d otherwise) o
+pub steps_If : (d : Dictionary) (bs : List Branch) (otherwise : Option (List Statement)) (o : Outcome) → steps d (If bs otherwise) o ≡ branch_steps d (map (guarded d) bs) (else_steps d otherwise) o
 steps_If d bs None o =
     ap (λ s. steps d s o) (sym (rolls-If bs None))
     ∙ ap (λ (f : Steps). f o) (fold-roll-Statement Steps Guarded (statement_steps d) guarded_steps (open'.If bs None))

@@ -23,14 +23,17 @@ use Rattle.std.proofs.lemmas.Bool.{le-leb, lt-leb}
 use Rattle.avp_step.specs.internal.Courses.{IsLineDone, StatesFit}
 use Rattle.std.specs.Borrow.{Bor}
 use Rattle.std.specs.Prelude.{◌&&◌}
-use Rattle.avp_unlang.proofs.Comparing.{and_left, and_right, testable}
+use Rattle.avp_unlang.proofs.Comparing.{and_left, and_right}
 use Rattle.avp_unlang.proofs.KeptEdits.{applied}
+use Rattle.avp_unlang.proofs.KeptPatterns.{both_true}
+use Rattle.avp_patterns.specs.Patterns.{Written}
+use Rattle.avp_unlang.specs.PolicyPatterns.{branch_patterns_pass, branches_pass, cond_patterns_pass, else_passes, is_among, policy_patterns_pass, statement_patterns_pass}
+use Rattle.avp_unlang.proofs.PolicyPasses.{passes_Branch, passes_If, passes_Transaction}
 use Rattle.avp_unlang.specs.Suiting.{branch_suits, branches_suit, cond_suits, else_suits, policy_suits, statement_suits}
 use Rattle.avp_unlang.specs.internal.Depth.{depth, depth_of, depth_of_branch, depth_of_branches, else_depth, statement_depth, branch_depth}
 use Rattle.avp_unlang.specs.declared.tree.Statement.TheVariants.{If, Transaction}
 use Rattle.avp_unlang.specs.declared.tree.Statement.TheFolds.{fold_out-Branch}
 use Rattle.avp_unlang.proofs.StatementDepths.{depth_If, depth_Transaction}
-use Rattle.avp_unlang.specs.Truth.{comparable}
 use Rattle.avp_unlang.specs.declared.tree.Branch.{Branch, out-Branch}
 use Rattle.avp_unlang.specs.declared.tree.Statement.{Statement}
 use Rattle.avp_unlang.proofs.SpelledSuits.{suits_Branch, suits_If, suits_Transaction}
@@ -110,8 +113,11 @@ module _ (d : Dictionary) (line : Line) (old : History) where
 
 -- ---- frames
 
-module _ (d : Dictionary) (end : ℕ) (fs : List Frame) where
-  module _ (ss : Bor (List Statement)) (s : Statement) (others : Bor (List Statement)) (split : ss.now ≡ s ∷ others.now) (fits : Fits d end fs (Statements ss)) where
+module _ (d : Dictionary) (ps : List Written) (end : ℕ) (fs : List Frame) where
+  abbrev among : Written → Bool
+  among = is_among ps
+
+  module _ (ss : Bor (List Statement)) (s : Statement) (others : Bor (List Statement)) (split : ss.now ≡ s ∷ others.now) (fits : Fits d ps end fs (Statements ss)) where
     deep : depth_of ss.now ≡ max (depth s) (depth_of others.now)
     deep = ap depth_of split
 
@@ -121,36 +127,67 @@ module _ (d : Dictionary) (end : ℕ) (fs : List Frame) where
     own : (x : Bool) → statement_suits d s ≡ x → x ≡ true
     own x is = sym is ∙ and_left (statement_suits d s) (policy_suits d others.now) both
 
-    pub if_fits : (branches : List Branch) (otherwise : Option (List Statement)) (bs : Bor (List Branch)) (or : Bor (Option (List Statement))) → s ≡ If branches otherwise → bs.now ≡ branches → or.now ≡ otherwise → Fits d end (Statements others ∷ fs) (Branches bs or)
+    all_pass : (statement_patterns_pass among s && policy_patterns_pass among others.now) ≡ true
+    all_pass = ap (policy_patterns_pass among) (sym split) ∙ fits.passes
+
+    own_passes : (x : Bool) → statement_patterns_pass among s ≡ x → x ≡ true
+    own_passes x is = sym is ∙ and_left (statement_patterns_pass among s) (policy_patterns_pass among others.now) all_pass
+
+    pub if_fits : (branches : List Branch) (otherwise : Option (List Statement)) (bs : Bor (List Branch)) (or : Bor (Option (List Statement))) → s ≡ If branches otherwise → bs.now ≡ branches → or.now ≡ otherwise → Fits d ps end (Statements others ∷ fs) (Branches bs or)
     if_fits branches otherwise bs or is same same_or = record {
       room = omega (arith, fits.room, deep, ap depth is, depth_If branches otherwise, ap depth_of_branches same, ap else_depth same_or);
       entry = fits.entry;
       suits = ap (λ l. branches_suit d l && else_suits d or.now) same ∙ ap (λ l. branches_suit d branches && else_suits d l) same_or ∙ own _ (ap (statement_suits d) is ∙ suits_If d branches otherwise);
+      passes =
+          ap (λ l. branches_pass among l && else_passes among or.now) same ∙ ap (λ l. branches_pass among branches && else_passes among l) same_or
+          ∙ own_passes _ (ap (statement_patterns_pass among) is ∙ passes_If among branches otherwise);
     }
 
-    pub body_fits : (n place : ℕ) (block : List Statement) → s ≡ Transaction n block → (body : Bor (List Statement)) → body.now ≡ block → Fits d end (End n place ∷ Statements others ∷ fs) (Statements body)
+    pub body_fits : (n place : ℕ) (block : List Statement) → s ≡ Transaction n block → (body : Bor (List Statement)) → body.now ≡ block → Fits d ps end (End n place ∷ Statements others ∷ fs) (Statements body)
     body_fits n place block is body same = record {
       room = omega (arith, fits.room, deep, ap depth is, depth_Transaction n block, ap depth_of same);
       entry = fits.entry;
       suits = ap (policy_suits d) same ∙ own _ (ap (statement_suits d) is ∙ suits_Transaction d n block);
+      passes = ap (policy_patterns_pass among) same ∙ own_passes _ (ap (statement_patterns_pass among) is ∙ passes_Transaction among n block);
     }
 
   -- the first condition can be tested, and its block fits
-  module _ (bs : Bor (List Branch)) (or : Bor (Option (List Statement))) (b : Branch) (others : Bor (List Branch)) (split : bs.now ≡ b ∷ others.now) (fits : Fits d end fs (Branches bs or)) where
+  module _ (bs : Bor (List Branch)) (or : Bor (Option (List Statement))) (b : Branch) (others : Bor (List Branch)) (split : bs.now ≡ b ∷ others.now) (fits : Fits d ps end fs (Branches bs or)) where
     pub all_branches : (branch_suits d b && branches_suit d others.now) ≡ true
     all_branches = ap (branches_suit d) (sym split) ∙ and_left (branches_suit d bs.now) (else_suits d or.now) fits.suits
 
     parts : (cond_suits d (out-Branch b).cond && policy_suits d (out-Branch b).block) ≡ true
     parts = sym (suits_Branch d b) ∙ and_left (branch_suits d b) (branches_suit d others.now) all_branches
 
-    pub branch_testable : (s : State) → StateFits d s → comparable (out-Branch b).cond s ≡ true
-    branch_testable s state = testable d s state (out-Branch b).cond (and_left (cond_suits d (out-Branch b).cond) (policy_suits d (out-Branch b).block) parts)
+    all_branches_pass : (branch_patterns_pass among b && branches_pass among others.now) ≡ true
+    all_branches_pass = ap (branches_pass among) (sym split) ∙ and_left (branches_pass among bs.now) (else_passes among or.now) fits.passes
 
-    pub block_fits : (block : Bor (List Statement)) → block.now ≡ (out-Branch b).block → Fits d end fs (Statements block)
+    parts_pass : (cond_patterns_pass among (out-Branch b).cond && policy_patterns_pass among (out-Branch b).block) ≡ true
+    parts_pass = sym (passes_Branch among b) ∙ and_left (branch_patterns_pass among b) (branches_pass among others.now) all_branches_pass
+
+    pub branch_passes : cond_patterns_pass among (out-Branch b).cond ≡ true
+    branch_passes = and_left (cond_patterns_pass among (out-Branch b).cond) (policy_patterns_pass among (out-Branch b).block) parts_pass
+
+    pub branch_suits_cond : cond_suits d (out-Branch b).cond ≡ true
+    branch_suits_cond = and_left (cond_suits d (out-Branch b).cond) (policy_suits d (out-Branch b).block) parts
+
+    -- so do the other conditions
+    pub others_fit : Fits d ps end fs (Branches others or)
+    others_fit = record {
+      room = omega (arith, fits.room, ap depth_of_branches split);
+      entry = fits.entry;
+      suits = both_true (branches_suit d others.now) (else_suits d or.now) (and_right (branch_suits d b) (branches_suit d others.now) all_branches) (and_right (branches_suit d bs.now) (else_suits d or.now) fits.suits);
+      passes =
+          both_true (branches_pass among others.now) (else_passes among or.now) (and_right (branch_patterns_pass among b) (branches_pass among others.now) all_branches_pass)
+          (and_right (branches_pass among bs.now) (else_passes among or.now) fits.passes);
+    }
+
+    pub block_fits : (block : Bor (List Statement)) → block.now ≡ (out-Branch b).block → Fits d ps end fs (Statements block)
     block_fits block same =
         let out : depth_of_branch b ≡ depth_of (out-Branch b).block = fold_out-Branch ℕ ℕ statement_depth branch_depth b in
         record {
           room = omega (arith, fits.room, ap depth_of_branches split, ap depth_of same, out);
           entry = fits.entry;
           suits = ap (policy_suits d) same ∙ and_right (cond_suits d (out-Branch b).cond) (policy_suits d (out-Branch b).block) parts;
+          passes = ap (policy_patterns_pass among) same ∙ and_right (cond_patterns_pass among (out-Branch b).cond) (policy_patterns_pass among (out-Branch b).block) parts_pass;
         }

@@ -7,6 +7,7 @@ use Rattle.std.proofs.lemmas.Bool.{lt-ltb, le-ltb}
 use Rattle.avp_lists.specs.History.{History, at_place, present, settled, state_at}
 use Rattle.avp_lists.specs.States.{empty_state}
 use Rattle.avp_lists.specs.declared.lists.State.{State}
+use Rattle.avp_patterns.specs.Patterns.{Written}
 use Rattle.avp_unlang.specs.declared.tree.Statement.{Statement}
 use Rattle.avp_step.specs.declared.labels.Moved.TheVariants.{To, AtEnd}
 use Rattle.avp_step.specs.declared.marks.Mark.{Mark}
@@ -203,6 +204,18 @@ module _ (ss : List Statement) (m : Course) (ms : List Mark) (p : ℕ) (r : ℕ)
             room_of_store = omega (arith, held.room_of_store, ap length same_trace, step.reach);
           })
 
+  -- going back moves the place alone
+  pub back_held : (m1 : Course) → m1 ≡ record m { history = at_place (h.place - 1) h } → IsHeld ss m1 ms (p - 1) r
+  back_held m1 e =
+      subst (λ x. IsHeld ss x ms (p - 1) r) (sym e) (record {
+        trace = held.trace;
+        each = held.each;
+        place = ap (λ n. n - 1) held.place;
+        within = omega (arith, held.within);
+        room_of_marks = held.room_of_marks;
+        room_of_store = held.room_of_store;
+      })
+
   -- going forward again moves the place alone
   module _ (known : p + 1 < length ms) where
     known_within : p + 1 < length (trace_from ss m)
@@ -222,9 +235,9 @@ module _ (ss : List Statement) (m : Course) (ms : List Mark) (p : ℕ) (r : ℕ)
         ∙ sym (ap (λ b. cond b (To (entry_at walk (p + 1)).label) AtEnd) (lt-ltb _ _ known_within))
 
 -- a stepper at its start
-pub start_held : (d : Dictionary) (ss : Bor (List Statement)) (h : History) (m : Course) (ms none : List Mark) (r size reach : ℕ) → m ≡ record { dictionary = d; history = settled h; reach = reach; frames = Statements ss ∷ [] }
+pub start_held : (d : Dictionary) (ps : List Written) (ss : Bor (List Statement)) (h : History) (m : Course) (ms none : List Mark) (r size reach : ℕ) → m ≡ record { dictionary = d; patterns = ps; history = settled h; reach = reach; frames = Statements ss ∷ [] }
     → none ≡ [] → ms ≡ none ++ (record { label = label.Start; code = code.Ok; stopped = false }) ∷ [] → size ≡ size_of ss.now → size ≤ m.reach → size + 1 ≤ r → IsHeld ss.now m ms 0 r
-start_held d ss h m ms none r size reach is no_marks marks count room marks_room =
+start_held d ps ss h m ms none r size reach is no_marks marks count room marks_room =
     let n : Mark = record { label = label.Start; code = code.Ok; stopped = false } in
     let marks' = marks ∙ ap (λ l. l ++ n ∷ []) no_marks in
     let bound = trace_size d ss.now (present h) in

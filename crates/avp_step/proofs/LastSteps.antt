@@ -13,7 +13,7 @@ use Rattle.avp_unlang.specs.Meaning.{Outcome, running, Edited, Failed, line_resu
 use Rattle.avp_unlang.specs.Meaning.{Meaning, Choice, meaning, meaning_of, statement_meaning, branch_meaning, all_lines, first_true, after_body, in_order, unless_stop}
 use Rattle.avp_step.specs.Trace.{Entry, Steps, Guarded, end_of, steps, guarded, statement_steps, guarded_steps, line_steps, line_step, branch_steps, all_steps, then_steps, unless_stopped, closed, tested, trace_of}
 use Rattle.avp_dict.specs.Dictionary.{Dictionary}
-use Rattle.avp_unlang.specs.Truth.{truth}
+use Rattle.avp_unlang.specs.Truth.{truth_by}
 use Rattle.avp_unlang.specs.Meaning.{after_line}
 
 pub end_of-append : (o : Outcome) (a b : List Entry) → end_of o (a ++ b) ≡ end_of (end_of o a) b
@@ -68,16 +68,16 @@ module _ (d : Dictionary) where
   block_agrees [] s c = refl
   block_agrees (e ∷ es) s c = one_more e.0 (the_statements es) e.1 (block_agrees es) s c
 
-  branches_agree : (es : List ((b : Branch) × BranchAgrees b)) (t : Steps) (m : Meaning) → Agrees t m → Agrees (branch_steps (map (guarded d) (the_branches es)) t) (first_true (map choice (the_branches es)) m)
+  branches_agree : (es : List ((b : Branch) × BranchAgrees b)) (t : Steps) (m : Meaning) → Agrees t m → Agrees (branch_steps d (map (guarded d) (the_branches es)) t) (first_true d (map choice (the_branches es)) m)
   branches_agree [] t m h s c = h s c
   branches_agree (e ∷ es) t m h s c =
-      let rest = branch_steps (map (guarded d) (the_branches es)) t in
-      let rest_meaning = first_true (map choice (the_branches es)) m in
+      let rest = branch_steps d (map (guarded d) (the_branches es)) t in
+      let rest_meaning = first_true d (map choice (the_branches es)) m in
       let test : Bool → Outcome = λ b. cond b ((choice e.0).block s c) (rest_meaning s c) in
-      let done : end_of (running s c) (cond (truth (guarded d e.0).cond s c) (tested (guarded d e.0).line true (running s c) ∷ (guarded d e.0).block (running s c)) (tested (guarded d e.0).line false (running s c) ∷ rest (running s c))) ≡ test (truth (guarded d e.0).cond s c) =
-      elim (truth (guarded d e.0).cond s c) as (λ b. end_of (running s c) (cond b (tested (guarded d e.0).line true (running s c) ∷ (guarded d e.0).block (running s c)) (tested (guarded d e.0).line false (running s c) ∷ rest (running s c))) ≡ test b)
+      let done : end_of (running s c) (cond (truth_by d (guarded d e.0).cond s c) (tested (guarded d e.0).line true (running s c) ∷ (guarded d e.0).block (running s c)) (tested (guarded d e.0).line false (running s c) ∷ rest (running s c))) ≡ test (truth_by d (guarded d e.0).cond s c) =
+      elim (truth_by d (guarded d e.0).cond s c) as (λ b. end_of (running s c) (cond b (tested (guarded d e.0).line true (running s c) ∷ (guarded d e.0).block (running s c)) (tested (guarded d e.0).line false (running s c) ∷ rest (running s c))) ≡ test b)
       [ true ↦ e.1.1 s c | false ↦ branches_agree es t m h s c ] in
-      done ∙ ap (λ k. test (truth k s c)) e.1.0
+      done ∙ ap (λ k. test (truth_by d k s c)) e.1.0
 
   closed_agrees : (n : ℕ) (entry s : State) (c : Code) (b : Bool) → (closed n entry (record { state = s; code = c; stopped = b })).outcome ≡ after_body entry (record { state = s; code = c; stopped = b })
   closed_agrees n entry s c true = refl

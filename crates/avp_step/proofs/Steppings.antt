@@ -10,7 +10,7 @@ use Rattle.avp_unlang.specs.declared.tree.Statement.TheVariants.{Update, If, Tra
 use Rattle.avp_unlang.specs.declared.tree.Statement.TheFolds.{fold_out-Branch}
 use Rattle.avp_unlang.specs.declared.tree.Branch.{Branch, out-Branch}
 use Rattle.avp_unlang.specs.Meaning.{Outcome, running, stops}
-use Rattle.avp_unlang.specs.Truth.{truth}
+use Rattle.avp_unlang.specs.Truth.{truth_by}
 use Rattle.avp_step.specs.Trace.{Entry, Steps, Guarded, steps, guarded, statement_steps, guarded_steps, line_steps, branch_steps, block_steps, end_of, then_steps, closed, tested}
 use Rattle.avp_step.specs.declared.labels.Label.TheVariants as label
 use Rattle.avp_step.specs.declared.frames.Frame.{Frame}
@@ -86,9 +86,9 @@ module _ (m : Course) (last : Mark) where
       pub if_put : (branches : List Branch) (otherwise : Option (List Statement)) (bs : Bor (List Branch)) (or : Bor (Option (List Statement))) → s ≡ If branches otherwise → bs.now ≡ branches → or.now ≡ otherwise → coming (with_frame (Branches bs or) with_others) o ≡ coming with_all o
       if_put branches otherwise bs or is same same_or =
           then_cong (frame_steps d at (Branches bs or)) (steps d s) (coming with_others) o
-          (goes_on (branch_steps (map (guarded d) bs.now) (else_steps d or.now)) o going
-          ∙ ap (λ l. branch_steps (map (guarded d) l) (else_steps d or.now) o) same
-          ∙ ap (λ l. branch_steps (map (guarded d) branches) (else_steps d l) o) same_or
+          (goes_on (branch_steps d (map (guarded d) bs.now) (else_steps d or.now)) o going
+          ∙ ap (λ l. branch_steps d (map (guarded d) l) (else_steps d or.now) o) same
+          ∙ ap (λ l. branch_steps d (map (guarded d) branches) (else_steps d l) o) same_or
           ∙ sym (steps_If d branches otherwise o) ∙ ap (λ x. steps d x o) (sym is))
           ∙ sym first_statement
 
@@ -118,12 +118,12 @@ module _ (m : Course) (last : Mark) where
     abbrev with_branches : Course
     with_branches = with_frame (Branches bs or) m
 
-    branches_run : (all : List Branch) (otherwise : Option (List Statement)) → bs.now ≡ all → or.now ≡ otherwise → coming with_branches o ≡ then_steps (branch_steps (map (guarded d) all) (else_steps d otherwise)) (coming m) o
+    branches_run : (all : List Branch) (otherwise : Option (List Statement)) → bs.now ≡ all → or.now ≡ otherwise → coming with_branches o ≡ then_steps (branch_steps d (map (guarded d) all) (else_steps d otherwise)) (coming m) o
     branches_run all otherwise is other =
-        then_cong (frame_steps d at (Branches bs or)) (branch_steps (map (guarded d) all) (else_steps d otherwise)) (coming m) o
-        (goes_on (branch_steps (map (guarded d) bs.now) (else_steps d or.now)) o going
-        ∙ ap (λ l. branch_steps (map (guarded d) l) (else_steps d or.now) o) is
-        ∙ ap (λ l. branch_steps (map (guarded d) all) (else_steps d l) o) other)
+        then_cong (frame_steps d at (Branches bs or)) (branch_steps d (map (guarded d) all) (else_steps d otherwise)) (coming m) o
+        (goes_on (branch_steps d (map (guarded d) bs.now) (else_steps d or.now)) o going
+        ∙ ap (λ l. branch_steps d (map (guarded d) l) (else_steps d or.now) o) is
+        ∙ ap (λ l. branch_steps d (map (guarded d) all) (else_steps d l) o) other)
 
     -- the parts of a branch
     guarded_out : (b : Branch) → guarded d b ≡ record { line = (out-Branch b).line; cond = (out-Branch b).cond; block = block_steps d (out-Branch b).block }
@@ -134,19 +134,19 @@ module _ (m : Course) (last : Mark) where
       test_first answer f =
           coming with_branches o ≡ entry_of (record { label = label.If (out-Branch b).line answer; code = last.code; stopped = false }) o.state ∷ coming (with_frame f m) (running o.state o.code)
 
-      test_is : (answer : Bool) → answer ≡ truth (out-Branch b).cond o.state o.code → coming with_branches o ≡ then_steps (λ o. cond answer (tested (out-Branch b).line true o ∷ block_steps d (out-Branch b).block (running o.state o.code)) (tested (out-Branch b).line false o ∷ branch_steps (map (guarded d) others.now) (else_steps d or.now) (running o.state o.code))) (coming m) o
+      test_is : (answer : Bool) → answer ≡ truth_by d (out-Branch b).cond o.state o.code → coming with_branches o ≡ then_steps (λ o. cond answer (tested (out-Branch b).line true o ∷ block_steps d (out-Branch b).block (running o.state o.code)) (tested (out-Branch b).line false o ∷ branch_steps d (map (guarded d) others.now) (else_steps d or.now) (running o.state o.code))) (coming m) o
       test_is answer is =
-          let otherwise = branch_steps (map (guarded d) others.now) (else_steps d or.now) in
+          let otherwise = branch_steps d (map (guarded d) others.now) (else_steps d or.now) in
           let o' = running o.state o.code in
           let both : Guarded → Bool → List Entry = λ g k. cond k (tested g.line true o ∷ g.block o') (tested g.line false o ∷ otherwise o') in
           branches_run (b ∷ others.now) or.now split refl
-          ∙ ap (λ g. then_steps (λ _. both g (truth g.cond o.state o.code)) (coming m) o) (guarded_out b)
+          ∙ ap (λ g. then_steps (λ _. both g (truth_by d g.cond o.state o.code)) (coming m) o) (guarded_out b)
           ∙ ap (λ k. then_steps (λ _. both (record { line = (out-Branch b).line; cond = (out-Branch b).cond; block = block_steps d (out-Branch b).block }) k) (coming m) o) (sym is)
 
-      pub met_first : (block : Bor (List Statement)) → true ≡ truth (out-Branch b).cond o.state o.code → block.now ≡ (out-Branch b).block → test_first true (Statements block)
+      pub met_first : (block : Bor (List Statement)) → true ≡ truth_by d (out-Branch b).cond o.state o.code → block.now ≡ (out-Branch b).block → test_first true (Statements block)
       met_first block is same =
           test_is true is
           ∙ ap (λ l. tested (out-Branch b).line true o ∷ then_steps (block_steps d l) (coming m) (running o.state o.code)) (sym same)
 
-      pub unmet_first : false ≡ truth (out-Branch b).cond o.state o.code → test_first false (Branches others or)
+      pub unmet_first : false ≡ truth_by d (out-Branch b).cond o.state o.code → test_first false (Branches others or)
       unmet_first is = test_is false is

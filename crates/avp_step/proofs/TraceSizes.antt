@@ -12,7 +12,7 @@ use Rattle.avp_unlang.specs.Meaning.{Outcome, running, Edited, Failed, line_resu
 use Rattle.avp_step.specs.Trace.{Steps, Guarded, end_of, steps, guarded, statement_steps, guarded_steps, line_steps, line_step, branch_steps, all_steps, then_steps, unless_stopped, closed, tested, entered, trace_of}
 use Rattle.avp_unlang.specs.Sizes.{size, size_of, size_of_branch, statement_size, branch_size, total}
 use Rattle.avp_dict.specs.Dictionary.{Dictionary}
-use Rattle.avp_unlang.specs.Truth.{truth}
+use Rattle.avp_unlang.specs.Truth.{truth_by}
 
 module _ (d : Dictionary) where
   abbrev IsAtMost : Steps → ℕ → Type 0
@@ -55,11 +55,11 @@ module _ (d : Dictionary) where
   block_at_most [] o = omega arith
   block_at_most (e ∷ es) o = one_more e.0 (the_statements es) e.1 (block_at_most es) o
 
-  branches_at_most : (es : List SuchBranch) (t : Steps) (n : ℕ) → IsAtMost t n → IsAtMost (branch_steps (map (guarded d) (the_branches es)) t) (total (map size_of_branch (the_branches es)) + n)
+  branches_at_most : (es : List SuchBranch) (t : Steps) (n : ℕ) → IsAtMost t n → IsAtMost (branch_steps d (map (guarded d) (the_branches es)) t) (total (map size_of_branch (the_branches es)) + n)
   branches_at_most [] t n h o = omega (arith, h o)
   branches_at_most (e ∷ es) t n h o =
-      let rest = branch_steps (map (guarded d) (the_branches es)) t in
-      elim (truth (guarded d e.0).cond o.state o.code) as (λ b. length (cond b (tested (guarded d e.0).line true o ∷ (guarded d e.0).block (running o.state o.code)) (tested (guarded d e.0).line false o ∷ rest (running o.state o.code))) ≤ total (map size_of_branch (the_branches (e ∷ es))) + n)
+      let rest = branch_steps d (map (guarded d) (the_branches es)) t in
+      elim (truth_by d (guarded d e.0).cond o.state o.code) as (λ b. length (cond b (tested (guarded d e.0).line true o ∷ (guarded d e.0).block (running o.state o.code)) (tested (guarded d e.0).line false o ∷ rest (running o.state o.code))) ≤ total (map size_of_branch (the_branches (e ∷ es))) + n)
       [ true ↦ omega (arith, e.1 (running o.state o.code)) | false ↦ omega (arith, branches_at_most es t n h (running o.state o.code), e.1 (running o.state o.code)) ]
 
   abbrev layer : Statement-F SuchStatement SuchBranch → Statement-F Statement Branch

@@ -3,7 +3,7 @@ use Rattle.std.specs.Prelude.{ℕ, Bool, true, false, if◌then◌else◌, List,
 use Rattle.avp_lists.specs.declared.lists.State.{State}
 use Rattle.avp_dict.specs.Dictionary.{Dictionary}
 use Rattle.avp_unlang.specs.Meaning.{Outcome, running, after_word, after_failure, LineResult, Edited, Failed, line_result}
-use Rattle.avp_unlang.specs.Truth.{truth}
+use Rattle.avp_unlang.specs.Truth.{truth_by}
 use Rattle.avp_unlang.specs.declared.codes.Code.{Code}
 use Rattle.avp_unlang.specs.declared.codes.Code.TheVariants as code
 use Rattle.avp_unlang.specs.declared.meaning.reasons.Reason.{Reason}
@@ -81,12 +81,13 @@ abbrev pub tested : ℕ → Bool → Outcome → Entry
 tested n b o = record { label = label.If n b; outcome = running o.state o.code }
 
 -- conditions up to the first that is true, with its block, else the last block
-abbrev pub branch_steps : List Guarded → Steps → Steps
-branch_steps [] otherwise o = otherwise o
-branch_steps (b ∷ bs) otherwise o =
-    if truth b.cond o.state o.code
+abbrev pub branch_steps : Dictionary → List Guarded → Steps → Steps
+branch_steps dictionary [] otherwise o = otherwise o
+branch_steps dictionary (b ∷ bs) otherwise o =
+    if truth_by dictionary b.cond o.state o.code
     then tested b.line true o ∷ b.block (running o.state o.code)
-    else (tested b.line false o ∷ branch_steps bs otherwise (running o.state o.code))
+    else
+    (tested b.line false o ∷ branch_steps dictionary bs otherwise (running o.state o.code))
 
 abbrev pub none_or : Option (List Steps) → Steps
 none_or None o = []
@@ -111,7 +112,8 @@ word_step n word o = record { label = label.Word n; outcome = after_word word o.
 
 abbrev pub statement_steps : Dictionary → Statement-F Steps Guarded → Steps
 statement_steps dictionary (Update n lines) o = line_steps dictionary o.state lines o
-statement_steps dictionary (If branches otherwise) o = branch_steps branches (none_or otherwise) o
+statement_steps dictionary (If branches otherwise) o =
+    branch_steps dictionary branches (none_or otherwise) o
 statement_steps dictionary (Transaction n block) o =
     entered n o
     ∷ then_steps (all_steps block) (λ r. closed n o.state r ∷ []) (running o.state o.code)

@@ -3,8 +3,10 @@
 ghost use Rattle.std.specs.Prelude.{◌≡◌, ◌+◌, ◌-◌, ◌<◌, ◌≤◌, ◌∷◌, [], false, length, IfErr, IfNone, IfOk, IfSome, IsTrue, OnErr, Ok, None};
 ghost use Rattle.avp_lists.specs.History.{at_place, present, settled, state_at};
 ghost use Rattle.avp_unlang.specs.Meaning.{stops};
+ghost use Rattle.avp_unlang.specs.PolicyPatterns.{cond_patterns_pass, is_among, policy_patterns_pass};
 ghost use Rattle.avp_unlang.specs.Resolutions.{StateFits, line_suits};
-ghost use Rattle.avp_unlang.specs.Suiting.{policy_suits};
+ghost use Rattle.avp_unlang.specs.Suiting.{cond_suits, policy_suits};
+ghost use Rattle.avp_unlang.specs.Truth.{truth_by};
 ghost use Rattle.avp_unlang.specs.internal.Depth.{depth_of};
 ghost use Rattle.avp_step.specs.internal.Frames.{all_skips};
 ghost use Rattle.avp_step.specs.internal.Courses.{FitsOn, IsAtLast, IsContinued, IsEdited, IsKept, IsReady, IsStep, with_frame};
@@ -15,7 +17,8 @@ use crate::lines::{edit_by, reason_number};
 use crate::marks::Mark;
 use avp_dict::Dictionary;
 use avp_lists::Store;
-use avp_unlang::{Block, Branch, Code, Line, Reason, Statement, holds};
+use avp_patterns::Pattern;
+use avp_unlang::{Block, Branch, Code, Cond, Line, Matchers, Reason, Statement, holds_by};
 use std::alloc::{AllocError, Global};
 use std::marker::Model;
 
@@ -24,6 +27,8 @@ use std::marker::Model;
 pub struct Machine<'a, S: Store> {
     alloc: Global,
     dictionary: &'a Dictionary,
+    // Those of the patterns that conditions compare with.
+    matchers: Matchers<'a>,
     store: S,
     // The innermost part of what is still to run is the last.
     frames: Vec<Frame<'a>>,
@@ -40,10 +45,10 @@ impl<'a, S: Store> Model for Machine<'a, S> {
 
     ghost coded = { Prim.hlevel (codes, statement.the_row.coded, branch.the_row.coded) };
 
-    ghost view = { λ x. course_of x.dictionary.now (S.history x.store) (S.room x.store)
+    ghost view = { λ x. course_of x.dictionary.now x.matchers (S.history x.store) (S.room x.store)
         x.frames.items };
 
-    ghost invariant = { λ x. IsSound (course_of x.dictionary.now (S.history x.store)
+    ghost invariant = { λ x. IsSound (course_of x.dictionary.now x.matchers (S.history x.store)
         (S.room x.store) x.frames.items) (vec_capacity x.frames) };
 }
 
@@ -57,20 +62,23 @@ fn stops(code: Code) -> bool
 }
 
 impl<'a, S: Store> Machine<'a, S> {
-    /// A machine that has these statements to run from the present lists of the store, with room for so many steps. A
-    /// refusal gives the store back.
+    /// A machine that has these statements to run from the present lists of the store, with room for so many steps, and
+    /// what searches for their patterns. A refusal gives the store back.
     pub fn new(
         alloc: Global,
         dictionary: &'a Dictionary,
         statements: &'a [Statement],
+        patterns: &'a [Pattern],
         mut store: S,
         size: usize,
     ) -> Result<Machine<'a, S>, (S, AllocError)>
         requires deep { depth_of statements.now + 1 ≤ MAX_FRAMES }
         requires suits { IsTrue (policy_suits dictionary.now statements.now) }
+        requires passes { IsTrue (policy_patterns_pass (is_among patterns.now) statements.now) }
         requires store { StateFits dictionary.now (present (S.history store)) }
         ensures start { IfOk result (λ m. m ≡ record {
           dictionary = dictionary.entry.now;
+          patterns = patterns.entry.now;
           history = settled (S.history store);
           reach = m.reach;
           frames = Frame.Statements statements.entry ∷ [];
@@ -81,6 +89,9 @@ impl<'a, S: Store> Machine<'a, S> {
         let Ok(mut frames) = Vec::with_capacity(alloc, MAX_FRAMES) else {
             return Err((store, AllocError));
         };
+        let Ok(matchers) = Matchers::new(alloc, patterns) else {
+            return Err((store, AllocError));
+        };
         match store.reserve(size) {
             Err(refused) => Err((store, refused)),
             Ok(()) => {
@@ -89,6 +100,7 @@ impl<'a, S: Store> Machine<'a, S> {
                 Ok(Machine {
                     alloc,
                     dictionary,
+                    matchers,
                     store,
                     frames,
                 })
@@ -112,6 +124,7 @@ impl<'a, S: Store> Machine<'a, S> {
         let Machine {
             alloc: _,
             dictionary: _,
+            matchers: _,
             store,
             frames: _,
         } = self;
@@ -188,6 +201,18 @@ impl<'a, S: Store> Machine<'a, S> {
         ensures frames { OnErr result (self.new.frames ≡ self.old.frames) }
     {
         edit_by(self.alloc, self.dictionary, &mut self.store, line)
+    }
+
+    // Whether a condition is true of the present lists.
+    fn holds(&mut self, cond: &Cond, code: Code) -> bool
+        requires at_last { IsAtLast self.old }
+        requires suits { IsTrue (cond_suits self.old.dictionary cond.now) }
+        requires passes { IsTrue (cond_patterns_pass (is_among self.old.patterns) cond.now) }
+        ensures truth { result ≡ truth_by self.old.dictionary cond.now (present self.old.history)
+            code }
+        ensures same { self.new ≡ self.old }
+    {
+        holds_by(self.dictionary, cond, &self.store, code, &mut self.matchers)
     }
 
     // The first of these statements, above the others: an update or an `if` is put on the frames, any other is a step.
@@ -298,7 +323,7 @@ impl<'a, S: Store> Machine<'a, S> {
             }
             return None;
         };
-        let is_met = holds(&branch.cond, self.store(), last.code);
+        let is_met = self.holds(&branch.cond, last.code);
         if is_met {
             self.put(Frame::Statements(branch.block.as_slice()));
         } else {

@@ -53,8 +53,8 @@ fn put_mark(marks: &mut Vec<Mark>, mark: Mark)
 }
 
 impl<'a, S: Store> Stepper<'a, S> {
-    /// A run at its start, with room for all of its steps. `dictionary` is the one by which the policy was read. A
-    /// refusal gives the store back.
+    /// A run at its start, with room for all of its steps, and what searches for the patterns of the policy.
+    /// `dictionary` is the one by which the policy was read. A refusal gives the store back.
     ///
     /// ```rust
     /// let policy = read_policy(
@@ -89,7 +89,8 @@ impl<'a, S: Store> Stepper<'a, S> {
         let Ok(mut marks) = Vec::with_capacity(alloc, size + 1) else {
             return Err((store, AllocError));
         };
-        let machine = Machine::new(alloc, dictionary, statements, store, size)?;
+        let patterns = policy.patterns();
+        let machine = Machine::new(alloc, dictionary, statements, patterns, store, size)?;
         put_mark(&mut marks, START);
         Ok(Stepper {
             statements,

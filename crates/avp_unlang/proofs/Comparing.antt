@@ -1,5 +1,5 @@
 -- A condition that fits the dictionary can be tested in each state that does.
-use Rattle.std.proofs.Common.{◌≡◌, Bool, true, false, ◌&&◌, ◌||◌, cond, List, [], ◌∷◌, Option, Some, None, filter, refl, sym, ap, ◌∙◌, map, subst}
+use Rattle.std.proofs.Common.{◌≡◌, ◌≤◌, ℕ, nat_le, length, arith, Bool, true, false, ◌&&◌, ◌||◌, cond, List, [], ◌∷◌, Option, Some, None, filter, refl, sym, ap, ◌∙◌, map, subst}
 use Rattle.std.specs.Prelude.{IfSome, All as Each}
 use Rattle.std.specs.List.{list_all}
 use Rattle.std.specs.Option.{option_map, option_map_or, unwrap_or}
@@ -20,12 +20,23 @@ use Rattle.avp_unlang.specs.Suiting.{cond_suits, cond_layer_suits, comparand_sui
 use Rattle.avp_unlang.specs.References.{type_of}
 use Rattle.avp_unlang.specs.Resolutions.{StateFits, pair_of}
 use Rattle.avp_unlang.specs.Truth.{comparable, compared_with, cond_comparable, first_value, is_alike, is_comparable, value_in}
+use Rattle.avp_dict.specs.Limits.{extended_room, max_octets, vendor_room}
+use Rattle.avp_dict.specs.AttributeNumbers.{max_plain}
+use Rattle.avp_dict.specs.Names.{vendor_format}
+use Rattle.avp_dict.specs.declared.entries.Format.{Format}
+use Rattle.avp_lists.specs.Tags.{is_selected}
+use Rattle.avp_lists.specs.declared.pairs.AttrId.TheVariants as ids
+use Rattle.avp_lists.specs.declared.tags.Selection.{Selection}
+use Rattle.avp_lists.specs.declared.tags.Selection.TheVariants as selections
+use Rattle.avp_unlang.specs.PatternTruth.{instance_in, is_matchable}
+use Rattle.avp_unlang.specs.declared.tree.Matching.{Matching}
+use Rattle.std.proofs.lemmas.Bool.Decides.{nat_tests}
 use Rattle.avp_unlang.specs.declared.tree.Comparand.{Comparand}
 use Rattle.avp_unlang.specs.declared.tree.Comparand.TheVariants.{Literal, Instance}
 use Rattle.avp_unlang.specs.declared.tree.Comparison.{Comparison}
 use Rattle.avp_unlang.specs.declared.tree.Cond.{Cond}
 use Rattle.avp_unlang.specs.declared.tree.Cond.TheFolds.{fold-roll-Cond, ind-Cond, map-Cond}
-use Rattle.avp_unlang.specs.declared.tree.Cond.TheOpen.{Cond-F, Any, All, Not, Last, Present, PresentSelected, Compare, CompareMeant}
+use Rattle.avp_unlang.specs.declared.tree.Cond.TheOpen.{Cond-F, Any, All, Not, Last, Present, PresentSelected, Compare, CompareMeant, Match}
 use Rattle.avp_unlang.specs.declared.tree.Cond.TheViews.{roll-Cond}
 use Rattle.std.proofs.lemmas.List.Elements.{All-head, All-tail}
 use Rattle.avp_lists.proofs.Equality.{same_id}
@@ -105,6 +116,63 @@ module _ (dictionary : Dictionary) where
       let other = and_right (same_kind c.kind (type_of dictionary c.id)) (comparand_suits dictionary c c.comparand) h in
       rw (first_alike s c.list c.id c.kind fit same) (compared_alike s c c.comparand fit same other)
 
+  -- ---- comparisons with a pattern
+
+  room_most : (id : AttrId) → max_octets id dictionary ≤ 4012
+  unfolding max_octets
+  room_most (ids.Plain n) = elim (nat_le n max_plain) as (λ b. cond b 253 4012 ≤ 4012) [ true ↦ omega arith | false ↦ omega arith ]
+  room_most (ids.Vendor vendor n) = vendor_most (vendor_format vendor dictionary)
+    where
+      vendor_most : (o : Option Format) → option_map_or vendor_room o 0 ≤ 4012
+      vendor_most None = omega arith
+      vendor_most (Some f) = omega arith
+  room_most (ids.Extended t n) =
+      elim (nat_le 241 t && nat_le t 244) as (λ b. cond b 252 (cond (nat_le 245 t && nat_le t 246) 4012 0) ≤ 4012) [
+        | true ↦ omega arith
+        | false ↦ elim (nat_le 245 t && nat_le t 246) as (λ b. cond b 4012 0 ≤ 4012) [ true ↦ omega arith | false ↦ omega arith ]
+      ]
+
+  raw_short : (id : AttrId) (os : List ℕ) → nat_le (length os) (max_octets id dictionary) ≡ true → nat_le (length os) 4012 ≡ true
+  raw_short id os h = let most = room_most id in grind (arith, nat_tests)
+
+  matchable_value : (id : AttrId) (v : Value) → is_alike kinds.Text v ≡ true → is_within id v dictionary ≡ true → is_matchable (pair_of id v) ≡ true
+  matchable_value id (values.Text os) alike within = refl
+  matchable_value id (values.Raw os) alike within = raw_short id os within
+  matchable_value id (values.Bytes os) alike within = cc
+  matchable_value id (values.Int n) alike within = cc
+  matchable_value id (values.Signed z) alike within = cc
+  matchable_value id (values.Addr os) alike within = cc
+  matchable_value id (values.Ether os) alike within = cc
+
+  matchable_fits : (p : Pair) → kinds.Text ≡ type_of dictionary p.id → fits p dictionary ≡ true → is_matchable p ≡ true
+  unfolding fits
+  matchable_fits p text h =
+      matchable_value p.id p.value (ap (λ k. is_alike k p.value) text ∙ alike_fits p.id p.value h)
+      (and_right (is_known p.id dictionary && is_typed p.id p.value dictionary) (is_within p.id p.value dictionary) h)
+
+  selected_id : (selection : Selection) (id : AttrId) (p : Pair) → is_selected selection id p ≡ true → has_id id p ≡ true
+  selected_id selections.All id p h = h
+  selected_id (selections.EachTag tagging) id p h = h
+  selected_id (selections.Tag tagging n) id p h = and_left (has_id id p) _ h
+
+  passes_by : (f : Pair → Bool) (p : Pair) (ps : List Pair) (b : Bool) → f p ≡ b → fits p dictionary ≡ true → IfSome (front (filter f ps)) (λ q. (fits q dictionary ≡ true) × (f q ≡ true)) → IfSome (front (cond b (p ∷ filter f ps) (filter f ps))) (λ q. (fits q dictionary ≡ true) × (f q ≡ true))
+  passes_by f p ps true e h others = (h, e)
+  passes_by f p ps false e h others = others
+
+  first_passes : (f : Pair → Bool) (pairs : List Pair) → Each (λ p. fits p dictionary ≡ true) pairs → IfSome (front (filter f pairs)) (λ p. (fits p dictionary ≡ true) × (f p ≡ true))
+  first_passes f [] h = tt
+  first_passes f (p ∷ ps) h =
+      passes_by f p ps (f p) refl (All-head (λ q. fits q dictionary ≡ true) p ps h) (first_passes f ps (All-tail (λ q. fits q dictionary ≡ true) p ps h))
+
+  matchable_of : (m : Matching) (o : Option Pair) → kinds.Text ≡ type_of dictionary m.id → IfSome o (λ p. (fits p dictionary ≡ true) × (is_selected m.selection m.id p ≡ true)) → option_map_or is_matchable o true ≡ true
+  matchable_of m None text h = refl
+  matchable_of m (Some p) text h =
+      let same : p.id ≡ m.id = same_id p.id m.id (selected_id m.selection m.id p h.1) in
+      matchable_fits p (text ∙ ap (type_of dictionary) (sym same)) h.0
+
+  matchable_first : (s : State) (m : Matching) → StateFits dictionary s → kinds.Text ≡ type_of dictionary m.id → option_map_or is_matchable (instance_in m s) true ≡ true
+  matchable_first s m fit text = matchable_of m (instance_in m s) text (first_passes (is_selected m.selection m.id) (list_of m.list s) (fit m.list))
+
   -- ---- conditions
 
   module _ (s : State) (fit : StateFits dictionary s) where
@@ -134,6 +202,7 @@ module _ (dictionary : Dictionary) where
     layer_testable (Present list id) h = refl
     layer_testable (PresentSelected list id selection) h = refl
     layer_testable (CompareMeant c) h = refl
+    layer_testable (Match m) h = matchable_first s m fit (same_kinds kinds.Text (type_of dictionary m.id) h)
     layer_testable (Compare c) h = comparison_comparable s c fit h
 
     rolled : (x : Cond-F Cond) → (cond_layer_suits dictionary (map-Cond Cond Bool (cond_suits dictionary) x) ≡ true → cond_comparable (map-Cond Cond (State → Bool) comparable x) s ≡ true) → IsTestable (roll-Cond x)

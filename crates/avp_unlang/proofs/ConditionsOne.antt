@@ -10,6 +10,7 @@ use Rattle.avp_forms.specs.declared.profiles.Profile.{Profile}
 use Rattle.avp_unlang.specs.declared.codes.Code.{Code}
 use Rattle.avp_unlang.specs.declared.faults.PolicyFault.{PolicyFault}
 use Rattle.avp_unlang.specs.declared.text.references.Reference.{Reference}
+use Rattle.avp_unlang.specs.declared.text.tokens.Matcher.{Matcher}
 use Rattle.avp_unlang.specs.declared.text.tokens.Sign.TheVariants as sign
 use Rattle.avp_unlang.specs.declared.text.tokens.Token.{Token}
 use Rattle.avp_unlang.specs.declared.text.tokens.Token.TheVariants.{Operator, Quoted, Word}
@@ -18,10 +19,10 @@ use Rattle.avp_unlang.specs.declared.text.values.Written.TheVariants as written
 use Rattle.avp_unlang.specs.declared.tree.Comparand.{Comparand}
 use Rattle.avp_unlang.specs.declared.tree.Comparand.TheVariants.{Literal}
 use Rattle.avp_unlang.specs.declared.tree.Cond.{Cond}
-use Rattle.avp_unlang.specs.declared.tree.Cond.TheVariants.{Not, Last, Compare, CompareMeant}
+use Rattle.avp_unlang.specs.declared.tree.Cond.TheVariants.{Not, Last, Compare, CompareMeant, Match}
 use Rattle.avp_unlang.specs.declared.tree.MeantComparand.{MeantComparand}
 use Rattle.avp_unlang.specs.declared.tree.Relation.{Relation}
-use Rattle.avp_unlang.specs.Conditions.{relation_of, plain_literal, plain_octets, ComparandOf, ComparandIs, comparison_of, ComparedBy, ComparedFrom, ComparedIs, MeantBy, MeantFrom, MeantIs, RelatedBy, RelatedIs, WordFrom, instance_compared, is_by_meaning, meant_comparison, meant_literal, present_of, any_of, all_of, Both, Either, Negated, Closed, OperandFrom, OperandIs, Within}
+use Rattle.avp_unlang.specs.Conditions.{relation_of, plain_literal, plain_octets, ComparandOf, ComparandIs, comparison_of, ComparedBy, ComparedFrom, ComparedIs, MatchedBy, MatchedOr, MeantBy, MeantFrom, MeantIs, RelatedBy, RelatedIs, WordFrom, instance_compared, is_by_meaning, matcher_in, matching_of, meant_comparison, meant_literal, present_of, any_of, all_of, Both, Either, Negated, Closed, OperandFrom, OperandIs, Within}
 use Rattle.avp_unlang.specs.Forms.{Form, After, Chain, Gives, Refuses, Reads}
 use Rattle.avp_unlang.specs.Places.{Place}
 use Rattle.avp_unlang.specs.References.{AlikeIs, ReadableIs, type_of}
@@ -121,14 +122,26 @@ module _ (profile : Profile) (dictionary : Dictionary) where
   compared_from_one found (Some relation) p after x y r s h g =
       related_one (is_by_meaning profile (type_of dictionary found.target.named.id)) found relation after x y r s h g
 
+  matched_or_one : (found : Reference) (o : Option Matcher) (p : Place) (next : Token × Place) (x y : Cond) (r s : Place)
+      → MatchedOr profile dictionary found o p next x r → MatchedOr profile dictionary found o p next y s → (x ≡ y) × (r ≡ s)
+  matched_or_one found None p next x y r s h g = compared_from_one found (relation_of next.0) p next.1 x y r s h g
+  matched_or_one found (Some m) p next x y r s h g = gives_one (Match (matching_of dictionary found m)) next.1 x y r s h.2 g.2
+
   pub compared_one : (found : Reference) → IsOne (ComparedIs profile dictionary found)
-  compared_one found p x y r s h g = compared_from_one found (relation_of (next_token p).0) p (next_token p).1 x y r s h g
+  compared_one found p x y r s h g = matched_or_one found (matcher_in profile (next_token p).0) p (next_token p) x y r s h g
+
+  -- a comparison with a pattern
+  pub matched_reads : (found : Reference) (m : Matcher) (p : Place) (token : Token) (mid : Place) → Follows token p mid → matcher_in profile token ≡ Some m → (r : Result (Cond × Place) PolicyFault)
+      → Reads (MatchedBy dictionary found m mid) r → Reads (ComparedIs profile dictionary found p) r
+  matched_reads found m p token mid follows is r reads =
+      subst (λ (k : Token × Place). Reads (MatchedOr profile dictionary found (matcher_in profile k.0) p k) r) (sym follows) (subst (λ o. Reads (MatchedOr profile dictionary found o p (token, mid)) r) (sym is) reads)
 
   -- what follows an operator that compares
-  pub compared_reads : (found : Reference) (relation : Relation) (p : Place) (token : Token) (mid : Place) → Follows token p mid → relation_of token ≡ Some relation → (r : Result (Cond × Place) PolicyFault)
+  pub compared_reads : (found : Reference) (relation : Relation) (p : Place) (token : Token) (mid : Place) → Follows token p mid → matcher_in profile token ≡ None → relation_of token ≡ Some relation → (r : Result (Cond × Place) PolicyFault)
       → Reads (RelatedIs profile dictionary found relation mid) r → Reads (ComparedIs profile dictionary found p) r
-  compared_reads found relation p token mid follows related r reads =
-      subst (λ (k : Token × Place). Reads (ComparedFrom profile dictionary found (relation_of k.0) p k.1) r) (sym follows) (subst (λ o. Reads (ComparedFrom profile dictionary found o p mid) r) (sym related) reads)
+  compared_reads found relation p token mid follows none related r reads =
+      subst (λ (k : Token × Place). Reads (MatchedOr profile dictionary found (matcher_in profile k.0) p k) r) (sym follows)
+      (subst (λ o. Reads (MatchedOr profile dictionary found o p (token, mid)) r) (sym none) (subst (λ o. Reads (ComparedFrom profile dictionary found o p mid) r) (sym related) reads))
 
   word_one : (o : Option Code) (word : List ℕ) → IsOne (WordFrom profile dictionary o word)
   word_one (Some code) word p x y r s h g = gives_one (Last code) p x y r s h g

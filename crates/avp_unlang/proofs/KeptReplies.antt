@@ -20,7 +20,7 @@ use Rattle.avp_unlang.specs.Sources.{is_removal}
 use Rattle.avp_unlang.specs.Statements.{BlockIs, BranchIs, Nested, Otherwise, StatementFrom, begins_word, branch_of, keyword_in, list_at}
 use Rattle.avp_unlang.specs.Between.{Follows}
 use Rattle.avp_unlang.specs.Tokens.{next_token}
-use Rattle.avp_unlang.specs.Truth.{truth}
+use Rattle.avp_unlang.specs.Truth.{truth_by}
 use Rattle.avp_unlang.specs.declared.codes.Code.{Code}
 use Rattle.avp_unlang.specs.declared.meaning.reasons.Reason.TheVariants.{Full}
 use Rattle.avp_unlang.specs.declared.meaning.resolving.Unresolved.{Unresolved}
@@ -56,7 +56,7 @@ module _ (dictionary : Dictionary) (P : Pair → Type 0) where
   BranchKeeps b = Keeps (choice b).block
 
   abbrev BranchesKeep : List Branch → Type 0
-  BranchesKeep bs = (otherwise : Meaning) → Keeps otherwise → Keeps (first_true (map choice bs) otherwise)
+  BranchesKeep bs = (otherwise : Meaning) → Keeps otherwise → Keeps (first_true dictionary (map choice bs) otherwise)
 
   -- each pair that a line adds has it
   abbrev pub Adds : Line → Type 0
@@ -79,7 +79,7 @@ module _ (dictionary : Dictionary) (P : Pair → Type 0) where
 
   more_branches : (b : Branch) (bs : List Branch) → BranchKeeps b → BranchesKeep bs → BranchesKeep (b ∷ bs)
   more_branches b bs first others otherwise keeps s code all =
-      elim (truth (choice b).cond s code) as (λ t. All P (cond t ((choice b).block s code) (first_true (map choice bs) otherwise s code)).state.reply) [
+      elim (truth_by dictionary (choice b).cond s code) as (λ t. All P (cond t ((choice b).block s code) (first_true dictionary (map choice bs) otherwise s code)).state.reply) [
         | true ↦ first s code all
         | false ↦ others otherwise keeps s code all
       ]

@@ -1,3 +1,4 @@
+pub mod AmongPatterns
 pub mod Chains
 pub mod CleanReplies
 pub mod CleanValues
@@ -7,8 +8,13 @@ pub mod Determined
 pub mod FirstInstances
 pub mod KeptEdits
 pub mod KeptReplies
+pub mod KeptPatterns
 pub mod LinesOne
 pub mod PartsOne
+pub mod PatternFree
+pub mod PatternTexts
+pub mod PlainPatterns
+pub mod PolicyPasses
 pub mod PolicyRoom
 pub mod SpelledParts
 pub mod SpelledSuits

@@ -11,6 +11,7 @@ use Rattle.avp_unlang.specs.declared.text.statements.Keyword.{Keyword}
 use Rattle.avp_unlang.specs.declared.text.statements.Keyword.TheVariants as keyword
 use Rattle.avp_unlang.specs.declared.text.references.Reference.{Reference}
 use Rattle.avp_unlang.specs.declared.text.tokens.Sign.TheVariants as sign
+use Rattle.avp_unlang.specs.declared.text.tokens.Matcher.{Matcher}
 use Rattle.avp_unlang.specs.declared.text.tokens.Token.{Token}
 use Rattle.avp_unlang.specs.declared.text.tokens.Token.TheVariants as token
 use Rattle.avp_unlang.specs.declared.text.values.Written.{Written}
@@ -22,7 +23,7 @@ use Rattle.avp_unlang.specs.declared.tree.Statement.{Statement}
 use Rattle.avp_unlang.specs.declared.tree.Statement.TheFolds.{fold-roll-Statement, fold-roll-Branch}
 use Rattle.avp_unlang.specs.declared.tree.Statement.TheOpen as layer
 use Rattle.avp_unlang.specs.declared.tree.Statement.TheVariants.{Update, If, Transaction, Word, rolls-Update, rolls-If, rolls-Transaction, rolls-Word}
-use Rattle.avp_unlang.specs.Conditions.{relation_of, ComparandOf, ComparedFrom, ComparedIs, MeantFrom, MeantIs, RelatedBy, WordFrom, Both, Either, Closed, OperandFrom, Within, is_by_meaning}
+use Rattle.avp_unlang.specs.Conditions.{Both, Closed, ComparandOf, ComparedFrom, ComparedIs, Either, MatchedOr, MeantFrom, MeantIs, OperandFrom, RelatedBy, Within, WordFrom, is_by_meaning, matcher_in, relation_of}
 use Rattle.avp_unlang.specs.Forms.{Form, Step, Gives, After, Then, While, Others, Chain}
 use Rattle.avp_unlang.specs.Lines.{TargetIs, OpIs, LineIs, after_reference, begins_line}
 use Rattle.avp_unlang.specs.Places.{Place, counted}
@@ -185,8 +186,12 @@ module _ (profile : Profile) (dictionary : Dictionary) where
   compared_from_keeps found (Some relation) p after same c rest h =
       related_keeps (is_by_meaning profile (type_of dictionary found.target.named.id)) found relation after c rest h ∙ same
 
+  matched_or_keeps : (found : Reference) (o : Option Matcher) (p : Place) (next : Token × Place) → next.1.room ≡ p.room → (c : Cond) (rest : Place) → MatchedOr profile dictionary found o p next c rest → rest.room ≡ p.room
+  matched_or_keeps found None p next same c rest h = compared_from_keeps found (relation_of next.0) p next.1 same c rest h
+  matched_or_keeps found (Some m) p next same c rest h = ap (λ (q : Place). q.room) h.2.1 ∙ same
+
   compared_keeps : (found : Reference) → Keeps (ComparedIs profile dictionary found)
-  compared_keeps found p c rest h = compared_from_keeps found (relation_of (next_token p).0) p (next_token p).1 (next_room p) c rest h
+  compared_keeps found p c rest h = matched_or_keeps found (matcher_in profile (next_token p).0) p (next_token p) (next_room p) c rest h
 
   word_keeps : (o : Option Code) (word : List ℕ) → Keeps (WordFrom profile dictionary o word)
   word_keeps (Some code) word p c rest h = ap (λ (q : Place). q.room) h.1

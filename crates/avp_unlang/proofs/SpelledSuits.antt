@@ -17,6 +17,7 @@ use Rattle.avp_unlang.specs.declared.codes.Code.{Code}
 use Rattle.avp_unlang.specs.declared.text.statements.Keyword.{Keyword}
 use Rattle.avp_unlang.specs.declared.text.statements.Keyword.TheVariants as keyword
 use Rattle.avp_unlang.specs.declared.text.references.Reference.{Reference}
+use Rattle.avp_unlang.specs.declared.text.tokens.Matcher.{Matcher}
 use Rattle.avp_unlang.specs.declared.text.tokens.Sign.TheVariants as sign
 use Rattle.avp_unlang.specs.declared.text.tokens.Token.{Token}
 use Rattle.avp_unlang.specs.declared.text.tokens.Token.TheVariants as token
@@ -29,8 +30,9 @@ use Rattle.avp_unlang.specs.declared.tree.Comparison.{Comparison}
 use Rattle.avp_unlang.specs.declared.tree.Cond.{Cond}
 use Rattle.avp_unlang.specs.declared.tree.Cond.TheFolds.{fold-roll-Cond}
 use Rattle.avp_unlang.specs.declared.tree.Cond.TheOpen as open_cond
-use Rattle.avp_unlang.specs.declared.tree.Cond.TheVariants.{Any, All, Not, Last, Present, PresentSelected, Compare, CompareMeant, rolls-Any, rolls-All, rolls-Not, rolls-Last, rolls-Present, rolls-PresentSelected, rolls-Compare, rolls-CompareMeant}
+use Rattle.avp_unlang.specs.declared.tree.Cond.TheVariants.{Any, All, Not, Last, Present, PresentSelected, Compare, CompareMeant, Match, rolls-Any, rolls-All, rolls-Not, rolls-Last, rolls-Present, rolls-PresentSelected, rolls-Compare, rolls-CompareMeant, rolls-Match}
 use Rattle.avp_unlang.specs.declared.tree.Line.{Line}
+use Rattle.avp_unlang.specs.declared.tree.Matching.{Matching}
 use Rattle.avp_unlang.specs.declared.tree.MeantComparison.{MeantComparison}
 use Rattle.avp_unlang.specs.declared.tree.Part.{Part}
 use Rattle.avp_unlang.specs.declared.tree.Relation.{Relation}
@@ -38,7 +40,7 @@ use Rattle.avp_unlang.specs.declared.tree.Statement.{Statement}
 use Rattle.avp_unlang.specs.declared.tree.Statement.TheFolds.{fold-roll-Statement, fold-roll-Branch, fold_out-Branch}
 use Rattle.avp_unlang.specs.declared.tree.Statement.TheOpen as layer
 use Rattle.avp_unlang.specs.declared.tree.Statement.TheVariants.{Update, If, Transaction, Word, rolls-Update, rolls-If, rolls-Transaction, rolls-Word}
-use Rattle.avp_unlang.specs.Conditions.{relation_of, plain_octets, ComparandIs, ComparandOf, comparison_of, ComparedFrom, ComparedIs, RelatedBy, WordFrom, is_by_meaning, meant_comparison, present_of, any_of, all_of, Both, Either, Closed, OperandFrom, Within}
+use Rattle.avp_unlang.specs.Conditions.{relation_of, plain_octets, ComparandIs, ComparandOf, comparison_of, ComparedFrom, ComparedIs, MatchedOr, RelatedBy, WordFrom, is_by_meaning, matcher_in, matching_of, meant_comparison, present_of, any_of, all_of, Both, Either, Closed, OperandFrom, Within}
 use Rattle.avp_unlang.specs.References.{reference_in, reference_to, target_in, type_of}
 use Rattle.avp_unlang.specs.Resolutions.{line_suits, literal_fits}
 use Rattle.avp_unlang.specs.Suiting.{branch_layer_suits, branches_suit, else_suits, branch_suits, comparand_suits, comparison_suits, cond_layer_suits, cond_suits, itself, policy_suits, same_kind, statement_layer_suits, statement_suits}
@@ -63,19 +65,19 @@ use Rattle.avp_unlang.proofs.SpelledParts.{Holds, IsWritten, block_holds, chain_
 
 -- ---- lists
 
-abbrev Suits : {A : Type 0} → (A → Bool) → Form Place A → Type 0
+abbrev pub Suits : {A : Type 0} → (A → Bool) → Form Place A → Type 0
 Suits f = Holds (λ x. f x ≡ true)
 
-both_true : (a b : Bool) → a ≡ true → b ≡ true → (a && b) ≡ true
+pub both_true : (a b : Bool) → a ≡ true → b ≡ true → (a && b) ≡ true
 both_true a b e f = ap₂ (λ x y. x && y) e f
 
-while_fits : {A : Type 0} (f : A → Bool) (begins : Place → Bool) (form : Form Place A) → Suits f form → Suits (λ xs. list_all f xs) (While begins form)
+pub while_fits : {A : Type 0} (f : A → Bool) (begins : Place → Bool) (form : Form Place A) → Suits f form → Suits (λ xs. list_all f xs) (While begins form)
 while_fits f begins form each = while_holds (λ x. f x ≡ true) (λ xs. list_all f xs ≡ true) refl (λ x xs. both_true (f x) (list_all f xs)) form each begins
 
-chain_fits : {A : Type 0} (f : A → Bool) (step : Step Place) (form : Form Place A) → Suits f form → Suits (λ xs. list_all f xs) (Chain step form)
+pub chain_fits : {A : Type 0} (f : A → Bool) (step : Step Place) (form : Form Place A) → Suits f form → Suits (λ xs. list_all f xs) (Chain step form)
 chain_fits f step form each = chain_holds (λ x. f x ≡ true) (λ xs. list_all f xs ≡ true) refl (λ x xs. both_true (f x) (list_all f xs)) form each step
 
-block_fits : {A : Type 0} (f : A → Bool) (n : ℕ) (begins : Place → Bool) (inner : Form Place A) → Suits f inner → Suits (λ xs. list_all f xs) (BlockIs n begins inner)
+pub block_fits : {A : Type 0} (f : A → Bool) (n : ℕ) (begins : Place → Bool) (inner : Form Place A) → Suits f inner → Suits (λ xs. list_all f xs) (BlockIs n begins inner)
 block_fits f n begins inner each = block_holds (λ x. f x ≡ true) (λ xs. list_all f xs ≡ true) refl (λ x xs. both_true (f x) (list_all f xs)) inner each n begins
 
 all_itself : {A : Type 0} (f : A → Bool) (xs : List A) → list_all itself (map f xs) ≡ list_all f xs
@@ -192,6 +194,10 @@ module _ (profile : Profile) (dictionary : Dictionary) (sound : IsSound dictiona
   fits_PresentSelected list id selection =
       ap (cond_suits dictionary) (sym (rolls-PresentSelected list id selection)) ∙ fold-roll-Cond Bool (cond_layer_suits dictionary) (open_cond.PresentSelected list id selection)
 
+  fits_Match : (x : Matching) → cond_suits dictionary (Match x) ≡ same_kind kinds.Text (type_of dictionary x.id)
+  unfolding cond_suits
+  fits_Match x = ap (cond_suits dictionary) (sym (rolls-Match x)) ∙ fold-roll-Cond Bool (cond_layer_suits dictionary) (open_cond.Match x)
+
   fits_CompareMeant : (x : MeantComparison) → cond_suits dictionary (CompareMeant x) ≡ true
   unfolding cond_suits
   fits_CompareMeant x = ap (cond_suits dictionary) (sym (rolls-CompareMeant x)) ∙ fold-roll-Cond Bool (cond_layer_suits dictionary) (open_cond.CompareMeant x)
@@ -248,8 +254,12 @@ module _ (profile : Profile) (dictionary : Dictionary) (sound : IsSound dictiona
   compared_from_fits found (Some relation) p after c rest h =
       related_fits (is_by_meaning profile (type_of dictionary found.target.named.id)) found relation after c rest h
 
+  matched_or_fits : (found : Reference) (o : Option Matcher) (p : Place) (next : Token × Place) (c : Cond) (rest : Place) → MatchedOr profile dictionary found o p next c rest → cond_suits dictionary c ≡ true
+  matched_or_fits found None p next c rest h = compared_from_fits found (relation_of next.0) p next.1 c rest h
+  matched_or_fits found (Some m) p next c rest h = ap (cond_suits dictionary) h.2.0 ∙ fits_Match (matching_of dictionary found m) ∙ ap (same_kind kinds.Text) h.0
+
   compared_fits : (found : Reference) → Suits (cond_suits dictionary) (ComparedIs profile dictionary found)
-  compared_fits found p c rest h = compared_from_fits found (relation_of (next_token p).0) p (next_token p).1 c rest h
+  compared_fits found p c rest h = matched_or_fits found (matcher_in profile (next_token p).0) p (next_token p) c rest h
 
   word_fits : (o : Option Code) (word : List ℕ) → Suits (cond_suits dictionary) (WordFrom profile dictionary o word)
   word_fits (Some code) word p c rest h = ap (cond_suits dictionary) h.0 ∙ fits_Last code

@@ -9,14 +9,20 @@ use Rattle.avp_lists.specs.declared.pairs.AttrId.{AttrId}
 use Rattle.avp_lists.specs.declared.pairs.Pair.{Pair}
 use Rattle.avp_lists.specs.declared.lists.List.{List as Name}
 use Rattle.avp_lists.specs.declared.lists.State.{State}
-use Rattle.avp_unlang.specs.Truth.{Test, cond_comparable, cond_truth, comparable, is_comparable, is_met, is_met_by_meaning, same_code, truth}
+use Rattle.avp_unlang.specs.Truth.{Test, cond_comparable, cond_truth_with, comparable, never_matched, truth_by, is_comparable, is_met, is_met_by_meaning, same_code, truth}
+use Rattle.std.specs.Option.{option_map_or}
+use Rattle.avp_dict.specs.Dictionary.{Dictionary}
+use Rattle.avp_patterns.specs.Patterns.{Written}
+use Rattle.avp_unlang.specs.PatternTruth.{instance_in, is_matchable, is_matched, pattern_in}
+use Rattle.avp_unlang.specs.PolicyPatterns.{cond_layer_passes, cond_patterns_pass, passes}
 use Rattle.avp_unlang.specs.declared.codes.Code.{Code}
 use Rattle.avp_unlang.specs.declared.tree.Comparison.{Comparison}
 use Rattle.avp_unlang.specs.declared.tree.Cond.{Cond}
+use Rattle.avp_unlang.specs.declared.tree.Matching.{Matching}
 use Rattle.avp_unlang.specs.declared.tree.MeantComparison.{MeantComparison}
-use Rattle.avp_unlang.specs.declared.tree.Cond.TheFolds.{fold-roll-Cond}
+use Rattle.avp_unlang.specs.declared.tree.Cond.TheFolds.{fold-Cond, fold-roll-Cond}
 use Rattle.avp_unlang.specs.declared.tree.Cond.TheOpen as layer
-use Rattle.avp_unlang.specs.declared.tree.Cond.TheVariants.{Any, All, Not, Last, Present, PresentSelected, Compare, CompareMeant, rolls-Any, rolls-All, rolls-Not, rolls-Last, rolls-Present, rolls-PresentSelected, rolls-Compare, rolls-CompareMeant}
+use Rattle.avp_unlang.specs.declared.tree.Cond.TheVariants.{Any, All, Not, Last, Present, PresentSelected, Compare, CompareMeant, Match, rolls-Any, rolls-All, rolls-Not, rolls-Last, rolls-Present, rolls-PresentSelected, rolls-Compare, rolls-CompareMeant, rolls-Match}
 
 any_mapped : {A B : Type 0} (f : A → B) (test : B → Bool) (xs : List A) → list_any test (map f xs) ≡ list_any (λ x. test (f x)) xs
 any_mapped f test [] = refl
@@ -34,44 +40,119 @@ found_first id (p ∷ ps) =
       | false ↦ found_first id ps
     ]
 
+-- ---- the truth of each kind, whatever comparisons with patterns come to
+
+module _ (matched : Matching → State → Bool) where
+  abbrev pub Given : Cond → Test
+  Given = fold-Cond Test (cond_truth_with matched)
+
+  pub given_any : (cs : List Cond) (s : State) (c : Code) → Given (Any cs) s c ≡ list_any (λ cond. Given cond s c) cs
+  given_any cs s c =
+      ap (λ k. Given k s c) (sym (rolls-Any cs)) ∙ ap (λ (t : Test). t s c) (fold-roll-Cond Test (cond_truth_with matched) (layer.Any cs))
+      ∙ any_mapped Given (λ (t : Test). t s c) cs
+
+  pub given_all : (cs : List Cond) (s : State) (c : Code) → Given (All cs) s c ≡ list_all (λ cond. Given cond s c) cs
+  given_all cs s c =
+      ap (λ k. Given k s c) (sym (rolls-All cs)) ∙ ap (λ (t : Test). t s c) (fold-roll-Cond Test (cond_truth_with matched) (layer.All cs))
+      ∙ all_mapped Given (λ (t : Test). t s c) cs
+
+  pub given_not : (d : Cond) (s : State) (c : Code) → Given (Not d) s c ≡ not (Given d s c)
+  given_not d s c = ap (λ k. Given k s c) (sym (rolls-Not d)) ∙ ap (λ (t : Test). t s c) (fold-roll-Cond Test (cond_truth_with matched) (layer.Not d))
+
+  pub given_last : (word : Code) (s : State) (c : Code) → Given (Last word) s c ≡ same_code c word
+  given_last word s c = ap (λ k. Given k s c) (sym (rolls-Last word)) ∙ ap (λ (t : Test). t s c) (fold-roll-Cond Test (cond_truth_with matched) (layer.Last word))
+
+  pub given_present : (list : Name) (id : AttrId) (s : State) (c : Code) → Given (Present list id) s c ≡ is_some (first_instance id (list_of list s))
+  given_present list id s c =
+      ap (λ k. Given k s c) (sym (rolls-Present list id)) ∙ ap (λ (t : Test). t s c) (fold-roll-Cond Test (cond_truth_with matched) (layer.Present list id))
+      ∙ found_first id (list_of list s)
+
+  pub given_present_selected : (list : Name) (id : AttrId) (selection : Selection) (s : State) (c : Code) → Given (PresentSelected list id selection) s c ≡ is_some (first_selected_instance selection id (list_of list s))
+  given_present_selected list id selection s c =
+      ap (λ k. Given k s c) (sym (rolls-PresentSelected list id selection)) ∙ ap (λ (t : Test). t s c) (fold-roll-Cond Test (cond_truth_with matched) (layer.PresentSelected list id selection))
+
+  pub given_compare_meant : (k : MeantComparison) (s : State) (c : Code) → Given (CompareMeant k) s c ≡ is_met_by_meaning k s
+  given_compare_meant k s c = ap (λ x. Given x s c) (sym (rolls-CompareMeant k)) ∙ ap (λ (t : Test). t s c) (fold-roll-Cond Test (cond_truth_with matched) (layer.CompareMeant k))
+
+  pub given_match : (m : Matching) (s : State) (c : Code) → Given (Match m) s c ≡ matched m s
+  given_match m s c = ap (λ x. Given x s c) (sym (rolls-Match m)) ∙ ap (λ (t : Test). t s c) (fold-roll-Cond Test (cond_truth_with matched) (layer.Match m))
+
+  pub given_compare : (k : Comparison) (s : State) (c : Code) → Given (Compare k) s c ≡ is_met k s
+  given_compare k s c = ap (λ x. Given x s c) (sym (rolls-Compare k)) ∙ ap (λ (t : Test). t s c) (fold-roll-Cond Test (cond_truth_with matched) (layer.Compare k))
+
+-- ---- conditions that compare with no pattern, and all
+
 pub truth_any : (cs : List Cond) (s : State) (c : Code) → truth (Any cs) s c ≡ list_any (λ cond. truth cond s c) cs
 unfolding truth
-truth_any cs s c =
-    ap (λ k. truth k s c) (sym (rolls-Any cs)) ∙ ap (λ (t : Test). t s c) (fold-roll-Cond Test cond_truth (layer.Any cs))
-    ∙ any_mapped truth (λ (t : Test). t s c) cs
+truth_any = given_any never_matched
+
+pub truth_by_any : (dictionary : Dictionary) (cs : List Cond) (s : State) (c : Code) → truth_by dictionary (Any cs) s c ≡ list_any (λ cond. truth_by dictionary cond s c) cs
+unfolding truth_by
+truth_by_any dictionary = given_any (is_matched dictionary)
 
 pub truth_all : (cs : List Cond) (s : State) (c : Code) → truth (All cs) s c ≡ list_all (λ cond. truth cond s c) cs
 unfolding truth
-truth_all cs s c =
-    ap (λ k. truth k s c) (sym (rolls-All cs)) ∙ ap (λ (t : Test). t s c) (fold-roll-Cond Test cond_truth (layer.All cs))
-    ∙ all_mapped truth (λ (t : Test). t s c) cs
+truth_all = given_all never_matched
+
+pub truth_by_all : (dictionary : Dictionary) (cs : List Cond) (s : State) (c : Code) → truth_by dictionary (All cs) s c ≡ list_all (λ cond. truth_by dictionary cond s c) cs
+unfolding truth_by
+truth_by_all dictionary = given_all (is_matched dictionary)
 
 pub truth_not : (d : Cond) (s : State) (c : Code) → truth (Not d) s c ≡ not (truth d s c)
 unfolding truth
-truth_not d s c = ap (λ k. truth k s c) (sym (rolls-Not d)) ∙ ap (λ (t : Test). t s c) (fold-roll-Cond Test cond_truth (layer.Not d))
+truth_not = given_not never_matched
+
+pub truth_by_not : (dictionary : Dictionary) (d : Cond) (s : State) (c : Code) → truth_by dictionary (Not d) s c ≡ not (truth_by dictionary d s c)
+unfolding truth_by
+truth_by_not dictionary = given_not (is_matched dictionary)
 
 pub truth_last : (word : Code) (s : State) (c : Code) → truth (Last word) s c ≡ same_code c word
 unfolding truth
-truth_last word s c = ap (λ k. truth k s c) (sym (rolls-Last word)) ∙ ap (λ (t : Test). t s c) (fold-roll-Cond Test cond_truth (layer.Last word))
+truth_last = given_last never_matched
+
+pub truth_by_last : (dictionary : Dictionary) (word : Code) (s : State) (c : Code) → truth_by dictionary (Last word) s c ≡ same_code c word
+unfolding truth_by
+truth_by_last dictionary = given_last (is_matched dictionary)
 
 pub truth_present : (list : Name) (id : AttrId) (s : State) (c : Code) → truth (Present list id) s c ≡ is_some (first_instance id (list_of list s))
 unfolding truth
-truth_present list id s c =
-    ap (λ k. truth k s c) (sym (rolls-Present list id)) ∙ ap (λ (t : Test). t s c) (fold-roll-Cond Test cond_truth (layer.Present list id))
-    ∙ found_first id (list_of list s)
+truth_present = given_present never_matched
+
+pub truth_by_present : (dictionary : Dictionary) (list : Name) (id : AttrId) (s : State) (c : Code) → truth_by dictionary (Present list id) s c ≡ is_some (first_instance id (list_of list s))
+unfolding truth_by
+truth_by_present dictionary = given_present (is_matched dictionary)
 
 pub truth_present_selected : (list : Name) (id : AttrId) (selection : Selection) (s : State) (c : Code) → truth (PresentSelected list id selection) s c ≡ is_some (first_selected_instance selection id (list_of list s))
 unfolding truth
-truth_present_selected list id selection s c =
-    ap (λ k. truth k s c) (sym (rolls-PresentSelected list id selection)) ∙ ap (λ (t : Test). t s c) (fold-roll-Cond Test cond_truth (layer.PresentSelected list id selection))
+truth_present_selected = given_present_selected never_matched
+
+pub truth_by_present_selected : (dictionary : Dictionary) (list : Name) (id : AttrId) (selection : Selection) (s : State) (c : Code) → truth_by dictionary (PresentSelected list id selection) s c ≡ is_some (first_selected_instance selection id (list_of list s))
+unfolding truth_by
+truth_by_present_selected dictionary = given_present_selected (is_matched dictionary)
 
 pub truth_compare_meant : (k : MeantComparison) (s : State) (c : Code) → truth (CompareMeant k) s c ≡ is_met_by_meaning k s
 unfolding truth
-truth_compare_meant k s c = ap (λ x. truth x s c) (sym (rolls-CompareMeant k)) ∙ ap (λ (t : Test). t s c) (fold-roll-Cond Test cond_truth (layer.CompareMeant k))
+truth_compare_meant = given_compare_meant never_matched
+
+pub truth_by_compare_meant : (dictionary : Dictionary) (k : MeantComparison) (s : State) (c : Code) → truth_by dictionary (CompareMeant k) s c ≡ is_met_by_meaning k s
+unfolding truth_by
+truth_by_compare_meant dictionary = given_compare_meant (is_matched dictionary)
+
+pub truth_match : (m : Matching) (s : State) (c : Code) → truth (Match m) s c ≡ false
+unfolding truth
+truth_match = given_match never_matched
+
+pub truth_by_match : (dictionary : Dictionary) (m : Matching) (s : State) (c : Code) → truth_by dictionary (Match m) s c ≡ is_matched dictionary m s
+unfolding truth_by
+truth_by_match dictionary = given_match (is_matched dictionary)
 
 pub truth_compare : (k : Comparison) (s : State) (c : Code) → truth (Compare k) s c ≡ is_met k s
 unfolding truth
-truth_compare k s c = ap (λ x. truth x s c) (sym (rolls-Compare k)) ∙ ap (λ (t : Test). t s c) (fold-roll-Cond Test cond_truth (layer.Compare k))
+truth_compare = given_compare never_matched
+
+pub truth_by_compare : (dictionary : Dictionary) (k : Comparison) (s : State) (c : Code) → truth_by dictionary (Compare k) s c ≡ is_met k s
+unfolding truth_by
+truth_by_compare dictionary = given_compare (is_matched dictionary)
 
 pub comparable_any : (cs : List Cond) (s : State) → comparable (Any cs) s ≡ list_all (λ cond. comparable cond s) cs
 unfolding comparable
@@ -92,3 +173,51 @@ comparable_not d s = ap (λ k. comparable k s) (sym (rolls-Not d)) ∙ ap (λ (t
 pub comparable_compare : (k : Comparison) (s : State) → comparable (Compare k) s ≡ is_comparable k s
 unfolding comparable
 comparable_compare k s = ap (λ x. comparable x s) (sym (rolls-Compare k)) ∙ ap (λ (t : State → Bool). t s) (fold-roll-Cond (State → Bool) cond_comparable (layer.Compare k))
+
+pub comparable_match : (m : Matching) (s : State) → comparable (Match m) s ≡ option_map_or is_matchable (instance_in m s) true
+unfolding comparable
+comparable_match m s = ap (λ x. comparable x s) (sym (rolls-Match m)) ∙ ap (λ (t : State → Bool). t s) (fold-roll-Cond (State → Bool) cond_comparable (layer.Match m))
+
+-- ---- the patterns of each kind
+
+pub all_passes : {A : Type 0} (f : A → Bool) (xs : List A) → list_all passes (map f xs) ≡ list_all f xs
+all_passes f [] = refl
+all_passes f (x ∷ xs) = ap (λ b. f x && b) (all_passes f xs)
+
+pub passes_any : (test : Written → Bool) (cs : List Cond) → cond_patterns_pass test (Any cs) ≡ list_all (cond_patterns_pass test) cs
+unfolding cond_patterns_pass
+passes_any test cs =
+    ap (cond_patterns_pass test) (sym (rolls-Any cs)) ∙ fold-roll-Cond Bool (cond_layer_passes test) (layer.Any cs) ∙ all_passes (cond_patterns_pass test) cs
+
+pub passes_all : (test : Written → Bool) (cs : List Cond) → cond_patterns_pass test (All cs) ≡ list_all (cond_patterns_pass test) cs
+unfolding cond_patterns_pass
+passes_all test cs =
+    ap (cond_patterns_pass test) (sym (rolls-All cs)) ∙ fold-roll-Cond Bool (cond_layer_passes test) (layer.All cs) ∙ all_passes (cond_patterns_pass test) cs
+
+pub passes_not : (test : Written → Bool) (c : Cond) → cond_patterns_pass test (Not c) ≡ cond_patterns_pass test c
+unfolding cond_patterns_pass
+passes_not test c = ap (cond_patterns_pass test) (sym (rolls-Not c)) ∙ fold-roll-Cond Bool (cond_layer_passes test) (layer.Not c)
+
+pub passes_match : (test : Written → Bool) (m : Matching) → cond_patterns_pass test (Match m) ≡ test (pattern_in m)
+unfolding cond_patterns_pass
+passes_match test m = ap (cond_patterns_pass test) (sym (rolls-Match m)) ∙ fold-roll-Cond Bool (cond_layer_passes test) (layer.Match m)
+
+pub passes_last : (test : Written → Bool) (word : Code) → cond_patterns_pass test (Last word) ≡ true
+unfolding cond_patterns_pass
+passes_last test word = ap (cond_patterns_pass test) (sym (rolls-Last word)) ∙ fold-roll-Cond Bool (cond_layer_passes test) (layer.Last word)
+
+pub passes_present : (test : Written → Bool) (list : Name) (id : AttrId) → cond_patterns_pass test (Present list id) ≡ true
+unfolding cond_patterns_pass
+passes_present test list id = ap (cond_patterns_pass test) (sym (rolls-Present list id)) ∙ fold-roll-Cond Bool (cond_layer_passes test) (layer.Present list id)
+
+pub passes_present_selected : (test : Written → Bool) (list : Name) (id : AttrId) (selection : Selection) → cond_patterns_pass test (PresentSelected list id selection) ≡ true
+unfolding cond_patterns_pass
+passes_present_selected test list id selection = ap (cond_patterns_pass test) (sym (rolls-PresentSelected list id selection)) ∙ fold-roll-Cond Bool (cond_layer_passes test) (layer.PresentSelected list id selection)
+
+pub passes_compare : (test : Written → Bool) (k : Comparison) → cond_patterns_pass test (Compare k) ≡ true
+unfolding cond_patterns_pass
+passes_compare test k = ap (cond_patterns_pass test) (sym (rolls-Compare k)) ∙ fold-roll-Cond Bool (cond_layer_passes test) (layer.Compare k)
+
+pub passes_compare_meant : (test : Written → Bool) (k : MeantComparison) → cond_patterns_pass test (CompareMeant k) ≡ true
+unfolding cond_patterns_pass
+passes_compare_meant test k = ap (cond_patterns_pass test) (sym (rolls-CompareMeant k)) ∙ fold-roll-Cond Bool (cond_layer_passes test) (layer.CompareMeant k)

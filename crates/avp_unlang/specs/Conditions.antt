@@ -11,29 +11,32 @@ use Rattle.avp_dict.specs.declared.value.quotes.QuoteMark.TheVariants as quote
 use Rattle.avp_dict.specs.Dictionary.{Dictionary}
 use Rattle.avp_forms.specs.declared.profiles.Profile.{Profile}
 use Rattle.avp_forms.specs.Orders.{other_octets}
-use Rattle.avp_forms.specs.declared.profiles.Profile.TheVariants.{Wider}
+use Rattle.avp_forms.specs.declared.profiles.Profile.TheVariants.{Plain, Wider}
 use Rattle.avp_forms.specs.declared.targets.Target.{Target}
 use Rattle.avp_dict.specs.Names.{form_of}
 use Rattle.avp_dict.specs.Quotes.{double_quoted_octets, single_quoted_octets}
+use Rattle.avp_patterns.specs.Patterns.{IsPattern, Written as Pattern}
 use Rattle.avp_unlang.specs.declared.codes.Code.{Code}
 use Rattle.avp_unlang.specs.declared.text.references.Reference.{Reference}
+use Rattle.avp_unlang.specs.declared.text.tokens.Matcher.{Matcher}
 use Rattle.avp_unlang.specs.declared.text.tokens.Sign.TheVariants as sign
 use Rattle.avp_unlang.specs.declared.text.tokens.Token.{Token}
-use Rattle.avp_unlang.specs.declared.text.tokens.Token.TheVariants.{Operator, Quoted, Word}
+use Rattle.avp_unlang.specs.declared.text.tokens.Token.TheVariants.{Matching, Operator, Quoted, Word}
 use Rattle.avp_unlang.specs.declared.text.values.Written.{Written}
 use Rattle.avp_unlang.specs.declared.text.values.Written.TheVariants as written
 use Rattle.avp_unlang.specs.declared.tree.Comparand.{Comparand}
 use Rattle.avp_unlang.specs.declared.tree.Comparand.TheVariants.{Literal, Instance}
 use Rattle.avp_unlang.specs.declared.tree.Comparison.{Comparison}
 use Rattle.avp_unlang.specs.declared.tree.Cond.{Cond}
-use Rattle.avp_unlang.specs.declared.tree.Cond.TheVariants.{Any, All, Not, Last, Present, PresentSelected, Compare, CompareMeant}
+use Rattle.avp_unlang.specs.declared.tree.Cond.TheVariants.{Any, All, Not, Last, Present, PresentSelected, Compare, CompareMeant, Match}
+use Rattle.avp_unlang.specs.declared.tree.Matching.{Matching as MatchingTree}
 use Rattle.avp_unlang.specs.declared.tree.MeantComparand.{MeantComparand}
 use Rattle.avp_unlang.specs.declared.tree.MeantComparand.TheVariants as meant
 use Rattle.avp_unlang.specs.declared.tree.MeantComparison.{MeantComparison}
 use Rattle.avp_unlang.specs.declared.tree.Relation.{Relation}
 use Rattle.avp_unlang.specs.declared.tree.Relation.TheVariants as relation
 use Rattle.avp_unlang.specs.Forms.{Form, Becomes, Chain, Gives, ◌>>◌, ◌>>=◌}
-use Rattle.avp_dict.specs.Ascii.{backslash, left_brace, percent}
+use Rattle.avp_dict.specs.Ascii.{backslash, left_brace, percent, slash}
 use Rattle.avp_unlang.specs.Places.{Place}
 use Rattle.avp_unlang.specs.References.{AlikeIs, ReadableIs, readable, type_of}
 use Rattle.avp_unlang.specs.Selecting.{selection_of}
@@ -180,6 +183,42 @@ RelatedIs profile dictionary found relation =
     RelatedBy (is_by_meaning profile (type_of dictionary found.target.named.id)) profile dictionary
     found relation
 
+-- ---- comparisons with a pattern, of a wider policy
+
+-- a slash for each `\` and the slash after it; any other octet after a `\` stays with it
+abbrev pub unslashed : List ℕ → List ℕ
+unslashed [] = []
+unslashed (c ∷ []) = c ∷ []
+unslashed (c ∷ d ∷ cs) =
+    if not (c == backslash) then c ∷ unslashed (d ∷ cs)
+    else if d == slash then slash ∷ unslashed cs
+    else backslash ∷ d ∷ unslashed cs
+
+-- the comparison with a pattern that a token is; a plain policy has none
+abbrev pub matcher_in : Profile → Token → Option Matcher
+matcher_in Plain token = None
+matcher_in Wider (Matching m) = Some m
+matcher_in Wider _ = None
+
+abbrev pub pattern_of : Matcher → Pattern
+pattern_of m = record { text = unslashed m.pattern; flags = m.flags }
+
+abbrev pub matching_of : Dictionary → Reference → Matcher → MatchingTree
+matching_of dictionary found m = record {
+  list = found.list;
+  id = found.target.named.id;
+  selection = selection_of dictionary found.target;
+  negated = m.negated;
+  pattern = unslashed m.pattern;
+  flags = m.flags;
+}
+
+-- a reference to strings may be compared with what is a pattern
+abbrev pub MatchedBy : Dictionary → Reference → Matcher → Form Place Cond
+MatchedBy dictionary found m p c rest =
+    (type_of dictionary found.target.named.id ≡ kinds.Text) × IsPattern (pattern_of m)
+    × Gives (Match (matching_of dictionary found m)) p c rest
+
 -- ---- references
 
 -- a name with a tag asks for an instance with that tag
@@ -196,9 +235,17 @@ ComparedFrom profile dictionary found None p after c rest =
 ComparedFrom profile dictionary found (Some relation) p after c rest =
     RelatedIs profile dictionary found relation after c rest
 
+-- or a comparison with a pattern
+abbrev pub MatchedOr : Profile → Dictionary → Reference → Option Matcher → Place → Token × Place
+    → Cond → Place → Type 0
+MatchedOr profile dictionary found None p next c rest =
+    ComparedFrom profile dictionary found (relation_of next.0) p next.1 c rest
+MatchedOr profile dictionary found (Some m) p next c rest =
+    MatchedBy dictionary found m next.1 c rest
+
 abbrev pub ComparedIs : Profile → Dictionary → Reference → Form Place Cond
 ComparedIs profile dictionary found p c rest =
-    ComparedFrom profile dictionary found (relation_of (next_token p).0) p (next_token p).1 c rest
+    MatchedOr profile dictionary found (matcher_in profile (next_token p).0) p (next_token p) c rest
 
 -- after an `&`: a reference, and what it is compared with
 abbrev pub ReferredIs : Profile → Dictionary → Form Place Cond

@@ -6,8 +6,10 @@ pub mod Forms
 pub mod Lines
 pub mod Meaning
 pub mod Parts
+pub mod PatternTruth
 pub mod Places
 pub mod Policies
+pub mod PolicyPatterns
 pub mod References
 pub mod Resolutions
 pub mod Selecting

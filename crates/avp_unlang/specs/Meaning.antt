@@ -8,7 +8,7 @@ use Rattle.avp_lists.specs.declared.lists.State.{State}
 use Rattle.avp_lists.specs.declared.tags.Selection.{Selection}
 use Rattle.avp_dict.specs.Dictionary.{Dictionary}
 use Rattle.avp_unlang.specs.Resolutions.{resolution}
-use Rattle.avp_unlang.specs.Truth.{truth}
+use Rattle.avp_unlang.specs.Truth.{truth_by}
 use Rattle.avp_unlang.specs.declared.codes.Code.{Code}
 use Rattle.avp_unlang.specs.declared.codes.Code.TheVariants as code
 use Rattle.avp_unlang.specs.declared.meaning.reasons.Reason.{Reason}
@@ -110,10 +110,11 @@ all_lines dictionary entry (line ∷ others) s c =
     after_line entry (line_result dictionary line s) c (all_lines dictionary entry others)
 
 -- the first branch whose condition is true, else the last block
-abbrev pub first_true : List Choice → Meaning → Meaning
-first_true [] otherwise s c = otherwise s c
-first_true (b ∷ bs) otherwise s c =
-    if truth b.cond s c then b.block s c else first_true bs otherwise s c
+abbrev pub first_true : Dictionary → List Choice → Meaning → Meaning
+first_true dictionary [] otherwise s c = otherwise s c
+first_true dictionary (b ∷ bs) otherwise s c =
+    if truth_by dictionary b.cond s c then b.block s c
+    else first_true dictionary bs otherwise s c
 
 abbrev pub if_given : Option (List Meaning) → Meaning
 if_given None s c = running s c
@@ -126,7 +127,7 @@ after_body entry o = if o.stopped then running entry o.code else o
 abbrev pub statement_meaning : Dictionary → Statement-F Meaning Choice → Meaning
 statement_meaning dictionary (Update n lines) s c = all_lines dictionary s lines s c
 statement_meaning dictionary (If branches otherwise) s c =
-    first_true branches (if_given otherwise) s c
+    first_true dictionary branches (if_given otherwise) s c
 statement_meaning dictionary (Transaction n block) s c = after_body s (in_order block s c)
 statement_meaning dictionary (Word n word) s c = after_word word s
 

@@ -3,10 +3,13 @@
 use Rattle.std.specs.Prelude.{ℕ, zero, suc, ◌+◌, Bool, true, false, not, ◌&&◌, ◌||◌, ◌==◌, List, [], ◌∷◌, take, drop, Option, Some, None, bytes_eq, nat_eq, codes, if◌then◌else◌, option_map}
 use Rattle.std.specs.Char.{is_ascii_alphanumeric}
 use Rattle.std.specs.List.{list_any}
-use Rattle.avp_dict.specs.Ascii.{backslash, carriage_return, colon, double_quote, equals, hyphen, line_feed, number_sign, single_quote, space, tab}
+use Rattle.avp_dict.specs.Ascii.{backslash, carriage_return, colon, double_quote, equals, hyphen, line_feed, number_sign, single_quote, slash, space, tab}
+use Rattle.avp_forms.specs.declared.profiles.Profile.{Profile}
+use Rattle.avp_forms.specs.declared.profiles.Profile.TheVariants.{Plain, Wider}
+use Rattle.avp_patterns.specs.declared.flags.PatternFlags.{PatternFlags}
 use Rattle.avp_unlang.specs.Places.{Place}
 use Rattle.avp_unlang.specs.declared.text.tokens.Token.{Token}
-use Rattle.avp_unlang.specs.declared.text.tokens.Token.TheVariants.{Operator, Word, Quoted, Unreadable, End}
+use Rattle.avp_unlang.specs.declared.text.tokens.Token.TheVariants.{Operator, Word, Quoted, Matching, Unreadable, End}
 use Rattle.avp_unlang.specs.declared.text.tokens.Sign.{Sign}
 use Rattle.avp_unlang.specs.declared.text.tokens.Sign.TheVariants as sign
 use Rattle.avp_dict.specs.declared.value.quotes.QuoteMark.{QuoteMark}
@@ -118,9 +121,71 @@ unfoldable pub token_at : List ℕ → Token × List ℕ
 token_at text =
     elim (operator_at text) [ None ↦ text_at text | Some found ↦ (Operator found.0, found.1) ]
 
+-- ---- comparisons with a pattern, of a wider policy
+
+-- whether a sign is `!~`, by which a pattern may not match, or `=~`, by which it has to
+unfoldable pub match_named : List ℕ → Option Bool
+match_named text =
+    if bytes_eq text (codes "=~") then Some false
+    else if bytes_eq text (codes "!~") then Some true
+    else None
+
+-- such a sign that a text begins with, and the text after it
+abbrev pub match_sign : List ℕ → Option (Bool × List ℕ)
+match_sign [] = None
+match_sign (a ∷ []) = None
+match_sign (a ∷ b ∷ cs) = option_map (λ negated. (negated, cs)) (match_named (a ∷ b ∷ []))
+
+-- a text without the spaces and tabs at its front
+abbrev pub after_blanks : List ℕ → List ℕ
+after_blanks [] = []
+after_blanks (c ∷ cs) = if c == space || c == tab then after_blanks cs else c ∷ cs
+
+abbrev pub with_flags : Bool → Bool → Option PatternFlags
+with_flags ignore_case multi_line =
+    Some (record { ignore_case = ignore_case; multi_line = multi_line })
+
+-- the flags that letters after a pattern name, each once
+unfoldable pub flags_named : List ℕ → Option PatternFlags
+flags_named word =
+    if bytes_eq word [] then with_flags false false
+    else if bytes_eq word (codes "i") then with_flags true false
+    else if bytes_eq word (codes "m") then with_flags false true
+    else if bytes_eq word (codes "im") then with_flags true true
+    else if bytes_eq word (codes "mi") then with_flags true true
+    else None
+
+-- a pattern, and the text after its last slash, which begins with its flags
+abbrev pub flagged_at : Bool → List ℕ → List ℕ → Token × List ℕ
+flagged_at negated pattern text = elim (flags_named (take (word_length text) text)) [
+  | None ↦ (Unreadable, [])
+  | Some flags ↦ (
+    Matching (record { negated = negated; pattern = pattern; flags = flags }),
+    drop (word_length text) text,
+  )
+]
+
+abbrev pub slashed_at : Bool → List ℕ → Option ℕ → Token × List ℕ
+slashed_at negated text None = (Unreadable, [])
+slashed_at negated text (Some n) = flagged_at negated (take n text) (drop (n + 1) text)
+
+-- a pattern between slashes, the last of them on the same line and not escaped by a `\`
+abbrev pub pattern_at : Bool → List ℕ → Token × List ℕ
+pattern_at negated [] = (Unreadable, [])
+pattern_at negated (c ∷ cs) =
+    if c == slash then slashed_at negated cs (quoted_length slash false cs) else (Unreadable, [])
+
+-- In a wider policy a comparison with a pattern is one token, from its sign to its flags.
+unfoldable pub token_in : Profile → List ℕ → Token × List ℕ
+token_in Plain text = token_at text
+token_in Wider text = elim (match_sign text) [
+  | None ↦ token_at text
+  | Some found ↦ pattern_at found.0 (after_blanks found.1)
+]
+
 -- The next token of a place, and the place after it, which is on the token's line.
 unfoldable pub next_token : Place → Token × Place
 next_token p =
     let start = skipped p.line false p.text in
-    let found = token_at start.1 in
-    (found.0, record { text = found.1; line = start.0; room = p.room })
+    let found = token_in p.profile start.1 in
+    (found.0, record { text = found.1; line = start.0; room = p.room; profile = p.profile })

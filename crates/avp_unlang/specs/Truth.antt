@@ -23,6 +23,8 @@ use Rattle.avp_dict.specs.declared.entries.Kind.TheVariants as kinds
 use Rattle.avp_dict.specs.declared.forms.Form.{Form}
 use Rattle.avp_dict.specs.declared.forms.Form.TheVariants.{AsTyped}
 use Rattle.avp_forms.specs.Orders.{order_by_meaning}
+use Rattle.avp_dict.specs.Dictionary.{Dictionary}
+use Rattle.avp_unlang.specs.PatternTruth.{instance_in, is_matchable, is_matched}
 use Rattle.avp_unlang.specs.declared.codes.Code.{Code}
 use Rattle.avp_unlang.specs.declared.codes.Code.TheVariants as code
 use Rattle.avp_unlang.specs.declared.tree.Comparand.{Comparand}
@@ -30,7 +32,8 @@ use Rattle.avp_unlang.specs.declared.tree.Comparand.TheVariants.{Literal, Instan
 use Rattle.avp_unlang.specs.declared.tree.Comparison.{Comparison}
 use Rattle.avp_unlang.specs.declared.tree.Cond.{Cond}
 use Rattle.avp_unlang.specs.declared.tree.Cond.TheFolds.{fold-Cond}
-use Rattle.avp_unlang.specs.declared.tree.Cond.TheOpen.{Cond-F, Any, All, Not, Last, Present, PresentSelected, Compare, CompareMeant}
+use Rattle.avp_unlang.specs.declared.tree.Cond.TheOpen.{Cond-F, Any, All, Not, Last, Present, PresentSelected, Compare, CompareMeant, Match}
+use Rattle.avp_unlang.specs.declared.tree.Matching.{Matching}
 use Rattle.avp_unlang.specs.declared.tree.MeantComparand.{MeantComparand}
 use Rattle.avp_unlang.specs.declared.tree.MeantComparand.TheVariants as meant
 use Rattle.avp_unlang.specs.declared.tree.MeantComparison.{MeantComparison}
@@ -156,20 +159,28 @@ abbrev pub Test : Type 0
 Test = State → Code → Bool
 
 -- a condition, each part of it decided: a code is true if it is the last one, and a reference if it has an instance
-abbrev pub cond_truth : Cond-F Test → Test
-cond_truth (Any tests) s c = list_any (λ (test : Test). test s c) tests
-cond_truth (All tests) s c = list_all (λ (test : Test). test s c) tests
-cond_truth (Not test) s c = not (test s c)
-cond_truth (Last word) s c = same_code c word
-cond_truth (Present list id) s c = has_instance id (list_of list s)
-cond_truth (PresentSelected list id selection) s c =
+abbrev pub cond_truth_with : (Matching → State → Bool) → Cond-F Test → Test
+cond_truth_with matched (Any tests) s c = list_any (λ (test : Test). test s c) tests
+cond_truth_with matched (All tests) s c = list_all (λ (test : Test). test s c) tests
+cond_truth_with matched (Not test) s c = not (test s c)
+cond_truth_with matched (Last word) s c = same_code c word
+cond_truth_with matched (Present list id) s c = has_instance id (list_of list s)
+cond_truth_with matched (PresentSelected list id selection) s c =
     is_some (first_selected_instance selection id (list_of list s))
-cond_truth (Compare comparison) s c = is_met comparison s
-cond_truth (CompareMeant comparison) s c = is_met_by_meaning comparison s
+cond_truth_with matched (Compare comparison) s c = is_met comparison s
+cond_truth_with matched (CompareMeant comparison) s c = is_met_by_meaning comparison s
+cond_truth_with matched (Match matching) s c = matched matching s
 
--- whether a condition is true
+abbrev pub never_matched : Matching → State → Bool
+never_matched matching s = false
+
+-- whether a condition is true that compares with no pattern; a comparison with one counts as false
 unfoldable pub truth : Cond → Test
-truth = fold-Cond Test cond_truth
+truth = fold-Cond Test (cond_truth_with never_matched)
+
+-- whether a condition is true, by the dictionary by which values are printed
+unfoldable pub truth_by : Dictionary → Cond → Test
+truth_by dictionary = fold-Cond Test (cond_truth_with (is_matched dictionary))
 
 -- ---- what can be compared
 
@@ -191,6 +202,7 @@ cond_comparable (Present list id) s = true
 cond_comparable (PresentSelected list id selection) s = true
 cond_comparable (Compare comparison) s = is_comparable comparison s
 cond_comparable (CompareMeant comparison) s = true
+cond_comparable (Match matching) s = option_map_or is_matchable (instance_in matching s) true
 
 -- what a condition compares in a state is raw, or of the type that the condition keeps for it
 unfoldable pub comparable : Cond → State → Bool

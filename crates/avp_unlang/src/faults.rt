@@ -1,6 +1,7 @@
 ghost use Rattle.std.specs.Prelude.{◌≡◌};
 ghost use Rattle.avp_unlang.specs.declared.faults.PolicyKind.TheVariants.{Memory};
 
+use avp_patterns::PatternFault;
 use std::alloc::{AllocError, AllocFailed};
 use thiserror::Error;
 
@@ -31,6 +32,9 @@ pub enum PolicyKind {
     /// The attributes on both sides have values of different types.
     #[error("types differ")]
     OtherType,
+    /// What is written as a pattern is none; the places are those in the text of the pattern.
+    #[error("{0}")]
+    Pattern(PatternFault),
     #[error("out of memory")]
     Memory,
 }

@@ -1,10 +1,13 @@
 //! Policies read from a text.
 
+pub mod compiling;
 pub mod conditions;
 pub mod cursors;
 pub mod lines;
 pub mod meanings;
 pub mod parts;
+pub mod pattern_tokens;
+pub mod patterns;
 pub mod policies;
 pub mod positions;
 pub mod references;

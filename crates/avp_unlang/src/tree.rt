@@ -6,6 +6,7 @@ use crate::codes::Code;
 use crate::items::Items;
 use avp_dict::{Form, Kind};
 use avp_lists::{AttrId, List, Octets, Op, Selection, Value};
+use avp_patterns::PatternFlags;
 
 /// A part of a text in which values are put.
 #[derive(Debug, Drop)]
@@ -111,6 +112,19 @@ pub struct MeantComparison {
     pub comparand: MeantComparand,
 }
 
+/// A comparison in a wider policy of the first of the instances of an attribute with a pattern.
+#[derive(Debug, Drop)]
+pub struct Matching {
+    pub list: List,
+    pub id: AttrId,
+    pub selection: Selection,
+    /// Whether this is `!~`, by which the pattern may not match, and not `=~`.
+    pub negated: bool,
+    /// The text of the pattern.
+    pub pattern: Octets,
+    pub flags: PatternFlags,
+}
+
 /// What an `if` or `elsif` asks for.
 #[derive(Debug, Drop)]
 pub enum Cond {
@@ -127,6 +141,7 @@ pub enum Cond {
     PresentSelected(List, AttrId, Selection),
     Compare(Comparison),
     CompareMeant(MeantComparison),
+    Match(Matching),
 }
 
 /// A condition, and what is done where it is the first that holds.

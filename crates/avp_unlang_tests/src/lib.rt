@@ -13,6 +13,8 @@ use std::test::Fail;
 #[cfg(test)]
 mod meanings;
 #[cfg(test)]
+mod patterns;
+#[cfg(test)]
 mod tags;
 #[cfg(test)]
 mod texts;

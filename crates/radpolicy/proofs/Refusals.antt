@@ -4,6 +4,7 @@ use Rattle.radpolicy.specs.declared.faults.Fault.TheVariants.{Memory}
 use Rattle.avp_unlang.specs.declared.faults.PolicyFault.{PolicyFault}
 use Rattle.avp_unlang.specs.declared.faults.PolicyKind.{PolicyKind}
 use Rattle.avp_unlang.specs.declared.faults.PolicyKind.TheVariants as kind
+use Rattle.avp_patterns.specs.declared.faults.PatternFault.TheVariants as pattern
 use Rattle.avp_dict.specs.Dictionary.{Dictionary}
 use Rattle.avp_unlang.specs.declared.tree.Statement.{Statement}
 use Rattle.radpolicy.specs.declared.jobs.Job.{Job}
@@ -21,6 +22,12 @@ is_policy_fault line offset kind.Misplaced = inr ((λ e. cc), (λ e. cc))
 is_policy_fault line offset kind.TooDeep = inr ((λ e. cc), (λ e. cc))
 is_policy_fault line offset kind.TooLarge = inr ((λ e. cc), (λ e. cc))
 is_policy_fault line offset kind.OtherType = inr ((λ e. cc), (λ e. cc))
+is_policy_fault line offset (kind.Pattern pattern.Empty) = inr ((λ e. cc), (λ e. cc))
+is_policy_fault line offset (kind.Pattern (pattern.NotUtf8 at)) = inr ((λ e. cc), (λ e. cc))
+is_policy_fault line offset (kind.Pattern (pattern.Expansion at)) = inr ((λ e. cc), (λ e. cc))
+is_policy_fault line offset (kind.Pattern (pattern.NotRead at)) = inr ((λ e. cc), (λ e. cc))
+is_policy_fault line offset (kind.Pattern pattern.TooLarge) = inr ((λ e. cc), (λ e. cc))
+is_policy_fault line offset (kind.Pattern pattern.Memory) = inr ((λ e. cc), (λ e. cc))
 is_policy_fault line offset kind.Memory = inl refl
 
 -- a policy's fault is want of memory, or the fault of a text that spells none

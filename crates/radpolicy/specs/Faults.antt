@@ -12,6 +12,8 @@ use Rattle.avp_packet.specs.declared.faults.PacketFault.TheVariants as packet
 use Rattle.avp_packet.specs.declared.faults.EncodeFault.{EncodeFault}
 use Rattle.avp_packet.specs.declared.faults.EncodeFault.TheVariants as encode
 use Rattle.avp_unlang.specs.declared.faults.PolicyKind.{PolicyKind}
+use Rattle.avp_patterns.specs.declared.faults.PatternFault.{PatternFault}
+use Rattle.avp_patterns.specs.declared.faults.PatternFault.TheVariants as pattern
 use Rattle.avp_unlang.specs.declared.faults.PolicyKind.TheVariants as policy
 use Rattle.avp_unlang.specs.declared.faults.PolicyFault.{PolicyFault}
 use Rattle.radpolicy.specs.declared.faults.Fault.{Fault}
@@ -66,6 +68,15 @@ packet_fault_row packet.WrongMessageAuthenticator =
     numbered 47 (codes "wrong Message-Authenticator")
 packet_fault_row packet.Memory = out_of_memory
 
+-- the faults of patterns in them
+abbrev pub pattern_fault_row : PatternFault → FaultRow
+pattern_fault_row pattern.Empty = numbered 56 (codes "empty pattern")
+pattern_fault_row (pattern.NotUtf8 offset) = numbered 57 (codes "pattern not UTF-8")
+pattern_fault_row (pattern.Expansion offset) = numbered 58 (codes "expansion in a pattern")
+pattern_fault_row (pattern.NotRead offset) = numbered 59 (codes "not a pattern")
+pattern_fault_row pattern.TooLarge = numbered 60 (codes "pattern too large")
+pattern_fault_row pattern.Memory = out_of_memory
+
 -- the faults of policies
 abbrev pub policy_fault_row : PolicyKind → FaultRow
 policy_fault_row policy.NotValue = numbered 30 (codes "not a value")
@@ -77,6 +88,7 @@ policy_fault_row policy.Misplaced = numbered 51 (codes "token does not fit")
 policy_fault_row policy.TooDeep = numbered 53 (codes "nested too deep")
 policy_fault_row policy.TooLarge = numbered 54 (codes "policy too large")
 policy_fault_row policy.OtherType = numbered 55 (codes "types differ")
+policy_fault_row (policy.Pattern fault) = pattern_fault_row fault
 policy_fault_row policy.Memory = out_of_memory
 
 -- all faults

@@ -2,10 +2,11 @@
 
 ghost use Rattle.std.specs.Prelude.{◌≡◌};
 ghost use Rattle.radpolicy.specs.declared.faults.Fault.TheVariants.{Memory};
-ghost use Rattle.radpolicy.specs.Faults.{dict_fault_row, fault_number, fault_of_control_line, fault_of_dict, fault_of_encode, fault_of_line, fault_of_packet, fault_of_policy, fault_of_reply_line, fault_row, fault_text, is_memory, line_fault_row, numbered, out_of_memory, packet_fault_row, policy_fault_row, status_of};
+ghost use Rattle.radpolicy.specs.Faults.{dict_fault_row, fault_number, fault_of_control_line, fault_of_dict, fault_of_encode, fault_of_line, fault_of_packet, fault_of_policy, fault_of_reply_line, fault_row, fault_text, is_memory, line_fault_row, numbered, out_of_memory, packet_fault_row, pattern_fault_row, policy_fault_row, status_of};
 
 use avp_dict::{DictFault, DictKind, LineFault, LineKind};
 use avp_packet::{EncodeFault, PacketFault};
+use avp_patterns::PatternFault;
 use avp_unlang::{PolicyFault, PolicyKind};
 use std::alloc::{AllocError, AllocFailed};
 use std::marker::Model;
@@ -205,6 +206,20 @@ fn packet_fault_row(fault: PacketFault) -> FaultRow
     }
 }
 
+// The faults of patterns.
+fn pattern_fault_row(fault: PatternFault) -> FaultRow
+    ensures { result ≡ pattern_fault_row fault }
+{
+    match fault {
+        PatternFault::Empty => numbered(56, "empty pattern"),
+        PatternFault::NotUtf8(_) => numbered(57, "pattern not UTF-8"),
+        PatternFault::Expansion(_) => numbered(58, "expansion in a pattern"),
+        PatternFault::NotRead(_) => numbered(59, "not a pattern"),
+        PatternFault::TooLarge => numbered(60, "pattern too large"),
+        PatternFault::Memory => out_of_memory(),
+    }
+}
+
 // The faults of policies.
 fn policy_fault_row(kind: PolicyKind) -> FaultRow
     ensures { result ≡ policy_fault_row kind }
@@ -219,6 +234,7 @@ fn policy_fault_row(kind: PolicyKind) -> FaultRow
         PolicyKind::TooDeep => numbered(53, "nested too deep"),
         PolicyKind::TooLarge => numbered(54, "policy too large"),
         PolicyKind::OtherType => numbered(55, "types differ"),
+        PolicyKind::Pattern(fault) => pattern_fault_row(fault),
         PolicyKind::Memory => out_of_memory(),
     }
 }

@@ -5,6 +5,7 @@ use Rattle.std.specs.declared.alloc.AllocError.{AllocError}
 use Rattle.avp_lists.specs.History.{History, continued, present, state_at}
 use Rattle.avp_lists.specs.declared.lists.State.{State}
 use Rattle.avp_dict.specs.Dictionary.{Dictionary}
+use Rattle.avp_patterns.specs.Patterns.{Written}
 use Rattle.avp_unlang.specs.Meaning.{Outcome, Edited, Failed, line_result}
 use Rattle.avp_unlang.specs.Resolutions.{StateFits}
 use Rattle.avp_unlang.specs.declared.meaning.reasons.Reason.{Reason}
@@ -17,30 +18,36 @@ use Rattle.avp_step.specs.declared.frames.TheConstants.{MAX_FRAMES}
 use Rattle.avp_step.specs.declared.marks.Mark.{Mark}
 
 -- a store's history, and the place up to which it has room; and what is still to run over it, as frames, the innermost
--- first
+-- first, with the patterns that it may compare with
 pub record Course : Type 0 where
   pub dictionary : Dictionary
+  pub patterns : List Written
   pub history : History
   pub reach : ℕ
   pub frames : List Frame
 
-abbrev pub course_of : Dictionary → History → ℕ → List Frame → Course
-course_of dictionary h room frames =
-    record { dictionary = dictionary; history = h; reach = h.place + room; frames = reverse frames }
+abbrev pub course_of : Dictionary → List Written → History → ℕ → List Frame → Course
+course_of dictionary patterns h room frames = record {
+  dictionary = dictionary;
+  patterns = patterns;
+  history = h;
+  reach = h.place + room;
+  frames = reverse frames;
+}
 
 abbrev pub with_frame : Frame → Course → Course
 with_frame f m = record m { frames = f ∷ m.frames }
 
 -- a frame fits above the others
 abbrev pub FitsOn : Course → Frame → Type 0
-FitsOn m f = Fits m.dictionary (length m.history.states) m.frames f
+FitsOn m f = Fits m.dictionary m.patterns (length m.history.states) m.frames f
 
 -- each state fits the dictionary
 abbrev pub StatesFit : Dictionary → History → Type 0
 StatesFit dictionary h = All (StateFits dictionary) h.states
 
 pub record IsSound (m : Course) (most : ℕ) : Type 0 where
-  pub frames : AllFit m.dictionary (length m.history.states) m.frames
+  pub frames : AllFit m.dictionary m.patterns (length m.history.states) m.frames
   pub states : StatesFit m.dictionary m.history
   pub capacity : MAX_FRAMES ≤ most
 

@@ -3,6 +3,8 @@ use Rattle.std.specs.Prelude.{◌≤◌, ◌<◌, ℕ, ◌+◌, max, Bool, true,
 use Rattle.std.specs.List.{list_all}
 use Rattle.avp_lists.specs.declared.lists.State.{State}
 use Rattle.avp_dict.specs.Dictionary.{Dictionary}
+use Rattle.avp_patterns.specs.Patterns.{Written}
+use Rattle.avp_unlang.specs.PolicyPatterns.{branches_pass, else_passes, is_among, policy_patterns_pass}
 use Rattle.avp_unlang.specs.Suiting.{branches_suit, else_suits, policy_suits}
 use Rattle.avp_unlang.specs.Resolutions.{line_suits}
 use Rattle.avp_unlang.specs.declared.tree.Statement.{Statement}
@@ -35,7 +37,8 @@ frame_steps dictionary at (Lines ls entry) o =
     unless_stopped (line_steps dictionary (at entry) ls.now) o
 frame_steps dictionary at (Branches bs otherwise) o =
     unless_stopped
-    (branch_steps (map (guarded dictionary) bs.now) (else_steps dictionary otherwise.now)) o
+    (branch_steps dictionary (map (guarded dictionary) bs.now) (else_steps dictionary otherwise.now))
+    o
 frame_steps dictionary at (End n entry) o = closed n (at entry) o ∷ []
 
 -- the steps of all frames
@@ -65,16 +68,28 @@ frame_suits dictionary (Branches bs otherwise) =
     branches_suit dictionary bs.now && else_suits dictionary otherwise.now
 frame_suits dictionary (End n entry) = true
 
--- above these frames it has the room that it may need; it names a position before the end; and it fits the dictionary
-pub record Fits (dictionary : Dictionary) (end : ℕ) (fs : List Frame) (f : Frame) : Type 0 where
+-- what is still to come of it compares with no pattern but these
+abbrev pub frame_passes : List Written → Frame → Bool
+frame_passes patterns (Statements ss) = policy_patterns_pass (is_among patterns) ss.now
+frame_passes patterns (Lines ls entry) = true
+frame_passes patterns (Branches bs otherwise) =
+    branches_pass (is_among patterns) bs.now && else_passes (is_among patterns) otherwise.now
+frame_passes patterns (End n entry) = true
+
+-- above these frames it has the room that it may need; it names a position before the end; it fits the dictionary; and
+-- it compares with these patterns
+pub record Fits (dictionary : Dictionary) (patterns : List Written) (end : ℕ) (fs : List Frame)
+    (f : Frame) : Type 0 where
   pub room : length fs + 1 + frame_depth f ≤ MAX_FRAMES
   pub entry : frame_entry f < end
   pub suits : IsTrue (frame_suits dictionary f)
+  pub passes : IsTrue (frame_passes patterns f)
 
 -- each frame fits above the others
-abbrev pub AllFit : Dictionary → ℕ → List Frame → Type 0
-AllFit dictionary end [] = Unit {0}
-AllFit dictionary end (f ∷ fs) = Fits dictionary end fs f × AllFit dictionary end fs
+abbrev pub AllFit : Dictionary → List Written → ℕ → List Frame → Type 0
+AllFit dictionary patterns end [] = Unit {0}
+AllFit dictionary patterns end (f ∷ fs) =
+    Fits dictionary patterns end fs f × AllFit dictionary patterns end fs
 
 -- ---- what a search for the next step may pass
 

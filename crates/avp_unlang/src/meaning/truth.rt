@@ -35,7 +35,7 @@ fn number_order(value: &Value, other: &Value) -> Option<Ordering>
     }
 }
 
-fn same_code(code: Code, word: Code) -> bool
+pub(crate) fn same_code(code: Code, word: Code) -> bool
     ensures { result ≡ same_code code word }
 {
     code == word
@@ -106,7 +106,7 @@ fn compared_with<'a, S: Store>(comparand: &'a Comparand, store: &'a S) -> Option
     }
 }
 
-fn is_met<S: Store>(comparison: &Comparison, store: &S) -> bool
+pub(crate) fn is_met<S: Store>(comparison: &Comparison, store: &S) -> bool
     requires { IsTrue (is_comparable comparison.now (present (S.history store.now))) }
     ensures { result ≡ is_met comparison.now (present (S.history store.now)) }
 {
@@ -167,7 +167,7 @@ fn meets_if_ordered(relation: Relation, order: Option<Ordering>) -> bool
     }
 }
 
-fn is_met_by_meaning<S: Store>(comparison: &MeantComparison, store: &S) -> bool
+pub(crate) fn is_met_by_meaning<S: Store>(comparison: &MeantComparison, store: &S) -> bool
     ensures { result ≡ is_met_by_meaning comparison.now (present (S.history store.now)) }
 {
     let MeantComparison {
@@ -222,7 +222,7 @@ fn all_hold<S: Store>(conds: &[Cond], store: &S, code: Code) -> bool
 
 /// Whether a condition is true of a store's present lists, `code` being the last code. It takes no memory.
 #[cycle(conditions)]
-#[tactic(auto, using(crate::proofs::Truths::truth_any, crate::proofs::Truths::truth_all, crate::proofs::Truths::truth_not, crate::proofs::Truths::truth_last, crate::proofs::Truths::truth_present, crate::proofs::Truths::truth_present_selected, crate::proofs::Truths::truth_compare, crate::proofs::Truths::truth_compare_meant, crate::proofs::Truths::comparable_any, crate::proofs::Truths::comparable_all, crate::proofs::Truths::comparable_not, crate::proofs::Truths::comparable_compare))]
+#[tactic(auto, using(crate::proofs::Truths::truth_any, crate::proofs::Truths::truth_all, crate::proofs::Truths::truth_not, crate::proofs::Truths::truth_last, crate::proofs::Truths::truth_present, crate::proofs::Truths::truth_present_selected, crate::proofs::Truths::truth_compare, crate::proofs::Truths::truth_compare_meant, crate::proofs::Truths::truth_match, crate::proofs::Truths::comparable_any, crate::proofs::Truths::comparable_all, crate::proofs::Truths::comparable_not, crate::proofs::Truths::comparable_compare))]
 pub fn holds<S: Store>(cond: &Cond, store: &S, code: Code) -> bool
     requires comparable { IsTrue (comparable cond.now (present (S.history store.now))) }
     ensures { result ≡ truth cond.now (present (S.history store.now)) code }
@@ -238,5 +238,6 @@ pub fn holds<S: Store>(cond: &Cond, store: &S, code: Code) -> bool
         }
         Cond::Compare(comparison) => is_met(comparison, store),
         Cond::CompareMeant(comparison) => is_met_by_meaning(comparison, store),
+        Cond::Match(_) => false,
     }
 }

@@ -13,6 +13,7 @@ use crate::faults::{PolicyFault, PolicyKind, Position, fault_at};
 use crate::items::Items;
 use crate::text::cursors::{Cursor, Read};
 use crate::text::meanings::related_by_meaning;
+use crate::text::patterns::{matched, matcher_in};
 use crate::text::references::{Reference, readable, referred, type_of};
 use crate::text::selecting::selection_of;
 use crate::text::tokens::{Excerpt, Sign, Token, front};
@@ -202,6 +203,16 @@ fn compared<'a>(
     ensures read { Reads (ComparedIs profile dictionary.now found at.entry) result }
     ensures shorter { IfOk result (λ x. length x.1.text ≤ length at.entry.text) }
 {
+    if let Some(matcher) = matcher_in(profile, at.token()) {
+        return matched(
+            alloc,
+            dictionary,
+            found,
+            &matcher,
+            at.position(),
+            at.after(),
+        );
+    }
     let Some(relation) = relation_of(at.token()) else {
         return Ok((present_of(dictionary, found), at));
     };

@@ -8,7 +8,9 @@ ghost use Rattle.avp_unlang.specs.Between.{Counts, Follows};
 ghost use Rattle.avp_unlang.specs.declared.text.tokens.Token.TheVariants.{End, Operator, Word};
 
 use crate::faults::{PolicyFault, PolicyKind, Position, fault_at};
-use crate::text::tokens::{Sign, Token, front, token_at};
+use crate::text::pattern_tokens::token_in;
+use crate::text::tokens::{Sign, Token, front};
+use avp_forms::{Profile, profile_of};
 use std::marker::Model;
 
 /// A place in a policy text: what is left of it, on which line that begins, and how much may still be added to the
@@ -21,6 +23,8 @@ pub(crate) struct Cursor<'a> {
     room: usize,
     // How many octets the whole text has.
     whole: usize,
+    // That of the whole text.
+    profile: Profile,
     // The next token, where it begins, and the text after it.
     token: Token<'a>,
     position: Position,
@@ -33,9 +37,14 @@ impl<'a> Model for Cursor<'a> {
 
     ghost Value = { Place };
 
-    ghost view = { λ c. record { text = c.text.now; line = c.before.line; room = c.room } };
+    ghost view = { λ c. record {
+      text = c.text.now;
+      line = c.before.line;
+      room = c.room;
+      profile = c.profile;
+    } };
 
-    ghost invariant = { λ c. IsAhead c.text.now c.before.line c.token c.position.line c.rest.now };
+    ghost invariant = { λ c. IsAhead c.profile c.text.now c.before.line c.token c.position.line c.rest.now };
 }
 
 /// What a reader answers: what it read, and the place after it.
@@ -84,18 +93,30 @@ pub(crate) const MAX_SIZE: usize = 65_535;
 
 impl<'a> Cursor<'a> {
     // A place from its text on, in a text of so many octets.
-    fn at(text: &'a [u8], before: Position, room: usize, whole: usize) -> Cursor<'a>
+    fn at(
+        text: &'a [u8],
+        before: Position,
+        room: usize,
+        whole: usize,
+        profile: Profile,
+    ) -> Cursor<'a>
         requires { before.line + length text.now < 2 ^ 64 }
-        ensures { result ≡ record { text = text.now; line = before.line; room = room } }
+        ensures { result ≡ record {
+          text = text.now;
+          line = before.line;
+          room = room;
+          profile = profile;
+        } }
     {
         let (line, start) = skipped(before.line, text);
         let offset = whole.saturating_sub(start.len());
-        let (token, rest) = token_at(start);
+        let (token, rest) = token_in(profile, start);
         Cursor {
             text,
             before,
             room,
             whole,
+            profile,
             token,
             position: Position { line, offset },
             rest,
@@ -107,7 +128,7 @@ impl<'a> Cursor<'a> {
         ensures { result ≡ start_of text.now }
     {
         let start = Position { line: 1, offset: 0 };
-        Cursor::at(text, start, MAX_SIZE, text.len())
+        Cursor::at(text, start, MAX_SIZE, text.len(), profile_of(text))
     }
 
     /// How much may still be added to the size.
@@ -172,7 +193,13 @@ impl<'a> Cursor<'a> {
         ensures shorter { (next_token self.now).0 ≢ End
             → length result.text < length self.now.text }
     {
-        Cursor::at(self.rest, self.position, self.room, self.whole)
+        Cursor::at(
+            self.rest,
+            self.position,
+            self.room,
+            self.whole,
+            self.profile,
+        )
     }
 
     /// The next token, and the place after it.

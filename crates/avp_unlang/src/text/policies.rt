@@ -3,23 +3,27 @@
 ghost use Rattle.std.specs.Prelude.{◌≡◌, ◌≢◌, ◌≤◌, ℕ, List, length, take, IfErr, IfOk, IsTrue};
 ghost use Rattle.avp_dict.specs.Dictionary.{Dictionary};
 ghost use Rattle.avp_dict.specs.LineNumbers.{line_after};
+ghost use Rattle.avp_forms.specs.Profiles.{profile_of};
 ghost use Rattle.avp_unlang.specs.declared.faults.PolicyKind.TheVariants.{Memory};
 ghost use Rattle.avp_unlang.specs.declared.tree.Statement.{Statement as Tree};
 ghost use Rattle.avp_unlang.specs.Cleanness.{KeepsReplyClean};
 ghost use Rattle.avp_unlang.specs.Faults.{BeginsToken};
-ghost use Rattle.avp_unlang.specs.Forms.{ReadsAll};
+ghost use Rattle.avp_unlang.specs.Forms.{ReadsPolicy};
 ghost use Rattle.avp_unlang.specs.Places.{max_size};
 ghost use Rattle.avp_unlang.specs.Policies.{SpellsPolicy};
+ghost use Rattle.avp_unlang.specs.PolicyPatterns.{is_among, policy_patterns_pass};
 ghost use Rattle.avp_unlang.specs.Sizes.{size_of};
 ghost use Rattle.avp_unlang.specs.Suiting.{IsSpelled, policy_suits};
 
 use crate::faults::PolicyFault;
+use crate::text::compiling::patterns_of;
 use crate::text::cursors::{Cursor, MAX_SIZE};
 use crate::text::statements::statements;
 use crate::text::tokens::Token;
 use crate::tree::Block;
 use avp_dict::Dictionary;
 use avp_forms::profile_of;
+use avp_patterns::Pattern;
 use std::alloc::Global;
 use std::marker::Model;
 
@@ -27,16 +31,19 @@ use std::marker::Model;
 const MAX_NESTED: usize = 64;
 
 /// A policy that was read, seen by contracts as its statements.
-#[derive(Debug, Drop)]
+#[derive(Drop)]
 pub struct Policy {
     statements: Block,
     size: usize,
+    // Each once.
+    patterns: Vec<Pattern>,
 }
 
 impl Model for Policy {
-    ghost use Rattle.std.specs.Prelude.{◌≡◌, ◌≤◌, List};
+    ghost use Rattle.std.specs.Prelude.{◌≡◌, ◌≤◌, IsTrue, List};
     ghost use Rattle.avp_unlang.specs.declared.tree.Statement.{Statement};
     ghost use Rattle.avp_unlang.specs.Places.{max_size};
+    ghost use Rattle.avp_unlang.specs.PolicyPatterns.{is_among, policy_patterns_pass};
     ghost use Rattle.avp_unlang.specs.Sizes.{size_of};
     ghost use Rattle.avp_unlang.specs.contracts.tree.Statement as e;
     ghost use Rattle.std.specs.Coded.{codes};
@@ -47,7 +54,9 @@ impl Model for Policy {
 
     ghost view = { λ p. p.statements };
 
-    ghost invariant = { λ p. (p.size ≡ size_of p.statements) × (p.size ≤ max_size) };
+    ghost invariant = { λ p. (p.size ≡ size_of p.statements)
+        × (p.size ≤ max_size)
+        × IsTrue (policy_patterns_pass (is_among p.patterns.items) p.statements) };
 }
 
 impl Policy {
@@ -56,6 +65,13 @@ impl Policy {
         ensures { result.now ≡ self.now }
     {
         &self.statements
+    }
+
+    /// The patterns that the conditions compare with, compiled, each once. A plain policy has none.
+    pub fn patterns(&self) -> &[Pattern]
+        ensures { IsTrue (policy_patterns_pass (is_among result.now) self.now) }
+    {
+        self.patterns.as_slice()
     }
 }
 
@@ -76,17 +92,21 @@ pub fn size(policy: &Policy) -> usize
 
 // The policy that a text spells. A fault has the place of the token that was refused.
 fn policy_of(alloc: Global, dictionary: &Dictionary, text: &[u8]) -> Result<Policy, PolicyFault>
-    ensures read { ReadsAll (SpellsPolicy dictionary.now text.now) result }
+    ensures read { ReadsPolicy (profile_of text.now) (SpellsPolicy dictionary.now text.now) result }
     ensures suits { IfOk result (λ policy. IsTrue (policy_suits dictionary.now policy)) }
 {
     dictionary.is_sound();
     let profile = profile_of(text);
     let (statements, end) = statements(alloc, profile, dictionary, MAX_NESTED, Cursor::new(text))?;
     match end.token() {
-        Token::End => Ok(Policy {
-            statements,
-            size: MAX_SIZE - end.room(),
-        }),
+        Token::End => {
+            let patterns = patterns_of(alloc, profile, text, statements.as_slice())?;
+            Ok(Policy {
+                statements,
+                size: MAX_SIZE - end.room(),
+                patterns,
+            })
+        }
         _ => Err(end.misplaced()),
     }
 }
@@ -95,6 +115,9 @@ fn policy_of(alloc: Global, dictionary: &Dictionary, text: &[u8]) -> Result<Poli
 /// token that was refused: at a name, or at a value, of which a text between quotes is one, whatever is in it. Where no
 /// value may be written under the name of an update line or a comparison, this is found at the operator or the source,
 /// but the fault is at the name.
+///
+/// The patterns of a wider policy are compiled, each once. One for which 256 KiB are not enough, or for which 16 MiB for
+/// all of them are not, is refused as too large, at its comparison.
 ///
 /// ```rust
 /// let text = b"update reply { Session-Timeout := 600 }\nreject";
@@ -109,7 +132,7 @@ pub fn read_policy(
     dictionary: &Dictionary,
     text: &[u8],
 ) -> Result<Policy, PolicyFault>
-    ensures read { ReadsAll (SpellsPolicy dictionary.now text.now) result }
+    ensures read { ReadsPolicy (profile_of text.now) (SpellsPolicy dictionary.now text.now) result }
     // Its attributes are known, its literals fit, and what it compares is of one type.
     ensures suits { IfOk result (λ policy. IsTrue (policy_suits dictionary.now policy)) }
 

@@ -7,11 +7,13 @@ ghost use Rattle.avp_unlang.specs.Faults.{BeginsToken, from_token};
 
 use crate::faults::{OUT_OF_MEMORY, PolicyFault, PolicyKind};
 use crate::text::cursors::skipped;
-use crate::text::tokens::{Token, token_at};
+use crate::text::pattern_tokens::token_in;
+use crate::text::tokens::Token;
 use avp_dict::line_after;
+use avp_forms::profile_of;
 
-// A text from its first token on.
-fn from_token(text: &[u8]) -> &[u8]
+/// A text from its first token on.
+pub(crate) fn from_token(text: &[u8]) -> &[u8]
     ensures same { result.now ≡ from_token text.now }
     ensures shorter { length result.now ≤ length text.now }
 {
@@ -24,9 +26,10 @@ fn token_from(text: &[u8], offset: usize) -> usize
     ensures within { result ≤ length text.now }
     ensures token { BeginsToken result text.now }
 {
+    let profile = profile_of(text);
     let mut start = from_token(text);
     while text.len() - start.len() < offset {
-        let (token, rest) = token_at(start);
+        let (token, rest) = token_in(profile, start);
         if matches!(token, Token::End) {
             break;
         }

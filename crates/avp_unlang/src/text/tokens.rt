@@ -5,6 +5,7 @@ ghost use Rattle.avp_unlang.specs.declared.text.tokens.Token.TheVariants.{End};
 ghost use Rattle.avp_unlang.specs.Tokens.{is_in_word, word_length, quoted_length, quoted_at, word_at, sign_named, operator_at, quote_of, text_at, token_at};
 
 use avp_dict::QuoteMark;
+use avp_patterns::PatternFlags;
 use std::marker::Model;
 
 /// A run of octets of the text, seen by contracts as their list.
@@ -66,6 +67,16 @@ pub(crate) enum Sign {
     AtLeast,
 }
 
+/// A comparison with a pattern.
+#[derive(Drop)]
+pub(crate) struct Matcher<'a> {
+    /// Whether its sign is `!~` and not `=~`.
+    pub negated: bool,
+    /// The octets between the slashes, as they are in the text.
+    pub pattern: Excerpt<'a>,
+    pub flags: PatternFlags,
+}
+
 /// What a text begins with, after blanks and comments.
 #[derive(Drop)]
 pub(crate) enum Token<'a> {
@@ -73,6 +84,8 @@ pub(crate) enum Token<'a> {
     Word(Excerpt<'a>),
     /// The octets between the quotes, as they are in the text.
     Quoted(QuoteMark, Excerpt<'a>),
+    /// `=~` or `!~` in a wider policy, and a pattern.
+    Matching(Matcher<'a>),
     /// No token begins here.
     Unreadable,
     /// The end of the text.
@@ -101,6 +114,18 @@ impl<'a> Excerpt<'a> {
     }
 }
 
+impl<'a> Matcher<'a> {
+    pub(crate) fn copy(&self) -> Matcher<'a>
+        ensures { result ≡ self.now }
+    {
+        Matcher {
+            negated: self.negated,
+            pattern: self.pattern.copy(),
+            flags: self.flags,
+        }
+    }
+}
+
 impl<'a> Token<'a> {
     pub(crate) fn copy(&self) -> Token<'a>
         ensures { result ≡ self.now }
@@ -109,6 +134,7 @@ impl<'a> Token<'a> {
             Token::Operator(sign) => Token::Operator(*sign),
             Token::Word(text) => Token::Word(text.copy()),
             Token::Quoted(mark, text) => Token::Quoted(*mark, text.copy()),
+            Token::Matching(matcher) => Token::Matching(matcher.copy()),
             Token::Unreadable => Token::Unreadable,
             Token::End => Token::End,
         }
@@ -149,7 +175,7 @@ pub(crate) fn word_length(text: &[u8]) -> usize
     count
 }
 
-fn quoted_length(closing: u8, text: &[u8]) -> Option<usize>
+pub(crate) fn quoted_length(closing: u8, text: &[u8]) -> Option<usize>
     ensures same { result ≡ quoted_length closing false text.now }
     ensures within { IfSome result (λ n. n < length text.now) }
 {

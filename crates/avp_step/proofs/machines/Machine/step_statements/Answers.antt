@@ -13,12 +13,12 @@ use Rattle.avp_step.proofs.machines.Machine.step_statements.Goals as goal
 pub put-requires-in-If : goal.put-requires-in-If
 put-requires-in-If g c =
     let split = front c.args.statements.now c.statement-item.result c.in-len1-up.len_at_least c.statement-item.is in
-    fits_moved _ _ _ c.put.ensures (if_fits _ _ _ c.args.statements _ _ split c.requires.fits _ _ _ _ c.in-If.is c.as_slice-in-If.ensures refl)
+    fits_moved _ _ _ c.put.ensures (if_fits _ _ _ _ c.args.statements _ _ split c.requires.fits _ _ _ _ c.in-If.is c.as_slice-in-If.ensures refl)
 
 pub put-requires-in-Transaction-2 : goal.put-requires-in-Transaction-2
 put-requires-in-Transaction-2 g c =
     let split = front c.args.statements.now c.statement-item.result c.in-len1-up.len_at_least c.statement-item.is in
-    fits_moved _ _ _ (c.put-in-Transaction.ensures ∙ ap (with_frame (End c.in-Transaction.line c.place-place.result)) c.put.ensures) (body_fits _ _ _ c.args.statements _ _ split c.requires.fits _ _ _ c.in-Transaction.is _ c.as_slice-in-Transaction.ensures)
+    fits_moved _ _ _ (c.put-in-Transaction.ensures ∙ ap (with_frame (End c.in-Transaction.line c.place-place.result)) c.put.ensures) (body_fits _ _ _ _ c.args.statements _ _ split c.requires.fits _ _ _ c.in-Transaction.is _ c.as_slice-in-Transaction.ensures)
 
 pub returns-in-Update-clause-step : goal.returns-in-Update-clause-step
 returns-in-Update-clause-step g c =

@@ -5,6 +5,7 @@ use Rattle.avp_unlang.proofs.SpelledSuits.{spelled_policy_suits}
 use Rattle.avp_unlang.specs.internal.Depth.{depth_of}
 use Rattle.avp_unlang.specs.Meaning.{meaning_of}
 use Rattle.avp_unlang.specs.Sizes.{size_of}
+use Rattle.avp_unlang.specs.PolicyPatterns.{is_among, policy_patterns_pass}
 use Rattle.avp_unlang.specs.Suiting.{policy_suits}
 use Rattle.avp_unlang.specs.declared.codes.Code.TheVariants as code
 use Rattle.avp_step.specs.Walk.{last_outcome}
@@ -25,10 +26,14 @@ new-requires-clause-suits g c =
     ap (policy_suits c.args.dictionary.now) (c.as_slice-statements.ensures ∙ c.statements.ensures)
     ∙ spelled_policy_suits c.args.dictionary.now c.is_sound.ensures.sound c.requires.policy.0 c.args.policy.now c.requires.policy.1
 
+pub new-requires-clause-passes : goal.new-requires-clause-passes
+new-requires-clause-passes g c =
+    ap (policy_patterns_pass (is_among c.patterns-patterns.result.now)) (c.as_slice-statements.ensures ∙ c.statements.ensures) ∙ c.patterns-patterns.ensures
+
 pub invariant_of-result : goal.invariant_of-result
 invariant_of-result g c =
     let same : c.as_slice-statements.result.now ≡ c.args.policy.now = c.as_slice-statements.ensures ∙ c.statements.ensures in
-    start_held _ c.as_slice-statements.result (g.S.Store.history c.args.store) _ _ _ _ c.size-size.result _ c.in_ok-machine.ensures.start c.in-Ok.ensures.items c.put_mark.ensures.items (c.size-size.ensures.count ∙ ap size_of (sym same)) c.in_ok-machine.ensures.room (omega (arith, c.in-Ok.ensures.capacity, c.put_mark.ensures.capacity))
+    start_held _ _ c.as_slice-statements.result (g.S.Store.history c.args.store) _ _ _ _ c.size-size.result _ c.in_ok-machine.ensures.start c.in-Ok.ensures.items c.put_mark.ensures.items (c.size-size.ensures.count ∙ ap size_of (sym same)) c.in_ok-machine.ensures.room (omega (arith, c.in-Ok.ensures.capacity, c.put_mark.ensures.capacity))
 
 pub returns-clause-last : goal.returns-clause-last
 returns-clause-last g c =

@@ -4,7 +4,7 @@ use Rattle.avp_unlang.proofs.text.positions.token_from.Given as goal
 
 abbrev pub invariant-loop-start : goal.invariant-loop-start
 invariant-loop-start l = record {
-  token : (n : ℕ) × (from_token_after n l.text ≡ l.start);
+  token : (n : ℕ) × (from_token_after l.profile n l.text ≡ l.start);
   within : length l.start ≤ length l.text;
 }
 

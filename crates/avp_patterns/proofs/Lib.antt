@@ -1,0 +1,5 @@
+mod Expansions
+mod Languages
+mod Readings
+pub mod Refusals
+mod Searches

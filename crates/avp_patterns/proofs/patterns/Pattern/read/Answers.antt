@@ -1,0 +1,19 @@
+use Rattle.std.proofs.Common.{◌∙◌}
+use Rattle.avp_patterns.proofs.Readings.{is_pattern_compiled}
+use Rattle.avp_patterns.proofs.patterns.Pattern.read.Goals as goal
+
+pub invariant_of-result : goal.invariant_of-result
+invariant_of-result c = (
+  c.in_ok-regex.ensures.config,
+  c.in_ok-regex.ensures.read,
+  is_pattern_compiled c.in_ok-regex.regex c.args.flags c.args.text.now (c.in_ok-regex.ensures.source ∙ c.in-Ok.ensures.same) c.in-Ok.ensures.plain
+      c.in_ok-regex.ensures.config c.in_ok-regex.ensures.read,
+)
+
+pub returns-clause-read : goal.returns-clause-read
+returns-clause-read c =
+    is_pattern_compiled c.in_ok-regex.regex c.args.flags c.args.text.now (c.in_ok-regex.ensures.source ∙ c.in-Ok.ensures.same) c.in-Ok.ensures.plain
+    c.in_ok-regex.ensures.config c.in_ok-regex.ensures.read
+
+pub returns-in-Err-clause-refused : goal.returns-in-Err-clause-refused
+returns-in-Err-clause-refused c = c.in-Err.ensures.refused c.args.flags

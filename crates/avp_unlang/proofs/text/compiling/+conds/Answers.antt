@@ -1,0 +1,44 @@
+use Rattle.std.proofs.Common.{◌≡◌, IsTrue, OnOk, ap, sym, ◌∙◌, subst}
+use Rattle.std.specs.List.{list_all}
+use Rattle.avp_unlang.specs.PolicyPatterns.{cond_patterns_pass, is_among}
+use Rattle.avp_unlang.proofs.KeptPatterns.{another_passes, cond_kept}
+use Rattle.avp_unlang.proofs.Truths.{passes_all, passes_any, passes_match, passes_not}
+use Rattle.avp_unlang.proofs.text.compiling.+conds.Goals as goal
+
+pub compile_cond-returns-in-Any-clause-pass : goal.compile_cond-returns-in-Any-clause-pass
+compile_cond-returns-in-Any-clause-pass t c =
+    let test = is_among c.compile_conds.new.compiled in
+    subst (λ b. OnOk c.compile_conds.result (IsTrue b))
+    (ap (list_all (cond_patterns_pass test)) c.as_slice.ensures ∙ sym (ap (cond_patterns_pass test) c.in-Any.is ∙ passes_any test c.in-Any.conds))
+    c.compile_conds.ensures.pass
+
+pub compile_cond-returns-in-All-clause-pass : goal.compile_cond-returns-in-All-clause-pass
+compile_cond-returns-in-All-clause-pass t c =
+    let test = is_among c.compile_conds-in-All.new.compiled in
+    subst (λ b. OnOk c.compile_conds-in-All.result (IsTrue b))
+    (ap (list_all (cond_patterns_pass test)) c.as_slice-in-All.ensures ∙ sym (ap (cond_patterns_pass test) c.in-All.is ∙ passes_all test c.in-All.conds))
+    c.compile_conds-in-All.ensures.pass
+
+pub compile_cond-returns-in-Not-clause-pass : goal.compile_cond-returns-in-Not-clause-pass
+compile_cond-returns-in-Not-clause-pass t c =
+    let test = is_among c.compile_cond.new.compiled in
+    subst (λ b. OnOk c.compile_cond.result (IsTrue b))
+    (ap (cond_patterns_pass test) c.get.ensures ∙ sym (ap (cond_patterns_pass test) c.in-Not.is ∙ passes_not test c.in-Not.cond))
+    c.compile_cond.ensures.pass
+
+pub compile_cond-returns-in-Match-clause-pass : goal.compile_cond-returns-in-Match-clause-pass
+compile_cond-returns-in-Match-clause-pass t c =
+    let test = is_among c.compile.new.compiled in
+    subst (λ b. OnOk c.compile.result (IsTrue b)) (sym (ap (cond_patterns_pass test) c.in-Match.is ∙ passes_match test c.in-Match.matching))
+    c.compile.ensures.pass
+
+pub compile_conds-loop-cond-preserved : goal.compile_conds-loop-cond-preserved
+compile_conds-loop-cond-preserved t c =
+    let before = is_among c.loop-cond.compiled in
+    let after = is_among c.compile_cond.new.compiled in record {
+      pass =
+          another_passes (cond_patterns_pass before) (cond_patterns_pass after) (cond_kept before after c.compile_cond.ensures.kept)
+          c.args.conds.now c.loop-cond.cond-index c.cond-item.result c.loop-cond-test.true c.loop-cond.invariant.pass
+          (ap (cond_patterns_pass after) (sym c.cond-item.is) ∙ c.in_ok-compile_cond.ensures.pass);
+      kept = λ w h. c.compile_cond.ensures.kept w (c.loop-cond.invariant.kept w h);
+    }
