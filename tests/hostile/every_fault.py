@@ -64,6 +64,11 @@ OF_POLICIES = {
     "E53 policy:1": b"if " + b"(" * 65,
     f"E54 policy:{MAX_SIZE + 1}": b"ok\n" * (MAX_SIZE + 1),
     "E55 policy:1": b"update { NAS-Port := &User-Name }\n",
+    "E56 policy:2": b"# profile: wider\nif (&User-Name =~ //) { ok }\n",
+    "E57 policy:2": b"# profile: wider\nif (&User-Name =~ /\xe9/) { ok }\n",
+    "E58 policy:2": b"# profile: wider\nif (&User-Name =~ /%{Class}/) { ok }\n",
+    "E59 policy:2": b"# profile: wider\nif (&User-Name =~ /(?=a)/) { ok }\n",
+    "E60 policy:2": b"# profile: wider\nif (&User-Name =~ /a{20000}{200}/) { ok }\n",
 }
 TOO_LONG = b"Long = 0x" + b"61" * 4012 + b"\nClass = 0x01\n"
 

@@ -7,6 +7,7 @@ use crate::program::Narrow;
 use avp_dict::{DictFault, DictKind, FileSet, LineFault, LineKind, NamedFile};
 use avp_lists::Octets;
 use avp_packet::PacketFault;
+use avp_patterns::PatternFault;
 use avp_unlang::{PolicyFault, PolicyKind};
 use radpolicy::{Fault, Output, OutputError, WriteOutput, print_fault, read_input, status};
 use std::alloc::{AllocError, Global};
@@ -140,6 +141,15 @@ const FAULTS: [(Fault, u8, &str); 18] = [
         }),
         2,
         "E55 policy:1: types differ",
+    ),
+    (
+        Fault::Policy(PolicyFault {
+            line: 3,
+            offset: 40,
+            kind: PolicyKind::Pattern(PatternFault::NotRead(2)),
+        }),
+        2,
+        "E59 policy:3: not a pattern",
     ),
     (
         Fault::Policy(PolicyFault {

@@ -1,7 +1,7 @@
 -- Where a condition overlooks no absence, it is true where a server says so.
 use Rattle.std.proofs.Common.{◌≡◌, ℕ, Bool, true, false, not, ◌&&◌, ◌||◌, List, [], ◌∷◌, ◌++◌, Option, Some, None, refl, sym, ap, ◌∙◌, map, subst, append_assoc, append-nil, filter, is_some, cond}
 use Rattle.std.specs.List.{list_all, list_any}
-use Rattle.std.specs.Option.{option_and_then, option_map}
+use Rattle.std.specs.Option.{option_and_then, option_map, option_map_or}
 use Rattle.avp_lists.specs.Instances.{first_instance, front, has_id, has_instance}
 use Rattle.avp_lists.specs.Selections.{first_selected_instance, has_selected}
 use Rattle.avp_lists.specs.States.{list_of}
@@ -12,24 +12,28 @@ use Rattle.avp_lists.specs.declared.pairs.Value.{Value}
 use Rattle.avp_lists.specs.declared.lists.List.{List as Name}
 use Rattle.avp_lists.specs.declared.lists.State.{State}
 use Rattle.avp_lists.specs.declared.tags.Selection.{Selection}
+use Rattle.avp_dict.specs.Dictionary.{Dictionary}
 use Rattle.avp_dict.specs.declared.entries.Kind.{Kind}
 use Rattle.avp_dict.specs.declared.forms.Form.{Form}
-use Rattle.avp_unlang.specs.Truth.{Test, are_related, are_related_by_meaning, compared_with, cond_truth, first_value, is_met, is_met_by_meaning, meant_with, octets_meant, selected_octets, same_code, selected_value, truth, value_in}
+use Rattle.avp_unlang.specs.PatternTruth.{agrees as agrees_with_pattern, instance_in, is_matched}
+use Rattle.avp_unlang.specs.Resolutions.{meaning_put}
+use Rattle.avp_unlang.specs.Truth.{Test, are_related, are_related_by_meaning, compared_with, cond_truth_with, first_value, is_met, is_met_by_meaning, meant_with, never_matched, octets_meant, selected_octets, same_code, selected_value, truth, truth_by, value_in}
 use Rattle.avp_unlang.specs.declared.codes.Code.{Code}
 use Rattle.avp_unlang.specs.declared.tree.Comparand.{Comparand}
 use Rattle.avp_unlang.specs.declared.tree.Comparand.TheVariants as comparand
 use Rattle.avp_unlang.specs.declared.tree.Comparison.{Comparison}
+use Rattle.avp_unlang.specs.declared.tree.Matching.{Matching}
 use Rattle.avp_unlang.specs.declared.tree.MeantComparand.{MeantComparand}
 use Rattle.avp_unlang.specs.declared.tree.MeantComparand.TheVariants as meant
 use Rattle.avp_unlang.specs.declared.tree.MeantComparison.{MeantComparison}
 use Rattle.avp_unlang.specs.declared.tree.Relation.{Relation}
 use Rattle.avp_unlang.specs.declared.tree.Cond.{Cond}
-use Rattle.avp_unlang.specs.declared.tree.Cond.TheFolds.{fold-roll-Cond, ind-Cond, map-Cond}
-use Rattle.avp_unlang.specs.declared.tree.Cond.TheOpen.{Cond-F, Any, All, Not, Last, Present, PresentSelected, Compare, CompareMeant}
+use Rattle.avp_unlang.specs.declared.tree.Cond.TheFolds.{fold-Cond, fold-roll-Cond, ind-Cond, map-Cond}
+use Rattle.avp_unlang.specs.declared.tree.Cond.TheOpen.{Cond-F, Any, All, Not, Last, Present, PresentSelected, Compare, CompareMeant, Match}
 use Rattle.avp_unlang.specs.declared.tree.Cond.TheViews.{roll-Cond}
 use Rattle.policy_warnings.specs.Absences.{all_of, always, asked, any_of, both, cond_absence, either, negated, said_of, silent, warns_of_absence}
-use Rattle.policy_warnings.specs.Answers.{Answer, Asked, answer_all, answer_any, answer_both, answer_either, cond_answer, is_true, server_answer, server_truth}
-use Rattle.policy_warnings.specs.Mentions.{all_parts, comparand_mentions, comparison_mentions, cond_mentions, implies, is_there, meant_comparand_mentions, meant_comparison_mentions, mentions, selected, whole}
+use Rattle.policy_warnings.specs.Answers.{Answer, Asked, answer_all, answer_any, answer_both, answer_either, cond_answer_with, is_true, server_answer, server_answer_by, server_truth, server_truth_by}
+use Rattle.policy_warnings.specs.Mentions.{all_parts, comparand_mentions, comparison_mentions, cond_mentions, implies, is_there, matching_mentions, meant_comparand_mentions, meant_comparison_mentions, mentions, selected, whole}
 use Rattle.policy_warnings.specs.declared.absences.Absence.{Absence}
 use Rattle.policy_warnings.specs.declared.mentions.Mention.{Mention}
 use Rattle.policy_warnings.proofs.Answered.{and_right, and_true, any_mono, not_implied, overlooked_when, present_when}
@@ -101,6 +105,23 @@ meant_there k s h =
     (found_octets k.list k.id k.selection k.form s (first_meant k.relation (selected_octets k.list k.id k.selection k.form s) (meant_with k.comparand s) h))
     (meant_comparand_there k.comparand s (second_meant k.relation (selected_octets k.list k.id k.selection k.form s) (meant_with k.comparand s) h))
 
+-- of a comparison with a pattern: one that is met has an instance
+abbrev pub LooksAtItsOwn : (Matching → State → Bool) → Type 0
+LooksAtItsOwn matched = (k : Matching) (s : State) → matched k s ≡ true → is_there s (selected k.list k.id k.selection) ≡ true
+
+pub never_looks : LooksAtItsOwn never_matched
+never_looks k s h = cc
+
+instance_there : (k : Matching) (d : Dictionary) (x : Option Pair) → option_map_or (λ pair. agrees_with_pattern k (meaning_put d pair)) x false ≡ true → is_some x ≡ true
+instance_there k d None h = h
+instance_there k d (Some x) h = refl
+
+pub matched_looks : (d : Dictionary) → LooksAtItsOwn (is_matched d)
+matched_looks d k s h = found_first (is_selected k.selection k.id) (list_of k.list s) ∙ instance_there k d (instance_in k s) h
+
+matching_there : (matched : Matching → State → Bool) → LooksAtItsOwn matched → (k : Matching) (s : State) → matched k s ≡ true → list_all (is_there s) (matching_mentions k) ≡ true
+matching_there matched looks k s h = and_true (is_there s (selected k.list k.id k.selection)) true (looks k s h) refl
+
 both_assoc : (a b d : Answer) → answer_both (answer_both a b) d ≡ answer_both a (answer_both b d)
 both_assoc None b d = refl
 both_assoc (Some true) b d = refl
@@ -139,9 +160,15 @@ or_no false = refl
 
 -- ---- conditions
 
-module _ (s : State) (c : Code) where
+module _ (matched : Matching → State → Bool) (looks : LooksAtItsOwn matched) (s : State) (c : Code) where
+  abbrev Answered : Cond → Asked
+  Answered = fold-Cond Asked (cond_answer_with matched)
+
+  abbrev Given : Cond → Test
+  Given = fold-Cond Test (cond_truth_with matched)
+
   abbrev IsSound : Cond → Type 0
-  IsSound k = Sound s (λ m. said_of m k) (mentions k) (server_answer k s c) (truth k s c)
+  IsSound k = Sound s (λ m. said_of m k) (mentions k) (Answered k s c) (Given k s c)
 
   abbrev Such : Type 0
   Such = (k : Cond) × IsSound k
@@ -153,16 +180,16 @@ module _ (s : State) (c : Code) where
   layer = map-Cond Such Cond (λ e. e.0)
 
   abbrev answers : List Such → Answer
-  answers es = answer_all (map server_answer (the_conds es)) s c
+  answers es = answer_all (map Answered (the_conds es)) s c
 
   abbrev any_answers : List Such → Answer
-  any_answers es = answer_any (map server_answer (the_conds es)) s c
+  any_answers es = answer_any (map Answered (the_conds es)) s c
 
   abbrev all_true : List Such → Bool
-  all_true es = list_all (λ (test : Test). test s c) (map truth (the_conds es))
+  all_true es = list_all (λ (test : Test). test s c) (map Given (the_conds es))
 
   abbrev any_true : List Such → Bool
-  any_true es = list_any (λ (test : Test). test s c) (map truth (the_conds es))
+  any_true es = list_any (λ (test : Test). test s c) (map Given (the_conds es))
 
   abbrev the_mentions : List Such → List Mention
   the_mentions es = all_parts (map mentions (the_conds es))
@@ -172,24 +199,24 @@ module _ (s : State) (c : Code) where
   all_sound (e ∷ es) say ms a t p =
       let also = λ (m : Mention). said_of m e.0 in
       let joint = λ (m : Mention). both (say m) (also m) in
-      let answered = answer_both a (server_answer e.0 s c) in
-      let value = t && truth e.0 s c in
+      let answered = answer_both a (Answered e.0 s c) in
+      let value = t && Given e.0 s c in
       sound_same s (λ m. all_of (joint m) (map (said_of m) (the_conds es))) ((ms ++ mentions e.0) ++ the_mentions es) (ms ++ (mentions e.0 ++ the_mentions es))
-      (answer_both answered (answers es)) (answer_both a (answer_both (server_answer e.0 s c) (answers es))) (value && all_true es) (t && (truth e.0 s c && all_true es))
-      (append_assoc ms (mentions e.0) (the_mentions es)) (both_assoc a (server_answer e.0 s c) (answers es)) (and_assoc t (truth e.0 s c) (all_true es))
-      (all_sound es joint (ms ++ mentions e.0) answered value (sound_both s say also ms (mentions e.0) a (server_answer e.0 s c) t (truth e.0 s c) p e.1))
+      (answer_both answered (answers es)) (answer_both a (answer_both (Answered e.0 s c) (answers es))) (value && all_true es) (t && (Given e.0 s c && all_true es))
+      (append_assoc ms (mentions e.0) (the_mentions es)) (both_assoc a (Answered e.0 s c) (answers es)) (and_assoc t (Given e.0 s c) (all_true es))
+      (all_sound es joint (ms ++ mentions e.0) answered value (sound_both s say also ms (mentions e.0) a (Answered e.0 s c) t (Given e.0 s c) p e.1))
 
   any_sound : (es : List Such) (say : Mention → Absence) (ms : List Mention) (a : Answer) (t : Bool) → Sound s say ms a t → Sound s (λ m. any_of (say m) (map (said_of m) (the_conds es))) (ms ++ the_mentions es) (answer_either a (any_answers es)) (t || any_true es)
   any_sound [] say ms a t p = sound_same s say ms (ms ++ []) a (answer_either a (Some false)) t (t || false) (sym (append-nil ms)) (either_no a) (or_no t) p
   any_sound (e ∷ es) say ms a t p =
       let also = λ (m : Mention). said_of m e.0 in
       let joint = λ (m : Mention). either (say m) (also m) in
-      let answered = answer_either a (server_answer e.0 s c) in
-      let value = t || truth e.0 s c in
+      let answered = answer_either a (Answered e.0 s c) in
+      let value = t || Given e.0 s c in
       sound_same s (λ m. any_of (joint m) (map (said_of m) (the_conds es))) ((ms ++ mentions e.0) ++ the_mentions es) (ms ++ (mentions e.0 ++ the_mentions es))
-      (answer_either answered (any_answers es)) (answer_either a (answer_either (server_answer e.0 s c) (any_answers es))) (value || any_true es) (t || (truth e.0 s c || any_true es))
-      (append_assoc ms (mentions e.0) (the_mentions es)) (either_assoc a (server_answer e.0 s c) (any_answers es)) (or_assoc t (truth e.0 s c) (any_true es))
-      (any_sound es joint (ms ++ mentions e.0) answered value (sound_either s say also ms (mentions e.0) a (server_answer e.0 s c) t (truth e.0 s c) p e.1))
+      (answer_either answered (any_answers es)) (answer_either a (answer_either (Answered e.0 s c) (any_answers es))) (value || any_true es) (t || (Given e.0 s c || any_true es))
+      (append_assoc ms (mentions e.0) (the_mentions es)) (either_assoc a (Answered e.0 s c) (any_answers es)) (or_assoc t (Given e.0 s c) (any_true es))
+      (any_sound es joint (ms ++ mentions e.0) answered value (sound_either s say also ms (mentions e.0) a (Answered e.0 s c) t (Given e.0 s c) p e.1))
 
   silent_of : (b : Bool) (m : Mention) → is_there s m ≡ false → present_when b silent ≡ false
   silent_of true m absent = refl
@@ -202,12 +229,12 @@ module _ (s : State) (c : Code) where
   abbrev LayerSound : Cond-F Cond → Type 0
   LayerSound x =
       Sound s (λ m. cond_absence m (map-Cond Cond Absence (said_of m) x)) (cond_mentions (map-Cond Cond (List Mention) mentions x))
-      (cond_answer (map-Cond Cond Asked server_answer x) s c) (cond_truth (map-Cond Cond Test truth x) s c)
+      (cond_answer_with matched (map-Cond Cond Asked Answered x) s c) (cond_truth_with matched (map-Cond Cond Test Given x) s c)
 
   layer_sound : (y : Cond-F Such) → LayerSound (layer y)
   layer_sound (Any parts) = any_sound parts (λ m. negated always) [] (Some false) false (sound_told s (λ m. negated always) false (λ m absent. refl))
   layer_sound (All parts) = all_sound parts (λ m. always) [] (Some true) true (sound_told s (λ m. always) true (λ m absent. refl))
-  layer_sound (Not part) = sound_negated s (λ m. said_of m part.0) (mentions part.0) (server_answer part.0 s c) (truth part.0 s c) part.1
+  layer_sound (Not part) = sound_negated s (λ m. said_of m part.0) (mentions part.0) (Answered part.0 s c) (Given part.0 s c) part.1
   layer_sound (Last word) = sound_told s (λ m. silent) (same_code c word) (silent_of (same_code c word))
   layer_sound (Present list id) =
       sound_told s (λ m. asked (implies (whole list id) m)) (has_instance id (list_of list s)) (told_there (whole list id) (has_instance id (list_of list s)) refl)
@@ -218,6 +245,7 @@ module _ (s : State) (c : Code) where
       (sound_told s (λ m. asked (implies (selected list id selection) m)) there (told_there (selected list id selection) there refl))
   layer_sound (Compare k) = sound_compared s (comparison_mentions k) (is_met k s) (met_there k s)
   layer_sound (CompareMeant k) = sound_compared s (meant_comparison_mentions k) (is_met_by_meaning k s) (meant_there k s)
+  layer_sound (Match k) = sound_compared s (matching_mentions k) (matched k s) (matching_there matched looks k s)
 
   said_same : (say also : Mention → Absence) (ms : List Mention) (a : Answer) (t : Bool) → ((m : Mention) → say m ≡ also m) → Sound s say ms a t → Sound s also ms a t
   said_same say also ms a t e p = (
@@ -227,15 +255,15 @@ module _ (s : State) (c : Code) where
   )
 
   rolled : (x : Cond-F Cond) → LayerSound x → IsSound (roll-Cond x)
-  unfolding said_of mentions server_answer truth
+  unfolding said_of mentions
   rolled x p =
-      said_same (λ m. cond_absence m (map-Cond Cond Absence (said_of m) x)) (λ m. said_of m (roll-Cond x)) (mentions (roll-Cond x)) (server_answer (roll-Cond x) s c) (truth (roll-Cond x) s c)
+      said_same (λ m. cond_absence m (map-Cond Cond Absence (said_of m) x)) (λ m. said_of m (roll-Cond x)) (mentions (roll-Cond x)) (Answered (roll-Cond x) s c) (Given (roll-Cond x) s c)
       (λ m. sym (fold-roll-Cond Absence (cond_absence m) x))
       (sound_same s (λ m. cond_absence m (map-Cond Cond Absence (said_of m) x)) (cond_mentions (map-Cond Cond (List Mention) mentions x)) (mentions (roll-Cond x))
-      (cond_answer (map-Cond Cond Asked server_answer x) s c) (server_answer (roll-Cond x) s c) (cond_truth (map-Cond Cond Test truth x) s c) (truth (roll-Cond x) s c)
+      (cond_answer_with matched (map-Cond Cond Asked Answered x) s c) (Answered (roll-Cond x) s c) (cond_truth_with matched (map-Cond Cond Test Given x) s c) (Given (roll-Cond x) s c)
       (sym (fold-roll-Cond (List Mention) cond_mentions x))
-      (ap (λ (f : Asked). f s c) (sym (fold-roll-Cond Asked cond_answer x)))
-      (ap (λ (f : Test). f s c) (sym (fold-roll-Cond Test cond_truth x))) p)
+      (ap (λ (f : Asked). f s c) (sym (fold-roll-Cond Asked (cond_answer_with matched) x)))
+      (ap (λ (f : Test). f s c) (sym (fold-roll-Cond Test (cond_truth_with matched) x))) p)
 
   pub sound : (k : Cond) → IsSound k
   sound = ind-Cond IsSound (λ x y is. subst (λ z. IsSound (roll-Cond z)) is (rolled (layer y) (layer_sound y)))
@@ -246,6 +274,14 @@ module _ (s : State) (c : Code) where
   agreeing say ms None true p h =
       sym (any_mono (misses s say true) (λ m. (say m).overlooked_when_true) (λ m k. and_right (not (is_there s m)) ((say m).overlooked_when_true) k) ms (p.2 refl)) ∙ h
 
+  both_agree : (k : Cond) → warns_of_absence k ≡ false → Given k s c ≡ is_true (Answered k s c)
+  both_agree k h = agreeing (λ m. said_of m k) (mentions k) (Answered k s c) (Given k s c) (sound k) h
+
 -- without a warning both take the same branch
 pub agrees : (k : Cond) (s : State) (c : Code) → warns_of_absence k ≡ false → truth k s c ≡ server_truth k s c
-agrees k s c h = agreeing s c (λ m. said_of m k) (mentions k) (server_answer k s c) (truth k s c) (sound s c k) h
+unfolding truth server_answer
+agrees k s c h = both_agree never_matched never_looks s c k h
+
+pub agrees_by : (d : Dictionary) (k : Cond) (s : State) (c : Code) → warns_of_absence k ≡ false → truth_by d k s c ≡ server_truth_by d k s c
+unfolding truth_by server_answer_by
+agrees_by d k s c h = both_agree (is_matched d) (matched_looks d) s c k h

@@ -7,12 +7,13 @@ use Rattle.avp_lists.specs.declared.lists.List.{List as Name}
 use Rattle.avp_unlang.specs.declared.codes.Code.{Code}
 use Rattle.avp_unlang.specs.declared.tree.Comparison.{Comparison}
 use Rattle.avp_unlang.specs.declared.tree.Cond.{Cond}
+use Rattle.avp_unlang.specs.declared.tree.Matching.{Matching}
 use Rattle.avp_unlang.specs.declared.tree.MeantComparison.{MeantComparison}
 use Rattle.avp_unlang.specs.declared.tree.Cond.TheFolds.{fold-roll-Cond}
 use Rattle.avp_unlang.specs.declared.tree.Cond.TheOpen as layer
-use Rattle.avp_unlang.specs.declared.tree.Cond.TheVariants.{Any, All, Not, Last, Present, PresentSelected, Compare, CompareMeant, rolls-Any, rolls-All, rolls-Not, rolls-Last, rolls-Present, rolls-PresentSelected, rolls-Compare, rolls-CompareMeant}
+use Rattle.avp_unlang.specs.declared.tree.Cond.TheVariants.{Any, All, Not, Last, Present, PresentSelected, Compare, CompareMeant, Match, rolls-Any, rolls-All, rolls-Not, rolls-Last, rolls-Present, rolls-PresentSelected, rolls-Compare, rolls-CompareMeant, rolls-Match}
 use Rattle.policy_warnings.specs.Absences.{said_of, all_of, always, any_implies, any_of, asked, compared, cond_absence, negated, silent}
-use Rattle.policy_warnings.specs.Mentions.{comparison_mentions, cond_mentions, implies, meant_comparison_mentions, mentions, selected, whole}
+use Rattle.policy_warnings.specs.Mentions.{comparison_mentions, cond_mentions, implies, matching_mentions, meant_comparison_mentions, mentions, selected, whole}
 use Rattle.policy_warnings.specs.declared.absences.Absence.{Absence}
 use Rattle.policy_warnings.specs.declared.mentions.Mention.{Mention}
 
@@ -53,6 +54,10 @@ pub mentions_compare_meant : (k : MeantComparison) → mentions (CompareMeant k)
 unfolding mentions
 mentions_compare_meant k = ap mentions (sym (rolls-CompareMeant k)) ∙ fold-roll-Cond (List Mention) cond_mentions (layer.CompareMeant k)
 
+pub mentions_match : (k : Matching) → mentions (Match k) ≡ matching_mentions k
+unfolding mentions
+mentions_match k = ap mentions (sym (rolls-Match k)) ∙ fold-roll-Cond (List Mention) cond_mentions (layer.Match k)
+
 module _ (m : Mention) where
   pub absence_any : (cs : List Cond) → said_of m (Any cs) ≡ any_of (negated always) (map (said_of m) cs)
   unfolding said_of
@@ -86,3 +91,7 @@ module _ (m : Mention) where
   pub absence_compare_meant : (k : MeantComparison) → said_of m (CompareMeant k) ≡ compared (any_implies (meant_comparison_mentions k) m)
   unfolding said_of
   absence_compare_meant k = ap (said_of m) (sym (rolls-CompareMeant k)) ∙ fold-roll-Cond Absence (cond_absence m) (layer.CompareMeant k)
+
+  pub absence_match : (k : Matching) → said_of m (Match k) ≡ compared (any_implies (matching_mentions k) m)
+  unfolding said_of
+  absence_match k = ap (said_of m) (sym (rolls-Match k)) ∙ fold-roll-Cond Absence (cond_absence m) (layer.Match k)

@@ -9,8 +9,9 @@ use Rattle.avp_unlang.specs.declared.tree.Cond.{Cond}
 use Rattle.avp_unlang.specs.declared.tree.Cond.TheFolds.{fold-roll-Cond, map-Cond}
 use Rattle.avp_unlang.specs.declared.tree.Cond.TheOpen.{Cond-F}
 use Rattle.avp_unlang.specs.declared.tree.Cond.TheOpen as layer
-use Rattle.avp_unlang.specs.declared.tree.Cond.TheVariants.{Any, All, Not, Last, Present, PresentSelected, Compare, CompareMeant, rolls-Any, rolls-All, rolls-Not, rolls-Last, rolls-Present, rolls-PresentSelected, rolls-Compare, rolls-CompareMeant}
+use Rattle.avp_unlang.specs.declared.tree.Cond.TheVariants.{Any, All, Not, Last, Present, PresentSelected, Compare, CompareMeant, Match, rolls-Any, rolls-All, rolls-Not, rolls-Last, rolls-Present, rolls-PresentSelected, rolls-Compare, rolls-CompareMeant, rolls-Match}
 use Rattle.avp_unlang.specs.declared.tree.Cond.TheViews.{out-Cond, out-roll-Cond, roll-Cond, roll-out-Cond}
+use Rattle.avp_unlang.specs.declared.tree.Matching.{Matching}
 use Rattle.avp_unlang.specs.declared.tree.MeantComparison.{MeantComparison}
 use Rattle.policy_warnings.specs.Repeats.{all_same, same_as, same_cond, same_layer}
 
@@ -51,6 +52,9 @@ module _ (k other : Cond) where
   pub same_CompareMeant : (a : MeantComparison) (b : MeantComparison) → k ≡ CompareMeant a → other ≡ CompareMeant b → same_cond k other ≡ same_layer (layer_of (layer.CompareMeant a)) (layer.CompareMeant b)
   same_CompareMeant a b e f = both_opened (layer.CompareMeant a) (layer.CompareMeant b) k other (e ∙ sym (rolls-CompareMeant a)) (f ∙ sym (rolls-CompareMeant b))
 
+  pub same_Match : (a : Matching) (b : Matching) → k ≡ Match a → other ≡ Match b → same_cond k other ≡ same_layer (layer_of (layer.Match a)) (layer.Match b)
+  same_Match a b e f = both_opened (layer.Match a) (layer.Match b) k other (e ∙ sym (rolls-Match a)) (f ∙ sym (rolls-Match b))
+
 -- ---- of two forms
 
 module _ (k other : Cond) where
@@ -63,6 +67,7 @@ module _ (k other : Cond) where
   other_than_Any a never (layer.PresentSelected b m u) e = refl
   other_than_Any a never (layer.Compare b) e = refl
   other_than_Any a never (layer.CompareMeant b) e = refl
+  other_than_Any a never (layer.Match b) e = refl
 
   pub no_Any : (a : List Cond) → k ≡ Any a → ((b : List Cond) → other ≡ Any b → ⊥) → false ≡ same_cond k other
   no_Any a e never = sym (opened (layer.Any a) k other (e ∙ sym (rolls-Any a)) ∙ other_than_Any (map same_cond a) never (out-Cond other) refl)
@@ -76,6 +81,7 @@ module _ (k other : Cond) where
   other_than_All a never (layer.PresentSelected b m u) e = refl
   other_than_All a never (layer.Compare b) e = refl
   other_than_All a never (layer.CompareMeant b) e = refl
+  other_than_All a never (layer.Match b) e = refl
 
   pub no_All : (a : List Cond) → k ≡ All a → ((b : List Cond) → other ≡ All b → ⊥) → false ≡ same_cond k other
   no_All a e never = sym (opened (layer.All a) k other (e ∙ sym (rolls-All a)) ∙ other_than_All (map same_cond a) never (out-Cond other) refl)
@@ -89,6 +95,7 @@ module _ (k other : Cond) where
   other_than_Not a never (layer.PresentSelected b m u) e = refl
   other_than_Not a never (layer.Compare b) e = refl
   other_than_Not a never (layer.CompareMeant b) e = refl
+  other_than_Not a never (layer.Match b) e = refl
 
   pub no_Not : (a : Cond) → k ≡ Not a → ((b : Cond) → other ≡ Not b → ⊥) → false ≡ same_cond k other
   no_Not a e never = sym (opened (layer.Not a) k other (e ∙ sym (rolls-Not a)) ∙ other_than_Not (same_cond a) never (out-Cond other) refl)
@@ -102,6 +109,7 @@ module _ (k other : Cond) where
   other_than_Last a never (layer.PresentSelected b m u) e = refl
   other_than_Last a never (layer.Compare b) e = refl
   other_than_Last a never (layer.CompareMeant b) e = refl
+  other_than_Last a never (layer.Match b) e = refl
 
   pub no_Last : (a : Code) → k ≡ Last a → ((b : Code) → other ≡ Last b → ⊥) → false ≡ same_cond k other
   no_Last a e never = sym (opened (layer.Last a) k other (e ∙ sym (rolls-Last a)) ∙ other_than_Last a never (out-Cond other) refl)
@@ -115,6 +123,7 @@ module _ (k other : Cond) where
   other_than_Present a n never (layer.PresentSelected b m u) e = refl
   other_than_Present a n never (layer.Compare b) e = refl
   other_than_Present a n never (layer.CompareMeant b) e = refl
+  other_than_Present a n never (layer.Match b) e = refl
 
   pub no_Present : (a : Name) (n : AttrId) → k ≡ Present a n → ((b : Name) (m : AttrId) → other ≡ Present b m → ⊥) → false ≡ same_cond k other
   no_Present a n e never = sym (opened (layer.Present a n) k other (e ∙ sym (rolls-Present a n)) ∙ other_than_Present a n never (out-Cond other) refl)
@@ -128,6 +137,7 @@ module _ (k other : Cond) where
   other_than_PresentSelected a n t never (layer.PresentSelected b m u) e = absurd (never b m u (sym (roll-out-Cond other) ∙ ap roll-Cond e ∙ rolls-PresentSelected b m u))
   other_than_PresentSelected a n t never (layer.Compare b) e = refl
   other_than_PresentSelected a n t never (layer.CompareMeant b) e = refl
+  other_than_PresentSelected a n t never (layer.Match b) e = refl
 
   pub no_PresentSelected : (a : Name) (n : AttrId) (t : Selection) → k ≡ PresentSelected a n t → ((b : Name) (m : AttrId) (u : Selection) → other ≡ PresentSelected b m u → ⊥) → false ≡ same_cond k other
   no_PresentSelected a n t e never = sym (opened (layer.PresentSelected a n t) k other (e ∙ sym (rolls-PresentSelected a n t)) ∙ other_than_PresentSelected a n t never (out-Cond other) refl)
@@ -141,6 +151,7 @@ module _ (k other : Cond) where
   other_than_Compare a never (layer.PresentSelected b m u) e = refl
   other_than_Compare a never (layer.Compare b) e = absurd (never b (sym (roll-out-Cond other) ∙ ap roll-Cond e ∙ rolls-Compare b))
   other_than_Compare a never (layer.CompareMeant b) e = refl
+  other_than_Compare a never (layer.Match b) e = refl
 
   pub no_Compare : (a : Comparison) → k ≡ Compare a → ((b : Comparison) → other ≡ Compare b → ⊥) → false ≡ same_cond k other
   no_Compare a e never = sym (opened (layer.Compare a) k other (e ∙ sym (rolls-Compare a)) ∙ other_than_Compare a never (out-Cond other) refl)
@@ -154,9 +165,24 @@ module _ (k other : Cond) where
   other_than_CompareMeant a never (layer.PresentSelected b m u) e = refl
   other_than_CompareMeant a never (layer.Compare b) e = refl
   other_than_CompareMeant a never (layer.CompareMeant b) e = absurd (never b (sym (roll-out-Cond other) ∙ ap roll-Cond e ∙ rolls-CompareMeant b))
+  other_than_CompareMeant a never (layer.Match b) e = refl
 
   pub no_CompareMeant : (a : MeantComparison) → k ≡ CompareMeant a → ((b : MeantComparison) → other ≡ CompareMeant b → ⊥) → false ≡ same_cond k other
   no_CompareMeant a e never = sym (opened (layer.CompareMeant a) k other (e ∙ sym (rolls-CompareMeant a)) ∙ other_than_CompareMeant a never (out-Cond other) refl)
+
+  other_than_Match : (a : Matching) → ((b : Matching) → other ≡ Match b → ⊥) → (y : Cond-F Cond) → out-Cond other ≡ y → same_layer (layer.Match a) y ≡ false
+  other_than_Match a never (layer.Any b) e = refl
+  other_than_Match a never (layer.All b) e = refl
+  other_than_Match a never (layer.Not b) e = refl
+  other_than_Match a never (layer.Last b) e = refl
+  other_than_Match a never (layer.Present b m) e = refl
+  other_than_Match a never (layer.PresentSelected b m u) e = refl
+  other_than_Match a never (layer.Compare b) e = refl
+  other_than_Match a never (layer.CompareMeant b) e = refl
+  other_than_Match a never (layer.Match b) e = absurd (never b (sym (roll-out-Cond other) ∙ ap roll-Cond e ∙ rolls-Match b))
+
+  pub no_Match : (a : Matching) → k ≡ Match a → ((b : Matching) → other ≡ Match b → ⊥) → false ≡ same_cond k other
+  no_Match a e never = sym (opened (layer.Match a) k other (e ∙ sym (rolls-Match a)) ∙ other_than_Match a never (out-Cond other) refl)
 
 -- ---- lists
 

@@ -4,15 +4,17 @@ use Rattle.std.specs.Prelude.{◌≡◌, Bool, true, false, not, ◌&&◌, ◌||
 use Rattle.std.specs.List.{list_any}
 use Rattle.avp_lists.specs.States.{empty_state}
 use Rattle.avp_lists.specs.declared.lists.State.{State}
-use Rattle.avp_unlang.specs.Truth.{truth}
+use Rattle.avp_dict.specs.Dictionary.{Dictionary}
+use Rattle.avp_unlang.specs.Truth.{truth, truth_by}
 use Rattle.avp_unlang.specs.declared.codes.Code.{Code}
 use Rattle.avp_unlang.specs.declared.tree.Comparison.{Comparison}
 use Rattle.avp_unlang.specs.declared.tree.Cond.{Cond}
 use Rattle.avp_unlang.specs.declared.tree.Cond.TheFolds.{fold-Cond}
-use Rattle.avp_unlang.specs.declared.tree.Cond.TheOpen.{Cond-F, Any, All, Not, Last, Present, PresentSelected, Compare, CompareMeant}
+use Rattle.avp_unlang.specs.declared.tree.Cond.TheOpen.{Cond-F, Any, All, Not, Last, Present, PresentSelected, Compare, CompareMeant, Match}
 use Rattle.avp_unlang.specs.declared.tree.Cond.TheVariants as cond
-use Rattle.policy_warnings.specs.Answers.{server_truth}
-use Rattle.policy_warnings.specs.Mentions.{comparison_mentions, implies, is_there, meant_comparison_mentions, mentions, selected, whole}
+use Rattle.avp_unlang.specs.declared.tree.Matching.{Matching}
+use Rattle.policy_warnings.specs.Answers.{server_truth, server_truth_by}
+use Rattle.policy_warnings.specs.Mentions.{comparison_mentions, implies, is_there, matching_mentions, meant_comparison_mentions, mentions, selected, whole}
 use Rattle.policy_warnings.specs.declared.absences.Absence.{Absence}
 use Rattle.policy_warnings.specs.declared.mentions.Mention.{Mention}
 
@@ -86,6 +88,7 @@ cond_absence m (Present list id) = asked (implies (whole list id) m)
 cond_absence m (PresentSelected list id selection) = asked (implies (selected list id selection) m)
 cond_absence m (Compare k) = compared (any_implies (comparison_mentions k) m)
 cond_absence m (CompareMeant k) = compared (any_implies (meant_comparison_mentions k) m)
+cond_absence m (Match k) = compared (any_implies (matching_mentions k) m)
 
 -- what a condition says of m, and where it overlooks that m is absent
 unfoldable pub said_of : Mention → Cond → Absence
@@ -101,14 +104,27 @@ warns_of_absence whole =
 abbrev pub negated_comparison : Comparison → Cond
 negated_comparison k = cond.Not (cond.Compare k)
 
+abbrev pub negated_matching : Matching → Cond
+negated_matching k = cond.Not (cond.Match k)
+
 abbrev pub WarnsOfNegations : Type 0
 WarnsOfNegations = (k : Comparison) → warns_of_absence (negated_comparison k) ≡ true
+
+abbrev pub WarnsOfNegatedMatchings : Type 0
+WarnsOfNegatedMatchings = (k : Matching) → warns_of_absence (negated_matching k) ≡ true
 
 -- where its attribute is absent, the condition is true, and a server takes it as false
 abbrev pub NegationsDiffer : Type 0
 NegationsDiffer =
     (k : Comparison) (s : State) (c : Code) → is_there s (whole k.list k.id) ≡ false
     → (truth (negated_comparison k) s c ≡ true) × (server_truth (negated_comparison k) s c ≡ false)
+
+abbrev pub NegatedMatchingsDiffer : Type 0
+NegatedMatchingsDiffer =
+    (d : Dictionary) (k : Matching) (s : State) (c : Code)
+    → is_there s (selected k.list k.id k.selection) ≡ false
+    → (truth_by d (negated_matching k) s c ≡ true)
+    × (server_truth_by d (negated_matching k) s c ≡ false)
 
 -- as it is where no list has a pair
 abbrev pub EmptyLacks : Type 0

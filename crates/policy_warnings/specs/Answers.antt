@@ -6,12 +6,15 @@ use Rattle.avp_lists.specs.Instances.{has_instance}
 use Rattle.avp_lists.specs.Selections.{has_selected}
 use Rattle.avp_lists.specs.States.{list_of}
 use Rattle.avp_lists.specs.declared.lists.State.{State}
-use Rattle.avp_unlang.specs.Truth.{is_met, is_met_by_meaning, same_code}
+use Rattle.avp_dict.specs.Dictionary.{Dictionary}
+use Rattle.avp_unlang.specs.PatternTruth.{is_matched}
+use Rattle.avp_unlang.specs.Truth.{is_met, is_met_by_meaning, never_matched, same_code}
 use Rattle.avp_unlang.specs.declared.codes.Code.{Code}
 use Rattle.avp_unlang.specs.declared.tree.Cond.{Cond}
 use Rattle.avp_unlang.specs.declared.tree.Cond.TheFolds.{fold-Cond}
-use Rattle.avp_unlang.specs.declared.tree.Cond.TheOpen.{Cond-F, Any, All, Not, Last, Present, PresentSelected, Compare, CompareMeant}
-use Rattle.policy_warnings.specs.Mentions.{comparison_mentions, is_there, meant_comparison_mentions}
+use Rattle.avp_unlang.specs.declared.tree.Cond.TheOpen.{Cond-F, Any, All, Not, Last, Present, PresentSelected, Compare, CompareMeant, Match}
+use Rattle.avp_unlang.specs.declared.tree.Matching.{Matching}
+use Rattle.policy_warnings.specs.Mentions.{comparison_mentions, is_there, matching_mentions, meant_comparison_mentions}
 use Rattle.policy_warnings.specs.declared.mentions.Mention.{Mention}
 
 -- true or false; nothing where a comparison with an absent attribute was met, which ends the whole condition
@@ -46,26 +49,38 @@ answer_any (first ∷ others) s c = answer_either (first s c) (answer_any others
 abbrev pub answer_compared : List Mention → State → Bool → Answer
 answer_compared compared s met = if list_all (is_there s) compared then Some met else None
 
-abbrev pub cond_answer : Cond-F Asked → Asked
-cond_answer (Any parts) s c = answer_any parts s c
-cond_answer (All parts) s c = answer_all parts s c
-cond_answer (Not part) s c = option_map not (part s c)
-cond_answer (Last word) s c = Some (same_code c word)
-cond_answer (Present list id) s c = Some (has_instance id (list_of list s))
-cond_answer (PresentSelected list id selection) s c =
+-- a condition, given which comparisons with patterns are met
+abbrev pub cond_answer_with : (Matching → State → Bool) → Cond-F Asked → Asked
+cond_answer_with matched (Any parts) s c = answer_any parts s c
+cond_answer_with matched (All parts) s c = answer_all parts s c
+cond_answer_with matched (Not part) s c = option_map not (part s c)
+cond_answer_with matched (Last word) s c = Some (same_code c word)
+cond_answer_with matched (Present list id) s c = Some (has_instance id (list_of list s))
+cond_answer_with matched (PresentSelected list id selection) s c =
     Some (has_selected selection id (list_of list s))
-cond_answer (Compare k) s c = answer_compared (comparison_mentions k) s (is_met k s)
-cond_answer (CompareMeant k) s c =
+cond_answer_with matched (Compare k) s c = answer_compared (comparison_mentions k) s (is_met k s)
+cond_answer_with matched (CompareMeant k) s c =
     answer_compared (meant_comparison_mentions k) s (is_met_by_meaning k s)
+cond_answer_with matched (Match m) s c =
+    answer_compared (matching_mentions m) s (matched m s)
 
+-- of a condition that compares with no pattern; a comparison with one of an attribute that is there counts as false
 unfoldable pub server_answer : Cond → Asked
-server_answer = fold-Cond Asked cond_answer
+server_answer = fold-Cond Asked (cond_answer_with never_matched)
+
+-- of a condition, by the dictionary by which values are printed
+unfoldable pub server_answer_by : Dictionary → Cond → Asked
+server_answer_by dictionary = fold-Cond Asked (cond_answer_with (is_matched dictionary))
 
 -- no answer counts as false
 abbrev pub is_true : Answer → Bool
 is_true None = false
 is_true (Some value) = value
 
--- whether a server takes the branch of a condition
+-- whether a server takes the branch of a condition that compares with no pattern
 abbrev pub server_truth : Cond → State → Code → Bool
 server_truth cond s c = is_true (server_answer cond s c)
+
+-- whether a server takes the branch of a condition
+abbrev pub server_truth_by : Dictionary → Cond → State → Code → Bool
+server_truth_by dictionary cond s c = is_true (server_answer_by dictionary cond s c)

@@ -17,7 +17,8 @@ use Rattle.avp_unlang.specs.declared.tree.Comparand.TheVariants as comparand
 use Rattle.avp_unlang.specs.declared.tree.Comparison.{Comparison}
 use Rattle.avp_unlang.specs.declared.tree.Cond.{Cond}
 use Rattle.avp_unlang.specs.declared.tree.Cond.TheFolds.{fold-Cond}
-use Rattle.avp_unlang.specs.declared.tree.Cond.TheOpen.{Cond-F, Any, All, Not, Last, Present, PresentSelected, Compare, CompareMeant}
+use Rattle.avp_unlang.specs.declared.tree.Cond.TheOpen.{Cond-F, Any, All, Not, Last, Present, PresentSelected, Compare, CompareMeant, Match}
+use Rattle.avp_unlang.specs.declared.tree.Matching.{Matching}
 use Rattle.avp_unlang.specs.declared.tree.MeantComparand.{MeantComparand}
 use Rattle.avp_unlang.specs.declared.tree.MeantComparand.TheVariants as meant
 use Rattle.avp_unlang.specs.declared.tree.MeantComparison.{MeantComparison}
@@ -81,6 +82,9 @@ abbrev pub meant_comparison_mentions : MeantComparison → List Mention
 meant_comparison_mentions k =
     selected k.list k.id k.selection ∷ meant_comparand_mentions k.comparand
 
+abbrev pub matching_mentions : Matching → List Mention
+matching_mentions k = selected k.list k.id k.selection ∷ []
+
 abbrev pub all_parts : List (List Mention) → List Mention
 all_parts = flat_map (λ ms. ms)
 
@@ -93,6 +97,7 @@ cond_mentions (Present list id) = []
 cond_mentions (PresentSelected list id selection) = []
 cond_mentions (Compare k) = comparison_mentions k
 cond_mentions (CompareMeant k) = meant_comparison_mentions k
+cond_mentions (Match k) = matching_mentions k
 
 -- what the comparisons of a condition look at
 unfoldable pub mentions : Cond → List Mention

@@ -4,6 +4,8 @@ use Rattle.std.specs.List.{flat_map, list_any}
 use Rattle.avp_lists.specs.Pairs.{value_eq}
 use Rattle.avp_dict.specs.declared.forms.Form.{Form}
 use Rattle.avp_dict.specs.declared.forms.Form.TheVariants.{AsTyped, Ipv6Address, Ipv6Prefix, Ipv4Prefix, InterfaceId, Date, TaggedInteger, TaggedString}
+use Rattle.avp_unlang.specs.PatternTruth.{pattern_in}
+use Rattle.avp_unlang.specs.PolicyPatterns.{same_bool, same_pattern}
 use Rattle.avp_unlang.specs.Truth.{same_code}
 use Rattle.avp_unlang.specs.declared.tree.Branch.{Branch}
 use Rattle.avp_unlang.specs.declared.tree.Comparand.{Comparand}
@@ -11,8 +13,9 @@ use Rattle.avp_unlang.specs.declared.tree.Comparand.TheVariants as comparand
 use Rattle.avp_unlang.specs.declared.tree.Comparison.{Comparison}
 use Rattle.avp_unlang.specs.declared.tree.Cond.{Cond}
 use Rattle.avp_unlang.specs.declared.tree.Cond.TheFolds.{fold-Cond}
-use Rattle.avp_unlang.specs.declared.tree.Cond.TheOpen.{Cond-F, Any, All, Not, Last, Present, PresentSelected, Compare, CompareMeant}
+use Rattle.avp_unlang.specs.declared.tree.Cond.TheOpen.{Cond-F, Any, All, Not, Last, Present, PresentSelected, Compare, CompareMeant, Match}
 use Rattle.avp_unlang.specs.declared.tree.Cond.TheViews.{out-Cond}
+use Rattle.avp_unlang.specs.declared.tree.Matching.{Matching}
 use Rattle.avp_unlang.specs.declared.tree.MeantComparand.{MeantComparand}
 use Rattle.avp_unlang.specs.declared.tree.MeantComparand.TheVariants as meant
 use Rattle.avp_unlang.specs.declared.tree.MeantComparison.{MeantComparison}
@@ -72,6 +75,11 @@ same_meant_comparison k l =
     means_same (selected k.list k.id k.selection) (selected l.list l.id l.selection)
     && same_relation k.relation l.relation && same_meant_comparand k.comparand l.comparand
 
+abbrev pub same_matching : Matching → Matching → Bool
+same_matching k l =
+    means_same (selected k.list k.id k.selection) (selected l.list l.id l.selection)
+    && same_bool k.negated l.negated && same_pattern (pattern_in k) (pattern_in l)
+
 -- ---- conditions
 
 -- whether each of a list is the same as the one in its place of the other
@@ -90,6 +98,7 @@ same_layer (PresentSelected list id selection) (PresentSelected other n tags) =
     means_same (selected list id selection) (selected other n tags)
 same_layer (Compare k) (Compare l) = same_comparison k l
 same_layer (CompareMeant k) (CompareMeant l) = same_meant_comparison k l
+same_layer (Match k) (Match l) = same_matching k l
 same_layer _ _ = false
 
 abbrev pub same_as : Cond-F (Cond → Bool) → Cond → Bool

@@ -3,17 +3,18 @@
 ghost use Rattle.std.specs.Prelude.{◌≡◌, false, map};
 ghost use Rattle.std.specs.List.{flat_map, list_any};
 ghost use Rattle.avp_lists.specs.declared.lists.State.{State};
-ghost use Rattle.avp_unlang.specs.Truth.{truth};
+ghost use Rattle.avp_dict.specs.Dictionary.{Dictionary};
+ghost use Rattle.avp_unlang.specs.Truth.{truth, truth_by};
 ghost use Rattle.avp_unlang.specs.declared.codes.Code.{Code};
 ghost use Rattle.avp_unlang.specs.declared.tree.Cond.{Cond};
-ghost use Rattle.policy_warnings.specs.Absences.{EmptyLacks, NegationsDiffer, WarnsOfNegations, all_of, always, any_implies, any_of, asked, both, compared, either, negated, said_of, warns_of_absence};
-ghost use Rattle.policy_warnings.specs.Answers.{server_truth};
-ghost use Rattle.policy_warnings.specs.Mentions.{comparand_mentions, comparison_mentions, meant_comparand_mentions, meant_comparison_mentions, mentions};
+ghost use Rattle.policy_warnings.specs.Absences.{EmptyLacks, NegatedMatchingsDiffer, NegationsDiffer, WarnsOfNegatedMatchings, WarnsOfNegations, all_of, always, any_implies, any_of, asked, both, compared, either, negated, said_of, warns_of_absence};
+ghost use Rattle.policy_warnings.specs.Answers.{server_truth, server_truth_by};
+ghost use Rattle.policy_warnings.specs.Mentions.{comparand_mentions, comparison_mentions, matching_mentions, meant_comparand_mentions, meant_comparison_mentions, mentions};
 ghost use Rattle.policy_warnings.specs.declared.absences.Absence.{Absence};
 ghost use Rattle.policy_warnings.specs.declared.mentions.Mention.{Mention};
 
 use crate::mentions::Mention;
-use avp_unlang::{Comparand, Comparison, Cond, MeantComparand, MeantComparison};
+use avp_unlang::{Comparand, Comparison, Cond, Matching, MeantComparand, MeantComparison};
 
 /// What a condition says of an attribute, and where it overlooks that the attribute is absent.
 #[derive(Clone, Copy, Debug)]
@@ -119,6 +120,12 @@ fn meant_comparison_implies(comparison: &MeantComparison, mention: Mention) -> b
         }
 }
 
+fn matching_implies(matching: &Matching, mention: Mention) -> bool
+    ensures { result ≡ any_implies (matching_mentions matching.now) mention }
+{
+    Mention::selected(matching.list, matching.id, matching.selection).implies(mention)
+}
+
 #[cycle(absences)]
 fn all_of(conds: &[Cond], mention: Mention) -> Absence
     ensures { result ≡ all_of always (map (said_of mention) conds.now) }
@@ -142,7 +149,7 @@ fn any_of(conds: &[Cond], mention: Mention) -> Absence
 }
 
 #[cycle(absences)]
-#[tactic(auto, using(crate::proofs::Layers::absence_any, crate::proofs::Layers::absence_all, crate::proofs::Layers::absence_not, crate::proofs::Layers::absence_last, crate::proofs::Layers::absence_present, crate::proofs::Layers::absence_present_selected, crate::proofs::Layers::absence_compare, crate::proofs::Layers::absence_compare_meant))]
+#[tactic(auto, using(crate::proofs::Layers::absence_any, crate::proofs::Layers::absence_all, crate::proofs::Layers::absence_not, crate::proofs::Layers::absence_last, crate::proofs::Layers::absence_present, crate::proofs::Layers::absence_present_selected, crate::proofs::Layers::absence_compare, crate::proofs::Layers::absence_compare_meant, crate::proofs::Layers::absence_match))]
 pub(crate) fn said_of(cond: &Cond, mention: Mention) -> Absence
     ensures { result ≡ said_of mention cond.now }
 {
@@ -159,6 +166,7 @@ pub(crate) fn said_of(cond: &Cond, mention: Mention) -> Absence
         Cond::CompareMeant(comparison) => {
             Absence::compared(meant_comparison_implies(comparison, mention))
         }
+        Cond::Match(matching) => Absence::compared(matching_implies(matching, mention)),
     }
 }
 
@@ -194,6 +202,16 @@ fn meant_comparison_overlooked(comparison: &MeantComparison, whole: &Cond) -> bo
     }
 }
 
+fn matching_overlooked(matching: &Matching, whole: &Cond) -> bool
+    ensures { result ≡ list_any (λ (m : Mention). (said_of m whole.now).overlooked_when_true)
+        (matching_mentions matching.now) }
+{
+    overlooks(
+        whole,
+        Mention::selected(matching.list, matching.id, matching.selection),
+    )
+}
+
 #[cycle(overlooking)]
 fn any_overlooked(conds: &[Cond], whole: &Cond) -> bool
     ensures { result ≡ list_any (λ (m : Mention). (said_of m whole.now).overlooked_when_true)
@@ -209,7 +227,7 @@ fn any_overlooked(conds: &[Cond], whole: &Cond) -> bool
 
 // Whether an absence that a comparison in this part of a condition may meet is overlooked by the whole.
 #[cycle(overlooking)]
-#[tactic(auto, using(crate::proofs::Layers::mentions_any, crate::proofs::Layers::mentions_all, crate::proofs::Layers::mentions_not, crate::proofs::Layers::mentions_last, crate::proofs::Layers::mentions_present, crate::proofs::Layers::mentions_present_selected, crate::proofs::Layers::mentions_compare, crate::proofs::Layers::mentions_compare_meant))]
+#[tactic(auto, using(crate::proofs::Layers::mentions_any, crate::proofs::Layers::mentions_all, crate::proofs::Layers::mentions_not, crate::proofs::Layers::mentions_last, crate::proofs::Layers::mentions_present, crate::proofs::Layers::mentions_present_selected, crate::proofs::Layers::mentions_compare, crate::proofs::Layers::mentions_compare_meant, crate::proofs::Layers::mentions_match))]
 fn is_overlooked(part: &Cond, whole: &Cond) -> bool
     ensures { result ≡ list_any (λ (m : Mention). (said_of m whole.now).overlooked_when_true)
         (mentions part.now) }
@@ -220,6 +238,7 @@ fn is_overlooked(part: &Cond, whole: &Cond) -> bool
         Cond::Last(_) | Cond::Present(..) | Cond::PresentSelected(..) => false,
         Cond::Compare(comparison) => comparison_overlooked(comparison, whole),
         Cond::CompareMeant(comparison) => meant_comparison_overlooked(comparison, whole),
+        Cond::Match(matching) => matching_overlooked(matching, whole),
     }
 }
 
@@ -229,15 +248,19 @@ pub fn warns_of_absence(cond: &Cond) -> bool
     ensures definition { result ≡ warns_of_absence cond.now }
     ensures agrees { result ≡ false
         → (s : State) (c : Code) → truth cond.now s c ≡ server_truth cond.now s c }
+    ensures agrees_by { result ≡ false → (d : Dictionary) (s : State) (c : Code)
+        → truth_by d cond.now s c ≡ server_truth_by d cond.now s c }
 {
     is_overlooked(cond, cond)
 }
 
 /// Each comparison under `!` is warned of, and where its attribute is absent a server does otherwise. A law, as a call
 /// that does nothing.
-#[tactic(auto, using(crate::proofs::Negations::warned, crate::proofs::Negations::lacks))]
+#[tactic(auto, using(crate::proofs::Negations::warned, crate::proofs::Negations::matching_warned, crate::proofs::Negations::lacks))]
 pub fn warns_of_negations()
     ensures warned { WarnsOfNegations }
     ensures differ { NegationsDiffer }
+    ensures matchings_warned { WarnsOfNegatedMatchings }
+    ensures matchings_differ { NegatedMatchingsDiffer }
     ensures lacks { EmptyLacks }
 {}

@@ -3,17 +3,20 @@
 ghost use Rattle.std.specs.Prelude.{◌≡◌, ◌++◌, [], IfOk, OnOk, map};
 ghost use Rattle.std.specs.List.{flat_map, list_any};
 ghost use Rattle.avp_lists.specs.Pairs.{value_eq};
+ghost use Rattle.avp_unlang.specs.PatternTruth.{pattern_in};
+ghost use Rattle.avp_unlang.specs.PolicyPatterns.{same_bool, same_pattern};
 ghost use Rattle.avp_unlang.specs.Truth.{same_code};
 ghost use Rattle.avp_unlang.specs.declared.tree.Branch.{Branch};
 ghost use Rattle.avp_unlang.specs.declared.tree.Statement.TheViews.{out-Branch};
-ghost use Rattle.policy_warnings.specs.Repeats.{all_same, link, repeated_conditions, repeats_after, repeats_in, same_comparand, same_comparison, same_cond, same_form, same_meant_comparand, same_meant_comparison, same_relation};
+ghost use Rattle.policy_warnings.specs.Repeats.{all_same, link, repeated_conditions, repeats_after, repeats_in, same_comparand, same_comparison, same_cond, same_form, same_matching, same_meant_comparand, same_meant_comparison, same_relation};
 
 use crate::mentions::Mention;
 use crate::warnings::{Reason, Warning, push_if};
 use avp_dict::Form;
 use avp_lists::Value;
 use avp_unlang::{
-    Branch, Code, Comparand, Comparison, Cond, MeantComparand, MeantComparison, Relation, Statement,
+    Branch, Code, Comparand, Comparison, Cond, Matching, MeantComparand, MeantComparison, Relation,
+    Statement,
 };
 use std::alloc::{AllocError, Global};
 
@@ -89,6 +92,26 @@ fn same_meant_comparison(comparison: &MeantComparison, other: &MeantComparison) 
         && same_meant_comparand(&comparison.comparand, &other.comparand)
 }
 
+#[tactic(auto, unfolding(avp_unlang::specs::PolicyPatterns::same_pattern))]
+fn same_pattern(matching: &Matching, other: &Matching) -> bool
+    ensures { result ≡ same_pattern (pattern_in matching.now) (pattern_in other.now) }
+{
+    matching.pattern.as_slice() == other.pattern.as_slice()
+        && matching.flags.ignore_case == other.flags.ignore_case
+        && matching.flags.multi_line == other.flags.multi_line
+}
+
+fn same_matching(matching: &Matching, other: &Matching) -> bool
+    ensures { result ≡ same_matching matching.now other.now }
+{
+    Mention::selected(matching.list, matching.id, matching.selection).means_same(Mention::selected(
+        other.list,
+        other.id,
+        other.selection,
+    )) && matching.negated == other.negated
+        && same_pattern(matching, other)
+}
+
 #[cycle(sameness)]
 fn all_same(conds: &[Cond], others: &[Cond]) -> bool
     ensures { result ≡ all_same (map same_cond conds.now) others.now }
@@ -124,6 +147,7 @@ fn same_cond(cond: &Cond, other: &Cond) -> bool
         (Cond::CompareMeant(comparison), Cond::CompareMeant(other)) => {
             same_meant_comparison(comparison, other)
         }
+        (Cond::Match(matching), Cond::Match(other)) => same_matching(matching, other),
         _ => false,
     }
 }

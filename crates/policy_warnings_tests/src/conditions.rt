@@ -16,7 +16,7 @@ fn is_warned(statements: &[Statement]) -> Result<bool, Fail> {
     Ok(warns_of_absence(&branch.cond))
 }
 
-fn warned(alloc: Global, policy: &[u8]) -> Result<bool, Fail> {
+pub(crate) fn warned(alloc: Global, policy: &[u8]) -> Result<bool, Fail> {
     let dictionary = test_dictionary(alloc)?;
     let policy = read_policy(alloc, &dictionary, policy)?;
     is_warned(policy.statements().as_slice())

@@ -8,6 +8,8 @@ mod counts;
 #[cfg(test)]
 mod groupings;
 #[cfg(test)]
+mod patterns;
+#[cfg(test)]
 mod policies;
 #[cfg(test)]
 mod repeats;

@@ -6,7 +6,7 @@ use std::alloc::Global;
 use std::test::Fail;
 
 // The line of the only repeated condition; 0 where there is none, and 99 where there are more.
-fn repeated(alloc: Global, policy: &[u8]) -> Result<usize, Fail> {
+pub(crate) fn repeated(alloc: Global, policy: &[u8]) -> Result<usize, Fail> {
     let dictionary = test_dictionary(alloc)?;
     let policy = read_policy(alloc, &dictionary, policy)?;
     let warnings = repeated_conditions(alloc, policy.statements().as_slice())?;

@@ -17,6 +17,7 @@ use Rattle.radpolicy.specs.declared.jobs.Command.TheVariants.{Check, Decode, Enc
 use Rattle.radpolicy.specs.declared.jobs.Form.{Form}
 use Rattle.radpolicy.specs.declared.jobs.Job.{Job}
 use Rattle.avp_unlang.specs.declared.tree.Statement.{Statement}
+use Rattle.avp_unlang.specs.Forms.{IsByText}
 use Rattle.avp_unlang.specs.Policies.{SpellsPolicy}
 use Rattle.avp_unlang.specs.Meaning.{Outcome as End, meaning_of}
 use Rattle.avp_unlang.specs.declared.codes.Code.TheVariants as Code
@@ -209,16 +210,23 @@ abbrev pub IsPolicyFault : Fault → Type 0
 IsPolicyFault (fault.Policy f) = f.kind ≢ policy.Memory
 IsPolicyFault _ = ⊥
 
+-- One that the policy's text decides. When a pattern of a wider policy is too large to be compiled is left open.
+abbrev pub IsTextFault : List ℕ → Fault → Type 0
+IsTextFault text (fault.Policy f) = IsByText (profile_of text) f.kind
+IsTextFault text _ = ⊥
+
 -- A text spells no policy by a dictionary. Which fault of it comes, and its line, is left open.
 pub record IsUnspelled (dictionary : Dictionary) (text : List ℕ) (f : Fault) : Type 0 where
-  pub none : (statements : List Statement) → SpellsPolicy dictionary text statements → ⊥
+  pub none : IsTextFault text f → (statements : List Statement)
+      → SpellsPolicy dictionary text statements → ⊥
   pub fault : IsPolicyFault f
 
 -- The policy spells no statements. Which fault of it comes, and its line, is left open.
 pub record IsPolicyRefusal (job : Job) (f : Fault) : Type 0 where
   pub opened : Opened
   pub opens : IsOpened job opened
-  pub none : (statements : List Statement) → IsPolicy job opened.dictionary statements → ⊥
+  pub none : IsTextFault (policy_of job) f → (statements : List Statement)
+      → IsPolicy job opened.dictionary statements → ⊥
   pub fault : IsPolicyFault f
 
 -- the request is none
@@ -268,7 +276,8 @@ pub record IsCheckedPolicyRefusal (job : Job) (f : Fault) : Type 0 where
   pub dictionary : Dictionary
   pub read : dictionary_for job ≡ Ok dictionary
   pub given : job.policy ≢ None
-  pub none : (statements : List Statement) → IsPolicy job dictionary statements → ⊥
+  pub none : IsTextFault (policy_of job) f → (statements : List Statement)
+      → IsPolicy job dictionary statements → ⊥
   pub fault : IsPolicyFault f
 
 abbrev pub IsCheckRefusal : Job → Fault → Type 0

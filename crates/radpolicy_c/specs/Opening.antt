@@ -29,7 +29,7 @@ abbrev pub IsDictionaryRefusal : List NamedFile → Fault → Type 0
 IsDictionaryRefusal files (fault.Dictionary f) = dictionary_of max_lines files ≡ Err f
 IsDictionaryRefusal files _ = ⊥
 
--- the text spells no policy by the files' dictionary
+-- the text spells no policy by the files' dictionary, or a pattern of a wider one is too large to be compiled
 pub record IsPolicyRefusal (files : List NamedFile) (text : List ℕ) (f : Fault) : Type 0 where
   pub dictionary : Dictionary
   pub read : dictionary_of max_lines files ≡ Ok dictionary

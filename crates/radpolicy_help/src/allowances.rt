@@ -17,7 +17,14 @@ pub(crate) struct Allowance<'a> {
     pub(crate) name: &'a str,
 }
 
-// How many octets of a line are before its comment; all of them where it has none. Between quotes `#` begins none.
+// Whether what is before a slash is the sign of a comparison with a regular expression.
+fn is_match_sign(before: &[u8]) -> bool {
+    let before = before.trim_ascii();
+    before.ends_with(b"=~") || before.ends_with(b"!~")
+}
+
+// How many octets of a line are before its comment; all of them where it has none. Between quotes, and the slashes of a
+// regular expression, `#` begins none.
 fn comment_start(line: &[u8]) -> usize {
     let mut quote = None;
     let mut is_escaped = false;
@@ -29,6 +36,7 @@ fn comment_start(line: &[u8]) -> usize {
             Some(_) => {}
             None if *octet == b'#' => return at,
             None if *octet == b'"' || *octet == b'\'' => quote = Some(*octet),
+            None if *octet == b'/' && is_match_sign(line.split_at(at).0) => quote = Some(*octet),
             None => {}
         }
     }

@@ -1,6 +1,7 @@
 //! What may come next at a place in a policy.
 
-use crate::policy_tokens::{Token, tokens};
+use crate::policy_tokens::{Token, is_match, tokens};
+use avp_forms::Profile;
 use std::alloc::{AllocError, Global};
 
 /// What may come next.
@@ -143,6 +144,8 @@ impl<'a> Context<'a> {
             sign => {
                 if self.expected == Expected::Relation && is_relation(sign) {
                     self.expected = Expected::Comparand;
+                } else if self.expected == Expected::Relation && is_match(sign) {
+                    self.expected = Expected::Joint;
                 }
             }
         }
@@ -186,8 +189,12 @@ pub(crate) fn context_after<'a>(alloc: Global, front: &'a [u8]) -> Result<Contex
     Ok(context)
 }
 
-/// What may come next, in words.
-pub(crate) fn expected_text(expected: Expected, is_in_block: bool) -> &'static str {
+/// What may come next in a policy of a profile, in words.
+pub(crate) fn expected_text(
+    expected: Expected,
+    is_in_block: bool,
+    profile: Profile,
+) -> &'static str {
     match expected {
         Expected::Statement if is_in_block => {
             "a statement (update, if, transaction, ok, noop, updated, fail or reject) or }"
@@ -207,6 +214,9 @@ pub(crate) fn expected_text(expected: Expected, is_in_block: bool) -> &'static s
         Expected::Condition => "(",
         Expected::Operand =>
             "& and an attribute, a code (ok, noop, updated, fail or reject), ! or (",
+        Expected::Relation if profile == Profile::Wider => {
+            "one of == != < <= > >= =~ !~ && || )"
+        }
         Expected::Relation => "one of == != < <= > >= && || )",
         Expected::Comparand => "a value, a text in quotes, or & and an attribute",
         Expected::Joint => "one of && || )",

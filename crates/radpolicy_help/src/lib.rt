@@ -16,6 +16,7 @@ mod groupings;
 mod names;
 mod nearest;
 mod packets;
+mod patterns;
 mod places;
 mod pointing;
 mod policies;

@@ -4,12 +4,13 @@ use crate::allowances::push_unread_profile;
 use crate::contexts::{Context, Expected, context_after, expected_text, is_code};
 use crate::names::push_unknown_attribute;
 use crate::nearest::nearest_of;
+use crate::patterns::{fault_place, push_pattern_fault, unread_pattern_hint};
 use crate::places::{last_line, push_place};
-use crate::policy_tokens::{from_token, is_update_operator, text_of, token_of};
+use crate::policy_tokens::{from_token, is_match, is_update_operator, text_of, token_of};
 use crate::sources::Sources;
 use crate::texts::{push_all, push_choices};
 use crate::values::{push_not_value, tag_hint};
-use avp_forms::profile_of;
+use avp_forms::{Profile, profile_of};
 use avp_unlang::{PolicyFault, PolicyKind};
 use std::alloc::{AllocError, Global};
 
@@ -115,12 +116,13 @@ fn push_statement_hint(
 }
 
 // What to do where a condition goes on otherwise.
-fn condition_hint(context: &Context<'_>, found: &str) -> &'static str {
+fn condition_hint(context: &Context<'_>, found: &str, profile: Profile) -> &'static str {
     match (context.expected, found) {
-        (_, "=~" | "!~") => {
-            "regular expressions are left out here: write == and the whole text, or for a \
-            beginning &Name >= \"02-00\" && &Name < \"02-01\""
+        (_, "=~" | "!~") if profile == Profile::Plain => {
+            "regular expressions are read below # profile: wider in the first line; without it write \
+            == and the whole text"
         }
+        (_, "=~" | "!~") => "a regular expression follows & and the name of an attribute",
         (Expected::Relation, "=" | ":=") => "to compare, write ==; = and := set attributes",
         (Expected::Relation, "===" | "!==") => "to compare, write == or !=",
         (Expected::Relation | Expected::Joint, "{") => "a ) is missing before it",
@@ -177,6 +179,7 @@ fn push_misplaced_hint(
     context: &Context<'_>,
     found: &str,
     next: &str,
+    profile: Profile,
 ) -> Result<(), AllocError> {
     let hint = match context.expected {
         Expected::Statement if found == "}" => "no block is open: take this } out",
@@ -193,7 +196,7 @@ fn push_misplaced_hint(
         | Expected::Relation
         | Expected::Comparand
         | Expected::ComparedReference
-        | Expected::Joint => condition_hint(context, found),
+        | Expected::Joint => condition_hint(context, found, profile),
     };
     push_all(help, &[hint, "\n"])
 }
@@ -224,6 +227,15 @@ fn push_end_hint(
     }
 }
 
+// A token; of a comparison with a regular expression its sign.
+fn without_pattern(found: &str) -> &str {
+    if is_match(found) {
+        found.get(..2).unwrap_or(found)
+    } else {
+        found
+    }
+}
+
 fn push_misplaced(
     alloc: Global,
     help: &mut Vec<u8>,
@@ -232,14 +244,16 @@ fn push_misplaced(
     found: &str,
     next: &str,
 ) -> Result<(), AllocError> {
-    let expected = expected_text(context.expected, !context.blocks.is_empty());
+    let profile = profile_of(sources.policy.text);
+    let expected = expected_text(context.expected, !context.blocks.is_empty(), profile);
     if found.is_empty() {
         push_all(help, &["the text ends; here may be ", expected, "\n"])?;
         return push_end_hint(alloc, help, context, sources);
     }
+    let found = without_pattern(found);
     push_all(help, &["found ", found, "; here may be "])?;
     push_all(help, &[expected, "\n"])?;
-    push_misplaced_hint(alloc, help, context, found, next)
+    push_misplaced_hint(alloc, help, context, found, next, profile)
 }
 
 // What to do about a text between double quotes with an expansion that is none.
@@ -276,8 +290,10 @@ fn unreadable_hint(found: &str) -> &'static str {
         "lines that go on are left out here: write the line in one piece"
     } else if found.starts_with(",") {
         "lines end without a comma: take it out"
-    } else if found.starts_with("~") || found.starts_with("*") {
-        "regular expressions and patterns are left out here: write == and the whole text"
+    } else if found.starts_with("~") {
+        "regular expressions belong into if ( .. ), below # profile: wider in the first line"
+    } else if found.starts_with("*") {
+        "patterns with * are left out here: write == and the whole text"
     } else {
         "put a text with other signs than letters, digits and - _ . / : @ into quotes"
     }
@@ -366,11 +382,16 @@ fn push_sentences(
     kind: PolicyKind,
     context: &Context<'_>,
     sources: &Sources<'_>,
-    found: &str,
+    back: &[u8],
     next: &str,
 ) -> Result<(), AllocError> {
+    let found = text_of(token_of(back));
     match kind {
         PolicyKind::Misplaced => push_misplaced(alloc, help, context, sources, found, next),
+        PolicyKind::Unreadable if is_match(found) => {
+            push_all(help, &["found ", without_pattern(found), "\n"])?;
+            push_all(help, &[unread_pattern_hint(back), "\n"])
+        }
         PolicyKind::Unreadable => {
             push_all(help, &["found ", found, "\n"])?;
             push_all(help, &[unreadable_hint(found), "\n"])
@@ -384,27 +405,48 @@ fn push_sentences(
             let profile = profile_of(sources.policy.text);
             push_not_value(alloc, help, sources, profile, name_in(context.name), found)
         }
-        PolicyKind::TooLong => push_all(
-            help,
-            &[
-                "a value of ",
-                name_in(context.name),
-                " has fewer octets than this text\nshorten it\n",
-            ],
-        ),
-        PolicyKind::NotWritable => push_all(
-            help,
-            &[
-                name_in(found),
-                " is not written under this name\nwrite the name of what is in it, as \
-            Cisco-AVPair for Vendor-Specific, or User-Password for Attr-2\n",
-            ],
-        ),
+        PolicyKind::TooLong => push_too_long(help, name_in(context.name)),
+        PolicyKind::NotWritable => push_not_writable(help, name_in(found)),
         PolicyKind::TooDeep => push_all(help, &["64 signs { ( and ! are open here already\n"]),
         PolicyKind::TooLarge => push_all(help, &["a policy has at most 65535 lines and words\n"]),
+        PolicyKind::OtherType if is_match(found) => push_no_text(help, name_in(context.name)),
         PolicyKind::OtherType => push_other_type(help, name_in(context.name), found),
+        PolicyKind::Pattern(fault) => push_pattern_fault(help, fault),
         PolicyKind::Memory => Ok(()),
     }
+}
+
+fn push_too_long(help: &mut Vec<u8>, name: &str) -> Result<(), AllocError> {
+    push_all(
+        help,
+        &[
+            "a value of ",
+            name,
+            " has fewer octets than this text\nshorten it\n",
+        ],
+    )
+}
+
+fn push_not_writable(help: &mut Vec<u8>, name: &str) -> Result<(), AllocError> {
+    push_all(
+        help,
+        &[
+            name,
+            " is not written under this name\nwrite the name of what is in it, as \
+            Cisco-AVPair for Vendor-Specific, or User-Password for Attr-2\n",
+        ],
+    )
+}
+
+fn push_no_text(help: &mut Vec<u8>, name: &str) -> Result<(), AllocError> {
+    push_all(
+        help,
+        &[
+            "a regular expression is for texts, and ",
+            name,
+            " is none\ncompare it with ==, < or >\n",
+        ],
+    )
 }
 
 fn push_other_type(help: &mut Vec<u8>, name: &str, found: &str) -> Result<(), AllocError> {
@@ -446,7 +488,11 @@ pub(crate) fn policy_help(
     let next = text_of(token_of(from_token(back.get(found.len()..).unwrap_or(&[]))));
     let found = text_of(found);
     let mut help = Vec::new(alloc);
-    push_place(alloc, &mut help, sources.policy, fault.offset)?;
+    let place = fault.offset.saturating_add(match fault.kind {
+        PolicyKind::Pattern(fault) => fault_place(back, fault),
+        _ => 0,
+    });
+    push_place(alloc, &mut help, sources.policy, place)?;
     if fault.kind == PolicyKind::Unknown
         && is_after_value(&context, front)
         && !is_update_operator(next)
@@ -454,7 +500,7 @@ pub(crate) fn policy_help(
         push_all(&mut help, &["found ", found, " after a value\n"])?;
         push_all(&mut help, &["put a text with blanks into quotes\n"])?;
     } else {
-        push_sentences(alloc, &mut help, fault.kind, &context, sources, found, next)?;
+        push_sentences(alloc, &mut help, fault.kind, &context, sources, back, next)?;
     }
     push_unread_profile(&mut help, text)?;
     Ok(help)

@@ -89,11 +89,61 @@ fn is_double(first: u8, second: u8) -> bool {
     }
 }
 
+/// How many octets of a text that begins with the sign of a comparison with a regular expression are before what it
+/// says: the sign, blanks and a slash.
+pub(crate) fn pattern_start(text: &[u8]) -> Option<usize> {
+    let [b'=' | b'!', b'~', rest @ ..] = text else {
+        return None;
+    };
+    let blanks = rest
+        .iter()
+        .position(|octet| !matches!(*octet, b' ' | b'\t'))?;
+    if rest.get(blanks) == Some(&b'/') {
+        Some(blanks.saturating_add(3))
+    } else {
+        None
+    }
+}
+
+/// How many octets such a text has up to the closing slash, which is on the same line.
+pub(crate) fn pattern_end(text: &[u8]) -> Option<usize> {
+    let start = pattern_start(text)?;
+    let mut is_escaped = false;
+    for (at, octet) in text.iter().enumerate() {
+        if at < start {
+            continue;
+        }
+        match *octet {
+            b'\n' => return None,
+            b'/' if !is_escaped => return Some(at.saturating_add(1)),
+            _ => is_escaped = *octet == b'\\' && !is_escaped,
+        }
+    }
+    None
+}
+
+// The octets of a comparison with a regular expression, its flags included; those of its sign where it has none.
+fn pattern_length(text: &[u8]) -> usize {
+    match pattern_end(text) {
+        Some(end) => {
+            let flags = word_length(text.get(end..).unwrap_or(&[]));
+            end.saturating_add(flags)
+        }
+        None => 2,
+    }
+}
+
+/// Whether a token is a comparison with a regular expression, or its sign.
+pub(crate) fn is_match(token: &str) -> bool {
+    token.starts_with("=~") || token.starts_with("!~")
+}
+
 /// How many octets has the token that begins a text.
 pub(crate) fn token_length(text: &[u8]) -> usize {
     match text {
         [] => 0,
         [b'"' | b'\'', ..] => quoted_length(text),
+        [b'=' | b'!', b'~', ..] => pattern_length(text),
         [first, second, ..] if is_double(*first, *second) => 2,
         _ => word_length(text).max(1),
     }

@@ -149,6 +149,7 @@ impl<'a> Watcher<'a> {
             }
             Cond::Compare(comparison) => self.compares_virtual(comparison),
             Cond::CompareMeant(comparison) => self.compares_meant_virtual(comparison),
+            Cond::Match(matching) => self.is_virtual(matching.list, matching.id),
         }
     }
 

@@ -12,7 +12,7 @@ use std::str;
 use std::test::Fail;
 
 // The help for the fault of a policy that the test dictionary's policies are read by.
-fn policy_help(alloc: Global, policy: &[u8]) -> Result<Vec<u8>, Fail> {
+pub(crate) fn policy_help(alloc: Global, policy: &[u8]) -> Result<Vec<u8>, Fail> {
     let files = one_file(alloc, TEST_DICTIONARY)?;
     let nothing = Source {
         path: "",
@@ -37,7 +37,7 @@ fn policy_help(alloc: Global, policy: &[u8]) -> Result<Vec<u8>, Fail> {
     }
 }
 
-fn has(help: &[u8], text: &str) -> bool {
+pub(crate) fn has(help: &[u8], text: &str) -> bool {
     match str::from_utf8(help) {
         Ok(help) => help.contains(text),
         Err(_) => false,

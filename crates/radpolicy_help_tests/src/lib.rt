@@ -4,6 +4,8 @@
 #[cfg(test)]
 mod helps;
 #[cfg(test)]
+mod patterns;
+#[cfg(test)]
 mod stopped;
 #[cfg(test)]
 mod warned;

@@ -79,19 +79,34 @@ abbrev pub is_operator : Awaited → Bool
 is_operator await.Operator = true
 is_operator _ = false
 
--- a value begins that is hidden
+abbrev pub is_pattern : Awaited → Bool
+is_pattern (await.Pattern hidden) = true
+is_pattern _ = false
+
+abbrev pub is_hidden_pattern : Awaited → Bool
+is_hidden_pattern (await.Pattern hidden) = hidden
+is_hidden_pattern _ = false
+
+-- a value or a pattern begins that is hidden
 unfoldable pub begins_hidden : ℕ → Reading → Bool
-begins_hidden c r = is_value r.awaited && (is_word_octet c || is_quote c)
+begins_hidden c r =
+    (is_value r.awaited && (is_word_octet c || is_quote c))
+    || (is_hidden_pattern r.awaited && c == 47)
 
 abbrev pub word_begun : ℕ → Reading → Reading
 word_begun c r =
     if is_value r.awaited then record r { place = place.HiddenWord }
     else record r { place = place.Word false; name = if c == 58 then [] else c ∷ [] }
 
+-- The `~` of `=~` and `!~` is before a pattern, which is hidden where a value would be. It is between slashes, and read
+-- as a quoted text.
 unfoldable pub after_between : ℕ → Reading → Reading
 after_between c r =
     if c == 35 then record r { place = place.Comment }
     else if is_quote c then record r { place = place.Quoted c false (is_value r.awaited) }
+    else if c == 126 then record r { awaited = await.Pattern (is_value r.awaited) }
+    else if is_pattern r.awaited && c == 47 then
+    record r { place = place.Quoted c false (is_hidden_pattern r.awaited) }
     else if is_operator r.awaited && is_operator_octet c then record r { awaited = await.Value }
     else if is_word_octet c then word_begun c r
     else if is_blank c || is_operator_octet c then r
@@ -136,8 +151,8 @@ octet_shown c r = octet_shown_in c r r.place
 abbrev pub after_octet : Redaction → ℕ → Reading → Reading
 after_octet redaction c r = after_in redaction c r r.place
 
--- A text from where a reader is. A word or quoted text that follows an operator after a secret attribute's name is
--- shown as (hidden).
+-- A text from where a reader is. A word, a quoted text or a pattern that follows an operator after a secret attribute's
+-- name is shown as (hidden).
 abbrev pub text_shown : Redaction → Reading → List ℕ → List ℕ
 text_shown redaction r [] = []
 text_shown redaction r (c ∷ cs) =

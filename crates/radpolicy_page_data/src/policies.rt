@@ -1,7 +1,7 @@
 //! A policy's text with the values hidden that follow names of secret attributes.
 
 ghost use Rattle.std.specs.Prelude.{◌≡◌, ◌++◌, IfOk, OnOk};
-ghost use Rattle.radpolicy_page_data.specs.Policies.{after_between, after_comment, after_octet, after_quoted, after_word, after_word_octet, begins_hidden, beginning, ends_as_secret_name, is_blank, is_operator, is_operator_octet, is_quote, is_secret_name, is_value, is_word_octet, octet_shown, policy_shown, settled, text_shown, word_begun};
+ghost use Rattle.radpolicy_page_data.specs.Policies.{after_between, after_comment, after_octet, after_quoted, after_word, after_word_octet, begins_hidden, beginning, ends_as_secret_name, is_blank, is_hidden_pattern, is_operator, is_operator_octet, is_pattern, is_quote, is_secret_name, is_value, is_word_octet, octet_shown, policy_shown, settled, text_shown, word_begun};
 
 use crate::redactions::Redaction;
 use radpolicy_common::SecretValues;
@@ -16,6 +16,8 @@ pub enum Awaited {
     Operator,
     /// After an operator that follows such a name.
     Value,
+    /// After the sign of a comparison with a pattern, and whether it is hidden.
+    Pattern(bool),
 }
 
 /// Where a reader of a policy's text is.
@@ -25,7 +27,7 @@ pub enum Place {
     /// In a word, and whether a part of it before a `:` names a secret attribute.
     Word(bool),
     HiddenWord,
-    /// In a quoted text: its quote, whether a `\` was before, and whether it is hidden.
+    /// In a quoted text or a pattern: its quote or slash, whether a `\` was before, and whether it is hidden.
     Quoted(u8, bool, bool),
     Comment,
 }
@@ -96,6 +98,18 @@ impl Awaited {
         ensures { result ≡ is_operator self }
     {
         matches!(self, Awaited::Operator)
+    }
+
+    fn is_pattern(self) -> bool
+        ensures { result ≡ is_pattern self }
+    {
+        matches!(self, Awaited::Pattern(_))
+    }
+
+    fn is_hidden_pattern(self) -> bool
+        ensures { result ≡ is_hidden_pattern self }
+    {
+        matches!(self, Awaited::Pattern(true))
     }
 }
 
@@ -187,6 +201,10 @@ impl Reader {
             self.place = Place::Comment;
         } else if is_quote(octet) {
             self.place = Place::Quoted(octet, false, self.awaited.is_value());
+        } else if octet == b'~' {
+            self.awaited = Awaited::Pattern(self.awaited.is_value());
+        } else if self.awaited.is_pattern() && octet == b'/' {
+            self.place = Place::Quoted(octet, false, self.awaited.is_hidden_pattern());
         } else if self.awaited.is_operator() && is_operator_octet(octet) {
             self.awaited = Awaited::Value;
         } else if is_word_octet(octet) {
@@ -254,7 +272,8 @@ impl Reader {
     fn begins_hidden(&self, octet: u8) -> bool
         ensures { result ≡ begins_hidden octet self.now }
     {
-        self.awaited.is_value() && (is_word_octet(octet) || is_quote(octet))
+        (self.awaited.is_value() && (is_word_octet(octet) || is_quote(octet)))
+            || (self.awaited.is_hidden_pattern() && octet == b'/')
     }
 
     fn show(&self, text: &mut Vec<u8>, octet: u8) -> Result<(), AllocError>
@@ -285,8 +304,8 @@ fn text_shown(alloc: Global, redaction: &Redaction<'_>, text: &[u8]) -> Result<V
     Ok(shown)
 }
 
-/// A policy's text. Unless secret values are shown, a word or a quoted text that follows an operator after a secret
-/// attribute's name is `(hidden)`: what an update line gives it, and what a condition compares it with.
+/// A policy's text. Unless secret values are shown, a word, a quoted text or a pattern that follows an operator after a
+/// secret attribute's name is `(hidden)`: what an update line gives it, and what a condition compares it with.
 #[tactic(auto, unfolding(crate::specs::Policies::policy_shown))]
 pub fn policy_shown(
     alloc: Global,

@@ -44,3 +44,20 @@ if (&User-Password) { reject }
     );
     Ok(())
 }
+
+#[test]
+fn patterns_are_hidden(rt: HostRuntime) -> Result<(), Fail> {
+    let policy = b"# profile: wider
+if (&User-Password =~ /a \"b#\\/c/i && &User-Name !~ /\"#/ && &User-Password != \"x\") { ok }
+if (&User-Name =~ /User-Password == a/ && &User-Password !~\t/x y/) { ok }
+";
+    let wanted = b"# profile: wider
+if (&User-Password =~ (hidden)i && &User-Name !~ /\"#/ && &User-Password != (hidden)) { ok }
+if (&User-Name =~ /User-Password == a/ && &User-Password !~\t(hidden)) { ok }
+";
+    assert_eq!(&rt;
+        shown(rt.alloc(), policy, SecretValues::Hidden)?.as_slice(),
+        wanted.as_slice()
+    );
+    Ok(())
+}

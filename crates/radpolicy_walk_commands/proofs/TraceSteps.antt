@@ -3,7 +3,7 @@ use Rattle.std.proofs.Common.{◌≡◌, ◌<◌, ℕ, zero, suc, Bool, true, fa
 use Rattle.std.specs.List.{flat_map, slice_index_or}
 use Rattle.avp_dict.specs.Dictionary.{Dictionary}
 use Rattle.avp_unlang.specs.Meaning.{Outcome, running}
-use Rattle.avp_unlang.specs.Truth.{truth}
+use Rattle.avp_unlang.specs.Truth.{truth_by}
 use Rattle.avp_unlang.specs.declared.codes.Code.{Code}
 use Rattle.avp_unlang.specs.declared.tree.Branch.{Branch}
 use Rattle.avp_unlang.specs.declared.tree.Line.{Line}
@@ -73,14 +73,14 @@ module _ (d : Dictionary) (P : Outcome → Entry → Type 0) (C : List Line → 
       both o (steps d e.0 o) (unless_stopped (block es) (end_of o (steps d e.0 o)))
       (e.1 (shows.first (lines_in e.0) (flat_map lines_in (the_statements es)) c) o) (unless (block es) rest (end_of o (steps d e.0 o)))
 
-  of_branches : (es : List SuchBranch) (t : Steps) → C (flat_map lines_in_branch (the_branches es)) → IsSteps t → IsSteps (branch_steps (map (guarded d) (the_branches es)) t)
+  of_branches : (es : List SuchBranch) (t : Steps) → C (flat_map lines_in_branch (the_branches es)) → IsSteps t → IsSteps (branch_steps d (map (guarded d) (the_branches es)) t)
   of_branches [] t c h o = h o
   of_branches (e ∷ es) t c h o =
       let own = shows.first (lines_in_branch e.0) (flat_map lines_in_branch (the_branches es)) c in
       let others = shows.next (lines_in_branch e.0) (flat_map lines_in_branch (the_branches es)) c in
-      let rest = branch_steps (map (guarded d) (the_branches es)) t in
+      let rest = branch_steps d (map (guarded d) (the_branches es)) t in
       let after = running o.state o.code in
-      elim (truth (guarded d e.0).cond o.state o.code) as (λ b. AreSteps P o (cond b (tested (guarded d e.0).line true o ∷ (guarded d e.0).block after) (tested (guarded d e.0).line false o ∷ rest after)))
+      elim (truth_by d (guarded d e.0).cond o.state o.code) as (λ b. AreSteps P o (cond b (tested (guarded d e.0).line true o ∷ (guarded d e.0).block after) (tested (guarded d e.0).line false o ∷ rest after)))
       [ true ↦ (shows.test (guarded d e.0).line true o, e.1 own after) | false ↦ (shows.test (guarded d e.0).line false o, of_branches es t others h after) ]
 
   of_transaction : (n : ℕ) (t : Steps) → IsSteps t → IsSteps (λ o. entered n o ∷ then_steps t (λ r. closed n o.state r ∷ []) (running o.state o.code))

@@ -1,5 +1,8 @@
-use Rattle.policy_warnings.proofs.Negations.{differ}
+use Rattle.policy_warnings.proofs.Negations.{differ, matching_differ}
 use Rattle.policy_warnings.proofs.absences.warns_of_negations.Goals as goal
 
 pub returns-clause-differ : goal.returns-clause-differ
 returns-clause-differ c = differ
+
+pub returns-clause-matchings_differ : goal.returns-clause-matchings_differ
+returns-clause-matchings_differ c = matching_differ

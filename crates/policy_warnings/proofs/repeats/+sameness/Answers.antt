@@ -1,7 +1,7 @@
 use Rattle.std.proofs.Common.{ap, sym, ◌∙◌, map}
 use Rattle.policy_warnings.specs.Mentions.{means_same, selected, whole}
 use Rattle.policy_warnings.specs.Repeats.{all_same, same_cond}
-use Rattle.policy_warnings.proofs.Sameness.{no_Any, no_All, no_Not, no_Last, no_Present, no_PresentSelected, no_Compare, no_CompareMeant, lengths_differ, same_All, same_Any, same_Compare, same_CompareMeant, same_Last, same_Not, same_Present, same_PresentSelected}
+use Rattle.policy_warnings.proofs.Sameness.{no_Any, no_All, no_Not, no_Last, no_Present, no_PresentSelected, no_Compare, no_CompareMeant, no_Match, lengths_differ, same_All, same_Any, same_Compare, same_CompareMeant, same_Last, same_Match, same_Not, same_Present, same_PresentSelected}
 use Rattle.policy_warnings.proofs.repeats.+sameness.Goals as goal
 
 pub same_cond-returns-in_default : goal.same_cond-returns-in_default
@@ -27,6 +27,9 @@ same_cond-returns-in_default-7 t c = no_Compare c.args.cond.now c.args.other.now
 
 pub same_cond-returns-in_default-8 : goal.same_cond-returns-in_default-8
 same_cond-returns-in_default-8 t c = no_CompareMeant c.args.cond.now c.args.other.now c.in_default.field-0-0 c.in_default.is-0 c.in_default.not-CompareMeant-1
+
+pub same_cond-returns-in_default-9 : goal.same_cond-returns-in_default-9
+same_cond-returns-in_default-9 t c = no_Match c.args.cond.now c.args.other.now c.in_default.field-0-0 c.in_default.is-0 c.in_default.not-Match-1
 
 pub same_cond-returns-in-Any-Any : goal.same_cond-returns-in-Any-Any
 same_cond-returns-in-Any-Any t c =
@@ -73,6 +76,11 @@ pub same_cond-returns-in-CompareMeant-CompareMeant : goal.same_cond-returns-in-C
 same_cond-returns-in-CompareMeant-CompareMeant t c =
     c.same_meant_comparison.ensures ∙ sym (same_CompareMeant c.args.cond.now c.args.other.now c.in-CompareMeant-CompareMeant.comparison
     c.in-CompareMeant-CompareMeant.other c.in-CompareMeant-CompareMeant.is-0 c.in-CompareMeant-CompareMeant.is-1)
+
+pub same_cond-returns-in-Match-Match : goal.same_cond-returns-in-Match-Match
+same_cond-returns-in-Match-Match t c =
+    c.same_matching.ensures ∙ sym (same_Match c.args.cond.now c.args.other.now c.in-Match-Match.matching c.in-Match-Match.other
+    c.in-Match-Match.is-0 c.in-Match-Match.is-1)
 
 pub all_same-returns-then-conds-others : goal.all_same-returns-then-conds-others
 all_same-returns-then-conds-others t c = lengths_differ c.args.conds.now c.args.others.now c.if-conds-others.true
