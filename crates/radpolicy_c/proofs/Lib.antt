@@ -1,3 +1,4 @@
+pub mod Crosses
 pub mod DistinctNames
 pub mod HeldValues
 pub mod LooseValues
