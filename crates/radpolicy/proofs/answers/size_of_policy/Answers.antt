@@ -16,9 +16,9 @@ returns-in-Err-clause-refused c =
     let given : c.args.job.now.policy ≢ None = λ e. let both : Some c.in-Some.text ≡ None = sym is ∙ e in cc in
     let same = ap (λ (p : Option (List ℕ)). unwrap_or p []) is ∙ sym c.as_slice.ensures in
     let none : IsByText (profile_of (policy_of c.args.job.now)) c.in-Err.fault.kind → (statements : List Statement)
-        → IsPolicy c.args.job.now d statements → ⊥ =
+    → IsPolicy c.args.job.now d statements → ⊥ =
     λ k statements h. c.in-Err.ensures.read (subst (λ (os : List ℕ). IsByText (profile_of os) c.in-Err.fault.kind) same k) statements
-        (subst (λ (os : List ℕ). SpellsPolicy d os statements) same h) in
+    (subst (λ (os : List ℕ). SpellsPolicy d os statements) same h) in
     rw c.from.ensures (checked_refused c.args.job.now c.in-Err.fault d c.requires given none)
 
 pub returns-in-Ok-clause-ok : goal.returns-in-Ok-clause-ok
