@@ -109,6 +109,15 @@ fn prepares(rt: &impl Abort, alloc: Global, dictionary: &Dictionary) -> Result<(
     Ok(())
 }
 
+// Example: OwnedPolicy::read_by
+fn shares_a_dictionary(rt: &impl Abort, alloc: Global, dictionary: Dictionary) -> Result<(), Fail> {
+    let first = OwnedPolicy::read(alloc, dictionary, b"reject")?;
+    let second = OwnedPolicy::read_by(alloc, first.share_dictionary()?, b"ok")?;
+    drop(first);
+    assert_eq!(rt; second.prepared().policy().statements().len(), 1);
+    Ok(())
+}
+
 // Example: OwnedPolicy::prepared
 fn lends(rt: &impl Abort, alloc: Global, owned: &OwnedPolicy) -> Result<(), Fail> {
     // The policy is `reject`.
@@ -172,7 +181,8 @@ fn prepared_policies(rt: HostRuntime) -> Result<(), Fail> {
         &rt,
         alloc,
         &OwnedPolicy::read(alloc, dictionary, b"reject")?,
-    )
+    )?;
+    shares_a_dictionary(&rt, alloc, test_dictionary(alloc)?)
 }
 
 #[test]

@@ -10,6 +10,7 @@ use avp_lists::{AttrId, Pair, Pairs, Value, copy_pair};
 use radpolicy::{Fault, OwnedPolicy, PreparedPolicy, Secret, Start, WriteOutput, print_fault};
 use samples::test_dictionary;
 use std::alloc::Global;
+use std::sync::Arc;
 use std::test::Fail;
 
 // The line of a fault.
@@ -140,6 +141,21 @@ fn refuses_owned_policies(rt: HostRuntime) -> Result<(), Fail> {
     };
     let line = line_of(alloc, &fault);
     assert!(&rt; line.as_slice() == b"radpolicy: E51 policy:1: token does not fit\n".as_slice());
+    Ok(())
+}
+
+// The dictionary serves on after a policy by it was refused.
+#[test]
+fn refuses_one_policy_of_a_dictionary(rt: HostRuntime) -> Result<(), Fail> {
+    let alloc = rt.alloc();
+    let dictionary = Arc::new(alloc, test_dictionary(alloc)?)?;
+    let Err(fault) = OwnedPolicy::read_by(alloc, Arc::try_clone(&dictionary)?, b"fails") else {
+        return Err(Fail::new("a refusal"));
+    };
+    let line = line_of(alloc, &fault);
+    assert!(&rt; line.as_slice() == b"radpolicy: E51 policy:1: token does not fit\n".as_slice());
+    let owned = OwnedPolicy::read_by(alloc, dictionary, b"reject")?;
+    assert_eq!(&rt; owned.prepared().policy().statements().len(), 1);
     Ok(())
 }
 

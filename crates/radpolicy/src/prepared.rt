@@ -1,5 +1,6 @@
 //! A policy that is ready to run: read once with its dictionary, and run on any number of requests.
 
+ghost use Rattle.std.specs.Arc.{arc_value};
 ghost use Rattle.std.specs.Prelude.{◌≡◌, IfOk, IfErr, List};
 ghost use Rattle.avp_forms.specs.Profiles.{profile_of};
 ghost use Rattle.avp_unlang.specs.Policies.{SpellsPolicy};
@@ -13,8 +14,9 @@ use crate::faults::Fault;
 use avp_dict::Dictionary;
 use avp_forms::{Profile, profile_of};
 use avp_unlang::{Policy, read_policy};
-use std::alloc::Global;
+use std::alloc::{AllocError, Global};
 use std::marker::Model;
+use std::sync::Arc;
 
 // A policy, or one that its owner lends.
 #[derive(Drop)]
@@ -130,15 +132,16 @@ impl<'a> PreparedPolicy<'a> {
     }
 }
 
-/// A policy that owns its dictionary, for those who run one policy alone.
+/// A policy that owns its dictionary, alone or with others: for those who can't lend it one.
 #[derive(Drop)]
 pub struct OwnedPolicy {
-    dictionary: Dictionary,
+    dictionary: Arc<Dictionary>,
     profile: Profile,
     policy: Policy,
 }
 
 impl Model for OwnedPolicy {
+    ghost use Rattle.std.specs.Arc.{arc_value};
     ghost use Rattle.std.specs.Coded.{codes};
     ghost use Rattle.avp_unlang.specs.contracts.tree.Statement as e;
     ghost use Rattle.avp_unlang.specs.Suiting.{IsSpelled};
@@ -149,12 +152,12 @@ impl Model for OwnedPolicy {
     ghost coded = { Prim.hlevel (codes, e.the_row.coded) };
 
     ghost view = { λ o. record {
-      dictionary = o.dictionary;
+      dictionary = arc_value o.dictionary;
       profile = o.profile;
       statements = o.policy;
     } };
 
-    ghost invariant = { λ o. IsSpelled o.dictionary o.policy };
+    ghost invariant = { λ o. IsSpelled (arc_value o.dictionary) o.policy };
 }
 
 impl OwnedPolicy {
@@ -168,6 +171,29 @@ impl OwnedPolicy {
         ensures refused { IfErr result (MemoryOr (IsUnspelled dictionary text.now)) }
         ensures printed { IfErr result IsPrintedAnywhere }
     {
+        OwnedPolicy::read_by(alloc, Arc::new(alloc, dictionary)?, text)
+    }
+
+    /// The same by a dictionary that others may own too: one that was read once serves any number of policies.
+    ///
+    /// ```rust
+    /// let first = OwnedPolicy::read(alloc, dictionary, b"reject")?;
+    /// let second = OwnedPolicy::read_by(alloc, first.share_dictionary()?, b"ok")?;
+    /// drop(first);
+    /// assert_eq!(rt; second.prepared().policy().statements().len(), 1);
+    /// ```
+    pub fn read_by(
+        alloc: Global,
+        dictionary: Arc<Dictionary>,
+        text: &[u8],
+    ) -> Result<OwnedPolicy, Fault>
+        ensures dictionary { IfOk result (λ owned. owned.dictionary ≡ arc_value dictionary) }
+        ensures profile { IfOk result (λ owned. owned.profile ≡ profile_of text.now) }
+        ensures spelled { IfOk result (λ owned.
+            SpellsPolicy (arc_value dictionary) text.now owned.statements) }
+        ensures refused { IfErr result (MemoryOr (IsUnspelled (arc_value dictionary) text.now)) }
+        ensures printed { IfErr result IsPrintedAnywhere }
+    {
         match read_policy(alloc, &dictionary, text) {
             Ok(policy) => Ok(OwnedPolicy {
                 dictionary,
@@ -176,6 +202,13 @@ impl OwnedPolicy {
             }),
             Err(fault) => Err(Fault::from(fault)),
         }
+    }
+
+    /// The dictionary, for one more owner.
+    pub fn share_dictionary(&self) -> Result<Arc<Dictionary>, AllocError>
+        ensures { IfOk result (λ shared. arc_value shared ≡ self.now.dictionary) }
+    {
+        Arc::try_clone(&self.dictionary)
     }
 
     /// The dictionary and the policy, lent to runs.

@@ -1,5 +1,0 @@
-use Rattle.radpolicy.proofs.Refusals.{unspelled}
-use Rattle.radpolicy.proofs.prepared.OwnedPolicy.read.Goals as goal
-
-pub returns-in-Err-clause-refused : goal.returns-in-Err-clause-refused
-returns-in-Err-clause-refused c = rw c.from.ensures (unspelled c.args.dictionary c.args.text.now c.in-Err.fault c.in-Err.ensures.read)
