@@ -8,6 +8,8 @@ use Rattle.avp_dict.specs.Dictionary.{Dictionary}
 use Rattle.avp_dict.specs.DictionaryReading.{dictionary_of, max_lines}
 use Rattle.avp_forms.specs.Profiles.{profile_of}
 use Rattle.avp_forms.specs.declared.profiles.Profile.{Profile}
+use Rattle.avp_forms.specs.declared.profiles.Profile.TheVariants.{Wider}
+use Rattle.avp_patterns.specs.declared.faults.PatternFault.TheVariants as pattern
 use Rattle.avp_packet.specs.declared.packets.Packet.{Packet}
 use Rattle.radpolicy.specs.declared.faults.Fault.{Fault}
 use Rattle.radpolicy.specs.declared.faults.Fault.TheVariants as fault
@@ -214,6 +216,12 @@ IsPolicyFault _ = ⊥
 abbrev pub IsTextFault : List ℕ → Fault → Type 0
 IsTextFault text (fault.Policy f) = IsByText (profile_of text) f.kind
 IsTextFault text _ = ⊥
+
+-- A fault that leaves it open whether the text is a policy: a pattern of a wider one is too large to be compiled.
+abbrev pub IsLeftOpen : List ℕ → Fault → Type 0
+IsLeftOpen text (fault.Policy f) =
+    (profile_of text ≡ Wider) × (f.kind ≡ policy.Pattern pattern.TooLarge)
+IsLeftOpen text _ = ⊥
 
 -- A text spells no policy by a dictionary. Which fault of it comes, and its line, is left open.
 pub record IsUnspelled (dictionary : Dictionary) (text : List ℕ) (f : Fault) : Type 0 where

@@ -4,7 +4,7 @@ ghost use Rattle.std.specs.Prelude.{All, ◌≡◌, ◌≢◌, ◌⊎◌, ◌<�
 ghost use Rattle.std.specs.Io.KnownBytes.{Appends};
 ghost use Rattle.std.specs.Option.{option_copied};
 ghost use Rattle.radpolicy.specs.Faults.{IsPrintedWith, MemoryOr};
-ghost use Rattle.radpolicy.specs.JobReports.{IsCheckRefusal, IsCheckReport, IsCheckedPolicyRefusal, IsDictionaryRefusal, IsOpened, IsMakingRefusal, IsOpenRefusal, IsPacketReport, IsPolicy, IsPolicyRefusal, IsRefused, IsReport, IsRequestOrReplyRefusal, IsRunReport, IsScript, IsScriptOrRequestRefusal, IsSizeOf, IsStepReport, decode_report, dictionary_for, encode_report, opened, policy_of, profile_for, script_of};
+ghost use Rattle.radpolicy.specs.JobReports.{IsCheckRefusal, IsCheckReport, IsCheckedPolicyRefusal, IsDictionaryRefusal, IsLeftOpen, IsOpened, IsMakingRefusal, IsOpenRefusal, IsPacketReport, IsPolicy, IsPolicyRefusal, IsRefused, IsReport, IsRequestOrReplyRefusal, IsRunReport, IsScript, IsScriptOrRequestRefusal, IsSizeOf, IsStepReport, decode_report, dictionary_for, encode_report, opened, policy_of, profile_for, script_of};
 ghost use Rattle.radpolicy.specs.Scripts.{IsUnknownWord, script_spelled};
 ghost use Rattle.radpolicy.specs.OutcomeReports.{IsOutcomeRefusal, IsOutcomeReport};
 ghost use Rattle.radpolicy.specs.Plans.{IsSound, asked_by_job};
@@ -327,10 +327,11 @@ pub fn answer<O: Output>(alloc: Global, job: &Job, out: &mut O) -> Result<Outcom
     // Memory and the output aside, the job is refused for this fault.
     ensures refused { IfErr result (λ fault. (fault ≡ Fault.Write)
         ⊎ MemoryOr (IsRefused job.now) fault) }
-    // A job has at most one report, and none if it is refused.
+    // A job has at most one report, and none if it is refused, but for a pattern that is too large.
     ensures one { (a b : Report) → IsReport job.now a → IsReport job.now b → a ≡ b }
-    ensures either { (report : Report) (fault : Fault) → IsReport job.now report
-        → IsRefused job.now fault → ⊥ }
+    ensures either { (report : Report) (fault : Fault)
+        → (IsLeftOpen (policy_of job.now) fault → ⊥)
+        → IsReport job.now report → IsRefused job.now fault → ⊥ }
     // The report of a run is the text of what its start comes to, and the run is refused where that comes to nothing.
     ensures ran { job.now.command ≡ TheRun → (report : Report)
         → IsRunReport job.now report ↔ IsOutcomeReport job.now report }

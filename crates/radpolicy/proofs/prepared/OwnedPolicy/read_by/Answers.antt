@@ -1,6 +1,19 @@
+use Rattle.std.proofs.Common.{sym, subst}
+use Rattle.std.specs.Arc.{arc_value}
+use Rattle.avp_dict.specs.Dictionary.{Dictionary}
+use Rattle.avp_unlang.specs.Policies.{SpellsPolicy}
 use Rattle.radpolicy.proofs.Refusals.{unspelled}
 use Rattle.radpolicy.proofs.prepared.OwnedPolicy.read_by.Goals as goal
-use Rattle.std.specs.Arc.{arc_value}
 
 pub returns-in-Err-clause-refused : goal.returns-in-Err-clause-refused
-returns-in-Err-clause-refused c = rw c.from.ensures (unspelled (arc_value c.args.dictionary) c.args.text.now c.in-Err.fault c.in-Err.ensures.read)
+returns-in-Err-clause-refused c =
+    rw c.from.ensures (unspelled (arc_value c.args.dictionary) c.args.text.now c.in-Err.fault (λ k statements spelled.
+    c.in-Err.ensures.read k statements (subst (λ (d : Dictionary). SpellsPolicy d c.args.text.now statements) (sym c.deref.ensures) spelled)))
+
+pub returns-in-Ok-clause-spelled : goal.returns-in-Ok-clause-spelled
+returns-in-Ok-clause-spelled c =
+    subst (λ (d : Dictionary). SpellsPolicy d c.args.text.now c.in-Ok.policy) c.deref.ensures c.in-Ok.ensures.read
+
+pub invariant_of-result : goal.invariant_of-result
+invariant_of-result c =
+    (c.args.text.now, subst (λ (d : Dictionary). SpellsPolicy d c.args.text.now c.in-Ok.policy) c.deref.ensures c.in-Ok.ensures.read)
