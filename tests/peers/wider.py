@@ -118,11 +118,16 @@ def free_port() -> int:
         return found.getsockname()[1]
 
 
+def configure(folder: Path, port: int, policy: str) -> None:
+    """Writes the configuration of a server with the policy in `authorize`."""
+    text = CONFIGURATION.format(folder=folder, port=port, secret=SECRET, policy=policy)
+    (folder / "radiusd.conf").write_text(text)
+
+
 @contextmanager
 def server(folder: Path, port: int, policy: str, zone: str = "UTC") -> Iterator[bool]:
     """A server in this time zone, with the policy in `authorize`; whether it is ready."""
-    text = CONFIGURATION.format(folder=folder, port=port, secret=SECRET, policy=policy)
-    (folder / "radiusd.conf").write_text(text)
+    configure(folder, port, policy)
     log = folder / "log"
     command = [SERVER, "-fxx", "-l", "stdout", "-d", str(folder)]
     environment = {"PATH": "/usr/sbin:/usr/bin:/sbin:/bin", "TZ": zone}
@@ -151,27 +156,27 @@ def asked(port: int) -> "subprocess.Popen[str]":
     return subprocess.Popen(command, text=True, env={"PATH": "/usr/bin:/bin", "TZ": "UTC"}, **pipes)
 
 
-def of_server(port: int, case: Case) -> List[str]:
+def of_server(port: int, request: str) -> List[str]:
     with asked(port) as client:
-        return printed_by_client(client.communicate(REQUEST.format(name=case.name), timeout=SECONDS)[0])
+        return printed_by_client(client.communicate(request, timeout=SECONDS)[0])
 
 
-def of_program(subject: Subject, folder: Path, case: Case) -> List[str]:
+def of_program(subject: Subject, folder: Path, request: str) -> List[str]:
     """The same, of the packet that the program sends in the server's place."""
     with socket.socket(socket.AF_INET, socket.SOCK_DGRAM) as here:
         here.bind(("127.0.0.1", 0))
         here.settimeout(SECONDS)
         with asked(here.getsockname()[1]) as client:
-            client.stdin.write(REQUEST.format(name=case.name))
+            client.stdin.write(request)
             client.stdin.close()
             octets, sender = here.recvfrom(4096)
             here.sendto(reply_to(subject, folder, octets), sender)
             return printed_by_client(client.stdout.read())
 
 
-def printed_by_program(subject: Subject, folder: Path, case: Case) -> List[str]:
+def printed_by_program(subject: Subject, folder: Path, request: str) -> List[str]:
     """The reply list, as `run` prints it of the request's lines."""
-    (folder / "request").write_text(REQUEST.format(name=case.name))
+    (folder / "request").write_text(request)
     words = ["run", "-f", "request", "--policy", "policy"]
     ended = run([subject.program, *words, *dictionaries_of(subject, folder)], folder, b"")
     if ended.status != 0:
@@ -193,9 +198,10 @@ def check(subject: Subject, report: Report) -> None:
         with server(folder, port, policy_of(given)) as is_ready:
             report.check("the server takes the policy", [] if is_ready else [(folder / "log").read_text()[-2000:]])
             for case in given if is_ready else []:
-                wanted = of_server(port, case)
-                sent = of_program(subject, folder, case)
-                printed = printed_by_program(subject, folder, case)
+                request = REQUEST.format(name=case.name)
+                wanted = of_server(port, request)
+                sent = of_program(subject, folder, request)
+                printed = printed_by_program(subject, folder, request)
                 wrong = [f"it sends {sent}, a server {wanted}"] if sent != wanted else []
                 wrong += [f"it prints {printed}, radclient {wanted}"] if printed != wanted else []
                 report.check(f"the wider profile beside a server: {case.name}", wrong)
