@@ -13,6 +13,7 @@ ATTRIBUTE User-Password 2 string encrypt=1
 ATTRIBUTE Class 25 octets
 ATTRIBUTE Short 241.1 octets
 ATTRIBUTE Long 245.1 octets
+ATTRIBUTE Long-Text 245.2 string
 VENDOR Small 9
 BEGIN-VENDOR Small
 ATTRIBUTE Small-Text 1 string
@@ -28,6 +29,7 @@ FULL = LISTS % (b"", b"", b"fail stopped")
 COUNTS = b"files %d\nattributes %d\nvalues %d\nvendors %d\nnotes %d\n"
 # Why a row is off.
 SHOWS = "a show looks for each pair from the beginning of its list: the square of their number"
+TRIED = "a regular expression is read anew for each size that what is compiled of it is tried with"
 
 
 @dataclass(frozen=True)
@@ -125,6 +127,40 @@ def policy_rows() -> List[Row]:
         run_row("4096 pairs added to a reply", LISTS % (b"", listed, b"ok"), policy=lines % b""),
         run_row("4097 pairs added to a reply", FULL, policy=lines % b"Class += 2\n"),
         run_row("65,535 lines on 4096 pairs", LISTS % (listed, b"", b"ok"), request=pairs, policy=many),
+    ]
+
+
+def pattern_policy(texts: List[bytes]) -> bytes:
+    """A condition with a regular expression on each line after the first."""
+    return b"# profile: wider\n" + b"".join(b"if (&Long-Text =~ /%b/) { updated }\n" % text for text in texts)
+
+
+def search_row(name: str, texts: List[bytes], value: bytes) -> Row:
+    """A run in which no regular expression is found in a value."""
+    line = b'Long-Text = "' + value + b'"\n'
+    return run_row(name, LISTS % (b"  " + line, b"", b"ok"), request=line, policy=pattern_policy(texts))
+
+
+def pattern_rows() -> List[Row]:
+    """Regular expressions that take long elsewhere, over the longest value; many of them; and large ones."""
+    alike, mixed = b"a" * 4012, b"abbabaab" * 501 + b"abba"
+    words = b"|".join(b"w%d" % at for at in range(10_000))
+    slow = [b"(a*)*b", b"(a|aa)+$", b"(a*)*(a*)*(a*)*b", b"(a?){500}a{500}b", b"(x+x+)+y"]
+    full = [b"a{%d}" % (20_000 - at) for at in range(65)]
+    found = [search_row(f"a search for {text.decode()}", [text], alike[:-1] + b"!") for text in slow]
+    return [
+        *found,
+        search_row("a search for 10,000 words", [words], alike),
+        search_row("a search with many states", [b"[ab]*a[ab]{1000}c"], mixed),
+        search_row("100 searches with many states", [b"[ab]*a[ab]{%d}c" % (100 + at) for at in range(100)], mixed),
+        check_row("64 that fill what there is for all", b"size 128\n", policy=pattern_policy(full[:-1])),
+        check_row("65 that are more", fault="E60 policy:66", policy=pattern_policy(full)),
+        check_row("a million repetitions", fault="E60 policy:2", policy=pattern_policy([b"((a{100}){100}){100}"])),
+        check_row("a long one", fault="E60 policy:2", off=TRIED, policy=pattern_policy([b"a" * (8 * MIB)])),
+        check_row(
+            "100 of 10,000 words each", b"size 200\n", off=TRIED,
+            policy=pattern_policy([b"x%d|%b" % (at, words) for at in range(100)]),
+        ),
     ]
 
 
@@ -243,6 +279,6 @@ def line_rows() -> List[Row]:
 
 def rows() -> Iterator[Row]:
     """All of them, some at a time, since they are large."""
-    makers = [value_rows, name_rows, depth_rows, policy_rows, input_rows, full_rows, request_rows]
+    makers = [value_rows, name_rows, depth_rows, policy_rows, pattern_rows, input_rows, full_rows, request_rows]
     for maker in [*makers, include_rows, line_rows]:
         yield from maker()

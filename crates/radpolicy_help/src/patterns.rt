@@ -69,7 +69,7 @@ pub(crate) fn push_pattern_fault(
         ),
         PatternFault::TooLarge => (
             "the regular expression takes more than 256 KiB, or those of the policy more than 16 MiB",
-            "write fewer repetitions than it has between { and }, or several comparisons",
+            "write smaller numbers between { and }, or several comparisons",
         ),
         PatternFault::Memory => return Ok(()),
     };
