@@ -11,6 +11,8 @@ mod lists;
 #[cfg(test)]
 mod packets;
 #[cfg(test)]
+mod patterns;
+#[cfg(test)]
 mod policies;
 #[cfg(test)]
 mod profiles;
