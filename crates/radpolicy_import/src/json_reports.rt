@@ -2,7 +2,8 @@
 
 use itoa::Buffer;
 use radpolicy_common::{Escaping, push_json_string};
-use radpolicy_import_policies::{Imported, LeftOut, OtherAttribute, OtherSource, origin_path};
+use radpolicy_import_conditions::{OtherAttribute, OtherSource};
+use radpolicy_import_policies::{Imported, LeftOut, PatternWarning, origin_path};
 use server_configuration::Configuration;
 use std::alloc::{AllocError, Global};
 
@@ -51,7 +52,24 @@ fn push_part(
     out.extend_from_slice(b"}\n")
 }
 
-/// How many statements are kept, and each part that is left out.
+// A condition that a server may decide otherwise.
+fn push_warning(
+    alloc: Global,
+    out: &mut Vec<u8>,
+    configuration: &Configuration,
+    warning: &PatternWarning,
+) -> Result<(), AllocError> {
+    let difference = warning.difference;
+    let difference = format!(in alloc; "{difference}")?;
+    let file = origin_path(configuration, warning.origin);
+    push_text(out, b'{', "file", file)?;
+    push_number(out, b',', "line", warning.origin.line)?;
+    push_text(out, b',', "warning", difference.as_bytes())?;
+    push_text(out, b',', "text", &warning.shown)?;
+    out.extend_from_slice(b"}\n")
+}
+
+/// How many statements are kept, each part that is left out, and each warning.
 pub fn json_report(
     alloc: Global,
     configuration: &Configuration,
@@ -61,6 +79,9 @@ pub fn json_report(
     push_counts(&mut out, imported)?;
     for part in &imported.left_out {
         push_part(alloc, &mut out, configuration, part)?;
+    }
+    for warning in &imported.warnings {
+        push_warning(alloc, &mut out, configuration, warning)?;
     }
     Ok(out)
 }

@@ -24,10 +24,11 @@ use avp_unlang::Items;
 use radpolicy::{Fault, status};
 use radpolicy_common::{read_dictionary_set, refuse, refuse_early};
 use radpolicy_help::{Sources, refuse_explained, refuse_unread_explained, refuse_words_of};
+use radpolicy_import_conditions::OtherAttribute;
 use radpolicy_import_policies::{
-    ImportFault, Imported, Module, OtherAttribute, Settings, Statement, Wanted, add_initial,
-    import_statements, initial_template, keeps_names, origin_map, other_attributes,
-    other_dictionary, policy_of, section_of, statements_of, unset_attributes,
+    ImportFault, Imported, Module, Settings, Statement, Wanted, add_initial, import_statements,
+    initial_template, keeps_names, origin_map, other_attributes, other_dictionary, policy_of,
+    section_of, statements_of, unset_attributes,
 };
 use server_configuration::{Configuration, ConfigurationFault, SystemFiles, read_configuration};
 use std::alloc::{AllocError, Global};

@@ -2,9 +2,8 @@
 
 use crate::json_reports::{json_others, json_report};
 use radpolicy_common::{LineBreaks, visible_text};
-use radpolicy_import_policies::{
-    Imported, LeftOut, OtherAttribute, OtherSource, Reason, push_origin,
-};
+use radpolicy_import_conditions::{OtherAttribute, OtherSource, Reason};
+use radpolicy_import_policies::{Imported, LeftOut, PatternWarning, push_origin};
 use server_configuration::{Configuration, ConfigurationFault};
 use std::alloc::{AllocError, Global};
 use std::{fs, io};
@@ -28,7 +27,22 @@ fn push_part(
     Ok(out.push(b'\n')?)
 }
 
-// The report: how many statements are kept, and each part that is left out.
+// `FILE:LINE: kept, but why: text` of a condition that a server may decide otherwise.
+fn push_warning(
+    alloc: Global,
+    out: &mut Vec<u8>,
+    configuration: &Configuration,
+    warning: &PatternWarning,
+) -> Result<(), AllocError> {
+    let difference = warning.difference;
+    push_origin(out, configuration, warning.origin)?;
+    let text = format!(in alloc; ": kept, but {difference}: ")?;
+    out.extend_from_slice(text.as_bytes())?;
+    out.extend_from_slice(&warning.shown)?;
+    Ok(out.push(b'\n')?)
+}
+
+// The report: how many statements are kept, each part that is left out, and each warning.
 fn report(
     alloc: Global,
     configuration: &Configuration,
@@ -43,6 +57,9 @@ fn report(
     let mut out = Vec::from_slice(alloc, head.as_bytes())?;
     for part in &imported.left_out {
         push_part(alloc, &mut out, configuration, part)?;
+    }
+    for warning in &imported.warnings {
+        push_warning(alloc, &mut out, configuration, warning)?;
     }
     Ok(out)
 }

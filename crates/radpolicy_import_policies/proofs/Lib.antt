@@ -1,8 +1,6 @@
 pub mod CallerNames
-pub mod Cases
 pub mod Counts
 pub mod Folders
 pub mod FoundLines
 pub mod InitialItems
 pub mod Prefixes
-pub mod Truths

@@ -1,12 +1,12 @@
 //! The dictionary file that defines the attributes in place of what policies do not have.
 
-use crate::others::{OtherAttribute, OtherSource};
 use avp_dict::{
     Dictionary, FileSet, Named, NamedFile, last_component, next_line, same_name,
     words_between_blanks,
 };
 use avp_lists::AttrId;
 use itoa::Buffer;
+use radpolicy_import_conditions::{OtherAttribute, OtherSource};
 use std::alloc::{AllocError, Global};
 
 // They have numbers from here on, which are never sent.

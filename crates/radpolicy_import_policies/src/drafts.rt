@@ -5,8 +5,9 @@ ghost use Rattle.std.specs.Option.{option_map_or};
 ghost use Rattle.radpolicy_import_policies.specs.OriginTexts.{content_name, visible};
 
 use crate::origins::{Origin, origin_of};
-use crate::reasons::Reason;
 use avp_dict::Dictionary;
+use avp_forms::Profile;
+use radpolicy_import_conditions::{PatternDifference, Reason};
 use server_configuration::{Configuration, Content, Operator, Quote, Text};
 use std::alloc::{AllocError, Global};
 
@@ -22,12 +23,40 @@ pub(crate) struct Draft {
     pub(crate) policies: Vec<usize>,
 }
 
+/// The condition of a branch.
+#[derive(Drop)]
+pub(crate) struct DraftCondition {
+    /// With its brackets; nothing for `else`.
+    pub(crate) text: Vec<u8>,
+    /// The profile that it needs.
+    pub(crate) profile: Profile,
+    pub(crate) differences: Vec<PatternDifference>,
+}
+
+impl DraftCondition {
+    /// That of an `else`.
+    pub(crate) fn none(alloc: Global) -> DraftCondition {
+        DraftCondition {
+            text: Vec::new(alloc),
+            profile: Profile::Plain,
+            differences: Vec::new(alloc),
+        }
+    }
+}
+
 /// A part of a server's policy that is left out.
 #[derive(Drop)]
 pub(crate) struct DraftPart {
     pub(crate) place: usize,
     pub(crate) count: usize,
     pub(crate) reason: Reason,
+}
+
+/// A comparison with a regular expression that a server may decide otherwise.
+#[derive(Drop)]
+pub(crate) struct DraftWarning {
+    pub(crate) place: usize,
+    pub(crate) difference: PatternDifference,
 }
 
 // An octet that a comment can have.

@@ -1,19 +1,19 @@
 //! What becomes of the statements of a server.
 
-use crate::alternatives::ChosenLine;
-use crate::drafts::{Draft, DraftPart, push_visible, section_name, shown_item};
+use crate::drafts::{
+    Draft, DraftCondition, DraftPart, DraftWarning, push_visible, section_name, shown_item,
+};
+use crate::faults::ImportFault;
 use crate::item_readers::{ItemReader, PairLines};
-use crate::lines::UpdateLine;
 use crate::origins::origin_of;
-use crate::other_lists::ServerList;
-use crate::reasons::{ImportFault, Reason, Refusal};
-use crate::references::list_name;
 use crate::settings::{Meaning, ModuleAnswer};
 use crate::statements::{Statement, StatementKind, counted};
-use crate::switches::SwitchChain;
-use crate::texts::between;
+use avp_forms::Profile;
 use avp_lists::List;
 use avp_unlang::Code;
+use radpolicy_import_conditions::{
+    ChosenLine, Reason, Refusal, ServerList, SwitchChain, UpdateLine, between, list_name,
+};
 use std::alloc::AllocError;
 
 /// Makes lines of a policy.
@@ -22,6 +22,7 @@ pub(crate) struct Importer<'a> {
     pub(crate) reader: ItemReader<'a>,
     pub(crate) drafts: Vec<Draft>,
     pub(crate) parts: Vec<DraftPart>,
+    pub(crate) warnings: Vec<DraftWarning>,
     pub(crate) calls: usize,
     /// The place of the first line that needs the wider profile.
     pub(crate) wider: Option<usize>,
@@ -81,6 +82,7 @@ impl<'a> Importer<'a> {
             reader,
             drafts: Vec::new(alloc),
             parts: Vec::new(alloc),
+            warnings: Vec::new(alloc),
             calls: 0,
             wider: None,
             open: Vec::new(alloc),
@@ -441,16 +443,35 @@ impl<'a> Importer<'a> {
         }
     }
 
+    // The line of a branch, what its condition needs, and what a server may decide otherwise.
+    fn push_branch(
+        &mut self,
+        place: usize,
+        kind: StatementKind,
+        condition: &DraftCondition,
+    ) -> Result<(), ImportFault> {
+        if condition.profile == Profile::Wider && self.wider.is_none() {
+            self.wider = Some(place);
+        }
+        for difference in &condition.differences {
+            self.warnings.push(DraftWarning {
+                place,
+                difference: *difference,
+            })?;
+        }
+        self.push_between(place, Self::keyword(kind), &condition.text, b" {")
+    }
+
     #[cycle(importing)]
     fn branches(
         &mut self,
         branches: &[Statement],
-        conditions: &[Vec<u8>],
+        conditions: &[DraftCondition],
     ) -> Result<(), ImportFault> {
         let knows_code = self.knows_code;
         for (branch, condition) in branches.iter().zip(conditions) {
             self.count_given(branch.place)?;
-            self.push_between(branch.place, Self::keyword(branch.kind), condition, b" {")?;
+            self.push_branch(branch.place, branch.kind, condition)?;
             self.indent();
             self.knows_code = knows_code;
             self.block(branch.block.as_slice())?;

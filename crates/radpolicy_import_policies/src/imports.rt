@@ -3,20 +3,21 @@
 ghost use Rattle.std.specs.Prelude.{◌≡◌, ◌+◌, length, IfOk, IfSome, OnOk};
 ghost use Rattle.server_configuration.specs.Places.{AreOnLines, line_feeds};
 ghost use Rattle.avp_unlang.specs.Policies.{SpellsPolicy};
-ghost use Rattle.radpolicy_import_policies.specs.Imports.{left_in, part_origins};
+ghost use Rattle.radpolicy_import_policies.specs.Imports.{left_in, part_origins, warning_origins};
 ghost use Rattle.radpolicy_import_policies.specs.Origins.{AreLines, line_origins};
 ghost use Rattle.radpolicy_import_policies.specs.Statements.{count_of};
 
-use crate::drafts::{Draft, DraftPart, shown_item};
+use crate::drafts::{Draft, DraftPart, DraftWarning, shown_item};
+use crate::faults::ImportFault;
 use crate::importers::{Importer, is_before};
 use crate::item_readers::ItemReader;
 use crate::origin_texts::{line_feeds, push_origin, push_policies};
 use crate::origins::{LineOrigin, Origin, origin_of};
-use crate::reasons::{ImportFault, Reason};
 use crate::settings::{LineEnds, PROFILE_LINE, Settings};
 use crate::statements::{Statement, counted};
 use avp_dict::Dictionary;
 use avp_unlang::{Policy, PolicyKind, read_policy};
+use radpolicy_import_conditions::{PatternDifference, Reason};
 use server_configuration::Configuration;
 use std::alloc::{AllocError, Global};
 
@@ -31,8 +32,17 @@ pub struct LeftOut {
     pub shown: Vec<u8>,
 }
 
-/// A policy, and what was left out of it.
+/// A condition with a regular expression that a server may decide otherwise.
 #[derive(Debug, Drop)]
+pub struct PatternWarning {
+    pub origin: Origin,
+    pub difference: PatternDifference,
+    /// What the condition says, or the beginning of it.
+    pub shown: Vec<u8>,
+}
+
+/// A policy, and what was left out of it.
+#[derive(Drop)]
 pub struct Imported {
     /// The policy's text. Each line ends as the settings ask for.
     pub text: Vec<u8>,
@@ -41,6 +51,7 @@ pub struct Imported {
     /// Where each line comes from.
     pub lines: Vec<LineOrigin>,
     pub left_out: Vec<LeftOut>,
+    pub warnings: Vec<PatternWarning>,
     /// How many statements were read.
     pub read: usize,
     /// How many of them are in the policy.
@@ -188,6 +199,46 @@ fn left_out(
     Ok(made)
 }
 
+// Adds a warning, with its place.
+#[tactic(auto, using(crate::proofs::FoundLines::warnings_after))]
+fn add_warning(
+    made: &mut Vec<PatternWarning>,
+    alloc: Global,
+    configuration: &Configuration,
+    warning: &DraftWarning,
+) -> Result<(), AllocError>
+    ensures { AreOnLines configuration.now.files.items configuration.now.items.items
+        → AreLines configuration.now.files.items (warning_origins made.old.items)
+        → OnOk result (AreLines configuration.now.files.items (warning_origins made.new.items)) }
+{
+    let Some(origin) = origin_of(configuration, warning.place) else {
+        return Ok(());
+    };
+    let shown = shown_item(alloc, configuration, warning.place)?;
+    made.push(PatternWarning {
+        origin,
+        difference: warning.difference,
+        shown,
+    })?;
+    Ok(())
+}
+
+// What is warned of, with its places.
+fn warnings_of(
+    alloc: Global,
+    configuration: &Configuration,
+    warnings: &[DraftWarning],
+) -> Result<Vec<PatternWarning>, AllocError>
+    ensures { AreOnLines configuration.now.files.items configuration.now.items.items
+        → IfOk result (λ made. AreLines configuration.now.files.items (warning_origins made.items)) }
+{
+    let mut made = Vec::new(alloc);
+    for warning in warnings {
+        add_warning(&mut made, alloc, configuration, warning)?;
+    }
+    Ok(made)
+}
+
 // Why lines are no policy by themselves, if they are none: those of a statement, and before and after them those of the
 // branch that they are in.
 fn fault_of(
@@ -231,6 +282,7 @@ fn add_statement(
 ) -> Result<(), ImportFault> {
     let (drafts, parts, calls) = (importer.drafts.len(), importer.parts.len(), importer.calls);
     let (wider, returns, given) = (importer.wider, importer.returns, importer.given);
+    let warnings = importer.warnings.len();
     importer.statement(statement)?;
     let Some(added) = importer.drafts.get(drafts..) else {
         return Ok(());
@@ -249,6 +301,7 @@ fn add_statement(
     importer.wider = wider;
     importer.returns = returns;
     importer.given = given;
+    importer.warnings.truncate(warnings);
     let alone = std::slice::from_ref(statement);
     let count = counted(alone)?;
     importer.leave(statement.place, count, Reason::Refused(kind))
@@ -312,7 +365,7 @@ pub fn import_statements(
     ensures read { IfOk result (λ imported. imported.read ≡ count_of statements.now) }
     ensures kept { IfOk result (λ imported. imported.kept + left_in imported.left_out.items
         ≡ imported.read) }
-    // Each line comes from a line of a file that was read, and so does each part that is left out.
+    // Each line comes from a line of a file that was read, and so does each part that is left out, and each warning.
     ensures lines { AreOnLines configuration.now.files.items configuration.now.items.items
         → IfOk result (λ imported.
         AreLines configuration.now.files.items (line_origins imported.lines.items)) }
@@ -321,6 +374,9 @@ pub fn import_statements(
     ensures parts { AreOnLines configuration.now.files.items configuration.now.items.items
         → IfOk result (λ imported. AreLines configuration.now.files.items
         (part_origins imported.left_out.items)) }
+    ensures warnings { AreOnLines configuration.now.files.items configuration.now.items.items
+        → IfOk result (λ imported. AreLines configuration.now.files.items
+        (warning_origins imported.warnings.items)) }
 {
     let mut importer = Importer::new(ItemReader {
         alloc,
@@ -333,6 +389,7 @@ pub fn import_statements(
     let Importer {
         drafts,
         parts,
+        warnings,
         calls,
         wider,
         given,
@@ -345,6 +402,7 @@ pub fn import_statements(
         return Err(ImportFault::TooManyStatements);
     }
     let left_out = left_out(alloc, configuration, &parts)?;
+    let warnings = warnings_of(alloc, configuration, &warnings)?;
     let policy = read_policy(alloc, dictionary, &text)?;
     let read = counted(statements)?;
     let kept = kept_of(read, &left_out)?;
@@ -353,6 +411,7 @@ pub fn import_statements(
         policy,
         lines,
         left_out,
+        warnings,
         read,
         kept,
         given,

@@ -1,22 +1,18 @@
 //! What items of a configuration say, as policies have it.
 
-use crate::alternatives::{Alternative, ChosenLine, alternatives, has_choices};
-use crate::condition_texts::{ConditionReader, Operand};
-use crate::expansions::expansions_in;
-use crate::lines::{LineReader, UpdateLine};
-use crate::other_lists::ServerList;
-use crate::printing::ConditionPrinter;
-use crate::reasons::{ImportFault, Reason, Refusal};
-use crate::references::{Names, list_name, parts_of};
-use crate::rewriting::rewritten;
+use crate::drafts::DraftCondition;
+use crate::faults::ImportFault;
 use crate::settings::{Meaning, ModuleAnswer, PROFILE_LINE, Settings};
 use crate::statements::{Statement, StatementKind};
-use crate::switches::{SwitchChain, chain_of};
-use crate::texts::between;
 use avp_dict::Dictionary;
 use avp_forms::Profile;
 use avp_lists::List;
 use avp_unlang::{Comparison, Cond, Relation, read_policy};
+use radpolicy_import_conditions::{
+    Alternative, ChosenLine, ConditionPrinter, ConditionReader, LineReader, Names, Operand, Reason,
+    Refusal, ServerCondition, ServerList, SwitchChain, UpdateLine, add_differences, alternatives,
+    between, chain_of, expansions_in, has_choices, list_name, parts_of, push_matchings, rewritten,
+};
 use server_configuration::{Configuration, Content, Operator, Quote, Text, has_reference};
 use std::alloc::Global;
 
@@ -68,32 +64,67 @@ impl<'a> ItemReader<'a> {
             alloc: self.alloc,
             names: self.names(),
             knows_code,
+            takes_patterns: self.settings.profile == Profile::Wider,
         }
     }
 
-    fn printed(&self, cond: &Cond) -> Result<Vec<u8>, Refusal> {
+    // The condition of an `if`, where a policy of the profile can have it.
+    fn check_condition(&self, profile: Profile, condition: &[u8]) -> Result<(), Refusal> {
+        let head: &[u8] = match profile {
+            Profile::Plain => b"if ",
+            Profile::Wider => b"# profile: wider\nif ",
+        };
+        self.check(head, condition, b" { }")
+    }
+
+    fn printed(&self, profile: Profile, cond: &Cond) -> Result<Vec<u8>, Refusal> {
         let printer = ConditionPrinter {
             alloc: self.alloc,
             dictionary: self.dictionary,
         };
         let mut text = Vec::new(self.alloc);
         printer.push_condition(&mut text, cond)?;
-        self.check(b"if ", &text, b" { }")?;
+        self.check_condition(profile, &text)?;
         Ok(text)
     }
 
-    // The condition of the branch at a place, between brackets.
-    fn condition(&self, place: usize, knows_code: bool) -> Result<Vec<u8>, Refusal> {
+    // The text of a condition in a policy of the profile.
+    fn condition_in(
+        &self,
+        profile: Profile,
+        text: Vec<u8>,
+        condition: &ServerCondition,
+    ) -> Result<Vec<u8>, Refusal> {
+        if self.settings.meaning == Meaning::Plain && self.check_condition(profile, &text).is_ok() {
+            return Ok(text);
+        }
+        let cond = rewritten(self.alloc, condition)?;
+        self.printed(profile, &cond)
+    }
+
+    // The condition of the branch at a place.
+    fn condition(&self, place: usize, knows_code: bool) -> Result<DraftCondition, Refusal> {
         let text = match self.arguments(place) {
             [text, ..] => self.filled(place, &text.octets)?,
             [] => return Err(Refusal::LeftOut(Reason::Condition)),
         };
         let condition = self.reader(knows_code).condition(&text)?;
-        if self.settings.meaning == Meaning::Plain && self.check(b"if ", &text, b" { }").is_ok() {
-            return Ok(text);
+        let mut matchings = Vec::new(self.alloc);
+        push_matchings(&mut matchings, &condition)?;
+        let profile = if matchings.is_empty() {
+            Profile::Plain
+        } else {
+            Profile::Wider
+        };
+        let mut differences = Vec::new(self.alloc);
+        for matching in &matchings {
+            add_differences(&mut differences, matching)?;
         }
-        let cond = rewritten(self.alloc, &condition)?;
-        self.printed(&cond)
+        Ok(DraftCondition {
+            text: self.condition_in(profile, text, &condition)?,
+            profile,
+            differences,
+        })
     }
 
     pub(crate) fn arguments(&self, place: usize) -> &'a [Text] {
@@ -337,19 +368,19 @@ impl<'a> ItemReader<'a> {
         &self,
         branches: &[Statement],
         knows_code: bool,
-    ) -> Result<Vec<Vec<u8>>, Refusal> {
-        let mut texts = Vec::new(self.alloc);
+    ) -> Result<Vec<DraftCondition>, Refusal> {
+        let mut conditions = Vec::new(self.alloc);
         for branch in branches {
-            let text = match branch.kind {
+            let condition = match branch.kind {
                 StatementKind::If | StatementKind::Elsif => self.condition(
                     branch.place,
                     knows_code,
                 )?,
-                _ => Vec::new(self.alloc),
+                _ => DraftCondition::none(self.alloc),
             };
-            texts.push(text)?;
+            conditions.push(condition)?;
         }
-        Ok(texts)
+        Ok(conditions)
     }
 
     // What the case at a place compares; none for the default.
@@ -395,7 +426,7 @@ impl<'a> ItemReader<'a> {
     fn chain_conditions(&self, chain: &SwitchChain) -> Result<Vec<Vec<u8>>, Refusal> {
         let mut texts = Vec::new(self.alloc);
         for branch in &chain.branches {
-            let text = self.printed(&branch.cond)?;
+            let text = self.printed(Profile::Plain, &branch.cond)?;
             texts.push(text)?;
         }
         Ok(texts)

@@ -1,38 +1,15 @@
 //! What policies do not have, and the attributes of `control` that it is in a policy: attributes of other lists, and
 //! expansions that ask something outside of the policy.
 
-ghost use Rattle.std.specs.Prelude.{◌<◌, IfSome, length};
-
-use crate::expansions::expansions_in;
-use crate::other_lists::{OtherList, ServerList};
-use crate::references::is_name_octet;
 use crate::statements::{Statement, StatementKind};
 use avp_dict::{Dictionary, Named, is_container, same_name};
 use avp_lists::AttrId;
 use itoa::Buffer;
+use radpolicy_import_conditions::{
+    OtherAttribute, OtherList, OtherSource, ServerList, expansions_in, is_name_octet,
+};
 use server_configuration::{Configuration, Content, Text, has_reference};
 use std::alloc::{AllocError, Global};
-
-/// What an attribute of `control` is in a server's policy.
-#[derive(Debug, Drop)]
-pub enum OtherSource {
-    /// An attribute of a list that policies do not have, by its id and its name there.
-    Attribute(OtherList, AttrId, Vec<u8>),
-    /// An expansion that asks something, as `sql:SELECT ..`, by the text between its braces.
-    Asked(Vec<u8>),
-    /// Whether the section has ended by `return`: it is set there, and what may follow asks for it.
-    Returned,
-}
-
-/// An attribute of `control` in place of something that policies do not have.
-#[derive(Debug, Drop)]
-pub struct OtherAttribute {
-    pub source: OtherSource,
-    /// Its name, as `Outer-Request-User-Name` or `Import-Sql-1`.
-    pub own: Vec<u8>,
-    /// Whether the dictionary that it was found with has no such name.
-    pub is_new: bool,
-}
 
 /// Which expansions become attributes.
 #[derive(Clone, Copy, Debug, PartialEq, Eq)]
@@ -86,22 +63,6 @@ fn called(word: &[u8]) -> Option<&[u8]> {
 
 fn asks(name: &[u8]) -> bool {
     ASKING.iter().any(|module| *module == name)
-}
-
-/// How far it is to the brace that closes an expansion, from behind the one that opens it.
-pub(crate) fn closing_brace(text: &[u8]) -> Option<usize>
-    ensures { IfSome result (λ end. end < length text.now) }
-{
-    let mut open = 0usize;
-    for (place, octet) in text.iter().enumerate() {
-        match *octet {
-            b'{' => open = open.saturating_add(1),
-            b'}' if open == 0 => return Some(place),
-            b'}' => open = open.saturating_sub(1),
-            _ => {}
-        }
-    }
-    None
 }
 
 // What the name of an attribute for an expansion begins with, as `Import-Sql-`.

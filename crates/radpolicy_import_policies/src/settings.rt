@@ -1,8 +1,8 @@
 //! How statements are imported.
 
-use crate::others::OtherAttribute;
 use avp_forms::Profile;
 use avp_unlang::Code;
+use radpolicy_import_conditions::OtherAttribute;
 
 /// Whose meaning conditions and update lines keep.
 #[derive(Clone, Copy, Debug, PartialEq, Eq)]

@@ -3,8 +3,9 @@
 ghost use Rattle.std.specs.Prelude.{◌≡◌, IfOk, IfSome};
 ghost use Rattle.radpolicy_import_policies.specs.Statements.{count, count_of, weight};
 
-use crate::reasons::{ImportFault, Reason};
+use crate::faults::ImportFault;
 use avp_unlang::{Code, Items};
+use radpolicy_import_conditions::Reason;
 use server_configuration::{Configuration, Content, Item, Quote, Text};
 use std::alloc::{AllocError, Global};
 use std::mem;

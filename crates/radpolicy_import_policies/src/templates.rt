@@ -3,11 +3,10 @@
 use crate::drafts::push_visible;
 use crate::imports::Imported;
 use crate::origin_texts::push_origin;
-use crate::others::{OtherAttribute, OtherSource};
-use crate::references::list_name;
 use crate::wanted::{WantedAttribute, wanted_attributes};
 use avp_dict::{Dictionary, same_name};
 use avp_lists::List;
+use radpolicy_import_conditions::{OtherAttribute, OtherSource, list_name};
 use server_configuration::Configuration;
 use std::alloc::{AllocError, Global};
 

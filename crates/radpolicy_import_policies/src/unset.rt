@@ -1,9 +1,9 @@
 //! Which attributes no line of a policy sets.
 
-use crate::others::{OtherAttribute, OtherSource};
 use avp_dict::Dictionary;
 use avp_lists::{AttrId, List, Op};
 use avp_unlang::{Branch, Line, Policy, Statement};
+use radpolicy_import_conditions::{OtherAttribute, OtherSource};
 use std::alloc::{AllocError, Global};
 
 // Whether an operator makes instances.

@@ -67,6 +67,7 @@ impl Reads {
             }
             Cond::Compare(comparison) => self.comparison(line, comparison),
             Cond::CompareMeant(comparison) => self.meant(line, comparison),
+            Cond::Match(matching) => self.read(line, matching.list, matching.id),
         }
     }
 

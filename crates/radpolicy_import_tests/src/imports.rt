@@ -74,22 +74,26 @@ fn is_imported_by(
     )
 }
 
+// A server's meaning, in a profile.
+pub(crate) fn settings_of(profile: Profile) -> Settings<'static> {
+    Settings {
+        meaning: Meaning::Server,
+        line_ends: LineEnds::Origins,
+        profile,
+        modules: &[],
+        others: &[],
+        initial: 0,
+    }
+}
+
 // Whether this becomes that, with so many statements kept, read, and calls of modules.
-fn becomes(
+pub(crate) fn becomes(
     alloc: Global,
     text: &[u8],
     wanted: &[u8],
     counts: (usize, usize, usize),
 ) -> Result<bool, Fail> {
-    let settings = Settings {
-        meaning: Meaning::Server,
-        line_ends: LineEnds::Origins,
-        profile: Profile::Wider,
-        modules: &[],
-        others: &[],
-        initial: 0,
-    };
-    is_imported_by(alloc, settings, text, wanted, counts)
+    is_imported_by(alloc, settings_of(Profile::Wider), text, wanted, counts)
 }
 
 #[test]
@@ -183,8 +187,8 @@ fn a_chain_goes_whole(rt: HostRuntime) -> Result<(), Fail> {
     assert!(rt;
         becomes(
             rt.alloc(),
-            b"authorize {\n if (&NAS-Port) {\n ok\n }\n elsif (&User-Name =~ /x/) {\n noop\n }\n}",
-            b"# left out, a regular expression: if (&NAS-Port)  # main:2\n",
+            b"authorize {\n if (&NAS-Port) {\n ok\n }\n elsif (&User-Name =~ /(?=x)/) {\n noop\n }\n}",
+            b"# left out, not a pattern: if (&NAS-Port)  # main:2\n",
             (0, 4, 0),
         )?
     );
@@ -229,17 +233,9 @@ fn vlan(alloc: Global, profile: Profile) -> Result<(Vec<u8>, usize), Fail> {
         return Err(Fail::new("no files"));
     }
     let dictionary = Dictionary::read(alloc, &files)?;
-    let settings = Settings {
-        meaning: Meaning::Server,
-        line_ends: LineEnds::Origins,
-        profile,
-        modules: &[],
-        others: &[],
-        initial: 0,
-    };
     let text = b"authorize {\n update reply {\n Tunnel-Type := VLAN\n \
         Tunnel-Private-Group-Id:1 := \"20\"\n }\n}";
-    let imported = imported(alloc, &dictionary, settings, text)?;
+    let imported = imported(alloc, &dictionary, settings_of(profile), text)?;
     Ok((imported.text, imported.kept))
 }
 

@@ -3,8 +3,9 @@
 use crate::imports::{authorize, configuration};
 use avp_dict::Dictionary;
 use avp_forms::Profile;
+use radpolicy_import_conditions::Reason;
 use radpolicy_import_policies::{
-    ImportFault, Imported, LineEnds, Meaning, Reason, Settings, add_initial, import_statements,
+    ImportFault, Imported, LineEnds, Meaning, Settings, add_initial, import_statements,
     initial_template,
 };
 use samples::test_dictionary;

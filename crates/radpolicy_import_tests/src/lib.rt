@@ -9,3 +9,5 @@ mod initial;
 mod memory_files;
 #[cfg(test)]
 mod other_lists;
+#[cfg(test)]
+mod patterns;

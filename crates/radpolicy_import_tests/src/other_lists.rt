@@ -4,9 +4,10 @@ use crate::imports::{authorize, configuration, imported};
 use avp_dict::{Dictionary, FileSet, NamedFile};
 use avp_forms::Profile;
 use avp_lists::Octets;
+use radpolicy_import_conditions::OtherAttribute;
 use radpolicy_import_policies::{
-    Imported, LineEnds, Meaning, OtherAttribute, Settings, Stubs, keeps_names, other_attributes,
-    other_dictionary, unset_attributes,
+    Imported, LineEnds, Meaning, Settings, Stubs, keeps_names, other_attributes, other_dictionary,
+    unset_attributes,
 };
 use samples::one_file;
 use std::alloc::Global;

@@ -1,0 +1,484 @@
+//! Conditions, read as a server reads them.
+
+ghost use Rattle.std.specs.Prelude.{◌≤◌, length};
+
+use crate::patterns::{WrittenPattern, flagged, match_sign, pattern_text};
+use crate::reasons::{Reason, Refusal};
+use crate::references::{Names, Reference, has_texts, is_number, kind_of, reference_of};
+use crate::server_conditions::ServerCondition;
+use crate::texts::{sole_expansion, text_octets};
+use avp_dict::Kind;
+use avp_lists::{Octets, Selection};
+use avp_unlang::{Code, Comparand, Comparison, Matching, Relation};
+use server_configuration::Quote;
+use std::alloc::Global;
+
+/// The most octets of a condition.
+const MAX_CONDITION: usize = 4_096;
+
+/// How many brackets and `!` may be open at once in a condition. Each may double what it becomes.
+const MAX_NESTED: usize = 8;
+
+/// The most conditions with `&&` or `||` between them, and brackets and `!` round them.
+const MAX_PARTS: usize = 256;
+
+/// A word, or a text between quotes.
+#[derive(Clone, Copy)]
+pub struct Operand<'a> {
+    pub quote: Quote,
+    pub octets: &'a [u8],
+}
+
+const EMPTY: Operand<'static> = Operand {
+    quote: Quote::Single,
+    octets: b"",
+};
+
+/// Reads conditions by the names of attributes.
+#[derive(Clone, Copy)]
+pub struct ConditionReader<'a> {
+    pub alloc: Global,
+    pub names: Names<'a>,
+    /// Whether the last code is known.
+    pub knows_code: bool,
+    /// Whether comparisons with regular expressions are taken.
+    pub takes_patterns: bool,
+}
+
+// How deep a part of a condition is, and how many parts may follow.
+#[derive(Clone, Copy)]
+struct Room {
+    nested: usize,
+    parts: usize,
+}
+
+fn is_blank(octet: u8) -> bool {
+    matches!(octet, b' ' | b'\t' | b'\r' | b'\n' | 0x0b | 0x0c)
+}
+
+fn after_blanks(text: &[u8]) -> &[u8] {
+    match text.iter().position(|octet| !is_blank(*octet)) {
+        Some(place) => text.split_at(place).1,
+        None => &[],
+    }
+}
+
+// The octets up to the end of a text between quotes, and what follows its end.
+fn quoted(text: &[u8], mark: u8) -> Option<(&[u8], &[u8])> {
+    let mut is_escaped = false;
+    for (place, octet) in text.iter().enumerate() {
+        if *octet == mark && !is_escaped {
+            let (octets, rest) = text.split_at(place);
+            return Some((octets, rest.split_first()?.1));
+        }
+        is_escaped = *octet == b'\\' && !is_escaped;
+    }
+    None
+}
+
+// Whether a word without quotes ends at an octet that is not its first.
+fn ends_word(octet: u8) -> bool {
+    is_blank(octet)
+        || matches!(
+            octet,
+            b'(' | b')' | b'"' | b'\'' | b'=' | b'!' | b'<' | b'>' | b'&' | b'|'
+        )
+}
+
+// A word without quotes, and what follows it. Braces of expansions are of the word.
+fn bare(text: &[u8]) -> (&[u8], &[u8]) {
+    let mut depth = 0usize;
+    for (place, octet) in text.iter().enumerate() {
+        match *octet {
+            b'{' => depth = depth.saturating_add(1),
+            b'}' => depth = depth.saturating_sub(1),
+            other if depth == 0 && place > 0 && ends_word(other) => return text.split_at(place),
+            _ => {}
+        }
+    }
+    (text, &[])
+}
+
+// The operand that a text begins with, and what follows it.
+fn next_operand(text: &[u8]) -> Result<(Operand<'_>, &[u8]), Reason> {
+    let quote = match text {
+        [b'"', ..] => Quote::Double,
+        [b'\'', ..] => Quote::Single,
+        [b'`', ..] => return Err(Reason::Command),
+        [b'/', ..] => return Err(Reason::RegularExpression),
+        [b'<', ..] => return Err(Reason::Cast),
+        [] => return Err(Reason::Condition),
+        [first, ..] if ends_word(*first) && *first != b'&' => return Err(Reason::Condition),
+        _ => Quote::Bare,
+    };
+    if quote == Quote::Bare {
+        let (octets, rest) = bare(text);
+        return Ok((Operand { quote, octets }, rest));
+    }
+    let [mark, rest @ ..] = text else {
+        return Err(Reason::Condition);
+    };
+    match quoted(rest, *mark) {
+        Some((octets, rest)) => Ok((Operand { quote, octets }, rest)),
+        None => Err(Reason::Condition),
+    }
+}
+
+// The regular expression that a text begins with, and what follows it.
+fn next_pattern(text: &[u8]) -> Result<(WrittenPattern<'_>, &[u8]), Reason> {
+    let [b'/', rest @ ..] = text else {
+        return Err(Reason::RegularExpression);
+    };
+    match quoted(rest, b'/') {
+        Some((octets, rest)) => flagged(octets, rest),
+        None => Err(Reason::RegularExpression),
+    }
+}
+
+// How a comparison that follows compares, and what follows its sign.
+fn relation(text: &[u8]) -> Result<Option<(Relation, &[u8])>, Reason> {
+    match text {
+        [b'=', b'=', rest @ ..] => Ok(Some((Relation::Equal, rest))),
+        [b'!', b'=', rest @ ..] => Ok(Some((Relation::Differs, rest))),
+        [b'<', b'=', rest @ ..] => Ok(Some((Relation::AtMost, rest))),
+        [b'>', b'=', rest @ ..] => Ok(Some((Relation::AtLeast, rest))),
+        [b'<', rest @ ..] => Ok(Some((Relation::Less, rest))),
+        [b'>', rest @ ..] => Ok(Some((Relation::Greater, rest))),
+        [b'=' | b'!', b'*', ..] => Err(Reason::Operator),
+        _ => Ok(None),
+    }
+}
+
+// The same with its sides exchanged.
+fn turned(relation: Relation) -> Relation {
+    match relation {
+        Relation::Equal => Relation::Equal,
+        Relation::Differs => Relation::Differs,
+        Relation::Less => Relation::Greater,
+        Relation::AtMost => Relation::AtLeast,
+        Relation::Greater => Relation::Less,
+        Relation::AtLeast => Relation::AtMost,
+    }
+}
+
+// Whether the empty text compares so with a text.
+fn meets_empty(relation: Relation, text: &[u8]) -> bool {
+    match relation {
+        Relation::Equal | Relation::AtLeast => text.is_empty(),
+        Relation::Differs | Relation::Less => !text.is_empty(),
+        Relation::AtMost => true,
+        Relation::Greater => false,
+    }
+}
+
+// The code of a word, unless policies do not have it.
+fn code_named(word: &[u8]) -> Result<Option<Code>, Reason> {
+    match word {
+        b"ok" => Ok(Some(Code::Ok)),
+        b"noop" => Ok(Some(Code::Noop)),
+        b"updated" => Ok(Some(Code::Updated)),
+        b"fail" => Ok(Some(Code::Fail)),
+        b"reject" => Ok(Some(Code::Reject)),
+        b"notfound" | b"invalid" | b"userlock" | b"handled" => Err(Reason::OtherCode),
+        _ => Ok(None),
+    }
+}
+
+// The truth of a word by itself that is no name.
+fn constant(word: &[u8]) -> Option<bool> {
+    if word.eq_ignore_ascii_case(b"true") {
+        Some(true)
+    } else if word.eq_ignore_ascii_case(b"false") {
+        Some(false)
+    } else if !word.is_empty() && word.iter().all(|octet| octet.is_ascii_digit()) {
+        Some(word.iter().any(|octet| *octet != b'0'))
+    } else {
+        None
+    }
+}
+
+impl<'a> ConditionReader<'a> {
+    /// The attribute that an operand is, if it is one. A bare word is one only with `&`, or where it is not the right
+    /// side of a comparison.
+    pub fn attribute<'b>(
+        &self,
+        operand: Operand<'b>,
+        takes_words: bool,
+    ) -> Result<Option<Reference<'b>>, Reason> {
+        match operand.quote {
+            Quote::Bare if operand.octets.starts_with(b"%{") => {
+                Ok(sole_expansion(&self.names, operand.octets))
+            }
+            Quote::Bare => {
+                if let Some(name) = operand.octets.strip_prefix(b"&") {
+                    return Ok(Some(reference_of(&self.names, name)?));
+                }
+                if !takes_words {
+                    return Ok(None);
+                }
+                match reference_of(&self.names, operand.octets) {
+                    Ok(found) => Ok(Some(found)),
+                    Err(_) => Ok(None),
+                }
+            }
+            Quote::Double => Ok(sole_expansion(&self.names, operand.octets)),
+            Quote::Single | Quote::Back => Ok(None),
+        }
+    }
+
+    /// The comparison of an attribute with what a text stands for.
+    pub(crate) fn compared_with_text(
+        &self,
+        reference: &Reference<'_>,
+        relation: Relation,
+        operand: Operand<'_>,
+    ) -> Result<Comparison, Refusal> {
+        if !has_texts(self.names.dictionary, reference.named) {
+            return Err(Refusal::LeftOut(Reason::OctetsHere));
+        }
+        let octets = text_octets(self.alloc, &self.names, operand.quote, operand.octets)?;
+        let value = self
+            .names
+            .dictionary
+            .value_of_text(self.alloc, reference.named, &octets)?;
+        Ok(Comparison {
+            list: reference.list,
+            id: reference.named.id,
+            kind: kind_of(self.names.dictionary, reference.named),
+            relation,
+            comparand: Comparand::Literal(value),
+        })
+    }
+
+    // The comparison of two attributes.
+    fn compared_with_attribute(
+        &self,
+        reference: &Reference<'_>,
+        relation: Relation,
+        other: &Reference<'_>,
+    ) -> Result<Comparison, Refusal> {
+        let kind = kind_of(self.names.dictionary, reference.named);
+        if kind != kind_of(self.names.dictionary, other.named) {
+            return Err(Refusal::LeftOut(Reason::OtherType));
+        }
+        Ok(Comparison {
+            list: reference.list,
+            id: reference.named.id,
+            kind,
+            relation,
+            comparand: Comparand::Instance(other.list, other.named.id),
+        })
+    }
+
+    // The comparison of what is in place of an expansion with a text. On a server that is a text always, the empty one
+    // where there is nothing.
+    fn asked_compared(
+        &self,
+        asked: &Reference<'_>,
+        relation: Relation,
+        operand: Operand<'_>,
+    ) -> Result<ServerCondition, Refusal> {
+        let text = text_octets(self.alloc, &self.names, operand.quote, operand.octets)?;
+        if is_number(&text) {
+            return Err(Refusal::LeftOut(Reason::ExpandedNumber));
+        }
+        let comparison = self.compared_with_text(asked, relation, operand)?;
+        let compare = Box::new(self.alloc, ServerCondition::Compare(comparison))?;
+        let present = ServerCondition::Present(asked.list, asked.named.id);
+        let present = Box::new(self.alloc, present)?;
+        if meets_empty(relation, &text) {
+            let absent = Box::new(self.alloc, ServerCondition::Not(present))?;
+            Ok(ServerCondition::Or(absent, compare))
+        } else {
+            Ok(ServerCondition::And(present, compare))
+        }
+    }
+
+    // The condition that a comparison of two operands is.
+    fn compared(
+        &self,
+        left: Operand<'_>,
+        relation: Relation,
+        right: Operand<'_>,
+    ) -> Result<ServerCondition, Refusal> {
+        let own = self.attribute(left, true)?;
+        let other = self.attribute(right, false)?;
+        match (own, other) {
+            (Some(own), None) if own.is_asked() => self.asked_compared(&own, relation, right),
+            (None, Some(other)) if other.is_asked() => {
+                self.asked_compared(&other, turned(relation), left)
+            }
+            _ => {
+                let comparison = self.comparison(left, relation, right)?;
+                Ok(ServerCondition::Compare(comparison))
+            }
+        }
+    }
+
+    /// The comparison of two operands, of which none is an expansion with something in its place.
+    pub fn comparison(
+        &self,
+        left: Operand<'_>,
+        relation: Relation,
+        right: Operand<'_>,
+    ) -> Result<Comparison, Refusal> {
+        let own = self.attribute(left, true)?;
+        let other = self.attribute(right, false)?;
+        match (own, other) {
+            (Some(asked), _) | (_, Some(asked)) if asked.is_asked() => {
+                Err(Refusal::LeftOut(Reason::Expansion))
+            }
+            (Some(own), Some(other)) => self.compared_with_attribute(&own, relation, &other),
+            (Some(own), None) => self.compared_with_text(&own, relation, right),
+            (None, Some(other)) => self.compared_with_text(&other, turned(relation), left),
+            (None, None) => Err(Refusal::LeftOut(Reason::TwoTexts)),
+        }
+    }
+
+    // The comparison of an attribute with a regular expression.
+    fn matched(
+        &self,
+        left: Operand<'_>,
+        negated: bool,
+        pattern: WrittenPattern<'_>,
+    ) -> Result<ServerCondition, Refusal> {
+        if !self.takes_patterns {
+            return Err(Refusal::LeftOut(Reason::RegularExpression));
+        }
+        let Some(found) = self
+            .attribute(left, true)?
+            .filter(|found| !found.is_asked())
+        else {
+            return Err(Refusal::LeftOut(Reason::MatchedText));
+        };
+        let named = found.named;
+        if named.raw || kind_of(self.names.dictionary, named) != Kind::Text {
+            return Err(Refusal::LeftOut(Reason::MatchedValue));
+        }
+        Ok(ServerCondition::Match(Matching {
+            list: found.list,
+            id: named.id,
+            selection: Selection::All,
+            negated,
+            pattern: Octets::from_vec(pattern_text(self.alloc, pattern.octets)?),
+            flags: pattern.flags,
+        }))
+    }
+
+    // An operand by itself.
+    fn existence(&self, operand: Operand<'_>) -> Result<ServerCondition, Refusal> {
+        if operand.quote == Quote::Bare && !operand.octets.starts_with(b"%{") {
+            if let Some(code) = code_named(operand.octets)? {
+                if self.knows_code {
+                    return Ok(ServerCondition::Last(code));
+                }
+                return Err(Refusal::LeftOut(Reason::UnknownCode));
+            }
+            if let Some(value) = constant(operand.octets) {
+                return Ok(ServerCondition::Constant(value));
+            }
+            let name = operand.octets.strip_prefix(b"&").unwrap_or(operand.octets);
+            let found = reference_of(&self.names, name)?;
+            return Ok(ServerCondition::Present(found.list, found.named.id));
+        }
+        if let Some(found) = self.attribute(operand, false)? {
+            if found.is_asked() {
+                return self.asked_compared(&found, Relation::Differs, EMPTY);
+            }
+            return Ok(ServerCondition::Present(found.list, found.named.id));
+        }
+        let octets = text_octets(self.alloc, &self.names, operand.quote, operand.octets)?;
+        Ok(ServerCondition::Constant(!octets.is_empty()))
+    }
+
+    // An operand by itself, or a comparison, and what follows it.
+    fn atom<'b>(&self, text: &'b [u8]) -> Result<(ServerCondition, &'b [u8]), Refusal> {
+        let (left, rest) = next_operand(text)?;
+        if let Some((negated, rest)) = match_sign(after_blanks(rest)) {
+            let (pattern, rest) = next_pattern(after_blanks(rest))?;
+            return Ok((self.matched(left, negated, pattern)?, rest));
+        }
+        match relation(after_blanks(rest))? {
+            None => Ok((self.existence(left)?, rest)),
+            Some((relation, rest)) => {
+                let (right, rest) = next_operand(after_blanks(rest))?;
+                Ok((self.compared(left, relation, right)?, rest))
+            }
+        }
+    }
+
+    // What a `!` negates, what stands between brackets, or an atom, and what follows.
+    #[cycle(reading)]
+    fn term<'b>(&self, text: &'b [u8], room: Room) -> Result<(ServerCondition, &'b [u8]), Refusal> {
+        if room.nested == 0 || room.parts == 0 {
+            return Err(Refusal::LeftOut(Reason::LargeCondition));
+        }
+        let inner = Room {
+            nested: room.nested - 1,
+            parts: room.parts - 1,
+        };
+        match after_blanks(text) {
+            [b'!', rest @ ..] => {
+                let (found, rest) = self.term(rest, inner)?;
+                Ok((ServerCondition::Not(Box::new(self.alloc, found)?), rest))
+            }
+            [b'(', rest @ ..] => {
+                let (found, rest) = self.chain(rest, inner)?;
+                match after_blanks(rest) {
+                    [b')', rest @ ..] => Ok((found, rest)),
+                    _ => Err(Refusal::LeftOut(Reason::Condition)),
+                }
+            }
+            text => self.atom(text),
+        }
+    }
+
+    // A condition to its end, and what follows it.
+    #[cycle(reading)]
+    fn chain<'b>(
+        &self,
+        text: &'b [u8],
+        room: Room,
+    ) -> Result<(ServerCondition, &'b [u8]), Refusal> {
+        let (first, rest) = self.term(text, room)?;
+        if room.parts == 0 {
+            return Err(Refusal::LeftOut(Reason::LargeCondition));
+        }
+        let inner = Room {
+            nested: room.nested,
+            parts: room.parts - 1,
+        };
+        match after_blanks(rest) {
+            [b'&', b'&', rest @ ..] => {
+                let (next, rest) = self.chain(rest, inner)?;
+                let first = Box::new(self.alloc, first)?;
+                let next = Box::new(self.alloc, next)?;
+                Ok((ServerCondition::And(first, next), rest))
+            }
+            [b'|', b'|', rest @ ..] => {
+                let (next, rest) = self.chain(rest, inner)?;
+                let first = Box::new(self.alloc, first)?;
+                let next = Box::new(self.alloc, next)?;
+                Ok((ServerCondition::Or(first, next), rest))
+            }
+            _ => Ok((first, rest)),
+        }
+    }
+
+    /// The condition of an `if` or `elsif`, which is between brackets.
+    pub fn condition(&self, text: &[u8]) -> Result<ServerCondition, Refusal> {
+        if text.len() > MAX_CONDITION {
+            return Err(Refusal::LeftOut(Reason::LargeCondition));
+        }
+        let room = Room {
+            nested: MAX_NESTED,
+            parts: MAX_PARTS,
+        };
+        let (found, rest) = self.term(text, room)?;
+        if after_blanks(rest).is_empty() {
+            Ok(found)
+        } else {
+            Err(Refusal::LeftOut(Reason::Condition))
+        }
+    }
+}

@@ -1,0 +1,35 @@
+//! Conditions, names and update lines of a server's policies, as policies that [`avp_unlang::read_policy`] reads have them.
+//!
+//! [`ConditionReader`] reads a condition, [`rewritten`] gives the one of a policy that holds where a server takes the
+//! branch, and [`ConditionPrinter`] writes it; [`LineReader`] does all of that with a line of an update.
+#![tactic(auto)]
+
+mod choices;
+mod condition_texts;
+mod expansions;
+mod lines;
+mod other_attributes;
+mod other_lists;
+mod patterns;
+mod printing;
+mod reasons;
+mod references;
+mod rewriting;
+mod server_conditions;
+mod switches;
+mod texts;
+
+pub use choices::{Alternative, ChosenLine, alternatives, has_choices};
+pub use condition_texts::{ConditionReader, Operand};
+pub use expansions::{Expansion, expansions_in};
+pub use lines::{LineReader, UpdateLine};
+pub use other_attributes::{OtherAttribute, OtherSource};
+pub use other_lists::{OtherList, ServerList};
+pub use patterns::{PatternDifference, add_differences, push_matchings};
+pub use printing::ConditionPrinter;
+pub use reasons::{Reason, Refusal};
+pub use references::{Names, Reference, Spelling, is_name_octet, list_name, parts_of};
+pub use rewriting::rewritten;
+pub use server_conditions::ServerCondition;
+pub use switches::{SwitchBranch, SwitchChain, chain_of};
+pub use texts::between;

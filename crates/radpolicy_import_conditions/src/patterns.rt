@@ -1,0 +1,271 @@
+//! Regular expressions, as a server has them.
+
+use crate::reasons::Reason;
+use crate::server_conditions::ServerCondition;
+use avp_patterns::PatternFlags;
+use avp_unlang::Matching;
+use std::alloc::{AllocError, Global};
+use thiserror::Error;
+
+/// How a server takes a part of a regular expression otherwise than policies do.
+#[derive(Clone, Copy, Debug, PartialEq, Eq, Error)]
+pub enum PatternDifference {
+    #[error("on a server $ also matches before a line feed at the end")]
+    LineFeed,
+    #[error("on a server \\<, \\> and \\b{{..}} are no edges of words")]
+    WordEdge,
+    #[error("on a server [, &&, -- and ~~ are signs by themselves in a class")]
+    InClass,
+    #[error("on a server the flags u, R and x mean something else")]
+    Flags,
+    #[error("on a server \\x{{80}} and above are one octet each")]
+    Octet,
+    #[error("on a server a + after a repetition gives nothing back")]
+    Possessive,
+    #[error("on a server \\v is each line break")]
+    LineBreak,
+}
+
+/// A regular expression as it is written between slashes, and its flags.
+#[derive(Clone, Copy)]
+pub(crate) struct WrittenPattern<'a> {
+    pub(crate) octets: &'a [u8],
+    pub(crate) flags: PatternFlags,
+}
+
+/// Whether a comparison that follows is one with a regular expression, by `!~` or by `=~`, and what follows its sign.
+pub(crate) fn match_sign(text: &[u8]) -> Option<(bool, &[u8])> {
+    match text {
+        [b'=', b'~', rest @ ..] => Some((false, rest)),
+        [b'!', b'~', rest @ ..] => Some((true, rest)),
+        _ => None,
+    }
+}
+
+fn flags_named(word: &[u8]) -> Option<PatternFlags> {
+    let (ignore_case, multi_line) = match word {
+        [] => (false, false),
+        [b'i'] => (true, false),
+        [b'm'] => (false, true),
+        [b'i', b'm'] | [b'm', b'i'] => (true, true),
+        _ => return None,
+    };
+    Some(PatternFlags {
+        ignore_case,
+        multi_line,
+    })
+}
+
+/// A regular expression with what follows its last slash, and what follows its flags.
+pub(crate) fn flagged<'a>(
+    octets: &'a [u8],
+    text: &'a [u8],
+) -> Result<(WrittenPattern<'a>, &'a [u8]), Reason> {
+    let end = text
+        .iter()
+        .position(|octet| !octet.is_ascii_alphanumeric())
+        .unwrap_or(text.len());
+    let (word, rest) = text.split_at(end);
+    match flags_named(word) {
+        Some(flags) => Ok((WrittenPattern { octets, flags }, rest)),
+        None => Err(Reason::RegularExpression),
+    }
+}
+
+/// The text of a regular expression: `\/` is a slash in it.
+pub(crate) fn pattern_text(alloc: Global, octets: &[u8]) -> Result<Vec<u8>, AllocError> {
+    let mut text = Vec::new(alloc);
+    let mut is_escaped = false;
+    for octet in octets {
+        if is_escaped && *octet == b'/' {
+            text.truncate(text.len().saturating_sub(1));
+        }
+        text.push(*octet)?;
+        is_escaped = *octet == b'\\' && !is_escaped;
+    }
+    Ok(text)
+}
+
+/// A regular expression and its flags, as policies write it.
+pub(crate) fn push_pattern(out: &mut Vec<u8>, matching: &Matching) -> Result<(), AllocError> {
+    out.push(b'/')?;
+    for octet in matching.pattern.as_slice() {
+        if *octet == b'/' {
+            out.push(b'\\')?;
+        }
+        out.push(*octet)?;
+    }
+    out.push(b'/')?;
+    if matching.flags.ignore_case {
+        out.push(b'i')?;
+    }
+    if matching.flags.multi_line {
+        out.push(b'm')?;
+    }
+    Ok(())
+}
+
+/// The comparisons with regular expressions in a condition.
+#[cycle(finding)]
+pub fn push_matchings<'c>(
+    found: &mut Vec<&'c Matching>,
+    condition: &'c ServerCondition,
+) -> Result<(), AllocError> {
+    match condition {
+        ServerCondition::Match(matching) => Ok(found.push(matching)?),
+        ServerCondition::Not(inner) => push_matchings(found, inner),
+        ServerCondition::And(first, next) | ServerCondition::Or(first, next) => {
+            push_matchings(found, first)?;
+            push_matchings(found, next)
+        }
+        ServerCondition::Constant(_)
+        | ServerCondition::Last(_)
+        | ServerCondition::Present(..)
+        | ServerCondition::Compare(_) => Ok(()),
+    }
+}
+
+// A part of a regular expression: what it is to a server, how long it is, and whether what follows is in a class.
+#[derive(Clone, Copy)]
+struct Piece {
+    difference: Option<PatternDifference>,
+    length: usize,
+    is_in_class: bool,
+}
+
+// How far it is behind an octet; to the end where there is none.
+fn length_past(text: &[u8], closing: u8) -> usize {
+    match text.iter().position(|octet| *octet == closing) {
+        Some(place) => place.saturating_add(1),
+        None => text.len(),
+    }
+}
+
+// Whether digits up to a brace are a number of ASCII.
+fn is_ascii_number(digits: &[u8]) -> bool {
+    let end = digits.iter().position(|octet| *octet == b'}');
+    let (digits, _) = digits.split_at(end.unwrap_or(digits.len()));
+    let zeros = digits.iter().position(|octet| *octet != b'0');
+    match digits.split_at(zeros.unwrap_or(digits.len())).1 {
+        [] | [_] => true,
+        [first, _] => *first < b'8',
+        _ => false,
+    }
+}
+
+// What begins with a `\`.
+fn escaped(text: &[u8], is_in_class: bool) -> Piece {
+    let (difference, length) = match text {
+        [_, b'<' | b'>', ..] => (Some(PatternDifference::WordEdge), 2),
+        [_, b'b', b'{', ..] => (Some(PatternDifference::WordEdge), length_past(text, b'}')),
+        [_, b'v', ..] => (Some(PatternDifference::LineBreak), 2),
+        [_, b'x', b'{', digits @ ..] if is_ascii_number(digits) => (None, length_past(text, b'}')),
+        [_, b'x', b'{', ..] => (Some(PatternDifference::Octet), length_past(text, b'}')),
+        _ => (None, 2),
+    };
+    Piece {
+        difference,
+        length,
+        is_in_class,
+    }
+}
+
+// What begins with a part of a class that is not escaped.
+fn in_class(text: &[u8]) -> Piece {
+    let (difference, length, is_in_class) = match text {
+        [b']', ..] => (None, 1, false),
+        [b'[', b':', name @ ..] => (None, length_past(name, b']').saturating_add(2), true),
+        [b'[', ..] => (Some(PatternDifference::InClass), 1, true),
+        [b'&', b'&', ..] | [b'-', b'-', ..] | [b'~', b'~', ..] => {
+            (Some(PatternDifference::InClass), 2, true)
+        }
+        _ => (None, 1, true),
+    };
+    Piece {
+        difference,
+        length,
+        is_in_class,
+    }
+}
+
+// How long the beginning of a class is: a `]` that comes first is of the class.
+fn class_start(text: &[u8]) -> usize {
+    match text {
+        [_, b'^', b']', ..] => 3,
+        [_, b'^' | b']', ..] => 2,
+        _ => 1,
+    }
+}
+
+// What begins with a `(?`, of which flags follow.
+fn flags_changed(text: &[u8]) -> Option<PatternDifference> {
+    for octet in text {
+        match *octet {
+            b'u' | b'R' | b'x' => return Some(PatternDifference::Flags),
+            b'a'..=b'z' | b'A'..=b'Z' | b'-' => {}
+            _ => return None,
+        }
+    }
+    None
+}
+
+// What begins with a part that is neither escaped nor of a class.
+fn outside(text: &[u8], is_multi_line: bool) -> Piece {
+    let (difference, length, is_in_class) = match text {
+        [b'[', ..] => (None, class_start(text), true),
+        [b'(', b'?', b'P' | b'<', ..] => (None, 3, false),
+        [b'(', b'?', flags @ ..] => (flags_changed(flags), 2, false),
+        [b'*' | b'+' | b'?' | b'}', b'+', ..] => (Some(PatternDifference::Possessive), 2, false),
+        [b'$', ..] if !is_multi_line => (Some(PatternDifference::LineFeed), 1, false),
+        _ => (None, 1, false),
+    };
+    Piece {
+        difference,
+        length,
+        is_in_class,
+    }
+}
+
+fn next_piece(text: &[u8], is_in_class: bool, is_multi_line: bool) -> Piece {
+    match text {
+        [b'\\', ..] => escaped(text, is_in_class),
+        _ if is_in_class => in_class(text),
+        _ => outside(text, is_multi_line),
+    }
+}
+
+fn add_difference(
+    found: &mut Vec<PatternDifference>,
+    difference: Option<PatternDifference>,
+) -> Result<(), AllocError> {
+    if let Some(difference) = difference
+        && !found.iter().any(|other| *other == difference)
+    {
+        found.push(difference)?;
+    }
+    Ok(())
+}
+
+/// Adds how a server takes parts of a regular expression otherwise, each once.
+pub fn add_differences(
+    found: &mut Vec<PatternDifference>,
+    matching: &Matching,
+) -> Result<(), AllocError> {
+    let text = matching.pattern.as_slice();
+    let mut from = 0usize;
+    let mut is_in_class = false;
+    for place in 0..text.len() {
+        if place < from {
+            continue;
+        }
+        let piece = next_piece(
+            text.split_at(place).1,
+            is_in_class,
+            matching.flags.multi_line,
+        );
+        add_difference(found, piece.difference)?;
+        is_in_class = piece.is_in_class;
+        from = place.saturating_add(piece.length);
+    }
+    Ok(())
+}

@@ -1,0 +1,194 @@
+//! Our conditions, as texts.
+
+use crate::patterns::push_pattern;
+use crate::reasons::{Reason, Refusal};
+use crate::references::list_name;
+use avp_dict::Dictionary;
+use avp_lists::{AttrId, List, Pair, Selection, Value};
+use avp_unlang::{Code, Comparand, Comparison, Cond, Matching, Relation};
+use std::alloc::Global;
+
+/// Prints conditions by a dictionary.
+#[derive(Clone, Copy)]
+pub struct ConditionPrinter<'a> {
+    pub alloc: Global,
+    pub dictionary: &'a Dictionary,
+}
+
+#[derive(Clone, Copy)]
+enum Join {
+    And,
+    Or,
+}
+
+impl Join {
+    fn sign(self) -> &'static [u8] {
+        match self {
+            Join::And => b" && ",
+            Join::Or => b" || ",
+        }
+    }
+}
+
+fn code_name(code: Code) -> &'static [u8] {
+    match code {
+        Code::Ok => b"ok",
+        Code::Noop => b"noop",
+        Code::Updated => b"updated",
+        Code::Fail => b"fail",
+        Code::Reject => b"reject",
+    }
+}
+
+fn sign(relation: Relation) -> &'static [u8] {
+    match relation {
+        Relation::Equal => b" == ",
+        Relation::Differs => b" != ",
+        Relation::Less => b" < ",
+        Relation::AtMost => b" <= ",
+        Relation::Greater => b" > ",
+        Relation::AtLeast => b" >= ",
+    }
+}
+
+impl<'a> ConditionPrinter<'a> {
+    // `&` and an attribute's name, by number where the value is raw.
+    fn push_name(
+        &self,
+        out: &mut Vec<u8>,
+        list: List,
+        id: AttrId,
+        value: &Value,
+    ) -> Result<(), Refusal> {
+        out.push(b'&')?;
+        if list != List::Request {
+            out.extend_from_slice(list_name(list))?;
+            out.push(b':')?;
+        }
+        let name = self.dictionary.printed_name(self.alloc, id, value)?;
+        out.extend_from_slice(&name)?;
+        Ok(())
+    }
+
+    fn push_attribute(&self, out: &mut Vec<u8>, list: List, id: AttrId) -> Result<(), Refusal> {
+        self.push_name(out, list, id, &Value::Int(0))
+    }
+
+    fn push_literal(
+        &self,
+        out: &mut Vec<u8>,
+        comparison: &Comparison,
+        value: &Value,
+    ) -> Result<(), Refusal> {
+        let pair = Pair {
+            id: comparison.id,
+            value: value.copy(self.alloc)?,
+        };
+        if !self.dictionary.fits(&pair) {
+            return Err(Refusal::LeftOut(Reason::NotValue));
+        }
+        self.push_name(out, comparison.list, pair.id, &pair.value)?;
+        out.extend_from_slice(sign(comparison.relation))?;
+        let text = self
+            .dictionary
+            .text_of_value(self.alloc, pair.id, &pair.value)?;
+        out.extend_from_slice(&text)?;
+        Ok(())
+    }
+
+    fn push_comparison(&self, out: &mut Vec<u8>, comparison: &Comparison) -> Result<(), Refusal> {
+        match &comparison.comparand {
+            Comparand::Literal(value) => self.push_literal(out, comparison, value),
+            Comparand::Instance(list, id) => {
+                self.push_attribute(out, comparison.list, comparison.id)?;
+                out.extend_from_slice(sign(comparison.relation))?;
+                self.push_attribute(out, *list, *id)
+            }
+        }
+    }
+
+    fn push_matching(&self, out: &mut Vec<u8>, matching: &Matching) -> Result<(), Refusal> {
+        if matching.selection != Selection::All {
+            return Err(Refusal::LeftOut(Reason::Tag));
+        }
+        self.push_attribute(out, matching.list, matching.id)?;
+        let sign = if matching.negated { b" !~ " } else { b" =~ " };
+        out.extend_from_slice(sign)?;
+        Ok(push_pattern(out, matching)?)
+    }
+
+    // Conditions with a sign between them. What is joined by the same sign in one of them needs no brackets.
+    #[cycle(printing)]
+    fn push_list(&self, out: &mut Vec<u8>, conds: &[Cond], join: Join) -> Result<(), Refusal> {
+        let mut between: &[u8] = b"";
+        for cond in conds {
+            out.extend_from_slice(between)?;
+            match (cond, join) {
+                (Cond::Any(inner), Join::Or) | (Cond::All(inner), Join::And) => {
+                    self.push_list(out, inner.as_slice(), join)?;
+                }
+                _ => self.push_operand(out, cond)?,
+            }
+            between = join.sign();
+        }
+        Ok(())
+    }
+
+    #[cycle(printing)]
+    fn push_joined(&self, out: &mut Vec<u8>, conds: &[Cond], join: Join) -> Result<(), Refusal> {
+        out.push(b'(')?;
+        self.push_list(out, conds, join)?;
+        out.push(b')')?;
+        Ok(())
+    }
+
+    // A comparison after a `!` is between brackets.
+    #[cycle(printing)]
+    fn push_negated(&self, out: &mut Vec<u8>, cond: &Cond) -> Result<(), Refusal> {
+        out.push(b'!')?;
+        match cond {
+            Cond::Compare(comparison) => {
+                out.push(b'(')?;
+                self.push_comparison(out, comparison)?;
+                out.push(b')')?;
+                Ok(())
+            }
+            Cond::Match(matching) => {
+                out.push(b'(')?;
+                self.push_matching(out, matching)?;
+                out.push(b')')?;
+                Ok(())
+            }
+            _ => self.push_operand(out, cond),
+        }
+    }
+
+    #[cycle(printing)]
+    fn push_operand(&self, out: &mut Vec<u8>, cond: &Cond) -> Result<(), Refusal> {
+        match cond {
+            Cond::Any(conds) => self.push_joined(out, conds.as_slice(), Join::Or),
+            Cond::All(conds) => self.push_joined(out, conds.as_slice(), Join::And),
+            Cond::Not(inner) => self.push_negated(out, inner.get()),
+            Cond::Last(code) => Ok(out.extend_from_slice(code_name(*code))?),
+            Cond::Present(list, id) => self.push_attribute(out, *list, *id),
+            Cond::Compare(comparison) => self.push_comparison(out, comparison),
+            Cond::Match(matching) => self.push_matching(out, matching),
+            // Conditions of wider policies, which an import does not write.
+            Cond::PresentSelected(..) => Err(Refusal::LeftOut(Reason::Tag)),
+            Cond::CompareMeant(_) => Err(Refusal::LeftOut(Reason::OctetsHere)),
+        }
+    }
+
+    /// A condition, between brackets.
+    pub fn push_condition(&self, out: &mut Vec<u8>, cond: &Cond) -> Result<(), Refusal> {
+        match cond {
+            Cond::Any(_) | Cond::All(_) => self.push_operand(out, cond),
+            _ => {
+                out.push(b'(')?;
+                self.push_operand(out, cond)?;
+                out.push(b')')?;
+                Ok(())
+            }
+        }
+    }
+}

@@ -1,0 +1,482 @@
+//! A server's conditions, as ours.
+
+ghost use Rattle.std.specs.Prelude.{◌≡◌, ◌&&◌, ◌||◌, false, true, not, IfOk, IsTrue, is_some};
+ghost use Rattle.avp_dict.specs.Dictionary.{Dictionary};
+ghost use Rattle.avp_lists.specs.Instances.{has_instance};
+ghost use Rattle.avp_lists.specs.Selections.{has_selected};
+ghost use Rattle.avp_lists.specs.States.{list_of};
+ghost use Rattle.avp_lists.specs.declared.lists.State.{State};
+ghost use Rattle.avp_unlang.specs.Truth.{same_code, truth, truth_by};
+ghost use Rattle.avp_unlang.specs.declared.codes.Code.{Code as TheCode};
+ghost use Rattle.radpolicy_import_conditions.specs.Conditions.{Answer, both, comparison_answer, either, is_false, is_true, matching_answer, server_truth, server_truth_by};
+ghost use Rattle.radpolicy_import_conditions.specs.internal.Guards.{Matches, answer_of, truth_if, truth_of};
+
+use crate::server_conditions::ServerCondition;
+use avp_lists::{AttrId, List, Selection};
+use avp_unlang::{Boxed, Code, Comparand, Comparison, Cond, Items, Matching};
+use std::alloc::{AllocError, Global};
+
+#[tactic(auto, using(crate::proofs::Truths::all_pushed))]
+fn both(alloc: Global, first: Cond, next: Cond) -> Result<Cond, AllocError>
+    ensures { IfOk result (λ cond. (m : Matches) (s : State) (c : TheCode) → truth_of m cond s c
+        ≡ (truth_of m first s c && truth_of m next s c)) }
+{
+    let mut conds = Vec::new(alloc);
+    conds.push(first)?;
+    conds.push(next)?;
+    Ok(Cond::All(Items::from_vec(conds)))
+}
+
+#[tactic(auto, using(crate::proofs::Truths::any_pushed))]
+fn either(alloc: Global, first: Cond, next: Cond) -> Result<Cond, AllocError>
+    ensures { IfOk result (λ cond. (m : Matches) (s : State) (c : TheCode) → truth_of m cond s c
+        ≡ (truth_of m first s c || truth_of m next s c)) }
+{
+    let mut conds = Vec::new(alloc);
+    conds.push(first)?;
+    conds.push(next)?;
+    Ok(Cond::Any(Items::from_vec(conds)))
+}
+
+#[tactic(auto, using(crate::proofs::Truths::negated_made))]
+fn negated(alloc: Global, cond: Cond) -> Result<Cond, AllocError>
+    ensures { IfOk result (λ made. (m : Matches) (s : State) (c : TheCode) → truth_of m made s c
+        ≡ not (truth_of m cond s c)) }
+{
+    Ok(Cond::Not(Boxed::new(alloc, cond)?))
+}
+
+// Our conditions have no constants: a code is the last one, or it is not.
+#[tactic(auto, using(crate::proofs::Truths::or_negated))]
+fn always(alloc: Global) -> Result<Cond, AllocError>
+    ensures { IfOk result (λ cond. (m : Matches) (s : State) (c : TheCode)
+        → truth_of m cond s c ≡ true) }
+{
+    let is_other = negated(alloc, Cond::Last(Code::Ok))?;
+    let made = either(alloc, Cond::Last(Code::Ok), is_other)?;
+    Ok(made)
+}
+
+#[tactic(auto, using(crate::proofs::Truths::and_negated))]
+fn never(alloc: Global) -> Result<Cond, AllocError>
+    ensures { IfOk result (λ cond. (m : Matches) (s : State) (c : TheCode)
+        → truth_of m cond s c ≡ false) }
+{
+    let is_other = negated(alloc, Cond::Last(Code::Ok))?;
+    let made = both(alloc, Cond::Last(Code::Ok), is_other)?;
+    Ok(made)
+}
+
+fn copy_comparand(alloc: Global, comparand: &Comparand) -> Result<Comparand, AllocError>
+    ensures { IfOk result (λ copy. copy ≡ comparand.now) }
+{
+    match comparand {
+        Comparand::Literal(value) => Ok(Comparand::Literal(value.copy(alloc)?)),
+        Comparand::Instance(list, id) => Ok(Comparand::Instance(*list, *id)),
+    }
+}
+
+pub(crate) fn copy_comparison(
+    alloc: Global,
+    comparison: &Comparison,
+) -> Result<Comparison, AllocError>
+    ensures { IfOk result (λ copy. copy ≡ comparison.now) }
+{
+    Ok(Comparison {
+        list: comparison.list,
+        id: comparison.id,
+        kind: comparison.kind,
+        relation: comparison.relation,
+        comparand: copy_comparand(alloc, &comparison.comparand)?,
+    })
+}
+
+fn copy_matching(alloc: Global, matching: &Matching) -> Result<Matching, AllocError>
+    ensures { IfOk result (λ copy. copy ≡ matching.now) }
+{
+    Ok(Matching {
+        list: matching.list,
+        id: matching.id,
+        selection: matching.selection,
+        negated: matching.negated,
+        pattern: matching.pattern.copy(alloc)?,
+        flags: matching.flags,
+    })
+}
+
+// Whether the attribute is there that is compared with a pattern.
+#[tactic(auto, using(crate::proofs::Truths::all_there, crate::proofs::Truths::some_there))]
+fn is_there(matching: &Matching) -> Cond
+    ensures { (m : Matches) (s : State) (c : TheCode) → truth_of m result s c
+        ≡ has_selected matching.now.selection matching.now.id (list_of matching.now.list s) }
+{
+    match matching.selection {
+        Selection::All => Cond::Present(matching.list, matching.id),
+        selection => Cond::PresentSelected(matching.list, matching.id, selection),
+    }
+}
+
+// Where a comparison with a pattern is false, and not without an answer.
+#[tactic(auto, using(crate::proofs::Truths::mismatch_of))]
+fn mismatches(alloc: Global, matching: &Matching) -> Result<Cond, AllocError>
+    ensures { IfOk result (λ cond. (m : Matches) (s : State) (c : TheCode) → truth_of m cond s c
+        ≡ is_false (matching_answer m.is_met matching.now s)) }
+{
+    let is_unmet = negated(alloc, Cond::Match(copy_matching(alloc, matching)?))?;
+    let made = both(alloc, is_there(matching), is_unmet)?;
+    Ok(made)
+}
+
+// Whether both sides of a comparison are there.
+#[tactic(auto, using(crate::proofs::Truths::sides_literal, crate::proofs::Truths::sides_instance))]
+fn both_sides(alloc: Global, comparison: &Comparison) -> Result<Cond, AllocError>
+    ensures { IfOk result (λ cond. (m : Matches) (s : State) (c : TheCode) → truth_of m cond s c
+        ≡ is_some (comparison_answer comparison.now s)) }
+{
+    let present = Cond::Present(comparison.list, comparison.id);
+    match comparison.comparand {
+        Comparand::Literal(_) => Ok(present),
+        Comparand::Instance(list, id) => {
+            let made = both(alloc, present, Cond::Present(list, id))?;
+            Ok(made)
+        }
+    }
+}
+
+// Where a comparison is not true.
+#[tactic(auto, using(crate::proofs::Truths::unmet_copy))]
+fn unmet(alloc: Global, comparison: &Comparison) -> Result<Cond, AllocError>
+    ensures { IfOk result (λ cond. (m : Matches) (s : State) (c : TheCode) → truth_of m cond s c
+        ≡ not (is_true (comparison_answer comparison.now s))) }
+{
+    let compared = Cond::Compare(copy_comparison(alloc, comparison)?);
+    let made = negated(alloc, compared)?;
+    Ok(made)
+}
+
+// Where a comparison is false, and not without an answer.
+#[tactic(auto, using(crate::proofs::Truths::differs_of))]
+fn differs(alloc: Global, comparison: &Comparison) -> Result<Cond, AllocError>
+    ensures { IfOk result (λ cond. (m : Matches) (s : State) (c : TheCode) → truth_of m cond s c
+        ≡ is_false (comparison_answer comparison.now s)) }
+{
+    let are_there = both_sides(alloc, comparison)?;
+    let is_unmet = unmet(alloc, comparison)?;
+    let made = both(alloc, are_there, is_unmet)?;
+    Ok(made)
+}
+
+// Where another code is the last one.
+#[tactic(auto, using(crate::proofs::Truths::not_last))]
+fn is_other_code(alloc: Global, word: Code) -> Result<Cond, AllocError>
+    ensures { IfOk result (λ cond. (m : Matches) (s : State) (c : TheCode) → truth_of m cond s c
+        ≡ not (same_code c word)) }
+{
+    let made = negated(alloc, Cond::Last(word))?;
+    Ok(made)
+}
+
+// Whether a condition has an answer in all lists.
+fn is_certain(condition: &ServerCondition) -> bool
+    ensures { IsTrue result → (m : Matches) (s : State) (c : TheCode)
+        → is_some (answer_of m condition.now s c) ≡ true }
+{
+    match condition {
+        ServerCondition::Constant(_) | ServerCondition::Last(_) | ServerCondition::Present(..) => {
+            true
+        }
+        ServerCondition::Compare(_) | ServerCondition::Match(_) => false,
+        ServerCondition::Not(inner) => is_certain(inner),
+        ServerCondition::And(first, next) | ServerCondition::Or(first, next) => {
+            is_certain(first) && is_certain(next)
+        }
+    }
+}
+
+// Whether an attribute has an instance wherever a condition is true.
+#[tactic(auto, using(crate::proofs::Truths::moved_present, crate::proofs::Truths::from_first, crate::proofs::Truths::from_next, crate::proofs::Truths::from_either))]
+fn implies_present(condition: &ServerCondition, list: List, id: AttrId) -> bool
+    ensures { IsTrue result → (m : Matches) (s : State) (c : TheCode)
+        → IsTrue (is_true (answer_of m condition.now s c))
+        → IsTrue (has_instance id (list_of list s)) }
+{
+    match condition {
+        ServerCondition::Present(other, other_id) => is_same(*other, *other_id, list, id),
+        ServerCondition::Compare(comparison) => names(comparison, list, id),
+        ServerCondition::Match(matching) => is_matched(matching, list, id),
+        ServerCondition::And(first, next) => {
+            implies_present(first, list, id) || implies_present(next, list, id)
+        }
+        ServerCondition::Or(first, next) => {
+            implies_present(first, list, id) && implies_present(next, list, id)
+        }
+        _ => false,
+    }
+}
+
+fn is_same_list(list: List, other: List) -> bool
+    ensures { IsTrue result → list ≡ other }
+{
+    matches!(
+        (list, other),
+        (List::Request, List::Request) | (List::Reply, List::Reply) | (List::Control, List::Control)
+    )
+}
+
+// Whether an attribute of a list is another.
+fn is_same(list: List, id: AttrId, other: List, other_id: AttrId) -> bool
+    ensures list { IsTrue result → list ≡ other }
+    ensures id { IsTrue result → id ≡ other_id }
+{
+    is_same_list(list, other) && id.equals(other_id)
+}
+
+// Whether what a comparison compares is the attribute.
+#[tactic(auto, using(crate::proofs::Truths::left_present))]
+fn is_left(comparison: &Comparison, list: List, id: AttrId) -> bool
+    ensures { IsTrue result → (s : State) → IsTrue (is_true (comparison_answer comparison.now s))
+        → IsTrue (has_instance id (list_of list s)) }
+{
+    is_same(comparison.list, comparison.id, list, id)
+}
+
+// Whether what a comparison compares with is the attribute.
+#[tactic(auto, using(crate::proofs::Truths::right_present))]
+fn is_right(comparison: &Comparison, list: List, id: AttrId) -> bool
+    ensures { IsTrue result → (s : State) → IsTrue (is_true (comparison_answer comparison.now s))
+        → IsTrue (has_instance id (list_of list s)) }
+{
+    match comparison.comparand {
+        Comparand::Literal(_) => false,
+        Comparand::Instance(other, other_id) => is_same(other, other_id, list, id),
+    }
+}
+
+// Whether one side of a comparison is the attribute.
+fn names(comparison: &Comparison, list: List, id: AttrId) -> bool
+    ensures { IsTrue result → (s : State) → IsTrue (is_true (comparison_answer comparison.now s))
+        → IsTrue (has_instance id (list_of list s)) }
+{
+    is_left(comparison, list, id) || is_right(comparison, list, id)
+}
+
+// Whether what is compared with a pattern is the attribute.
+#[tactic(auto, using(crate::proofs::Truths::matched_present))]
+fn is_matched(matching: &Matching, list: List, id: AttrId) -> bool
+    ensures { IsTrue result → (m : Matches) (s : State)
+        → IsTrue (is_true (matching_answer m.is_met matching.now s))
+        → IsTrue (has_instance id (list_of list s)) }
+{
+    is_same(matching.list, matching.id, list, id)
+}
+
+// That an attribute has an instance, unless a condition implies it.
+#[tactic(auto, using(crate::proofs::Truths::implied_same, crate::proofs::Truths::present_same))]
+fn present_before(list: List, id: AttrId, next: &ServerCondition) -> Option<Cond>
+    ensures { (m : Matches) (s : State) (c : TheCode)
+        → (truth_if m result s c && is_true (answer_of m next.now s c))
+        ≡ (has_instance id (list_of list s) && is_true (answer_of m next.now s c)) }
+{
+    if implies_present(next, list, id) {
+        None
+    } else {
+        Some(Cond::Present(list, id))
+    }
+}
+
+// That both sides of a comparison are there, unless there is one alone and a condition implies that it is.
+#[tactic(auto, using(crate::proofs::Truths::literal_before, crate::proofs::Truths::sides_here))]
+fn sides_before(
+    alloc: Global,
+    comparison: &Comparison,
+    next: &ServerCondition,
+) -> Result<Option<Cond>, AllocError>
+    ensures { IfOk result (λ made. (m : Matches) (s : State) (c : TheCode)
+        → (truth_if m made s c && is_true (answer_of m next.now s c))
+        ≡ (is_some (comparison_answer comparison.now s) && is_true (answer_of m next.now s c))) }
+{
+    match comparison.comparand {
+        Comparand::Literal(_) => Ok(present_before(comparison.list, comparison.id, next)),
+        Comparand::Instance(..) => {
+            let made = both_sides(alloc, comparison)?;
+            Ok(Some(made))
+        }
+    }
+}
+
+// That what is compared with a pattern is there, unless a condition implies it.
+#[tactic(auto, using(crate::proofs::Truths::matched_before, crate::proofs::Truths::matched_here))]
+fn there_before(matching: &Matching, next: &ServerCondition) -> Option<Cond>
+    ensures { (m : Matches) (s : State) (c : TheCode)
+        → (truth_if m result s c && is_true (answer_of m next.now s c))
+        ≡ (is_some (matching_answer m.is_met matching.now s)
+        && is_true (answer_of m next.now s c)) }
+{
+    match matching.selection {
+        Selection::All => present_before(matching.list, matching.id, next),
+        _ => Some(is_there(matching)),
+    }
+}
+
+// What has to hold so that a condition is asked after a first one that was not true.
+#[tactic(auto, using(crate::proofs::Truths::unguarded, crate::proofs::Truths::guarded_sides, crate::proofs::Truths::guarded_false))]
+fn guard_of(
+    alloc: Global,
+    first: &ServerCondition,
+    fails_first: Cond,
+    next: &ServerCondition,
+) -> Result<Option<Cond>, AllocError>
+    requires { (m : Matches) (s : State) (c : TheCode) → truth_of m fails_first s c
+        ≡ is_false (answer_of m first.now s c) }
+    ensures { IfOk result (λ guard. (m : Matches) (s : State) (c : TheCode)
+        → (is_true (answer_of m first.now s c)
+        || (truth_if m guard s c && is_true (answer_of m next.now s c)))
+        ≡ is_true (either (answer_of m first.now s c) (answer_of m next.now s c))) }
+{
+    if is_certain(first) {
+        return Ok(None);
+    }
+    match first {
+        ServerCondition::Compare(comparison) => {
+            let made = sides_before(alloc, comparison, next)?;
+            Ok(made)
+        }
+        ServerCondition::Match(matching) => Ok(there_before(matching, next)),
+        _ => Ok(Some(fails_first)),
+    }
+}
+
+#[tactic(auto, using(crate::proofs::Truths::or_with))]
+fn either_guarded(
+    alloc: Global,
+    first: Cond,
+    guard: Option<Cond>,
+    next: Cond,
+) -> Result<Cond, AllocError>
+    ensures { IfOk result (λ cond. (m : Matches) (s : State) (c : TheCode) → truth_of m cond s c
+        ≡ (truth_of m first s c || (truth_if m guard s c && truth_of m next s c))) }
+{
+    match guard {
+        Some(guard) => {
+            let next = both(alloc, guard, next)?;
+            let made = either(alloc, first, next)?;
+            Ok(made)
+        }
+        None => either(alloc, first, next),
+    }
+}
+
+// Where both conditions are false.
+#[tactic(auto, using(crate::proofs::Truths::false_of_either))]
+fn neither(
+    alloc: Global,
+    first: &ServerCondition,
+    next: &ServerCondition,
+    fails_first: Cond,
+    fails_next: Cond,
+) -> Result<Cond, AllocError>
+    requires first { (m : Matches) (s : State) (c : TheCode) → truth_of m fails_first s c
+        ≡ is_false (answer_of m first.now s c) }
+    requires next { (m : Matches) (s : State) (c : TheCode) → truth_of m fails_next s c
+        ≡ is_false (answer_of m next.now s c) }
+    ensures { IfOk result (λ cond. (m : Matches) (s : State) (c : TheCode) → truth_of m cond s c
+        ≡ is_false (either (answer_of m first.now s c) (answer_of m next.now s c))) }
+{
+    let made = both(alloc, fails_first, fails_next)?;
+    Ok(made)
+}
+
+// What has to hold so that the second part of a `&&` is asked.
+#[tactic(auto, using(crate::proofs::Truths::false_unguarded, crate::proofs::Truths::false_guarded_by))]
+fn guard_of_and(first: &ServerCondition, holds_first: Cond) -> Option<Cond>
+    requires { (m : Matches) (s : State) (c : TheCode) → truth_of m holds_first s c
+        ≡ is_true (answer_of m first.now s c) }
+    ensures { (m : Matches) (s : State) (c : TheCode) (next : Answer)
+        → (is_false (answer_of m first.now s c) || (truth_if m result s c && is_false next))
+        ≡ is_false (both (answer_of m first.now s c) next) }
+{
+    if is_certain(first) {
+        None
+    } else {
+        Some(holds_first)
+    }
+}
+
+// Our condition that is true where the server's has the answer true.
+#[cycle(rewriting)]
+#[tactic(auto, using(crate::proofs::Truths::last_word, crate::proofs::Truths::truth_there, crate::proofs::Truths::compare_copied, crate::proofs::Truths::match_copied))]
+fn where_true(alloc: Global, condition: &ServerCondition) -> Result<Cond, AllocError>
+    ensures { IfOk result (λ cond. (m : Matches) (s : State) (c : TheCode) → truth_of m cond s c
+        ≡ is_true (answer_of m condition.now s c)) }
+{
+    match condition {
+        ServerCondition::Constant(true) => always(alloc),
+        ServerCondition::Constant(false) => never(alloc),
+        ServerCondition::Last(word) => Ok(Cond::Last(*word)),
+        ServerCondition::Present(list, id) => Ok(Cond::Present(*list, *id)),
+        ServerCondition::Compare(comparison) => {
+            Ok(Cond::Compare(copy_comparison(alloc, comparison)?))
+        }
+        ServerCondition::Match(matching) => Ok(Cond::Match(copy_matching(alloc, matching)?)),
+        ServerCondition::Not(inner) => where_false(alloc, inner),
+        ServerCondition::And(first, next) => {
+            let holds_first = where_true(alloc, first)?;
+            let holds_next = where_true(alloc, next)?;
+            both(alloc, holds_first, holds_next)
+        }
+        ServerCondition::Or(first, next) => {
+            let holds_first = where_true(alloc, first)?;
+            let fails_first = where_false(alloc, first)?;
+            let holds_next = where_true(alloc, next)?;
+            let guard = guard_of(alloc, first, fails_first, next)?;
+            either_guarded(alloc, holds_first, guard, holds_next)
+        }
+    }
+}
+
+// Our condition that is true where the server's has the answer false.
+#[cycle(rewriting)]
+#[tactic(auto, using(crate::proofs::Truths::not_there, crate::proofs::Truths::false_of_both))]
+fn where_false(alloc: Global, condition: &ServerCondition) -> Result<Cond, AllocError>
+    ensures { IfOk result (λ cond. (m : Matches) (s : State) (c : TheCode) → truth_of m cond s c
+        ≡ is_false (answer_of m condition.now s c)) }
+{
+    match condition {
+        ServerCondition::Constant(true) => never(alloc),
+        ServerCondition::Constant(false) => always(alloc),
+        ServerCondition::Last(word) => is_other_code(alloc, *word),
+        ServerCondition::Present(list, id) => {
+            let made = negated(alloc, Cond::Present(*list, *id))?;
+            Ok(made)
+        }
+        ServerCondition::Compare(comparison) => differs(alloc, comparison),
+        ServerCondition::Match(matching) => mismatches(alloc, matching),
+        ServerCondition::Not(inner) => where_true(alloc, inner),
+        ServerCondition::And(first, next) => {
+            let fails_first = where_false(alloc, first)?;
+            let holds_first = where_true(alloc, first)?;
+            let fails_next = where_false(alloc, next)?;
+            let guard = guard_of_and(first, holds_first);
+            let made = either_guarded(alloc, fails_first, guard, fails_next)?;
+            Ok(made)
+        }
+        ServerCondition::Or(first, next) => {
+            let fails_first = where_false(alloc, first)?;
+            let fails_next = where_false(alloc, next)?;
+            neither(alloc, first, next, fails_first, fails_next)
+        }
+    }
+}
+
+/// Our condition that is true exactly where the server takes the branch of its condition, in all lists and after all
+/// codes.
+pub fn rewritten(alloc: Global, condition: &ServerCondition) -> Result<Cond, AllocError>
+    // One that compares with no pattern.
+    ensures plain { IfOk result (λ cond. (s : State) (c : TheCode) → truth cond s c
+        ≡ server_truth condition.now s c) }
+    // Any, by whichever dictionary values are printed.
+    ensures by { IfOk result (λ cond. (d : Dictionary) (s : State) (c : TheCode)
+        → truth_by d cond s c ≡ server_truth_by d condition.now s c) }
+{
+    where_true(alloc, condition)
+}

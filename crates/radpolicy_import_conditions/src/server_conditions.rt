@@ -1,0 +1,22 @@
+//! Conditions as a server reads them.
+
+use avp_lists::{AttrId, List};
+use avp_unlang::{Code, Comparison, Matching};
+
+/// A condition of a server. `&&` and `||` have no precedence there: what follows one of them is one condition, to the
+/// end of the brackets.
+#[derive(Debug, Drop)]
+pub enum ServerCondition {
+    /// A text or a number by itself, which has one truth.
+    Constant(bool),
+    /// Whether this is the last code.
+    Last(Code),
+    /// Whether the attribute has an instance.
+    Present(List, AttrId),
+    Compare(Comparison),
+    /// A comparison with a regular expression.
+    Match(Matching),
+    Not(Box<ServerCondition>),
+    And(Box<ServerCondition>, Box<ServerCondition>),
+    Or(Box<ServerCondition>, Box<ServerCondition>),
+}

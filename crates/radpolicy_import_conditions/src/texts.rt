@@ -1,0 +1,235 @@
+//! Quoted texts, as a server reads them.
+
+ghost use Rattle.std.specs.Prelude.{◌≤◌, ◌<◌, length, IfOk, IfSome};
+
+use crate::expansions::closing_brace;
+use crate::reasons::{Reason, Refusal};
+use crate::references::{Names, Reference, Spelling, list_name, push_spelling, reference_of};
+use avp_dict::Dictionary;
+use avp_lists::List;
+use server_configuration::{Quote, Text};
+use std::alloc::{AllocError, Global};
+
+// A part of a text between double quotes.
+enum Part<'a> {
+    Octet(u8),
+    Expansion(Reference<'a>),
+}
+
+// What follows a `\`. One that escapes nothing stays.
+fn escaped(text: &[u8]) -> (u8, &[u8])
+    ensures { length result.1.now ≤ length text.now }
+{
+    match text {
+        [b'n', rest @ ..] => (b'\n', rest),
+        [b'r', rest @ ..] => (b'\r', rest),
+        [b't', rest @ ..] => (b'\t', rest),
+        [mark @ (b'"' | b'\'' | b'\\'), rest @ ..] => (*mark, rest),
+        [a @ b'0'..=b'3', b @ b'0'..=b'7', c @ b'0'..=b'7', rest @ ..] => {
+            ((*a - b'0') * 64 + (*b - b'0') * 8 + (*c - b'0'), rest)
+        }
+        _ => (b'\\', text),
+    }
+}
+
+// What follows a `%`.
+fn expanded<'a>(names: &Names<'_>, text: &'a [u8]) -> Result<(Part<'a>, &'a [u8]), Reason>
+    ensures { IfOk result (λ found. length found.1.now ≤ length text.now) }
+{
+    match text {
+        [b'%', rest @ ..] => Ok((Part::Octet(b'%'), rest)),
+        [b'{', rest @ ..] => {
+            let Some(end) = closing_brace(rest) else {
+                return Err(Reason::Expansion);
+            };
+            let (word, after) = rest.split_at(end);
+            let after = after.strip_prefix(b"}").unwrap_or(after);
+            Ok((Part::Expansion(expansion(names, word)?), after))
+        }
+        [letter, ..] if letter.is_ascii_alphabetic() => Err(Reason::Expansion),
+        _ => Ok((Part::Octet(b'%'), text)),
+    }
+}
+
+/// The attribute that an expansion names, or that is in its place, by the text between its braces.
+pub(crate) fn expansion<'a>(names: &Names<'_>, word: &'a [u8]) -> Result<Reference<'a>, Reason> {
+    if let Some(named) = names.asked(word) {
+        return Ok(Reference {
+            list: List::Control,
+            spelling: Spelling::Asked,
+            named,
+        });
+    }
+    match reference_of(names, word) {
+        Err(Reason::OtherList | Reason::NoName) => Err(Reason::Expansion),
+        found => found,
+    }
+}
+
+// The part that a text begins with, and what follows it.
+fn next_part<'a>(names: &Names<'_>, text: &'a [u8]) -> Result<Option<(Part<'a>, &'a [u8])>, Reason>
+    ensures { IfOk result (λ found. IfSome found (λ found. length found.1.now < length text.now)) }
+{
+    match text {
+        [] => Ok(None),
+        [b'\\', rest @ ..] => {
+            let (octet, rest) = escaped(rest);
+            Ok(Some((Part::Octet(octet), rest)))
+        }
+        [b'%', rest @ ..] => {
+            let found = expanded(names, rest)?;
+            Ok(Some(found))
+        }
+        [octet, rest @ ..] => Ok(Some((Part::Octet(*octet), rest))),
+    }
+}
+
+// An octet of a text between double quotes, as policies write it.
+fn push_octet(out: &mut Vec<u8>, octet: u8) -> Result<(), AllocError> {
+    match octet {
+        b'"' | b'\\' => out.extend_from_slice(&[b'\\', octet]),
+        b'%' => out.extend_from_slice(b"%%"),
+        b'\n' => out.extend_from_slice(b"\\n"),
+        b'\r' => out.extend_from_slice(b"\\r"),
+        b'\t' => out.extend_from_slice(b"\\t"),
+        b' '..=b'~' => Ok(out.push(octet)?),
+        _ => {
+            let digits = [b'0' + octet / 64, b'0' + octet / 8 % 8, b'0' + octet % 8];
+            out.push(b'\\')?;
+            out.extend_from_slice(&digits)
+        }
+    }
+}
+
+// An attribute's name with its list, unless that is the request.
+fn push_name(
+    out: &mut Vec<u8>,
+    dictionary: &Dictionary,
+    reference: &Reference<'_>,
+) -> Result<(), AllocError> {
+    if reference.list != List::Request {
+        out.extend_from_slice(list_name(reference.list))?;
+        out.push(b':')?;
+    }
+    push_spelling(out, dictionary, reference)
+}
+
+/// `&` and an attribute's name.
+pub(crate) fn push_reference(
+    out: &mut Vec<u8>,
+    dictionary: &Dictionary,
+    reference: &Reference<'_>,
+) -> Result<(), AllocError> {
+    out.push(b'&')?;
+    push_name(out, dictionary, reference)
+}
+
+/// A source of an update between double quotes, of the octets of a text.
+pub(crate) fn push_octets(out: &mut Vec<u8>, octets: &[u8]) -> Result<(), AllocError> {
+    out.push(b'"')?;
+    for octet in octets {
+        push_octet(out, *octet)?;
+    }
+    Ok(out.push(b'"')?)
+}
+
+/// A source of an update between double quotes, of what a server reads between them; and whether it has an expansion.
+pub(crate) fn push_double(
+    out: &mut Vec<u8>,
+    names: &Names<'_>,
+    text: &[u8],
+) -> Result<bool, Refusal> {
+    let mut expands = false;
+    let mut rest = text;
+    out.push(b'"')?;
+    while let Some((part, after)) = next_part(names, rest)? {
+        match part {
+            Part::Octet(octet) => push_octet(out, octet)?,
+            Part::Expansion(reference) => {
+                expands = true;
+                out.extend_from_slice(b"%{")?;
+                push_name(out, names.dictionary, &reference)?;
+                out.push(b'}')?;
+            }
+        }
+        rest = after;
+    }
+    out.push(b'"')?;
+    Ok(expands)
+}
+
+// The octets of a text between double quotes without expansions.
+fn double_octets(alloc: Global, names: &Names<'_>, text: &[u8]) -> Result<Vec<u8>, Refusal> {
+    let mut octets = Vec::new(alloc);
+    let mut rest = text;
+    while let Some((part, after)) = next_part(names, rest)? {
+        match part {
+            Part::Octet(octet) => octets.push(octet)?,
+            Part::Expansion(_) => return Err(Refusal::LeftOut(Reason::Expansion)),
+        }
+        rest = after;
+    }
+    Ok(octets)
+}
+
+/// The octets of a text between single quotes.
+pub(crate) fn single_octets(alloc: Global, text: &[u8]) -> Result<Vec<u8>, AllocError> {
+    let mut octets = Vec::new(alloc);
+    let mut rest = text;
+    while let [octet, after @ ..] = rest {
+        rest = match (*octet, after) {
+            (b'\\', [mark @ (b'\'' | b'\\'), after @ ..]) => {
+                octets.push(*mark)?;
+                after
+            }
+            _ => {
+                octets.push(*octet)?;
+                after
+            }
+        };
+    }
+    Ok(octets)
+}
+
+/// Whether a word has an expansion.
+pub(crate) fn has_expansion(word: &[u8]) -> bool {
+    word.windows(2).any(|pair| pair == b"%{".as_slice())
+}
+
+/// The octets that a text of a condition stands for.
+pub(crate) fn text_octets(
+    alloc: Global,
+    names: &Names<'_>,
+    quote: Quote,
+    octets: &[u8],
+) -> Result<Vec<u8>, Refusal> {
+    match quote {
+        Quote::Bare if has_expansion(octets) => Err(Refusal::LeftOut(Reason::Expansion)),
+        Quote::Bare => Ok(Vec::from_slice(alloc, octets)?),
+        Quote::Double => double_octets(alloc, names, octets),
+        Quote::Single => Ok(single_octets(alloc, octets)?),
+        Quote::Back => Err(Refusal::LeftOut(Reason::Command)),
+    }
+}
+
+/// The attribute that a text between double quotes expands alone, as `"%{User-Name}"`.
+pub(crate) fn sole_expansion<'a>(names: &Names<'_>, text: &'a [u8]) -> Option<Reference<'a>> {
+    let word = text.strip_prefix(b"%{")?.strip_suffix(b"}")?;
+    match expansion(names, word) {
+        Ok(found) => Some(found),
+        Err(_) => None,
+    }
+}
+
+/// A text with another before it and one after it.
+pub fn between(
+    alloc: Global,
+    before: &[u8],
+    text: &[u8],
+    after: &[u8],
+) -> Result<Vec<u8>, AllocError> {
+    let mut joined = Vec::from_slice(alloc, before)?;
+    joined.extend_from_slice(text)?;
+    joined.extend_from_slice(after)?;
+    Ok(joined)
+}

@@ -1,5 +1,0 @@
-use Rattle.std.proofs.Common.{length}
-use Rattle.radpolicy_import_policies.proofs.texts.double_octets.Given as goal
-
-abbrev pub decreases-loop-octets : goal.decreases-loop-octets
-decreases-loop-octets l = length l.rest

@@ -1,0 +1,44 @@
+//! Why an import ends.
+
+use crate::origins::Origin;
+use avp_unlang::{PolicyFault, PolicyKind};
+use radpolicy_import_conditions::Reason;
+use std::alloc::{AllocError, AllocFailed};
+use thiserror::Error;
+
+/// Why an import ends without a policy.
+#[derive(Clone, Copy, Debug, PartialEq, Eq, Error)]
+pub enum ImportFault {
+    #[error("out of memory")]
+    Memory,
+    /// More than [`MAX_STATEMENTS`](crate::MAX_STATEMENTS).
+    #[error("too many statements")]
+    TooManyStatements,
+    /// Each statement is taken by itself, and all together are not.
+    #[error("{0}")]
+    Policy(PolicyFault),
+    /// A line of the file of initial lists is no pair of one.
+    #[error("{1}")]
+    Initial(Origin, Reason),
+}
+
+impl From<AllocError> for ImportFault {
+    fn from(_error: AllocError) -> ImportFault {
+        ImportFault::Memory
+    }
+}
+
+impl<T: Drop> From<AllocFailed<T>> for ImportFault {
+    fn from(_error: AllocFailed<T>) -> ImportFault {
+        ImportFault::Memory
+    }
+}
+
+impl From<PolicyFault> for ImportFault {
+    fn from(fault: PolicyFault) -> ImportFault {
+        match fault.kind {
+            PolicyKind::Memory => ImportFault::Memory,
+            _ => ImportFault::Policy(fault),
+        }
+    }
+}
