@@ -69,9 +69,10 @@ fn fault_of_import(fault: ImportFault) -> Fault
 {
     match fault {
         ImportFault::Memory => Fault::Memory,
-        ImportFault::TooManyStatements => Fault::OptionValue,
         ImportFault::Policy(fault) => Fault::Policy(fault),
-        ImportFault::Initial(..) => Fault::OptionValue,
+        ImportFault::TooManyStatements | ImportFault::LineFeed | ImportFault::Initial(..) => {
+            Fault::OptionValue
+        }
     }
 }
 

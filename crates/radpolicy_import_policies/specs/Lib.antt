@@ -1,4 +1,5 @@
 pub mod Imports
+pub mod InitialLists
 pub mod KeptNames
 pub mod OriginTexts
 pub mod Origins

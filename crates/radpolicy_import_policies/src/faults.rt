@@ -14,6 +14,8 @@ pub enum ImportFault {
     /// More than [`MAX_STATEMENTS`](crate::MAX_STATEMENTS).
     #[error("too many statements")]
     TooManyStatements,
+    #[error("a line feed within a line of the policy")]
+    LineFeed,
     /// Each statement is taken by itself, and all together are not.
     #[error("{0}")]
     Policy(PolicyFault),

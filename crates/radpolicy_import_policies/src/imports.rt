@@ -397,9 +397,8 @@ pub fn import_statements(
     } = importer;
     let drafts = with_profile(alloc, wider, drafts)?;
     let PolicyText { text, lines } = rendered(alloc, configuration, settings.line_ends, &drafts)?;
-    // No line of a draft has a line end in it.
     if line_feeds(&text) != lines.len() {
-        return Err(ImportFault::TooManyStatements);
+        return Err(ImportFault::LineFeed);
     }
     let left_out = left_out(alloc, configuration, &parts)?;
     let warnings = warnings_of(alloc, configuration, &warnings)?;

@@ -1,15 +1,11 @@
-use Rattle.std.proofs.Common.{◌∷◌, subst}
+use Rattle.std.proofs.Common.{◌∙◌}
 use Rattle.std.specs.Vec.Iter.{into_iter_items}
-use Rattle.server_configuration.specs.Places.{BeginWithin}
-use Rattle.radpolicy_import_policies.proofs.InitialItems.{with_one}
+use Rattle.radpolicy_import_policies.proofs.InitialItems.{one_moved}
 use Rattle.radpolicy_import_policies.proofs.initial.add_items.Goals as goal
 
 pub loop-item-preserved : goal.loop-item-preserved
-loop-item-preserved c = λ files lines within has old.
-    let before = c.loop-item.invariant files lines within has old in
-    let here : BeginWithin lines (c.in-Some.item ∷ into_iter_items c.next.new.self) =
-    subst (BeginWithin lines) c.in-Some.ensures.steps.0 before.0 in (
-      here.2,
-      with_one files c.loop-item.items.items c.push.new.self.items _ c.in_ok-push.ensures.items
-          (has c.in-Some.item.line here.0 here.1) before.1,
-    )
+loop-item-preserved c =
+    one_moved c.args.file c.in-Some.item c.loop-item.items.items c.push.new.self.items
+    (into_iter_items c.loop-item.item-iterator) (into_iter_items c.next.new.self) c.in-Some.ensures.steps.0
+    c.in_ok-push.ensures.items
+    ∙ c.loop-item.invariant
