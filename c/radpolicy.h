@@ -1,23 +1,40 @@
 /* radpolicy for C: a RADIUS policy is read once and kept behind a handle, and run on any number of requests.
  *
  *     struct radpolicy_policy policy = RADPOLICY_CLOSED;
- *     status = radpolicy_open(&policy, files, count, text, text_length, room, room_length, &told);
+ *     status = radpolicy_open(&policy, files, count, text, text_length, room, room_length, &line_length);
  *     status = radpolicy_run(&policy, &request, &outcome, packet, packet_room, report, report_room);
  *     status = radpolicy_run_pairs(&policy, &request, &lists, packet, packet_room, pairs, pair_room, octets,
  *                                  octet_room);
  *     status = radpolicy_share(&policy, &other);
  *     radpolicy_close(&policy);
  *
+ * A dictionary that serves several policies is read by itself, and each policy by it:
+ *
+ *     struct radpolicy_dictionary dictionary = RADPOLICY_CLOSED;
+ *     status = radpolicy_dictionary_open(&dictionary, files, count, room, room_length, &line_length);
+ *     status = radpolicy_policy_open(&policy, &dictionary, text, text_length, room, room_length, &line_length);
+ *     radpolicy_dictionary_close(&dictionary);
+ *
+ * A server's own lists are kept in a store, edited there by the operators of policies, and come back whole:
+ *
+ *     struct radpolicy_store store = RADPOLICY_CLOSED;
+ *     status = radpolicy_store_open(&store);
+ *     status = radpolicy_store_place(&store, &before);
+ *     status = radpolicy_store_edit(&store, &edit);
+ *     status = radpolicy_store_rollback(&store, before);
+ *     radpolicy_store_close(&store);
+ *
  * What the caller keeps
  * - No pointer is null, also where its length is 0: point at any octet then. An array may be of length 0.
  * - What a pointer points at is there during the call alone. All that is to last is copied, and all that is copied is
- *   given back by radpolicy_close, of the last handle that holds it. The caller frees what the caller made.
+ *   given back when the last handle that holds it is closed. The caller frees what the caller made.
  * - The rooms, the outcome or the lists and the handles of one call do not overlap one another or what the call reads.
  * - A handle begins as RADPOLICY_CLOSED. The caller does not look into it or change it, and uses no copy of it: once
  *   one copy was closed, using another is as wrong as using memory that was freed.
  * - A handle is used by one call at a time. It goes to another thread by that thread's start or end, by a lock, or by a
- *   sequentially consistent atomic. radpolicy_share makes handles of one policy for several threads: calls with
- *   different handles may run at the same time, and each handle is closed by itself, in any order.
+ *   sequentially consistent atomic. radpolicy_share makes handles of one policy for several threads, and
+ *   radpolicy_dictionary_share those of one dictionary: calls with different handles may run at the same time, and each
+ *   handle is closed by itself, in any order, a dictionary's before or after those of its policies.
  * - A call is not made from a signal handler, nor in the child of a process that had threads.
  *
  * The library opens no file, no socket and no process, starts no thread, writes nowhere but in the caller's rooms, and
@@ -47,10 +64,14 @@ enum radpolicy_status {
     RADPOLICY_NO_MEMORY = 4,
     /* A room is too short. Nothing was written into a room; the lengths say what is wanted. */
     RADPOLICY_TOO_SHORT = 5,
-    /* The handle holds no policy. */
+    /* The handle holds nothing. */
     RADPOLICY_IS_CLOSED = 6,
-    /* The handle holds a policy already, and keeps it. */
+    /* The handle holds something already, and keeps it. */
     RADPOLICY_IS_OPEN = 7,
+    /* The list would have more than 4096 pairs. It is as it was. */
+    RADPOLICY_IS_FULL = 8,
+    /* What a number names is not there: no such list, operator, attribute, pair or state. Nothing has changed. */
+    RADPOLICY_NOT_THERE = 9,
 };
 
 /* A policy with its dictionary, or none. */
@@ -58,6 +79,20 @@ struct radpolicy_policy {
     void *held;
     bool is_open;
 };
+
+/* A dictionary, or none. */
+struct radpolicy_dictionary {
+    void *held;
+    bool is_open;
+};
+
+/* Lists with the states that they went through, or none. */
+struct radpolicy_store {
+    void *held;
+    bool is_open;
+};
+
+/* What a handle is before it is opened, and after it was closed. */
 #define RADPOLICY_CLOSED { NULL, false }
 
 struct radpolicy_slice {
@@ -72,12 +107,39 @@ struct radpolicy_file {
 };
 
 /* Reads a policy by dictionary files, the main file first. No files, or two of one name, are refused as an option's
- * value (E02). room_length octets are at room; *told becomes the length of what is told: 0, or that of a fault's line.
+ * value (E02). room_length octets are at room; *line_length becomes the length of a fault's line, or 0.
  *
  * RADPOLICY_DONE, RADPOLICY_REFUSED, RADPOLICY_NO_MEMORY, RADPOLICY_TOO_SHORT (it is refused, and the room is too short
  * for the line), RADPOLICY_IS_OPEN. */
 uint8_t radpolicy_open(struct radpolicy_policy *policy, const struct radpolicy_file *files, size_t file_count,
-                       const uint8_t *text, size_t text_length, uint8_t *room, size_t room_length, size_t *told);
+                       const uint8_t *text, size_t text_length, uint8_t *room, size_t room_length, size_t *line_length);
+
+/* Reads dictionary files, the main file first, for policies that are opened by them. It is refused as radpolicy_open
+ * refuses its files, with the same lines.
+ *
+ * RADPOLICY_DONE, RADPOLICY_REFUSED, RADPOLICY_NO_MEMORY, RADPOLICY_TOO_SHORT (it is refused, and the room is too short
+ * for the line), RADPOLICY_IS_OPEN. */
+uint8_t radpolicy_dictionary_open(struct radpolicy_dictionary *dictionary, const struct radpolicy_file *files,
+                                  size_t file_count, uint8_t *room, size_t room_length, size_t *line_length);
+
+/* Reads a policy by a dictionary that is open. It holds the dictionary too, and no copy of it: the dictionary's handle
+ * may be closed at once, or serve more policies. The policy is closed by radpolicy_close.
+ *
+ * RADPOLICY_DONE, RADPOLICY_REFUSED, RADPOLICY_NO_MEMORY, RADPOLICY_TOO_SHORT (it is refused, and the room is too short
+ * for the line), RADPOLICY_IS_CLOSED (the dictionary's handle holds none), RADPOLICY_IS_OPEN (the policy's handle holds
+ * a policy already, and keeps it). */
+uint8_t radpolicy_policy_open(struct radpolicy_policy *policy, struct radpolicy_dictionary *dictionary,
+                              const uint8_t *text, size_t text_length, uint8_t *room, size_t room_length,
+                              size_t *line_length);
+
+/* Gives the other handle, which is closed, the dictionary that the first one holds, without a copy of it.
+ *
+ * RADPOLICY_DONE, RADPOLICY_NO_MEMORY, RADPOLICY_IS_CLOSED (the first one holds no dictionary), RADPOLICY_IS_OPEN (the
+ * other one holds a dictionary already, and keeps it). */
+uint8_t radpolicy_dictionary_share(struct radpolicy_dictionary *dictionary, struct radpolicy_dictionary *other);
+
+/* Gives up the dictionary and leaves a closed handle. Its policies stay open. RADPOLICY_DONE, RADPOLICY_IS_CLOSED. */
+uint8_t radpolicy_dictionary_close(struct radpolicy_dictionary *dictionary);
 
 /* Gives the other handle, which is closed, the policy that the first one holds. It is not copied: its memory is given
  * back with the last handle that holds it.
@@ -225,8 +287,92 @@ struct radpolicy_job {
  * beside radpolicy_run: it is for those who want the program's behaviour.
  *
  * RADPOLICY_DONE (the room has the report), RADPOLICY_REFUSED (it has the line of the fault), RADPOLICY_NO_MEMORY,
- * RADPOLICY_TOO_SHORT. *told becomes the length of what is told. */
-uint8_t radpolicy_answer(const struct radpolicy_job *job, uint8_t *room, size_t room_length, size_t *told);
+ * RADPOLICY_TOO_SHORT. *answer_length becomes the length of the report or the line, or 0. */
+uint8_t radpolicy_answer(const struct radpolicy_job *job, uint8_t *room, size_t room_length, size_t *answer_length);
+
+/* Stores. A store has three lists of pairs in order, and the states through which these went: the first one, of empty
+ * lists, is at place 0. One state is the present one. Each edit adds a state after it, in place of those that were
+ * there; undo and redo go from one to the next, and a rollback adds an earlier one once more. A call that is not done
+ * changes nothing. A store serves one thread at a time: there is no second handle on it. */
+
+enum radpolicy_list {
+    RADPOLICY_REQUEST_LIST = 0,
+    RADPOLICY_REPLY_LIST = 1,
+    RADPOLICY_CONTROL_LIST = 2,
+};
+
+/* The operators of policies. An instance of the pair is a pair of its attribute, whatever its value. */
+enum radpolicy_operator {
+    RADPOLICY_ADD_NEW = 0,      /* = adds the pair at the tail, where it has no instance */
+    RADPOLICY_REPLACE = 1,      /* := puts it in place of the first instance and drops the others, or at the tail */
+    RADPOLICY_APPEND = 2,       /* += adds it at the tail */
+    RADPOLICY_PREPEND = 3,      /* ^= adds it at the head */
+    RADPOLICY_REMOVE_EQUAL = 4, /* -= drops each pair that is equal to it */
+    RADPOLICY_KEEP_EQUAL = 5,   /* == drops each instance that is not equal to it */
+    RADPOLICY_REMOVE_ALL = 6,   /* !* drops each instance */
+};
+
+/* A change of one list by one pair, of which the octets are copied. Values are compared octet by octet. */
+struct radpolicy_edit {
+    struct radpolicy_slice value;
+    uint32_t within; /* as in struct radpolicy_pair; of a plain attribute it is not looked at */
+    uint32_t number;
+    uint8_t kind; /* enum radpolicy_kind; the numbers of an extended attribute are at most 255 */
+    uint8_t list; /* enum radpolicy_list */
+    uint8_t op;   /* enum radpolicy_operator */
+};
+
+/* A pair of a store, but for the octets of its value. */
+struct radpolicy_store_pair {
+    size_t value_length;
+    uint32_t within;
+    uint32_t number;
+    uint8_t kind;
+};
+
+/* Opens a store of empty lists. RADPOLICY_DONE, RADPOLICY_NO_MEMORY, RADPOLICY_IS_OPEN. */
+uint8_t radpolicy_store_open(struct radpolicy_store *store);
+
+/* Gives up the lists and leaves a closed handle. RADPOLICY_DONE, RADPOLICY_IS_CLOSED. */
+uint8_t radpolicy_store_close(struct radpolicy_store *store);
+
+/* Edits a list: one more state, also where the edit changes nothing.
+ *
+ * RADPOLICY_DONE, RADPOLICY_NO_MEMORY, RADPOLICY_IS_CLOSED, RADPOLICY_IS_FULL, RADPOLICY_NOT_THERE (the edit names no
+ * list, operator or attribute). */
+uint8_t radpolicy_store_edit(struct radpolicy_store *store, const struct radpolicy_edit *edit);
+
+/* Goes to the state before. RADPOLICY_DONE, RADPOLICY_IS_CLOSED, RADPOLICY_NOT_THERE (the first state is present). */
+uint8_t radpolicy_store_undo(struct radpolicy_store *store);
+
+/* Goes to the state after. RADPOLICY_DONE, RADPOLICY_IS_CLOSED, RADPOLICY_NOT_THERE (the last state is present). */
+uint8_t radpolicy_store_redo(struct radpolicy_store *store);
+
+/* Gives the lists back as they were at a place, the present one or one before it, as one more state.
+ *
+ * RADPOLICY_DONE, RADPOLICY_NO_MEMORY, RADPOLICY_IS_CLOSED, RADPOLICY_NOT_THERE (the place is after that of the
+ * present state). */
+uint8_t radpolicy_store_rollback(struct radpolicy_store *store, size_t to);
+
+/* Forgets each state but the present one, which is then at place 0: where lists were loaded, or a step is done.
+ *
+ * RADPOLICY_DONE, RADPOLICY_IS_CLOSED. */
+uint8_t radpolicy_store_settle(struct radpolicy_store *store);
+
+/* Tells the place of the present state. RADPOLICY_DONE, RADPOLICY_IS_CLOSED (*place becomes 0). */
+uint8_t radpolicy_store_place(struct radpolicy_store *store, size_t *place);
+
+/* Tells how many pairs a list has in the present state. enum radpolicy_list.
+ *
+ * RADPOLICY_DONE, RADPOLICY_IS_CLOSED, RADPOLICY_NOT_THERE (there is no such list); of both *count becomes 0. */
+uint8_t radpolicy_store_count(struct radpolicy_store *store, uint8_t list, size_t *count);
+
+/* Tells the pair at a place of a list, the first one at 0, and puts the octets of its value at the front of the room.
+ *
+ * RADPOLICY_DONE, RADPOLICY_TOO_SHORT (the pair is told, and the room is as it was), RADPOLICY_IS_CLOSED,
+ * RADPOLICY_NOT_THERE (there is no such list or pair); of the last two each number of *pair becomes 0. */
+uint8_t radpolicy_store_pair(struct radpolicy_store *store, uint8_t list, size_t at, struct radpolicy_store_pair *pair,
+                             uint8_t *room, size_t room_length);
 
 #ifdef __cplusplus
 }

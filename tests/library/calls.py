@@ -18,8 +18,11 @@ from common.subject import Subject, new_folder
 from library import jobs, watched
 from library.building import missing, program, shared_library
 
-EXPORTED = ["radpolicy_answer", "radpolicy_close", "radpolicy_open", "radpolicy_run", "radpolicy_run_pairs",
-            "radpolicy_share"]
+EXPORTED = ["radpolicy_answer", "radpolicy_close", "radpolicy_dictionary_close", "radpolicy_dictionary_open",
+            "radpolicy_dictionary_share", "radpolicy_open", "radpolicy_policy_open", "radpolicy_run",
+            "radpolicy_run_pairs", "radpolicy_share", "radpolicy_store_close", "radpolicy_store_count",
+            "radpolicy_store_edit", "radpolicy_store_open", "radpolicy_store_pair", "radpolicy_store_place",
+            "radpolicy_store_redo", "radpolicy_store_rollback", "radpolicy_store_settle", "radpolicy_store_undo"]
 CLIENT = "radclient"
 SECRET = "testing123"
 POLICY = 'update reply { Reply-Message := "hello" }\nif (&User-Name == "eve") { reject }\n'
@@ -215,3 +218,5 @@ def check(subject: Subject, report: Report) -> None:
         watched.check_calls(subject, report, folder, words, packet)
         watched.check_no_memory(subject, report, folder, words, packet)
         watched.check_threads(subject, report, folder, words, packet)
+        watched.check_dictionaries(subject, report, folder, words, packet)
+        watched.check_stores(subject, report, folder)

@@ -40,7 +40,9 @@ static struct radpolicy_slice whole(FILE *file) {
     return (struct radpolicy_slice){octets, length};
 }
 
-static struct radpolicy_policy policy = RADPOLICY_CLOSED, other = RADPOLICY_CLOSED;
+static struct radpolicy_policy policy = RADPOLICY_CLOSED, other = RADPOLICY_CLOSED, by_one = RADPOLICY_CLOSED;
+static struct radpolicy_dictionary dictionary = RADPOLICY_CLOSED, shared = RADPOLICY_CLOSED;
+static struct radpolicy_store store = RADPOLICY_CLOSED;
 static struct radpolicy_slice text;
 static struct radpolicy_file file;
 static struct radpolicy_request request;
@@ -56,6 +58,35 @@ static uint8_t open_it(void) {
 static uint8_t share_it(void) {
     told = 0;
     return radpolicy_share(&policy, &other);
+}
+
+static uint8_t open_dictionary(void) {
+    return radpolicy_dictionary_open(&dictionary, &file, 1, room, ROOM, &told);
+}
+
+static uint8_t share_dictionary(void) {
+    told = 0;
+    return radpolicy_dictionary_share(&dictionary, &shared);
+}
+
+static uint8_t open_by_it(void) {
+    return radpolicy_policy_open(&by_one, &dictionary, text.at, text.length, room, ROOM, &told);
+}
+
+static uint8_t open_store(void) {
+    told = 0;
+    return radpolicy_store_open(&store);
+}
+
+static uint8_t edit_store(void) {
+    struct radpolicy_edit edit = {.value = text, .number = 18, .list = RADPOLICY_REPLY_LIST, .op = RADPOLICY_APPEND};
+    told = 0;
+    return radpolicy_store_edit(&store, &edit);
+}
+
+static uint8_t roll_back_store(void) {
+    told = 0;
+    return radpolicy_store_rollback(&store, 0);
 }
 
 static uint8_t run_it(void) {
@@ -111,6 +142,19 @@ int main(int count, char **words) {
     wanted(try_each(open_it, "it is opened") > 0, "no allocation", 0);
     wanted(try_each(share_it, "it is shared") > 0, "no allocation", 0);
     wanted(radpolicy_close(&other) == RADPOLICY_DONE, "the other one is not closed", 0);
+    wanted(try_each(open_dictionary, "a dictionary is opened") > 0, "no allocation", 0);
+    wanted(try_each(share_dictionary, "it is shared") > 0, "no allocation", 0);
+    wanted(try_each(open_by_it, "a policy is opened by it") > 0, "no allocation", 0);
+    wanted(radpolicy_dictionary_close(&dictionary) == RADPOLICY_DONE, "it is not closed", 0);
+    wanted(radpolicy_close(&by_one) == RADPOLICY_DONE, "its policy is not closed", 0);
+    wanted(radpolicy_dictionary_close(&shared) == RADPOLICY_DONE, "the shared one is not closed", 0);
+    wanted(try_each(open_store, "a store is opened") > 0, "no allocation", 0);
+    wanted(try_each(edit_store, "it is edited") > 0, "no allocation", 0);
+    try_each(roll_back_store, "it is rolled back");
+    size_t pairs_left = 1;
+    uint8_t status = radpolicy_store_count(&store, RADPOLICY_REPLY_LIST, &pairs_left);
+    wanted(status == RADPOLICY_DONE && pairs_left == 0, "the list is not back", 0);
+    wanted(radpolicy_store_close(&store) == RADPOLICY_DONE, "it is not closed", 0);
     wanted(run_it() == RADPOLICY_DONE, "it does not run", 0);
     try_again(run_it, "it is run");
     wanted(run_with_pairs() == RADPOLICY_DONE, "it does not run with pairs", 0);

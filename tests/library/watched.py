@@ -16,7 +16,7 @@ HELGRIND = ["valgrind", "--quiet", "--tool=helgrind", "--error-exitcode=9"]
 SANITIZERS = ["-fsanitize=address,undefined", "-fno-sanitize-recover=all"]
 UNLIMITED = ["sh", "-c", 'ulimit -S -v "$(ulimit -H -v)"; exec "$@"', "sh"]  # sanitizers map more than tests/run allows
 SECONDS, MINUTE = 3, 60
-CHANGED = 10000
+CHANGED, EDITED = 10000, 20000
 
 
 def has_valgrind(report: Report, what: str) -> bool:
@@ -69,6 +69,29 @@ def check_threads(subject: Subject, report: Report, folder: Path, words: List, p
     if has_valgrind(report, "the library's threads"):
         check_output(report, f"{what}, by helgrind", [*HELGRIND, made, str(seconds), *words], packet, output)
         check_output(report, f"{what}, by memcheck", [*MEMCHECK, made, str(seconds), *words], packet, output)
+
+
+def check_dictionaries(subject: Subject, report: Report, folder: Path, words: List, packet: bytes,
+                       seconds: int = SECONDS) -> None:
+    """Policies by one dictionary, which are closed with it in each order, in eight threads too."""
+    what, output = f"policies by one dictionary, in eight threads for {seconds} s", rb"[1-9]\d* runs, 0 faults\n"
+    made = program(subject, folder, "tests/library/dictionaries.c", "-pthread")
+    watched = [("by helgrind", HELGRIND), ("by memcheck", MEMCHECK)]
+    for tool, before in watched if has_valgrind(report, "the library's dictionaries") else []:
+        check_output(report, f"{what}, {tool}", [*before, made, str(seconds), *words], packet, output)
+    made = program(subject, folder, "tests/library/dictionaries.c", "-pthread", *SANITIZERS)
+    check_output(report, f"{what}, by the compiler's sanitizers", [*UNLIMITED, made, str(seconds), *words], packet, output)
+
+
+def check_stores(subject: Subject, report: Report, folder: Path) -> None:
+    """Edits, moves and rollbacks of a store, beside a plain model of its lists."""
+    what = f"{EDITED} turns of a store in C, beside a plain model"
+    made = program(subject, folder, "tests/library/stores.c")
+    check_output(report, what, [made, str(EDITED)], b"", rb"0 faults\n")
+    if has_valgrind(report, "the library's stores"):
+        check_output(report, f"{what}, by memcheck", [*MEMCHECK, made, str(EDITED // 10)], b"", rb"0 faults\n")
+    made = program(subject, folder, "tests/library/stores.c", *SANITIZERS)
+    check_output(report, f"{what}, by the compiler's sanitizers", [*UNLIMITED, made, str(EDITED)], b"", rb"0 faults\n")
 
 
 def check_minute(subject: Subject, report: Report) -> None:

@@ -9,12 +9,11 @@ from typing import List, NamedTuple, Sequence, Set
 
 from common.report import Report
 from common.subject import Subject
+from library.calls import EXPORTED
 from making.copies import SYSTEM_PATH, Copy, new_copy
 
 NEEDED = ("dpkg", "dpkg-deb", "dpkg-shlibdeps", "strip", "objdump", "cc")
 LIBRARY = "crates/radpolicy_c/out/libradpolicy_c.a"
-EXPORTED = {"radpolicy_answer", "radpolicy_close", "radpolicy_open", "radpolicy_run", "radpolicy_run_pairs",
-            "radpolicy_share"}
 # Opens nothing, and says so.
 IN_C = """#include <radpolicy.h>
 #include <stdio.h>
@@ -76,7 +75,7 @@ def faults_of_library(prefix: Path, folder: Path, libraries: str = "lib") -> Lis
     source, place = folder / "program.c", prefix / libraries
     source.write_text(IN_C)
     shown = {line.split()[-1] for line in printed(["nm", "-D", "--defined-only", place / "libradpolicy.so"]).splitlines()}
-    wrong = [] if shown == EXPORTED else [f"the shared library shows {sorted(shown)}"]
+    wrong = [] if shown == set(EXPORTED) else [f"the shared library shows {sorted(shown)}"]
     said = printed(["cc", f"-I{prefix / 'include'}", "-o", folder / "static", source, place / "libradpolicy.a"])
     wrong += [said] if said else []
     flags = [f"-I{prefix / 'include'}", f"-L{place}", "-lradpolicy"]

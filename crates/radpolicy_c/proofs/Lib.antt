@@ -1,5 +1,6 @@
 pub mod Crosses
 pub mod DistinctNames
+pub mod HeldStoreValues
 pub mod HeldValues
 pub mod LooseValues
 pub mod Opened

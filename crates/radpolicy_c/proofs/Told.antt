@@ -10,7 +10,7 @@ use Rattle.radpolicy_c.specs.declared.requests.RadpolicyRequest.{RadpolicyReques
 use Rattle.radpolicy_c.specs.declared.runs.Ran.{Ran}
 use Rattle.radpolicy_c.specs.declared.runs.Wanted.{Wanted}
 use Rattle.radpolicy_c.specs.declared.statuses.Status.{Status}
-use Rattle.radpolicy_c.specs.declared.statuses.Status.TheVariants.{AlreadyOpen, Closed, Done, NoMemory, Refused, TooShort}
+use Rattle.radpolicy_c.specs.declared.statuses.Status.TheVariants.{AlreadyOpen, Closed, Done, Full, NoMemory, NotThere, Refused, TooShort}
 use Rattle.radpolicy_c.specs.internal.Telling.{TellsRunFault}
 
 pub refused : (wanted : Wanted) (prepared : Prepared) (secret : Option (List ℕ)) (asked : RadpolicyRequest) (f : Fault) (status : Status) (ran : Ran)
@@ -22,3 +22,5 @@ refused wanted prepared secret asked f NoMemory ran why told = told
 refused wanted prepared secret asked f TooShort ran why told = absurd told
 refused wanted prepared secret asked f Closed ran why told = absurd told
 refused wanted prepared secret asked f AlreadyOpen ran why told = absurd told
+refused wanted prepared secret asked f Full ran why told = absurd told
+refused wanted prepared secret asked f NotThere ran why told = absurd told

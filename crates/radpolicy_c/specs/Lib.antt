@@ -1,7 +1,9 @@
 pub mod Answers
 pub mod Closing
+pub mod Dictionaries
 pub mod Files
 pub mod Held
+pub mod HeldStores
 pub mod Jobs
 pub mod Opening
 pub mod Outcomes
@@ -11,4 +13,6 @@ pub mod Rooms
 pub mod Runs
 pub mod Sharing
 pub mod Statuses
+pub mod StorePairs
+pub mod Stores
 pub mod internal

@@ -4,6 +4,7 @@ use Rattle.avp_dict.specs.declared.file.files.NamedFile.{NamedFile}
 use Rattle.avp_dict.specs.Dictionary.{Dictionary}
 use Rattle.avp_dict.specs.DictionaryReading.{dictionary_of, max_lines}
 use Rattle.avp_dict.specs.Lines.{HasDistinctNames}
+use Rattle.avp_forms.specs.Profiles.{profile_of}
 use Rattle.avp_unlang.specs.Policies.{SpellsPolicy}
 use Rattle.radpolicy.specs.Faults.{fault_line}
 use Rattle.radpolicy.specs.JobReports.{IsUnspelled}
@@ -14,32 +15,47 @@ use Rattle.radpolicy_c.specs.declared.opening.Opening.{Opening}
 use Rattle.radpolicy_c.specs.declared.statuses.Status.{Status}
 use Rattle.radpolicy_c.specs.declared.statuses.Status.TheVariants.{AlreadyOpen, Done, NoMemory, Refused}
 
--- the policy's dictionary is that of the files, and the text spells the policy by it
-pub record IsOpenedFrom (files : List NamedFile) (text : List ℕ) (policy : Prepared) : Type 0 where
-  pub read : dictionary_of max_lines files ≡ Ok policy.dictionary
-  pub spelled : SpellsPolicy policy.dictionary text policy.statements
-
 -- there are files, and no two have one name
 pub record IsFileSet (files : List NamedFile) : Type 0 where
   pub some : 0 < length files
   pub distinct : HasDistinctNames files
+
+-- the files are a set, and this is their dictionary
+pub record IsReadFrom (files : List NamedFile) (dictionary : Dictionary) : Type 0 where
+  pub set : IsFileSet files
+  pub read : dictionary_of max_lines files ≡ Ok dictionary
+
+-- the text spells the policy by this dictionary, and its first line asks for this profile
+pub record IsSpelledBy (dictionary : Dictionary) (text : List ℕ) (policy : Prepared) : Type 0 where
+  pub over : policy.dictionary ≡ dictionary
+  pub profile : policy.profile ≡ profile_of text
+  pub statements : SpellsPolicy dictionary text policy.statements
+
+-- the text spells the policy by the dictionary of the files
+pub record IsOpenedFrom (files : List NamedFile) (text : List ℕ) (policy : Prepared) : Type 0 where
+  pub dictionary : Dictionary
+  pub read : IsReadFrom files dictionary
+  pub spelled : IsSpelledBy dictionary text policy
 
 -- the refusal of the files' dictionary, with its file and line
 abbrev pub IsDictionaryRefusal : List NamedFile → Fault → Type 0
 IsDictionaryRefusal files (fault.Dictionary f) = dictionary_of max_lines files ≡ Err f
 IsDictionaryRefusal files _ = ⊥
 
+-- why no dictionary is read, but for want of memory: the files are no set, or their dictionary is refused
+abbrev pub IsReadRefusal : List NamedFile → Fault → Type 0
+IsReadRefusal files f =
+    ((IsFileSet files → ⊥) × (f ≡ fault.OptionValue)) ⊎ IsDictionaryRefusal files f
+
 -- the text spells no policy by the files' dictionary, or a pattern of a wider one is too large to be compiled
 pub record IsPolicyRefusal (files : List NamedFile) (text : List ℕ) (f : Fault) : Type 0 where
   pub dictionary : Dictionary
-  pub read : dictionary_of max_lines files ≡ Ok dictionary
+  pub read : IsReadFrom files dictionary
   pub none : IsUnspelled dictionary text f
 
--- why no policy is opened, but for want of memory: the files are no set, or their dictionary or the text is refused
+-- why no policy is opened, but for want of memory: no dictionary is read, or the text is refused
 abbrev pub IsOpenRefusal : List NamedFile → List ℕ → Fault → Type 0
-IsOpenRefusal files text f =
-    ((IsFileSet files → ⊥) × (f ≡ fault.OptionValue))
-    ⊎ IsDictionaryRefusal files f ⊎ IsPolicyRefusal files text f
+IsOpenRefusal files text f = IsReadRefusal files f ⊎ IsPolicyRefusal files text f
 
 -- ---- what the opening of a policy comes to
 

@@ -1,6 +1,6 @@
 -- What is told of a run in the caller's rooms: all, or nothing where one of them is too short.
 use Rattle.std.specs.Prelude.{ℕ, Bool, ◌||◌, List, if◌then◌else◌, length}
-use Rattle.radpolicy_c.specs.Rooms.{is_short, with_front}
+use Rattle.radpolicy_c.specs.Rooms.{is_short}
 use Rattle.radpolicy_c.specs.declared.outcomes.RadpolicyLists.{RadpolicyLists}
 use Rattle.radpolicy_c.specs.declared.outcomes.RadpolicyOutcome.{RadpolicyOutcome}
 use Rattle.radpolicy_c.specs.declared.pairs.RadpolicyPair.{RadpolicyPair}
@@ -11,7 +11,7 @@ use Rattle.radpolicy_c.specs.declared.statuses.Status.TheVariants.{TooShort}
 abbrev pub outcome_told : Ran → RadpolicyOutcome
 outcome_told ran = record {
   packet_length = length ran.packet;
-  report_length = length ran.text;
+  report_length = length ran.octets;
   code = ran.code;
   sends = ran.sends;
   stopped = ran.stopped;
@@ -19,25 +19,17 @@ outcome_told ran = record {
 
 -- whether the rooms for the packet and the report are too short for what the run tells
 abbrev pub are_short : Ran → List ℕ → List ℕ → Bool
-are_short ran packet report = is_short packet ran.packet || is_short report ran.text
+are_short ran packet report = is_short packet ran.packet || is_short report ran.octets
 
 abbrev pub run_status : Ran → List ℕ → List ℕ → Status
 run_status ran packet report = if are_short ran packet report then TooShort else ran.status
-
-abbrev pub packet_told : Ran → List ℕ → List ℕ → List ℕ
-packet_told ran packet report =
-    if are_short ran packet report then packet else with_front ran.packet packet
-
-abbrev pub report_told : Ran → List ℕ → List ℕ → List ℕ
-report_told ran packet report =
-    if are_short ran packet report then report else with_front ran.text report
 
 -- ---- with the pairs
 
 abbrev pub lists_told : Ran → RadpolicyLists
 lists_told ran = record {
   packet_length = length ran.packet;
-  octets_length = length ran.text;
+  octets_length = length ran.octets;
   request_count = ran.lists.request_count;
   reply_count = ran.lists.reply_count;
   control_count = ran.lists.control_count;
@@ -54,7 +46,3 @@ are_lists_short ran packet pairs octets =
 abbrev pub lists_status : Ran → List ℕ → List RadpolicyPair → List ℕ → Status
 lists_status ran packet pairs octets =
     if are_lists_short ran packet pairs octets then TooShort else ran.status
-
--- a room after: with the items at its front, or as it was where a room is too short
-abbrev pub room_after : {X : Type 0} → Bool → List X → List X → List X
-room_after short items room = if short then room else with_front items room

@@ -11,9 +11,13 @@ is_short room items = nat_lt (length room) (length items)
 abbrev pub with_front : {X : Type 0} → List X → List X → List X
 with_front items room = items ++ drop (length items) room
 
--- the room after: with the octets at its front, or as it was where it is too short
+-- a room after: with the items at its front, or as it was where a room of the call is too short
+abbrev pub room_after : {X : Type 0} → Bool → List X → List X → List X
+room_after short items room = if short then room else with_front items room
+
+-- the one room of a call after, by whether it is too short itself
 abbrev pub room_told : List ℕ → List ℕ → List ℕ
-room_told octets room = if is_short room octets then room else with_front octets room
+room_told octets room = room_after (is_short room octets) octets room
 
 -- the status that is given
 abbrev pub status_told : Status → List ℕ → List ℕ → Status

@@ -36,15 +36,15 @@ packet_of (reply.Packet octets) = octets
 packet_of _ = []
 
 -- the report as the command `run` prints it, or the octets of the pairs
-abbrev pub text_wanted : Wanted → RunOutcome → List ℕ
-text_wanted Report outcome = (outcome_report outcome).text
-text_wanted Pairs outcome = outcome_octets outcome
+abbrev pub octets_wanted : Wanted → RunOutcome → List ℕ
+octets_wanted Report outcome = (outcome_report outcome).text
+octets_wanted Pairs outcome = outcome_octets outcome
 
 abbrev pub lists_wanted : Wanted → RunOutcome → ToldLists
 lists_wanted Report outcome = no_lists
 lists_wanted Pairs outcome = outcome_lists outcome
 
--- what is told of an outcome: its numbers, its packet, and the text and the lists that are wanted
+-- what is told of an outcome: its numbers, its packet, and the octets and the lists that are wanted
 abbrev pub told_of : Wanted → RunOutcome → Ran
 told_of wanted outcome = record {
   status = Done;
@@ -52,19 +52,19 @@ told_of wanted outcome = record {
   sends = sends_number outcome.reply;
   stopped = outcome.end.stopped;
   packet = packet_of outcome.reply;
-  text = text_wanted wanted outcome;
+  octets = octets_wanted wanted outcome;
   lists = lists_wanted wanted outcome;
 }
 
--- a status, with a text
+-- a status, with a line or no octets
 abbrev pub only_told : Status → List ℕ → Ran
-only_told status text = record {
+only_told status octets = record {
   status = status;
   code = 0;
   sends = 0;
   stopped = false;
   packet = [];
-  text = text;
+  octets = octets;
   lists = no_lists;
 }
 

@@ -1,6 +1,7 @@
 //! The handle that C keeps for a policy.
 
 ghost use Rattle.std.specs.Prelude.{◌≡◌, None, Some, IfOk, MatchOption, is_some};
+ghost use Rattle.radpolicy_c.specs.Closing.{closing_status};
 ghost use Rattle.radpolicy_c.specs.Sharing.{SharesBy};
 
 use crate::held::Held;
@@ -60,6 +61,17 @@ impl RadpolicyPolicy {
         } else {
             held.end();
             None
+        }
+    }
+
+    /// Gives the policy up, and leaves a handle that holds none.
+    pub(crate) fn close(&mut self, alloc: Global) -> Status
+        ensures closed { self.new.held.policy ≡ None }
+        ensures status { result ≡ closing_status self.old.held.policy }
+    {
+        match mem::replace(self, RadpolicyPolicy::closed()).into_box(alloc) {
+            Some(_) => Status::Done,
+            None => Status::Closed,
         }
     }
 

@@ -66,12 +66,17 @@ pub(crate) fn put_front<T: Copy>(room: &mut [T], items: &[T])
 }
 
 /// Puts octets at the front of a room, and their length beside it. Gives this status, or `TooShort` for a room that is.
-pub(crate) fn tell(status: Status, octets: &[u8], room: &mut [u8], told: &mut usize) -> Status
+pub(crate) fn tell(
+    status: Status,
+    octets: &[u8],
+    room: &mut [u8],
+    octets_length: &mut usize,
+) -> Status
     ensures status { result ≡ status_told status octets.now room.old }
     ensures room { room.new ≡ room_told octets.now room.old }
-    ensures told { told.new ≡ length octets.now }
+    ensures length { octets_length.new ≡ length octets.now }
 {
-    *told = octets.len();
+    *octets_length = octets.len();
     if room.len() < octets.len() {
         return Status::TooShort;
     }

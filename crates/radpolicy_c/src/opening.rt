@@ -1,10 +1,9 @@
 //! The reading of a policy with its dictionary.
 
-ghost use Rattle.std.specs.Prelude.{◌≡◌, Ok, Some, None, IfOk, IfErr, [], map};
-ghost use Rattle.avp_dict.specs.DictionaryReading.{dictionary_of, max_lines};
+ghost use Rattle.std.specs.Prelude.{◌≡◌, None, IfOk, IfErr, [], map};
 ghost use Rattle.radpolicy.specs.Faults.{IsPrintedWith, MemoryOr};
 ghost use Rattle.radpolicy_c.specs.Files.{file_given};
-ghost use Rattle.radpolicy_c.specs.Opening.{IsOpenedFrom, IsOpenRefusal, IsPolicyRefusal, Opens};
+ghost use Rattle.radpolicy_c.specs.Opening.{IsOpenedFrom, IsOpenRefusal, IsPolicyRefusal, IsReadFrom, IsReadRefusal, Opens};
 ghost use Rattle.radpolicy_c.specs.internal.Telling.{TellsFault};
 
 use crate::files::{RadpolicyFile, file_set_of};
@@ -18,11 +17,26 @@ use radpolicy::{Fault, OwnedPolicy};
 use std::alloc::{AllocError, Global};
 use std::mem;
 
-/// What the opening of a policy tells: its status, and the line of a fault.
+/// What the opening of a policy or a dictionary tells: its status, and the line of a fault.
 #[derive(Debug, Drop)]
 pub struct Opening {
     pub status: Status,
     pub line: Octets,
+}
+
+/// The dictionary of these files.
+pub(crate) fn dictionary_of(alloc: Global, files: &FileSet) -> Result<Dictionary, Fault>
+    ensures ok { IfOk result (IsReadFrom files.now) }
+    ensures refused { IfErr result (MemoryOr (IsReadRefusal files.now)) }
+    ensures printed { IfErr result (IsPrintedWith files.now) }
+{
+    if files.is_empty() || !files.has_distinct_names() {
+        return Err(Fault::OptionValue);
+    }
+    match Dictionary::read(alloc, files) {
+        Ok(dictionary) => Ok(dictionary),
+        Err(fault) => Err(Fault::from(fault)),
+    }
 }
 
 // The policy over a dictionary that was read.
@@ -32,7 +46,7 @@ fn policy_over(
     dictionary: Dictionary,
     text: &[u8],
 ) -> Result<OwnedPolicy, Fault>
-    requires { dictionary_of max_lines files.now ≡ Ok dictionary }
+    requires { IsReadFrom files.now dictionary }
     ensures ok { IfOk result (IsOpenedFrom files.now text.now) }
     ensures refused { IfErr result (MemoryOr (IsPolicyRefusal files.now text.now)) }
     ensures printed { IfErr result (IsPrintedWith files.now) }
@@ -46,17 +60,14 @@ pub(crate) fn policy_of(alloc: Global, files: &FileSet, text: &[u8]) -> Result<O
     ensures refused { IfErr result (MemoryOr (IsOpenRefusal files.now text.now)) }
     ensures printed { IfErr result (IsPrintedWith files.now) }
 {
-    if files.is_empty() || !files.has_distinct_names() {
-        return Err(Fault::OptionValue);
-    }
-    match Dictionary::read(alloc, files) {
+    match dictionary_of(alloc, files) {
         Ok(dictionary) => policy_over(alloc, files, dictionary, text),
-        Err(fault) => Err(Fault::from(fault)),
+        Err(fault) => Err(fault),
     }
 }
 
-// A status alone.
-fn nothing_told(alloc: Global, status: Status) -> Opening
+/// A status alone.
+pub(crate) fn nothing_told(alloc: Global, status: Status) -> Opening
     ensures { result ≡ record { status = status; line = [] } }
 {
     Opening {
@@ -65,8 +76,8 @@ fn nothing_told(alloc: Global, status: Status) -> Opening
     }
 }
 
-// The line of a fault; that of want of memory is not told.
-fn refusal(alloc: Global, fault: &Fault, files: &FileSet) -> Opening
+/// The line of a fault; that of want of memory is not told.
+pub(crate) fn refusal(alloc: Global, fault: &Fault, files: &FileSet) -> Opening
     requires { IsPrintedWith files.now fault.now }
     ensures { TellsFault files.now fault.now result.status result.line }
 {
@@ -82,7 +93,8 @@ fn refusal(alloc: Global, fault: &Fault, files: &FileSet) -> Opening
     }
 }
 
-fn boxed(alloc: Global, policy: OwnedPolicy) -> Result<Box<SharedPolicy>, AllocError>
+/// The policy in a box, as a handle holds it.
+pub(crate) fn boxed(alloc: Global, policy: OwnedPolicy) -> Result<Box<SharedPolicy>, AllocError>
     ensures { IfOk result (λ boxed. boxed.value ≡ policy) }
 {
     let shared = SharedPolicy::new(alloc, policy)?;

@@ -1,7 +1,8 @@
 //! What a run came to, as C sees it.
 
 ghost use Rattle.std.specs.Prelude.{◌≡◌};
-ghost use Rattle.radpolicy_c.specs.Outcomes.{are_lists_short, lists_status, lists_told, outcome_told, packet_told, report_told, room_after, run_status};
+ghost use Rattle.radpolicy_c.specs.Outcomes.{are_lists_short, are_short, lists_status, lists_told, outcome_told, run_status};
+ghost use Rattle.radpolicy_c.specs.Rooms.{room_after};
 
 use crate::lines::put_front;
 use crate::pairs::RadpolicyPair;
@@ -39,22 +40,24 @@ pub struct RadpolicyLists {
     pub stopped: bool,
 }
 
-/// Puts the packet and the text of a run at the front of their rooms, and the rest beside them. Gives the run's status,
+/// Puts the packet and the report of a run at the front of their rooms, and the rest beside them. Gives the run's status,
 /// or `TooShort` where a room is, and then both stay as they are.
 pub(crate) fn tell_run(
     ran: &Ran,
-    told: &mut RadpolicyOutcome,
+    outcome: &mut RadpolicyOutcome,
     packet: &mut [u8],
     report: &mut [u8],
 ) -> Status
     ensures status { result ≡ run_status ran.now packet.old report.old }
-    ensures told { told.new ≡ outcome_told ran.now }
-    ensures packet { packet.new ≡ packet_told ran.now packet.old report.old }
-    ensures report { report.new ≡ report_told ran.now packet.old report.old }
+    ensures outcome { outcome.new ≡ outcome_told ran.now }
+    ensures packet { packet.new ≡ room_after (are_short ran.now packet.old report.old)
+        ran.now.packet packet.old }
+    ensures report { report.new ≡ room_after (are_short ran.now packet.old report.old)
+        ran.now.octets report.old }
 {
     let octets = ran.packet.as_slice();
-    let text = ran.text.as_slice();
-    *told = RadpolicyOutcome {
+    let text = ran.octets.as_slice();
+    *outcome = RadpolicyOutcome {
         packet_length: octets.len(),
         report_length: text.len(),
         code: ran.code,
@@ -69,28 +72,28 @@ pub(crate) fn tell_run(
     ran.status
 }
 
-/// Puts the packet, the pairs and the text of a run at the front of their rooms, and the rest beside them. Gives the
+/// Puts the packet, the pairs and their octets of a run at the front of their rooms, and the rest beside them. Gives the
 /// run's status, or `TooShort` where a room is, and then all stay as they are.
 pub(crate) fn tell_lists(
     ran: &Ran,
-    told: &mut RadpolicyLists,
+    lists: &mut RadpolicyLists,
     packet: &mut [u8],
     pairs: &mut [RadpolicyPair],
     octets: &mut [u8],
 ) -> Status
     ensures status { result ≡ lists_status ran.now packet.old pairs.old octets.old }
-    ensures told { told.new ≡ lists_told ran.now }
+    ensures lists { lists.new ≡ lists_told ran.now }
     ensures packet { packet.new ≡ room_after
         (are_lists_short ran.now packet.old pairs.old octets.old) ran.now.packet packet.old }
     ensures pairs { pairs.new ≡ room_after
         (are_lists_short ran.now packet.old pairs.old octets.old) ran.now.lists.pairs pairs.old }
     ensures octets { octets.new ≡ room_after
-        (are_lists_short ran.now packet.old pairs.old octets.old) ran.now.text octets.old }
+        (are_lists_short ran.now packet.old pairs.old octets.old) ran.now.octets octets.old }
 {
     let sent = ran.packet.as_slice();
     let records = ran.lists.pairs.as_slice();
-    let text = ran.text.as_slice();
-    *told = RadpolicyLists {
+    let text = ran.octets.as_slice();
+    *lists = RadpolicyLists {
         packet_length: sent.len(),
         octets_length: text.len(),
         request_count: ran.lists.request_count,

@@ -3,7 +3,7 @@
 ghost use Rattle.std.specs.Prelude.{◌≡◌, [], Some, None, IfOk};
 ghost use Rattle.std.specs.Option.{option_copied};
 ghost use Rattle.radpolicy.specs.Faults.{IsPrintedAnywhere};
-ghost use Rattle.radpolicy_c.specs.Runs.{Runs, RunsBegun, RunsOpen, RunsWith, code_number, lists_wanted, only_told, packet_of, sends_number, text_wanted, told_of};
+ghost use Rattle.radpolicy_c.specs.Runs.{Runs, RunsBegun, RunsOpen, RunsWith, code_number, lists_wanted, only_told, packet_of, sends_number, octets_wanted, told_of};
 ghost use Rattle.radpolicy_c.specs.internal.Telling.{TellsRunFault};
 
 use crate::handles::RadpolicyPolicy;
@@ -40,7 +40,7 @@ pub struct Ran {
     /// The octets of the packet that is sent.
     pub packet: Octets,
     /// The report of the run, or the octets of its pairs, or the line of the fault.
-    pub text: Octets,
+    pub octets: Octets,
     /// The pairs, where they are wanted.
     pub lists: ToldLists,
 }
@@ -76,9 +76,9 @@ fn packet_of(alloc: Global, reply: &Reply) -> Result<Octets, AllocError>
     }
 }
 
-// A status with a text.
-fn only_told(alloc: Global, status: Status, text: Vec<u8>) -> Ran
-    ensures { result ≡ only_told status text.items }
+// A status with a line, or alone.
+fn only_told(alloc: Global, status: Status, octets: Vec<u8>) -> Ran
+    ensures { result ≡ only_told status octets.items }
 {
     Ran {
         status,
@@ -86,12 +86,12 @@ fn only_told(alloc: Global, status: Status, text: Vec<u8>) -> Ran
         sends: 0,
         stopped: false,
         packet: Octets::from_vec(Vec::new(alloc)),
-        text: Octets::from_vec(text),
+        octets: Octets::from_vec(octets),
         lists: ToldLists::none(alloc),
     }
 }
 
-// The text and the lists that are wanted of an outcome.
+// The octets and the lists that are wanted of an outcome.
 fn wanted_of(
     alloc: Global,
     wanted: Wanted,
@@ -101,7 +101,7 @@ fn wanted_of(
 ) -> Result<(Octets, ToldLists), AllocError>
     requires dictionary { outcome.now.dictionary ≡ dictionary.now }
     requires profile { outcome.now.profile ≡ profile }
-    ensures text { IfOk result (λ told. told.0 ≡ text_wanted wanted outcome.now) }
+    ensures octets { IfOk result (λ told. told.0 ≡ octets_wanted wanted outcome.now) }
     ensures lists { IfOk result (λ told. told.1 ≡ lists_wanted wanted outcome.now) }
 {
     match wanted {
@@ -125,19 +125,19 @@ fn told_of(
     ensures { IfOk result (λ ran. ran ≡ told_of wanted outcome.now) }
 {
     let packet = packet_of(alloc, outcome.reply())?;
-    let (text, lists) = wanted_of(alloc, wanted, dictionary, profile, outcome)?;
+    let (octets, lists) = wanted_of(alloc, wanted, dictionary, profile, outcome)?;
     Ok(Ran {
         status: Status::Done,
         code: code_number(outcome.code()),
         sends: sends_number(outcome.reply()),
         stopped: outcome.stopped(),
         packet,
-        text,
+        octets,
         lists,
     })
 }
 
-// What is told of a fault; that of want of memory has no text.
+// What is told of a fault; that of want of memory has no line.
 fn refusal(alloc: Global, fault: &Fault) -> Ran
     requires { IsPrintedAnywhere fault.now }
     ensures { TellsRunFault fault.now result.status result }

@@ -14,10 +14,14 @@ pub enum Status {
     NoMemory,
     /// The caller's room is too short for what is to be told, and nothing was done.
     TooShort,
-    /// The handle holds no policy.
+    /// The handle holds nothing.
     Closed,
-    /// The handle holds a policy already.
+    /// The handle holds something already.
     AlreadyOpen,
+    /// The list would have too many pairs.
+    Full,
+    /// What a number names is not there.
+    NotThere,
 }
 
 impl Status {
@@ -32,6 +36,8 @@ impl Status {
             Status::TooShort => 5,
             Status::Closed => 6,
             Status::AlreadyOpen => 7,
+            Status::Full => 8,
+            Status::NotThere => 9,
         }
     }
 }
