@@ -2,6 +2,7 @@
 -- section 4).
 use Rattle.std.specs.Prelude.{◌≡◌, ℕ, ◌==◌, Bool, false, ◌&&◌, ◌||◌, if◌then◌else◌, List, [], ◌∷◌, ◌++◌, codes, find, Option, None, Some, Result, Ok, Err}
 use Rattle.hex.specs.Hex.{decode_of}
+use Rattle.std.specs.List.{flat_map}
 use Rattle.avp_lists.specs.declared.pairs.AttrId.{AttrId}
 use Rattle.avp_lists.specs.declared.pairs.AttrId.TheVariants.{Plain}
 use Rattle.avp_lists.specs.declared.pairs.Pair.{Pair}
@@ -18,6 +19,7 @@ use Rattle.radpolicy.specs.declared.faults.Fault.{Fault}
 use Rattle.radpolicy.specs.declared.faults.Fault.TheVariants as fault
 use Rattle.radpolicy.specs.declared.run_outcomes.Reply.{Reply}
 use Rattle.radpolicy.specs.declared.run_outcomes.Reply.TheVariants as reply
+use Rattle.radpolicy_common.specs.ChangeTexts.{pair_text}
 use Rattle.radpolicy_common.specs.declared.change_texts.SecretValues.{SecretValues}
 use Rattle.radpolicy_record_answers.specs.Answers.{fault_shown, refusal_shown, text_fault_shown}
 use Rattle.radpolicy_record_answers.specs.Comparisons.{AreSame, compared, same_lists}
@@ -216,6 +218,21 @@ captured_fault_shown (NoReply f) = codes "captured " ++ fault_shown f
 captured_fault_shown OtherRequest = codes "captured reply to another request"
 captured_fault_shown (Text f) = captured_text_shown f
 
+-- a pair of the reply that was captured, on a line of its own
+abbrev pub captured_line : Dictionary → SecretValues → Pair → List ℕ
+captured_line dictionary secrets pair = codes "    " ++ pair_text dictionary secrets pair
+
+-- the lines of that reply's list
+abbrev pub captured_lines : Dictionary → SecretValues → Packet → List ℕ
+captured_lines dictionary secrets captured =
+    flat_map (captured_line dictionary secrets) captured.list
+
+-- the same below their name, where the replies that were captured are shown
+abbrev pub captured_list : SecretValues → Dictionary → Comparison → Packet → List ℕ
+captured_list secrets dictionary comparison captured =
+    if comparison.shows_replies
+    then named_change (codes "captured") (captured_lines dictionary secrets captured) else []
+
 -- a record that is not different, which has no line unless all are told
 abbrev pub quietly_told : Told → List ℕ → List ℕ → List ℕ
 quietly_told Different name words = []
@@ -240,10 +257,19 @@ replies_change secrets dictionary comparison captured (Some own) =
     packets_change (removed_line dictionary secrets) (added_line dictionary secrets) comparison
     captured own
 
+-- a record whose replies are the same, which has no line either
+abbrev pub same_reply_told : SecretValues → Dictionary → Comparison → Told → List ℕ → Packet
+    → List ℕ
+same_reply_told secrets dictionary comparison Different name captured = []
+same_reply_told secrets dictionary comparison All name captured =
+    name ++ reply_name captured.code ++ codes "\n"
+    ++ captured_list secrets dictionary comparison captured
+
 abbrev pub other_reply_told : SecretValues → Dictionary → Comparison → List ℕ → Packet
     → Option Packet → List ℕ
 other_reply_told secrets dictionary comparison name captured own =
     name ++ reply_name captured.code ++ codes " -> " ++ own_name own ++ codes "\n"
+    ++ captured_list secrets dictionary comparison captured
     ++ replies_change secrets dictionary comparison captured own
 
 -- what is said of the replies to the record of this name
@@ -258,7 +284,7 @@ replies_told secrets dictionary comparison name Challenge =
     quietly_told comparison.told name (codes "Access-Challenge")
 replies_told secrets dictionary comparison name (Both captured own) =
     if same_replies comparison captured own
-    then quietly_told comparison.told name (reply_name captured.code)
+    then same_reply_told secrets dictionary comparison comparison.told name captured
     else other_reply_told secrets dictionary comparison name captured own
 
 -- what became of the record

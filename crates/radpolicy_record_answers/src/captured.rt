@@ -23,7 +23,7 @@ use crate::comparisons::{Comparison, Order, Told, compared, same_lists};
 use crate::differences::{Printer, push_named};
 use crate::entries::{Entry, entry_of_line};
 use crate::requests::{RecordRequest, RecordSecret};
-use crate::unmade_replies::unmade_reply;
+use crate::unmade_replies::{MESSAGE_AUTHENTICATOR, unmade_reply};
 use crate::verdicts::Verdict;
 use avp_dict::Dictionary;
 use avp_lists::{AttrId, Octets, Pair};
@@ -429,9 +429,6 @@ pub fn replies_to<'a>(
 /// Proxy-State (RFC 2865, section 5.33).
 const PROXY_STATE: AttrId = AttrId::Plain(33);
 
-/// Message-Authenticator (RFC 3579, section 3.2).
-const MESSAGE_AUTHENTICATOR: AttrId = AttrId::Plain(80);
-
 // The attributes that are not compared, before those that are ignored.
 fn left_out(alloc: Global, order: Order) -> Result<Vec<AttrId>, AllocError>
     ensures { IfOk result (λ ids. ids.items ≡ left_out order) }
@@ -661,6 +658,7 @@ impl Comparison<'_> {
         text.extend_from_slice(b" -> ")?;
         text.extend_from_slice(own_name(own))?;
         text.extend_from_slice(b"\n")?;
+        self.push_captured_list(text, dictionary, secrets, captured)?;
         self.push_replies_change(text, dictionary, secrets, captured, own)
     }
 
@@ -683,7 +681,7 @@ impl Comparison<'_> {
             verdict ≡ verdict_of_replies self.now (Both captured.now own.now)) }
     {
         if self.same_replies(*text.allocator(), captured, own)? {
-            push_quietly(text, self.told, name, reply_name(captured.code))?;
+            self.push_same_reply(text, dictionary, secrets, name, captured)?;
             return Ok(Verdict::Same);
         }
         self.push_other_reply(text, dictionary, secrets, name, captured, own)?;

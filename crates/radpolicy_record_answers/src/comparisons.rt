@@ -48,6 +48,8 @@ pub struct Comparison<'a> {
     /// The attributes that are left out of the lists.
     pub ignored: &'a [AttrId],
     pub told: Told,
+    /// Whether a record's captured reply is told whole, too.
+    pub shows_replies: bool,
 }
 
 fn has_id(ids: &[AttrId], id: AttrId) -> bool

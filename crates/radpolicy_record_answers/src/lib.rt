@@ -3,6 +3,7 @@
 
 mod answers;
 mod captured;
+mod captured_lists;
 mod comparisons;
 mod differences;
 mod entries;
@@ -19,6 +20,7 @@ pub use captured::{
     CapturedFault, CapturedReply, Replies, entry_replies, push_captured_fault, replies_to,
     reply_name,
 };
+pub use captured_lists::captured_lines;
 pub use comparisons::{Against, Comparison, Order, Told, compared, same_lists};
 pub use differences::{Printer, verdict_of_same};
 pub use entries::{Entry, answer_over, entry_answer, entry_of_line};

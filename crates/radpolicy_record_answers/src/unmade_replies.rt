@@ -16,7 +16,7 @@ use radpolicy::RunOutcome;
 use std::alloc::{AllocError, Global};
 
 /// Message-Authenticator (RFC 3579, section 3.2).
-const MESSAGE_AUTHENTICATOR: AttrId = AttrId::Plain(80);
+pub(crate) const MESSAGE_AUTHENTICATOR: AttrId = AttrId::Plain(80);
 
 // Whether an attribute is never sent.
 fn is_internal(id: AttrId) -> bool

@@ -24,6 +24,8 @@ const IGNORE: &str = "ignore";
 
 const ALL: &str = "all";
 
+const SHOW_REPLIES: &str = "show-replies";
+
 const STRICT: &str = "strict";
 
 const EXPECT: &str = "expect";
@@ -88,6 +90,7 @@ pub struct ComparisonPlan<'a> {
     pub order: Order,
     pub ignored: Vec<&'a str>,
     pub told: Told,
+    pub shows_replies: bool,
 }
 
 /// The replay that a command line asks for.
@@ -173,6 +176,13 @@ fn all_option<'a>(alloc: Global) -> Arg<'a> {
         .long(ALL)
         .action(ArgAction::SetTrue)
         .help("Tells the records that are answered alike too")
+}
+
+fn show_replies_option<'a>(alloc: Global) -> Arg<'a> {
+    Arg::new(alloc, SHOW_REPLIES)
+        .long(SHOW_REPLIES)
+        .action(ArgAction::SetTrue)
+        .help("Prints the list of each captured reply below its record")
 }
 
 fn strict_option<'a>(alloc: Global) -> Arg<'a> {
@@ -286,6 +296,7 @@ fn program<'a>(alloc: Global) -> Result<clap::Command<'a>, AllocError> {
         .arg(ordered_option(alloc))?
         .arg(ignore_option(alloc))?
         .arg(all_option(alloc))?
+        .arg(show_replies_option(alloc))?
         .arg(strict_option(alloc))?
         .arg(expect_option(alloc))?
         .arg(tap_option(alloc))?
@@ -370,20 +381,23 @@ fn comparison_of<'a>(
 ) -> Result<Option<ComparisonPlan<'a>>, Fault>
     ensures { IfErr result IsWordFault }
 {
-    let (order, told) = (asked_order(found), asked_records(found));
-    let ignored = ignored_names(alloc, found)?;
-    match found.get_str(AGAINST) {
-        Some(against) => Ok(Some(ComparisonPlan {
-            against: against_plan(against),
-            order,
-            ignored,
-            told,
-        })),
-        None if order == Order::Ordered || told == Told::All || ignored.len() > 0 => {
+    let Some(against) = found.get_str(AGAINST) else {
+        return if has_comparison(found) {
             Err(Fault::Usage)
-        }
-        None => Ok(None),
+        } else {
+            Ok(None)
+        };
+    };
+    if lacks_replies(found) {
+        return Err(Fault::Usage);
     }
+    Ok(Some(ComparisonPlan {
+        against: against_plan(against),
+        order: asked_order(found),
+        ignored: ignored_names(alloc, found)?,
+        told: asked_records(found),
+        shows_replies: found.get_flag(SHOW_REPLIES),
+    }))
 }
 
 // One of the three.
@@ -480,7 +494,19 @@ fn asked_of<'a>(alloc: Global, found: &ArgMatches<'a>) -> Result<Asked<'a>, Faul
 
 // Whether it is said how answers are compared.
 fn has_comparison(found: &ArgMatches<'_>) -> bool {
-    found.get_flag(ORDERED) || found.get_flag(ALL) || found.get_strs(IGNORE).is_some()
+    found.get_flag(ORDERED)
+        || found.get_flag(ALL)
+        || found.get_flag(SHOW_REPLIES)
+        || found.get_strs(IGNORE).is_some()
+}
+
+// Whether captured replies are to be shown where none are read.
+fn lacks_replies(found: &ArgMatches<'_>) -> bool {
+    let is_captured = match found.get_str(AGAINST) {
+        Some(word) => word == CAPTURED,
+        None => false,
+    };
+    found.get_flag(SHOW_REPLIES) && !is_captured
 }
 
 // What is wrong with words that are options and their values, if they are refused.
@@ -489,6 +515,8 @@ fn refusal_of(found: &ArgMatches<'_>) -> &'static str {
         "--to-hex answers nothing: beside it write -S or --clients, --format and --zone alone\n"
     } else if !found.get_flag(TO_HEX) && found.get_str(POLICY).is_none() {
         "write --policy POLICY\n"
+    } else if lacks_replies(found) {
+        "--show-replies needs --against captured\n"
     } else if found.get_str(AGAINST).is_none() && has_comparison(found) {
         "--ordered, --ignore and --all need --against\n"
     } else if asked_layout(found).is_err() {

@@ -47,7 +47,7 @@ fn push_lines(
     Ok(())
 }
 
-/// How many records there were, of which kinds, and which lines of the policies made them different.
+/// How many records there were, of which kinds, how fast it went, and which lines of the policies made them different.
 pub fn json_summary(
     alloc: Global,
     plan: &Plan<'_>,
@@ -59,6 +59,9 @@ pub fn json_summary(
     push_kinds(&mut text, plan, summary)?;
     if ended.is_unchecked {
         text.extend_from_slice(b"\"no_secret\":true,")?;
+    }
+    if let Some(rate) = ended.rate {
+        push_count(&mut text, "packets_per_second", rate)?;
     }
     text.extend_from_slice(b"\"lines\":[")?;
     let (new, old) = counts_in_order(alloc, summary.lines.as_slice())?;

@@ -3,6 +3,7 @@
 
 mod client_help;
 mod command_line;
+mod counters;
 mod expected;
 mod json_summaries;
 mod secrets;
@@ -16,6 +17,7 @@ ghost use Rattle.avp_dict.specs.Lines.{HasDistinctNames};
 ghost use Rattle.radpolicy.specs.Faults.{IsPrintedAnywhere, IsPrintedWith};
 
 use crate::command_line::{Asked, Plan, SecretPlan, help_text, read_words};
+use crate::counters::{CountedLines, CountedRecords, Counter};
 use crate::expected::{DIFFERENT, expected_status, open_expected};
 use crate::secrets::{HeldSecrets, held_secrets, read_secret};
 use crate::streams::{flush, refuse_replay, write_text};
@@ -31,7 +33,7 @@ use radpolicy_help::{
     tell_help,
 };
 use radpolicy_record_answers::{Against, Comparison};
-use radpolicy_replay_records::{Layout, RecordReader, Replay, ReplayFault, Summary};
+use radpolicy_replay_records::{Layout, RecordReader, Records, Replay, ReplayFault, Summary};
 use std::alloc::{AllocError, Global};
 use std::fs::File;
 use std::io;
@@ -79,27 +81,57 @@ fn status_of(strict: bool, summary: &Summary) -> u8 {
     }
 }
 
+// The replay of lines of packets.
+fn run_lines<R: Read + Drop, W: Write>(
+    rt: &HostRuntime,
+    plan: &Plan<'_>,
+    replay: &Replay<'_>,
+    mut lines: CountedLines<'_, R>,
+    out: &mut W,
+) -> Result<Ended, ReplayFault> {
+    let ended = replay.run(rt.alloc(), &mut lines, out);
+    lines.counter.clear();
+    let summary = ended?;
+    Ok(Ended {
+        rate: lines.counter.rate(summary.read),
+        summary,
+        is_unchecked: matches!(plan.secret, SecretPlan::Unknown),
+    })
+}
+
+// The replay of records of attribute lines.
+fn run_records<R: Records + Drop, W: Write>(
+    rt: &HostRuntime,
+    plan: &Plan<'_>,
+    replay: &Replay<'_>,
+    mut records: CountedRecords<'_, R>,
+    out: &mut W,
+) -> Result<Ended, ReplayFault> {
+    let ended = replay.run_records(rt.alloc(), plan.zone, &mut records, out);
+    records.counter.clear();
+    let summary = ended?;
+    Ok(Ended {
+        rate: records.counter.rate(summary.read),
+        summary,
+        is_unchecked: false,
+    })
+}
+
 // The replay of an input whose records are known.
 fn run_traffic<R: Read + Drop, W: Write>(
     rt: &HostRuntime,
     plan: &Plan<'_>,
     replay: &Replay<'_>,
     traffic: Traffic,
-    mut input: R,
+    counter: Counter<'_>,
+    input: R,
     out: &mut W,
 ) -> Result<Ended, ReplayFault> {
-    let alloc = rt.alloc();
     match traffic {
-        Traffic::Hex => Ok(Ended {
-            summary: replay.run(alloc, &mut input, out)?,
-            is_unchecked: matches!(plan.secret, SecretPlan::Unknown),
-        }),
+        Traffic::Hex => run_lines(rt, plan, replay, CountedLines::new(input, counter), out),
         Traffic::Text(format) => {
-            let mut records = RecordReader::new(alloc, input, format)?;
-            Ok(Ended {
-                summary: replay.run_records(alloc, plan.zone, &mut records, out)?,
-                is_unchecked: false,
-            })
+            let records = RecordReader::new(rt.alloc(), input, format)?;
+            run_records(rt, plan, replay, CountedRecords::new(records, counter), out)
         }
     }
 }
@@ -111,13 +143,14 @@ fn run_input<W: Write>(
     replay: &Replay<'_>,
     out: &mut W,
 ) -> Result<Ended, ReplayFault> {
+    let counter = Counter::new(rt);
     let mut input = rt.stdin();
     if let Some(traffic) = plan.traffic {
-        return run_traffic(rt, plan, replay, traffic, input, out);
+        return run_traffic(rt, plan, replay, traffic, counter, input, out);
     }
     let beginning = read_beginning(rt.alloc(), &mut input)?;
     let whole = beginning.octets.as_slice().chain(input);
-    run_traffic(rt, plan, replay, beginning.traffic, whole, out)
+    run_traffic(rt, plan, replay, beginning.traffic, counter, whole, out)
 }
 
 // The last line of tests, which says how many there were.
@@ -254,6 +287,7 @@ fn comparison_of<'a>(
         order: asked.order,
         ignored,
         told: asked.told,
+        shows_replies: asked.shows_replies,
     })
 }
 

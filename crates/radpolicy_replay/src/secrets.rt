@@ -54,7 +54,7 @@ impl<'a> HeldSecrets<'a> {
         match self {
             HeldSecrets::One(secret) => SharedSecrets::One(secret),
             HeldSecrets::ByClient(clients) => SharedSecrets::ByClient(clients),
-            HeldSecrets::Unknown => SharedSecrets::NoSecret,
+            HeldSecrets::Unknown => SharedSecrets::Unknown,
         }
     }
 }

@@ -21,6 +21,8 @@ pub struct Ended {
     pub summary: Summary,
     /// Whether packets were read without a secret.
     pub is_unchecked: bool,
+    /// How many packets a second there were, where that can be told.
+    pub rate: Option<u64>,
 }
 
 // How many records there were, and of which kinds.
@@ -105,7 +107,7 @@ fn show_lines(
     }
 }
 
-/// How many records there were, of which kinds, and which lines of the policies made them different.
+/// How many records there were, of which kinds, which lines of the policies made them different, and how fast it went.
 pub fn show_summary(
     rt: &HostRuntime,
     plan: &Plan<'_>,
@@ -126,6 +128,9 @@ pub fn show_summary(
         let _ = eprintln!(rt;
             "no secret: hidden values are octets, no authenticator was checked, no reply packet was made"
         );
+    }
+    if let Some(rate) = ended.rate {
+        let _ = eprintln!(rt; "{rate} packets a second");
     }
     Ok(())
 }

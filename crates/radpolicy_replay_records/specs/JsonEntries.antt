@@ -15,7 +15,7 @@ use Rattle.radpolicy.specs.declared.run_outcomes.Reply.TheVariants as sent
 use Rattle.radpolicy_common.specs.declared.change_texts.SecretValues.{SecretValues}
 use Rattle.radpolicy_replay_layouts.specs.JsonTexts.{flag, string, strings}
 use Rattle.radpolicy_record_answers.specs.Answers.{hides_reply, refusal_shown, reply_shown}
-use Rattle.radpolicy_record_answers.specs.Captured.{captured_fault_shown, packets_lines, reply_name, same_replies}
+use Rattle.radpolicy_record_answers.specs.Captured.{captured_fault_shown, captured_lines, packets_lines, reply_name, same_replies}
 use Rattle.radpolicy_record_answers.specs.Comparisons.{same_answers}
 use Rattle.radpolicy_record_answers.specs.Differences.{added_line, change_of, removed_line}
 use Rattle.radpolicy_record_answers.specs.declared.answers.RecordFault.{RecordFault}
@@ -56,14 +56,18 @@ answer_members dictionary secrets (Err f) = codes "," ++ fault_member (refusal_s
 
 -- ---- answers that are compared
 
--- the lines of a change, without the two blanks before each
-abbrev pub change_strings : List ℕ → List (List ℕ)
-change_strings lines = map (drop 2) (filter is_word (slice_split is_line_end lines))
+-- lines, without so many blanks before each
+abbrev pub line_strings : ℕ → List ℕ → List (List ℕ)
+line_strings blanks lines = map (drop blanks) (filter is_word (slice_split is_line_end lines))
+
+-- lines that are indented so, below this name
+abbrev pub lines_member : List ℕ → ℕ → List ℕ → List ℕ
+lines_member name blanks lines =
+    codes ",\"" ++ name ++ codes "\":" ++ strings (line_strings blanks lines)
 
 -- how the list of this name differs
 abbrev pub change_member : List ℕ → List ℕ → List ℕ
-change_member name lines =
-    codes ",\"" ++ name ++ codes "\":" ++ strings (change_strings lines)
+change_member name lines = lines_member name 2 lines
 
 -- how the reply and control lists differ, where both ran
 abbrev pub change_members : SecretValues → Comparison → Result RunOutcome RecordFault
@@ -93,9 +97,18 @@ answers_members secrets comparison old new =
 unfoldable pub reply_string : ℕ → List ℕ
 reply_string code = string (reply_name code)
 
--- the reply that was captured
-abbrev pub captured_member : Packet → List ℕ
-captured_member captured = codes ",\"captured\":" ++ reply_string captured.code
+-- the list of the reply that was captured, where it is shown
+abbrev pub captured_list_member : SecretValues → Dictionary → Comparison → Packet → List ℕ
+captured_list_member secrets dictionary comparison captured =
+    if comparison.shows_replies
+    then lines_member (codes "captured_list") 4 (captured_lines dictionary secrets captured)
+    else []
+
+-- that reply
+unfoldable pub captured_member : SecretValues → Dictionary → Comparison → Packet → List ℕ
+captured_member secrets dictionary comparison captured =
+    codes ",\"captured\":" ++ reply_string captured.code
+    ++ captured_list_member secrets dictionary comparison captured
 
 -- the name of a reply, and how its list differs
 unfoldable pub named_changes : ℕ → List ℕ → List ℕ
@@ -114,7 +127,8 @@ own_members secrets dictionary comparison captured (Some own) = own_reply_member
     (removed_line dictionary secrets) (added_line dictionary secrets) comparison captured own
 
 abbrev pub other_members : SecretValues → Dictionary → Comparison → Packet → Option Packet → List ℕ
-other_members secrets dictionary comparison captured own = captured_member captured
+other_members secrets dictionary comparison captured own =
+    captured_member secrets dictionary comparison captured
     ++ codes ",\"own\":" ++ own_members secrets dictionary comparison captured own
 
 -- the reply that was captured, and the policy's own
@@ -127,7 +141,7 @@ replies_members secrets dictionary comparison (Unread f) =
 replies_members secrets dictionary comparison Challenge = []
 replies_members secrets dictionary comparison (Both captured own) =
     if same_replies comparison captured own
-    then captured_member captured
+    then captured_member secrets dictionary comparison captured
     else other_members secrets dictionary comparison captured own
 
 -- ---- records

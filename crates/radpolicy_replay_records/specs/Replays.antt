@@ -32,7 +32,7 @@ use Rattle.radpolicy_replay_records.specs.declared.replays.Replay.{Replay}
 use Rattle.radpolicy_replay_records.specs.declared.replays.ReplayFault.{ReplayFault}
 use Rattle.radpolicy_replay_records.specs.declared.replays.ReplayFault.TheVariants.{Input, TooManyRecords}
 use Rattle.radpolicy_replay_records.specs.declared.replays.SharedSecrets.{SharedSecrets}
-use Rattle.radpolicy_replay_records.specs.declared.replays.SharedSecrets.TheVariants.{ByClient, NoSecret, One}
+use Rattle.radpolicy_replay_records.specs.declared.replays.SharedSecrets.TheVariants as shared
 use Rattle.radpolicy_replay_records.specs.declared.summaries.Summary.{Summary}
 use Rattle.radpolicy_record_answers.specs.declared.verdicts.Verdict.{Verdict}
 use Rattle.radpolicy_record_answers.specs.declared.verdicts.Verdict.TheVariants.{Answered, Challenged, Different, Refused, Same, Unanswered}
@@ -41,10 +41,10 @@ use Rattle.radpolicy_record_answers.specs.declared.verdicts.Verdict.TheVariants.
 
 -- by which secret the packets of a line are read
 abbrev pub record_secret : SharedSecrets → List ℕ → RecordSecret
-record_secret (One secret) line = Known secret.now
-record_secret (ByClient clients) line =
+record_secret (shared.One secret) line = Known secret.now
+record_secret (shared.ByClient clients) line =
     or_missing (option_and_then (secret_for clients.now) (source_of line))
-record_secret NoSecret line = Unknown
+record_secret shared.Unknown line = Unknown
 
 -- the reply to a record that was captured, and this policy's own
 abbrev pub entry_replies : Replay → RecordSecret → Entry → Replies

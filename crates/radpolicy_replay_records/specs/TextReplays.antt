@@ -12,7 +12,7 @@ use Rattle.radpolicy_replay_records.specs.declared.replays.Replay.{Replay}
 use Rattle.radpolicy_replay_records.specs.declared.replays.ReplayFault.{ReplayFault}
 use Rattle.radpolicy_replay_records.specs.declared.replays.ReplayFault.TheVariants.{Input, Memory, TooManyRecords}
 use Rattle.radpolicy_replay_records.specs.declared.replays.SharedSecrets.{SharedSecrets}
-use Rattle.radpolicy_replay_records.specs.declared.replays.SharedSecrets.TheVariants.{ByClient, NoSecret, One}
+use Rattle.radpolicy_replay_records.specs.declared.replays.SharedSecrets.TheVariants.{ByClient, One, Unknown}
 use Rattle.radpolicy_replay_records.specs.declared.summaries.Summary.{Summary}
 use Rattle.radpolicy_traffic.specs.declared.records.Record.{Record}
 
@@ -42,7 +42,7 @@ abbrev pub text_secret : SharedSecrets → Record → Option (List ℕ)
 text_secret (One secret) given = Some secret.now
 text_secret (ByClient clients) given =
     option_and_then (secret_for clients.now) (text_source given)
-text_secret NoSecret given = Some secret_of_lines
+text_secret Unknown given = Some secret_of_lines
 
 -- the same, by which the record's packets are read
 abbrev pub lines_secret : SharedSecrets → Record → RecordSecret

@@ -7,7 +7,7 @@ ghost use Rattle.avp_dict.specs.internal.Views.{views};
 ghost use Rattle.radpolicy_record_answers.specs.Answers.{hides_reply, refusal_shown};
 ghost use Rattle.radpolicy_record_answers.specs.Captured.{captured_fault_shown, verdict_of_replies};
 ghost use Rattle.radpolicy_record_answers.specs.Differences.{added_line, removed_line, verdict_of_answers};
-ghost use Rattle.radpolicy_replay_records.specs.JsonEntries.{answer_members, answers_members, captured_member, change_member, change_members, change_strings, difference_members, end_members, fault_member, named_changes, other_members, own_members, own_reply_members, replies_members, reply_string, reply_value, result_members};
+ghost use Rattle.radpolicy_replay_records.specs.JsonEntries.{answer_members, answers_members, captured_list_member, captured_member, change_member, change_members, difference_members, end_members, fault_member, line_strings, lines_member, named_changes, other_members, own_members, own_reply_members, replies_members, reply_string, reply_value, result_members};
 ghost use Rattle.radpolicy_record_answers.specs.declared.captured.Replies.TheVariants.{Both};
 ghost use Rattle.radpolicy_record_answers.specs.internal.Fitting.{OwnFits, PacketFits, RepliesFit};
 ghost use Rattle.radpolicy_record_answers.specs.internal.Over.{IsOver};
@@ -19,7 +19,7 @@ use avp_packet::Packet;
 use radpolicy::{Reply, RunOutcome, code_text};
 use radpolicy_common::SecretValues;
 use radpolicy_record_answers::{
-    CapturedFault, Comparison, Printer, RecordFault, Replies, Verdict, hides_reply,
+    CapturedFault, Comparison, Printer, RecordFault, Replies, Verdict, captured_lines, hides_reply,
     push_captured_fault, push_refusal, push_reply, reply_name, verdict_of_same,
 };
 use radpolicy_replay_layouts::{push_flag, push_string, push_strings};
@@ -107,49 +107,63 @@ pub(crate) fn push_answer_members(
     }
 }
 
-// The line of a change without the two blanks before it.
-fn without_blanks(line: &[u8]) -> &[u8]
-    ensures { result.now ≡ drop 2 line.now }
+// A line without so many blanks before it.
+fn without_blanks(line: &[u8], blanks: usize) -> &[u8]
+    ensures { result.now ≡ drop blanks line.now }
 {
-    match line {
-        [_, _, change @ ..] => change,
-        _ => &[],
-    }
+    &line[blanks.min(line.len())..]
 }
 
-fn push_change_string<'a>(strings: &mut Vec<&'a [u8]>, line: &'a [u8]) -> Result<(), AllocError>
+fn push_line_string<'a>(
+    strings: &mut Vec<&'a [u8]>,
+    blanks: usize,
+    line: &'a [u8],
+) -> Result<(), AllocError>
     ensures { OnOk result (views strings.new.items
-        ≡ views strings.old.items ++ map (drop 2) (filter is_word (line.now ∷ []))) }
+        ≡ views strings.old.items ++ map (drop blanks) (filter is_word (line.now ∷ []))) }
 {
     if !line.is_empty() {
-        strings.push(without_blanks(line))?;
+        strings.push(without_blanks(line, blanks))?;
     }
     Ok(())
 }
 
-// The lines of a change without the two blanks before each.
-fn change_strings(alloc: Global, lines: &[u8]) -> Result<Vec<&[u8]>, AllocError>
-    ensures { IfOk result (λ strings. views strings.items ≡ change_strings lines.now) }
+// Lines without so many blanks before each.
+fn line_strings(alloc: Global, blanks: usize, lines: &[u8]) -> Result<Vec<&[u8]>, AllocError>
+    ensures { IfOk result (λ strings. views strings.items ≡ line_strings blanks lines.now) }
 {
     let mut strings = Vec::new(alloc);
     let mut rest = lines;
     while let Some((line, later)) = first_line_end(rest) {
-        push_change_string(&mut strings, line)?;
+        push_line_string(&mut strings, blanks, line)?;
         rest = later;
     }
-    push_change_string(&mut strings, rest)?;
+    push_line_string(&mut strings, blanks, rest)?;
     Ok(strings)
+}
+
+// Lines that are indented so, below this name.
+fn push_lines_member(
+    text: &mut Vec<u8>,
+    name: &[u8],
+    blanks: usize,
+    lines: &[u8],
+) -> Result<(), AllocError>
+    ensures { OnOk result (text.new.items
+        ≡ text.old.items ++ lines_member name.now blanks lines.now) }
+{
+    text.extend_from_slice(b",\"")?;
+    text.extend_from_slice(name)?;
+    text.extend_from_slice(b"\":")?;
+    let strings = line_strings(*text.allocator(), blanks, lines)?;
+    push_strings(text, &strings)
 }
 
 // How the list of this name differs.
 fn push_change_member(text: &mut Vec<u8>, name: &[u8], lines: &[u8]) -> Result<(), AllocError>
     ensures { OnOk result (text.new.items ≡ text.old.items ++ change_member name.now lines.now) }
 {
-    text.extend_from_slice(b",\"")?;
-    text.extend_from_slice(name)?;
-    text.extend_from_slice(b"\":")?;
-    let strings = change_strings(*text.allocator(), lines)?;
-    push_strings(text, &strings)
+    push_lines_member(text, name, 2, lines)
 }
 
 #[tactic(auto, unfolding(crate::specs::JsonEntries::reply_string))]
@@ -167,11 +181,41 @@ fn push_named_changes(text: &mut Vec<u8>, code: u8, lines: &[u8]) -> Result<(), 
     push_change_member(text, b"reply_changes", lines)
 }
 
-fn push_captured_member(text: &mut Vec<u8>, captured: &Packet) -> Result<(), AllocError>
-    ensures { OnOk result (text.new.items ≡ text.old.items ++ captured_member captured.now) }
+// The list of the reply that was captured, where it is shown.
+fn push_captured_list_member(
+    comparison: &Comparison<'_>,
+    text: &mut Vec<u8>,
+    dictionary: &Dictionary,
+    secrets: SecretValues,
+    captured: &Packet,
+) -> Result<(), AllocError>
+    requires { PacketFits dictionary.now captured.now }
+    ensures { OnOk result (text.new.items ≡ text.old.items
+        ++ captured_list_member secrets dictionary.now comparison.now captured.now) }
+{
+    if !comparison.shows_replies {
+        return Ok(());
+    }
+    let lines = captured_lines(*text.allocator(), dictionary, secrets, captured)?;
+    push_lines_member(text, b"captured_list", 4, &lines)
+}
+
+// That reply.
+#[tactic(auto, unfolding(crate::specs::JsonEntries::captured_member))]
+fn push_captured_member(
+    comparison: &Comparison<'_>,
+    text: &mut Vec<u8>,
+    dictionary: &Dictionary,
+    secrets: SecretValues,
+    captured: &Packet,
+) -> Result<(), AllocError>
+    requires { PacketFits dictionary.now captured.now }
+    ensures { OnOk result (text.new.items ≡ text.old.items
+        ++ captured_member secrets dictionary.now comparison.now captured.now) }
 {
     text.extend_from_slice(b",\"captured\":")?;
-    push_reply_name(text, captured.code)
+    push_reply_name(text, captured.code)?;
+    push_captured_list_member(comparison, text, dictionary, secrets, captured)
 }
 
 fn push_change_members_of_ends(
@@ -317,7 +361,7 @@ fn push_other_members(
     ensures { OnOk result (text.new.items ≡ text.old.items
         ++ other_members secrets dictionary.now comparison.now captured.now own.now) }
 {
-    push_captured_member(text, captured)?;
+    push_captured_member(comparison, text, dictionary, secrets, captured)?;
     text.extend_from_slice(b",\"own\":")?;
     push_own_members(comparison, text, dictionary, secrets, captured, own)
 }
@@ -340,7 +384,7 @@ fn push_both_members(
         verdict ≡ verdict_of_replies comparison.now (Both captured.now own.now)) }
 {
     if comparison.same_replies(*text.allocator(), captured, own)? {
-        push_captured_member(text, captured)?;
+        push_captured_member(comparison, text, dictionary, secrets, captured)?;
         return Ok(Verdict::Same);
     }
     push_other_members(comparison, text, dictionary, secrets, captured, own)?;

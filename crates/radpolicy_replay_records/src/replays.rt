@@ -73,7 +73,7 @@ pub enum SharedSecrets<'a> {
     /// One with each client.
     ByClient(&'a Clients),
     /// None is known: packets are read without one.
-    NoSecret,
+    Unknown,
 }
 
 /// What is asked of records: which policy answers them, by which secrets, what its answers are compared with, and what
@@ -169,7 +169,7 @@ impl SharedSecrets<'_> {
                 Some(address) => Ok(RecordSecret::or_missing(clients.secret_for(address))),
                 None => Ok(RecordSecret::Missing),
             },
-            SharedSecrets::NoSecret => Ok(RecordSecret::Unknown),
+            SharedSecrets::Unknown => Ok(RecordSecret::Unknown),
         }
     }
 
@@ -184,7 +184,7 @@ impl SharedSecrets<'_> {
                 Some(address) => clients.secret_for(address),
                 None => None,
             },
-            SharedSecrets::NoSecret => Secret::new(SECRET_OF_LINES).ok(),
+            SharedSecrets::Unknown => Secret::new(SECRET_OF_LINES).ok(),
         }
     }
 }

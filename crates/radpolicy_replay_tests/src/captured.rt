@@ -45,6 +45,7 @@ pub(crate) fn replay_captured<'a>(
         order,
         ignored: &[],
         told,
+        shows_replies: false,
     });
     Replay {
         policy,

@@ -56,6 +56,7 @@ fn replay_against<'a>(
         order: asked.order,
         ignored: asked.ignored,
         told: asked.told,
+        shows_replies: false,
     });
     let shared = SharedSecrets::One(secret);
     Replay {

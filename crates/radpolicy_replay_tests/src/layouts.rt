@@ -23,6 +23,7 @@ fn beside<'a>(against: &'a PreparedPolicy<'a>) -> Comparison<'a> {
         order: Order::ByName,
         ignored: &[],
         told: Told::Different,
+        shows_replies: false,
     }
 }
 

@@ -4,6 +4,8 @@
 #[cfg(test)]
 mod captured;
 #[cfg(test)]
+mod captured_lists;
+#[cfg(test)]
 mod comparisons;
 #[cfg(test)]
 mod faults;

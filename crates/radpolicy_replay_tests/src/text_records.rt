@@ -22,6 +22,7 @@ fn beside_captured(ignored: &[avp_lists::AttrId]) -> Comparison<'_> {
         order: Order::ByName,
         ignored,
         told: Told::All,
+        shows_replies: false,
     }
 }
 

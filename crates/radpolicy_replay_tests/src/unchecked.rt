@@ -24,7 +24,7 @@ const POLICY: &[u8] = b"if (&User-Password) { reject }";
 fn unchecked_replay<'a>(policy: &'a PreparedPolicy<'a>) -> Replay<'a> {
     Replay {
         policy,
-        shared: SharedSecrets::NoSecret,
+        shared: SharedSecrets::Unknown,
         comparison: None,
         secrets: SecretValues::Shown,
         layout: Layout::Plain,
@@ -75,7 +75,7 @@ fn told_of_replies(alloc: Global) -> Result<Vec<u8>, Fail> {
         &dictionary,
         b"update reply { Session-Timeout := 600 }",
     )?;
-    let replay = replay_captured(&policy, SharedSecrets::NoSecret, Order::ByName, Told::All);
+    let replay = replay_captured(&policy, SharedSecrets::Unknown, Order::ByName, Told::All);
     let (mut input, mut out) = (CAPTURED, Vec::new(alloc));
     replay.run(alloc, &mut input, &mut out)?;
     Ok(out)
