@@ -5,6 +5,7 @@ complete -c radpolicy-replay -l against -r -F -a captured -d 'Policy file to com
 complete -c radpolicy-replay -l ordered -d 'The order of different attributes counts'
 complete -c radpolicy-replay -l ignore -x -d 'Attribute to leave out'
 complete -c radpolicy-replay -l all -d 'Tell records that are answered alike too'
+complete -c radpolicy-replay -l show-replies -d 'Print the lists of captured replies'
 complete -c radpolicy-replay -l strict -d 'Status 1 if a record is refused'
 complete -c radpolicy-replay -l expect -r -F -d 'Earlier output to compare with'
 complete -c radpolicy-replay -l tap -d 'Print each record as a test'

@@ -6,11 +6,13 @@ from collections import Counter
 COUNT = re.compile(r"(\d+) ([a-z]+)")
 LINE = re.compile(r"  (\d+) by (.*?):(\d+): (.*)\n")
 MEMBERS = ("records", "policy", "line", "text")
-SUMMARY = re.compile(r"(\d+ [a-z]+(?:, \d+ [a-z]+)*\n)((?:  \d+ by .*\n)*)(no secret: .*\n)?")
+SUMMARY = re.compile(
+    r"(\d+ [a-z]+(?:, \d+ [a-z]+)*\n)((?:  \d+ by .*\n)*)(no secret: .*\n)?(?:\d+ packets a second\n)?"
+)
 
 
 class Sums:
-    """Counts, of records and by lines of policies, and whether no secret was known."""
+    """Counts, of records and by lines of policies, and whether no secret was known. The rates of parts are left out."""
 
     def __init__(self):
         self.counts, self.lines, self.policies = Counter(), Counter(), []
@@ -45,6 +47,7 @@ class Sums:
         self.is_json = True
         self.add_lines([tuple(line[member] for member in MEMBERS) for line in summary.pop("lines")])
         self.no_secret = summary.pop("no_secret", self.no_secret)
+        summary.pop("packets_per_second", None)
         self.counts.update(summary)
         return True
 

@@ -1,18 +1,21 @@
 """What `radpolicy-replay` says of records: what `radpolicy run` says of each, whatever is before and after it."""
+import io
 import os
 import re
 import resource
 import subprocess
 from typing import List
 
-from common.program import Ended, run
+from common.program import Ended, in_memory, run
 from common.report import Report
 from common.subject import Subject, new_folder, on_all
 from replays.records import Place, records
 
-RECORDS = 400
+RECORDS = 1_100
 CUT = 3
 MANY = 200_000
+# More than pipes and buffers hold.
+MIDDLE = 4_000
 MEMORY = 20 << 20
 LONG_LINE = 100_000_000
 REFUSED = re.compile(rb" E\d\d ")
@@ -34,7 +37,7 @@ def line_by_run(ended: Ended, name: bytes) -> bytes:
 
 
 def faults_of_lines(place: Place, text: bytes, ended: Ended) -> List[str]:
-    """Each record's line beside `run` of its packet, those that have one."""
+    """Each record's line beside `run` of its packet, where it has one and the reply is shown."""
     lines = [line for line in text.splitlines() if line.strip()]
     said = ended.output.splitlines(keepends=True)
     if len(said) != len(lines):
@@ -50,7 +53,7 @@ def faults_of_lines(place: Place, text: bytes, ended: Ended) -> List[str]:
         line = line_by_run(place.run_one(packets[0]), lines[at].split()[0])
         return [] if said[at] == line else [f"{said[at]!r}, not {line!r}"]
 
-    return wrong + [each for found in on_all(fault, range(0, len(lines), 5)) for each in found]
+    return wrong + [each for found in on_all(fault, range(len(lines))) for each in found]
 
 
 def check_answers(place: Place, report: Report) -> None:
@@ -114,8 +117,53 @@ def check_streams(place: Place, report: Report) -> None:
     report.check("replay: a reader that went away", wrong)
 
 
+def check_closed(place: Place, report: Report) -> None:
+    """A reader that goes away in the middle has a front of the output."""
+    text = records(MIDDLE)
+    whole = place.replay(text).output
+    command, pipes = place.command(), {"stdout": subprocess.PIPE, "stderr": subprocess.PIPE}
+    with subprocess.Popen(command, cwd=place.folder, stdin=in_memory(text), **pipes) as process:
+        front = process.stdout.read(len(whole) // 2)
+        process.stdout.close()
+        errors = process.stderr.read()
+    is_right = (process.returncode, errors) == (3, b"radpolicy: E07: write fault\n") and whole.startswith(front)
+    wrong = [] if is_right and len(front) == len(whole) // 2 else [f"{process.returncode}: {errors!r}, {len(front)} octets"]
+    report.check("replay: a reader that goes away in the middle", wrong)
+
+
+def said_to_terminal(place: Place, text: bytes, is_output_too: bool) -> bytes:
+    """What a replay says to a terminal."""
+    terminal, stream = os.openpty()
+    try:
+        words = place.options() if is_output_too else ()
+        run(place.command(words), place.folder, text, output=stream if is_output_too else None, errors=stream)
+        os.set_blocking(terminal, False)
+        with io.open(terminal, "rb", buffering=0, closefd=False) as said:
+            return b"".join(iter(lambda: said.read(1 << 16) or b"", b""))
+    finally:
+        os.close(terminal)
+        os.close(stream)
+
+
+def check_counter(place: Place, report: Report) -> None:
+    """The counter, which is taken away before the summary is printed."""
+    text = records(2) * (MANY // 2)
+    said = said_to_terminal(place, text, False)
+    *counted, summary = said.split(b"\r\x1b[K")
+    found = [int(count) for count in re.findall(rb"\r(\d+) records, \d+ a second\x1b\[K", said)]
+    lines = b"%d read, 0 refused\r\n" % MANY
+    is_right = len(counted) == 1 and found == sorted(found) and 0 < found[-1] < MANY and summary.startswith(lines)
+    report.check("replay: a counter on a terminal", [] if is_right else [f"{said!r}"])
+    said = said_to_terminal(place, text, True)
+    is_right = b"\x1b" not in said and said.startswith(b"%d read, %d same, 0 different" % (MANY, MANY))
+    report.check("replay: no counter among what is printed", [] if is_right else [f"{said!r}"])
+    # a run of a second or more says how fast it was; one of less does not
+    rates = re.findall(rb"\n(\d+) packets a second", said)
+    report.check("replay: the rate", [] if all(0 < int(rate) <= MANY for rate in rates) else [f"{said!r}"])
+
+
 def check(subject: Subject, report: Report) -> None:
     with new_folder() as folder:
         place = Place(subject, folder)
-        for part in (check_answers, check_cuts, check_hostile, check_streams):
+        for part in (check_answers, check_cuts, check_hostile, check_streams, check_closed, check_counter):
             part(place, report)

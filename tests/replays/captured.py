@@ -15,6 +15,7 @@ CLASS, PROXY_STATE = packets.plain_attribute(25, b"\x01"), packets.plain_attribu
 COUNTS = re.compile(
     rb"(\d+) read, (\d+) same, (\d+) different, (\d+) unanswered, (\d+) challenged, (\d+) refused\n(?:  \d+ by .*\n)*"
 )
+HIDDEN = b"update reply { Class := 0x01 }\nupdate reply { Hidden-Octets := 0x0102 }\n"
 KINDS = ["same", "proxied", "other", "alone", "challenge", "digest", "identifier"]
 
 
@@ -97,6 +98,21 @@ def check_captured(place: Place, report: Report) -> None:
     report.check("replay: other replies alone are told", [] if quiet.output == kept else [f"{quiet.output!r}"])
 
 
+def check_lists(place: Place, report: Report) -> None:
+    """The list of a captured reply, of which a value is hidden."""
+    line = records(1)
+    digits = place.replay(line, ["--show-secrets"]).output.split()[-1]
+    text = line.rstrip() + b" " + digits + b"\n"
+    words = ["--against", "captured", "--all", "--show-replies"]
+    for options, shown in (([], b"(hidden)"), (["--show-secrets"], b"0x0102")):
+        ended = place.replay(text, [*words, *options])
+        wanted = b"frame0 Access-Accept\n  captured\n    Class = 0x01\n    Hidden-Octets = %s\n" % shown
+        report.check(f"replay: a captured list {' '.join(options)}", [] if ended.output == wanted else [f"{ended}"])
+    lone = place.replay(text, place.options("--show-replies"))
+    report.check("replay: lists of no captured replies", [] if lone.status == 2 else [f"{lone}"])
+
+
 def check(subject: Subject, report: Report) -> None:
     with new_folder() as folder:
         check_captured(Place(subject, folder), report)
+        check_lists(Place(subject, folder, "hidden", HIDDEN), report)

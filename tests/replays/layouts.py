@@ -43,6 +43,8 @@ def text_of(line: bytes) -> bytes:
     if object["verdict"] not in VERDICTS:
         return b"no verdict\n"
     lines = [f"{object['record']} {first_line(object)}\n"]
+    listed = object.get("captured_list", [])
+    lines += ["  captured\n", *(f"    {pair}\n" for pair in listed)] if listed else []
     for name in ("reply", "control"):
         changes = object.get(f"{name}_changes", [])
         lines += [f"  {name}\n", *(f"  {change}\n" for change in changes)] if changes else []
@@ -98,6 +100,7 @@ def check(subject: Subject, report: Report) -> None:
             ("differences", text, compared),
             ("each record", text, [*compared, "--all", "--strict"]),
             ("captured replies", captured_records(place)[0], ["--against", "captured", "--all"]),
+            ("their lists", captured_records(place)[0], ["--against", "captured", "--all", "--show-replies"]),
         ]:
             check_json(place, name, octets, options, report)
             check_tests(place, name, octets, options, report)

@@ -1,4 +1,6 @@
 """Records of traffic at random, and the program that answers them."""
+import re
+from dataclasses import replace
 from pathlib import Path
 from random import Random
 from typing import Callable, List, Optional, Sequence
@@ -19,6 +21,15 @@ update reply {
 """
 # Words that are no packet, and packets that are refused.
 BROKEN = (b"", b"no packet", b"00" * 20, b"0101" + b"0" * 37, b"05" + b"07" * 19, b"01" * 5000)
+
+
+# How fast a run was that took a second or more.
+RATE = re.compile(rb'^\d+ packets a second\n|"packets_per_second":\d+,', re.M)
+
+
+def without_rate(ended: Ended) -> Ended:
+    """The same of a run, however long it took."""
+    return replace(ended, errors=RATE.sub(b"", ended.errors))
 
 
 def request(rng: Random) -> bytes:
@@ -61,7 +72,7 @@ class Place:
     def replay(
         self, octets: bytes, options: Sequence[str] = (), before: Optional[Callable[[], None]] = None
     ) -> Ended:
-        return run(self.command(options), self.folder, octets, before=before)
+        return without_rate(run(self.command(options), self.folder, octets, before=before))
 
     def run_one(self, digits: bytes) -> Ended:
         """One packet by `radpolicy run`."""

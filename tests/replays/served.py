@@ -6,7 +6,7 @@ from typing import Dict, List, Sequence
 from common.program import Ended, run
 from common.report import Report
 from common.subject import Subject, new_folder, on_all
-from replays.records import SECRET
+from replays.records import SECRET, without_rate
 
 FOLDER = Path(__file__).with_name("served")
 POLICY = FOLDER / "policy"
@@ -49,7 +49,7 @@ def replay(subject: Subject, folder: Path, text: bytes, options: Sequence[str], 
     if not (folder / "secret").exists():
         (folder / "secret").write_bytes(SECRET + b"\n")
     words = ["--policy", policy, "-S", "secret", "--against", "captured", "--all", *options]
-    return run([subject.driver("radpolicy_replay"), *words, *dictionaries], folder, text)
+    return without_rate(run([subject.driver("radpolicy_replay"), *words, *dictionaries], folder, text))
 
 
 def to_hex(subject: Subject, folder: Path, text: bytes, options: Sequence[str] = ()) -> Ended:
@@ -122,6 +122,18 @@ def check_cuts(subject: Subject, report: Report, folder: Path) -> None:
 
     found = on_all(fault, range(0, len(text), 97))
     report.check("replay: a log that ends early", [each for faults in found for each in faults])
+    requests = text_of("records")
+    every = replay(subject, folder, requests, ["--format", "records"]).output.splitlines()
+
+    def fault_of_requests(end: int) -> List[str]:
+        """Of records at blank lines, those that are whole are told; the last is told of what there is of it."""
+        said = replay(subject, folder, requests[:end], ["--format", "records"]).output.splitlines()
+        ended = requests[:end].count(b"\n\n")
+        is_right = ended <= len(said) <= ended + 1 and said[:ended] == every[:ended]
+        return [] if is_right else [f"after {end} octets: {said}"]
+
+    found = on_all(fault_of_requests, range(len(requests)))
+    report.check("replay: requests that end after each octet", [each for faults in found for each in faults])
 
 
 def check_ends(subject: Subject, report: Report, folder: Path) -> None:

@@ -2,7 +2,6 @@
 import shutil
 import socket
 import subprocess
-import time
 from contextlib import contextmanager
 from pathlib import Path
 from typing import Iterator, List, Sequence
@@ -15,7 +14,8 @@ from replays.records import Place, records
 RECORDS = 20_000
 # Debian's Python has Debian's packages.
 PYTHON = "/usr/bin/python3"
-WORKERS = 3
+# Of the input, where a worker dies.
+PARTS = 24
 SECONDS = 120
 # Counts and lines of policies are added up of JSON too.
 JSON = ["--json", "--against", "old"]
@@ -61,36 +61,48 @@ def started(*command: object) -> Iterator["subprocess.Popen[bytes]"]:
             process.kill()
 
 
-def spread(place: Place, scheduler: str, script: Path, options: Sequence[str] = ()) -> "subprocess.Popen[bytes]":
-    command = [PYTHON, script, scheduler, place.folder / "records", "--", *place.command(options)]
+def spread(place: Place, scheduler: str, files: Sequence[str], command: Sequence[object]) -> "subprocess.Popen[bytes]":
+    script = place.subject.root / "examples/replay/spread.py"
+    words = [PYTHON, script, scheduler, *files, "--", *command]
     pipes = {"stdout": subprocess.PIPE, "stderr": subprocess.PIPE}
-    return subprocess.Popen(list(map(str, command)), cwd=place.folder, **pipes)
+    return subprocess.Popen(list(map(str, words)), cwd=place.folder, **pipes)
+
+
+def check_death(place: Place, scheduler: str, worker: "subprocess.Popen[bytes]", whole: Ended, report: Report) -> None:
+    """A worker is killed when the first answers have come, while it has parts of its own: each takes half a second."""
+    lines = (place.folder / "records").read_bytes().splitlines(keepends=True)
+    size = -(-len(lines) // PARTS)
+    for number in range(PARTS):
+        (place.folder / f"part{number}").write_bytes(b"".join(lines[number * size : (number + 1) * size]))
+    slowly = ["sh", "-c", 'sleep 0.5; exec "$@"', "sh", *place.command()]
+    with spread(place, scheduler, [f"part{number}" for number in range(PARTS)], slowly) as process:
+        first = process.stdout.read(1)
+        worker.kill()
+        out, errors = process.communicate(timeout=SECONDS)
+    said = subprocess.CompletedProcess([], process.returncode, first + out, errors)
+    wrong = faults(said, whole) + ([] if errors == whole.errors else [f"{errors!r}, not {whole.errors!r}"])
+    report.check("replay: by dask, where a worker dies", wrong)
 
 
 def check_dask(place: Place, whole: Ended, report: Report) -> None:
     if not has_dask():
         report.say("replay: not tried by dask, which is not installed")
         return
-    script, port = place.subject.root / "examples/replay/spread.py", free_port()
+    port = free_port()
     scheduler = f"tcp://127.0.0.1:{port}"
     worker = ["dask-worker", scheduler, "--nthreads", 1, "--no-dashboard", "--local-directory", place.folder / "work"]
     with started("dask-scheduler", "--host", "127.0.0.1", "--port", port, "--no-dashboard"):
         with started(*worker), started(*worker), started(*worker) as last:
-            with spread(place, scheduler, script) as process:
+            with spread(place, scheduler, ["records"], place.command()) as process:
                 out, errors = process.communicate(timeout=SECONDS)
             said = subprocess.CompletedProcess([], process.returncode, out, errors)
             wrong = faults(said, whole) + ([] if errors == whole.errors else [f"{errors!r}, not {whole.errors!r}"])
             report.check("replay: by dask", wrong)
-            with spread(place, scheduler, script, JSON) as process:
+            with spread(place, scheduler, ["records"], place.command(JSON)) as process:
                 _, errors = process.communicate(timeout=SECONDS)
             wanted = place.replay((place.folder / "records").read_bytes(), JSON).errors
             report.check("replay: by dask, as JSON", [] if errors == wanted else [f"{errors!r}, not {wanted!r}"])
-            with spread(place, scheduler, script) as process:
-                time.sleep(2)
-                last.kill()
-                out, errors = process.communicate(timeout=SECONDS)
-            said = subprocess.CompletedProcess([], process.returncode, out, errors)
-            report.check("replay: by dask, where a worker dies", faults(said, whole))
+            check_death(place, scheduler, last, whole, report)
 
 
 def check(subject: Subject, report: Report) -> None:

@@ -10,7 +10,7 @@ from fuzz import packets
 from fuzz.vocabulary import DICTIONARY
 from replays.captured import NAMES, captured_records
 from replays.comparing import blocks
-from replays.records import Place, records
+from replays.records import Place, records, without_rate
 
 RECORDS = 400
 COUNTS = re.compile(rb"(?:\d+ [a-z]+(?:, |\n))+(?:  \d+ by .*\n)*no secret: .*\n")
@@ -22,7 +22,7 @@ HIDDEN = b"update control { Hidden-Octets := &Hidden-Octets }\n"
 def command(place: Place, *options: str, policy: str = "policy") -> Ended:
     program = place.subject.driver("radpolicy_replay")
     words = [str(program), "--policy", policy, *options, str(DICTIONARY)]
-    return run(words, place.folder, (place.folder / "records").read_bytes())
+    return without_rate(run(words, place.folder, (place.folder / "records").read_bytes()))
 
 
 def with_other_digests(text: bytes) -> bytes:
