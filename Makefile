@@ -31,7 +31,8 @@ trials:
 
 bench: build
 	@RT="$(RT)" scripts/build bench_packets drive_runs
-	@RT="$(RT)" bench/run $(PROGRAM) crates/bench_packets/out/bench_packets crates/drive_runs/out/drive_runs
+	@RT="$(RT)" bench/run $(PROGRAM) crates/bench_packets/out/bench_packets crates/drive_runs/out/drive_runs \
+		crates/radpolicy_replay/out/radpolicy_replay
 
 SECONDS = 60
 

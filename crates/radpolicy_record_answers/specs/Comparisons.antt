@@ -10,6 +10,7 @@ use Rattle.avp_lists.specs.declared.lists.List.TheVariants.{Control, Reply}
 use Rattle.avp_lists.specs.declared.lists.State.{State}
 use Rattle.avp_lists.specs.declared.pairs.AttrId.{AttrId}
 use Rattle.avp_lists.specs.declared.pairs.Pair.{Pair}
+use Rattle.avp_dict.specs.declared.request.faults.LineFault.{LineFault}
 use Rattle.avp_unlang.specs.Meaning.{Outcome as End}
 use Rattle.avp_unlang.specs.declared.codes.Code.{Code}
 use Rattle.avp_unlang.specs.declared.codes.Code.TheVariants as code
@@ -17,7 +18,7 @@ use Rattle.radpolicy.specs.Faults.{fault_number}
 use Rattle.radpolicy.specs.RunOutcomes.{RunOutcome}
 use Rattle.radpolicy.specs.declared.faults.Fault.TheVariants as fault
 use Rattle.radpolicy_record_answers.specs.declared.answers.RecordFault.{RecordFault}
-use Rattle.radpolicy_record_answers.specs.declared.answers.RecordFault.TheVariants.{NoClient, Request, Text}
+use Rattle.radpolicy_record_answers.specs.declared.answers.RecordFault.TheVariants.{ControlList, NoClient, ReplyList, Request, Text}
 use Rattle.radpolicy_record_answers.specs.declared.comparisons.Comparison.{Comparison}
 use Rattle.radpolicy_record_answers.specs.declared.comparisons.Order.{Order}
 use Rattle.radpolicy_record_answers.specs.declared.comparisons.Order.TheVariants.{ByName, Ordered}
@@ -83,20 +84,26 @@ pub record AreSameEnds (comparison : Comparison) (old new : End) : Type 0 where
   pub control : AreSame comparison.order (compared_list comparison Control old)
       (compared_list comparison Control new)
 
+-- the number of the fault of a line
+abbrev pub line_fault_number : LineFault → ℕ
+line_fault_number f = fault_number (fault.Request f)
+
 -- the kinds of faults of lines: those that have a number by it
 abbrev pub text_fault_number : TextFault → ℕ
 text_fault_number text.TooLong = 0
 text_fault_number text.OtherCode = 1
-text_fault_number (text.Lines f) = fault_number (fault.Request f)
+text_fault_number (text.Lines f) = line_fault_number f
 text_fault_number text.PacketTooLong = fault_number fault.PacketTooLong
 text_fault_number text.Memory = fault_number fault.Memory
 
--- both records are refused by a fault of one number, both are of no client, or the lines of both make no packet for one
--- kind of reason
+-- both records are refused by a fault of one number, also of their reply lists or of their control lists, both are of no
+-- client, or the lines of both make no packet for one kind of reason
 abbrev pub AreSameFaults : RecordFault → RecordFault → Type 0
 AreSameFaults (Request f) (Request g) = fault_number f ≡ fault_number g
 AreSameFaults NoClient NoClient = ⊤
 AreSameFaults (Text f) (Text g) = text_fault_number f ≡ text_fault_number g
+AreSameFaults (ReplyList f) (ReplyList g) = line_fault_number f ≡ line_fault_number g
+AreSameFaults (ControlList f) (ControlList g) = line_fault_number f ≡ line_fault_number g
 AreSameFaults _ _ = ⊥
 
 -- two answers are the same: both are refused alike, or both runs came to the same
@@ -135,6 +142,8 @@ abbrev pub same_faults : RecordFault → RecordFault → Bool
 same_faults (Request f) (Request g) = fault_number f == fault_number g
 same_faults NoClient NoClient = true
 same_faults (Text f) (Text g) = text_fault_number f == text_fault_number g
+same_faults (ReplyList f) (ReplyList g) = line_fault_number f == line_fault_number g
+same_faults (ControlList f) (ControlList g) = line_fault_number f == line_fault_number g
 same_faults _ _ = false
 
 abbrev pub same_answers : Comparison → Result RunOutcome RecordFault

@@ -3,14 +3,14 @@
 ghost use Rattle.std.specs.Prelude.{◌≡◌, ◌++◌, IfOk, Ok, OnOk, codes};
 ghost use Rattle.std.specs.List.{flat_map};
 ghost use Rattle.radpolicy_common.specs.ChangeTexts.{AllFit, Fits};
-ghost use Rattle.radpolicy_record_answers.specs.Comparisons.{ids_of, pairs_of, same_answers, same_faults, text_fault_number};
+ghost use Rattle.radpolicy_record_answers.specs.Comparisons.{ids_of, line_fault_number, pairs_of, same_answers, same_faults, text_fault_number};
 ghost use Rattle.radpolicy_record_answers.specs.Differences.{added_line, answers_told, change_of, changes_of, difference_told, instances_change, list_change, named_change, pairs_change, removed_line, result_or_fault, same_told, verdict_of_answers, verdict_of_same};
 ghost use Rattle.radpolicy_record_answers.specs.internal.Over.{IsOver};
 
 use crate::answers::{RecordFault, push_refusal, push_result};
 use crate::comparisons::{Comparison, Order, Told, compared, ids_of, instances, same_pairs};
 use crate::verdicts::Verdict;
-use avp_dict::Dictionary;
+use avp_dict::{Dictionary, LineFault};
 use avp_lists::{AttrId, List, Pair, Store};
 use radpolicy::{Fault, RunOutcome};
 use radpolicy_common::{Change, SecretValues, change_lines};
@@ -180,6 +180,12 @@ pub(crate) fn push_named(text: &mut Vec<u8>, name: &[u8], lines: &[u8]) -> Resul
     Ok(())
 }
 
+fn line_fault_number(fault: LineFault) -> u8
+    ensures { result ≡ line_fault_number fault }
+{
+    Fault::Request(fault).number()
+}
+
 // The kinds of faults of lines.
 fn text_fault_number(fault: TextFault) -> u8
     ensures { result ≡ text_fault_number fault }
@@ -187,7 +193,7 @@ fn text_fault_number(fault: TextFault) -> u8
     match fault {
         TextFault::TooLong => 0,
         TextFault::OtherCode => 1,
-        TextFault::Lines(fault) => Fault::Request(fault).number(),
+        TextFault::Lines(fault) => line_fault_number(fault),
         TextFault::PacketTooLong => Fault::PacketTooLong.number(),
         TextFault::Memory => Fault::Memory.number(),
     }
@@ -201,6 +207,10 @@ fn same_faults(old: RecordFault, new: RecordFault) -> bool
         (RecordFault::NoClient, RecordFault::NoClient) => true,
         (RecordFault::Text(old), RecordFault::Text(new)) => {
             text_fault_number(old) == text_fault_number(new)
+        }
+        (RecordFault::ReplyList(old), RecordFault::ReplyList(new))
+        | (RecordFault::ControlList(old), RecordFault::ControlList(new)) => {
+            line_fault_number(old) == line_fault_number(new)
         }
         _ => false,
     }

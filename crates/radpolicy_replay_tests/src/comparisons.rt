@@ -35,16 +35,16 @@ if (&NAS-Port > 3) {
 }
 ";
 
-// Which lists are compared, and what is told of them.
+/// Which lists are compared, and what is told of them.
 #[derive(Clone, Copy)]
-struct Asked {
-    order: Order,
-    ignored: &'static [AttrId],
-    told: Told,
+pub(crate) struct Asked {
+    pub(crate) order: Order,
+    pub(crate) ignored: &'static [AttrId],
+    pub(crate) told: Told,
 }
 
-// The replay by a policy that is compared with an old one.
-fn replay_against<'a>(
+/// The replay by a policy that is compared with an old one.
+pub(crate) fn replay_against<'a>(
     policy: &'a PreparedPolicy<'a>,
     old: &'a PreparedPolicy<'a>,
     secret: &'a Secret<'a>,

@@ -1,10 +1,12 @@
 //! Records of lines with initial reply and control lists.
 
-use crate::replays::replay_alone;
+use crate::comparisons::{Asked, replay_against};
+use crate::replays::{counts_of, replay_alone};
 use avp_dict::Dictionary;
 use radpolicy::{PreparedPolicy, Secret};
 use radpolicy_common::SecretValues;
-use radpolicy_replay_records::RecordReader;
+use radpolicy_record_answers::{Order, Told};
+use radpolicy_replay_records::{RecordReader, Summary};
 use radpolicy_traffic::Format;
 use samples::test_dictionary;
 use std::alloc::Global;
@@ -66,5 +68,30 @@ fn a_fault_of_a_list_refuses_the_record(rt: HostRuntime) -> Result<(), Fail> {
 4 E30 not a value line 1
 ";
     assert_eq!(&rt; text.as_slice(), wanted.as_slice());
+    Ok(())
+}
+
+// What is written of records whose answers are compared with those of the same policy.
+fn told_beside(alloc: Global, text: &[u8]) -> Result<(Vec<u8>, Summary), Fail> {
+    let dictionary: Dictionary = test_dictionary(alloc)?;
+    let policy = PreparedPolicy::read(alloc, &dictionary, POLICY)?;
+    let secret = Secret::new(b"testing123")?;
+    let asked = Asked {
+        order: Order::ByName,
+        ignored: &[],
+        told: Told::Different,
+    };
+    let replay = replay_against(&policy, &policy, &secret, asked);
+    let mut records = RecordReader::new(alloc, text, Format::Records)?;
+    let mut out = Vec::new(alloc);
+    let summary = replay.run_records(alloc, None, &mut records, &mut out)?;
+    Ok((out, summary))
+}
+
+#[test]
+fn one_that_both_refuse_is_not_different(rt: HostRuntime) -> Result<(), Fail> {
+    let (text, summary) = told_beside(rt.alloc(), FAULTS)?;
+    assert!(&rt; text.is_empty());
+    assert_eq!(&rt; counts_of(&summary), [4, 0, 0, 0, 0, 4]);
     Ok(())
 }
