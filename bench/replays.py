@@ -94,7 +94,7 @@ def show_spread(root: Path, program: Path, dictionaries: Set, folder: Path) -> N
     if not shutil.which("parallel") or not has_dask:
         print("Records replayed over four processors: left out, there is no GNU parallel or no dask")
         return
-    parallel = ["parallel", "--no-notice", "--pipe", "--keep-order", "--block", "16M", f"-j{PROCESSORS}", *words]
+    parallel = ["parallel", "--no-notice", "--pipe", "--keep-order", "--block", "8M", f"-j{PROCESSORS}", *words]
     with cluster(folder) as address:
         spread = [PYTHON, root / "examples/replay/spread.py", address, source, "--", *words]
         commands: Dict[str, Sequence[Word]] = {"one": words, "parallel": parallel, "dask": spread}

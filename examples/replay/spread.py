@@ -13,7 +13,8 @@ from pathlib import Path
 from distributed import Client
 from summaries import Sums
 
-BLOCK = 1 << 20
+# So much that to start the command for each takes little beside it.
+BLOCK = 1 << 23
 # Blocks that are under way or whose answers wait for those before them, for each worker.
 AHEAD = 4
 

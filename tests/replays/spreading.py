@@ -11,7 +11,8 @@ from common.report import Report
 from common.subject import Subject, new_folder
 from replays.records import Place, records
 
-RECORDS = 20_000
+# More than a block of the script's.
+RECORDS, TIMES = 20_000, 3
 # Debian's Python has Debian's packages.
 PYTHON = "/usr/bin/python3"
 # Of the input, where a worker dies.
@@ -108,7 +109,7 @@ def check_dask(place: Place, whole: Ended, report: Report) -> None:
 def check(subject: Subject, report: Report) -> None:
     with new_folder() as folder:
         place = Place(subject, folder)
-        (folder / "records").write_bytes(records(RECORDS))
+        (folder / "records").write_bytes(records(RECORDS) * TIMES)
         (folder / "old").write_bytes(OLD)
         whole = place.replay((folder / "records").read_bytes())
         check_parallel(place, whole, report)
