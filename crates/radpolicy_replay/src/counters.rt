@@ -49,9 +49,11 @@ impl<'a> Counter<'a> {
 
     // Shows the counter, unless it was shown just now.
     fn show_at(&mut self, milliseconds: u64) {
-        let since = milliseconds.saturating_sub(self.shown.unwrap_or(0));
-        let (records, rate) = (self.records, rate_of(self.records, milliseconds));
-        if let (true, Some(rate)) = (since >= PAUSE, rate) {
+        if milliseconds.saturating_sub(self.shown.unwrap_or(0)) < PAUSE {
+            return;
+        }
+        let records = self.records;
+        if let Some(rate) = rate_of(records, milliseconds) {
             let _ = eprint!(self.rt; "\r{records} records, {rate} a second\x1b[K");
             self.shown = Some(milliseconds);
         }
@@ -106,18 +108,20 @@ impl<'a, R: Read + Drop> CountedLines<'a, R> {
             has_word: false,
         }
     }
+}
 
-    // Counts the records that end in a block.
-    fn count(&mut self, block: &[u8]) {
-        for octet in block {
-            if *octet != b'\n' {
-                self.has_word |= !octet.is_ascii_whitespace();
-            } else if self.has_word {
-                self.counter.add(1);
-                self.has_word = false;
-            }
+// How many records end in a block, and whether the line that does not end has a word. So may one that began before.
+fn ended_records(block: &[u8], begun: bool) -> (u64, bool) {
+    let (mut ended, mut has_word) = (0_u64, begun);
+    for octet in block {
+        if *octet != b'\n' {
+            has_word |= !octet.is_ascii_whitespace();
+        } else if has_word {
+            ended = ended.saturating_add(1);
+            has_word = false;
         }
     }
+    (ended, has_word)
 }
 
 impl<R: Read + Drop> Read for CountedLines<'_, R> {
@@ -127,7 +131,9 @@ impl<R: Read + Drop> Read for CountedLines<'_, R> {
         self.counter.show();
         let count = self.input.read(buf)?;
         if self.counter.is_wanted {
-            self.count(&buf[..count]);
+            let (ended, has_word) = ended_records(&buf[..count], self.has_word);
+            self.counter.add(ended);
+            self.has_word = has_word;
         }
         Ok(count)
     }
@@ -151,8 +157,8 @@ impl<R: Records + Drop> Records for CountedRecords<'_, R> {
 
     fn next_record(&mut self) -> Result<Option<Record>, ReplayFault> {
         self.counter.show();
-        let record = self.records.next_record()?;
+        let record = self.records.next_record();
         self.counter.add(1);
-        Ok(record)
+        record
     }
 }
