@@ -127,7 +127,8 @@ def check_closed(place: Place, report: Report) -> None:
         process.stdout.close()
         errors = process.stderr.read()
     is_right = (process.returncode, errors) == (3, b"radpolicy: E07: write fault\n") and whole.startswith(front)
-    wrong = [] if is_right and len(front) == len(whole) // 2 else [f"{process.returncode}: {errors!r}, {len(front)} octets"]
+    is_right = is_right and len(front) == len(whole) // 2
+    wrong = [] if is_right else [f"{process.returncode}: {errors!r}, {len(front)} octets"]
     report.check("replay: a reader that goes away in the middle", wrong)
 
 

@@ -59,7 +59,7 @@ def traffic(place: Place) -> Tuple[List[bytes], List[Tuple[int, bytes, bytes]]]:
     return frames, wanted
 
 
-def commands(root: Path) -> List[str]:
+def wire_commands(root: Path) -> List[str]:
     """The commands of the section: of requests, and of requests with their replies."""
     section = (root / "docs/REPLAY.md").read_text().partition("## From the wire\n")[2].partition("\n## ")[0]
     blocks = re.findall(r"(?:^    .*\n)+", section, re.M)
@@ -74,7 +74,7 @@ def records_by(folder: Path, command: str) -> List[List[str]]:
 def check_installed(place: Place, report: Report) -> None:
     frames, wanted = traffic(place)
     (place.folder / "radius.pcap").write_bytes(capture(frames))
-    alone, joined = commands(place.subject.root)
+    alone, joined = wire_commands(place.subject.root)
     found = records_by(place.folder, alone)
     asked = [[str(number), "192.0.2.1", packet.hex()] for number, packet, _ in wanted]
     report.check("replay: requests of a capture", [] if found == asked else [f"{found}, not {asked}"])
@@ -87,7 +87,8 @@ def check_installed(place: Place, report: Report) -> None:
     same = len(wanted) - unanswered - challenged
     counts = b"%d read, %d same, 0 different, %d unanswered, %d challenged, 0 refused\n"
     counts %= (len(wanted), same, unanswered, challenged)
-    report.check("replay: a capture", [] if (ended.errors, ended.status) == (counts, 0) else [f"{ended}, not {counts!r}"])
+    is_right = (ended.errors, ended.status) == (counts, 0)
+    report.check("replay: a capture", [] if is_right else [f"{ended}, not {counts!r}"])
 
 
 def check(subject: Subject, report: Report) -> None:

@@ -13,8 +13,9 @@ from common.program import run
 from common.report import Report
 from common.subject import Subject
 from replays.served import replay
+from replays.wire import records_by, wire_commands
 
-SERVER, CLIENT, SNIFFER = "freeradius", "radclient", "radsniff"
+SERVER, CLIENT, SNIFFER, CAPTURER = "freeradius", "radclient", "radsniff", "tshark"
 SECRET = "testing123"
 SECONDS = 60
 STARTS = 15.0
@@ -194,6 +195,26 @@ def check_replay(subject: Subject, report: Report, folder: Path, name: str, text
     report.check(f"traffic: {name}, replayed", [] if is_right else [repr(ended)])
 
 
+@contextmanager
+def capturing(folder: Path, auth: int, acct: int) -> Iterator[bool]:
+    """Captures packets, where that is installed and allowed; and whether it does."""
+    if shutil.which(CAPTURER) is None:
+        yield False
+        return
+    wanted = f"udp port {auth} or udp port {acct}"
+    command = [CAPTURER, "-q", "-i", "lo", "-f", wanted, "-w", str(folder / "radius.pcap")]
+    with running(command, folder / "capturer", b"Capturing on") as captures:
+        yield captures
+
+
+def check_packets(subject: Subject, report: Report, folder: Path, auth: int, acct: int) -> None:
+    """The lines of packets that the command of docs/REPLAY.md makes of what was on the wire."""
+    ports_too = f"-r radius.pcap -d udp.port=={auth},radius -d udp.port=={acct},radius"
+    command = wire_commands(subject.root)[1].replace("-r radius.pcap", ports_too)
+    records_by(folder, command)
+    check_replay(subject, report, folder, "what is on the wire", (folder / "records").read_bytes())
+
+
 def check_installed(subject: Subject, report: Report, folder: Path) -> None:
     auth, acct = ports()
     text = CONFIGURATION.format(folder=folder, secret=SECRET, auth=auth, acct=acct)
@@ -204,11 +225,12 @@ def check_installed(subject: Subject, report: Report, folder: Path) -> None:
         if not serves:
             report.say("traffic: left out, the server does not start")
             return
-        with running(sniffer, sniffed, b"Sniffing on") as sniffs:
+        with running(sniffer, sniffed, b"Sniffing on") as sniffs, capturing(folder, auth, acct) as captures:
             time.sleep(0.5)
             said = ask(auth, "auth", ACCESS, "-p", "3") + ask(auth, "auth", SILENT, "-r", "2", "-t", "1")
             said += ask(acct, "acct", ACCOUNTING)
             sniffs = sniffs and is_sniffed(sniffed)
+            time.sleep(0.5)
     compare(subject, report, "what a server prints", "DebugLog", log.read_bytes(), SENT)
     check_replay(subject, report, folder, "what a server prints", log.read_bytes())
     check_walk(subject, report, folder, log)
@@ -218,6 +240,10 @@ def check_installed(subject: Subject, report: Report, folder: Path) -> None:
     compare(subject, report, "a detail file", "Detail", detail.read_bytes() if detail.exists() else b"", unanswered)
     asked = "\n".join((ACCESS, SILENT, ACCOUNTING)).encode()
     compare(subject, report, "a file of requests", "Records", asked, unanswered)
+    if captures:
+        check_packets(subject, report, folder, auth, acct)
+    else:
+        report.say("traffic: lines of packets are left out, no packets may be captured")
     if sniffs:
         compare(subject, report, "what radsniff prints", "Radsniff", sniffed.read_bytes(), SENT)
         check_replay(subject, report, folder, "what radsniff prints", sniffed.read_bytes())
