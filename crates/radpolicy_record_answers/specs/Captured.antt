@@ -257,7 +257,7 @@ replies_change secrets dictionary comparison captured (Some own) =
     packets_change (removed_line dictionary secrets) (added_line dictionary secrets) comparison
     captured own
 
--- a record whose replies are the same, which has no line either
+-- a record whose replies are the same, which has no line unless all are told either
 abbrev pub same_reply_told : SecretValues → Dictionary → Comparison → Told → List ℕ → Packet
     → List ℕ
 same_reply_told secrets dictionary comparison Different name captured = []

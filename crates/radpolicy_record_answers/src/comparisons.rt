@@ -48,7 +48,7 @@ pub struct Comparison<'a> {
     /// The attributes that are left out of the lists.
     pub ignored: &'a [AttrId],
     pub told: Told,
-    /// Whether a record's captured reply is told whole, too.
+    /// Whether the lists of the replies that were captured are told, too.
     pub shows_replies: bool,
 }
 
