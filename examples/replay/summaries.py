@@ -7,7 +7,7 @@ COUNT = re.compile(r"(\d+) ([a-z]+)")
 LINE = re.compile(r"  (\d+) by (.*?):(\d+): (.*)\n")
 MEMBERS = ("records", "policy", "line", "text")
 SUMMARY = re.compile(
-    r"(\d+ [a-z]+(?:, \d+ [a-z]+)*\n)((?:  \d+ by .*\n)*)(no secret: .*\n)?(?:\d+ packets a second\n)?"
+    r"(\d+ [a-z]+(?:, \d+ [a-z]+)*\n)((?:  \d+ by .*\n)*)(no secret: .*\n)?(?:\d+ records a second\n)?"
 )
 
 
@@ -47,7 +47,7 @@ class Sums:
         self.is_json = True
         self.add_lines([tuple(line[member] for member in MEMBERS) for line in summary.pop("lines")])
         self.no_secret = summary.pop("no_secret", self.no_secret)
-        summary.pop("packets_per_second", None)
+        summary.pop("records_per_second", None)
         self.counts.update(summary)
         return True
 

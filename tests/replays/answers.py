@@ -159,7 +159,7 @@ def check_counter(place: Place, report: Report) -> None:
     is_right = b"\x1b" not in said and said.startswith(b"%d read, %d same, 0 different" % (MANY, MANY))
     report.check("replay: no counter among what is printed", [] if is_right else [f"{said!r}"])
     # a run of a second or more says how fast it was; one of less does not
-    rates = re.findall(rb"\n(\d+) packets a second", said)
+    rates = re.findall(rb"\n(\d+) records a second", said)
     report.check("replay: the rate", [] if all(0 < int(rate) <= MANY for rate in rates) else [f"{said!r}"])
 
 

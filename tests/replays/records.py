@@ -24,7 +24,7 @@ BROKEN = (b"", b"no packet", b"00" * 20, b"0101" + b"0" * 37, b"05" + b"07" * 19
 
 
 # How fast a run was that took a second or more.
-RATE = re.compile(rb'^\d+ packets a second\n|"packets_per_second":\d+,', re.M)
+RATE = re.compile(rb'^\d+ records a second\n|"records_per_second":\d+,', re.M)
 
 
 def without_rate(ended: Ended) -> Ended:

@@ -61,7 +61,7 @@ pub fn json_summary(
         text.extend_from_slice(b"\"no_secret\":true,")?;
     }
     if let Some(rate) = ended.rate {
-        push_count(&mut text, "packets_per_second", rate)?;
+        push_count(&mut text, "records_per_second", rate)?;
     }
     text.extend_from_slice(b"\"lines\":[")?;
     let (new, old) = counts_in_order(alloc, summary.lines.as_slice())?;

@@ -21,7 +21,7 @@ pub struct Ended {
     pub summary: Summary,
     /// Whether packets were read without a secret.
     pub is_unchecked: bool,
-    /// How many packets a second there were, where that can be told.
+    /// How many records a second were read, where that can be told.
     pub rate: Option<u64>,
 }
 
@@ -130,7 +130,7 @@ pub fn show_summary(
         );
     }
     if let Some(rate) = ended.rate {
-        let _ = eprintln!(rt; "{rate} packets a second");
+        let _ = eprintln!(rt; "{rate} records a second");
     }
     Ok(())
 }
