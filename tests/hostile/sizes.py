@@ -153,6 +153,8 @@ def pattern_rows() -> List[Row]:
         search_row("a search for 10,000 words", [words], alike),
         search_row("a search with many states", [b"[ab]*a[ab]{1000}c"], mixed),
         search_row("100 searches with many states", [b"[ab]*a[ab]{%d}c" % (100 + at) for at in range(100)], mixed),
+        search_row("250 groups in one another", [b"(" * 250 + b"b" + b")" * 250], alike),
+        check_row("251 groups in one another", fault="E59 policy:2", policy=pattern_policy([b"(" * 251 + b")" * 251])),
         check_row("64 that fill what there is for all", b"size 128\n", policy=pattern_policy(full[:-1])),
         check_row("65 that are more", fault="E60 policy:66", policy=pattern_policy(full)),
         check_row("a million repetitions", fault="E60 policy:2", policy=pattern_policy([b"((a{100}){100}){100}"])),
