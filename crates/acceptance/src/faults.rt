@@ -56,7 +56,7 @@ fn expect_line(
 }
 
 // Faults, their status and their line after the program's name.
-const FAULTS: [(Fault, u8, &str); 18] = [
+const FAULTS: [(Fault, u8, &str); 19] = [
     (Fault::Usage, 2, "E01: usage"),
     (Fault::OptionValue, 2, "E02: option value"),
     (Fault::EmptySecret, 2, "E03: empty secret"),
