@@ -19,7 +19,7 @@ SECTIONS = (
     "authorize", "authenticate", "preacct", "accounting", "session", "post-auth", "pre-proxy", "post-proxy",
     "recv-coa", "send-coa",
 )
-NAMED = re.compile(r"^\t?([A-Za-z0-9_.\-]+)\s*\{", re.M)
+NAMED = re.compile(r"^([A-Za-z0-9_.\-]+)\s*\{", re.M)
 HEAD = re.compile(r"^\s*(if\s*\(|update\b[^{}()]*\{\s*$|switch\s|foreach\s|group\s*\{)")
 HEADS_OF_SECTIONS = re.compile(r"^\s*(server\s+\S+|%s)\s*\{" % "|".join(SECTIONS))
 COMMENT = re.compile(r"^\s*# ?(.*)$")

@@ -44,7 +44,7 @@ WRITTEN: Dict[str, str] = {
     "names": 'switch "%{User-Name}" {\ncase "bob" {\nreject\n}\ncase \'alice@example.com\' {\nupdate reply {\n'
     'Reply-Message := "Hello"\n}\n}\n}\n',
     "vlan": 'if (&NAS-Port >= 3) {\nupdate reply {\nTunnel-Type := VLAN\nTunnel-Medium-Type := IEEE-802\n'
-    'Tunnel-Private-Group-Id := "1%{NAS-Port}"\n}\n}\nelsif (!&NAS-Port) {\nreject\n}\n',
+    'Tunnel-Private-Group-Id := "13"\n}\n}\nelsif (!&NAS-Port) {\nreject\n}\n',
     "greeting": 'update reply {\nReply-Message := "Hi %{%{Calling-Station-Id}:-%{User-Name}}"\n}\n',
     "ends_early": 'if (&NAS-Port == 1) {\nupdate reply {\nReply-Message += "one"\n}\nreturn\n}\nupdate reply {\n'
     'Reply-Message += "more"\n}\n',
@@ -95,6 +95,7 @@ SITE = """server {name} {{
 NAMES = (
     "bob", "alice@example.com", "Carol@EXAMPLE.COM", "us er", "a@b@c.org", "a..b@other.net", "x@.example.com", "dave@here",
     "erin@example.com.", "host/pc.example.com", "frank\\\\x", "anna\\nbob", "bob\\n", "grace@other.org",
+    "heidi@example.com.\\n", "ivan@example.com\\n",
 )
 STATIONS = ("00-11-22-33-44-55", "00:11:22:aa:BB:cc", "001122334455", "none", "00-11-22")
 REJECTED = re.compile(r"^result (reject|fail)\b", re.M)
@@ -130,7 +131,7 @@ def requests(name: str) -> List[str]:
     """Requests at random, the same for a policy in each run."""
     chance = random.Random(f"{SEED} {name}")
     made = []
-    for user in [NAMES[0], *chance.sample(NAMES[1:], REQUESTS - 1)]:
+    for user in [NAMES[0], *chance.sample(NAMES[1:-2], REQUESTS - 3), *NAMES[-2:]]:
         lines = [f'User-Name = "{user}"', 'User-Password = "hello"']
         optional = [
             f"NAS-Port = {chance.randrange(1, 4)}", f'Calling-Station-Id = "{chance.choice(STATIONS)}"',
