@@ -66,7 +66,7 @@ def spread(place: Place, scheduler: str, files: Sequence[str], command: Sequence
     script = place.subject.root / "examples/replay/spread.py"
     words = [PYTHON, script, scheduler, *files, "--", *command]
     pipes = {"stdout": subprocess.PIPE, "stderr": subprocess.PIPE}
-    return subprocess.Popen(list(map(str, words)), cwd=place.folder, **pipes)
+    return subprocess.Popen(list(map(str, words)), cwd=place.folder, bufsize=0, **pipes)
 
 
 def check_death(place: Place, scheduler: str, worker: "subprocess.Popen[bytes]", whole: Ended, report: Report) -> None:
@@ -81,7 +81,8 @@ def check_death(place: Place, scheduler: str, worker: "subprocess.Popen[bytes]",
         worker.kill()
         out, errors = process.communicate(timeout=SECONDS)
     said = subprocess.CompletedProcess([], process.returncode, first + out, errors)
-    wrong = faults(said, whole) + ([] if errors == whole.errors else [f"{errors!r}, not {whole.errors!r}"])
+    # (dask itself may say before it that a worker is gone)
+    wrong = faults(said, whole) + ([] if errors.endswith(whole.errors) else [f"{errors!r}, not {whole.errors!r}"])
     report.check("replay: by dask, where a worker dies", wrong)
 
 
