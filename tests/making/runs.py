@@ -44,9 +44,9 @@ def faults_of_calls(copy: Copy, wanted: List[str]) -> List[str]:
     return [] if copy.calls() == wanted else [f"the kit was asked for {copy.calls()}"]
 
 
-def builds(copy: Copy, first: str = "avp_lists") -> List[str]:
-    """The calls that prove a crate and those above it, in their order."""
-    return [f"build {crate}" for crate in copy.crates(CRATE) if first in copy.crates(crate)]
+def builds(copy: Copy, first: str = "") -> List[str]:
+    """The calls that prove all crates, or one and those above it, in their order."""
+    return [f"build {crate}" for crate in copy.crates(CRATE) if not first or first in copy.crates(crate)]
 
 
 def place_of(copy: Copy, crate: str) -> str:
