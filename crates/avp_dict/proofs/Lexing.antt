@@ -51,7 +51,7 @@ rest_after n octets = take_all (length octets - n) (drop n octets) (omega (arith
 -- what the octets from i on, at this place, say of the text that they belong to
 pub record IsTextAt (mark : QuoteMark) (octets : List ℕ) (i : ℕ) (place : Place) : Type 0 where
   pub unended : tokens_from place (drop i octets) ≡ Unended ∷ [] → tokens_from (Between mark) octets ≡ Unended ∷ []
-  pub ended : (text : List ℕ) (tokens : List Token) → tokens_from place (drop i octets) ≡ Quoted mark text ∷ tokens → tokens_from (Between mark) octets ≡ Quoted mark (take i octets ++ text) ∷ tokens
+  pub ended : (more text : List ℕ) (tokens : List Token) → tokens_from place more ≡ Quoted mark text ∷ tokens → tokens_from (Between mark) (take i octets ++ more) ≡ Quoted mark (take i octets ++ text) ∷ tokens
 
 text_goes_on : (mark : QuoteMark) (octets : List ℕ) (i : ℕ) (place next : Place) → i < length octets → ((rest : List ℕ) → tokens_from place (get_or octets i 0 ∷ rest) ≡ onto_quoted (get_or octets i 0) (tokens_from next rest)) → IsTextAt mark octets i place → IsTextAt mark octets (i + 1) next
 text_goes_on mark octets i place next within step at =
@@ -59,7 +59,9 @@ text_goes_on mark octets i place next within step at =
     let longer : take (i + 1) octets ≡ take i octets ++ (get_or octets i 0 ∷ []) = rw add-one (take-suc octets i 0 within) in
     record {
       unended = λ h. at.unended (opened ∙ ap (onto_quoted (get_or octets i 0)) h);
-      ended = λ text tokens h. rw (longer, append_assoc) (at.ended (get_or octets i 0 ∷ text) tokens (opened ∙ ap (onto_quoted (get_or octets i 0)) h));
+      ended = λ more text tokens h.
+          rw (longer, append_assoc, append_assoc)
+          (at.ended (get_or octets i 0 ∷ more) (get_or octets i 0 ∷ text) tokens (step more ∙ ap (onto_quoted (get_or octets i 0)) h));
     }
 
 -- the place after a `\`, or after another octet of the text
@@ -79,12 +81,12 @@ unfolding tokens_from
 after_octet mark octets i within other at =
     text_goes_on mark octets i (Between mark) (place_when mark (get_or octets i 0 == 92)) within (λ rest. rw (other, place_after mark (get_or octets i 0))) at
 
-pub text_ends : (mark : QuoteMark) (octets : List ℕ) (i : ℕ) → i < length octets → (get_or octets i 0 == quote_octet mark) ≡ true → IsTextAt mark octets i (Between mark) → tokens_from (Between mark) octets ≡ Quoted mark (take i octets) ∷ tokens_from (Outside Value) (drop (i + 1) octets)
+pub text_ends : (mark : QuoteMark) (octets : List ℕ) (i : ℕ) → i < length octets → (get_or octets i 0 == quote_octet mark) ≡ true → IsTextAt mark octets i (Between mark) → (more : List ℕ) → tokens_from (Between mark) (take (i + 1) octets ++ more) ≡ Quoted mark (take i octets) ∷ tokens_from (Outside Value) more
 unfolding tokens_from
-text_ends mark octets i within quote at =
-    let P : List ℕ → Type 0 = λ text. tokens_from (Between mark) octets ≡ Quoted mark text ∷ tokens_from (Outside Value) (drop (i + 1) octets) in
-    let e = drop-cons octets i 0 within in
-    subst P (append-nil (take i octets)) (at.ended [] (tokens_from (Outside Value) (drop (i + 1) octets)) (rw (add-one, e, quote)))
+text_ends mark octets i within quote at more =
+    let P : List ℕ → Type 0 = λ text. tokens_from (Between mark) (take (i + 1) octets ++ more) ≡ Quoted mark text ∷ tokens_from (Outside Value) more in
+    let longer : take (i + 1) octets ≡ take i octets ++ (get_or octets i 0 ∷ []) = rw add-one (take-suc octets i 0 within) in
+    subst P (append-nil (take i octets)) (rw (longer, append_assoc) (at.ended (get_or octets i 0 ∷ more) [] (tokens_from (Outside Value) more) (rw quote refl)))
 
 pub text_unended : (mark : QuoteMark) (octets : List ℕ) (i : ℕ) (is_escaped : Bool) → length octets ≤ i → IsTextAt mark octets i (place_when mark is_escaped) → tokens_from (Between mark) octets ≡ Unended ∷ []
 unfolding tokens_from
@@ -107,7 +109,7 @@ onto_text o (Quoted mark text ∷ tokens) h = refl
 onto_text o (Unended ∷ tokens) h = refl
 onto_text o _ h = h
 
-text_first : (mark : QuoteMark) (is_escaped : Bool) (os : List ℕ) → begins_text (tokens_from (place_when mark is_escaped) os) ≡ true
+pub text_first : (mark : QuoteMark) (is_escaped : Bool) (os : List ℕ) → begins_text (tokens_from (place_when mark is_escaped) os) ≡ true
 unfolding tokens_from
 text_first mark true [] = refl
 text_first mark false [] = refl
@@ -124,18 +126,18 @@ run_before_text o (Run os ∷ tokens) h = cc
 run_before_text o _ h = refl
 
 -- a run ends before an octet that ends it
-run_stops : (side : Side) (o x : ℕ) (xs : List ℕ) → ends_run side x ≡ true → onto_run o (tokens_from (Outside side) (x ∷ xs)) ≡ Run (o ∷ []) ∷ tokens_from (Outside side) (x ∷ xs)
+pub run_stops : (side : Side) (o x : ℕ) (xs : List ℕ) → ends_run side x ≡ true → onto_run o (tokens_from (Outside side) (x ∷ xs)) ≡ Run (o ∷ []) ∷ tokens_from (Outside side) (x ∷ xs)
 unfolding tokens_from
 run_stops side o x xs ends =
     let double = run_before_text o (tokens_from (Between Double) xs) (text_first Double false xs) in
     let single = run_before_text o (tokens_from (Between Single) xs) (text_first Single false xs) in
     grind (arith, common_steps, double, single)
 
-run_octet : (side : Side) (o : ℕ) (os : List ℕ) → ends_run side o ≡ false → tokens_from (Outside side) (o ∷ os) ≡ onto_run o (tokens_from (Outside side) os)
+pub run_octet : (side : Side) (o : ℕ) (os : List ℕ) → ends_run side o ≡ false → tokens_from (Outside side) (o ∷ os) ≡ onto_run o (tokens_from (Outside side) os)
 unfolding tokens_from
 run_octet side o os inside = grind (arith, common_steps)
 
-abbrev run_length : Side → List ℕ → ℕ
+abbrev pub run_length : Side → List ℕ → ℕ
 run_length side os = position_or_len (ends_run side) os
 
 run_goes_on : (side : Side) (o x : ℕ) (xs : List ℕ) (b : Bool) → ends_run side x ≡ b → (b ≡ false → tokens_from (Outside side) (x ∷ xs) ≡ Run (x ∷ take (run_length side xs) xs) ∷ tokens_from (Outside side) (drop (run_length side xs) xs)) → onto_run o (tokens_from (Outside side) (x ∷ xs)) ≡ Run (o ∷ take (cond (not b) (1 + run_length side xs) 0) (x ∷ xs)) ∷ tokens_from (Outside side) (drop (cond (not b) (1 + run_length side xs) 0) (x ∷ xs))

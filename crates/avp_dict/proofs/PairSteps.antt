@@ -14,6 +14,7 @@ use Rattle.avp_dict.specs.Dictionary.{Dictionary}
 use Rattle.avp_dict.specs.Names.{named}
 use Rattle.avp_dict.specs.Outcomes.{is_memory_line}
 use Rattle.avp_dict.specs.Lines.{texts_of}
+use Rattle.avp_dict.specs.RefusedPlaces.{is_run}
 use Rattle.avp_dict.specs.RequestLines.{Assignment, Token, Comma, Sign, Run, assigned, assignments_of, is_blank_line, is_idle_line, joined, packet_assignments, pairs_of, tokens_at, value_text, without_front}
 use Rattle.avp_dict.specs.Requests.{each_pair, few_enough, pair_assigned, pair_named, pair_spelled, request_by, request_spelled}
 use Rattle.avp_dict.specs.internal.LineReading.{IsNoRequest, after_pairs, assigned_after, packet_pairs, pair_of_token, pairs_after, pairs_at}
@@ -21,7 +22,7 @@ use Rattle.avp_dict.specs.internal.RequestTokens.{side_after, token_view}
 
 -- ---- one list after another
 
-joined_none : {X : Type 0} (x : Option (List X)) → joined x None ≡ None
+pub joined_none : {X : Type 0} (x : Option (List X)) → joined x None ≡ None
 joined_none None = refl
 joined_none (Some xs) = refl
 
@@ -39,7 +40,7 @@ spelled_append one [] bs = sym (joined_nil (each_pair one bs))
 spelled_append one (a ∷ as_) bs =
     ap (joined (option_map (λ pair. pair ∷ []) (one a))) (spelled_append one as_ bs) ∙ sym (joined_assoc (option_map (λ pair. pair ∷ []) (one a)) (each_pair one as_) (each_pair one bs))
 
-spelled_joined : (one : Assignment → Option Pair) (x y : Option (List Assignment)) → option_and_then (each_pair one) (joined x y) ≡ joined (option_and_then (each_pair one) x) (option_and_then (each_pair one) y)
+pub spelled_joined : (one : Assignment → Option Pair) (x y : Option (List Assignment)) → option_and_then (each_pair one) (joined x y) ≡ joined (option_and_then (each_pair one) x) (option_and_then (each_pair one) y)
 spelled_joined one None y = refl
 spelled_joined one (Some as_) None = sym (joined_none (each_pair one as_))
 spelled_joined one (Some as_) (Some bs) = spelled_append one as_ bs
@@ -58,7 +59,7 @@ pair_then name value (Comma ∷ tokens) = refl
 pair_then name value _ = sym (joined_none (option_map (assigned name) (value_text value)))
 
 -- the pair that a name with a text spells
-one_spelled : {T : Type 0} (target_of : List ℕ → Option T) (pair_of : T → List ℕ → Option Pair) (name : List ℕ) (text : Option (List ℕ)) (name_is : Option T) → target_of name ≡ name_is → option_and_then (each_pair (pair_assigned target_of pair_of)) (option_map (assigned name) text) ≡ option_map (λ pair. pair ∷ []) (option_and_then (λ os. option_and_then (λ target. pair_of target os) name_is) text)
+pub one_spelled : {T : Type 0} (target_of : List ℕ → Option T) (pair_of : T → List ℕ → Option Pair) (name : List ℕ) (text : Option (List ℕ)) (name_is : Option T) → target_of name ≡ name_is → option_and_then (each_pair (pair_assigned target_of pair_of)) (option_map (assigned name) text) ≡ option_map (λ pair. pair ∷ []) (option_and_then (λ os. option_and_then (λ target. pair_of target os) name_is) text)
 unfolding each_pair
 one_spelled target_of pair_of name None name_is e = refl
 one_spelled target_of pair_of name (Some text) name_is e = rw e (go (option_and_then (λ target. pair_of target text) name_is))
@@ -115,6 +116,12 @@ unknown_refused target_of pair_of name (Sign ∷ value ∷ tokens) h = go (value
     go (Some text) e = e
 unknown_refused target_of pair_of name _ h = refl
 
+-- no name at all
+pub other_refused : (one : Assignment → Option Pair) (token : Token) (tokens : List Token) → is_run token ≡ false → pairs_at one (token ∷ tokens) ≡ None
+unfolding pairs_at pairs_of
+other_refused one (Run name) tokens other = absurd (cc)
+other_refused one _ tokens other = refl
+
 -- ---- packets
 
 -- nothing is left exactly where all lines pass the test
@@ -146,10 +153,10 @@ packet_none one = refl
 
 -- ---- limits
 
-few_enough-short : (pairs : List Pair) → length pairs ≤ max_pairs → few_enough pairs ≡ Some pairs
+pub few_enough-short : (pairs : List Pair) → length pairs ≤ max_pairs → few_enough pairs ≡ Some pairs
 few_enough-short pairs few = grind (arith, common_steps)
 
-few_enough-long : (pairs : List Pair) → max_pairs < length pairs → few_enough pairs ≡ None
+pub few_enough-long : (pairs : List Pair) → max_pairs < length pairs → few_enough pairs ≡ None
 few_enough-long pairs many = grind (arith, common_steps)
 
 pub after_none : (pairs : List Pair) (here : Option (List Pair)) → here ≡ None → after_pairs pairs here ≡ None

@@ -1,5 +1,6 @@
--- What holds of every dictionary's texts: what is printed is read back, and what a text spells is clean and fits.
-use Rattle.std.specs.Prelude.{◌≡◌, ℕ, Bool, true, not, ◌&&◌, ◌||◌, IsTrue, List, Some, Ok}
+-- What holds of every dictionary's texts: what is printed is read back, what a text spells is clean and fits, and no
+-- request is refused at two places.
+use Rattle.std.specs.Prelude.{◌≡◌, ◌≢◌, ℕ, ◌≤◌, Bool, true, not, ◌&&◌, ◌||◌, IsTrue, List, Some, Ok, length}
 use Rattle.std.specs.Option.{option_and_then}
 use Rattle.avp_lists.specs.declared.pairs.Pair.{Pair}
 use Rattle.avp_lists.specs.declared.pairs.Value.{Value}
@@ -11,9 +12,12 @@ use Rattle.avp_dict.specs.Names.{named}
 use Rattle.avp_dict.specs.Octets.{is_hidden}
 use Rattle.avp_dict.specs.Printing.{printed_name, printed_text}
 use Rattle.avp_dict.specs.Quotes.{between_quotes, double_quoted_octets}
-use Rattle.avp_dict.specs.Requests.{pair_named, pair_with}
+use Rattle.avp_dict.specs.RefusedPlaces.{IsRefusedAt, is_before_filled}
+use Rattle.avp_dict.specs.Requests.{pair_named, pair_with, refusal_named}
 use Rattle.avp_dict.specs.Sent.{is_canonical, is_clean_pair, is_container, is_internal, is_raw}
 use Rattle.avp_dict.specs.Spellings.{value_spelled}
+use Rattle.avp_dict.specs.declared.request.faults.LineKind.{LineKind}
+use Rattle.avp_dict.specs.declared.request.faults.LineKind.TheVariants.{Memory}
 
 -- a canonical pair that may be written: no attribute that only holds others, and no raw octets of an internal or hidden
 -- attribute
@@ -51,3 +55,20 @@ SpelledPairsFit dictionary =
     (name text : List ℕ) (pair : Pair)
     → option_and_then (pair_named dictionary text) (named name dictionary) ≡ Some pair
     → IsTrue (fits pair dictionary)
+
+-- a request's text is refused for this after so many octets, where it ends or no blank follows
+pub record IsFirstRefused (dictionary : Dictionary) (text : List ℕ) (kind : LineKind) (place : ℕ)
+    : Type 0 where
+  pub within : place ≤ length text
+  pub filled : is_before_filled place text ≡ true
+  pub refused :
+      IsRefusedAt (λ name. named name dictionary)
+      (λ target value. pair_named dictionary value target)
+      (λ target value. refusal_named dictionary value target) text kind place
+
+-- want of memory aside, there is one such place at most, and one thing that the text is refused for there
+abbrev pub IsRefusedOnce : Dictionary → List ℕ → Type 0
+IsRefusedOnce dictionary text =
+    (kind other : LineKind) (place also : ℕ) → kind ≢ Memory → other ≢ Memory
+    → IsFirstRefused dictionary text kind place → IsFirstRefused dictionary text other also
+    → (place ≡ also) × (kind ≡ other)

@@ -1,11 +1,12 @@
 -- The request that a text of lines spells, by a dictionary.
 use Rattle.std.specs.Prelude.{ℕ, nat_le, if◌then◌else◌, List, [], ◌∷◌, length, Option, Some, None}
 use Rattle.std.specs.Option.{option_and_then, option_map}
-use Rattle.std.specs.Result.{result_ok}
+use Rattle.std.specs.Result.{result_err, result_ok}
 use Rattle.avp_lists.specs.declared.pairs.Pair.{Pair}
 use Rattle.avp_lists.specs.declared.pairs.Value.{Value}
 use Rattle.avp_lists.specs.States.{max_pairs}
 use Rattle.avp_dict.specs.declared.entries.Named.{Named}
+use Rattle.avp_dict.specs.declared.value.faults.ValueFault.{ValueFault}
 use Rattle.avp_dict.specs.Dictionary.{Dictionary}
 use Rattle.avp_dict.specs.Names.{named}
 use Rattle.avp_dict.specs.RequestLines.{Assignment, assignments_of, joined}
@@ -18,6 +19,10 @@ pair_with name value = record { id = name.id; value = value }
 abbrev pub pair_named : Dictionary → List ℕ → Named → Option Pair
 pair_named dictionary text name =
     option_map (pair_with name) (result_ok (value_spelled name text dictionary))
+
+-- what a text is refused for under a known name
+abbrev pub refusal_named : Dictionary → List ℕ → Named → Option ValueFault
+refusal_named dictionary text name = result_err (value_spelled name text dictionary)
 
 -- the pair of an assignment, by what names stand for, and by what texts stand for under them
 abbrev pub pair_assigned : {T : Type 0} → (List ℕ → Option T) → (T → List ℕ → Option Pair)

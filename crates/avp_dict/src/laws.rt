@@ -1,7 +1,7 @@
 //! Laws of every dictionary, as calls that do nothing: their contracts are what they are for.
 
 ghost use Rattle.std.specs.Prelude.{IsTrue};
-ghost use Rattle.avp_dict.specs.Laws.{ReadsBack, SpelledPairsFit, SpelledValuesClean, is_writable};
+ghost use Rattle.avp_dict.specs.Laws.{IsRefusedOnce, ReadsBack, SpelledPairsFit, SpelledValuesClean, is_writable};
 ghost use Rattle.avp_dict.specs.Soundness.{HasKnownFormats, IsSound, NamesKnown};
 ghost use Rattle.avp_dict.specs.internal.Ranges.{AreOctets, IsIdInRange, IsValueInRange};
 
@@ -72,6 +72,12 @@ impl Dictionary {
     {
         self.sound();
     }
+
+    /// The fault that [`read_request`](Dictionary::read_request) tells of a text is the only one that it can tell, want
+    /// of memory aside: no other place is the first refused one.
+    pub fn refused_once(&self, text: &[u8])
+        ensures { IsRefusedOnce self.now text.now }
+    {}
 
     /// The pair of a name and a text that stands for a value under it fits.
     #[tactic(auto, using(crate::proofs::Fitting::spelled_fits))]

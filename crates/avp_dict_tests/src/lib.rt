@@ -6,6 +6,8 @@ mod files;
 #[cfg(test)]
 mod forms;
 #[cfg(test)]
+mod refused_places;
+#[cfg(test)]
 mod requests;
 #[cfg(test)]
 mod values;

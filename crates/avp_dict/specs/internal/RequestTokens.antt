@@ -1,5 +1,5 @@
 -- What the code's tokens stand for.
-use Rattle.std.specs.Prelude.{ℕ, Bool, false, ◌||◌, ◌==◌, List, [], ◌∷◌}
+use Rattle.std.specs.Prelude.{ℕ, Bool, true, false, not, ◌||◌, ◌==◌, List, [], ◌∷◌}
 use Rattle.avp_dict.specs.Ascii.{double_quote, single_quote}
 use Rattle.avp_dict.specs.declared.request.tokens.Side.{Side}
 use Rattle.avp_dict.specs.declared.request.tokens.Side.TheVariants.{Name, Value}
@@ -31,3 +31,12 @@ begins_blank (o ∷ os) = is_blank o
 abbrev pub ends_run : Side → ℕ → Bool
 ends_run side o = is_hash o || is_blank o || is_comma o || o == double_quote || o == single_quote
     || is_sign side o
+
+abbrev pub begins_run : Side → List ℕ → Bool
+begins_run side [] = false
+begins_run side (o ∷ os) = not (ends_run side o)
+
+-- all but a quote that nothing ends
+abbrev pub is_ended : Token → Bool
+is_ended Unended = false
+is_ended token = true

@@ -1,6 +1,7 @@
 //! The request of a text of lines.
 
 ghost use Rattle.std.specs.Prelude.{◌≡◌, ◌≢◌, ℕ, ◌≤◌, ◌<◌, ◌++◌, ◌∷◌, [], Some, None, true, false, IfOk, IfErr, OnOk, OnErr, IfSome, MatchOption, length, take, List, All, IsTrue};
+ghost use Rattle.std.specs.Option.{option_and_then};
 ghost use Rattle.std.specs.List.{before_first, after_first, list_all};
 ghost use Rattle.avp_lists.specs.Meets.{Finds, Unless};
 ghost use Rattle.avp_lists.specs.States.{max_pairs};
@@ -9,14 +10,14 @@ ghost use Rattle.avp_dict.specs.Limits.{fits};
 ghost use Rattle.avp_dict.specs.LineNumbers.{line_after};
 ghost use Rattle.avp_dict.specs.Lines.{is_line_end, texts_of};
 ghost use Rattle.avp_dict.specs.Outcomes.{is_memory_line};
-ghost use Rattle.avp_dict.specs.RefusedPlaces.{IsRefusedAt, IsValueKind, is_before_filled, line_from};
-ghost use Rattle.avp_dict.specs.RequestLines.{Run, is_blank_line, is_idle_line, pairs_of, tokens_at, without_front};
+ghost use Rattle.avp_dict.specs.RefusedPlaces.{IsRefusedAfter, IsRefusedAt, is_before_filled};
+ghost use Rattle.avp_dict.specs.RequestLines.{Comma, is_blank_line, is_idle_line, pairs_of, tokens_at, value_text, without_front};
 ghost use Rattle.avp_dict.specs.Names.{named};
-ghost use Rattle.avp_dict.specs.Requests.{pair_assigned, pair_named, request_by, request_spelled};
+ghost use Rattle.avp_dict.specs.Requests.{pair_assigned, pair_named, refusal_named, request_by, request_spelled};
 ghost use Rattle.avp_dict.specs.Sent.{is_clean};
-ghost use Rattle.avp_dict.specs.internal.LineEnds.{IsCountKind, IsEnd, IsRefusedEnd, last_of, line_left, refused_from};
+ghost use Rattle.avp_dict.specs.internal.LineEnds.{IsCountKind, IsEnd, IsIdleRead, IsLexed, IsNoComma, IsPairRead, IsRefusedEnd, IsRefusedLine, IsRefusedPair, IsRefusedText, IsRefusedToken, refused_from};
 ghost use Rattle.avp_dict.specs.internal.LineReading.{IsNoRequest, after_pairs, assigned_after, pair_of_token, pairs_after, pairs_at};
-ghost use Rattle.avp_dict.specs.internal.RequestTokens.{side_after, token_view};
+ghost use Rattle.avp_dict.specs.internal.RequestTokens.{is_ended, side_after, token_view};
 
 use crate::dictionaries::Dictionary;
 use crate::file::lines::split_line;
@@ -60,7 +61,7 @@ fn is_idle_line(line: &[u8]) -> bool
 // The text from its first line on that holds more than blanks and a comment.
 fn without_idle_lines(text: &[u8]) -> &[u8]
     ensures lines { texts_of result.now ≡ without_front is_idle_line (texts_of text.now) }
-    ensures end { IsEnd result.now text.now }
+    ensures idle { IsIdleRead text.now result.now }
 {
     let mut rest = text;
     while let Some((line, after)) = next_line(rest)
@@ -71,22 +72,35 @@ fn without_idle_lines(text: &[u8]) -> &[u8]
     rest
 }
 
+// What a line that holds more than a comment is refused for after the end of a packet.
+fn kind_after_packet(line: &[u8]) -> LineKind
+    requires { is_idle_line line.now ≡ false }
+    ensures { IsRefusedAfter result (tokens_at Side.Name line.now) }
+{
+    match next_token(Side::Name, line) {
+        Some((first, _)) => {
+            if first.is_run() {
+                LineKind::SecondPacket
+            } else {
+                LineKind::Unreadable
+            }
+        }
+        None => LineKind::Unreadable,
+    }
+}
+
 // What may follow the line that ends a packet: nothing but blanks and comments.
 fn end_of_packet(rest: &[u8]) -> Result<(), Refusal>
     ensures ok { OnOk result (list_all is_idle_line (texts_of rest.now) ≡ true) }
     ensures err { OnErr result (list_all is_idle_line (texts_of rest.now) ≡ false) }
     ensures within { IfErr result (λ refusal. refusal.left ≤ length rest.now) }
-    ensures place { IfErr result (λ refusal.
-        IsRefusedEnd (line_left rest.now) refusal.kind refusal.left) }
+    ensures place { IfErr result (λ refusal. IsRefusedEnd rest.now refusal.kind refusal.left) }
 {
     let rest = without_idle_lines(rest);
     let Some((line, _)) = next_line(rest) else {
         return Ok(());
     };
-    match next_token(Side::Name, line) {
-        Some((Token::Run(_), _)) => Err(LineKind::SecondPacket.at(rest.len())),
-        _ => Err(LineKind::Unreadable.at(rest.len())),
-    }
+    Err(kind_after_packet(line).at(rest.len()))
 }
 
 // What follows a pair on its line: the text after a comma, or nothing.
@@ -95,10 +109,12 @@ fn after_pair(rest: &[u8]) -> Result<&[u8], Refusal>
     ensures read { IfOk result (λ after. assigned_after (tokens_at Side.Value rest.now)
         ≡ pairs_of (tokens_at Side.Name after.now)) }
     ensures shorter { IfOk result (λ after. length after.now ≤ length rest.now) }
-    ensures end { IfOk result (λ after. IsEnd after.now rest.now) }
+    ensures lexed { IfOk result (λ after. 0 < length after.now → IsLexed Side.Value rest.now
+        (Comma ∷ []) Side.Name after.now) }
     ensures refused { OnErr result (assigned_after (tokens_at Side.Value rest.now) ≡ None) }
+    ensures no_comma { OnErr result (IsNoComma (tokens_at Side.Value rest.now)) }
     ensures kind { IfErr result (λ refusal. refusal.kind ≡ LineKind.Unreadable) }
-    ensures within { IfErr result (λ refusal. refusal.left ≤ length rest.now) }
+    ensures left { IfErr result (λ refusal. refusal.left ≡ length rest.now) }
 {
     match next_token(Side::Value, rest) {
         None => Ok(&[]),
@@ -134,6 +150,23 @@ fn push_pair(pairs: &mut Vec<Pair>, pair: Pair) -> Result<(), LineKind>
     Ok(())
 }
 
+// The pair of what a name stands for and a text.
+fn pair_of_text<R: PairReader>(
+    reader: &R,
+    alloc: Global,
+    target: R::Target,
+    text: &[u8],
+) -> Result<Pair, LineKind>
+    ensures pair { Finds is_memory_line result (R.pair_of reader.now target text.now) }
+    ensures refused { IfErr result (λ kind.
+        IsRefusedText (R.refusal_of reader.now target text.now) kind) }
+{
+    match reader.pair(alloc, target, text) {
+        Ok(pair) => Ok(pair),
+        Err(fault) => Err(LineKind::from(fault)),
+    }
+}
+
 // The pair of what a name stands for and the token of its value.
 fn pair_of_token<R: PairReader>(
     reader: &R,
@@ -143,14 +176,16 @@ fn pair_of_token<R: PairReader>(
 ) -> Result<Pair, LineKind>
     ensures pair { Finds is_memory_line result
         (pair_of_token (R.pair_of reader.now) target (token_view token.entry)) }
-    ensures kind { IfErr result IsValueKind }
+    ensures refused { IfErr result (λ kind. IsRefusedToken (token_view token.entry)
+        (option_and_then (R.refusal_of reader.now target) (value_text (token_view token.entry)))
+        kind) }
 {
     match token {
         Token::Run([b'=', ..]) => Err(LineKind::Unreadable),
-        Token::Run(text) => reader.pair(alloc, target, text),
+        Token::Run(text) => pair_of_text(reader, alloc, target, text),
         Token::Quoted(mark, text) => {
             let octets = octets_between(alloc, mark, text)?;
-            reader.pair(alloc, target, &octets)
+            pair_of_text(reader, alloc, target, &octets)
         }
         Token::Comma | Token::Sign | Token::Unended => Err(LineKind::Unreadable),
     }
@@ -167,7 +202,9 @@ fn read_pair<'a, R: PairReader>(
 ) -> Result<(Pair, &'a [u8]), Refusal>
     requires token { tokens_at Side.Name line.now
         ≡ token_view first ∷ tokens_at (side_after Side.Name first) rest.now }
-    requires end { IsEnd rest.now line.now }
+    requires lexed { is_ended (token_view first) ≡ true → IsLexed Side.Name line.now
+        (token_view first ∷ []) (side_after Side.Name first) rest.now }
+    requires shorter { length rest.now ≤ length line.now }
     ensures read { IfOk result (λ x.
         pairs_at (pair_assigned (R.target_of reader.now) (R.pair_of reader.now))
         (token_view first.entry ∷ tokens_at (side_after Side.Name first.entry) rest.now)
@@ -180,11 +217,12 @@ fn read_pair<'a, R: PairReader>(
         (pairs_at (pair_assigned (R.target_of reader.now) (R.pair_of reader.now))
         (token_view first.entry ∷ tokens_at (side_after Side.Name first.entry) rest.now)
         ≡ None)) }
-    ensures name { OnOk result ((name : List ℕ) × (token_view first.entry ≡ Run name)) }
-    ensures end { IfOk result (λ x. IsEnd x.1.now line.now) }
+    ensures pair { IfOk result (λ x. IsPairRead (R.target_of reader.now) (R.pair_of reader.now)
+        line.now x.0 x.1.now) }
     ensures within { IfErr result (λ refusal. refusal.left ≤ length line.now) }
-    ensures place { IfErr result (λ refusal. IsRefusedAt (last_of line.now)
-        (R.target_of reader.now) (R.pair_of reader.now) refusal.kind refusal.left) }
+    ensures place { IfErr result (λ refusal. Unless (is_memory_line refusal.kind) ((count : ℕ)
+        → IsRefusedPair (R.target_of reader.now) (R.pair_of reader.now) (R.refusal_of reader.now)
+        count line.now refusal.kind refusal.left)) }
 {
     let Token::Run(name) = first else {
         return Err(LineKind::Unreadable.at(line.len()));
@@ -221,8 +259,9 @@ fn read_line<R: PairReader>(
         (pairs_at (pair_assigned (R.target_of reader.now) (R.pair_of reader.now))
         (tokens_at Side.Name line.now))) }
     ensures within { IfErr result (λ refusal. refusal.left ≤ length line.now) }
-    ensures place { IfErr result (λ refusal. IsRefusedAt (last_of line.now)
-        (R.target_of reader.now) (R.pair_of reader.now) refusal.kind refusal.left) }
+    ensures place { IfErr result (λ refusal. Unless (is_memory_line refusal.kind)
+        (IsRefusedLine (R.target_of reader.now) (R.pair_of reader.now) (R.refusal_of reader.now)
+        pairs.old.items line.now refusal.kind refusal.left)) }
 {
     let mut rest = line;
     while let Some((first, after)) = next_token(Side::Name, rest) {
@@ -259,8 +298,8 @@ pub fn read_pairs<R: PairReader>(
     ensures within { IfErr result (λ fault. fault.offset ≤ length text.now) }
     ensures line { IfErr result (λ fault. fault.line ≡ line_after (take fault.offset text.now)) }
     ensures filled { IfErr result (λ fault. is_before_filled fault.offset text.now ≡ true) }
-    ensures place { IfErr result (λ fault. IsRefusedAt (line_from text.now)
-        (R.target_of reader.now) (R.pair_of reader.now) fault.kind fault.offset) }
+    ensures place { IfErr result (λ fault. IsRefusedAt (R.target_of reader.now)
+        (R.pair_of reader.now) (R.refusal_of reader.now) text.now fault.kind fault.offset) }
 {
     let mut pairs = Vec::new(alloc);
     let mut rest = without_idle_lines(text);
@@ -309,9 +348,10 @@ impl Dictionary {
         ensures line { IfErr result (λ fault.
             fault.line ≡ line_after (take fault.offset text.now)) }
         ensures filled { IfErr result (λ fault. is_before_filled fault.offset text.now ≡ true) }
-        ensures place { IfErr result (λ fault. IsRefusedAt (line_from text.now)
-            (λ name. named name self.now) (λ target value. pair_named self.now value target)
-            fault.kind fault.offset) }
+        ensures place { IfErr result (λ fault. IsRefusedAt (λ name. named name self.now)
+            (λ target value. pair_named self.now value target)
+            (λ target value. refusal_named self.now value target) text.now fault.kind
+            fault.offset) }
     {
         // That each pair fits rests on what holds of the lines of every dictionary.
         self.sound();

@@ -2,7 +2,7 @@
 
 use crate::dictionaries::Dictionary;
 use crate::entries::Named;
-use crate::request::faults::LineKind;
+use crate::value::faults::ValueFault;
 use avp_lists::Pair;
 use std::alloc::Global;
 
@@ -11,11 +11,11 @@ pub trait PairReader {
     /// What a name stands for.
     type Target: Copy;
 
-    ghost use Rattle.std.specs.Prelude.{◌≡◌, ℕ, IfErr, List, Option};
-    ghost use Rattle.avp_lists.specs.Meets.{Finds};
+    ghost use Rattle.std.specs.Prelude.{◌≡◌, ℕ, IfErr, List, Option, Some};
+    ghost use Rattle.avp_lists.specs.Meets.{Finds, Unless};
     ghost use Rattle.avp_lists.specs.declared.pairs.Pair.{Pair};
-    ghost use Rattle.avp_dict.specs.Outcomes.{is_memory_line};
-    ghost use Rattle.avp_dict.specs.RefusedPlaces.{IsValueKind};
+    ghost use Rattle.avp_dict.specs.Outcomes.{is_memory_value};
+    ghost use Rattle.avp_dict.specs.declared.value.faults.ValueFault.{ValueFault};
 
     /// What names stand for.
     ghost target_of: { Self → List ℕ → Option Self.Target };
@@ -23,31 +23,37 @@ pub trait PairReader {
     /// The pairs of texts.
     ghost pair_of: { Self → Self.Target → List ℕ → Option Pair };
 
+    /// What texts are refused for that have no pair.
+    ghost refusal_of: { Self → Self.Target → List ℕ → Option ValueFault };
+
     /// What a name stands for.
     fn target(&self, name: &[u8]) -> Option<Self::Target>
         ensures { result ≡ target_of self.now name.now };
 
     /// The pair of what a name stands for and a text.
-    fn pair(&self, alloc: Global, target: Self::Target, text: &[u8]) -> Result<Pair, LineKind>
-        ensures pair { Finds is_memory_line result (pair_of self.now target text.now) }
-        ensures kind { IfErr result IsValueKind };
+    fn pair(&self, alloc: Global, target: Self::Target, text: &[u8]) -> Result<Pair, ValueFault>
+        ensures pair { Finds is_memory_value result (pair_of self.now target text.now) }
+        ensures refusal { IfErr result (λ fault. Unless (is_memory_value fault)
+            (refusal_of self.now target text.now ≡ Some fault)) };
 }
 
 impl PairReader for Dictionary {
     type Target = Named;
 
     ghost use Rattle.avp_dict.specs.Names.{named};
-    ghost use Rattle.avp_dict.specs.Requests.{pair_named};
+    ghost use Rattle.avp_dict.specs.Requests.{pair_named, refusal_named};
 
     ghost target_of = { λ dictionary name. named name dictionary };
 
     ghost pair_of = { λ dictionary target text. pair_named dictionary text target };
 
+    ghost refusal_of = { λ dictionary target text. refusal_named dictionary text target };
+
     fn target(&self, name: &[u8]) -> Option<Named> {
         self.by_name(name)
     }
 
-    fn pair(&self, alloc: Global, target: Named, text: &[u8]) -> Result<Pair, LineKind> {
+    fn pair(&self, alloc: Global, target: Named, text: &[u8]) -> Result<Pair, ValueFault> {
         let value = self.value_of_text(alloc, target, text)?;
         Ok(Pair {
             id: target.id,

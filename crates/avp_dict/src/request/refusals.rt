@@ -1,15 +1,13 @@
 //! What a line of a request was refused for, and where.
 
-ghost use Rattle.std.specs.Prelude.{◌≡◌, ◌≤◌, ◌+◌, length, take, true};
+ghost use Rattle.std.specs.Prelude.{◌≡◌, ◌≤◌, ◌+◌, ◌-◌, length, take, true};
 ghost use Rattle.avp_dict.specs.LineNumbers.{line_after};
-ghost use Rattle.avp_dict.specs.RefusedPlaces.{is_before_filled, line_from};
-ghost use Rattle.avp_dict.specs.RequestLines.{tokens_at};
-ghost use Rattle.avp_dict.specs.internal.LineEnds.{line_left};
+ghost use Rattle.avp_dict.specs.RefusedPlaces.{is_before_filled};
+ghost use Rattle.avp_dict.specs.internal.LineEnds.{IsPastBlanks};
 
 use crate::file::words::is_blank;
 use crate::line_numbers::line_after;
 use crate::request::faults::{LineFault, LineKind};
-use crate::request::tokens::Side;
 
 // What a line was refused for, and how many of its octets are left there.
 #[derive(Clone, Copy)]
@@ -33,8 +31,7 @@ fn filled_from(text: &[u8], offset: usize) -> usize
     requires { offset ≤ length text.now }
     ensures within { result ≤ length text.now }
     ensures filled { is_before_filled result text.now ≡ true }
-    ensures tokens { (side : Side) → tokens_at side (line_from text.now result)
-        ≡ tokens_at side (line_from text.now offset) }
+    ensures blanks { IsPastBlanks text.now offset result }
 {
     let mut place = offset;
     while let Some(octet) = text.get(place)
@@ -53,8 +50,8 @@ impl Refusal {
         ensures within { result.offset ≤ length text.now }
         ensures line { result.line ≡ line_after (take result.offset text.now) }
         ensures filled { is_before_filled result.offset text.now ≡ true }
-        ensures tokens { (side : Side) → tokens_at side (line_from text.now result.offset)
-            ≡ tokens_at side (line_left text.now (self.left + after)) }
+        ensures blanks { IsPastBlanks text.now (length text.now - (self.left + after))
+            result.offset }
     {
         let offset = filled_from(text, text.len() - (self.left + after));
         LineFault {

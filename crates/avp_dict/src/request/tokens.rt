@@ -1,10 +1,11 @@
 //! Tokens of request lines.
 
-ghost use Rattle.std.specs.Prelude.{◌≡◌, ◌∷◌, [], ◌<◌, ◌≤◌, ◌+◌, MatchOption, IfSome, length, take, drop, false};
+ghost use Rattle.std.specs.Prelude.{◌≡◌, ℕ, ◌∷◌, [], ◌++◌, ◌<◌, ◌≤◌, ◌+◌, MatchOption, IfSome, List, length, take, drop, true, false};
 ghost use Rattle.std.specs.List.{position, position_or_len};
+ghost use Rattle.avp_dict.specs.RefusedPlaces.{is_run};
 ghost use Rattle.avp_dict.specs.RequestLines.{Between, Outside, Quoted, Run, Unended, quote_octet, tokens_at, tokens_from};
-ghost use Rattle.avp_dict.specs.internal.LineEnds.{IsEnd};
-ghost use Rattle.avp_dict.specs.internal.RequestTokens.{begins_blank, ends_run, side_after, token_view};
+ghost use Rattle.avp_dict.specs.internal.LineEnds.{IsBlanksBefore, IsLexed};
+ghost use Rattle.avp_dict.specs.internal.RequestTokens.{begins_blank, ends_run, is_ended, side_after, token_view};
 
 use crate::file::words::is_blank;
 use crate::value::quotes::QuoteMark;
@@ -30,6 +31,14 @@ pub enum Token<'a> {
     Unended,
 }
 
+impl Token<'_> {
+    pub(crate) fn is_run(self) -> bool
+        ensures { result ≡ is_run (token_view self.entry) }
+    {
+        matches!(self, Token::Run(_))
+    }
+}
+
 fn first_octet(octets: &[u8]) -> Option<(u8, &[u8])>
     ensures { MatchOption result (octets.now ≡ []) (λ x. octets.now ≡ x.0 ∷ x.1.now) }
 {
@@ -39,12 +48,11 @@ fn first_octet(octets: &[u8]) -> Option<(u8, &[u8])>
     }
 }
 
-#[tactic(auto, using(crate::proofs::LineEnds::whole_end))]
 fn without_blanks(side: Side, line: &[u8]) -> &[u8]
     ensures tokens { tokens_at side result.now ≡ tokens_at side line.now }
     ensures filled { begins_blank result.now ≡ false }
     ensures shorter { length result.now ≤ length line.now }
-    ensures end { IsEnd result.now line.now }
+    ensures blanks { IsBlanksBefore result.now line.now }
 {
     let mut rest = line;
     while let Some((octet, after)) = first_octet(rest)
@@ -77,7 +85,6 @@ fn cut_run(side: Side, octets: &[u8]) -> (Token<'_>, &[u8])
         (take (position_or_len (ends_run side) octets.now) octets.now) }
     ensures side { side_after side result.0 ≡ side }
     ensures rest { result.1.now ≡ drop (position_or_len (ends_run side) octets.now) octets.now }
-    ensures end { IsEnd result.1.now octets.now }
 {
     match run_end(side, octets) {
         Some(end) => (Token::Run(&octets[..end]), &octets[end..]),
@@ -99,9 +106,8 @@ impl QuoteMark {
 // Where the text ends whose first quote is before the octets: at its next quote with no `\` of its own before it.
 fn text_end(mark: QuoteMark, octets: &[u8]) -> Option<usize>
     ensures text { MatchOption result (tokens_from (Between mark) octets.now ≡ Unended ∷ [])
-        (λ end. tokens_from (Between mark) octets.now
-        ≡ Quoted mark (take end octets.now)
-        ∷ tokens_from (Outside Side.Value) (drop (end + 1) octets.now)) }
+        (λ end. (more : List ℕ) → tokens_from (Between mark) (take (end + 1) octets.now ++ more)
+        ≡ Quoted mark (take end octets.now) ∷ tokens_from (Outside Side.Value) more) }
     ensures within { IfSome result (λ end. end < length octets.now) }
 {
     let mut is_escaped = false;
@@ -122,7 +128,9 @@ fn cut_quoted(mark: QuoteMark, octets: &[u8]) -> (Token<'_>, &[u8])
     ensures token { (side : Side) → tokens_at side (quote_octet mark ∷ octets.now)
         ≡ token_view result.0 ∷ tokens_at (side_after side result.0) result.1.now }
     ensures shorter { length result.1.now ≤ length octets.now }
-    ensures end { IsEnd result.1.now octets.now }
+    ensures lexed { (side : Side) → is_ended (token_view result.0) ≡ true → IsLexed side
+        (quote_octet mark ∷ octets.now) (token_view result.0 ∷ []) (side_after side result.0)
+        result.1.now }
 {
     match text_end(mark, octets) {
         Some(end) => (Token::Quoted(mark, &octets[..end]), &octets[end + 1..]),
@@ -136,7 +144,8 @@ pub fn next_token(side: Side, line: &[u8]) -> Option<(Token<'_>, &[u8])>
     ensures token { MatchOption result (tokens_at side line.now ≡ [])
         (λ x. tokens_at side line.now ≡ token_view x.0 ∷ tokens_at (side_after side x.0) x.1.now) }
     ensures shorter { IfSome result (λ x. length x.1.now < length line.now) }
-    ensures end { IfSome result (λ x. IsEnd x.1.now line.now) }
+    ensures lexed { IfSome result (λ x. is_ended (token_view x.0) ≡ true → IsLexed side line.now
+        (token_view x.0 ∷ []) (side_after side x.0) x.1.now) }
 {
     let filled = without_blanks(side, line);
     match first_octet(filled) {

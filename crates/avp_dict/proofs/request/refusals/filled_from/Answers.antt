@@ -1,7 +1,10 @@
-use Rattle.std.proofs.Common.{◌≡◌, ◌≤◌, ◌<◌, ◌∙◌, ◌+◌, length, get_or, true, false, rules}
+use Rattle.std.proofs.Common.{◌≡◌, ◌≤◌, ◌<◌, ◌+◌, length, get_or, true, false, rules}
 use Rattle.avp_dict.specs.Words.{is_blank}
-use Rattle.avp_dict.proofs.RefusedLines.{blank_at, filled_at, filled_past}
+use Rattle.avp_dict.proofs.RefusedLines.{filled_at, filled_past, past_more, past_none}
 use Rattle.avp_dict.proofs.request.refusals.filled_from.Goals as goal
+
+pub loop-octet-init : goal.loop-octet-init
+loop-octet-init c = record { within = c.requires; blanks = past_none c.args.text.now c.args.offset }
 
 pub loop-octet-preserved : goal.loop-octet-preserved
 loop-octet-preserved c =
@@ -11,7 +14,7 @@ loop-octet-preserved c =
     let it : c.in-Some.octet.now ≡ get_or c.args.text.now c.loop-octet.place 0 = search rules in
     record {
       within = within;
-      tokens = λ side. blank_at side c.args.text.now c.loop-octet.place c.in-Some.octet.now there it blank ∙ c.loop-octet.invariant.tokens side;
+      blanks = past_more c.args.text.now c.args.offset c.loop-octet.place c.in-Some.octet.now there it blank c.loop-octet.invariant.blanks;
     }
 
 pub returns-in-loop-octet-clause-filled : goal.returns-in-loop-octet-clause-filled
@@ -25,3 +28,9 @@ returns-else-is_blank-clause-filled c =
     let there : c.loop-octet.place < length c.args.text.now = search rules in
     let it : c.in-Some.octet.now ≡ get_or c.args.text.now c.loop-octet.place 0 = search rules in
     filled_at c.args.text.now c.loop-octet.place c.in-Some.octet.now there it filled
+
+pub returns-in-loop-octet-clause-blanks : goal.returns-in-loop-octet-clause-blanks
+returns-in-loop-octet-clause-blanks c = c.loop-octet.invariant.blanks
+
+pub returns-else-is_blank-clause-blanks : goal.returns-else-is_blank-clause-blanks
+returns-else-is_blank-clause-blanks c = c.loop-octet.invariant.blanks
