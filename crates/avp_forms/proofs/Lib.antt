@@ -11,6 +11,7 @@ pub mod OctetsMeant
 pub mod PlainPairs
 pub mod PrefixTexts
 pub mod PrintedPairs
+pub mod RefusedOnce
 pub mod Segments
 pub mod SpelledForms
 pub mod TaggedNames

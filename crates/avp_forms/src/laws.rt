@@ -5,9 +5,11 @@ ghost use Rattle.avp_dict.specs.Laws.{is_writable};
 ghost use Rattle.avp_forms.specs.AddressLaws.{ReadsEachAddress, ReadsNoOther};
 ghost use Rattle.avp_forms.specs.Laws.{PrintsOctets, ReadsBack, WrittenValuesFit};
 ghost use Rattle.avp_forms.specs.PairLaws.{PairReadsBack};
+ghost use Rattle.avp_forms.specs.Requests.{IsRefusedOnce};
 ghost use Rattle.avp_forms.specs.Values.{is_proper};
 ghost use Rattle.avp_forms.specs.internal.Ranges.{AreBytesInRange, AreOctets, IsInRange};
 
+use crate::profiles::Profile;
 use crate::values::FormValue;
 use avp_dict::{Dictionary, Form};
 use avp_lists::{AttrId, Pair, Value};
@@ -90,3 +92,10 @@ pub fn pair_read_back(dictionary: &Dictionary, pair: &Pair)
     dictionary.printed_back(pair);
     bytes_in_range(&pair.value);
 }
+
+/// The fault that [`read_request`](crate::read_request) tells of a text is the only one that it can tell, want of memory
+/// aside: no other place is the first refused one.
+#[tactic(auto, using(crate::proofs::RefusedOnce::refused_once_in))]
+pub fn refused_once(dictionary: &Dictionary, profile: Profile, zone: Option<i16>, text: &[u8])
+    ensures { IsRefusedOnce profile zone dictionary.now text.now }
+{}

@@ -21,7 +21,9 @@ mod values;
 mod written;
 
 pub use dates::offset_spelled;
-pub use laws::{octets_read_back, pair_read_back, reads_addresses, written_values_fit};
+pub use laws::{
+    octets_read_back, pair_read_back, reads_addresses, refused_once, written_values_fit,
+};
 pub use orders::{order_by_meaning, other_octets};
 pub use printing::{printed_pair_name, printed_pair_text};
 pub use profiles::{Profile, profile_of};

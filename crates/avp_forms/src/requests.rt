@@ -12,7 +12,7 @@ ghost use Rattle.avp_forms.specs.Requests.{IsRefusedIn, request_written};
 use crate::profiles::Profile;
 use crate::targets::{Target, target_of};
 use crate::written::value_written;
-use avp_dict::{Dictionary, LineFault, LineKind, PairReader, read_pairs};
+use avp_dict::{Dictionary, LineFault, LineKind, PairReader, ValueFault, read_pairs};
 use avp_lists::Pair;
 use std::alloc::Global;
 
@@ -26,7 +26,7 @@ struct WiderReader<'a> {
 impl PairReader for WiderReader<'_> {
     type Target = Target;
 
-    ghost use Rattle.avp_forms.specs.Requests.{pair_written};
+    ghost use Rattle.avp_forms.specs.Requests.{pair_written, refusal_written};
     ghost use Rattle.avp_forms.specs.Targets.{target_of};
     ghost use Rattle.avp_forms.specs.declared.profiles.Profile.TheVariants.{Wider};
 
@@ -35,11 +35,14 @@ impl PairReader for WiderReader<'_> {
     ghost pair_of = { λ reader target text.
         pair_written reader.zone reader.dictionary.now target text };
 
+    ghost refusal_of = { λ reader target text.
+        refusal_written reader.zone reader.dictionary.now target text };
+
     fn target(&self, name: &[u8]) -> Option<Target> {
         target_of(self.dictionary, Profile::Wider, name)
     }
 
-    fn pair(&self, alloc: Global, target: Target, text: &[u8]) -> Result<Pair, LineKind> {
+    fn pair(&self, alloc: Global, target: Target, text: &[u8]) -> Result<Pair, ValueFault> {
         let value = value_written(
             alloc,
             self.dictionary,

@@ -8,4 +8,6 @@ mod octets;
 #[cfg(test)]
 mod profiles;
 #[cfg(test)]
+mod refused_places;
+#[cfg(test)]
 mod texts;
