@@ -19,7 +19,7 @@ use crate::file::files::NamedFile;
 use crate::file::lines::{Line, MAX_LEVELS, octets_at, place_included, split_line};
 use crate::file::meanings::{Meaning, Reading};
 use crate::file::readings::read_words;
-use crate::file::words::words;
+use crate::file::words::replace_words;
 use std::alloc::Global;
 
 /// Lines as they were read, and what they leave for the next one.
@@ -141,9 +141,10 @@ impl<'a> ReadLines<'a> {
         let depth = MAX_LEVELS - levels;
         let mut rest = octets_at(files, place);
         let mut number = 1;
+        let mut words = Vec::new(alloc);
         while !rest.is_empty() {
             let (text, after) = split_line(rest);
-            let words = words(alloc, text)?;
+            replace_words(&mut words, text)?;
             let included = place_included(files, &words);
             let line = Line {
                 file: place,

@@ -63,26 +63,38 @@ fn push_part<'a>(words: &mut Vec<&'a [u8]>, part: &'a [u8]) -> Result<(), AllocE
     Ok(())
 }
 
+// Adds what is between spaces, tabs and CRs.
+fn push_words<'a>(words: &mut Vec<&'a [u8]>, plain: &'a [u8]) -> Result<(), AllocError>
+    ensures { OnOk result (views words.new.items
+        ≡ views words.old.items ++ filter is_word (slice_split is_blank plain.now)) }
+{
+    let mut rest = plain;
+    while let Some((part, after)) = first_part(rest) {
+        push_part(words, part)?;
+        rest = after;
+    }
+    push_part(words, rest)
+}
+
 /// What is between spaces, tabs and CRs.
 pub fn words_between_blanks(alloc: Global, plain: &[u8]) -> Result<Vec<&[u8]>, AllocError>
     ensures { IfOk result (λ words. views words.items
         ≡ filter is_word (slice_split is_blank plain.now)) }
 {
     let mut words = Vec::new(alloc);
-    let mut rest = plain;
-    while let Some((part, after)) = first_part(rest) {
-        push_part(&mut words, part)?;
-        rest = after;
-    }
-    push_part(&mut words, rest)?;
+    push_words(&mut words, plain)?;
     Ok(words)
 }
 
-/// The words of a line.
-pub(crate) fn words(alloc: Global, text: &[u8]) -> Result<Vec<&[u8]>, AllocError>
-    ensures { IfOk result (λ words. views words.items ≡ words_of text.now) }
+/// Puts the words of a line in place of those of the line before it, in the same room.
+pub(crate) fn replace_words<'a>(
+    words: &mut Vec<&'a [u8]>,
+    text: &'a [u8],
+) -> Result<(), AllocError>
+    ensures { OnOk result (views words.new.items ≡ words_of text.now) }
 {
-    words_between_blanks(alloc, without_comment(text))
+    words.clear();
+    push_words(words, without_comment(text))
 }
 
 pub(crate) fn lower(octet: u8) -> u8

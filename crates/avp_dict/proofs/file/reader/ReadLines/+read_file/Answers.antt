@@ -46,7 +46,7 @@ returns-in_err-read_file-clause-refused t c = λ ls.
     below c.args.place (9 - c.args.levels) c.loop-rest.number rest text c.split_line.result.1.now more c.split_line.ensures.line c.split_line.ensures.rest c.loop-rest.invariant.so_far ls in
     let following : List Line = expanded below c.args.place (9 - c.args.levels) (c.loop-rest.number + 1) (texts_of c.split_line.result.1.now) in
     let middle = read_lines c.args.limit files (reading_views c.read_next.new.self.readings.items) in
-    let words = ap views c.deref.ensures.value ∙ c.in_ok-words.ensures in
+    let words = ap views c.deref.ensures.value ∙ c.in_ok-replace_words.ensures in
     let is : file_included files text ≡ Some c.in-Some.below = sym (c.place_included-included.ensures ∙ ap (λ ws. option_and_then (λ name. file_named name files) (included_by ws)) words) ∙ c.in-Some.is in
     let under = below_some files (c.args.levels - 1) text c.in-Some.below is in
     rw (p.1, p.2) (subst (λ read. Unless (is_memory c.in_err-read_file.field-0.0) (read ≡ Err c.in_err-read_file.field-0.0)) (ap (λ xs. middle (xs ++ (following ++ ls))) (sym under) ∙ (sym (c.in_ok-read_next.ensures.step _) ∙ whole)) (c.in_err-read_file.ensures.refused (following ++ ls)))
@@ -61,7 +61,7 @@ loop-rest-preserved t c =
     let first = read_lines c.args.limit files (reading_views c.loop-rest.self.readings.items) in
     let all = λ (xs : List Line). read_lines c.args.limit files (reading_views c.args.self.now.readings.items) (lines_in files c.args.levels c.args.place ++ xs) in
     let middle = read_lines c.args.limit files (reading_views c.read_next.new.self.readings.items) in
-    let words = ap views c.deref.ensures.value ∙ c.in_ok-words.ensures in
+    let words = ap views c.deref.ensures.value ∙ c.in_ok-replace_words.ensures in
     let included = sym (c.place_included-included.ensures ∙ ap (λ ws. option_and_then (λ name. file_named name files) (included_by ws)) words) in
     elim c.match-included.branch [
       | in-Some+in_ok-read_file w ↦ record {
