@@ -1,11 +1,11 @@
 //! ATTRIBUTE lines.
 
 ghost use Rattle.std.specs.Prelude.{◌≡◌, ◌≤◌, ℕ, Option, Some, None, if◌then◌else◌, IsTrue};
-ghost use Rattle.std.specs.List.{list_all};
+ghost use Rattle.std.specs.List.{list_all, slice_split};
 ghost use Rattle.avp_lists.specs.declared.pairs.AttrId.TheVariants.{Extended};
 ghost use Rattle.avp_lists.specs.Meets.{Meets};
 ghost use Rattle.avp_dict.specs.Attributes.{attribute, attribute_line, attribute_of, id_of_dotted, id_of_parts, is_attribute_name, is_extended_id, is_held, is_number, is_of_other_id, id_of_more, max_in, number_id, id_of_number, vendor_id};
-ghost use Rattle.avp_dict.specs.Letters.{begins_as_attr, is_decimal, is_letter, is_name_octet};
+ghost use Rattle.avp_dict.specs.Letters.{begins_as_attr, is_decimal, is_dot, is_name_octet};
 ghost use Rattle.avp_dict.specs.Outcomes.{is_memory_kind};
 ghost use Rattle.avp_dict.specs.internal.Numbers.{Reads};
 ghost use Rattle.avp_dict.specs.internal.Meanings.{context_view, read_view};
@@ -17,7 +17,7 @@ use crate::faults::DictKind;
 use crate::file::context::Context;
 use crate::file::meanings::Meaning;
 use crate::file::numbers::{MAX_NUMBER, Number, number_of};
-use crate::file::parts::parts_between;
+use crate::file::parts::{first_between, parts_between};
 use crate::file::types::{are_flags, typing_of};
 use crate::file::words::{MAX_NAME, same_name};
 use crate::tables::{Attributes, Vendors};
@@ -156,10 +156,21 @@ fn id_of_parts(
     }
 }
 
-fn is_letter(octet: u8) -> bool
-    ensures { result ≡ is_letter octet }
+// The id of the number on a line, which mostly has one part.
+fn id_of_word(
+    alloc: Global,
+    vendors: &Vendors,
+    block: Option<u32>,
+    number: &[u8],
+) -> Result<Option<AttrId>, DictKind>
+    ensures { Meets is_memory_kind result
+        (id_of_parts vendors.now block (slice_split is_dot number.now)) }
 {
-    (octet >= b'a' && octet <= b'z') || (octet >= b'A' && octet <= b'Z')
+    if first_between(b'.', number).is_none() {
+        return id_of_parts(vendors, block, &[number]);
+    }
+    let parts = parts_between(alloc, b'.', number)?;
+    id_of_parts(vendors, block, &parts)
 }
 
 fn is_decimal(octet: u8) -> bool
@@ -171,12 +182,7 @@ fn is_decimal(octet: u8) -> bool
 pub(crate) fn is_name_octet(octet: u8) -> bool
     ensures { result ≡ is_name_octet octet }
 {
-    is_letter(octet)
-        || is_decimal(octet)
-        || octet == b'-'
-        || octet == b'_'
-        || octet == b'.'
-        || octet == b'/'
+    matches!(octet, b'a'..=b'z' | b'A'..=b'Z' | b'0'..=b'9' | b'-' | b'_' | b'.' | b'/')
 }
 
 fn are_octets_of_name(name: &[u8]) -> bool
@@ -246,8 +252,7 @@ fn attribute_line<'a>(
     ensures { Meets is_memory_kind (read_view result) (attribute_line
         (context_view before.now) block name.now number.now kind.now (views flags.now)) }
 {
-    let parts = parts_between(alloc, b'.', number)?;
-    let id = id_of_parts(&before.vendors, block, &parts)?;
+    let id = id_of_word(alloc, &before.vendors, block, number)?;
     attribute_of(&before.attributes, name, kind, flags, id)
 }
 

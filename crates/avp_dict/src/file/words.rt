@@ -87,10 +87,7 @@ pub fn words_between_blanks(alloc: Global, plain: &[u8]) -> Result<Vec<&[u8]>, A
 }
 
 /// Puts the words of a line in place of those of the line before it, in the same room.
-pub(crate) fn replace_words<'a>(
-    words: &mut Vec<&'a [u8]>,
-    text: &'a [u8],
-) -> Result<(), AllocError>
+pub(crate) fn replace_words<'a>(words: &mut Vec<&'a [u8]>, text: &'a [u8]) -> Result<(), AllocError>
     ensures { OnOk result (views words.new.items ≡ words_of text.now) }
 {
     words.clear();
