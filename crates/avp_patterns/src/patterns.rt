@@ -1,6 +1,6 @@
 //! Patterns that were read.
 
-ghost use Rattle.std.specs.Prelude.{◌≡◌, ◌≢◌, ◌≤◌, ◌⊎◌, ◌^◌, false, length, IfErr, IfOk, IsSome, OnOk};
+ghost use Rattle.std.specs.Prelude.{◌≡◌, ◌≢◌, ◌<◌, ◌≤◌, ◌⊎◌, ◌^◌, false, length, IfErr, IfOk, IsSome, OnOk};
 ghost use Rattle.regex.specs.Bytes.{regex_config, regex_source, IsReadFromSource};
 ghost use Rattle.regex.specs.Views.{builder_config, builder_size_limit, builder_source};
 ghost use Rattle.avp_patterns.specs.Patterns.{IsPattern, IsRefused, expansion_at, expression_of, options};
@@ -18,7 +18,8 @@ use regex_syntax::{Config, ErrorKind, Flags};
 use std::alloc::{AllocError, Global};
 use std::marker::Model;
 
-// What is compiled of a pattern may take so many octets. It is tried with few first, so that policies can count them.
+// What is compiled of a pattern may take so many octets. It is tried with few first, so that policies can count them,
+// yet with no fewer than its text has: each trial reads the text anew.
 const MIN_COMPILED: usize = 1 << 10;
 
 const MAX_COMPILED: usize = 256 << 10;
@@ -174,6 +175,17 @@ fn compiled_within(
     }
 }
 
+// How many octets a text of so many is tried with first.
+fn first_size(length: usize) -> usize
+    ensures { (0 < result) × (result ≤ 2 ^ 19) }
+{
+    let mut size = MIN_COMPILED;
+    while size < length && size < MAX_COMPILED {
+        size *= 2;
+    }
+    size
+}
+
 // What is compiled of a text, and how many octets were enough for it.
 fn compiled(
     alloc: Global,
@@ -186,7 +198,7 @@ fn compiled(
     ensures refused { IfErr result (IsNotCompiled
         (record { text = source.now; flags = flags })) }
 {
-    let mut size = MIN_COMPILED;
+    let mut size = first_size(source.len());
     loop {
         match compiled_within(alloc, source, flags, size) {
             Ok(regex) => return Ok((regex, size)),
@@ -231,8 +243,8 @@ impl Pattern {
         self.flags
     }
 
-    /// So many octets are enough for what is compiled of it: 1 KiB, or twice as many as often as that was too few, and
-    /// 256 KiB at most.
+    /// So many octets are enough for what is compiled of it: the least of 1, 2, 4 .. 256 KiB that was enough and is no
+    /// less than its text.
     pub fn size(&self) -> usize {
         self.size
     }
