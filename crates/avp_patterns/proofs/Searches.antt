@@ -2,7 +2,8 @@
 use Rattle.std.proofs.Common.{◌≡◌, ℕ, ◌+◌, ◌*◌, ◌≤◌, true, false, cond, true≢false, List, [], ◌∷◌, map, length, get_or, Option, None, Some, IsSomeAnd, w8, Fits, is_some, option_map, refl, sym, ap, ap₂, ◌∙◌, subst, arith, nat_le}
 use Rattle.std.proofs.lemmas.Bool.Decides.{nat_tests}
 use Rattle.std.proofs.lemmas.Option.{same_Some}
-use Rattle.std.specs.List.{range_with_len}
+use Rattle.std.proofs.lemmas.List.Elements.{All-cons, All-nil}
+use Rattle.std.specs.List.{All, range_with_len}
 use Rattle.std.specs.Option.{option_and_then}
 use Rattle.regex_syntax.specs.Brackets.{Nested}
 use Rattle.regex_syntax.specs.Grammar.{Names, group_count, read}
@@ -81,3 +82,8 @@ module _ (hay : List ℕ) (bytes : (k : ℕ) → Fits w8 (get_or hay k 0)) (a : 
       (ap₂ ◌∷◌ (group 1 (omega arith)) (ap₂ ◌∷◌ (group 2 (omega arith)) (ap₂ ◌∷◌ (group 3 (omega arith))
       (ap₂ ◌∷◌ (group 4 (omega arith)) (ap₂ ◌∷◌ (group 5 (omega arith)) (ap₂ ◌∷◌ (group 6 (omega arith))
       (ap₂ ◌∷◌ (group 7 (omega arith)) (ap₂ ◌∷◌ (group 8 (omega arith)) (ap₂ ◌∷◌ (group 9 (omega arith)) refl)))))))))
+
+-- what holds of each of ten
+pub each_of_ten : {A : Type 0} (P : A → Type 0) (a : A) → P a → (b : A) → P b → (c : A) → P c → (d : A) → P d → (e : A) → P e → (f : A) → P f → (g : A) → P g → (h : A) → P h → (i : A) → P i → (j : A) → P j → All P (a ∷ b ∷ c ∷ d ∷ e ∷ f ∷ g ∷ h ∷ i ∷ j ∷ [])
+each_of_ten P a ha b hb c hc d hd e he f hf g hg h hh i hi j hj =
+    All-cons P a (b ∷ c ∷ d ∷ e ∷ f ∷ g ∷ h ∷ i ∷ j ∷ []) ha (All-cons P b (c ∷ d ∷ e ∷ f ∷ g ∷ h ∷ i ∷ j ∷ []) hb (All-cons P c (d ∷ e ∷ f ∷ g ∷ h ∷ i ∷ j ∷ []) hc (All-cons P d (e ∷ f ∷ g ∷ h ∷ i ∷ j ∷ []) hd (All-cons P e (f ∷ g ∷ h ∷ i ∷ j ∷ []) he (All-cons P f (g ∷ h ∷ i ∷ j ∷ []) hf (All-cons P g (h ∷ i ∷ j ∷ []) hg (All-cons P h (i ∷ j ∷ []) hh (All-cons P i (j ∷ []) hi (All-cons P j ([]) hj (All-nil P))))))))))

@@ -1,5 +1,5 @@
 -- What patterns match.
-use Rattle.std.specs.Prelude.{◌≡◌, ◌≤◌, ℕ, Bool, List, ◌∷◌, Option, Some, is_some, length, map}
+use Rattle.std.specs.Prelude.{◌≡◌, ◌≤◌, ℕ, Bool, List, ◌∷◌, Option, Some, IfSome, is_some, length, map}
 use Rattle.std.specs.List.{range_with_len}
 use Rattle.std.specs.Option.{option_and_then, option_map}
 use Rattle.regex.specs.Patterns.{Re, Match, Matches, find, span}
@@ -23,6 +23,10 @@ HasMatch w octets =
 -- where the groups 0 to 9 of a match begin and end, group 0 being all of it; none for a group that took no part
 abbrev pub spans_of : Match → List (Option (ℕ × ℕ))
 spans_of m = Some (span m) ∷ map (group_of m) (range_with_len 1 9)
+
+-- a group that took no part, or that lies within these octets
+abbrev pub IsWithin : List ℕ → Option (ℕ × ℕ) → Type 0
+IsWithin octets found = IfSome found (λ s. (s.0 ≤ s.1) × (s.1 ≤ length octets))
 
 -- and those of the match in octets, if there is one
 abbrev pub groups_in : Written → List ℕ → Option (List (Option (ℕ × ℕ)))

@@ -1,8 +1,8 @@
 //! What searches for patterns.
 
-ghost use Rattle.std.specs.Prelude.{◌≡◌};
-ghost use Rattle.regex.specs.Bytes.{captures_span, matcher_pattern};
-ghost use Rattle.avp_patterns.specs.Matching.{groups_in, matches};
+ghost use Rattle.std.specs.Prelude.{◌≡◌, All, IfSome};
+ghost use Rattle.regex.specs.Bytes.{captures_haystack, captures_span, matcher_pattern};
+ghost use Rattle.avp_patterns.specs.Matching.{IsWithin, groups_in, matches};
 ghost use Rattle.avp_patterns.specs.internal.Searching.{SearchesFor};
 
 use crate::patterns::Pattern;
@@ -34,7 +34,8 @@ impl<'p> Model for PatternMatcher<'p> {
 
 // Where a group begins and ends, if it took part.
 fn span_in(captures: &Captures<'_, '_>, group: usize) -> Option<(usize, usize)>
-    ensures { result ≡ captures_span captures.now group }
+    ensures span { result ≡ captures_span captures.now group }
+    ensures within { IsWithin (captures_haystack captures.now) result }
 {
     let found = captures.get(group)?;
     Some((found.start(), found.end()))
@@ -66,6 +67,7 @@ impl<'p> PatternMatcher<'p> {
     /// ```
     pub fn captures(&mut self, octets: &[u8]) -> Option<[Option<(usize, usize)>; MAX_GROUPS]>
         ensures found { result ≡ groups_in self.old octets.now }
+        ensures within { IfSome result (λ groups. All (IsWithin octets.now) groups) }
         ensures same { self.new ≡ self.old }
     {
         let captures = self.matcher.captures(octets)?;
