@@ -1,5 +1,5 @@
 -- The pairs that update lines add are clean where they fit.
-use Rattle.std.proofs.Common.{◌≡◌, ℕ, Bool, true, false, ◌&&◌, cond, List, Option, Some, None, Result, Ok, Err, refl, sym, ap, subst, ◌∙◌}
+use Rattle.std.proofs.Common.{◌≡◌, ℕ, Bool, true, false, ◌&&◌, cond, List, map, Option, Some, None, Result, Ok, Err, refl, sym, ap, subst, ◌∙◌}
 use Rattle.std.proofs.lemmas.Bool.{and_parts}
 use Rattle.std.specs.Option.{unwrap_or}
 use Rattle.avp_lists.specs.Instances.{first_instance}
@@ -29,6 +29,7 @@ use Rattle.avp_forms.specs.Written.{value_written}
 use Rattle.avp_forms.specs.declared.profiles.Profile.TheVariants.{Plain, Wider}
 use Rattle.avp_forms.specs.declared.targets.Target.{Target}
 use Rattle.avp_forms.specs.declared.profiles.Profile.{Profile}
+use Rattle.avp_unlang.specs.Captures.{Captures, filled_part, filled_source}
 use Rattle.avp_unlang.specs.Lines.{LineIs, line_of}
 use Rattle.avp_unlang.specs.Resolutions.{given, instance_value, pair_of, paired, parts_text, read_by_kind, resolution, retagged, source_value, tagged_value}
 use Rattle.avp_unlang.specs.Selecting.{line_selection, selection_of}
@@ -81,7 +82,7 @@ module _ (dictionary : Dictionary) where
 
   -- each value that a source gives the name's attribute is clean where it fits
   abbrev SourceClean : Target → Source → Type 0
-  SourceClean name from = (s : State) (v : Value) → source_value dictionary s name.named.id from ≡ Ok v → CleanWhereFits (pair_of name.named.id v)
+  SourceClean name from = (captures : Captures) (s : State) (v : Value) → source_value dictionary s name.named.id (filled_source captures from) ≡ Ok v → CleanWhereFits (pair_of name.named.id v)
 
   module _ (sound : IsSound dictionary) (clean : SpelledValuesClean dictionary) where
     -- ---- spelled values
@@ -93,12 +94,15 @@ module _ (dictionary : Dictionary) where
     written_clean profile name text v e h = forms.written_clean dictionary sound profile name text None v (known_of (pair_of name.named.id v) h) e
 
     literal_clean : (profile : Profile) (name : Target) (text : List ℕ) (v : Value) → literal profile dictionary name text ≡ Some v → SourceClean name (source.Literal v)
-    literal_clean profile name text v e s w is = written_clean profile name text w ((literal_is profile dictionary name text v e).0 ∙ ap Ok (ok_is v w is))
+    literal_clean profile name text v e captures s w is = written_clean profile name text w ((literal_is profile dictionary name text v e).0 ∙ ap Ok (ok_is v w is))
 
     text_clean : (profile : Profile) (name : Target) (parts : List Part) → SourceClean name (text_source profile name parts)
-    text_clean Plain name parts s v e = spelled_clean name.named (parts_text dictionary s parts) v (given_from (value_spelled name.named (parts_text dictionary s parts) dictionary) v e)
-    text_clean Wider name parts s v e =
-        written_clean Wider name (parts_text dictionary s parts) v (given_from (value_written Wider name (parts_text dictionary s parts) None dictionary) v e)
+    text_clean Plain name parts captures s v e =
+        let text = parts_text dictionary s (map (filled_part captures) parts) in
+        spelled_clean name.named text v (given_from (value_spelled name.named text dictionary) v e)
+    text_clean Wider name parts captures s v e =
+        let text = parts_text dictionary s (map (filled_part captures) parts) in
+        written_clean Wider name text v (given_from (value_written Wider name text None dictionary) v e)
 
     -- ---- values of other instances
 
@@ -129,8 +133,8 @@ module _ (dictionary : Dictionary) where
     tagged_from id own form tag (Some p) v e = octets_clean id own (retagged form tag (octets p.id p.value dictionary)) v e
 
     instance_clean : (profile : Profile) (name : Target) → is_container name.named.id ≡ false → (found : Reference) → SourceClean name (instance_source profile dictionary name found)
-    instance_clean Plain name own found s v e = instance_from name.named.id own (first_instance found.target.named.id (list_of found.list s)) v e
-    instance_clean Wider name own found s v e =
+    instance_clean Plain name own found captures s v e = instance_from name.named.id own (first_instance found.target.named.id (list_of found.list s)) v e
+    instance_clean Wider name own found captures s v e =
         tagged_from name.named.id own (shared_form dictionary name.named.id found.target.named.id) (unwrap_or name.tag 0)
         (first_selected_instance (selection_of dictionary found.target) found.target.named.id (list_of found.list s)) v e
 
@@ -143,9 +147,10 @@ module _ (dictionary : Dictionary) where
 
     line_clean : (line : Line) (name : Target) → name.named.id ≡ line.id → (is_removal line.op ≡ false → SourceClean name line.source) → Adds dictionary CleanWhereFits line
     unfolding resolution
-    line_clean line name same values_clean s p stays e =
-        let made = paired_from line.id (source_value dictionary s line.id line.source) p e in
-        subst CleanWhereFits made.2 (subst (λ (id : AttrId). source_value dictionary s id line.source ≡ Ok made.0 → CleanWhereFits (pair_of id made.0)) same (values_clean stays s made.0) made.1)
+    line_clean line name same values_clean captures s p stays e =
+        let from = filled_source captures line.source in
+        let made = paired_from line.id (source_value dictionary s line.id from) p e in
+        subst CleanWhereFits made.2 (subst (λ (id : AttrId). source_value dictionary s id from ≡ Ok made.0 → CleanWhereFits (pair_of id made.0)) same (values_clean stays captures s made.0) made.1)
 
     pub lines_clean : (profile : Profile) (own : Name) → Holds (Adds dictionary CleanWhereFits) (LineIs profile dictionary own)
     lines_clean profile own p line rest h =

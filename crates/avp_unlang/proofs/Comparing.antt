@@ -36,7 +36,7 @@ use Rattle.avp_unlang.specs.declared.tree.Comparand.TheVariants.{Literal, Instan
 use Rattle.avp_unlang.specs.declared.tree.Comparison.{Comparison}
 use Rattle.avp_unlang.specs.declared.tree.Cond.{Cond}
 use Rattle.avp_unlang.specs.declared.tree.Cond.TheFolds.{fold-roll-Cond, ind-Cond, map-Cond}
-use Rattle.avp_unlang.specs.declared.tree.Cond.TheOpen.{Cond-F, Any, All, Not, Last, Present, PresentSelected, Compare, CompareMeant, Match}
+use Rattle.avp_unlang.specs.declared.tree.Cond.TheOpen.{Cond-F, Any, All, Not, Last, Present, PresentSelected, Compare, CompareMeant, Match, Captured}
 use Rattle.avp_unlang.specs.declared.tree.Cond.TheViews.{roll-Cond}
 use Rattle.std.proofs.lemmas.List.Elements.{All-head, All-tail}
 use Rattle.avp_lists.proofs.Equality.{same_id}
@@ -118,7 +118,7 @@ module _ (dictionary : Dictionary) where
 
   -- ---- comparisons with a pattern
 
-  room_most : (id : AttrId) → max_octets id dictionary ≤ 4012
+  pub room_most : (id : AttrId) → max_octets id dictionary ≤ 4012
   unfolding max_octets
   room_most (ids.Plain n) = elim (nat_le n max_plain) as (λ b. cond b 253 4012 ≤ 4012) [ true ↦ omega arith | false ↦ omega arith ]
   room_most (ids.Vendor vendor n) = vendor_most (vendor_format vendor dictionary)
@@ -204,6 +204,7 @@ module _ (dictionary : Dictionary) where
     layer_testable (CompareMeant c) h = refl
     layer_testable (Match m) h = matchable_first s m fit (same_kinds kinds.Text (type_of dictionary m.id) h)
     layer_testable (Compare c) h = comparison_comparable s c fit h
+    layer_testable (Captured group) h = refl
 
     rolled : (x : Cond-F Cond) → (cond_layer_suits dictionary (map-Cond Cond Bool (cond_suits dictionary) x) ≡ true → cond_comparable (map-Cond Cond (State → Bool) comparable x) s ≡ true) → IsTestable (roll-Cond x)
     unfolding cond_suits comparable

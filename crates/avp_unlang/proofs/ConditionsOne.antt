@@ -19,11 +19,12 @@ use Rattle.avp_unlang.specs.declared.text.values.Written.TheVariants as written
 use Rattle.avp_unlang.specs.declared.tree.Comparand.{Comparand}
 use Rattle.avp_unlang.specs.declared.tree.Comparand.TheVariants.{Literal}
 use Rattle.avp_unlang.specs.declared.tree.Cond.{Cond}
-use Rattle.avp_unlang.specs.declared.tree.Cond.TheVariants.{Not, Last, Compare, CompareMeant, Match}
+use Rattle.avp_unlang.specs.declared.tree.Cond.TheVariants.{Not, Last, Compare, CompareMeant, Match, Captured}
 use Rattle.avp_unlang.specs.declared.tree.MeantComparand.{MeantComparand}
 use Rattle.avp_unlang.specs.declared.tree.Relation.{Relation}
 use Rattle.avp_unlang.specs.Conditions.{relation_of, plain_literal, plain_octets, ComparandOf, ComparandIs, comparison_of, ComparedBy, ComparedFrom, ComparedIs, MatchedBy, MatchedOr, MeantBy, MeantFrom, MeantIs, RelatedBy, RelatedIs, WordFrom, instance_compared, is_by_meaning, matcher_in, matching_of, meant_comparison, meant_literal, present_of, any_of, all_of, Both, Either, Negated, Closed, OperandFrom, OperandIs, Within}
 use Rattle.avp_unlang.specs.Forms.{Form, After, Chain, Gives, Refuses, Reads}
+use Rattle.avp_unlang.specs.Parts.{group_in}
 use Rattle.avp_unlang.specs.Places.{Place}
 use Rattle.avp_unlang.specs.References.{AlikeIs, ReadableIs, type_of}
 use Rattle.avp_unlang.specs.Between.{Follows}
@@ -156,6 +157,7 @@ module _ (profile : Profile) (dictionary : Dictionary) where
   from_one inner one (Operator sign.Reference) p x y r s h g =
       then_one (ReadableIs profile dictionary) (ComparedIs profile dictionary) (readable_one profile dictionary) compared_one p x y r s h g
   from_one inner one (Word word) p x y r s h g = word_one (code_named word) word p x y r s h g
+  from_one inner one (Quoted Double text) p x y r s h g = becomes_one (option_map Captured (group_in profile text)) p x y r s h g
   from_one inner one _ p x y r s h g = absurd h
 
   pub within_one : (n : ℕ) → IsOne (Within profile dictionary n)

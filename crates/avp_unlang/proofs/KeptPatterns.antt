@@ -10,7 +10,7 @@ use Rattle.avp_unlang.specs.PolicyPatterns.{branch_layer_passes, branch_patterns
 use Rattle.avp_unlang.specs.declared.tree.Branch.{Branch}
 use Rattle.avp_unlang.specs.declared.tree.Cond.{Cond}
 use Rattle.avp_unlang.specs.declared.tree.Cond.TheFolds.{fold-roll-Cond, ind-Cond, map-Cond}
-use Rattle.avp_unlang.specs.declared.tree.Cond.TheOpen.{Cond-F, Any, All, Not, Last, Present, PresentSelected, Compare, CompareMeant, Match}
+use Rattle.avp_unlang.specs.declared.tree.Cond.TheOpen.{Cond-F, Any, All, Not, Last, Present, PresentSelected, Compare, CompareMeant, Match, Captured}
 use Rattle.avp_unlang.specs.declared.tree.Cond.TheViews.{roll-Cond}
 use Rattle.avp_unlang.specs.declared.tree.Statement.{Statement}
 use Rattle.avp_unlang.specs.declared.tree.Statement.TheFolds.{fold-roll-Branch, fold-roll-Statement, ind-Branch, ind-Statement, map-Branch, map-Statement}
@@ -58,6 +58,7 @@ module _ (f g : Written → Bool) (more : (w : Written) → f w ≡ true → g w
   layer_kept (Compare c) h = refl
   layer_kept (CompareMeant c) h = refl
   layer_kept (Match m) h = more (pattern_in m) h
+  layer_kept (Captured group) h = refl
 
   rolled : (x : Cond-F Cond) → (cond_layer_passes f (map-Cond Cond Bool (cond_patterns_pass f) x) ≡ true → cond_layer_passes g (map-Cond Cond Bool (cond_patterns_pass g) x) ≡ true) → IsKept (roll-Cond x)
   unfolding cond_patterns_pass

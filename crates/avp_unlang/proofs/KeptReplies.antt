@@ -10,9 +10,11 @@ use Rattle.avp_lists.specs.declared.lists.State.{State}
 use Rattle.avp_dict.specs.Dictionary.{Dictionary}
 use Rattle.avp_forms.specs.Profiles.{profile_of}
 use Rattle.avp_forms.specs.declared.profiles.Profile.{Profile}
+use Rattle.avp_unlang.specs.Captures.{Captures, filled, no_captures}
+use Rattle.avp_unlang.specs.Evaluations.{evaluated}
 use Rattle.avp_unlang.specs.Forms.{Form, Chain}
 use Rattle.avp_unlang.specs.Lines.{LineIs, begins_line}
-use Rattle.avp_unlang.specs.Meaning.{Choice, Edited, Failed, Meaning, Outcome, after_body, after_line, all_lines, branch_meaning, edit_of, first_true, if_given, line_result, meaning, meaning_of, result_from, running, statement_meaning, unless_stop}
+use Rattle.avp_unlang.specs.Meaning.{Choice, Edited, Failed, Meaning, Point, after_body, after_line, all_lines, block_meaning, branch_meaning, edit_of, first_true, going_on, if_given, line_result, meaning, meaning_of, result_from, statement_meaning, unless_stop}
 use Rattle.avp_unlang.specs.Places.{Place, start_of}
 use Rattle.avp_unlang.specs.Policies.{SpellsPolicy}
 use Rattle.avp_unlang.specs.Resolutions.{resolution}
@@ -20,7 +22,6 @@ use Rattle.avp_unlang.specs.Sources.{is_removal}
 use Rattle.avp_unlang.specs.Statements.{BlockIs, BranchIs, Nested, Otherwise, StatementFrom, begins_word, branch_of, keyword_in, list_at}
 use Rattle.avp_unlang.specs.Between.{Follows}
 use Rattle.avp_unlang.specs.Tokens.{next_token}
-use Rattle.avp_unlang.specs.Truth.{truth_by}
 use Rattle.avp_unlang.specs.declared.codes.Code.{Code}
 use Rattle.avp_unlang.specs.declared.meaning.reasons.Reason.TheVariants.{Full}
 use Rattle.avp_unlang.specs.declared.meaning.resolving.Unresolved.{Unresolved}
@@ -41,13 +42,13 @@ module _ (dictionary : Dictionary) (P : Pair → Type 0) where
   -- ---- meanings
 
   abbrev Keeps : Meaning → Type 0
-  Keeps m = (s : State) (code : Code) → All P s.reply → All P (m s code).state.reply
+  Keeps m = (s : State) (code : Code) (captures : Captures) → All P s.reply → All P (m s code captures).outcome.state.reply
 
   abbrev StatementKeeps : Statement → Type 0
   StatementKeeps statement = Keeps (meaning dictionary statement)
 
   abbrev BlockKeeps : List Statement → Type 0
-  BlockKeeps block = Keeps (meaning_of dictionary block)
+  BlockKeeps block = Keeps (block_meaning dictionary block)
 
   abbrev choice : Branch → Choice
   choice = fold-Branch Meaning Choice (statement_meaning dictionary) branch_meaning
@@ -60,28 +61,30 @@ module _ (dictionary : Dictionary) (P : Pair → Type 0) where
 
   -- each pair that a line adds has it
   abbrev pub Adds : Line → Type 0
-  Adds line = (s : State) (p : Pair) → is_removal line.op ≡ false → resolution dictionary line s ≡ Ok p → P p
+  Adds line = (captures : Captures) (s : State) (p : Pair) → is_removal line.op ≡ false → resolution dictionary (filled captures line) s ≡ Ok p → P p
 
   abbrev LinesKeep : List Line → Type 0
   LinesKeep ls = (entry : State) → All P entry.reply → Keeps (all_lines dictionary entry ls)
 
   none_keeps : BlockKeeps []
-  none_keeps s code all = all
+  none_keeps s code captures all = all
 
-  next_keeps : (o : Outcome) (next : Meaning) → Keeps next → All P o.state.reply → All P (unless_stop o next).state.reply
-  next_keeps o next keeps all = elim o.stopped as (λ b. All P (cond b o (next o.state o.code)).state.reply) [ true ↦ all | false ↦ keeps o.state o.code all ]
+  next_keeps : (p : Point) (next : Meaning) → Keeps next → All P p.outcome.state.reply → All P (unless_stop p next).outcome.state.reply
+  next_keeps p next keeps all =
+      elim p.outcome.stopped as (λ b. All P (cond b p (next p.outcome.state p.outcome.code p.captures)).outcome.state.reply) [ true ↦ all | false ↦ keeps p.outcome.state p.outcome.code p.captures all ]
 
   more_keeps : (x : Statement) (xs : List Statement) → StatementKeeps x → BlockKeeps xs → BlockKeeps (x ∷ xs)
-  more_keeps x xs first others s code all = next_keeps (meaning dictionary x s code) (meaning_of dictionary xs) others (first s code all)
+  more_keeps x xs first others s code captures all = next_keeps (meaning dictionary x s code captures) (block_meaning dictionary xs) others (first s code captures all)
 
   no_branches : BranchesKeep []
   no_branches otherwise keeps = keeps
 
   more_branches : (b : Branch) (bs : List Branch) → BranchKeeps b → BranchesKeep bs → BranchesKeep (b ∷ bs)
-  more_branches b bs first others otherwise keeps s code all =
-      elim (truth_by dictionary (choice b).cond s code) as (λ t. All P (cond t ((choice b).block s code) (first_true dictionary (map choice bs) otherwise s code)).state.reply) [
-        | true ↦ first s code all
-        | false ↦ others otherwise keeps s code all
+  more_branches b bs first others otherwise keeps s code captures all =
+      let e = evaluated dictionary (choice b).cond s code captures in
+      elim e.truth as (λ t. All P (cond t ((choice b).block s code e.captures) (first_true dictionary (map choice bs) otherwise s code e.captures)).outcome.state.reply) [
+        | true ↦ first s code e.captures all
+        | false ↦ others otherwise keeps s code e.captures all
       ]
 
   abbrev else_meaning : Option (List Statement) → Meaning
@@ -89,23 +92,24 @@ module _ (dictionary : Dictionary) (P : Pair → Type 0) where
   else_meaning (Some block) = if_given (Some (map (meaning dictionary) block))
 
   no_lines : LinesKeep []
-  no_lines entry kept s code all = all
+  no_lines entry kept s code captures all = all
 
   module _ (line : Line) (entry : State) (ls : List Line) (kept : All P entry.reply) (others : LinesKeep ls) where
     -- after an edit, unless its list would have too many pairs
-    edit_followed : (fit : Bool) (t : State) (code : Code) → All P t.reply → All P (after_line entry (cond fit (Edited t) (Failed Full)) code (all_lines dictionary entry ls)).state.reply
-    edit_followed true t code all = others entry kept t code all
-    edit_followed false t code all = kept
+    edit_followed : (fit : Bool) (t : State) (code : Code) (captures : Captures) → All P t.reply → All P (after_line entry (cond fit (Edited t) (Failed Full)) code captures (all_lines dictionary entry ls)).outcome.state.reply
+    edit_followed true t code captures all = others entry kept t code captures all
+    edit_followed false t code captures all = kept
 
-    line_followed : (r : Result Pair Unresolved) (s : State) (code : Code) → ((p : Pair) → is_removal line.op ≡ false → r ≡ Ok p → P p) → All P s.reply
-        → All P (after_line entry (result_from line s r) code (all_lines dictionary entry ls)).state.reply
-    line_followed (Ok p) s code adds all =
-        edit_followed (nat_le (length (edited_list_selected line.selection (edit_of line p) s)) max_pairs) (edited_selected line.selection (edit_of line p) s) code (edit_keeps P line.selection line.list line.op p s (λ stays. adds p stays refl) all)
-    line_followed (Err why) s code adds all = kept
+    line_followed : (r : Result Pair Unresolved) (s : State) (code : Code) (captures : Captures) → ((p : Pair) → is_removal line.op ≡ false → r ≡ Ok p → P p) → All P s.reply
+        → All P (after_line entry (result_from line s r) code captures (all_lines dictionary entry ls)).outcome.state.reply
+    line_followed (Ok p) s code captures adds all =
+        edit_followed (nat_le (length (edited_list_selected line.selection (edit_of line p) s)) max_pairs) (edited_selected line.selection (edit_of line p) s) code captures (edit_keeps P line.selection line.list line.op p s (λ stays. adds p stays refl) all)
+    line_followed (Err why) s code captures adds all = kept
 
   more_lines : (line : Line) (ls : List Line) → Adds line → LinesKeep ls → LinesKeep (line ∷ ls)
   unfolding line_result
-  more_lines line ls adds others entry kept s code all = line_followed line entry ls kept others (resolution dictionary line s) s code (adds s) all
+  more_lines line ls adds others entry kept s code captures all =
+      line_followed line entry ls kept others (resolution dictionary (filled captures line) s) s code captures (adds captures s) all
 
   -- ---- each kind of statement
 
@@ -116,7 +120,7 @@ module _ (dictionary : Dictionary) (P : Pair → Type 0) where
   update_keeps n ls lines_keep =
       keeps_same (meaning dictionary (Update n ls)) (statement_meaning dictionary (layer.Update n ls))
       (ap (meaning dictionary) (sym (rolls-Update n ls)) ∙ fold-roll-Statement Meaning Choice (statement_meaning dictionary) branch_meaning (layer.Update n ls))
-      (λ s code all. lines_keep s all s code all)
+      (λ s code captures all. lines_keep s all s code captures all)
 
   if_keeps : (bs : List Branch) (otherwise : Option (List Statement)) → BranchesKeep bs → Keeps (else_meaning otherwise) → StatementKeeps (If bs otherwise)
   if_keeps bs None branches last =
@@ -128,19 +132,19 @@ module _ (dictionary : Dictionary) (P : Pair → Type 0) where
       (ap (meaning dictionary) (sym (rolls-If bs (Some block))) ∙ fold-roll-Statement Meaning Choice (statement_meaning dictionary) branch_meaning (layer.If bs (Some block)))
       (branches (if_given (Some (map (meaning dictionary) block))) last)
 
-  body_keeps : (entry : State) (o : Outcome) → All P entry.reply → All P o.state.reply → All P (after_body entry o).state.reply
-  body_keeps entry o kept all = elim o.stopped as (λ b. All P (cond b (running entry o.code) o).state.reply) [ true ↦ kept | false ↦ all ]
+  body_keeps : (entry : State) (p : Point) → All P entry.reply → All P p.outcome.state.reply → All P (after_body entry p).outcome.state.reply
+  body_keeps entry p kept all = elim p.outcome.stopped as (λ b. All P (cond b (going_on entry p.outcome.code p.captures) p).outcome.state.reply) [ true ↦ kept | false ↦ all ]
 
   transaction_keeps : (n : ℕ) (block : List Statement) → BlockKeeps block → StatementKeeps (Transaction n block)
   transaction_keeps n block keeps =
       keeps_same (meaning dictionary (Transaction n block)) (statement_meaning dictionary (layer.Transaction n (map (meaning dictionary) block)))
       (ap (meaning dictionary) (sym (rolls-Transaction n block)) ∙ fold-roll-Statement Meaning Choice (statement_meaning dictionary) branch_meaning (layer.Transaction n block))
-      (λ s code all. body_keeps s (meaning_of dictionary block s code) all (keeps s code all))
+      (λ s code captures all. body_keeps s (block_meaning dictionary block s code captures) all (keeps s code captures all))
 
   word_keeps : (n : ℕ) (word : Code) → StatementKeeps (Word n word)
   word_keeps n word =
       keeps_same (meaning dictionary (Word n word)) (statement_meaning dictionary (layer.Word n word))
-      (ap (meaning dictionary) (sym (rolls-Word n word)) ∙ fold-roll-Statement Meaning Choice (statement_meaning dictionary) branch_meaning (layer.Word n word)) (λ s code all. all)
+      (ap (meaning dictionary) (sym (rolls-Word n word)) ∙ fold-roll-Statement Meaning Choice (statement_meaning dictionary) branch_meaning (layer.Word n word)) (λ s code captures all. all)
 
   branch_keeps : (n : ℕ) (c : Cond) (block : List Statement) → BlockKeeps block → BranchKeeps (branch_of n c block)
   branch_keeps n c block keeps =
@@ -180,5 +184,5 @@ module _ (dictionary : Dictionary) (P : Pair → Type 0) where
   -- the pairs of a reply list go on having it under a policy that was read
   pub policy_keeps : ((profile : Profile) (own : Name) → Holds Adds (LineIs profile dictionary own)) → (text : List ℕ) (statements : List Statement) → SpellsPolicy dictionary text statements
       → (s : State) (code : Code) → All P s.reply → All P (meaning_of dictionary statements s code).state.reply
-  policy_keeps adds text statements h =
-      while_holds StatementKeeps BlockKeeps none_keeps more_keeps (Nested (profile_of text) dictionary 65) (nested_keeps (profile_of text) (adds (profile_of text)) 65) begins_word (start_of text) statements h.0 h.2
+  policy_keeps adds text statements h s code all =
+      while_holds StatementKeeps BlockKeeps none_keeps more_keeps (Nested (profile_of text) dictionary 65) (nested_keeps (profile_of text) (adds (profile_of text)) 65) begins_word (start_of text) statements h.0 h.2 s code no_captures all

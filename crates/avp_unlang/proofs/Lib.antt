@@ -1,15 +1,20 @@
 pub mod AmongPatterns
+pub mod CaptureFree
+pub mod CapturedTexts
 pub mod Chains
 pub mod CleanReplies
 pub mod CleanValues
 pub mod Comparing
 pub mod ConditionsOne
 pub mod Determined
+pub mod EvaluatedConds
 pub mod FirstInstances
 pub mod KeptEdits
 pub mod KeptReplies
 pub mod KeptPatterns
+pub mod KeptTexts
 pub mod LinesOne
+pub mod MatchedGroups
 pub mod PartsOne
 pub mod PatternFree
 pub mod PatternTexts
@@ -22,4 +27,5 @@ pub mod StatementDepths
 pub mod StatementsOne
 pub mod Truths
 pub mod TypedValues
+pub mod UsedCaptures
 pub mod ValueRuns

@@ -9,7 +9,7 @@ use Rattle.avp_unlang.specs.Truth.{Test, cond_truth_with, never_matched, truth, 
 use Rattle.avp_unlang.specs.declared.codes.Code.{Code}
 use Rattle.avp_unlang.specs.declared.tree.Cond.{Cond}
 use Rattle.avp_unlang.specs.declared.tree.Cond.TheFolds.{fold-roll-Cond, ind-Cond, map-Cond}
-use Rattle.avp_unlang.specs.declared.tree.Cond.TheOpen.{Cond-F, Any, All, Not, Last, Present, PresentSelected, Compare, CompareMeant, Match}
+use Rattle.avp_unlang.specs.declared.tree.Cond.TheOpen.{Cond-F, Any, All, Not, Last, Present, PresentSelected, Compare, CompareMeant, Match, Captured}
 use Rattle.avp_unlang.specs.declared.tree.Cond.TheViews.{roll-Cond}
 use Rattle.avp_unlang.proofs.Comparing.{and_left, and_right}
 
@@ -52,6 +52,7 @@ module _ (dictionary : Dictionary) (s : State) (code : Code) where
   layer_same (Compare c) h = refl
   layer_same (CompareMeant c) h = refl
   layer_same (Match m) h = absurd (true≢false (sym h))
+  layer_same (Captured group) h = refl
 
   rolled : (x : Cond-F Cond)
       → (cond_layer_passes none_passes (map-Cond Cond Bool (cond_patterns_pass none_passes) x) ≡ true

@@ -214,6 +214,7 @@ module _ (profile : Profile) (dictionary : Dictionary) where
   operand_keeps inner keeps (token.Operator sign.Open) p c rest h = closed_keeps inner keeps p c rest h
   operand_keeps inner keeps (token.Operator sign.Reference) p c rest h = compared_keeps h.0 h.1 c rest h.3 ∙ readable_keeps p h.0 h.1 h.2
   operand_keeps inner keeps (token.Word word) p c rest h = word_keeps (code_named word) word p c rest h
+  operand_keeps inner keeps (token.Quoted Double text) p c rest h = ap (λ (q : Place). q.room) h.1
   operand_keeps inner keeps _ p c rest h = absurd h
 
   within_keeps : (n : ℕ) → Keeps (Within profile dictionary n)

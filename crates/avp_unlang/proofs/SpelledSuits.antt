@@ -21,6 +21,7 @@ use Rattle.avp_unlang.specs.declared.text.tokens.Matcher.{Matcher}
 use Rattle.avp_unlang.specs.declared.text.tokens.Sign.TheVariants as sign
 use Rattle.avp_unlang.specs.declared.text.tokens.Token.{Token}
 use Rattle.avp_unlang.specs.declared.text.tokens.Token.TheVariants as token
+use Rattle.avp_dict.specs.declared.value.quotes.QuoteMark.TheVariants as quote
 use Rattle.avp_unlang.specs.declared.text.values.Written.{Written}
 use Rattle.avp_unlang.specs.declared.text.values.Written.TheVariants as written
 use Rattle.avp_unlang.specs.declared.tree.Branch.{Branch, out-Branch}
@@ -30,7 +31,7 @@ use Rattle.avp_unlang.specs.declared.tree.Comparison.{Comparison}
 use Rattle.avp_unlang.specs.declared.tree.Cond.{Cond}
 use Rattle.avp_unlang.specs.declared.tree.Cond.TheFolds.{fold-roll-Cond}
 use Rattle.avp_unlang.specs.declared.tree.Cond.TheOpen as open_cond
-use Rattle.avp_unlang.specs.declared.tree.Cond.TheVariants.{Any, All, Not, Last, Present, PresentSelected, Compare, CompareMeant, Match, rolls-Any, rolls-All, rolls-Not, rolls-Last, rolls-Present, rolls-PresentSelected, rolls-Compare, rolls-CompareMeant, rolls-Match}
+use Rattle.avp_unlang.specs.declared.tree.Cond.TheVariants.{Any, All, Not, Last, Present, PresentSelected, Compare, CompareMeant, Match, Captured, rolls-Any, rolls-All, rolls-Not, rolls-Last, rolls-Present, rolls-PresentSelected, rolls-Compare, rolls-CompareMeant, rolls-Match, rolls-Captured}
 use Rattle.avp_unlang.specs.declared.tree.Line.{Line}
 use Rattle.avp_unlang.specs.declared.tree.Matching.{Matching}
 use Rattle.avp_unlang.specs.declared.tree.MeantComparison.{MeantComparison}
@@ -56,6 +57,7 @@ use Rattle.avp_unlang.specs.Selecting.{line_selection, selection_of}
 use Rattle.avp_unlang.specs.Sources.{SourceBy, instance_source, is_removal, text_source}
 use Rattle.avp_unlang.specs.Statements.{BlockIs, branch_of, BranchIs, Otherwise, StatementFrom, Nested, keyword_in, list_at, begins_word}
 use Rattle.avp_unlang.specs.Between.{Follows}
+use Rattle.avp_unlang.specs.Parts.{group_in}
 use Rattle.avp_unlang.specs.Tokens.{next_token}
 use Rattle.avp_unlang.specs.Values.{literal}
 use Rattle.avp_unlang.specs.Words.{code_named}
@@ -198,6 +200,10 @@ module _ (profile : Profile) (dictionary : Dictionary) (sound : IsSound dictiona
   unfolding cond_suits
   fits_Match x = ap (cond_suits dictionary) (sym (rolls-Match x)) ∙ fold-roll-Cond Bool (cond_layer_suits dictionary) (open_cond.Match x)
 
+  fits_Captured : (group : ℕ) → cond_suits dictionary (Captured group) ≡ true
+  unfolding cond_suits
+  fits_Captured group = ap (cond_suits dictionary) (sym (rolls-Captured group)) ∙ fold-roll-Cond Bool (cond_layer_suits dictionary) (open_cond.Captured group)
+
   fits_CompareMeant : (x : MeantComparison) → cond_suits dictionary (CompareMeant x) ≡ true
   unfolding cond_suits
   fits_CompareMeant x = ap (cond_suits dictionary) (sym (rolls-CompareMeant x)) ∙ fold-roll-Cond Bool (cond_layer_suits dictionary) (open_cond.CompareMeant x)
@@ -281,6 +287,9 @@ module _ (profile : Profile) (dictionary : Dictionary) (sound : IsSound dictiona
   operand_fits inner each (token.Operator sign.Open) p c rest h = closed_fits inner each p c rest h
   operand_fits inner each (token.Operator sign.Reference) p c rest h = compared_fits h.0 h.1 c rest h.3
   operand_fits inner each (token.Word word) p c rest h = word_fits (code_named word) word p c rest h
+  operand_fits inner each (token.Quoted quote.Double text) p c rest h =
+      let group = mapped Captured (group_in profile text) c h.0 in
+      ap (cond_suits dictionary) (sym group.2) ∙ fits_Captured group.0
   operand_fits inner each _ p c rest h = absurd h
 
   within_fits : (n : ℕ) → Suits (cond_suits dictionary) (Within profile dictionary n)

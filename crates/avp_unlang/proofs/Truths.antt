@@ -1,5 +1,5 @@
 -- The truth of each kind of condition, and what each can be compared in.
-use Rattle.std.proofs.Common.{◌≡◌, Bool, true, false, not, ◌&&◌, ◌||◌, List, [], ◌∷◌, refl, sym, ap, ◌∙◌, map, cond, filter, is_some}
+use Rattle.std.proofs.Common.{◌≡◌, ℕ, Bool, true, false, not, ◌&&◌, ◌||◌, List, [], ◌∷◌, refl, sym, ap, ◌∙◌, map, cond, filter, is_some}
 use Rattle.std.specs.List.{list_any, list_all}
 use Rattle.avp_lists.specs.Instances.{first_instance, front, has_id, has_instance}
 use Rattle.avp_lists.specs.Selections.{first_selected_instance}
@@ -22,7 +22,7 @@ use Rattle.avp_unlang.specs.declared.tree.Matching.{Matching}
 use Rattle.avp_unlang.specs.declared.tree.MeantComparison.{MeantComparison}
 use Rattle.avp_unlang.specs.declared.tree.Cond.TheFolds.{fold-Cond, fold-roll-Cond}
 use Rattle.avp_unlang.specs.declared.tree.Cond.TheOpen as layer
-use Rattle.avp_unlang.specs.declared.tree.Cond.TheVariants.{Any, All, Not, Last, Present, PresentSelected, Compare, CompareMeant, Match, rolls-Any, rolls-All, rolls-Not, rolls-Last, rolls-Present, rolls-PresentSelected, rolls-Compare, rolls-CompareMeant, rolls-Match}
+use Rattle.avp_unlang.specs.declared.tree.Cond.TheVariants.{Any, All, Not, Last, Present, PresentSelected, Compare, CompareMeant, Match, Captured, rolls-Any, rolls-All, rolls-Not, rolls-Last, rolls-Present, rolls-PresentSelected, rolls-Compare, rolls-CompareMeant, rolls-Match, rolls-Captured}
 
 any_mapped : {A B : Type 0} (f : A → B) (test : B → Bool) (xs : List A) → list_any test (map f xs) ≡ list_any (λ x. test (f x)) xs
 any_mapped f test [] = refl
@@ -32,7 +32,7 @@ all_mapped : {A B : Type 0} (f : A → B) (test : B → Bool) (xs : List A) → 
 all_mapped f test [] = refl
 all_mapped f test (x ∷ xs) = ap (λ b. test (f x) && b) (all_mapped f test xs)
 
-found_first : (id : AttrId) (pairs : List Pair) → has_instance id pairs ≡ is_some (first_instance id pairs)
+pub found_first : (id : AttrId) (pairs : List Pair) → has_instance id pairs ≡ is_some (first_instance id pairs)
 found_first id [] = refl
 found_first id (p ∷ ps) =
     elim (has_id id p) as (λ b. (b || list_any (has_id id) ps) ≡ is_some (front (cond b (p ∷ filter (has_id id) ps) (filter (has_id id) ps)))) [
@@ -76,6 +76,9 @@ module _ (matched : Matching → State → Bool) where
 
   pub given_match : (m : Matching) (s : State) (c : Code) → Given (Match m) s c ≡ matched m s
   given_match m s c = ap (λ x. Given x s c) (sym (rolls-Match m)) ∙ ap (λ (t : Test). t s c) (fold-roll-Cond Test (cond_truth_with matched) (layer.Match m))
+
+  pub given_captured : (group : ℕ) (s : State) (c : Code) → Given (Captured group) s c ≡ false
+  given_captured group s c = ap (λ x. Given x s c) (sym (rolls-Captured group)) ∙ ap (λ (t : Test). t s c) (fold-roll-Cond Test (cond_truth_with matched) (layer.Captured group))
 
   pub given_compare : (k : Comparison) (s : State) (c : Code) → Given (Compare k) s c ≡ is_met k s
   given_compare k s c = ap (λ x. Given x s c) (sym (rolls-Compare k)) ∙ ap (λ (t : Test). t s c) (fold-roll-Cond Test (cond_truth_with matched) (layer.Compare k))
@@ -146,6 +149,14 @@ pub truth_by_match : (dictionary : Dictionary) (m : Matching) (s : State) (c : C
 unfolding truth_by
 truth_by_match dictionary = given_match (is_matched dictionary)
 
+pub truth_captured : (group : ℕ) (s : State) (c : Code) → truth (Captured group) s c ≡ false
+unfolding truth
+truth_captured = given_captured never_matched
+
+pub truth_by_captured : (dictionary : Dictionary) (group : ℕ) (s : State) (c : Code) → truth_by dictionary (Captured group) s c ≡ false
+unfolding truth_by
+truth_by_captured dictionary = given_captured (is_matched dictionary)
+
 pub truth_compare : (k : Comparison) (s : State) (c : Code) → truth (Compare k) s c ≡ is_met k s
 unfolding truth
 truth_compare = given_compare never_matched
@@ -201,6 +212,10 @@ passes_not test c = ap (cond_patterns_pass test) (sym (rolls-Not c)) ∙ fold-ro
 pub passes_match : (test : Written → Bool) (m : Matching) → cond_patterns_pass test (Match m) ≡ test (pattern_in m)
 unfolding cond_patterns_pass
 passes_match test m = ap (cond_patterns_pass test) (sym (rolls-Match m)) ∙ fold-roll-Cond Bool (cond_layer_passes test) (layer.Match m)
+
+pub passes_captured : (test : Written → Bool) (group : ℕ) → cond_patterns_pass test (Captured group) ≡ true
+unfolding cond_patterns_pass
+passes_captured test group = ap (cond_patterns_pass test) (sym (rolls-Captured group)) ∙ fold-roll-Cond Bool (cond_layer_passes test) (layer.Captured group)
 
 pub passes_last : (test : Written → Bool) (word : Code) → cond_patterns_pass test (Last word) ≡ true
 unfolding cond_patterns_pass

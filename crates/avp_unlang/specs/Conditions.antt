@@ -28,7 +28,7 @@ use Rattle.avp_unlang.specs.declared.tree.Comparand.{Comparand}
 use Rattle.avp_unlang.specs.declared.tree.Comparand.TheVariants.{Literal, Instance}
 use Rattle.avp_unlang.specs.declared.tree.Comparison.{Comparison}
 use Rattle.avp_unlang.specs.declared.tree.Cond.{Cond}
-use Rattle.avp_unlang.specs.declared.tree.Cond.TheVariants.{Any, All, Not, Last, Present, PresentSelected, Compare, CompareMeant, Match}
+use Rattle.avp_unlang.specs.declared.tree.Cond.TheVariants.{Any, All, Not, Last, Present, PresentSelected, Compare, CompareMeant, Match, Captured}
 use Rattle.avp_unlang.specs.declared.tree.Matching.{Matching as MatchingTree}
 use Rattle.avp_unlang.specs.declared.tree.MeantComparand.{MeantComparand}
 use Rattle.avp_unlang.specs.declared.tree.MeantComparand.TheVariants as meant
@@ -37,6 +37,7 @@ use Rattle.avp_unlang.specs.declared.tree.Relation.{Relation}
 use Rattle.avp_unlang.specs.declared.tree.Relation.TheVariants as relation
 use Rattle.avp_unlang.specs.Forms.{Form, Becomes, Chain, Gives, ◌>>◌, ◌>>=◌}
 use Rattle.avp_dict.specs.Ascii.{backslash, left_brace, percent, slash}
+use Rattle.avp_unlang.specs.Parts.{group_in}
 use Rattle.avp_unlang.specs.Places.{Place}
 use Rattle.avp_unlang.specs.References.{AlikeIs, ReadableIs, readable, type_of}
 use Rattle.avp_unlang.specs.Selecting.{selection_of}
@@ -303,6 +304,8 @@ OperandFrom profile dictionary inner (Operator sign.Reference) after c rest =
     ReferredIs profile dictionary after c rest
 OperandFrom profile dictionary inner (Word word) after c rest =
     WordFrom profile dictionary (code_named word) word after c rest
+OperandFrom profile dictionary inner (Quoted quote.Double text) after c rest =
+    Becomes (option_map Captured (group_in profile text)) after c rest
 OperandFrom profile dictionary inner _ after c rest = ⊥
 
 abbrev pub OperandIs : Profile → Dictionary → Form Place Cond → Form Place Cond

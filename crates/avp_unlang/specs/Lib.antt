@@ -1,10 +1,14 @@
 pub mod Between
+pub mod CaptureUse
+pub mod Captures
 pub mod Cleanness
 pub mod Conditions
+pub mod Evaluations
 pub mod Faults
 pub mod Forms
 pub mod Lines
 pub mod Meaning
+pub mod MeaningByTruth
 pub mod Parts
 pub mod PatternTruth
 pub mod Places

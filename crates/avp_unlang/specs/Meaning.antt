@@ -7,8 +7,9 @@ use Rattle.avp_lists.specs.declared.edits.Edit.{Edit}
 use Rattle.avp_lists.specs.declared.lists.State.{State}
 use Rattle.avp_lists.specs.declared.tags.Selection.{Selection}
 use Rattle.avp_dict.specs.Dictionary.{Dictionary}
+use Rattle.avp_unlang.specs.Captures.{Captures, filled, no_captures}
 use Rattle.avp_unlang.specs.Resolutions.{resolution}
-use Rattle.avp_unlang.specs.Truth.{truth_by}
+use Rattle.avp_unlang.specs.Evaluations.{evaluated}
 use Rattle.avp_unlang.specs.declared.codes.Code.{Code}
 use Rattle.avp_unlang.specs.declared.codes.Code.TheVariants as code
 use Rattle.avp_unlang.specs.declared.meaning.reasons.Reason.{Reason}
@@ -81,55 +82,73 @@ line_result dictionary line s = result_from line s (resolution dictionary line s
 
 -- ---- meanings
 
--- what follows from a state and a code
+-- a point of a run: where it is, and what was captured last
+pub record Point : Type 0 where
+  pub outcome : Outcome
+  pub captures : Captures
+
+-- a point where the run goes on
+abbrev pub going_on : State → Code → Captures → Point
+going_on s c captures = record { outcome = running s c; captures = captures }
+
+-- what follows from a state, a code and what was captured
 abbrev pub Meaning : Type 0
-Meaning = State → Code → Outcome
+Meaning = State → Code → Captures → Point
 
 -- a condition, and what its block means
 pub record Choice : Type 0 where
   pub cond : Cond
   pub block : Meaning
 
--- goes on from an outcome, unless it is a stop
-abbrev pub unless_stop : Outcome → Meaning → Outcome
-unless_stop o next = if o.stopped then o else next o.state o.code
+-- goes on from a point, unless the run stopped
+abbrev pub unless_stop : Point → Meaning → Point
+unless_stop p next =
+    if p.outcome.stopped then p else next p.outcome.state p.outcome.code p.captures
 
 -- one after the other
 abbrev pub in_order : List Meaning → Meaning
-in_order [] s c = running s c
-in_order (m ∷ ms) s c = unless_stop (m s c) (in_order ms)
+in_order [] s c captures = going_on s c captures
+in_order (m ∷ ms) s c captures = unless_stop (m s c captures) (in_order ms)
 
 -- the lines of an update, each with the lines before it done; one that fails gives the lists at the entry back
-abbrev pub after_line : State → LineResult → Code → Meaning → Outcome
-after_line entry (Edited s) c others = others s c
-after_line entry (Failed why) c others = after_failure entry
+abbrev pub after_line : State → LineResult → Code → Captures → Meaning → Point
+after_line entry (Edited s) c captures others = others s c captures
+after_line entry (Failed why) c captures others =
+    record { outcome = after_failure entry; captures = captures }
 
+-- what was captured is put into their texts
 abbrev pub all_lines : Dictionary → State → List Line → Meaning
-all_lines dictionary entry [] s c = running s c
-all_lines dictionary entry (line ∷ others) s c =
-    after_line entry (line_result dictionary line s) c (all_lines dictionary entry others)
+all_lines dictionary entry [] s c captures = going_on s c captures
+all_lines dictionary entry (line ∷ others) s c captures =
+    after_line entry (line_result dictionary (filled captures line) s) c captures
+    (all_lines dictionary entry others)
 
--- the first branch whose condition is true, else the last block
+-- the first branch whose condition is true, else the last block; each condition is evaluated with what those before it
+-- captured
 abbrev pub first_true : Dictionary → List Choice → Meaning → Meaning
-first_true dictionary [] otherwise s c = otherwise s c
-first_true dictionary (b ∷ bs) otherwise s c =
-    if truth_by dictionary b.cond s c then b.block s c
-    else first_true dictionary bs otherwise s c
+first_true dictionary [] otherwise s c captures = otherwise s c captures
+first_true dictionary (b ∷ bs) otherwise s c captures =
+    let e = evaluated dictionary b.cond s c captures in
+    if e.truth then b.block s c e.captures else first_true dictionary bs otherwise s c e.captures
 
 abbrev pub if_given : Option (List Meaning) → Meaning
-if_given None s c = running s c
-if_given (Some block) s c = in_order block s c
+if_given None s c captures = going_on s c captures
+if_given (Some block) s c captures = in_order block s c captures
 
--- a transaction whose body stopped gives the lists at its entry back, and the run goes on
-abbrev pub after_body : State → Outcome → Outcome
-after_body entry o = if o.stopped then running entry o.code else o
+-- a transaction whose body stopped gives the lists at its entry back, and the run goes on; what was captured stays
+abbrev pub after_body : State → Point → Point
+after_body entry p =
+    if p.outcome.stopped then going_on entry p.outcome.code p.captures else p
 
 abbrev pub statement_meaning : Dictionary → Statement-F Meaning Choice → Meaning
-statement_meaning dictionary (Update n lines) s c = all_lines dictionary s lines s c
-statement_meaning dictionary (If branches otherwise) s c =
-    first_true dictionary branches (if_given otherwise) s c
-statement_meaning dictionary (Transaction n block) s c = after_body s (in_order block s c)
-statement_meaning dictionary (Word n word) s c = after_word word s
+statement_meaning dictionary (Update n lines) s c captures =
+    all_lines dictionary s lines s c captures
+statement_meaning dictionary (If branches otherwise) s c captures =
+    first_true dictionary branches (if_given otherwise) s c captures
+statement_meaning dictionary (Transaction n block) s c captures =
+    after_body s (in_order block s c captures)
+statement_meaning dictionary (Word n word) s c captures =
+    record { outcome = after_word word s; captures = captures }
 
 abbrev pub branch_meaning : Branch-F Meaning Choice → Choice
 branch_meaning b = record { cond = b.cond; block = in_order b.block }
@@ -138,6 +157,9 @@ branch_meaning b = record { cond = b.cond; block = in_order b.block }
 abbrev pub meaning : Dictionary → Statement → Meaning
 meaning dictionary = fold-Statement Meaning Choice (statement_meaning dictionary) branch_meaning
 
--- what a policy means
-abbrev pub meaning_of : Dictionary → List Statement → Meaning
-meaning_of dictionary statements = in_order (map (meaning dictionary) statements)
+abbrev pub block_meaning : Dictionary → List Statement → Meaning
+block_meaning dictionary statements = in_order (map (meaning dictionary) statements)
+
+-- what a policy means: where it begins, nothing was captured
+abbrev pub meaning_of : Dictionary → List Statement → State → Code → Outcome
+meaning_of dictionary statements s c = (block_meaning dictionary statements s c no_captures).outcome

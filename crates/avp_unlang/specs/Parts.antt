@@ -1,14 +1,17 @@
--- Texts between double quotes into which values are put: `%{name}` and `%{list:name}`, with `%%` for a plain `%`.
-use Rattle.std.specs.Prelude.{◌≡◌, ℕ, zero, Bool, true, false, ◌&&◌, ◌==◌, if◌then◌else◌, List, [], ◌∷◌, drop, take, Option, Some, None, is_some}
+-- Texts between double quotes into which values are put: `%{name}` and `%{list:name}`, with `%%` for a plain `%`; in a
+-- wider policy also `%{0}` to `%{9}`, for what a comparison with a pattern captured.
+use Rattle.std.specs.Prelude.{◌≡◌, ◌-◌, ℕ, zero, Bool, true, false, ◌&&◌, ◌==◌, if◌then◌else◌, List, [], ◌∷◌, drop, take, Option, Some, None, is_some, option_map}
+use Rattle.std.specs.Char.{is_ascii_digit}
+use Rattle.std.specs.Option.{option_and_then}
 use Rattle.avp_dict.specs.Dictionary.{Dictionary}
 use Rattle.avp_forms.specs.declared.profiles.Profile.{Profile}
 use Rattle.avp_forms.specs.declared.profiles.Profile.TheVariants.{Plain, Wider}
 use Rattle.avp_dict.specs.Quotes.{double_escape}
 use Rattle.avp_unlang.specs.declared.text.references.Reference.{Reference}
 use Rattle.avp_unlang.specs.declared.tree.Part.{Part}
-use Rattle.avp_unlang.specs.declared.tree.Part.TheVariants.{Text, Instance, Meant}
+use Rattle.avp_unlang.specs.declared.tree.Part.TheVariants.{Capture, Text, Instance, Meant}
 use Rattle.avp_unlang.specs.Forms.{Form, While}
-use Rattle.avp_dict.specs.Ascii.{backslash, left_brace, percent, right_brace}
+use Rattle.avp_dict.specs.Ascii.{backslash, digit_zero, left_brace, percent, right_brace}
 use Rattle.avp_unlang.specs.References.{readable}
 use Rattle.avp_unlang.specs.Selecting.{selection_of}
 use Rattle.avp_unlang.specs.Tokens.{word_length}
@@ -46,12 +49,10 @@ closed_after n text (c ∷ cs) = if c == right_brace then Some (take n text, cs)
 abbrev pub braced : List ℕ → Option (List ℕ × List ℕ)
 braced text = closed_after (word_length text) text (drop (word_length text) text)
 
--- `%{`, a word that refers to values, and `}`
-abbrev pub InstanceIs : Profile → Dictionary → Form (List ℕ) Reference
-InstanceIs profile dictionary text found rest =
-    (inner : List ℕ) × (after_opening text ≡ Some inner)
-    × (word : List ℕ) × (braced inner ≡ Some (word, rest))
-    × (readable profile dictionary word ≡ Some found)
+-- a group of what was captured, by its digit; a plain policy has none
+unfoldable pub group_named : Profile → List ℕ → Option ℕ
+group_named Wider (c ∷ []) = if is_ascii_digit c then Some (c - digit_zero) else None
+group_named _ _ = None
 
 -- a value that is put in: in a wider policy as what it means
 abbrev pub part_of : Profile → Dictionary → Reference → Part
@@ -59,14 +60,26 @@ part_of Plain dictionary found = Instance found.list found.target.named.id
 part_of Wider dictionary found =
     Meant found.list found.target.named.id (selection_of dictionary found.target)
 
--- as many octets as follow one another, or a value that is put in
+-- what a word stands for: a group, or a reference to values
+abbrev pub part_named : Profile → Dictionary → List ℕ → Option Part
+part_named profile dictionary word = elim (group_named profile word) [
+  | None ↦ option_map (part_of profile dictionary) (readable profile dictionary word)
+  | Some group ↦ Some (Capture group)
+]
+
+-- `%{`, a word that stands for what is put in, and `}`
+abbrev pub ExpansionIs : Profile → Dictionary → Form (List ℕ) Part
+ExpansionIs profile dictionary text part rest =
+    (inner : List ℕ) × (after_opening text ≡ Some inner)
+    × (word : List ℕ) × (braced inner ≡ Some (word, rest))
+    × (part_named profile dictionary word ≡ Some part)
+
+-- as many octets as follow one another, or what is put in
 abbrev pub PartIs : Profile → Dictionary → Form (List ℕ) Part
 PartIs profile dictionary text (Text octets) rest =
     (begins_octet text ≡ true) × While begins_octet OctetIs text octets rest
 PartIs profile dictionary text part rest =
-    (begins_octet text ≡ false)
-    × (found : Reference) × InstanceIs profile dictionary text found rest
-    × (part ≡ part_of profile dictionary found)
+    (begins_octet text ≡ false) × ExpansionIs profile dictionary text part rest
 
 abbrev pub is_left : List ℕ → Bool
 is_left [] = false
@@ -76,3 +89,14 @@ is_left (c ∷ cs) = true
 abbrev pub PartsAre : Profile → Dictionary → List ℕ → List Part → Type 0
 PartsAre profile dictionary text parts =
     (end : List ℕ) × While is_left (PartIs profile dictionary) text parts end
+
+-- ---- groups by themselves
+
+abbrev pub only_group : Profile → List ℕ × List ℕ → Option ℕ
+only_group profile (word, []) = group_named profile word
+only_group profile (word, _ ∷ _) = None
+
+-- the group that a whole text puts in: `%{`, its digit, and `}`
+unfoldable pub group_in : Profile → List ℕ → Option ℕ
+group_in profile text =
+    option_and_then (only_group profile) (option_and_then braced (after_opening text))

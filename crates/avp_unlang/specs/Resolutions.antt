@@ -47,7 +47,7 @@ pair_put dictionary pair = value_put dictionary pair.id pair.value
 abbrev pub meaning_put : Dictionary → Pair → List ℕ
 meaning_put dictionary pair = text_put Wider pair.id pair.value dictionary
 
--- octets as they are, or the first instance; nothing is put in where there is none
+-- octets as they are, or the first instance; nothing is put in where there is none, and for what was captured
 abbrev pub part_text : Dictionary → State → Part → List ℕ
 part_text dictionary s (part.Text os) = os
 part_text dictionary s (part.Instance list id) =
@@ -55,6 +55,7 @@ part_text dictionary s (part.Instance list id) =
 part_text dictionary s (part.Meant list id selection) =
     option_map_or (meaning_put dictionary)
     (first_selected_instance selection id (list_of list s)) []
+part_text dictionary s (part.Capture group) = []
 
 abbrev pub parts_text : Dictionary → State → List Part → List ℕ
 parts_text dictionary s parts = flat_map (part_text dictionary s) parts

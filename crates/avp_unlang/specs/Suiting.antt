@@ -14,7 +14,7 @@ use Rattle.avp_unlang.specs.declared.tree.Comparison.{Comparison}
 use Rattle.avp_unlang.specs.declared.tree.Branch.{Branch}
 use Rattle.avp_unlang.specs.declared.tree.Cond.{Cond}
 use Rattle.avp_unlang.specs.declared.tree.Cond.TheFolds.{fold-Cond}
-use Rattle.avp_unlang.specs.declared.tree.Cond.TheOpen.{Cond-F, Any, All, Not, Last, Present, PresentSelected, Compare, CompareMeant, Match}
+use Rattle.avp_unlang.specs.declared.tree.Cond.TheOpen.{Cond-F, Any, All, Not, Last, Present, PresentSelected, Compare, CompareMeant, Match, Captured}
 use Rattle.avp_unlang.specs.declared.tree.Statement.{Statement}
 use Rattle.avp_unlang.specs.declared.tree.Statement.TheFolds.{fold-Statement, fold-Branch}
 use Rattle.avp_unlang.specs.declared.tree.Statement.TheOpen.{Statement-F, Branch-F, Update, If, Transaction, Word}
@@ -58,6 +58,7 @@ cond_layer_suits dictionary (Compare comparison) = comparison_suits dictionary c
 cond_layer_suits dictionary (CompareMeant comparison) = true
 cond_layer_suits dictionary (Match matching) =
     same_kind kinds.Text (type_of dictionary matching.id)
+cond_layer_suits dictionary (Captured group) = true
 
 unfoldable pub cond_suits : Dictionary → Cond → Bool
 cond_suits dictionary = fold-Cond Bool (cond_layer_suits dictionary)

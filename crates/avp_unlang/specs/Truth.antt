@@ -32,7 +32,7 @@ use Rattle.avp_unlang.specs.declared.tree.Comparand.TheVariants.{Literal, Instan
 use Rattle.avp_unlang.specs.declared.tree.Comparison.{Comparison}
 use Rattle.avp_unlang.specs.declared.tree.Cond.{Cond}
 use Rattle.avp_unlang.specs.declared.tree.Cond.TheFolds.{fold-Cond}
-use Rattle.avp_unlang.specs.declared.tree.Cond.TheOpen.{Cond-F, Any, All, Not, Last, Present, PresentSelected, Compare, CompareMeant, Match}
+use Rattle.avp_unlang.specs.declared.tree.Cond.TheOpen.{Cond-F, Any, All, Not, Last, Present, PresentSelected, Compare, CompareMeant, Match, Captured}
 use Rattle.avp_unlang.specs.declared.tree.Matching.{Matching}
 use Rattle.avp_unlang.specs.declared.tree.MeantComparand.{MeantComparand}
 use Rattle.avp_unlang.specs.declared.tree.MeantComparand.TheVariants as meant
@@ -158,7 +158,8 @@ same_code _ _ = false
 abbrev pub Test : Type 0
 Test = State → Code → Bool
 
--- a condition, each part of it decided: a code is true if it is the last one, and a reference if it has an instance
+-- a condition, each part of it decided: a code is true if it is the last one, and a reference if it has an instance;
+-- what was captured is not looked at, and counts as empty
 abbrev pub cond_truth_with : (Matching → State → Bool) → Cond-F Test → Test
 cond_truth_with matched (Any tests) s c = list_any (λ (test : Test). test s c) tests
 cond_truth_with matched (All tests) s c = list_all (λ (test : Test). test s c) tests
@@ -170,6 +171,7 @@ cond_truth_with matched (PresentSelected list id selection) s c =
 cond_truth_with matched (Compare comparison) s c = is_met comparison s
 cond_truth_with matched (CompareMeant comparison) s c = is_met_by_meaning comparison s
 cond_truth_with matched (Match matching) s c = matched matching s
+cond_truth_with matched (Captured group) s c = false
 
 abbrev pub never_matched : Matching → State → Bool
 never_matched matching s = false
@@ -203,6 +205,7 @@ cond_comparable (PresentSelected list id selection) s = true
 cond_comparable (Compare comparison) s = is_comparable comparison s
 cond_comparable (CompareMeant comparison) s = true
 cond_comparable (Match matching) s = option_map_or is_matchable (instance_in matching s) true
+cond_comparable (Captured group) s = true
 
 -- what a condition compares in a state is raw, or of the type that the condition keeps for it
 unfoldable pub comparable : Cond → State → Bool

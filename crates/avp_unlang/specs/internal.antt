@@ -1,2 +1,3 @@
+pub mod CaptureRoom
 pub mod Cursors
 pub mod Depth

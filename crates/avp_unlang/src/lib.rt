@@ -16,10 +16,13 @@ pub use boxed::Boxed;
 pub use codes::Code;
 pub use faults::{PolicyFault, PolicyKind};
 pub use items::Items;
+pub use meaning::captured::Captured;
+pub use meaning::evaluating::evaluate;
+pub use meaning::laws::captures_unused;
 pub use meaning::matchers::Matchers;
 pub use meaning::matching::holds_by;
 pub use meaning::reasons::Reason;
-pub use meaning::resolving::{Unresolved, resolve};
+pub use meaning::resolving::{Unresolved, resolve, resolve_by};
 pub use meaning::truth::holds;
 pub use text::policies::{Policy, keeps_reply_clean, one_policy, read_policy, size};
 pub use tree::{

@@ -1,5 +1,6 @@
 //! Policies read from a text.
 
+pub mod capture_uses;
 pub mod compiling;
 pub mod conditions;
 pub mod cursors;

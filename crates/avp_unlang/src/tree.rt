@@ -17,6 +17,8 @@ pub enum Part {
     Instance(List, AttrId),
     /// The same in a wider policy: what the first of these instances means.
     Meant(List, AttrId, Selection),
+    /// `%{0}` to `%{9}` in a wider policy: what this group of the last comparison with a pattern captured.
+    Capture(u8),
 }
 
 pub type Parts = Items<Part>;
@@ -142,6 +144,9 @@ pub enum Cond {
     Compare(Comparison),
     CompareMeant(MeantComparison),
     Match(Matching),
+    /// `"%{0}"` to `"%{9}"` in a wider policy: whether this group of the last comparison with a pattern captured an octet
+    /// or more.
+    Captured(u8),
 }
 
 /// A condition, and what is done where it is the first that holds.

@@ -11,6 +11,8 @@ use std::alloc::Global;
 use std::test::Fail;
 
 #[cfg(test)]
+mod captures;
+#[cfg(test)]
 mod meanings;
 #[cfg(test)]
 mod patterns;

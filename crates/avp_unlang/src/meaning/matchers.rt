@@ -1,10 +1,10 @@
 //! What searches for the patterns of a policy.
 
-ghost use Rattle.std.specs.Prelude.{◌≡◌, ◌<◌, IfOk, IsTrue, length, slice_index_or};
-ghost use Rattle.avp_patterns.specs.Matching.{matches};
+ghost use Rattle.std.specs.Prelude.{◌≡◌, ◌<◌, All, IfOk, IfSome, IsTrue, length, slice_index_or};
+ghost use Rattle.avp_patterns.specs.Matching.{IsWithin, groups_in, matches};
 ghost use Rattle.avp_unlang.specs.PolicyPatterns.{is_among, same_pattern};
 
-use avp_patterns::{Pattern, PatternFlags, PatternMatcher};
+use avp_patterns::{MAX_GROUPS, Pattern, PatternFlags, PatternMatcher};
 use std::alloc::{AllocError, Global};
 use std::marker::Model;
 
@@ -71,5 +71,21 @@ impl<'p> Matchers<'p> {
     {
         let place = self.place_of(text, flags);
         self.matchers[place].is_match(octets)
+    }
+
+    /// Where the groups of the leftmost match of one of the patterns begin and end.
+    pub(crate) fn captures(
+        &mut self,
+        text: &[u8],
+        flags: PatternFlags,
+        octets: &[u8],
+    ) -> Option<[Option<(usize, usize)>; MAX_GROUPS]>
+        requires { IsTrue (is_among self.old (record { text = text.now; flags = flags })) }
+        ensures found { result ≡ groups_in (record { text = text.now; flags = flags }) octets.now }
+        ensures within { IfSome result (λ groups. All (IsWithin octets.now) groups) }
+        ensures same { self.new ≡ self.old }
+    {
+        let place = self.place_of(text, flags);
+        self.matchers[place].captures(octets)
     }
 }

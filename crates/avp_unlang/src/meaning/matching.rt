@@ -21,8 +21,8 @@ use avp_dict::Dictionary;
 use avp_lists::{Pair, Store, Value};
 use avp_patterns::PatternFlags;
 
-// The most octets of an attribute.
-const MAX_OCTETS: usize = 4012;
+/// The most octets of an attribute.
+pub(crate) const MAX_OCTETS: usize = 4012;
 
 // Whether a pattern matches `0x` and the hexadecimal digits of some octets.
 fn matches_digits(
@@ -125,7 +125,7 @@ fn all_hold_by<S: Store>(
 /// also where it compares with patterns. `dictionary` is the one by which the condition was read. No condition is
 /// refused for memory.
 #[cycle(matched)]
-#[tactic(auto, using(crate::proofs::Truths::truth_by_any, crate::proofs::Truths::truth_by_all, crate::proofs::Truths::truth_by_not, crate::proofs::Truths::truth_by_last, crate::proofs::Truths::truth_by_present, crate::proofs::Truths::truth_by_present_selected, crate::proofs::Truths::truth_by_compare, crate::proofs::Truths::truth_by_compare_meant, crate::proofs::Truths::truth_by_match, crate::proofs::Truths::comparable_any, crate::proofs::Truths::comparable_all, crate::proofs::Truths::comparable_not, crate::proofs::Truths::comparable_compare, crate::proofs::Truths::comparable_match, crate::proofs::Truths::passes_any, crate::proofs::Truths::passes_all, crate::proofs::Truths::passes_not, crate::proofs::Truths::passes_match))]
+#[tactic(auto, using(crate::proofs::Truths::truth_by_any, crate::proofs::Truths::truth_by_all, crate::proofs::Truths::truth_by_not, crate::proofs::Truths::truth_by_last, crate::proofs::Truths::truth_by_present, crate::proofs::Truths::truth_by_present_selected, crate::proofs::Truths::truth_by_compare, crate::proofs::Truths::truth_by_compare_meant, crate::proofs::Truths::truth_by_match, crate::proofs::Truths::truth_by_captured, crate::proofs::Truths::comparable_any, crate::proofs::Truths::comparable_all, crate::proofs::Truths::comparable_not, crate::proofs::Truths::comparable_compare, crate::proofs::Truths::comparable_match, crate::proofs::Truths::passes_any, crate::proofs::Truths::passes_all, crate::proofs::Truths::passes_not, crate::proofs::Truths::passes_match))]
 pub fn holds_by<S: Store>(
     dictionary: &Dictionary,
     cond: &Cond,
@@ -151,5 +151,6 @@ pub fn holds_by<S: Store>(
         Cond::Compare(comparison) => is_met(comparison, store),
         Cond::CompareMeant(comparison) => is_met_by_meaning(comparison, store),
         Cond::Match(matching) => is_matched(matchers, matching, store),
+        Cond::Captured(_) => false,
     }
 }

@@ -1,14 +1,16 @@
 //! What update lines set their attributes to.
 
-ghost use Rattle.std.specs.Prelude.{◌≡◌, ◌++◌, IsTrue, IfOk, IfSome, OnOk, Some};
+ghost use Rattle.std.specs.Prelude.{◌≡◌, ◌++◌, map, IsTrue, IfOk, IfSome, OnOk, Some};
 ghost use Rattle.avp_lists.specs.History.{present};
 ghost use Rattle.avp_lists.specs.Meets.{Meets};
 ghost use Rattle.avp_dict.specs.Limits.{fits, is_known, is_typed};
 ghost use Rattle.avp_dict.specs.Octets.{octets, read_value};
 ghost use Rattle.avp_dict.specs.Spellings.{unless_long, value_spelled};
+ghost use Rattle.avp_unlang.specs.Captures.{captured, filled, filled_part, filled_source};
 ghost use Rattle.avp_unlang.specs.Resolutions.{StateFits, given, instance_value, is_memory, line_suits, literal_fits, meaning_put, pair_of, pair_put, part_text, parts_text, read_by_type, resolution, retagged, source_value, tagged_value, unresolved, wider_value};
 ghost use Rattle.avp_unlang.specs.declared.meaning.resolving.Unresolved.TheVariants as why;
 
+use crate::meaning::captured::Captured;
 use crate::tree::{Line, Part, Source};
 use avp_dict::{Dictionary, Form, Kind, Named, ValueFault};
 use avp_forms::{FormValue, Profile, Target, text_put, value_written};
@@ -83,10 +85,11 @@ fn push_part<S: Store>(
     dictionary: &Dictionary,
     part: &Part,
     store: &S,
+    captured: &Captured,
 ) -> Result<(), AllocError>
     requires { StateFits dictionary.now (present (S.history store.now)) }
-    ensures { OnOk result (text.new.items ≡ text.old.items
-        ++ part_text dictionary.now (present (S.history store.now)) part.now) }
+    ensures { OnOk result (text.new.items ≡ text.old.items ++ part_text dictionary.now
+        (present (S.history store.now)) (filled_part captured.now.captures part.now)) }
 {
     match part {
         Part::Text(octets) => text.extend_from_slice(octets.as_slice()),
@@ -98,6 +101,7 @@ fn push_part<S: Store>(
             Some(pair) => push_meaning(text, dictionary, pair),
             None => Ok(()),
         },
+        Part::Capture(group) => text.extend_from_slice(captured.group(*group)),
     }
 }
 
@@ -106,14 +110,15 @@ fn parts_text<S: Store>(
     dictionary: &Dictionary,
     parts: &[Part],
     store: &S,
+    captured: &Captured,
 ) -> Result<Vec<u8>, AllocError>
     requires { StateFits dictionary.now (present (S.history store.now)) }
     ensures { IfOk result (λ text. text.items ≡ parts_text dictionary.now
-        (present (S.history store.now)) parts.now) }
+        (present (S.history store.now)) (map (filled_part captured.now.captures) parts.now)) }
 {
     let mut text = Vec::new(alloc);
     for part in parts {
-        push_part(&mut text, dictionary, part, store)?;
+        push_part(&mut text, dictionary, part, store, captured)?;
     }
     Ok(text)
 }
@@ -258,14 +263,16 @@ fn wider_text_value<S: Store>(
     target: Target,
     parts: &[Part],
     store: &S,
+    captured: &Captured,
 ) -> Result<Value, Unresolved>
     requires known { IsTrue (is_known target.named.id dictionary.now) }
     requires fits { StateFits dictionary.now (present (S.history store.now)) }
     ensures resolves { Meets is_memory result (wider_value dictionary.now target
-        (parts_text dictionary.now (present (S.history store.now)) parts.now)) }
+        (parts_text dictionary.now (present (S.history store.now))
+        (map (filled_part captured.now.captures) parts.now))) }
     ensures fits { IfOk result (λ v. IsTrue (fits (pair_of target.named.id v) dictionary.now)) }
 {
-    let text = parts_text(alloc, dictionary, parts, store)?;
+    let text = parts_text(alloc, dictionary, parts, store, captured)?;
     wider_value(alloc, dictionary, target, &text)
 }
 
@@ -276,14 +283,16 @@ fn text_value<S: Store>(
     name: Named,
     parts: &[Part],
     store: &S,
+    captured: &Captured,
 ) -> Result<Value, Unresolved>
     requires known { IsTrue (is_known name.id dictionary.now) }
     requires fits { StateFits dictionary.now (present (S.history store.now)) }
     ensures resolves { Meets is_memory result (given (value_spelled name
-        (parts_text dictionary.now (present (S.history store.now)) parts.now) dictionary.now)) }
+        (parts_text dictionary.now (present (S.history store.now))
+        (map (filled_part captured.now.captures) parts.now)) dictionary.now)) }
     ensures fits { IfOk result (λ v. IsTrue (fits (pair_of name.id v) dictionary.now)) }
 {
-    let text = parts_text(alloc, dictionary, parts, store)?;
+    let text = parts_text(alloc, dictionary, parts, store, captured)?;
     let value = dictionary.value_of_text(alloc, name, &text)?;
     Ok(value)
 }
@@ -294,13 +303,14 @@ fn source_value<S: Store>(
     id: AttrId,
     source: &Source,
     store: &S,
+    captured: &Captured,
 ) -> Result<Value, Unresolved>
     requires known { IsTrue (is_known id dictionary.now) }
     requires literal { IsTrue (literal_fits dictionary.now id source.now) }
     requires fits { StateFits dictionary.now (present (S.history store.now)) }
     ensures resolves { Meets is_memory result
-        (source_value dictionary.now (present (S.history store.now))
-        id source.now) }
+        (source_value dictionary.now (present (S.history store.now)) id
+        (filled_source captured.now.captures source.now)) }
     ensures fits { IfOk result (λ v. IsTrue (fits (pair_of id v) dictionary.now)) }
 {
     match source {
@@ -311,11 +321,12 @@ fn source_value<S: Store>(
             Named { id, raw: *raw },
             parts.as_slice(),
             store,
+            captured,
         ),
         Source::WiderText(raw, tag, parts) => {
             let named = Named { id, raw: *raw };
             let target = Target { named, tag: *tag };
-            wider_text_value(alloc, dictionary, target, parts.as_slice(), store)
+            wider_text_value(alloc, dictionary, target, parts.as_slice(), store, captured)
         }
         Source::Instance(list, other) => match store.first(*list, *other) {
             None => Err(Unresolved::Absent),
@@ -331,9 +342,28 @@ fn source_value<S: Store>(
     }
 }
 
-/// The pair of an update line in a store's present lists, or why there is none. `dictionary` is the one by which the
-/// line was read.
+/// The pair of an update line in a store's present lists, or why there is none, with what was captured put into its
+/// text. `dictionary` is the one by which the line was read.
 #[tactic(auto, unfolding(crate::specs::Resolutions::resolution, crate::specs::Resolutions::line_suits))]
+pub fn resolve_by<S: Store>(
+    alloc: Global,
+    dictionary: &Dictionary,
+    line: &Line,
+    store: &S,
+    captured: &Captured,
+) -> Result<Pair, Unresolved>
+    requires line { IsTrue (line_suits dictionary.now line.now) }
+    requires store { StateFits dictionary.now (present (S.history store.now)) }
+    ensures resolves { Meets is_memory result (resolution dictionary.now
+        (filled captured.now.captures line.now) (present (S.history store.now))) }
+    ensures fits { IfOk result (λ pair. IsTrue (fits pair dictionary.now)) }
+{
+    let value = source_value(alloc, dictionary, line.id, &line.source, store, captured)?;
+    Ok(Pair { id: line.id, value })
+}
+
+/// The pair of an update line in a store's present lists where nothing was captured, or why there is none. `dictionary`
+/// is the one by which the line was read.
 pub fn resolve<S: Store>(
     alloc: Global,
     dictionary: &Dictionary,
@@ -346,6 +376,6 @@ pub fn resolve<S: Store>(
         (resolution dictionary.now line.now (present (S.history store.now))) }
     ensures fits { IfOk result (λ pair. IsTrue (fits pair dictionary.now)) }
 {
-    let value = source_value(alloc, dictionary, line.id, &line.source, store)?;
-    Ok(Pair { id: line.id, value })
+    let captured = Captured::none(alloc);
+    resolve_by(alloc, dictionary, line, store, &captured)
 }

@@ -222,7 +222,7 @@ fn all_hold<S: Store>(conds: &[Cond], store: &S, code: Code) -> bool
 
 /// Whether a condition is true of a store's present lists, `code` being the last code. It takes no memory.
 #[cycle(conditions)]
-#[tactic(auto, using(crate::proofs::Truths::truth_any, crate::proofs::Truths::truth_all, crate::proofs::Truths::truth_not, crate::proofs::Truths::truth_last, crate::proofs::Truths::truth_present, crate::proofs::Truths::truth_present_selected, crate::proofs::Truths::truth_compare, crate::proofs::Truths::truth_compare_meant, crate::proofs::Truths::truth_match, crate::proofs::Truths::comparable_any, crate::proofs::Truths::comparable_all, crate::proofs::Truths::comparable_not, crate::proofs::Truths::comparable_compare))]
+#[tactic(auto, using(crate::proofs::Truths::truth_any, crate::proofs::Truths::truth_all, crate::proofs::Truths::truth_not, crate::proofs::Truths::truth_last, crate::proofs::Truths::truth_present, crate::proofs::Truths::truth_present_selected, crate::proofs::Truths::truth_compare, crate::proofs::Truths::truth_compare_meant, crate::proofs::Truths::truth_match, crate::proofs::Truths::truth_captured, crate::proofs::Truths::comparable_any, crate::proofs::Truths::comparable_all, crate::proofs::Truths::comparable_not, crate::proofs::Truths::comparable_compare))]
 pub fn holds<S: Store>(cond: &Cond, store: &S, code: Code) -> bool
     requires comparable { IsTrue (comparable cond.now (present (S.history store.now))) }
     ensures { result ≡ truth cond.now (present (S.history store.now)) code }
@@ -238,6 +238,6 @@ pub fn holds<S: Store>(cond: &Cond, store: &S, code: Code) -> bool
         }
         Cond::Compare(comparison) => is_met(comparison, store),
         Cond::CompareMeant(comparison) => is_met_by_meaning(comparison, store),
-        Cond::Match(_) => false,
+        Cond::Match(_) | Cond::Captured(_) => false,
     }
 }

@@ -160,7 +160,7 @@ fn compile_conds(alloc: Global, conds: &[Cond], compiled: &mut Compiled) -> Resu
 
 // Adds the patterns of a condition.
 #[cycle(conds)]
-#[tactic(auto, using(crate::proofs::Truths::passes_last, crate::proofs::Truths::passes_present, crate::proofs::Truths::passes_present_selected, crate::proofs::Truths::passes_compare, crate::proofs::Truths::passes_compare_meant))]
+#[tactic(auto, using(crate::proofs::Truths::passes_last, crate::proofs::Truths::passes_present, crate::proofs::Truths::passes_present_selected, crate::proofs::Truths::passes_compare, crate::proofs::Truths::passes_compare_meant, crate::proofs::Truths::passes_captured))]
 fn compile_cond(alloc: Global, cond: &Cond, compiled: &mut Compiled) -> Result<(), CompileFault>
     ensures pass { OnOk result (IsTrue (cond_patterns_pass (is_among compiled.new)
         cond.now)) }
@@ -175,7 +175,8 @@ fn compile_cond(alloc: Global, cond: &Cond, compiled: &mut Compiled) -> Result<(
         | Cond::Present(..)
         | Cond::PresentSelected(..)
         | Cond::Compare(_)
-        | Cond::CompareMeant(_) => Ok(()),
+        | Cond::CompareMeant(_)
+        | Cond::Captured(_) => Ok(()),
     }
 }
 

@@ -1,11 +1,13 @@
 //! Conditions, read from a text.
 
-ghost use Rattle.std.specs.Prelude.{◌≡◌, ◌≢◌, ◌≤◌, ◌∷◌, [], suc, length, Some, None, false, IfOk, IfErr};
+ghost use Rattle.std.specs.Prelude.{◌≡◌, ◌≢◌, ◌≤◌, ◌∷◌, [], suc, length, Some, None, false, IfOk, IfErr, option_map};
 ghost use Rattle.avp_unlang.specs.Conditions.{Both, Closed, ComparandOf, ComparedBy, ComparedIs, Either, Negated, ReferredIs, RelatedIs, Within, WordFrom, all_of, any_of, has_expansion, is_by_meaning, plain_literal, present_of, relation_of};
-ghost use Rattle.avp_unlang.specs.Forms.{Reads, ReadsAll};
+ghost use Rattle.avp_unlang.specs.Forms.{Becomes, Reads, ReadsAll};
+ghost use Rattle.avp_unlang.specs.Parts.{group_in};
 ghost use Rattle.avp_unlang.specs.References.{type_of};
 ghost use Rattle.avp_unlang.specs.Words.{code_named};
 ghost use Rattle.avp_unlang.specs.declared.faults.PolicyKind.TheVariants.{Memory};
+ghost use Rattle.avp_unlang.specs.declared.tree.Cond.TheVariants.{Captured};
 
 use crate::boxed::Boxed;
 use crate::codes::code_named;
@@ -13,6 +15,7 @@ use crate::faults::{PolicyFault, PolicyKind, Position, fault_at};
 use crate::items::Items;
 use crate::text::cursors::{Cursor, Read};
 use crate::text::meanings::related_by_meaning;
+use crate::text::parts::group_in;
 use crate::text::patterns::{matched, matcher_in};
 use crate::text::references::{Reference, readable, referred, type_of};
 use crate::text::selecting::selection_of;
@@ -265,6 +268,23 @@ fn worded_operand<'a>(
     }
 }
 
+// The operand of a text between double quotes, which is the token at the first place and before the second one.
+fn quoted_operand<'a>(
+    profile: Profile,
+    text: &Excerpt,
+    at: &Cursor<'a>,
+    after: Cursor<'a>,
+) -> Read<'a, Cond>
+    ensures read { Reads (Becomes (option_map Captured (group_in profile text.now)) after.entry)
+        result }
+    ensures shorter { IfOk result (λ x. length x.1.text ≤ length after.entry.text) }
+{
+    match group_in(profile, text) {
+        Some(group) => Ok((Cond::Captured(group), after)),
+        None => Err(at.misplaced()),
+    }
+}
+
 // The only condition of a list, else all of them.
 fn only_of(mut conds: Vec<Cond>) -> Result<Cond, Vec<Cond>>
     ensures ok { IfOk result (λ only. conds.items ≡ only ∷ []) }
@@ -316,6 +336,7 @@ fn operand<'a>(
         Token::Operator(Sign::Open) => closed(alloc, profile, dictionary, depth, after),
         Token::Operator(Sign::Reference) => referred_operand(alloc, profile, dictionary, &after),
         Token::Word(word) => worded_operand(alloc, profile, dictionary, word.as_slice(), after),
+        Token::Quoted(QuoteMark::Double, text) => quoted_operand(profile, &text, &at, after),
         _ => Err(at.misplaced()),
     }
 }

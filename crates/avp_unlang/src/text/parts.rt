@@ -1,9 +1,9 @@
 //! Texts between double quotes into which values are put.
 
-ghost use Rattle.std.specs.Prelude.{◌≡◌, ◌<◌, ℕ, List as TheList, length, IfOk, IfSome, IsTrue, OnErr};
+ghost use Rattle.std.specs.Prelude.{◌≡◌, ◌<◌, ℕ, List as TheList, length, IfOk, IfSome, IsTrue, OnErr, None, Some};
 ghost use Rattle.avp_unlang.specs.Forms.{Reads, ReadsAll, While};
-ghost use Rattle.avp_unlang.specs.declared.text.references.Reference.{Reference as Referred};
-ghost use Rattle.avp_unlang.specs.Parts.{InstanceIs, OctetIs, PartIs, PartsAre, after_opening, begins_octet, braced, is_left, octet_at, part_of};
+ghost use Rattle.avp_unlang.specs.declared.tree.Part.{Part as ThePart};
+ghost use Rattle.avp_unlang.specs.Parts.{ExpansionIs, OctetIs, PartIs, PartsAre, after_opening, begins_octet, braced, group_in, group_named, is_left, octet_at, part_named, part_of};
 
 use crate::faults::{PolicyFault, PolicyKind, Position, fault_at};
 use crate::items::Items;
@@ -78,25 +78,27 @@ fn braced<'a>(text: &Excerpt<'a>) -> Option<(Excerpt<'a>, Excerpt<'a>)>
     }
 }
 
-// What is put in by an expansion, and the text after it.
-fn instance<'a>(
-    profile: Profile,
-    dictionary: &Dictionary,
-    text: &Excerpt<'a>,
-) -> Result<(Reference, Excerpt<'a>), PolicyKind>
-    ensures ok { IfOk result (λ x. InstanceIs profile dictionary.now text.now x.0 x.1) }
-    ensures err { OnErr result ((found : Referred) (rest : TheList ℕ)
-        → InstanceIs profile dictionary.now text.now found rest → ⊥) }
-    ensures shorter { IfOk result (λ x. length x.1 < length text.now) }
+// A group of what was captured, by its digit; a plain policy has none.
+#[tactic(auto, unfolding(crate::specs::Parts::group_named))]
+fn group_named(profile: Profile, word: &[u8]) -> Option<u8>
+    ensures { result ≡ group_named profile word.now }
 {
-    let Some(inner) = after_opening(text) else {
-        return Err(PolicyKind::Unreadable);
-    };
-    let Some((word, rest)) = braced(&inner) else {
-        return Err(PolicyKind::Unreadable);
-    };
-    let found = readable(profile, dictionary, word.as_slice())?;
-    Ok((found, rest))
+    match (profile, word) {
+        (Profile::Wider, [digit]) if digit.is_ascii_digit() => Some(*digit - b'0'),
+        _ => None,
+    }
+}
+
+/// The group that a whole text puts in.
+#[tactic(auto, unfolding(crate::specs::Parts::group_in))]
+pub(crate) fn group_in(profile: Profile, text: &Excerpt) -> Option<u8>
+    ensures { result ≡ group_in profile text.now }
+{
+    let inner = after_opening(text)?;
+    match braced(&inner) {
+        Some((word, rest)) if !is_left(&rest) => group_named(profile, word.as_slice()),
+        _ => None,
+    }
 }
 
 // The part for a value that is put in.
@@ -109,6 +111,39 @@ fn part_of(profile: Profile, dictionary: &Dictionary, found: Reference) -> Part
         Profile::Plain => Part::Instance(found.list, id),
         Profile::Wider => Part::Meant(found.list, id, selection_of(dictionary, found.target)),
     }
+}
+
+// What a word stands for.
+fn part_named(profile: Profile, dictionary: &Dictionary, word: &[u8]) -> Result<Part, PolicyKind>
+    ensures ok { IfOk result (λ part. part_named profile dictionary.now word.now ≡ Some part) }
+    ensures err { OnErr result (part_named profile dictionary.now word.now ≡ None) }
+{
+    if let Some(group) = group_named(profile, word) {
+        return Ok(Part::Capture(group));
+    }
+    let found = readable(profile, dictionary, word)?;
+    Ok(part_of(profile, dictionary, found))
+}
+
+// What is put in by an expansion, and the text after it.
+fn expansion<'a>(
+    profile: Profile,
+    dictionary: &Dictionary,
+    text: &Excerpt<'a>,
+) -> Result<(Part, Excerpt<'a>), PolicyKind>
+    ensures ok { IfOk result (λ x. ExpansionIs profile dictionary.now text.now x.0 x.1) }
+    ensures err { OnErr result ((part : ThePart) (rest : TheList ℕ)
+        → ExpansionIs profile dictionary.now text.now part rest → ⊥) }
+    ensures shorter { IfOk result (λ x. length x.1 < length text.now) }
+{
+    let Some(inner) = after_opening(text) else {
+        return Err(PolicyKind::Unreadable);
+    };
+    let Some((word, rest)) = braced(&inner) else {
+        return Err(PolicyKind::Unreadable);
+    };
+    let found = part_named(profile, dictionary, word.as_slice())?;
+    Ok((found, rest))
 }
 
 // The part that a text begins with, and the text after it.
@@ -126,8 +161,8 @@ fn part<'a>(
         let (octets, rest) = octets(alloc, text)?;
         return Ok((Part::Text(octets), rest));
     }
-    match instance(profile, dictionary, &text) {
-        Ok((found, rest)) => Ok((part_of(profile, dictionary, found), rest)),
+    match expansion(profile, dictionary, &text) {
+        Ok((part, rest)) => Ok((part, rest)),
         Err(kind) => Err(fault_at(quoted, kind)),
     }
 }

@@ -6,6 +6,7 @@ ghost use Rattle.avp_dict.specs.LineNumbers.{line_after};
 ghost use Rattle.avp_forms.specs.Profiles.{profile_of};
 ghost use Rattle.avp_unlang.specs.declared.faults.PolicyKind.TheVariants.{Memory};
 ghost use Rattle.avp_unlang.specs.declared.tree.Statement.{Statement as Tree};
+ghost use Rattle.avp_unlang.specs.CaptureUse.{uses_captures};
 ghost use Rattle.avp_unlang.specs.Cleanness.{KeepsReplyClean};
 ghost use Rattle.avp_unlang.specs.Faults.{BeginsToken};
 ghost use Rattle.avp_unlang.specs.Forms.{ReadsPolicy};
@@ -16,6 +17,7 @@ ghost use Rattle.avp_unlang.specs.Sizes.{size_of};
 ghost use Rattle.avp_unlang.specs.Suiting.{IsSpelled, policy_suits};
 
 use crate::faults::PolicyFault;
+use crate::text::capture_uses::uses_captures;
 use crate::text::compiling::patterns_of;
 use crate::text::cursors::{Cursor, MAX_SIZE};
 use crate::text::statements::statements;
@@ -37,11 +39,13 @@ pub struct Policy {
     size: usize,
     // Each once.
     patterns: Vec<Pattern>,
+    captures: bool,
 }
 
 impl Model for Policy {
     ghost use Rattle.std.specs.Prelude.{◌≡◌, ◌≤◌, IsTrue, List};
     ghost use Rattle.avp_unlang.specs.declared.tree.Statement.{Statement};
+    ghost use Rattle.avp_unlang.specs.CaptureUse.{uses_captures};
     ghost use Rattle.avp_unlang.specs.Places.{max_size};
     ghost use Rattle.avp_unlang.specs.PolicyPatterns.{is_among, policy_patterns_pass};
     ghost use Rattle.avp_unlang.specs.Sizes.{size_of};
@@ -56,7 +60,8 @@ impl Model for Policy {
 
     ghost invariant = { λ p. (p.size ≡ size_of p.statements)
         × (p.size ≤ max_size)
-        × IsTrue (policy_patterns_pass (is_among p.patterns.items) p.statements) };
+        × IsTrue (policy_patterns_pass (is_among p.patterns.items) p.statements)
+        × (p.captures ≡ uses_captures p.statements) };
 }
 
 impl Policy {
@@ -72,6 +77,14 @@ impl Policy {
         ensures { IsTrue (policy_patterns_pass (is_among result.now) self.now) }
     {
         self.patterns.as_slice()
+    }
+
+    /// Whether a text or a condition looks at what a comparison with a pattern captured. Runs of other policies need not
+    /// keep it.
+    pub fn uses_captures(&self) -> bool
+        ensures { result ≡ uses_captures self.now }
+    {
+        self.captures
     }
 }
 
@@ -101,10 +114,12 @@ fn policy_of(alloc: Global, dictionary: &Dictionary, text: &[u8]) -> Result<Poli
     match end.token() {
         Token::End => {
             let patterns = patterns_of(alloc, profile, text, statements.as_slice())?;
+            let captures = uses_captures(statements.as_slice());
             Ok(Policy {
                 statements,
                 size: MAX_SIZE - end.room(),
                 patterns,
+                captures,
             })
         }
         _ => Err(end.misplaced()),

@@ -1,7 +1,5 @@
-use Rattle.std.proofs.Common.{subst, sym}
-use Rattle.avp_unlang.specs.Parts.{PartIs}
-use Rattle.avp_unlang.specs.declared.tree.Part.{Part}
-use Rattle.avp_unlang.proofs.PartsOne.{no_part, put_reads}
+use Rattle.std.proofs.Common.{sym}
+use Rattle.avp_unlang.proofs.PartsOne.{expansion_reads, no_part}
 use Rattle.avp_unlang.proofs.text.parts.part.Goals as goal
 
 pub returns-in-Err-clause-read : goal.returns-in-Err-clause-read
@@ -9,5 +7,4 @@ returns-in-Err-clause-read c = λ _. no_part c.args.profile c.args.dictionary.no
 
 pub returns-in-Ok-clause-read : goal.returns-in-Ok-clause-read
 returns-in-Ok-clause-read c =
-    subst (λ (k : Part). PartIs c.args.profile c.args.dictionary.now c.args.text k c.in-Ok.rest) (sym c.part_of.ensures)
-    (put_reads c.args.profile c.args.dictionary.now c.args.text c.in-Ok.found c.in-Ok.rest (sym c.if-begins_octet.ensures) c.in-Ok.ensures.ok)
+    expansion_reads c.args.profile c.args.dictionary.now c.args.text c.in-Ok.part c.in-Ok.rest (sym c.if-begins_octet.ensures) c.in-Ok.ensures.ok

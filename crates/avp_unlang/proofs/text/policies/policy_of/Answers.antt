@@ -1,5 +1,6 @@
 use Rattle.std.proofs.Common.{◌≡◌, ◌+◌, sym, ap, ◌∙◌, arith}
 use Rattle.avp_forms.specs.Profiles.{profile_of}
+use Rattle.avp_unlang.specs.CaptureUse.{uses_captures}
 use Rattle.avp_unlang.specs.Places.{Place}
 use Rattle.avp_unlang.specs.Policies.{SpellsPolicy}
 use Rattle.avp_unlang.specs.PolicyPatterns.{is_among, none_passes, policy_patterns_pass}
@@ -38,6 +39,7 @@ invariant_of-result c =
       omega (arith, c.room.ensures),
       omega arith,
       ap (policy_patterns_pass (is_among c.in_ok-patterns-in-End.patterns.items)) (sym c.as_slice.ensures) ∙ c.in_ok-patterns-in-End.ensures.pass,
+      c.uses_captures-captures.ensures ∙ ap uses_captures c.as_slice-in-End.ensures,
     )
 
 pub returns-in_ok-patterns-in-End-clause-read : goal.returns-in_ok-patterns-in-End-clause-read

@@ -1,0 +1,61 @@
+use Rattle.std.proofs.Common.{rules, arith, ap, ap₂, sym, ◌∙◌, map}
+use Rattle.avp_lists.specs.History.{present}
+use Rattle.avp_unlang.specs.Evaluations.{all_evaluated, any_evaluated, decided, evaluated, negated}
+use Rattle.avp_unlang.specs.Truth.{comparable}
+use Rattle.avp_unlang.specs.declared.tree.Cond.TheViews.{the_lemmas}
+use Rattle.avp_unlang.proofs.EvaluatedConds.{evaluated_all, evaluated_any, evaluated_match, evaluated_not}
+use Rattle.avp_unlang.proofs.KeptTexts.{first_keepable}
+use Rattle.avp_unlang.proofs.Truths.{comparable_all, comparable_any, comparable_match, comparable_not, passes_all, passes_any, passes_not}
+use Rattle.avp_unlang.proofs.meaning.evaluating.+evaluations.Goals as goal
+
+pub evaluate-any_evaluated-requires : goal.evaluate-any_evaluated-requires
+evaluate-any_evaluated-requires g t c κs within =
+    (search (rules, the_lemmas), (search rules, (grind (arith, comparable_any), (grind (arith, passes_any), (search rules, search rules)))))
+
+pub evaluate-all_evaluated-requires : goal.evaluate-all_evaluated-requires
+evaluate-all_evaluated-requires g t c κs within =
+    (search (rules, the_lemmas), (search rules, (grind (arith, comparable_all), (grind (arith, passes_all), (search rules, search rules)))))
+
+pub evaluate-evaluate-requires : goal.evaluate-evaluate-requires
+evaluate-evaluate-requires g t c κs within =
+    (search (rules, the_lemmas), (search rules, (grind (arith, comparable_not), (grind (arith, passes_not), (search rules, search rules)))))
+
+pub evaluate-returns-in-Any-clause-evaluated : goal.evaluate-returns-in-Any-clause-evaluated
+evaluate-returns-in-Any-clause-evaluated g t c =
+    let state = present (g.S.Store.history c.args.store.now) in
+    let d = c.args.dictionary.now in
+    let captures = c.args.captured.now.captures in
+    c.any_evaluated.ensures.evaluated
+    ∙ ap (λ cs. any_evaluated (map (evaluated d) cs) state c.args.code captures) c.as_slice.ensures
+    ∙ sym (ap (λ x. evaluated d x state c.args.code captures) c.in-Any.is ∙ evaluated_any d c.in-Any.conds state c.args.code captures)
+
+pub evaluate-returns-in-All-clause-evaluated : goal.evaluate-returns-in-All-clause-evaluated
+evaluate-returns-in-All-clause-evaluated g t c =
+    let state = present (g.S.Store.history c.args.store.now) in
+    let d = c.args.dictionary.now in
+    let captures = c.args.captured.now.captures in
+    c.all_evaluated.ensures.evaluated
+    ∙ ap (λ cs. all_evaluated (map (evaluated d) cs) state c.args.code captures) c.as_slice-in-All.ensures
+    ∙ sym (ap (λ x. evaluated d x state c.args.code captures) c.in-All.is ∙ evaluated_all d c.in-All.conds state c.args.code captures)
+
+pub evaluate-returns-in-Not-clause-evaluated : goal.evaluate-returns-in-Not-clause-evaluated
+evaluate-returns-in-Not-clause-evaluated g t c =
+    let state = present (g.S.Store.history c.args.store.now) in
+    let d = c.args.dictionary.now in
+    let captures = c.args.captured.now.captures in
+    ap negated (c.evaluate.ensures.evaluated ∙ ap (λ x. evaluated d x state c.args.code captures) c.get.ensures)
+    ∙ sym (ap (λ x. evaluated d x state c.args.code captures) c.in-Not.is ∙ evaluated_not d c.in-Not.cond state c.args.code captures)
+
+pub evaluate-evaluate_match-requires-clause-keepable : goal.evaluate-evaluate_match-requires-clause-keepable
+evaluate-evaluate_match-requires-clause-keepable g t c =
+    let state = present (g.S.Store.history c.args.store.now) in
+    first_keepable c.args.dictionary.now state c.in-Match.matching c.requires.store
+    (sym (comparable_match c.in-Match.matching state) ∙ sym (ap (λ x. comparable x state) c.in-Match.is) ∙ c.requires.comparable)
+
+pub evaluate-returns-in-Match-clause-evaluated : goal.evaluate-returns-in-Match-clause-evaluated
+evaluate-returns-in-Match-clause-evaluated g t c =
+    let state = present (g.S.Store.history c.args.store.now) in
+    let d = c.args.dictionary.now in
+    let captures = c.args.captured.now.captures in
+    ap₂ decided (c.evaluate_match.ensures.found d) (c.evaluate_match.ensures.captures d)
+    ∙ sym (ap (λ x. evaluated d x state c.args.code captures) c.in-Match.is ∙ evaluated_match d c.in-Match.matching state c.args.code captures)

@@ -1,0 +1,239 @@
+//! What conditions come to, from left to right: whether they are true, and what was captured after them.
+
+ghost use Rattle.std.specs.Prelude.{◌≡◌, ◌≤◌, IsTrue, length, map, true};
+ghost use Rattle.std.specs.List.{list_all};
+ghost use Rattle.std.specs.Option.{option_map_or};
+ghost use Rattle.avp_lists.specs.History.{present};
+ghost use Rattle.avp_dict.specs.Dictionary.{Dictionary as TheDictionary};
+ghost use Rattle.avp_dict.specs.Limits.{max_long_octets};
+ghost use Rattle.avp_dict.specs.Printing.{hexadecimal};
+ghost use Rattle.avp_patterns.specs.Matching.{matches};
+ghost use Rattle.avp_unlang.specs.Captures.{captures_after, captures_in};
+ghost use Rattle.avp_unlang.specs.Evaluations.{all_evaluated, any_evaluated, decided, evaluated};
+ghost use Rattle.avp_unlang.specs.PatternTruth.{instance_in, is_matched, pattern_in};
+ghost use Rattle.avp_unlang.specs.PolicyPatterns.{cond_patterns_pass, is_among};
+ghost use Rattle.avp_unlang.specs.Resolutions.{StateFits, meaning_put};
+ghost use Rattle.avp_unlang.specs.Truth.{comparable};
+ghost use Rattle.avp_unlang.specs.internal.CaptureRoom.{is_keepable, max_matched};
+
+use crate::codes::Code;
+use crate::meaning::captured::Captured;
+use crate::meaning::matchers::Matchers;
+use crate::meaning::matching::MAX_OCTETS;
+use crate::meaning::truth::{is_met, is_met_by_meaning, same_code};
+use crate::tree::{Cond, Matching};
+use avp_dict::Dictionary;
+use avp_lists::{Pair, Store, Value};
+
+// Whether a pattern matches some octets, and what it captures in them.
+#[tactic(auto, unfolding(crate::specs::Captures::captures_in))]
+fn capture(
+    matchers: &mut Matchers<'_>,
+    matching: &Matching,
+    octets: &[u8],
+    captured: &mut Captured,
+) -> bool
+    requires among { IsTrue (is_among matchers.old (pattern_in matching.now)) }
+    requires keeps { IsTrue captured.old.keeps }
+    requires length { length octets.now ≤ max_matched }
+    ensures found { result ≡ matches (pattern_in matching.now) octets.now }
+    ensures captures { captured.new.captures ≡ captures_in (pattern_in matching.now) octets.now }
+    ensures kept { captured.new.keeps ≡ captured.old.keeps }
+    ensures same { matchers.new ≡ matchers.old }
+{
+    match matchers.captures(matching.pattern.as_slice(), matching.flags, octets) {
+        Some(groups) => {
+            captured.keep(octets, groups);
+            true
+        }
+        None => {
+            captured.clear();
+            false
+        }
+    }
+}
+
+// The same of `0x` and the hexadecimal digits of some octets.
+fn capture_digits(
+    matchers: &mut Matchers<'_>,
+    matching: &Matching,
+    octets: &[u8],
+    captured: &mut Captured,
+) -> bool
+    requires among { IsTrue (is_among matchers.old (pattern_in matching.now)) }
+    requires keeps { IsTrue captured.old.keeps }
+    requires length { length octets.now ≤ max_long_octets }
+    ensures found { result ≡ matches (pattern_in matching.now) (hexadecimal octets.now) }
+    ensures captures { captured.new.captures ≡ captures_in (pattern_in matching.now)
+        (hexadecimal octets.now) }
+    ensures kept { captured.new.keeps ≡ captured.old.keeps }
+    ensures same { matchers.new ≡ matchers.old }
+{
+    let mut digits = [0; 2 + 2 * MAX_OCTETS];
+    let end = 2 + 2 * octets.len();
+    digits[0] = b'0';
+    digits[1] = b'x';
+    hex::encode_to_slice(octets, &mut digits[2..end]).unwrap();
+    capture(matchers, matching, &digits[..end], captured)
+}
+
+// The same of what an expansion puts in for an instance.
+fn capture_instance(
+    matchers: &mut Matchers<'_>,
+    matching: &Matching,
+    pair: &Pair,
+    captured: &mut Captured,
+) -> bool
+    requires among { IsTrue (is_among matchers.old (pattern_in matching.now)) }
+    requires keeps { IsTrue captured.old.keeps }
+    requires keepable { IsTrue (is_keepable pair.now) }
+    ensures found { (dictionary : TheDictionary)
+        → result ≡ matches (pattern_in matching.now) (meaning_put dictionary pair.now) }
+    ensures captures { (dictionary : TheDictionary) → captured.new.captures
+        ≡ captures_in (pattern_in matching.now) (meaning_put dictionary pair.now) }
+    ensures kept { captured.new.keeps ≡ captured.old.keeps }
+    ensures same { matchers.new ≡ matchers.old }
+{
+    match &pair.value {
+        Value::Text(octets) => capture(matchers, matching, octets.as_slice(), captured),
+        Value::Raw(octets) => capture_digits(matchers, matching, octets.as_slice(), captured),
+        _ => unreachable!(),
+    }
+}
+
+// Whether a comparison with a pattern is met, and what was captured after it.
+#[tactic(auto, unfolding(crate::specs::Captures::captures_after))]
+fn evaluate_match<S: Store>(
+    matchers: &mut Matchers<'_>,
+    matching: &Matching,
+    store: &S,
+    captured: &mut Captured,
+) -> bool
+    requires among { IsTrue (is_among matchers.old (pattern_in matching.now)) }
+    requires keeps { IsTrue captured.old.keeps }
+    requires keepable { IsTrue (option_map_or is_keepable
+        (instance_in matching.now (present (S.history store.now))) true) }
+    ensures found { (dictionary : TheDictionary)
+        → result ≡ is_matched dictionary matching.now (present (S.history store.now)) }
+    ensures captures { (dictionary : TheDictionary) → captured.new.captures ≡ captures_after
+        dictionary matching.now (present (S.history store.now)) captured.old.captures }
+    ensures kept { captured.new.keeps ≡ captured.old.keeps }
+    ensures same { matchers.new ≡ matchers.old }
+{
+    match store.first_selected(matching.list, matching.id, matching.selection) {
+        None => false,
+        Some(pair) => capture_instance(matchers, matching, pair, captured) != matching.negated,
+    }
+}
+
+#[cycle(evaluations)]
+fn any_evaluated<S: Store>(
+    dictionary: &Dictionary,
+    conds: &[Cond],
+    store: &S,
+    code: Code,
+    matchers: &mut Matchers<'_>,
+    captured: &mut Captured,
+) -> bool
+    requires comparable { IsTrue (list_all (λ cond. comparable cond (present (S.history store.now)))
+        conds.now) }
+    requires patterns { IsTrue (list_all (cond_patterns_pass (is_among matchers.old)) conds.now) }
+    requires keeps { IsTrue captured.old.keeps }
+    requires store { StateFits dictionary.now (present (S.history store.now)) }
+    ensures evaluated { decided result captured.new.captures
+        ≡ any_evaluated (map (evaluated dictionary.now) conds.now)
+        (present (S.history store.now)) code captured.old.captures }
+    ensures kept { captured.new.keeps ≡ captured.old.keeps }
+    ensures same { matchers.new ≡ matchers.old }
+{
+    for cond in conds {
+        if evaluate(dictionary, cond, store, code, matchers, captured) {
+            return true;
+        }
+    }
+    false
+}
+
+#[cycle(evaluations)]
+fn all_evaluated<S: Store>(
+    dictionary: &Dictionary,
+    conds: &[Cond],
+    store: &S,
+    code: Code,
+    matchers: &mut Matchers<'_>,
+    captured: &mut Captured,
+) -> bool
+    requires comparable { IsTrue (list_all (λ cond. comparable cond (present (S.history store.now)))
+        conds.now) }
+    requires patterns { IsTrue (list_all (cond_patterns_pass (is_among matchers.old)) conds.now) }
+    requires keeps { IsTrue captured.old.keeps }
+    requires store { StateFits dictionary.now (present (S.history store.now)) }
+    ensures evaluated { decided result captured.new.captures
+        ≡ all_evaluated (map (evaluated dictionary.now) conds.now)
+        (present (S.history store.now)) code captured.old.captures }
+    ensures kept { captured.new.keeps ≡ captured.old.keeps }
+    ensures same { matchers.new ≡ matchers.old }
+{
+    for cond in conds {
+        if !evaluate(dictionary, cond, store, code, matchers, captured) {
+            return false;
+        }
+    }
+    true
+}
+
+/// Whether a condition is true of a store's present lists, `code` being the last code, and what was captured after it:
+/// its parts are evaluated from left to right, up to the one that decides. `dictionary` is the one by which the
+/// condition was read. No condition is refused for memory.
+#[cycle(evaluations)]
+#[tactic(auto, using(crate::proofs::EvaluatedConds::evaluated_any, crate::proofs::EvaluatedConds::evaluated_all, crate::proofs::EvaluatedConds::evaluated_not, crate::proofs::EvaluatedConds::evaluated_last, crate::proofs::EvaluatedConds::evaluated_present, crate::proofs::EvaluatedConds::evaluated_present_selected, crate::proofs::EvaluatedConds::evaluated_compare, crate::proofs::EvaluatedConds::evaluated_compare_meant, crate::proofs::EvaluatedConds::evaluated_captured, crate::proofs::Truths::comparable_any, crate::proofs::Truths::comparable_all, crate::proofs::Truths::comparable_not, crate::proofs::Truths::comparable_compare, crate::proofs::Truths::comparable_match, crate::proofs::Truths::passes_any, crate::proofs::Truths::passes_all, crate::proofs::Truths::passes_not, crate::proofs::Truths::passes_match))]
+pub fn evaluate<S: Store>(
+    dictionary: &Dictionary,
+    cond: &Cond,
+    store: &S,
+    code: Code,
+    matchers: &mut Matchers<'_>,
+    captured: &mut Captured,
+) -> bool
+    requires comparable { IsTrue (comparable cond.now (present (S.history store.now))) }
+    requires patterns { IsTrue (cond_patterns_pass (is_among matchers.old) cond.now) }
+    requires keeps { IsTrue captured.old.keeps }
+    requires store { StateFits dictionary.now (present (S.history store.now)) }
+    ensures evaluated { decided result captured.new.captures ≡ evaluated dictionary.now cond.now
+        (present (S.history store.now)) code captured.old.captures }
+    ensures kept { captured.new.keeps ≡ captured.old.keeps }
+    ensures same { matchers.new ≡ matchers.old }
+{
+    match cond {
+        Cond::Any(conds) => {
+            any_evaluated(
+                dictionary,
+                conds.as_slice(),
+                store,
+                code,
+                matchers,
+                captured,
+            )
+        }
+        Cond::All(conds) => {
+            all_evaluated(
+                dictionary,
+                conds.as_slice(),
+                store,
+                code,
+                matchers,
+                captured,
+            )
+        }
+        Cond::Not(cond) => !evaluate(dictionary, cond.get(), store, code, matchers, captured),
+        Cond::Last(word) => same_code(code, *word),
+        Cond::Present(list, id) => store.first(*list, *id).is_some(),
+        Cond::PresentSelected(list, id, selection) => {
+            store.first_selected(*list, *id, *selection).is_some()
+        }
+        Cond::Compare(comparison) => is_met(comparison, store),
+        Cond::CompareMeant(comparison) => is_met_by_meaning(comparison, store),
+        Cond::Match(matching) => evaluate_match(matchers, matching, store, captured),
+        Cond::Captured(group) => 0 < captured.group(*group).len(),
+    }
+}

@@ -1,0 +1,140 @@
+//! Which texts and conditions look at what was captured, and where others are refused.
+
+use avp_dict::Dictionary;
+use avp_unlang::{Cond, Part, Policy, PolicyFault, PolicyKind, Source, Statement, read_policy};
+use samples::test_dictionary;
+use std::alloc::Global;
+use std::process::Abort;
+use std::test::Fail;
+
+const WIDER: &str = "# profile: wider\n";
+
+// The policy that sets an attribute of the reply to a text.
+fn policy_setting(
+    alloc: Global,
+    dictionary: &Dictionary,
+    profile: &str,
+    text: &str,
+) -> Result<Policy, PolicyFault> {
+    let text = format!(in alloc; "{profile}update reply {{ Reply-Message := {text} }}\n")?;
+    read_policy(alloc, dictionary, text.as_bytes())
+}
+
+// The policy that is one `if` with this condition.
+fn policy_with(
+    alloc: Global,
+    dictionary: &Dictionary,
+    profile: &str,
+    cond: &str,
+) -> Result<Policy, PolicyFault> {
+    let text = format!(in alloc; "{profile}if ({cond}) {{ ok }}\n")?;
+    read_policy(alloc, dictionary, text.as_bytes())
+}
+
+// The parts of the only update line of a policy.
+fn parts_in(policy: &Policy) -> Option<&[Part]> {
+    match policy.statements().as_slice() {
+        [Statement::Update(_, lines)] => match lines.as_slice() {
+            [line] => match &line.source {
+                Source::WiderText(_, _, parts) => Some(parts.as_slice()),
+                _ => None,
+            },
+            _ => None,
+        },
+        _ => None,
+    }
+}
+
+// The group that is the whole condition of a policy.
+fn group_in(policy: &Policy) -> Option<u8> {
+    match policy.statements().as_slice() {
+        [Statement::If(branches, None)] => match branches.as_slice() {
+            [branch] => match branch.cond {
+                Cond::Captured(group) => Some(group),
+                _ => None,
+            },
+            _ => None,
+        },
+        _ => None,
+    }
+}
+
+#[test]
+fn parts(rt: HostRuntime) -> Result<(), Fail> {
+    let alloc = rt.alloc();
+    let dictionary = test_dictionary(alloc)?;
+    let policy = policy_setting(alloc, &dictionary, WIDER, "\"%{0}a%{9}%%{1}\"")?;
+    let parts = parts_in(&policy).ok_or("no parts")?;
+    let [Part::Capture(0), Part::Text(a), Part::Capture(9), Part::Text(rest)] = parts else {
+        return Err(Fail::new("other parts"));
+    };
+    assert_eq!(rt; (a.as_slice(), rest.as_slice()), (b"a".as_slice(), b"%{1}".as_slice()));
+    Ok(())
+}
+
+fn expect_group(
+    rt: &impl Abort,
+    alloc: Global,
+    dictionary: &Dictionary,
+    cond: &str,
+    group: u8,
+) -> Result<(), Fail> {
+    let policy = policy_with(alloc, dictionary, WIDER, cond)?;
+    assert_eq!(rt; group_in(&policy), Some(group), "{cond}");
+    Ok(())
+}
+
+#[test]
+fn groups(rt: HostRuntime) -> Result<(), Fail> {
+    let dictionary = test_dictionary(rt.alloc())?;
+    expect_group(&rt, rt.alloc(), &dictionary, "\"%{0}\"", 0)?;
+    expect_group(&rt, rt.alloc(), &dictionary, "(\"%{8}\" )", 8)?;
+    expect_group(&rt, rt.alloc(), &dictionary, "\"%{9}\"", 9)
+}
+
+fn expect_refused_text(
+    rt: &impl Abort,
+    alloc: Global,
+    dictionary: &Dictionary,
+    profile: &str,
+    text: &str,
+    kind: PolicyKind,
+) -> Result<(), Fail> {
+    let refused = policy_setting(alloc, dictionary, profile, text).err();
+    assert_eq!(rt; refused.map(|fault| fault.kind), Some(kind), "{text}");
+    Ok(())
+}
+
+#[test]
+fn other_texts(rt: HostRuntime) -> Result<(), Fail> {
+    let dictionary = test_dictionary(rt.alloc())?;
+    let (unknown, unreadable) = (PolicyKind::Unknown, PolicyKind::Unreadable);
+    expect_refused_text(&rt, rt.alloc(), &dictionary, "", "\"%{1}\"", unknown)?;
+    expect_refused_text(&rt, rt.alloc(), &dictionary, WIDER, "\"%{10}\"", unknown)?;
+    expect_refused_text(&rt, rt.alloc(), &dictionary, WIDER, "\"%{}\"", unreadable)?;
+    expect_refused_text(&rt, rt.alloc(), &dictionary, WIDER, "\"%{1\"", unreadable)
+}
+
+fn expect_misplaced(
+    rt: &impl Abort,
+    alloc: Global,
+    dictionary: &Dictionary,
+    profile: &str,
+    cond: &str,
+) -> Result<(), Fail> {
+    let refused = policy_with(alloc, dictionary, profile, cond).err();
+    let place = refused.map(|fault| (fault.kind, fault.offset));
+    let offset = profile.len().saturating_add(4);
+    assert_eq!(rt; place, Some((PolicyKind::Misplaced, offset)), "{cond}");
+    Ok(())
+}
+
+#[test]
+fn other_conditions(rt: HostRuntime) -> Result<(), Fail> {
+    let dictionary = test_dictionary(rt.alloc())?;
+    expect_misplaced(&rt, rt.alloc(), &dictionary, "", "\"%{8}\"")?;
+    expect_misplaced(&rt, rt.alloc(), &dictionary, WIDER, "\"%{10}\"")?;
+    expect_misplaced(&rt, rt.alloc(), &dictionary, WIDER, "\"%{8}a\"")?;
+    expect_misplaced(&rt, rt.alloc(), &dictionary, WIDER, "\"%{User-Name}\"")?;
+    expect_misplaced(&rt, rt.alloc(), &dictionary, WIDER, "'%{8}'")
+}
