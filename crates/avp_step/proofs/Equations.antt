@@ -7,34 +7,35 @@ use Rattle.avp_unlang.specs.declared.tree.Statement.TheOpen as open'
 use Rattle.avp_unlang.specs.declared.tree.Statement.TheVariants.{Update, If, Transaction, Word, rolls-Update, rolls-If, rolls-Transaction, rolls-Word}
 use Rattle.avp_unlang.specs.declared.tree.Statement.TheFolds.{fold-roll-Statement}
 use Rattle.avp_unlang.specs.declared.tree.Branch.{Branch}
-use Rattle.avp_unlang.specs.Meaning.{Outcome, running}
+use Rattle.avp_unlang.specs.Meaning.{Point}
 use Rattle.avp_step.specs.internal.Frames.{else_steps, else_skips}
-use Rattle.avp_step.specs.Trace.{Steps, Guarded, steps, guarded, statement_steps, guarded_steps, line_steps, branch_steps, all_steps, then_steps, closed, entered, word_step}
+use Rattle.avp_step.specs.Trace.{Evaluating, Steps, Guarded, goes_on, steps, guarded, statement_steps, guarded_steps, line_steps, branch_steps, all_steps, then_steps, closed, entered, word_step}
 use Rattle.avp_step.specs.internal.Skips.{skips, statement_skips, branch_skips}
 use Rattle.avp_dict.specs.Dictionary.{Dictionary}
 
-pub steps_Update : (d : Dictionary) (n : ℕ) (lines : List Line) (o : Outcome) → steps d (Update n lines) o ≡ line_steps d o.state lines o
-steps_Update d n lines o =
-    ap (λ s. steps d s o) (sym (rolls-Update n lines))
-    ∙ ap (λ (f : Steps). f o) (fold-roll-Statement Steps Guarded (statement_steps d) guarded_steps (open'.Update n lines))
+module _ (d : Dictionary) (by : Evaluating) where
+  pub steps_Update : (n : ℕ) (lines : List Line) (p : Point) → steps d by (Update n lines) p ≡ line_steps d p.outcome.state lines p
+  steps_Update n lines p =
+      ap (λ s. steps d by s p) (sym (rolls-Update n lines))
+      ∙ ap (λ (f : Steps). f p) (fold-roll-Statement Steps Guarded (statement_steps d by) guarded_steps (open'.Update n lines))
 
-pub steps_If : (d : Dictionary) (bs : List Branch) (otherwise : Option (List Statement)) (o : Outcome) → steps d (If bs otherwise) o ≡ branch_steps d (map (guarded d) bs) (else_steps d otherwise) o
-steps_If d bs None o =
-    ap (λ s. steps d s o) (sym (rolls-If bs None))
-    ∙ ap (λ (f : Steps). f o) (fold-roll-Statement Steps Guarded (statement_steps d) guarded_steps (open'.If bs None))
-steps_If d bs (Some block) o =
-    ap (λ s. steps d s o) (sym (rolls-If bs (Some block)))
-    ∙ ap (λ (f : Steps). f o) (fold-roll-Statement Steps Guarded (statement_steps d) guarded_steps (open'.If bs (Some block)))
+  pub steps_If : (bs : List Branch) (otherwise : Option (List Statement)) (p : Point) → steps d by (If bs otherwise) p ≡ branch_steps by (map (guarded d by) bs) (else_steps d by otherwise) p
+  steps_If bs None p =
+      ap (λ s. steps d by s p) (sym (rolls-If bs None))
+      ∙ ap (λ (f : Steps). f p) (fold-roll-Statement Steps Guarded (statement_steps d by) guarded_steps (open'.If bs None))
+  steps_If bs (Some block) p =
+      ap (λ s. steps d by s p) (sym (rolls-If bs (Some block)))
+      ∙ ap (λ (f : Steps). f p) (fold-roll-Statement Steps Guarded (statement_steps d by) guarded_steps (open'.If bs (Some block)))
 
-pub steps_Transaction : (d : Dictionary) (n : ℕ) (block : List Statement) (o : Outcome) → steps d (Transaction n block) o ≡ entered n o ∷ then_steps (all_steps (map (steps d) block)) (λ r. closed n o.state r ∷ []) (running o.state o.code)
-steps_Transaction d n block o =
-    ap (λ s. steps d s o) (sym (rolls-Transaction n block))
-    ∙ ap (λ (f : Steps). f o) (fold-roll-Statement Steps Guarded (statement_steps d) guarded_steps (open'.Transaction n block))
+  pub steps_Transaction : (n : ℕ) (block : List Statement) (p : Point) → steps d by (Transaction n block) p ≡ entered n p ∷ then_steps (all_steps (map (steps d by) block)) (λ r. closed n p.outcome.state r ∷ []) (goes_on p)
+  steps_Transaction n block p =
+      ap (λ s. steps d by s p) (sym (rolls-Transaction n block))
+      ∙ ap (λ (f : Steps). f p) (fold-roll-Statement Steps Guarded (statement_steps d by) guarded_steps (open'.Transaction n block))
 
-pub steps_Word : (d : Dictionary) (n : ℕ) (word : Code) (o : Outcome) → steps d (Word n word) o ≡ word_step n word o ∷ []
-steps_Word d n word o =
-    ap (λ s. steps d s o) (sym (rolls-Word n word))
-    ∙ ap (λ (f : Steps). f o) (fold-roll-Statement Steps Guarded (statement_steps d) guarded_steps (open'.Word n word))
+  pub steps_Word : (n : ℕ) (word : Code) (p : Point) → steps d by (Word n word) p ≡ word_step n word p ∷ []
+  steps_Word n word p =
+      ap (λ s. steps d by s p) (sym (rolls-Word n word))
+      ∙ ap (λ (f : Steps). f p) (fold-roll-Statement Steps Guarded (statement_steps d by) guarded_steps (open'.Word n word))
 
 pub skips_Update : (n : ℕ) (lines : List Line) → skips (Update n lines) ≡ 2
 skips_Update n lines = ap skips (sym (rolls-Update n lines)) ∙ fold-roll-Statement ℕ ℕ statement_skips branch_skips (open'.Update n lines)

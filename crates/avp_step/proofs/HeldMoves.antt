@@ -1,8 +1,8 @@
 -- What a stepper keeps, over each of its moves.
-use Rattle.std.proofs.Common.{◌≡◌, ℕ, zero, suc, ◌+◌, ◌-◌, ◌≤◌, ◌<◌, max, false, List, [], ◌∷◌, ◌++◌, length, get_or, refl, sym, ap, ◌∙◌, subst, cond, arith, append_assoc, length-append}
+use Rattle.std.proofs.Common.{◌≡◌, ℕ, zero, suc, ◌+◌, ◌-◌, ◌≤◌, ◌<◌, max, false, List, [], ◌∷◌, ◌++◌, length, map, Bool, get_or, refl, sym, ap, ◌∙◌, subst, cond, arith, append_assoc, length-append}
 use Rattle.std.proofs.Math.Seq.{get_or-append_seam}
 use Rattle.std.proofs.Math.ListN.{get_or-append}
-use Rattle.std.proofs.lemmas.List.{append-nil}
+use Rattle.std.proofs.lemmas.List.{append-nil, length-map}
 use Rattle.std.proofs.lemmas.Bool.{lt-ltb, le-ltb}
 use Rattle.avp_lists.specs.History.{History, at_place, present, settled, state_at}
 use Rattle.avp_lists.specs.States.{empty_state}
@@ -11,13 +11,16 @@ use Rattle.avp_patterns.specs.Patterns.{Written}
 use Rattle.avp_unlang.specs.declared.tree.Statement.{Statement}
 use Rattle.avp_step.specs.declared.labels.Moved.TheVariants.{To, AtEnd}
 use Rattle.avp_step.specs.declared.marks.Mark.{Mark}
+use Rattle.avp_unlang.specs.Captures.{no_captures}
+use Rattle.avp_unlang.specs.CaptureUse.{uses_captures}
+use Rattle.avp_unlang.specs.Evaluations.{evaluated}
 use Rattle.avp_unlang.specs.Meaning.{Outcome}
-use Rattle.avp_step.specs.Trace.{Entry, block_steps, end_of, start, trace_of}
-use Rattle.avp_step.specs.internal.Courses.{Course, IsBeforeLine, IsMade, IsPassed, IsReady, coming, entry_of, standing}
+use Rattle.avp_step.specs.Trace.{Entry, Step, block_steps, entry_in, first_point, start, trace_of}
+use Rattle.avp_step.specs.internal.Courses.{Course, IsBeforeLine, IsMade, IsPassed, IsReady, coming, entry_of, evaluating, evaluating_of, point_of, standing}
 use Rattle.avp_step.specs.internal.Frames.{rest}
 use Rattle.avp_step.specs.Walk.{IsBeforeNewLine, IsLineLabel, IsWithin, Walk, entry, entry_at, moved_forward, reached, answer_of_forward}
-use Rattle.avp_step.specs.internal.Held.{trace_from, walk_of, made, nowhere, IsHeld}
-use Rattle.avp_step.proofs.LastSteps.{end_of-append}
+use Rattle.avp_step.specs.internal.Held.{trace_from, walk_of, last_of, made, nowhere, point_after, point_at, IsHeld}
+use Rattle.avp_step.proofs.CaptureFreeTraces.{kept_trace}
 use Rattle.avp_step.proofs.TraceSizes.{trace_size}
 use Rattle.avp_unlang.specs.Sizes.{size_of}
 use Rattle.std.specs.Borrow.{Bor}
@@ -44,12 +47,16 @@ made_push [] (t ∷ ss) m s e = absurd (omega arith)
 made_push (n ∷ ms) [] m s e = absurd (omega arith)
 made_push (n ∷ ms) (t ∷ ss) m s e = ap (λ es. entry_of n t ∷ es) (made_push ms ss m s (omega arith))
 
-pub end_of_last : (o : Outcome) (es : List Entry) (k : ℕ) (d : Entry) → k + 1 ≡ length es → end_of o es ≡ (get_or es k d).outcome
-end_of_last o [] k d h = absurd (omega arith)
-end_of_last o (e ∷ []) zero d h = refl
-end_of_last o (e ∷ []) (suc k) d h = absurd (omega arith)
-end_of_last o (e ∷ f ∷ es) zero d h = absurd (omega arith)
-end_of_last o (e ∷ f ∷ es) (suc k) d h = end_of_last e.outcome (f ∷ es) k d (omega arith)
+pub last_of_last : (o : Outcome) (es : List Entry) (k : ℕ) (d : Entry) → k + 1 ≡ length es → last_of o es ≡ (get_or es k d).outcome
+last_of_last o [] k d h = absurd (omega arith)
+last_of_last o (e ∷ []) zero d h = refl
+last_of_last o (e ∷ []) (suc k) d h = absurd (omega arith)
+last_of_last o (e ∷ f ∷ es) zero d h = absurd (omega arith)
+last_of_last o (e ∷ f ∷ es) (suc k) d h = last_of_last e.outcome (f ∷ es) k d (omega arith)
+
+last_of-append : (o : Outcome) (a b : List Entry) → last_of o (a ++ b) ≡ last_of (last_of o a) b
+last_of-append o [] b = refl
+last_of-append o (e ∷ es) b = last_of-append e.outcome es b
 
 module _ (ss : List Statement) (m : Course) (ms : List Mark) (p : ℕ) (r : ℕ) (held : IsHeld ss m ms p r) where
   abbrev h : History
@@ -85,39 +92,41 @@ module _ (ss : List Statement) (m : Course) (ms : List Mark) (p : ℕ) (r : ℕ)
   pub held_within : IsWithin walk
   held_within = (
     omega (arith, held.within, held.each),
-    omega (arith, held.within, held.each, length_made ms h.states held.each, ap length held.trace, length-append before (coming m (end_of nowhere before))),
+    omega (arith, held.within, held.each, length_made ms h.states held.each, ap length held.trace, length-append before (map entry_in (coming m (point_after before m)))),
   )
 
   -- where the run stands at the last position whose step was made
-  held_standing : (n : Mark) → p + 1 ≡ length ms → end_of nowhere before ≡ standing (get_or ms p n) h
+  held_standing : (n : Mark) → p + 1 ≡ length ms → point_after before m ≡ standing (get_or ms p n) m
   held_standing n last =
       let len : p + 1 ≡ length before = omega (arith, length_made ms h.states held.each) in
-      end_of_last nowhere before p (start empty_state) len
-      ∙ ap (λ (e : Entry). e.outcome) (made_at ms h.states p (start empty_state) n empty_state held.each held.within)
-      ∙ ap (λ k. standing (get_or ms p n) (record { states = h.states; place = k })) (sym held.place)
+      ap (point_at m.captures)
+      (last_of_last nowhere before p (start empty_state) len
+      ∙ ap (λ (e : Entry). e.outcome) (made_at ms h.states p (start empty_state) n empty_state held.each held.within))
+      ∙ ap (λ k. point_of (get_or ms p n) (get_or h.states k empty_state) m.captures) (sym held.place)
 
   module _ (last : Mark) (at_last : last ≡ get_or ms p last) (end' : p + 1 ≡ length ms) where
     -- the trace by the last mark
-    frontier : before ++ coming m (standing last h) ≡ trace_from ss m
+    frontier : before ++ map entry_in (coming m (standing last m)) ≡ trace_from ss m
     frontier =
-        ap (λ o. before ++ coming m o) (ap (λ n. standing n h) at_last ∙ sym (held_standing last end'))
+        ap (λ o. before ++ map entry_in (coming m o)) (ap (λ n. standing n m) at_last ∙ sym (held_standing last end'))
         ∙ held.trace
 
-    sizes : length (trace_from ss m) ≡ p + 1 + length (coming m (standing last h))
-    sizes = omega (arith, length_made ms h.states held.each, ap length frontier, length-append before (coming m (standing last h)))
+    sizes : length (trace_from ss m) ≡ p + 1 + length (coming m (standing last m))
+    sizes =
+        omega (arith, length_made ms h.states held.each, ap length frontier, length-append before (map entry_in (coming m (standing last m))), length-map (coming m (standing last m)) entry_in)
 
     pub held_ready : IsReady last m
     held_ready = record { at_last = omega (arith, held.place, held.each); room = omega (arith, held.room_of_store, held.place, sizes) }
 
     -- the first of the other steps is at the next position
-    next_at : (e : Entry) (es : List Entry) (x : Entry) → coming m (standing last h) ≡ e ∷ es → get_or (trace_from ss m) (p + 1) x ≡ e
+    next_at : (e : Step) (es : List Step) (x : Entry) → coming m (standing last m) ≡ e ∷ es → get_or (trace_from ss m) (p + 1) x ≡ entry_in e
     next_at e es x is =
         let at : length before ≡ p + 1 = omega (arith, length_made ms h.states held.each) in
-        ap (λ l. get_or l (p + 1) x) (sym frontier ∙ ap (λ r. before ++ r) is)
-        ∙ ap (λ k. get_or (before ++ e ∷ es) k x) (sym at)
-        ∙ get_or-append_seam before e es x
+        ap (λ l. get_or l (p + 1) x) (sym frontier ∙ ap (λ r. before ++ map entry_in r) is)
+        ∙ ap (λ k. get_or (before ++ map entry_in (e ∷ es)) k x) (sym at)
+        ∙ get_or-append_seam before (entry_in e) (map entry_in es) x
 
-    next_within : (e : Entry) (es : List Entry) → coming m (standing last h) ≡ e ∷ es → p + 1 < length (trace_from ss m)
+    next_within : (e : Step) (es : List Step) → coming m (standing last m) ≡ e ∷ es → p + 1 < length (trace_from ss m)
     next_within e es is = omega (arith, sizes, ap length is)
 
     pub refused_line : IsBeforeLine last m → IsBeforeNewLine walk
@@ -129,13 +138,15 @@ module _ (ss : List Statement) (m : Course) (ms : List Mark) (p : ℕ) (r : ℕ)
     -- no step was made
     pub passed_held : (m1 : Course) → IsPassed last m m1 → IsHeld ss m1 ms p r
     passed_held m1 q =
-        let stand : end_of nowhere (made ms m1.history.states) ≡ standing last h =
-        ap (λ (k : History). end_of nowhere (made ms k.states)) q.kept.history ∙ held_standing last end' ∙ ap (λ n. standing n h) (sym at_last) in
-        let same : trace_from ss m1 ≡ trace_from ss m = ap (λ x. trace_of x ss (state_at m1.history 0)) q.kept.dictionary ∙ ap (λ k. trace_of m.dictionary ss (state_at k 0)) q.kept.history in
+        let stand : point_after (made ms m1.history.states) m1 ≡ standing last m =
+        ap (λ (k : History). point_at m1.captures (last_of nowhere (made ms k.states))) q.kept.history
+        ∙ ap (λ k. point_at k (last_of nowhere before)) q.kept.captures
+        ∙ held_standing last end' ∙ ap (λ n. standing n m) (sym at_last) in
+        let same : trace_from ss m1 ≡ trace_from ss m = ap (λ x. trace_of x ss (state_at m1.history 0)) q.kept.alike.dictionary ∙ ap (λ k. trace_of m.dictionary ss (state_at k 0)) q.kept.history in
         record {
           trace =
-              ap (λ o. made ms m1.history.states ++ coming m1 o) stand ∙ ap (λ es. made ms m1.history.states ++ es) q.same
-              ∙ ap (λ (k : History). made ms k.states ++ coming m (standing last h)) q.kept.history ∙ frontier ∙ sym same;
+              ap (λ o. made ms m1.history.states ++ map entry_in (coming m1 o)) stand ∙ ap (λ es. made ms m1.history.states ++ map entry_in es) q.same
+              ∙ ap (λ (k : History). made ms k.states ++ map entry_in (coming m (standing last m))) q.kept.history ∙ frontier ∙ sym same;
           each = ap (λ (k : History). length k.states) q.kept.history ∙ held.each;
           place = ap (λ (k : History). k.place) q.kept.history ∙ held.place;
           within = held.within;
@@ -145,13 +156,13 @@ module _ (ss : List Statement) (m : Course) (ms : List Mark) (p : ℕ) (r : ℕ)
 
     pub passed_walk : (m1 : Course) → IsPassed last m m1 → walk_of ss m1 p ≡ walk
     passed_walk m1 q =
-        ap (λ x. record walk { dictionary = x; trace = trace_of x ss (state_at m1.history 0); made = length m1.history.states - 1 }) q.kept.dictionary
+        ap (λ x. record walk { dictionary = x; trace = trace_of x ss (state_at m1.history 0); made = length m1.history.states - 1 }) q.kept.alike.dictionary
         ∙ ap (λ k. record walk { trace = trace_of m.dictionary ss (state_at k 0); made = length k.states - 1 }) q.kept.history
 
     -- the run is over
     pub over_after : (m1 : Course) → IsPassed last m m1 → m1.frames ≡ [] → (walk_of ss m1 p ≡ moved_forward walk) × (AtEnd ≡ answer_of_forward walk)
     over_after m1 q none =
-        let over : coming m (standing last h) ≡ [] = sym q.same ∙ ap (λ fs. rest m1.dictionary (state_at m1.history) fs (standing last h)) none in
+        let over : coming m (standing last m) ≡ [] = sym q.same ∙ ap (λ fs. rest m1.dictionary (evaluating m1) (state_at m1.history) fs (standing last m)) none in
         let all : length (trace_from ss m) ≤ p + 1 = omega (arith, sizes, ap length over) in (
           passed_walk m1 q ∙ sym (ap (λ b. cond b (reached (p + 1) walk) walk) (le-ltb _ _ all)),
           sym (ap (λ b. cond b (To (entry_at walk (p + 1)).label) AtEnd) (le-ltb _ _ all)),
@@ -166,7 +177,7 @@ module _ (ss : List Statement) (m : Course) (ms : List Mark) (p : ℕ) (r : ℕ)
       same_trace =
           let some : 0 < length h.states = omega (arith, held.each, held.within) in
           let first : state_at m1.history 0 ≡ state_at h 0 = ap (λ l. get_or l 0 empty_state) added ∙ get_or-append h.states (present m1.history ∷ []) empty_state 0 some in
-          ap (λ x. trace_of x ss (state_at m1.history 0)) step.dictionary ∙ ap (trace_of m.dictionary ss) first
+          ap (λ x. trace_of x ss (state_at m1.history 0)) step.alike.dictionary ∙ ap (trace_of m.dictionary ss) first
 
       pub mark_room : length ms < r
       mark_room = omega (arith, held.room_of_marks, next_within _ _ step.first)
@@ -174,7 +185,7 @@ module _ (ss : List Statement) (m : Course) (ms : List Mark) (p : ℕ) (r : ℕ)
       pub made_walk : walk_of ss m1 (p + 1) ≡ moved_forward walk
       made_walk =
           let most : length m1.history.states - 1 ≡ max (length h.states - 1) (p + 1) = omega (arith, ap length added, length-append h.states (present m1.history ∷ []), held.each, end') in
-          ap (λ x. record walk { dictionary = x; trace = trace_from ss m1; position = p + 1; made = length m1.history.states - 1 }) step.dictionary
+          ap (λ x. record walk { dictionary = x; trace = trace_from ss m1; position = p + 1; made = length m1.history.states - 1 }) step.alike.dictionary
           ∙ ap (λ t. record walk { trace = t; position = p + 1; made = length m1.history.states - 1 }) same_trace
           ∙ ap (λ k. record walk { position = p + 1; made = k }) most
           ∙ sym (ap (λ b. cond b (reached (p + 1) walk) walk) (lt-ltb _ _ (next_within _ _ step.first)))
@@ -192,10 +203,10 @@ module _ (ss : List Statement) (m : Course) (ms : List Mark) (p : ℕ) (r : ℕ)
           let len : length ms' ≡ length ms + 1 = omega (arith, length-append ms (mark ∷ [])) in
           subst (λ l. IsHeld ss m1 l (p + 1) more) (sym is) (record {
             trace =
-                ap (λ es. es ++ coming m1 (end_of nowhere es)) pushed
-                ∙ ap (λ o. (before ++ e ∷ []) ++ coming m1 o) (end_of-append nowhere before (e ∷ []))
-                ∙ append_assoc before (e ∷ []) (coming m1 (standing mark m1.history))
-                ∙ ap (λ es. before ++ es) (sym step.first)
+                ap (λ es. es ++ map entry_in (coming m1 (point_after es m1))) pushed
+                ∙ ap (λ o. (before ++ e ∷ []) ++ map entry_in (coming m1 (point_at m1.captures o))) (last_of-append nowhere before (e ∷ []))
+                ∙ append_assoc before (e ∷ []) (map entry_in (coming m1 (standing mark m1)))
+                ∙ ap (λ es. before ++ map entry_in es) (sym step.first)
                 ∙ frontier ∙ sym same_trace;
             each = omega (arith, ap length added, length-append h.states (present m1.history ∷ []), held.each, len);
             place = omega (arith, ap (λ (k : History). k.place) step.history, held.place);
@@ -219,7 +230,7 @@ module _ (ss : List Statement) (m : Course) (ms : List Mark) (p : ℕ) (r : ℕ)
   -- going forward again moves the place alone
   module _ (known : p + 1 < length ms) where
     known_within : p + 1 < length (trace_from ss m)
-    known_within = omega (arith, known, length_made ms h.states held.each, ap length held.trace, length-append before (coming m (end_of nowhere before)))
+    known_within = omega (arith, known, length_made ms h.states held.each, ap length held.trace, length-append before (map entry_in (coming m (point_after before m))))
 
     pub redone_walk : (m1 : Course) (k : ℕ) → m1 ≡ record m { history = at_place k h } → walk_of ss m1 (p + 1) ≡ moved_forward walk
     redone_walk m1 k e =
@@ -235,15 +246,18 @@ module _ (ss : List Statement) (m : Course) (ms : List Mark) (p : ℕ) (r : ℕ)
         ∙ sym (ap (λ b. cond b (To (entry_at walk (p + 1)).label) AtEnd) (lt-ltb _ _ known_within))
 
 -- a stepper at its start
-pub start_held : (d : Dictionary) (ps : List Written) (ss : Bor (List Statement)) (h : History) (m : Course) (ms none : List Mark) (r size reach : ℕ) → m ≡ record { dictionary = d; patterns = ps; history = settled h; reach = reach; frames = Statements ss ∷ [] }
-    → none ≡ [] → ms ≡ none ++ (record { label = label.Start; code = code.Ok; stopped = false }) ∷ [] → size ≡ size_of ss.now → size ≤ m.reach → size + 1 ≤ r → IsHeld ss.now m ms 0 r
-start_held d ps ss h m ms none r size reach is no_marks marks count room marks_room =
+pub start_held : (d : Dictionary) (ps : List Written) (keeps : Bool) (ss : Bor (List Statement)) (h : History) (m : Course) (ms none : List Mark) (r size reach : ℕ)
+    → m ≡ record { dictionary = d; patterns = ps; keeps = keeps; captures = no_captures; history = settled h; reach = reach; frames = Statements ss ∷ [] }
+    → keeps ≡ uses_captures ss.now → none ≡ [] → ms ≡ none ++ (record { label = label.Start; code = code.Ok; stopped = false }) ∷ [] → size ≡ size_of ss.now → size ≤ m.reach → size + 1 ≤ r → IsHeld ss.now m ms 0 r
+start_held d ps keeps ss h m ms none r size reach is uses no_marks marks count room marks_room =
     let n : Mark = record { label = label.Start; code = code.Ok; stopped = false } in
     let marks' = marks ∙ ap (λ l. l ++ n ∷ []) no_marks in
-    let bound = trace_size d ss.now (present h) in
+    let bound = trace_size d (evaluated d) ss.now (present h) in
     let room' : size ≤ reach = omega (arith, room, ap (λ (c : Course). c.reach) is) in
     subst (λ l. IsHeld ss.now m l 0 r) (sym marks') (subst (λ c. IsHeld ss.now c (n ∷ []) 0 r) (sym is) (record {
-      trace = ap (λ es. start (present h) ∷ es) (append-nil (block_steps d ss.now (start (present h)).outcome));
+      trace =
+          ap (λ es. start (present h) ∷ map entry_in es) (append-nil (block_steps d (evaluating_of keeps d) ss.now (first_point (present h))))
+          ∙ kept_trace d ss.now (present h) keeps uses;
       each = refl;
       place = refl;
       within = omega arith;

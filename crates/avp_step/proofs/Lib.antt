@@ -2,6 +2,7 @@ pub mod Equations
 pub mod Fitting
 pub mod HeldMoves
 pub mod LastSteps
+pub mod CaptureFreeTraces
 pub mod Courses
 pub mod StepLaws
 pub mod Steppings

@@ -11,7 +11,7 @@ use Rattle.avp_step.specs.Walk.{Walk, entry_at, MoveMay, MovesMay}
 use Rattle.avp_step.specs.declared.labels.Move.{Move}
 use Rattle.avp_step.specs.internal.Held.{nowhere}
 use Rattle.avp_step.proofs.LastSteps.{trace_end}
-use Rattle.avp_step.proofs.HeldMoves.{end_of_last}
+use Rattle.avp_step.proofs.HeldMoves.{last_of_last}
 
 -- one more move
 pub moves_push : (w u v : Walk) (ms : List Move) (m : Move) → MovesMay w ms u → MoveMay u m v → MovesMay w (ms ++ m ∷ []) v
@@ -22,4 +22,4 @@ moves_push w u v (n ∷ ms) m h k = (h.0, h.1, moves_push h.0 u v ms m h.2 k)
 pub trace_last : (d : Dictionary) (ss : List Statement) (s : State) → (entry_at (record { dictionary = d; trace = trace_of d ss s; position = 0; made = 0 }) (length (trace_of d ss s) - 1)).outcome ≡ meaning_of d ss s code.Ok
 trace_last d ss s =
     let last : length (trace_of d ss s) - 1 + 1 ≡ length (trace_of d ss s) = omega arith in
-    sym (end_of_last nowhere (trace_of d ss s) (length (trace_of d ss s) - 1) (start empty_state) last) ∙ trace_end d ss s nowhere
+    sym (last_of_last nowhere (trace_of d ss s) (length (trace_of d ss s) - 1) (start empty_state) last) ∙ trace_end d ss s nowhere

@@ -1,13 +1,14 @@
 //! The edit of an update line.
 
 ghost use Rattle.std.specs.Prelude.{◌≡◌, ◌+◌, ◌≤◌, IfOk, IsTrue, OnErr};
+ghost use Rattle.avp_unlang.specs.Captures.{filled};
 ghost use Rattle.avp_unlang.specs.Resolutions.{line_suits};
 ghost use Rattle.avp_step.specs.Trace.{reason_number};
 ghost use Rattle.avp_step.specs.internal.Courses.{IsLineDone, StatesFit};
 
 use avp_dict::Dictionary;
 use avp_lists::{Edit, EditFault, Store};
-use avp_unlang::{Line, Reason, Unresolved, resolve};
+use avp_unlang::{Captured, Line, Reason, Unresolved, resolve_by};
 use std::alloc::{AllocError, Global};
 
 /// The number that a label gives a reason.
@@ -22,23 +23,25 @@ pub fn reason_number(reason: Reason) -> u8
     }
 }
 
-/// Edits by a line, or gives the reason why it fails.
+/// Edits by a line, with what was captured put into its text, or gives the reason why it fails.
 pub fn edit_by<S: Store>(
     alloc: Global,
     dictionary: &Dictionary,
     store: &mut S,
     line: &Line,
+    captured: &Captured,
 ) -> Result<Option<Reason>, AllocError>
     requires line { IsTrue (line_suits dictionary.now line.now) }
     requires states { StatesFit dictionary.now (S.history store.old) }
-    ensures done { IfOk result (λ failed. IsLineDone dictionary.now line.now (S.history store.old)
-        (S.history store.new) failed) }
+    ensures done { IfOk result (λ failed. IsLineDone dictionary.now
+        (filled captured.now.captures line.now) (S.history store.old) (S.history store.new)
+        failed) }
     ensures fit { StatesFit dictionary.now (S.history store.new) }
     ensures refused { OnErr result (S.history store.new ≡ S.history store.old) }
     ensures kept { (S.history store.old).place + S.room store.old
         ≤ (S.history store.new).place + S.room store.new }
 {
-    match resolve(alloc, dictionary, line, store) {
+    match resolve_by(alloc, dictionary, line, store, captured) {
         Ok(pair) => {
             let edit = Edit {
                 list: line.list,

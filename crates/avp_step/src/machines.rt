@@ -6,10 +6,11 @@ ghost use Rattle.avp_unlang.specs.Meaning.{stops};
 ghost use Rattle.avp_unlang.specs.PolicyPatterns.{cond_patterns_pass, is_among, policy_patterns_pass};
 ghost use Rattle.avp_unlang.specs.Resolutions.{StateFits, line_suits};
 ghost use Rattle.avp_unlang.specs.Suiting.{cond_suits, policy_suits};
-ghost use Rattle.avp_unlang.specs.Truth.{truth_by};
+ghost use Rattle.avp_unlang.specs.Captures.{no_captures};
+ghost use Rattle.avp_unlang.specs.Evaluations.{decided};
 ghost use Rattle.avp_unlang.specs.internal.Depth.{depth_of};
 ghost use Rattle.avp_step.specs.internal.Frames.{all_skips};
-ghost use Rattle.avp_step.specs.internal.Courses.{FitsOn, IsAtLast, IsContinued, IsEdited, IsKept, IsReady, IsStep, with_frame};
+ghost use Rattle.avp_step.specs.internal.Courses.{FitsOn, IsAtLast, IsContinued, IsEdited, IsKept, IsReady, IsStep, evaluating, with_frame};
 
 use crate::frames::{Frame, MAX_FRAMES};
 use crate::labels::Label;
@@ -18,7 +19,9 @@ use crate::marks::Mark;
 use avp_dict::Dictionary;
 use avp_lists::Store;
 use avp_patterns::Pattern;
-use avp_unlang::{Block, Branch, Code, Cond, Line, Matchers, Reason, Statement, holds_by};
+use avp_unlang::{
+    Block, Branch, Captured, Code, Cond, Line, Matchers, Reason, Statement, evaluate, holds_by,
+};
 use std::alloc::{AllocError, Global};
 use std::marker::Model;
 
@@ -29,6 +32,8 @@ pub struct Machine<'a, S: Store> {
     dictionary: &'a Dictionary,
     // Those of the patterns that conditions compare with.
     matchers: Matchers<'a>,
+    // What was captured last, kept if the policy looks at it.
+    captured: Captured,
     store: S,
     // The innermost part of what is still to run is the last.
     frames: Vec<Frame<'a>>,
@@ -45,11 +50,11 @@ impl<'a, S: Store> Model for Machine<'a, S> {
 
     ghost coded = { Prim.hlevel (codes, statement.the_row.coded, branch.the_row.coded) };
 
-    ghost view = { λ x. course_of x.dictionary.now x.matchers (S.history x.store) (S.room x.store)
-        x.frames.items };
+    ghost view = { λ x. course_of x.dictionary.now x.matchers x.captured (S.history x.store)
+        (S.room x.store) x.frames.items };
 
-    ghost invariant = { λ x. IsSound (course_of x.dictionary.now x.matchers (S.history x.store)
-        (S.room x.store) x.frames.items) (vec_capacity x.frames) };
+    ghost invariant = { λ x. IsSound (course_of x.dictionary.now x.matchers x.captured
+        (S.history x.store) (S.room x.store) x.frames.items) (vec_capacity x.frames) };
 }
 
 fn stops(code: Code) -> bool
@@ -61,14 +66,26 @@ fn stops(code: Code) -> bool
     }
 }
 
+// Nothing captured, with room for what is, if it is kept.
+fn captured_of(alloc: Global, keeps: bool) -> Result<Captured, AllocError>
+    ensures { IfOk result (λ c. c ≡ record { keeps = keeps; captures = no_captures }) }
+{
+    if keeps {
+        Captured::new(alloc)
+    } else {
+        Ok(Captured::none(alloc))
+    }
+}
+
 impl<'a, S: Store> Machine<'a, S> {
-    /// A machine that has these statements to run from the present lists of the store, with room for so many steps, and
-    /// what searches for their patterns. A refusal gives the store back.
+    /// A machine that has these statements to run from the present lists of the store, with room for so many steps, what
+    /// searches for their patterns, and room for what these capture if it is kept. A refusal gives the store back.
     pub fn new(
         alloc: Global,
         dictionary: &'a Dictionary,
         statements: &'a [Statement],
         patterns: &'a [Pattern],
+        keeps: bool,
         mut store: S,
         size: usize,
     ) -> Result<Machine<'a, S>, (S, AllocError)>
@@ -79,6 +96,8 @@ impl<'a, S: Store> Machine<'a, S> {
         ensures start { IfOk result (λ m. m ≡ record {
           dictionary = dictionary.entry.now;
           patterns = patterns.entry.now;
+          keeps = keeps;
+          captures = no_captures;
           history = settled (S.history store);
           reach = m.reach;
           frames = Frame.Statements statements.entry ∷ [];
@@ -92,6 +111,9 @@ impl<'a, S: Store> Machine<'a, S> {
         let Ok(matchers) = Matchers::new(alloc, patterns) else {
             return Err((store, AllocError));
         };
+        let Ok(captured) = captured_of(alloc, keeps) else {
+            return Err((store, AllocError));
+        };
         match store.reserve(size) {
             Err(refused) => Err((store, refused)),
             Ok(()) => {
@@ -101,6 +123,7 @@ impl<'a, S: Store> Machine<'a, S> {
                     alloc,
                     dictionary,
                     matchers,
+                    captured,
                     store,
                     frames,
                 })
@@ -125,6 +148,7 @@ impl<'a, S: Store> Machine<'a, S> {
             alloc: _,
             dictionary: _,
             matchers: _,
+            captured: _,
             store,
             frames: _,
         } = self;
@@ -200,19 +224,30 @@ impl<'a, S: Store> Machine<'a, S> {
         ensures kept { OnErr result (IsKept self.old self.new) }
         ensures frames { OnErr result (self.new.frames ≡ self.old.frames) }
     {
-        edit_by(self.alloc, self.dictionary, &mut self.store, line)
+        edit_by(
+            self.alloc,
+            self.dictionary,
+            &mut self.store,
+            line,
+            &self.captured,
+        )
     }
 
-    // Whether a condition is true of the present lists.
+    // Whether a condition is true of the present lists. What it captures is kept, if any is.
     fn holds(&mut self, cond: &Cond, code: Code) -> bool
         requires at_last { IsAtLast self.old }
         requires suits { IsTrue (cond_suits self.old.dictionary cond.now) }
         requires passes { IsTrue (cond_patterns_pass (is_among self.old.patterns) cond.now) }
-        ensures truth { result ≡ truth_by self.old.dictionary cond.now (present self.old.history)
-            code }
-        ensures same { self.new ≡ self.old }
+        ensures evaluated { decided result self.new.captures ≡ evaluating self.old cond.now
+            (present self.old.history) code self.old.captures }
+        ensures same { self.new ≡ record self.old { captures = self.new.captures } }
     {
-        holds_by(self.dictionary, cond, &self.store, code, &mut self.matchers)
+        let (dictionary, store, matchers) = (self.dictionary, &self.store, &mut self.matchers);
+        if self.captured.keeps() {
+            evaluate(dictionary, cond, store, code, matchers, &mut self.captured)
+        } else {
+            holds_by(dictionary, cond, store, code, matchers)
+        }
     }
 
     // The first of these statements, above the others: an update or an `if` is put on the frames, any other is a step.

@@ -90,7 +90,8 @@ impl<'a, S: Store> Stepper<'a, S> {
             return Err((store, AllocError));
         };
         let patterns = policy.patterns();
-        let machine = Machine::new(alloc, dictionary, statements, patterns, store, size)?;
+        let keeps = policy.uses_captures();
+        let machine = Machine::new(alloc, dictionary, statements, patterns, keeps, store, size)?;
         put_mark(&mut marks, START);
         Ok(Stepper {
             statements,

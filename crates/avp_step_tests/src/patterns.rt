@@ -14,12 +14,12 @@ use std::alloc::Global;
 use std::process::Abort;
 use std::test::Fail;
 
-const LINES: &[u8] = b"ATTRIBUTE User-Name 1 string
+pub const LINES: &[u8] = b"ATTRIBUTE User-Name 1 string
 ATTRIBUTE User-Password 2 string encrypt=1
 ATTRIBUTE Reply-Message 18 string
 ";
 
-const REQUEST: &[u8] = b"User-Name = \"Bob@example.org\"
+pub const REQUEST: &[u8] = b"User-Name = \"Bob@example.org\"
 User-Name = \"anna@example.com\"
 Reply-Message = \"one\\ntwo\"
 ";

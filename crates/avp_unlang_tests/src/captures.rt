@@ -1,7 +1,9 @@
 //! Which texts and conditions look at what was captured, and where others are refused.
 
 use avp_dict::Dictionary;
-use avp_unlang::{Cond, Part, Policy, PolicyFault, PolicyKind, Source, Statement, read_policy};
+use avp_unlang::{
+    Captured, Cond, Part, Policy, PolicyFault, PolicyKind, Source, Statement, read_policy,
+};
 use samples::test_dictionary;
 use std::alloc::Global;
 use std::process::Abort;
@@ -65,10 +67,19 @@ fn parts(rt: HostRuntime) -> Result<(), Fail> {
     let dictionary = test_dictionary(alloc)?;
     let policy = policy_setting(alloc, &dictionary, WIDER, "\"%{0}a%{9}%%{1}\"")?;
     let parts = parts_in(&policy).ok_or("no parts")?;
-    let [Part::Capture(0), Part::Text(a), Part::Capture(9), Part::Text(rest)] = parts else {
+    let [
+        Part::Capture(0),
+        Part::Text(a),
+        Part::Capture(9),
+        Part::Text(rest),
+    ] = parts
+    else {
         return Err(Fail::new("other parts"));
     };
-    assert_eq!(rt; (a.as_slice(), rest.as_slice()), (b"a".as_slice(), b"%{1}".as_slice()));
+    assert_eq!(rt;
+        (a.as_slice(), rest.as_slice()),
+        (b"a".as_slice(), b"%{1}".as_slice())
+    );
     Ok(())
 }
 
@@ -137,4 +148,43 @@ fn other_conditions(rt: HostRuntime) -> Result<(), Fail> {
     expect_misplaced(&rt, rt.alloc(), &dictionary, WIDER, "\"%{8}a\"")?;
     expect_misplaced(&rt, rt.alloc(), &dictionary, WIDER, "\"%{User-Name}\"")?;
     expect_misplaced(&rt, rt.alloc(), &dictionary, WIDER, "'%{8}'")
+}
+
+#[test]
+fn nothing_captured(rt: HostRuntime) -> Result<(), Fail> {
+    let captured = Captured::new(rt.alloc())?;
+    assert!(rt; captured.keeps());
+    assert_eq!(rt;
+        (captured.group(0), captured.group(9)),
+        (b"".as_slice(), b"".as_slice())
+    );
+    assert_eq!(rt; captured.group(255), b"".as_slice());
+    let captured = Captured::none(rt.alloc());
+    assert!(rt; !captured.keeps());
+    assert_eq!(rt; captured.group(1), b"".as_slice());
+    Ok(())
+}
+
+// Whether a policy with this condition and this text looks at captures.
+fn uses_captures(
+    alloc: Global,
+    dictionary: &Dictionary,
+    cond: &str,
+    text: &str,
+) -> Result<bool, PolicyFault> {
+    let body = format!(in alloc;
+        "if (&User-Name =~ /(a)/) {{ transaction {{ if ({cond}) {{ ok }} else {{
+        update reply {{ Reply-Message := {text} }} }} }} }}\n"
+    )?;
+    let text = format!(in alloc; "{WIDER}{body}")?;
+    Ok(read_policy(alloc, dictionary, text.as_bytes())?.uses_captures())
+}
+
+#[test]
+fn uses(rt: HostRuntime) -> Result<(), Fail> {
+    let dictionary = test_dictionary(rt.alloc())?;
+    assert!(rt; !uses_captures(rt.alloc(), &dictionary, "ok", "\"%{User-Name}\"")?);
+    assert!(rt; uses_captures(rt.alloc(), &dictionary, "ok", "\"a%{1}\"")?);
+    assert!(rt; uses_captures(rt.alloc(), &dictionary, "ok && !\"%{0}\"", "a")?);
+    Ok(())
 }

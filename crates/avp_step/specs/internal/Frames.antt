@@ -9,7 +9,7 @@ use Rattle.avp_unlang.specs.Suiting.{branches_suit, else_suits, policy_suits}
 use Rattle.avp_unlang.specs.Resolutions.{line_suits}
 use Rattle.avp_unlang.specs.declared.tree.Statement.{Statement}
 use Rattle.avp_unlang.specs.internal.Depth.{depth_of, depth_of_branches, else_depth}
-use Rattle.avp_step.specs.Trace.{Steps, block_steps, branch_steps, closed, guarded, line_steps, then_steps, unless_stopped}
+use Rattle.avp_step.specs.Trace.{Evaluating, Steps, block_steps, branch_steps, closed, guarded, line_steps, then_steps, unless_stopped}
 use Rattle.avp_step.specs.internal.Skips.{skips_of}
 use Rattle.avp_step.specs.declared.frames.Frame.{Frame}
 use Rattle.avp_step.specs.declared.frames.Frame.TheVariants.{Statements, Lines, Branches, End}
@@ -21,9 +21,9 @@ States = ℕ → State
 
 -- ---- the last block of an `if`
 
-abbrev pub else_steps : Dictionary → Option (List Statement) → Steps
-else_steps dictionary None o = []
-else_steps dictionary (Some block) o = block_steps dictionary block o
+abbrev pub else_steps : Dictionary → Evaluating → Option (List Statement) → Steps
+else_steps dictionary evaluating None p = []
+else_steps dictionary evaluating (Some block) p = block_steps dictionary evaluating block p
 
 abbrev pub else_skips : Option (List Statement) → ℕ
 else_skips None = 0
@@ -31,20 +31,23 @@ else_skips (Some block) = 1 + skips_of block
 
 -- ---- frames
 
-abbrev pub frame_steps : Dictionary → States → Frame → Steps
-frame_steps dictionary at (Statements ss) o = unless_stopped (block_steps dictionary ss.now) o
-frame_steps dictionary at (Lines ls entry) o =
-    unless_stopped (line_steps dictionary (at entry) ls.now) o
-frame_steps dictionary at (Branches bs otherwise) o =
+abbrev pub frame_steps : Dictionary → Evaluating → States → Frame → Steps
+frame_steps dictionary evaluating at (Statements ss) p =
+    unless_stopped (block_steps dictionary evaluating ss.now) p
+frame_steps dictionary evaluating at (Lines ls entry) p =
+    unless_stopped (line_steps dictionary (at entry) ls.now) p
+frame_steps dictionary evaluating at (Branches bs otherwise) p =
     unless_stopped
-    (branch_steps dictionary (map (guarded dictionary) bs.now) (else_steps dictionary otherwise.now))
-    o
-frame_steps dictionary at (End n entry) o = closed n (at entry) o ∷ []
+    (branch_steps evaluating (map (guarded dictionary evaluating) bs.now)
+    (else_steps dictionary evaluating otherwise.now))
+    p
+frame_steps dictionary evaluating at (End n entry) p = closed n (at entry) p ∷ []
 
 -- the steps of all frames
-abbrev pub rest : Dictionary → States → List Frame → Steps
-rest dictionary at [] o = []
-rest dictionary at (f ∷ fs) o = then_steps (frame_steps dictionary at f) (rest dictionary at fs) o
+abbrev pub rest : Dictionary → Evaluating → States → List Frame → Steps
+rest dictionary evaluating at [] p = []
+rest dictionary evaluating at (f ∷ fs) p =
+    then_steps (frame_steps dictionary evaluating at f) (rest dictionary evaluating at fs) p
 
 -- how many frames a frame may need above it
 abbrev pub frame_depth : Frame → ℕ

@@ -10,11 +10,11 @@ invariant_of-self g c =
     let h = g.S.Store.history c.self.inside.store in
     let at_last = subst IsAtLast (sym c.self.view_is) c.requires.at_last in
     let lt : c.args.to < length h.states = omega (arith, at_last, c.requires.earlier, ap (λ (x : Course). x.history.place) c.self.view_is) in
-    added_sound _ c.self.inside.matchers h _ c.self.inside.frames.items _ c.self.invariant (g.S.Store.history c.rollback.new.self) _ at_last (state_at h c.args.to) (rw c.unwrap.ensures at c.rollback.ensures.ok) (earlier_fits _ h c.args.to lt c.self.invariant.states)
+    added_sound _ c.self.inside.matchers c.self.inside.captured h _ c.self.inside.frames.items _ c.self.invariant (g.S.Store.history c.rollback.new.self) _ at_last (state_at h c.args.to) (rw c.unwrap.ensures at c.rollback.ensures.ok) (earlier_fits _ h c.args.to lt c.self.invariant.states)
 
 pub returns : goal.returns
 returns g c =
     let h = g.S.Store.history c.self.inside.store in
     let at_last = subst IsAtLast (sym c.self.view_is) c.requires.at_last in
     continued_moved c.args.to _ _ _ c.self.view_is
-    (added_is c.self.inside.dictionary.now c.self.inside.matchers h (g.S.Store.room c.self.inside.store) c.self.inside.frames.items _ c.self.invariant (g.S.Store.history c.rollback.new.self) (g.S.Store.room c.rollback.new.self) at_last (state_at h c.args.to) (rw c.unwrap.ensures at c.rollback.ensures.ok) c.rollback.ensures.kept)
+    (added_is c.self.inside.dictionary.now c.self.inside.matchers c.self.inside.captured h (g.S.Store.room c.self.inside.store) c.self.inside.frames.items _ c.self.invariant (g.S.Store.history c.rollback.new.self) (g.S.Store.room c.rollback.new.self) at_last (state_at h c.args.to) (rw c.unwrap.ensures at c.rollback.ensures.ok) c.rollback.ensures.kept)

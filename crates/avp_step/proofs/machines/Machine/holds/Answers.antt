@@ -13,3 +13,18 @@ holds_by-requires-clause-comparable g c =
     let lt : h.place < length h.states = omega (arith, at_last) in
     let suits = ap (λ (m : Course). cond_suits m.dictionary c.args.cond.now) c.self.view_is ∙ c.requires.suits in
     testable c.self.inside.dictionary.now (present h) (earlier_fits _ h h.place lt c.self.invariant.states) c.args.cond.now suits
+
+pub evaluate-requires-clause-comparable : goal.evaluate-requires-clause-comparable
+evaluate-requires-clause-comparable g c =
+    let h = g.S.Store.history c.self.inside.store in
+    let at_last = subst IsAtLast (sym c.self.view_is) c.requires.at_last in
+    let lt : h.place < length h.states = omega (arith, at_last) in
+    let suits = ap (λ (m : Course). cond_suits m.dictionary c.args.cond.now) c.self.view_is ∙ c.requires.suits in
+    testable c.self.inside.dictionary.now (present h) (earlier_fits _ h h.place lt c.self.invariant.states) c.args.cond.now suits
+
+pub evaluate-requires-clause-store : goal.evaluate-requires-clause-store
+evaluate-requires-clause-store g c =
+    let h = g.S.Store.history c.self.inside.store in
+    let at_last = subst IsAtLast (sym c.self.view_is) c.requires.at_last in
+    let lt : h.place < length h.states = omega (arith, at_last) in
+    earlier_fits _ h h.place lt c.self.invariant.states

@@ -1,4 +1,5 @@
 use Rattle.std.proofs.Common.{Bool, false, length, take, ◌-◌, ap, ◌∙◌, sym, subst, drop}
+use Rattle.avp_unlang.specs.Evaluations.{decided}
 use Rattle.avp_step.specs.declared.frames.Frame.TheVariants.{Branches}
 use Rattle.avp_step.specs.declared.labels.Label.TheVariants as label
 use Rattle.avp_step.specs.internal.Courses.{IsMade, with_frame}
@@ -32,15 +33,16 @@ put-requires-else-is_met g c =
 pub returns-clause-step : goal.returns-clause-step
 returns-clause-step g c =
     let split = front c.args.branches.now c.branch-item.result c.in-len1-up.len_at_least c.branch-item.is in
-    let truth_here = c.holds-is_met.ensures.truth in
+    let kept = c.holds-is_met.new.self.captures in
+    let came = c.holds-is_met.ensures.evaluated in
     let made = λ (answer : Bool). IsMade c.args.last (with_frame (Branches c.args.branches c.args.otherwise) c.args.self.now) (record { label = label.If c.branch-item.result.line answer; code = c.args.last.code; stopped = false }) c.stay.new.self in
     elim c.if-is_met.branch [
       | then-is_met w ↦
           subst made (sym w.if-is_met.true)
-          (made_over c.args.self.now c.args.last (Branches c.args.branches c.args.otherwise) _ _ _ _ (w.self-is ∙ w.put-then-is_met.ensures ∙ ap (with_frame _) c.holds-is_met.ensures.same) c.requires.ready.at_last c.stay.ensures
-          (met_first c.args.self.now c.args.last c.args.branches c.args.otherwise c.requires.running _ (record { ref_ptr = c.args.branches.ref_ptr; now = take (length c.args.branches.now - 1) (drop 1 c.args.branches.now) }) split w.as_slice-then-is_met.result (sym w.if-is_met.true ∙ truth_here) w.as_slice-then-is_met.ensures))
+          (made_over c.args.self.now c.args.last (Branches c.args.branches c.args.otherwise) _ kept _ _ _ (w.self-is ∙ w.put-then-is_met.ensures ∙ ap (with_frame _) c.holds-is_met.ensures.same) c.requires.ready.at_last c.stay.ensures
+          (met_first c.args.self.now c.args.last c.args.branches c.args.otherwise c.requires.running _ (record { ref_ptr = c.args.branches.ref_ptr; now = take (length c.args.branches.now - 1) (drop 1 c.args.branches.now) }) split w.as_slice-then-is_met.result kept (ap (λ b. decided b kept) (sym w.if-is_met.true) ∙ came) w.as_slice-then-is_met.ensures))
       | else-is_met w ↦
           subst made (sym w.if-is_met.false)
-          (made_over c.args.self.now c.args.last (Branches c.args.branches c.args.otherwise) _ _ _ _ (w.self-is ∙ w.put-else-is_met.ensures ∙ ap (with_frame _) c.holds-is_met.ensures.same) c.requires.ready.at_last c.stay.ensures
-          (unmet_first c.args.self.now c.args.last c.args.branches c.args.otherwise c.requires.running _ (record { ref_ptr = c.args.branches.ref_ptr; now = take (length c.args.branches.now - 1) (drop 1 c.args.branches.now) }) split (sym w.if-is_met.false ∙ truth_here)))
+          (made_over c.args.self.now c.args.last (Branches c.args.branches c.args.otherwise) _ kept _ _ _ (w.self-is ∙ w.put-else-is_met.ensures ∙ ap (with_frame _) c.holds-is_met.ensures.same) c.requires.ready.at_last c.stay.ensures
+          (unmet_first c.args.self.now c.args.last c.args.branches c.args.otherwise c.requires.running _ (record { ref_ptr = c.args.branches.ref_ptr; now = take (length c.args.branches.now - 1) (drop 1 c.args.branches.now) }) split kept (ap (λ b. decided b kept) (sym w.if-is_met.false) ∙ came)))
     ]

@@ -50,10 +50,10 @@ returns-in-Transaction-clause-step g c =
     let split = front c.args.statements.now c.statement-item.result c.in-len1-up.len_at_least c.statement-item.is in
     let e = c.put-in-Transaction-2.ensures ∙ ap (with_frame (Statements c.as_slice-in-Transaction.result)) (c.put-in-Transaction.ensures ∙ ap (with_frame (End c.in-Transaction.line c.place-place.result)) c.put.ensures) in
     let here = c.place-place.ensures ∙ ap (λ (x : Course). x.history.place) c.put.ensures in
-    made_over c.args.self.now c.args.last (Statements c.args.statements) _ _ _ _ e c.requires.ready.at_last c.stay.ensures (transaction_first c.args.self.now c.args.last c.args.statements c.requires.running _ (record { ref_ptr = c.args.statements.ref_ptr; now = take (length c.args.statements.now - 1) (drop 1 c.args.statements.now) }) split _ _ _ c.as_slice-in-Transaction.result here c.in-Transaction.is c.as_slice-in-Transaction.ensures)
+    made_over c.args.self.now c.args.last (Statements c.args.statements) _ c.args.self.now.captures _ _ _ e c.requires.ready.at_last c.stay.ensures (transaction_first c.args.self.now c.args.last c.args.statements c.requires.running _ (record { ref_ptr = c.args.statements.ref_ptr; now = take (length c.args.statements.now - 1) (drop 1 c.args.statements.now) }) split _ _ _ c.as_slice-in-Transaction.result here c.in-Transaction.is c.as_slice-in-Transaction.ensures)
 
 pub returns-in-Word-clause-step : goal.returns-in-Word-clause-step
 returns-in-Word-clause-step g c =
     let split = front c.args.statements.now c.statement-item.result c.in-len1-up.len_at_least c.statement-item.is in
     subst (λ stopped. IsMade c.args.last (with_frame (Statements c.args.statements) c.args.self.now) (record { label = label.Word c.in-Word.line; code = c.in-Word.word; stopped = stopped }) c.stay-in-Word.new.self) (sym c.stops.ensures)
-    (made_over c.args.self.now c.args.last (Statements c.args.statements) _ _ _ _ c.put.ensures c.requires.ready.at_last c.stay-in-Word.ensures (word_first c.args.self.now c.args.last c.args.statements c.requires.running _ (record { ref_ptr = c.args.statements.ref_ptr; now = take (length c.args.statements.now - 1) (drop 1 c.args.statements.now) }) split _ _ c.in-Word.is))
+    (made_over c.args.self.now c.args.last (Statements c.args.statements) _ c.args.self.now.captures _ _ _ c.put.ensures c.requires.ready.at_last c.stay-in-Word.ensures (word_first c.args.self.now c.args.last c.args.statements c.requires.running _ (record { ref_ptr = c.args.statements.ref_ptr; now = take (length c.args.statements.now - 1) (drop 1 c.args.statements.now) }) split _ _ c.in-Word.is))

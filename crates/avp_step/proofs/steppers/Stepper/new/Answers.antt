@@ -3,6 +3,8 @@ use Rattle.avp_lists.specs.History.{present, state_at}
 use Rattle.avp_unlang.proofs.StatementDepths.{spelled_depth}
 use Rattle.avp_unlang.proofs.SpelledSuits.{spelled_policy_suits}
 use Rattle.avp_unlang.specs.internal.Depth.{depth_of}
+use Rattle.avp_unlang.specs.CaptureUse.{uses_captures}
+use Rattle.avp_unlang.specs.Evaluations.{evaluated}
 use Rattle.avp_unlang.specs.Meaning.{meaning_of}
 use Rattle.avp_unlang.specs.Sizes.{size_of}
 use Rattle.avp_unlang.specs.PolicyPatterns.{is_among, policy_patterns_pass}
@@ -33,7 +35,7 @@ new-requires-clause-passes g c =
 pub invariant_of-result : goal.invariant_of-result
 invariant_of-result g c =
     let same : c.as_slice-statements.result.now ≡ c.args.policy.now = c.as_slice-statements.ensures ∙ c.statements.ensures in
-    start_held _ _ c.as_slice-statements.result (g.S.Store.history c.args.store) _ _ _ _ c.size-size.result _ c.in_ok-machine.ensures.start c.in-Ok.ensures.items c.put_mark.ensures.items (c.size-size.ensures.count ∙ ap size_of (sym same)) c.in_ok-machine.ensures.room (omega (arith, c.in-Ok.ensures.capacity, c.put_mark.ensures.capacity))
+    start_held _ _ _ c.as_slice-statements.result (g.S.Store.history c.args.store) _ _ _ _ c.size-size.result _ c.in_ok-machine.ensures.start (c.uses_captures-keeps.ensures ∙ ap uses_captures (sym same)) c.in-Ok.ensures.items c.put_mark.ensures.items (c.size-size.ensures.count ∙ ap size_of (sym same)) c.in_ok-machine.ensures.room (omega (arith, c.in-Ok.ensures.capacity, c.put_mark.ensures.capacity))
 
 pub returns-clause-last : goal.returns-clause-last
 returns-clause-last g c =
@@ -44,4 +46,4 @@ returns-clause-last g c =
 pub returns-clause-length : goal.returns-clause-length
 returns-clause-length g c =
     let m = c.in_ok-machine.machine in
-    omega (arith, ap size_of (c.as_slice-statements.ensures ∙ c.statements.ensures), trace_size m.dictionary c.as_slice-statements.result.now (state_at m.history 0))
+    omega (arith, ap size_of (c.as_slice-statements.ensures ∙ c.statements.ensures), trace_size m.dictionary (evaluated m.dictionary) c.as_slice-statements.result.now (state_at m.history 0))
