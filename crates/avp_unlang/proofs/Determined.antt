@@ -1,12 +1,10 @@
 -- A place spells at most one value of a form, and a refusal of a part is one of the whole.
 use Rattle.std.proofs.Common.{◌≡◌, Option, Result, Ok, Err, Some, sym, ap, subst, ◌∙◌}
 use Rattle.std.specs.Prelude.{IsErrAnd, ◌≢◌}
-use Rattle.avp_forms.specs.declared.profiles.Profile.{Profile}
-use Rattle.avp_forms.specs.declared.profiles.Profile.TheVariants.{Plain, Wider}
 use Rattle.avp_unlang.specs.declared.faults.PolicyFault.{PolicyFault}
 use Rattle.avp_unlang.specs.declared.faults.PolicyKind.{PolicyKind}
 use Rattle.avp_unlang.specs.declared.faults.PolicyKind.TheVariants.{Memory}
-use Rattle.avp_unlang.specs.Forms.{Form, Step, Gives, Becomes, After, Then, IsByText, Refuses, Reads, ReadsAll, ReadsPolicy}
+use Rattle.avp_unlang.specs.Forms.{Form, Step, Gives, Becomes, After, Then, Refuses, Reads, ReadsAll}
 
 abbrev pub IsOne : {S A : Type 0} → Form S A → Type 0
 IsOne form = (p : _) (x y : _) (r s : _) → form p x r → form p y s → (x ≡ y) × (r ≡ s)
@@ -45,16 +43,6 @@ pub exits_all : {A : Type 0} (Q : A → Type 0) (e : PolicyFault) (r : Result A 
     → (e.kind ≢ Memory → (x : A) → Q x → ⊥) → ReadsAll Q r
 exits_all Q e (Ok x) is h = absurd is
 exits_all Q e (Err d) is h = subst (λ (k : PolicyFault). k.kind ≢ Memory → (x : _) → Q x → ⊥) (sym is) h
-
--- a refusal that the text decides is not for want of memory
-pub by_text : (profile : Profile) (kind : PolicyKind) → IsByText profile kind → kind ≢ Memory
-by_text Plain kind h = h
-by_text Wider kind h = h.0
-
-pub exits_policy : {A : Type 0} (profile : Profile) (Q : A → Type 0) (e : PolicyFault) (r : Result A PolicyFault) → IsErrAnd r (λ d. d ≡ e)
-    → (IsByText profile e.kind → (x : A) → Q x → ⊥) → ReadsPolicy profile Q r
-exits_policy profile Q e (Ok x) is h = absurd is
-exits_policy profile Q e (Err d) is h = subst (λ (k : PolicyFault). IsByText profile k.kind → (x : _) → Q x → ⊥) (sym is) h
 
 -- the first part of two is refused, or the second after the first was read
 pub then_stops : {S A B : Type 0} (first : Form S A) (next : A → Form S B) (p : S) (e : PolicyFault) → Refuses (first p) e → Refuses (Then first next p) e

@@ -1,5 +1,5 @@
 -- Which patterns each kind of statement compares with.
-use Rattle.std.proofs.Common.{◌≡◌, ℕ, Bool, true, ◌&&◌, List, map, Option, None, Some, Result, Ok, Err, OnOk, sym, ap, ◌∙◌}
+use Rattle.std.proofs.Common.{◌≡◌, ℕ, Bool, true, false, ◌&&◌, List, map, Option, None, Some, Result, Ok, Err, OnOk, IfErr, refl, sym, ap, ◌∙◌}
 use Rattle.std.specs.List.{list_all}
 use Rattle.avp_patterns.specs.Patterns.{Written}
 use Rattle.avp_unlang.specs.PolicyPatterns.{branch_layer_passes, branch_patterns_pass, branches_pass, cond_patterns_pass, else_passes, passes, policy_patterns_pass, statement_layer_passes, statement_patterns_pass}
@@ -44,3 +44,20 @@ module _ (test : Written → Bool) where
 pub on_ok : {A E : Type 0} (r : Result A E) (P Q : Type 0) → (P → Q) → OnOk r P → OnOk r Q
 on_ok (Ok x) P Q f p = f p
 on_ok (Err e) P Q f p = tt
+
+-- what holds anyway, where something failed
+pub on_err : {A E : Type 0} (r : Result A E) (P : Type 0) → P → IfErr r (λ _. P)
+on_err (Ok x) P p = tt
+on_err (Err e) P p = p
+
+-- what follows from what holds where something failed
+pub err_of : {A E : Type 0} (r : Result A E) (P Q : Type 0) → (P → Q) → IfErr r (λ _. P) → IfErr r (λ _. Q)
+err_of (Ok x) P Q f p = tt
+err_of (Err e) P Q f p = f p
+
+pub left_fails : (a b : Bool) → a ≡ false → (a && b) ≡ false
+left_fails a b e = ap (λ x. x && b) e
+
+pub right_fails : (a b : Bool) → b ≡ false → (a && b) ≡ false
+right_fails true b e = e
+right_fails false b e = refl

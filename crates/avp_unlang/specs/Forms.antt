@@ -1,11 +1,8 @@
 -- How texts spell values: each case is chosen by what comes next, so a place spells at most one value of a form.
 use Rattle.std.specs.Prelude.{◌≡◌, ◌≢◌, Bool, true, false, List, [], ◌∷◌, Option, Some, Result, Ok, Err}
-use Rattle.avp_forms.specs.declared.profiles.Profile.{Profile}
-use Rattle.avp_forms.specs.declared.profiles.Profile.TheVariants.{Plain, Wider}
-use Rattle.avp_patterns.specs.declared.faults.PatternFault.TheVariants as pattern
 use Rattle.avp_unlang.specs.declared.faults.PolicyFault.{PolicyFault}
 use Rattle.avp_unlang.specs.declared.faults.PolicyKind.{PolicyKind}
-use Rattle.avp_unlang.specs.declared.faults.PolicyKind.TheVariants.{Memory, Pattern}
+use Rattle.avp_unlang.specs.declared.faults.PolicyKind.TheVariants.{Memory}
 
 -- form p x rest: from the place p a value x is spelled, and reading goes on at rest
 abbrev pub Form : Type 0 → Type 0 → Type 1
@@ -76,15 +73,3 @@ Takes step (Err fault) = (rest : _) → step rest → ⊥
 abbrev pub ReadsAll : {A : Type 0} → (A → Type 0) → Result A PolicyFault → Type 0
 ReadsAll spelled (Ok x) = spelled x
 ReadsAll spelled (Err fault) = fault.kind ≢ Memory → (x : _) → spelled x → ⊥
-
--- A refusal of a policy that its text decides. Two are left open: for want of memory, and, in a wider policy alone, of a
--- pattern that is too large when it is compiled.
-abbrev pub IsByText : Profile → PolicyKind → Type 0
-IsByText Plain kind = kind ≢ Memory
-IsByText Wider kind = (kind ≢ Memory) × (kind ≢ Pattern pattern.TooLarge)
-
--- What a reader of policies answers: what is spelled, or a refusal; one that the text decides is of a text that spells
--- nothing.
-abbrev pub ReadsPolicy : {A : Type 0} → Profile → (A → Type 0) → Result A PolicyFault → Type 0
-ReadsPolicy profile spelled (Ok x) = spelled x
-ReadsPolicy profile spelled (Err fault) = IsByText profile fault.kind → (x : _) → spelled x → ⊥

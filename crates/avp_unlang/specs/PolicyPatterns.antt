@@ -1,5 +1,5 @@
 -- The patterns that conditions compare with.
-use Rattle.std.specs.Prelude.{Bool, true, false, not, ◌&&◌, bytes_eq, IsTrue, List, Option, None, Some}
+use Rattle.std.specs.Prelude.{◌≡◌, Bool, true, false, not, ◌&&◌, bytes_eq, IsTrue, List, Option, None, Some}
 use Rattle.std.specs.List.{list_all, list_any}
 use Rattle.avp_patterns.specs.Patterns.{Written}
 use Rattle.avp_patterns.specs.declared.flags.PatternFlags.{PatternFlags}
@@ -77,6 +77,10 @@ policy_patterns_pass test statements = list_all (statement_patterns_pass test) s
 -- no pattern passes, so that what passes has none
 abbrev pub none_passes : Written → Bool
 none_passes w = false
+
+-- a condition of the policy compares with a pattern
+abbrev pub HasPatterns : List Statement → Type 0
+HasPatterns statements = policy_patterns_pass none_passes statements ≡ false
 
 -- the same of the branches of an `if`, and of its last block
 abbrev pub branches_pass : (Written → Bool) → List Branch → Bool

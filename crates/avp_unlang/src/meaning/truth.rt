@@ -220,7 +220,9 @@ fn all_hold<S: Store>(conds: &[Cond], store: &S, code: Code) -> bool
     true
 }
 
-/// Whether a condition is true of a store's present lists, `code` being the last code. It takes no memory.
+/// Whether a condition is true of a store's present lists, `code` being the last code. It takes no memory. A comparison
+/// with a pattern and a look at what one captured count as false: of these see [`holds_by`](crate::holds_by) and
+/// [`evaluate`](crate::evaluate).
 #[cycle(conditions)]
 #[tactic(auto, using(crate::proofs::Truths::truth_any, crate::proofs::Truths::truth_all, crate::proofs::Truths::truth_not, crate::proofs::Truths::truth_last, crate::proofs::Truths::truth_present, crate::proofs::Truths::truth_present_selected, crate::proofs::Truths::truth_compare, crate::proofs::Truths::truth_compare_meant, crate::proofs::Truths::truth_match, crate::proofs::Truths::truth_captured, crate::proofs::Truths::comparable_any, crate::proofs::Truths::comparable_all, crate::proofs::Truths::comparable_not, crate::proofs::Truths::comparable_compare))]
 pub fn holds<S: Store>(cond: &Cond, store: &S, code: Code) -> bool

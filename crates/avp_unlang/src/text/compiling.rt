@@ -1,12 +1,13 @@
 //! The patterns of a policy, compiled.
 
-ghost use Rattle.std.specs.Prelude.{◌≡◌, ◌≢◌, ◌≤◌, [], length, IfErr, IfOk, IsTrue, OnOk};
+ghost use Rattle.std.specs.Prelude.{◌≡◌, ◌≢◌, ◌≤◌, false, [], length, IfErr, IfOk, IsTrue, OnOk};
 ghost use Rattle.std.specs.List.{list_all};
 ghost use Rattle.avp_forms.specs.declared.profiles.Profile.TheVariants.{Plain, Wider};
+ghost use Rattle.avp_patterns.specs.declared.faults.PatternFault.TheVariants as pattern;
+ghost use Rattle.avp_unlang.specs.declared.faults.PolicyKind.TheVariants as policy;
 ghost use Rattle.avp_unlang.specs.declared.text.tokens.Token.TheVariants.{End};
-ghost use Rattle.avp_unlang.specs.Forms.{IsByText};
 ghost use Rattle.avp_unlang.specs.PatternTruth.{pattern_in};
-ghost use Rattle.avp_unlang.specs.PolicyPatterns.{AreKept, branch_patterns_pass, branches_pass, cond_patterns_pass, is_among, none_passes, policy_patterns_pass, statement_patterns_pass};
+ghost use Rattle.avp_unlang.specs.PolicyPatterns.{AreKept, HasPatterns, branch_patterns_pass, branches_pass, cond_patterns_pass, is_among, none_passes, policy_patterns_pass, statement_patterns_pass};
 
 use crate::faults::{OUT_OF_MEMORY, PolicyFault, PolicyKind, Position, fault_at};
 use crate::meaning::matchers::is_pattern;
@@ -127,7 +128,7 @@ impl Compiled {
 
     // The fault of a wider text whose next pattern was not compiled.
     fn fault_in(&self, alloc: Global, text: &[u8], fault: CompileFault) -> PolicyFault
-        ensures { IsByText Wider result.kind → ⊥ }
+        ensures { result.kind ≢ policy.Memory → result.kind ≡ policy.Pattern pattern.TooLarge }
     {
         let (CompileFault::TooLarge, Ok(offset)) = (fault, self.first_other(alloc, text)) else {
             return OUT_OF_MEMORY;
@@ -150,6 +151,7 @@ fn compile(alloc: Global, matching: &Matching, compiled: &mut Compiled) -> Resul
 fn compile_conds(alloc: Global, conds: &[Cond], compiled: &mut Compiled) -> Result<(), CompileFault>
     ensures pass { OnOk result (IsTrue (list_all
         (cond_patterns_pass (is_among compiled.new)) conds.now)) }
+    ensures refused { IfErr result (λ _. list_all (cond_patterns_pass none_passes) conds.now ≡ false) }
     ensures kept { AreKept compiled.old compiled.new }
 {
     for cond in conds {
@@ -164,6 +166,7 @@ fn compile_conds(alloc: Global, conds: &[Cond], compiled: &mut Compiled) -> Resu
 fn compile_cond(alloc: Global, cond: &Cond, compiled: &mut Compiled) -> Result<(), CompileFault>
     ensures pass { OnOk result (IsTrue (cond_patterns_pass (is_among compiled.new)
         cond.now)) }
+    ensures refused { IfErr result (λ _. cond_patterns_pass none_passes cond.now ≡ false) }
     ensures kept { AreKept compiled.old compiled.new }
 {
     match cond {
@@ -188,6 +191,7 @@ fn compile_branches(
 ) -> Result<(), CompileFault>
     ensures pass { OnOk result (IsTrue (branches_pass (is_among compiled.new)
         branches.now)) }
+    ensures refused { IfErr result (λ _. branches_pass none_passes branches.now ≡ false) }
     ensures kept { AreKept compiled.old compiled.new }
 {
     for branch in branches {
@@ -204,6 +208,7 @@ fn compile_branch(
 ) -> Result<(), CompileFault>
     ensures pass { OnOk result (IsTrue (branch_patterns_pass (is_among compiled.new)
         branch.now)) }
+    ensures refused { IfErr result (λ _. branch_patterns_pass none_passes branch.now ≡ false) }
     ensures kept { AreKept compiled.old compiled.new }
 {
     compile_cond(alloc, &branch.cond, compiled)?;
@@ -218,6 +223,7 @@ fn compile_block(
 ) -> Result<(), CompileFault>
     ensures pass { OnOk result (IsTrue (policy_patterns_pass (is_among compiled.new)
         statements.now)) }
+    ensures refused { IfErr result (λ _. HasPatterns statements.now) }
     ensures kept { AreKept compiled.old compiled.new }
 {
     for statement in statements {
@@ -234,6 +240,7 @@ fn compile_statement(
 ) -> Result<(), CompileFault>
     ensures pass { OnOk result (IsTrue (statement_patterns_pass (is_among compiled.new)
         statement.now)) }
+    ensures refused { IfErr result (λ _. statement_patterns_pass none_passes statement.now ≡ false) }
     ensures kept { AreKept compiled.old compiled.new }
 {
     match statement {
@@ -259,7 +266,8 @@ pub(crate) fn patterns_of(
     requires { profile ≡ Plain → IsTrue (policy_patterns_pass none_passes statements.now) }
     ensures pass { IfOk result (λ patterns. IsTrue (policy_patterns_pass (is_among patterns.items)
         statements.now)) }
-    ensures refused { IfErr result (λ fault. IsByText profile fault.kind → ⊥) }
+    ensures refused { IfErr result (λ fault. fault.kind ≢ policy.Memory
+        → (fault.kind ≡ policy.Pattern pattern.TooLarge) × HasPatterns statements.now) }
 {
     let mut compiled = Compiled::new(alloc);
     match profile {

@@ -4,19 +4,20 @@ ghost use Rattle.std.specs.Prelude.{◌≡◌, ◌≢◌, ◌≤◌, ℕ, List, 
 ghost use Rattle.avp_dict.specs.Dictionary.{Dictionary};
 ghost use Rattle.avp_dict.specs.LineNumbers.{line_after};
 ghost use Rattle.avp_forms.specs.Profiles.{profile_of};
-ghost use Rattle.avp_unlang.specs.declared.faults.PolicyKind.TheVariants.{Memory};
+ghost use Rattle.avp_forms.specs.declared.profiles.Profile.TheVariants.{Plain};
+ghost use Rattle.avp_patterns.specs.declared.faults.PatternFault.TheVariants as pattern;
+ghost use Rattle.avp_unlang.specs.declared.faults.PolicyKind.TheVariants.{Memory, Pattern as PatternKind};
 ghost use Rattle.avp_unlang.specs.declared.tree.Statement.{Statement as Tree};
 ghost use Rattle.avp_unlang.specs.CaptureUse.{uses_captures};
 ghost use Rattle.avp_unlang.specs.Cleanness.{KeepsReplyClean};
 ghost use Rattle.avp_unlang.specs.Faults.{BeginsToken};
-ghost use Rattle.avp_unlang.specs.Forms.{ReadsPolicy};
 ghost use Rattle.avp_unlang.specs.Places.{max_size};
-ghost use Rattle.avp_unlang.specs.Policies.{SpellsPolicy};
-ghost use Rattle.avp_unlang.specs.PolicyPatterns.{is_among, policy_patterns_pass};
+ghost use Rattle.avp_unlang.specs.Policies.{ReadsPolicy, SpellsPolicy};
+ghost use Rattle.avp_unlang.specs.PolicyPatterns.{HasPatterns, is_among, policy_patterns_pass};
 ghost use Rattle.avp_unlang.specs.Sizes.{size_of};
 ghost use Rattle.avp_unlang.specs.Suiting.{IsSpelled, policy_suits};
 
-use crate::faults::PolicyFault;
+use crate::faults::{PolicyFault, PolicyKind};
 use crate::text::capture_uses::uses_captures;
 use crate::text::compiling::patterns_of;
 use crate::text::cursors::{Cursor, MAX_SIZE};
@@ -25,7 +26,7 @@ use crate::text::tokens::Token;
 use crate::tree::Block;
 use avp_dict::Dictionary;
 use avp_forms::profile_of;
-use avp_patterns::Pattern;
+use avp_patterns::{Pattern, PatternFault};
 use std::alloc::Global;
 use std::marker::Model;
 
@@ -72,7 +73,7 @@ impl Policy {
         &self.statements
     }
 
-    /// The patterns that the conditions compare with, compiled, each once. A plain policy has none.
+    /// The patterns that the conditions compare with, compiled.
     pub fn patterns(&self) -> &[Pattern]
         ensures { IsTrue (policy_patterns_pass (is_among result.now) self.now) }
     {
@@ -103,14 +104,32 @@ pub fn size(policy: &Policy) -> usize
     policy.size
 }
 
+// The fault of a text that spells nothing. Nothing of it is compiled, so no pattern of it is too large.
+fn unspelled(fault: PolicyFault) -> PolicyFault
+    ensures small { result.kind ≢ PatternKind pattern.TooLarge }
+    ensures memory { fault.kind ≡ Memory → result.kind ≡ Memory }
+{
+    match fault.kind {
+        PolicyKind::Pattern(PatternFault::TooLarge) => PolicyFault {
+            kind: PolicyKind::Unreadable,
+            ..fault
+        },
+        _ => fault,
+    }
+}
+
 // The policy that a text spells. A fault has the place of the token that was refused.
 fn policy_of(alloc: Global, dictionary: &Dictionary, text: &[u8]) -> Result<Policy, PolicyFault>
-    ensures read { ReadsPolicy (profile_of text.now) (SpellsPolicy dictionary.now text.now) result }
+    ensures read { ReadsPolicy dictionary.now text.now result }
     ensures suits { IfOk result (λ policy. IsTrue (policy_suits dictionary.now policy)) }
 {
     dictionary.is_sound();
     let profile = profile_of(text);
-    let (statements, end) = statements(alloc, profile, dictionary, MAX_NESTED, Cursor::new(text))?;
+    let read = statements(alloc, profile, dictionary, MAX_NESTED, Cursor::new(text));
+    let (statements, end) = match read {
+        Ok(read) => read,
+        Err(fault) => return Err(unspelled(fault)),
+    };
     match end.token() {
         Token::End => {
             let patterns = patterns_of(alloc, profile, text, statements.as_slice())?;
@@ -122,7 +141,7 @@ fn policy_of(alloc: Global, dictionary: &Dictionary, text: &[u8]) -> Result<Poli
                 captures,
             })
         }
-        _ => Err(end.misplaced()),
+        _ => Err(unspelled(end.misplaced())),
     }
 }
 
@@ -131,8 +150,8 @@ fn policy_of(alloc: Global, dictionary: &Dictionary, text: &[u8]) -> Result<Poli
 /// value may be written under the name of an update line or a comparison, this is found at the operator or the source,
 /// but the fault is at the name.
 ///
-/// The patterns of a wider policy are compiled, each once. One for which 256 KiB are not enough, or for which 16 MiB for
-/// all of them are not, is refused as too large, at its comparison.
+/// The patterns of a wider policy are compiled, each once. One that takes more than 256 KiB, or with which all take more
+/// than 16 MiB, is refused as too large, at its comparison.
 ///
 /// ```rust
 /// let text = b"update reply { Session-Timeout := 600 }\nreject";
@@ -147,7 +166,7 @@ pub fn read_policy(
     dictionary: &Dictionary,
     text: &[u8],
 ) -> Result<Policy, PolicyFault>
-    ensures read { ReadsPolicy (profile_of text.now) (SpellsPolicy dictionary.now text.now) result }
+    ensures read { ReadsPolicy dictionary.now text.now result }
     // Its attributes are known, its literals fit, and what it compares is of one type.
     ensures suits { IfOk result (λ policy. IsTrue (policy_suits dictionary.now policy)) }
 
@@ -163,6 +182,12 @@ pub fn read_policy(
         Err(fault) => Err(fault.placed(text)),
     }
 }
+
+/// A plain policy has no patterns. So none of its faults is that one is too large.
+pub fn plain_has_no_patterns()
+    ensures { (dictionary : Dictionary) (text : List ℕ) (policy : List Tree)
+        → profile_of text ≡ Plain → SpellsPolicy dictionary text policy → HasPatterns policy → ⊥ }
+{}
 
 /// A text spells at most one policy by a dictionary.
 pub fn one_policy()

@@ -1,8 +1,8 @@
-use Rattle.std.proofs.Common.{◌≡◌, Bool, true, ◌&&◌, IsTrue, OnOk, ap, sym, ◌∙◌, subst}
+use Rattle.std.proofs.Common.{◌≡◌, Bool, true, false, ◌&&◌, IfErr, IsTrue, OnOk, ap, sym, ◌∙◌, subst}
 use Rattle.std.specs.List.{list_all}
-use Rattle.avp_unlang.specs.PolicyPatterns.{branch_patterns_pass, branches_pass, cond_patterns_pass, else_passes, is_among, policy_patterns_pass, statement_patterns_pass}
+use Rattle.avp_unlang.specs.PolicyPatterns.{branch_patterns_pass, branches_pass, cond_patterns_pass, else_passes, is_among, none_passes, policy_patterns_pass, statement_patterns_pass}
 use Rattle.avp_unlang.proofs.KeptPatterns.{all_kept, another_passes, both_true, branch_kept, cond_kept, statement_kept}
-use Rattle.avp_unlang.proofs.PolicyPasses.{on_ok, passes_Branch, passes_If, passes_Transaction, passes_Update, passes_Word}
+use Rattle.avp_unlang.proofs.PolicyPasses.{err_of, left_fails, on_err, on_ok, right_fails, passes_Branch, passes_If, passes_Transaction, passes_Update, passes_Word}
 use Rattle.avp_unlang.proofs.text.compiling.+blocks.Goals as goal
 
 pub compile_branches-loop-branch-preserved : goal.compile_branches-loop-branch-preserved
@@ -67,3 +67,38 @@ compile_statement-returns-in-Transaction-clause-pass t c =
     (ap (policy_patterns_pass after) c.as_slice-in-Transaction.ensures
     ∙ sym (ap (statement_patterns_pass after) c.in-Transaction.is ∙ passes_Transaction after c.in-Transaction.field-0 c.in-Transaction.block))
     c.compile_block-in-Transaction.ensures.pass
+
+-- ---- what is refused has a pattern
+
+pub compile_branch-returns-clause-refused : goal.compile_branch-returns-clause-refused
+compile_branch-returns-clause-refused t c =
+    let b = c.args.branch.now in
+    err_of c.compile_block.result _ (branch_patterns_pass none_passes b ≡ false)
+    (λ h. passes_Branch none_passes b
+    ∙ right_fails (cond_patterns_pass none_passes b.cond) (policy_patterns_pass none_passes b.block)
+    (ap (policy_patterns_pass none_passes) (sym c.as_slice.ensures) ∙ h))
+    c.compile_block.ensures.refused
+
+pub compile_statement-returns-in-Some-clause-refused : goal.compile_statement-returns-in-Some-clause-refused
+compile_statement-returns-in-Some-clause-refused t c =
+    let bs = c.in-If.branches in
+    err_of c.compile_block.result _ (statement_patterns_pass none_passes c.args.statement.now ≡ false)
+    (λ h. ap (statement_patterns_pass none_passes) c.in-If.is ∙ passes_If none_passes bs c.in-If.otherwise
+    ∙ right_fails (branches_pass none_passes bs) (else_passes none_passes c.in-If.otherwise)
+    (ap (else_passes none_passes) c.in-Some.is ∙ ap (policy_patterns_pass none_passes) (sym c.as_slice-in-Some.ensures) ∙ h))
+    c.compile_block.ensures.refused
+
+pub compile_statement-returns-in-Transaction-clause-refused : goal.compile_statement-returns-in-Transaction-clause-refused
+compile_statement-returns-in-Transaction-clause-refused t c =
+    subst (λ b. IfErr c.compile_block-in-Transaction.result (λ _. b ≡ false))
+    (ap (policy_patterns_pass none_passes) c.as_slice-in-Transaction.ensures
+    ∙ sym (ap (statement_patterns_pass none_passes) c.in-Transaction.is ∙ passes_Transaction none_passes c.in-Transaction.field-0 c.in-Transaction.block))
+    c.compile_block-in-Transaction.ensures.refused
+
+pub compile_statement-returns-in_err-compile_branches-in-If-clause-refused : goal.compile_statement-returns-in_err-compile_branches-in-If-clause-refused
+compile_statement-returns-in_err-compile_branches-in-If-clause-refused t c =
+    let bs = c.in-If.branches in
+    on_err c.from_residual.result (statement_patterns_pass none_passes c.args.statement.now ≡ false)
+    (ap (statement_patterns_pass none_passes) c.in-If.is ∙ passes_If none_passes bs c.in-If.otherwise
+    ∙ left_fails (branches_pass none_passes bs) (else_passes none_passes c.in-If.otherwise)
+    (ap (branches_pass none_passes) (sym c.as_slice.ensures) ∙ c.in_err-compile_branches-in-If.ensures.refused))

@@ -1,7 +1,8 @@
-use Rattle.std.proofs.Common.{◌≡◌, IsTrue, OnOk, ap, sym, ◌∙◌, subst}
+use Rattle.std.proofs.Common.{◌≡◌, false, IfErr, IsTrue, OnOk, refl, ap, sym, ◌∙◌, subst}
 use Rattle.std.specs.List.{list_all}
-use Rattle.avp_unlang.specs.PolicyPatterns.{cond_patterns_pass, is_among}
+use Rattle.avp_unlang.specs.PolicyPatterns.{cond_patterns_pass, is_among, none_passes}
 use Rattle.avp_unlang.proofs.KeptPatterns.{another_passes, cond_kept}
+use Rattle.avp_unlang.proofs.PolicyPasses.{on_err}
 use Rattle.avp_unlang.proofs.Truths.{passes_all, passes_any, passes_match, passes_not}
 use Rattle.avp_unlang.proofs.text.compiling.+conds.Goals as goal
 
@@ -42,3 +43,28 @@ compile_conds-loop-cond-preserved t c =
           (ap (cond_patterns_pass after) (sym c.cond-item.is) ∙ c.in_ok-compile_cond.ensures.pass);
       kept = λ w h. c.compile_cond.ensures.kept w (c.loop-cond.invariant.kept w h);
     }
+
+-- ---- what is refused has a pattern
+
+pub compile_cond-returns-in-Any-clause-refused : goal.compile_cond-returns-in-Any-clause-refused
+compile_cond-returns-in-Any-clause-refused t c =
+    subst (λ b. IfErr c.compile_conds.result (λ _. b ≡ false))
+    (ap (list_all (cond_patterns_pass none_passes)) c.as_slice.ensures ∙ sym (ap (cond_patterns_pass none_passes) c.in-Any.is ∙ passes_any none_passes c.in-Any.conds))
+    c.compile_conds.ensures.refused
+
+pub compile_cond-returns-in-All-clause-refused : goal.compile_cond-returns-in-All-clause-refused
+compile_cond-returns-in-All-clause-refused t c =
+    subst (λ b. IfErr c.compile_conds-in-All.result (λ _. b ≡ false))
+    (ap (list_all (cond_patterns_pass none_passes)) c.as_slice-in-All.ensures ∙ sym (ap (cond_patterns_pass none_passes) c.in-All.is ∙ passes_all none_passes c.in-All.conds))
+    c.compile_conds-in-All.ensures.refused
+
+pub compile_cond-returns-in-Not-clause-refused : goal.compile_cond-returns-in-Not-clause-refused
+compile_cond-returns-in-Not-clause-refused t c =
+    subst (λ b. IfErr c.compile_cond.result (λ _. b ≡ false))
+    (ap (cond_patterns_pass none_passes) c.get.ensures ∙ sym (ap (cond_patterns_pass none_passes) c.in-Not.is ∙ passes_not none_passes c.in-Not.cond))
+    c.compile_cond.ensures.refused
+
+pub compile_cond-returns-in-Match-clause-refused : goal.compile_cond-returns-in-Match-clause-refused
+compile_cond-returns-in-Match-clause-refused t c =
+    on_err c.compile.result (cond_patterns_pass none_passes c.args.cond.now ≡ false)
+    (ap (cond_patterns_pass none_passes) c.in-Match.is ∙ passes_match none_passes c.in-Match.matching)
