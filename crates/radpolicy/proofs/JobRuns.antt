@@ -6,7 +6,7 @@ use Rattle.avp_dict.specs.Sent.{is_clean}
 use Rattle.avp_forms.specs.declared.profiles.Profile.{Profile}
 use Rattle.avp_step.specs.Walk.{walk_from}
 use Rattle.radpolicy.specs.Faults.{MemoryOr}
-use Rattle.radpolicy.specs.JobReports.{IsOpened, IsPolicy, IsPolicyRefusal, IsRequestOrReplyRefusal, IsRunReport, IsScript, IsScriptOrRequestRefusal, IsStepReport, IsUnspelled, opened, policy_of, profile_for, report_of_run, run_of, script_of, step_report}
+use Rattle.radpolicy.specs.JobReports.{IsOpened, IsPolicy, IsPolicyRefusal, IsRefusedAsPolicy, IsRequestOrReplyRefusal, IsRunReport, IsScript, IsScriptOrRequestRefusal, IsStepReport, opened, policy_of, profile_for, report_of_run, run_of, script_of, step_report}
 use Rattle.radpolicy.specs.Received.{IsUnreadRequest, request_for}
 use Rattle.radpolicy.specs.Replies.{proxy_states}
 use Rattle.radpolicy.specs.ReplyMeaning.{IsRunRead, ReplyIsRead}
@@ -22,26 +22,26 @@ use Rattle.radpolicy.proofs.PreparedRuns.{report_of_outcome}
 use Rattle.radpolicy.proofs.Replying.{none_clean}
 
 module _ (job : Job) (d : Dictionary) (secret : Option (List ℕ)) (opens : IsOpened job (opened d secret)) where
-  -- a text that spells no policy is a refused policy of the job
-  pub policy_refusal : (f : Fault) → MemoryOr (IsUnspelled d (policy_of job)) f → MemoryOr (IsPolicyRefusal job) f
+  -- a text that is refused as a policy is a refused policy of the job
+  pub policy_refusal : (f : Fault) → MemoryOr (IsRefusedAsPolicy d (policy_of job)) f → MemoryOr (IsPolicyRefusal job) f
   policy_refusal f (inl memory) = inl memory
-  policy_refusal f (inr is) = inr (record { opened = opened d secret; opens = opens; none = is.none; fault = is.fault })
+  policy_refusal f (inr is) = inr (record { opened = opened d secret; opens = opens; refused = is })
 
   module _ (prepared : Prepared) (same : prepared.dictionary ≡ d) (policy : IsPolicy job d prepared.statements) where
     pub script_refused : (f : Fault) → (f ≡ fault.Memory) ⊎ IsUnknownWord f (script_spelled (script_of job)) → MemoryOr (λ g. IsPolicyRefusal job g ⊎ IsScriptOrRequestRefusal job g) f
     script_refused f (inl memory) = inl memory
     script_refused f (inr is) = inr (inr (record { opened = opened d secret; statements = prepared.statements; opens = opens; policy = policy; fault = inl is }))
 
-    own_request : (f : Fault) → IsUnreadRequest f (request_for prepared.dictionary secret job) → IsUnreadRequest f (request_for d secret job)
-    own_request f is = subst (λ (own : Dictionary). IsUnreadRequest f (request_for own secret job)) same is
+    own_request : (f : Fault) → IsUnreadRequest prepared.dictionary job f (request_for prepared.dictionary secret job) → IsUnreadRequest d job f (request_for d secret job)
+    own_request f is = subst (λ (own : Dictionary). IsUnreadRequest own job f (request_for own secret job)) same is
 
-    pub walk_request_refused : (script : List ScriptWord) → IsScript job script → (f : Fault) → (f ≡ fault.Memory) ⊎ IsUnreadRequest f (request_for prepared.dictionary secret job)
+    pub walk_request_refused : (script : List ScriptWord) → IsScript job script → (f : Fault) → (f ≡ fault.Memory) ⊎ IsUnreadRequest prepared.dictionary job f (request_for prepared.dictionary secret job)
         → MemoryOr (λ g. IsPolicyRefusal job g ⊎ IsScriptOrRequestRefusal job g) f
     walk_request_refused script words f (inl memory) = inl memory
     walk_request_refused script words f (inr is) =
         inr (inr (record { opened = opened d secret; statements = prepared.statements; opens = opens; policy = policy; fault = inr (script, words, own_request f is) }))
 
-    pub run_request_refused : (f : Fault) → (f ≡ fault.Memory) ⊎ IsUnreadRequest f (request_for prepared.dictionary secret job) → MemoryOr (λ g. IsPolicyRefusal job g ⊎ IsRequestOrReplyRefusal job g) f
+    pub run_request_refused : (f : Fault) → (f ≡ fault.Memory) ⊎ IsUnreadRequest prepared.dictionary job f (request_for prepared.dictionary secret job) → MemoryOr (λ g. IsPolicyRefusal job g ⊎ IsRequestOrReplyRefusal job g) f
     run_request_refused f (inl memory) = inl memory
     run_request_refused f (inr is) = inr (inr (record { opened = opened d secret; statements = prepared.statements; opens = opens; policy = policy; fault = inl (own_request f is) }))
 

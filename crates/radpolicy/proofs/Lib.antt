@@ -4,6 +4,7 @@ pub mod DistinctFiles
 pub mod DistinctNames
 pub mod FittingLists
 pub mod JobRuns
+pub mod OneFault
 pub mod OneReport
 pub mod PlainCommands
 pub mod WordPlans
@@ -11,6 +12,7 @@ pub mod PacketRoom
 pub mod PresentLists
 pub mod PreparedRuns
 pub mod Refusals
+pub mod RefusedLines
 pub mod ReplyReads
 pub mod Replying
 pub mod ScriptWords

@@ -1,5 +1,5 @@
 -- A job has at most one report, and none if it is refused, but for a pattern that is too large.
-use Rattle.std.proofs.Common.{◌≡◌, ◌∙◌, ◌≢◌, ◌⊎◌, ℕ, inl, inr, Option, Some, None, Result, Ok, Err, List, ap, ap₂, subst, sym, refl}
+use Rattle.std.proofs.Common.{◌≡◌, ◌∙◌, ◌≢◌, ◌⊎◌, ℕ, true, false, inl, inr, Option, Some, None, Result, Ok, Err, List, ap, ap₂, subst, sym, refl}
 use Rattle.avp_dict.specs.Dictionary.{Dictionary}
 use Rattle.avp_packet.specs.declared.packets.Packet.{Packet}
 use Rattle.radpolicy.specs.declared.faults.Fault.{Fault}
@@ -7,7 +7,7 @@ use Rattle.radpolicy.specs.declared.faults.Fault.TheVariants as fault
 use Rattle.radpolicy.specs.declared.jobs.Command.{Command}
 use Rattle.radpolicy.specs.declared.jobs.Command.TheVariants.{Check, Decode, Encode, Run, Step}
 use Rattle.radpolicy.specs.declared.jobs.Job.{Job}
-use Rattle.radpolicy.specs.JobReports.{IsCheckRefusal, IsCheckReport, IsDictionaryRefusal, IsLeftOpen, IsOpenRefusal, IsOpened, IsPacketRefusal, IsPacketReport, IsPolicy, IsPolicyFault, IsReceived, IsRefused, IsReport, IsRequestRefusal, IsRunRefusal, IsRunReport, IsScript, IsSizeOf, IsStepRefusal, IsStepReport, IsTextFault, Opened, RefusalOf, ReportOf, decode_report, dictionary_for, encode_report, policy_of, profile_for, report_of_run, script_of, step_report, request_walk, opened}
+use Rattle.radpolicy.specs.JobReports.{IsCheckRefusal, IsCheckReport, IsDictionaryRefusal, IsOpenRefusal, IsOpened, IsPacketRefusal, IsPacketReport, IsPolicy, IsReceived, IsRefused, IsRefusedAsPolicy, IsReport, IsRequestRefusal, IsRunRefusal, IsRunReport, IsScript, IsSizeOf, IsStepRefusal, IsStepReport, IsTooLargePattern, Opened, RefusalOf, ReportOf, decode_report, dictionary_for, encode_report, policy_of, profile_for, report_of_run, script_of, step_report, request_walk, opened}
 use Rattle.radpolicy.specs.Received.{IsUnreadRequest, request_for}
 use Rattle.radpolicy.specs.Reports.{Report, check_report}
 use Rattle.radpolicy.specs.Scripts.{IsUnknownWord, script_spelled}
@@ -17,11 +17,13 @@ use Rattle.avp_forms.specs.Profiles.{profile_of}
 use Rattle.avp_forms.specs.declared.profiles.Profile.{Profile}
 use Rattle.avp_forms.specs.declared.profiles.Profile.TheVariants.{Plain, Wider}
 use Rattle.avp_patterns.specs.declared.faults.PatternFault.TheVariants as pattern
-use Rattle.avp_unlang.specs.Forms.{IsByText}
+use Rattle.avp_unlang.specs.Policies.{IsRefusedPolicy, SpellsPolicy}
+use Rattle.avp_unlang.specs.PolicyPatterns.{HasPatterns}
 use Rattle.avp_unlang.specs.declared.faults.PolicyKind.{PolicyKind}
 use Rattle.avp_unlang.specs.declared.faults.PolicyKind.TheVariants as policy
 use Rattle.avp_unlang.specs.declared.tree.Statement.{Statement}
 use Rattle.avp_unlang.specs.Sizes.{size_of}
+use Rattle.avp_unlang.proofs.PlainPatterns.{plain_passes}
 use Rattle.avp_unlang.proofs.StatementsOne.{one_policy}
 
 the_ok : {A B : Type 0} (a b : A) (r : Result A B) → r ≡ Ok a → r ≡ Ok b → a ≡ b
@@ -38,13 +40,45 @@ not_both_some a o h g = cc
 
 -- ---- what a job is made from
 
-of_profile : (profile : Profile) (kind : PolicyKind) → kind ≢ policy.Memory → ((profile ≡ Wider) × (kind ≡ policy.Pattern pattern.TooLarge) → ⊥) → IsByText profile kind
-of_profile Plain kind memory closed = memory
-of_profile Wider kind memory closed = (memory, λ large. closed (refl, large))
+-- ---- a text that spells a policy is refused for a pattern that is too large alone
 
-decided_by_text : (text : List ℕ) (f : Fault) → IsPolicyFault f → (IsLeftOpen text f → ⊥) → IsTextFault text f
-decided_by_text text (fault.Policy f) some closed = of_profile (profile_of text) f.kind some closed
-decided_by_text text _ some closed = some
+is_too_large : (k : PolicyKind) → (k ≡ policy.Pattern pattern.TooLarge) ⊎ (k ≢ policy.Pattern pattern.TooLarge)
+is_too_large policy.NotValue = inr (λ e. cc)
+is_too_large policy.TooLong = inr (λ e. cc)
+is_too_large policy.Unknown = inr (λ e. cc)
+is_too_large policy.NotWritable = inr (λ e. cc)
+is_too_large policy.Unreadable = inr (λ e. cc)
+is_too_large policy.Misplaced = inr (λ e. cc)
+is_too_large policy.TooDeep = inr (λ e. cc)
+is_too_large policy.TooLarge = inr (λ e. cc)
+is_too_large policy.OtherType = inr (λ e. cc)
+is_too_large (policy.Pattern pattern.Empty) = inr (λ e. cc)
+is_too_large (policy.Pattern (pattern.NotUtf8 at)) = inr (λ e. cc)
+is_too_large (policy.Pattern (pattern.Expansion at)) = inr (λ e. cc)
+is_too_large (policy.Pattern (pattern.NotRead at)) = inr (λ e. cc)
+is_too_large (policy.Pattern pattern.TooLarge) = inl refl
+is_too_large (policy.Pattern pattern.Memory) = inr (λ e. cc)
+is_too_large policy.Memory = inr (λ e. cc)
+
+no_plain_pattern : (d : Dictionary) (text : List ℕ) (statements : List Statement) → profile_of text ≡ Plain → SpellsPolicy d text statements → HasPatterns statements → ⊥
+no_plain_pattern d text statements plain spelled has =
+    let both : true ≡ false = sym (plain_passes d text statements plain spelled) ∙ has in cc
+
+has_wider_profile : (d : Dictionary) (text : List ℕ) (profile : Profile) → profile_of text ≡ profile → (statements : List Statement) → SpellsPolicy d text statements → HasPatterns statements → profile_of text ≡ Wider
+has_wider_profile d text Plain is statements spelled has = absurd (no_plain_pattern d text statements is spelled has)
+has_wider_profile d text Wider is statements spelled has = is
+
+of_kind : (d : Dictionary) (text : List ℕ) (k : PolicyKind) → k ≢ policy.Memory → IsRefusedPolicy d text k → (statements : List Statement) → SpellsPolicy d text statements → (profile_of text ≡ Wider) × (k ≡ policy.Pattern pattern.TooLarge)
+of_kind d text k some refused statements spelled = elim (is_too_large k) [
+  | inl large ↦
+      let own = refused.compiled large in
+      (has_wider_profile d text (profile_of text) refl own.0 own.1 own.2, large)
+  | inr other ↦ absurd (refused.unspelled some other statements spelled)
+]
+
+policy_not : (job : Job) (d : Dictionary) (statements : List Statement) (f : Fault) → IsPolicy job d statements → IsRefusedAsPolicy d (policy_of job) f → IsTooLargePattern job f
+policy_not job d statements (fault.Policy f) spelled refused = of_kind d (policy_of job) f.kind refused.0 refused.1 statements spelled
+policy_not job d statements _ spelled refused = absurd refused
 
 module _ (job : Job) where
   one_opened : (a b : Opened) → IsOpened job a → IsOpened job b → a ≡ b
@@ -127,14 +161,14 @@ module _ (job : Job) where
   opened_not o f h (inr refused) = not_both_some o.secret (secret_for job) h.secret refused.secret
 
   request_read : (o : Opened) (request : Packet) (f : Fault) → IsReceived job o request → IsRequestRefusal job o f → ⊥
-  request_read o request f h refused = subst (IsUnreadRequest f) h refused
+  request_read o request f h refused = subst (IsUnreadRequest o.dictionary job f) h refused
 
-  run_not : (report : Report) (f : Fault) → (IsLeftOpen (policy_of job) f → ⊥) → IsRunReport job report → IsRunRefusal job f → ⊥
-  run_not report f closed h (inl refused) = opened_not h.opened f h.opens refused
-  run_not report f closed h (inr (inl refused)) =
+  run_not : (report : Report) (f : Fault) → IsRunReport job report → IsRunRefusal job f → IsTooLargePattern job f
+  run_not report f h (inl refused) = absurd (opened_not h.opened f h.opens refused)
+  run_not report f h (inr (inl refused)) =
       let r = run_of_other refused.opened report h (one_opened h.opened refused.opened h.opens refused.opens) in
-      refused.none (decided_by_text (policy_of job) f refused.fault closed) r.0 r.2
-  run_not report f closed h (inr (inr refused)) = by_fault refused.fault
+      policy_not job refused.opened.dictionary r.0 f r.2 refused.refused
+  run_not report f h (inr (inr refused)) = absurd (by_fault refused.fault)
     where
       o : Opened
       o = refused.opened
@@ -150,12 +184,12 @@ module _ (job : Job) where
           let same = ap (λ s. report_of_run (profile_for job) job.form o s r.1) statements ∙ ap (report_of_run (profile_for job) job.form o refused.statements) request in
           not_both_some report (report_of_run (profile_for job) job.form o refused.statements long.0) (sym same ∙ r.4) long.2
 
-  step_not : (report : Report) (f : Fault) → (IsLeftOpen (policy_of job) f → ⊥) → IsStepReport job report → IsStepRefusal job f → ⊥
-  step_not report f closed h (inl refused) = opened_not h.opened f h.opens refused
-  step_not report f closed h (inr (inl refused)) =
+  step_not : (report : Report) (f : Fault) → IsStepReport job report → IsStepRefusal job f → IsTooLargePattern job f
+  step_not report f h (inl refused) = absurd (opened_not h.opened f h.opens refused)
+  step_not report f h (inr (inl refused)) =
       let r = step_of_other refused.opened report h (one_opened h.opened refused.opened h.opens refused.opens) in
-      refused.none (decided_by_text (policy_of job) f refused.fault closed) r.0 r.2
-  step_not report f closed h (inr (inr refused)) = by_fault refused.fault
+      policy_not job refused.opened.dictionary r.0 f r.2 refused.refused
+  step_not report f h (inr (inr refused)) = absurd (by_fault refused.fault)
     where
       o : Opened
       o = refused.opened
@@ -166,9 +200,9 @@ module _ (job : Job) where
           let r = step_of_other o report h (one_opened h.opened o h.opens refused.opens) in
           request_read o r.1 f r.3 unread.2
 
-  packet_not : (made_of : Opened → Packet → Option Report) (report : Report) (f : Fault) → IsPacketReport made_of job report → IsPacketRefusal made_of job f → ⊥
-  packet_not made_of report f h (inl refused) = opened_not h.opened f h.opens refused
-  packet_not made_of report f h (inr refused) = by_fault refused.fault
+  packet_not : (made_of : Opened → Packet → Option Report) (report : Report) (f : Fault) → IsPacketReport made_of job report → IsPacketRefusal made_of job f → IsTooLargePattern job f
+  packet_not made_of report f h (inl refused) = absurd (opened_not h.opened f h.opens refused)
+  packet_not made_of report f h (inr refused) = absurd (by_fault refused.fault)
     where
       o : Opened
       o = refused.opened
@@ -186,22 +220,22 @@ module _ (job : Job) where
   spelled_by None d size given h = absurd (given refl)
   spelled_by (Some text) d size given h = (h.0, h.1)
 
-  check_not : (report : Report) (f : Fault) → (IsLeftOpen (policy_of job) f → ⊥) → IsCheckReport job report → IsCheckRefusal job f → ⊥
-  check_not report f closed h (inl refused) = dictionary_read h.dictionary f h.read refused
-  check_not report f closed h (inr refused) =
+  check_not : (report : Report) (f : Fault) → IsCheckReport job report → IsCheckRefusal job f → IsTooLargePattern job f
+  check_not report f h (inl refused) = absurd (dictionary_read h.dictionary f h.read refused)
+  check_not report f h (inr refused) =
       let same = the_ok h.dictionary refused.dictionary (dictionary_for job) h.read refused.read in
       let spelled = spelled_by job.policy refused.dictionary h.size refused.given (subst (λ (d : Dictionary). IsSizeOf job.policy job d h.size) same h.policy) in
-      refused.none (decided_by_text (policy_of job) f refused.fault closed) spelled.0 spelled.1
+      policy_not job refused.dictionary spelled.0 f spelled.1 refused.refused
 
-  not_both_of : (command : Command) (report : Report) (f : Fault) → (IsLeftOpen (policy_of job) f → ⊥) → ReportOf command job report → RefusalOf command job f → ⊥
-  not_both_of Run report f closed h refused = run_not report f closed h refused
-  not_both_of Check report f closed h refused = check_not report f closed h refused
-  not_both_of Encode report f closed h refused = packet_not encode_report report f h refused
-  not_both_of Decode report f closed h refused = packet_not decode_report report f h refused
-  not_both_of Step report f closed h refused = step_not report f closed h refused
+  not_both_of : (command : Command) (report : Report) (f : Fault) → ReportOf command job report → RefusalOf command job f → IsTooLargePattern job f
+  not_both_of Run report f h refused = run_not report f h refused
+  not_both_of Check report f h refused = check_not report f h refused
+  not_both_of Encode report f h refused = packet_not encode_report report f h refused
+  not_both_of Decode report f h refused = packet_not decode_report report f h refused
+  not_both_of Step report f h refused = step_not report f h refused
 
 pub one_report : (job : Job) (a b : Report) → IsReport job a → IsReport job b → a ≡ b
 one_report job a b = one_report_of job job.command a b
 
-pub not_both : (job : Job) (report : Report) (f : Fault) → (IsLeftOpen (policy_of job) f → ⊥) → IsReport job report → IsRefused job f → ⊥
+pub not_both : (job : Job) (report : Report) (f : Fault) → IsReport job report → IsRefused job f → IsTooLargePattern job f
 not_both job report f = not_both_of job job.command report f

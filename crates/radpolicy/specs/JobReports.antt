@@ -19,8 +19,7 @@ use Rattle.radpolicy.specs.declared.jobs.Command.TheVariants.{Check, Decode, Enc
 use Rattle.radpolicy.specs.declared.jobs.Form.{Form}
 use Rattle.radpolicy.specs.declared.jobs.Job.{Job}
 use Rattle.avp_unlang.specs.declared.tree.Statement.{Statement}
-use Rattle.avp_unlang.specs.Forms.{IsByText}
-use Rattle.avp_unlang.specs.Policies.{SpellsPolicy}
+use Rattle.avp_unlang.specs.Policies.{IsRefusedPolicy, SpellsPolicy}
 use Rattle.avp_unlang.specs.Meaning.{Outcome as End, meaning_of}
 use Rattle.avp_unlang.specs.declared.codes.Code.TheVariants as Code
 use Rattle.avp_step.specs.Walk.{Walk, entry, walk_from}
@@ -207,39 +206,28 @@ pub record IsSecretRefusal (job : Job) (f : Fault) : Type 0 where
 abbrev pub IsOpenRefusal : Job → Fault → Type 0
 IsOpenRefusal job f = IsDictionaryRefusal job f ⊎ IsSecretRefusal job f
 
--- some fault of a policy
-abbrev pub IsPolicyFault : Fault → Type 0
-IsPolicyFault (fault.Policy f) = f.kind ≢ policy.Memory
-IsPolicyFault _ = ⊥
+-- A text is refused as a policy, want of memory aside. Which fault of it comes, and its line, is left open.
+abbrev pub IsRefusedAsPolicy : Dictionary → List ℕ → Fault → Type 0
+IsRefusedAsPolicy dictionary text (fault.Policy f) =
+    (f.kind ≢ policy.Memory) × IsRefusedPolicy dictionary text f.kind
+IsRefusedAsPolicy dictionary text _ = ⊥
 
--- One that the policy's text decides. When a pattern of a wider policy is too large to be compiled is left open.
-abbrev pub IsTextFault : List ℕ → Fault → Type 0
-IsTextFault text (fault.Policy f) = IsByText (profile_of text) f.kind
-IsTextFault text _ = ⊥
-
--- A fault that leaves it open whether the text is a policy: a pattern of a wider one is too large to be compiled.
-abbrev pub IsLeftOpen : List ℕ → Fault → Type 0
-IsLeftOpen text (fault.Policy f) =
-    (profile_of text ≡ Wider) × (f.kind ≡ policy.Pattern pattern.TooLarge)
-IsLeftOpen text _ = ⊥
-
--- A text spells no policy by a dictionary. Which fault of it comes, and its line, is left open.
-pub record IsUnspelled (dictionary : Dictionary) (text : List ℕ) (f : Fault) : Type 0 where
-  pub none : IsTextFault text f → (statements : List Statement)
-      → SpellsPolicy dictionary text statements → ⊥
-  pub fault : IsPolicyFault f
-
--- The policy spells no statements. Which fault of it comes, and its line, is left open.
+-- the policy is refused
 pub record IsPolicyRefusal (job : Job) (f : Fault) : Type 0 where
   pub opened : Opened
   pub opens : IsOpened job opened
-  pub none : IsTextFault (policy_of job) f → (statements : List Statement)
-      → IsPolicy job opened.dictionary statements → ⊥
-  pub fault : IsPolicyFault f
+  pub refused : IsRefusedAsPolicy opened.dictionary (policy_of job) f
+
+-- A pattern of a wider policy is too large when it is compiled. Which patterns are is left open.
+abbrev pub IsTooLargePattern : Job → Fault → Type 0
+IsTooLargePattern job (fault.Policy f) =
+    (profile_for job ≡ Wider) × (f.kind ≡ policy.Pattern pattern.TooLarge)
+IsTooLargePattern job _ = ⊥
 
 -- the request is none
 abbrev pub IsRequestRefusal : Job → Opened → Fault → Type 0
-IsRequestRefusal job opened f = IsUnreadRequest f (request_for opened.dictionary opened.secret job)
+IsRequestRefusal job opened f =
+    IsUnreadRequest opened.dictionary job f (request_for opened.dictionary opened.secret job)
 
 -- after a policy that is one, the request is none, or a packet of the run is too long
 pub record IsRequestOrReplyRefusal (job : Job) (f : Fault) : Type 0 where
@@ -279,14 +267,12 @@ pub record IsMakingRefusal (made_of : Opened → Packet → Option Report) (job 
 abbrev pub IsPacketRefusal : (Opened → Packet → Option Report) → Job → Fault → Type 0
 IsPacketRefusal made_of job f = IsOpenRefusal job f ⊎ IsMakingRefusal made_of job f
 
--- the policy of a check spells no statements
+-- the policy of a check is refused
 pub record IsCheckedPolicyRefusal (job : Job) (f : Fault) : Type 0 where
   pub dictionary : Dictionary
   pub read : dictionary_for job ≡ Ok dictionary
   pub given : job.policy ≢ None
-  pub none : IsTextFault (policy_of job) f → (statements : List Statement)
-      → IsPolicy job dictionary statements → ⊥
-  pub fault : IsPolicyFault f
+  pub refused : IsRefusedAsPolicy dictionary (policy_of job) f
 
 abbrev pub IsCheckRefusal : Job → Fault → Type 0
 IsCheckRefusal job f = IsDictionaryRefusal job f ⊎ IsCheckedPolicyRefusal job f

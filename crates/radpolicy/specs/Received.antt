@@ -1,15 +1,18 @@
 -- The request of a job: from a packet in hexadecimal digits, or from lines (RFC 2865, section 4.1; RFC 2866, section
 -- 4.1).
-use Rattle.std.specs.Prelude.{◌≡◌, ◌≢◌, ℕ, Bool, not, ◌||◌, ◌==◌, List, [], filter, Option, Some, None, Result, Ok, Err}
+use Rattle.std.specs.Prelude.{◌≡◌, ◌≢◌, ℕ, ℤ, Bool, not, ◌||◌, ◌==◌, List, [], filter, take, Option, Some, None, Result, Ok, Err}
 use Rattle.std.specs.Option.{unwrap_or}
 use Rattle.std.specs.Result.{result_ok}
 use Rattle.hex.specs.Hex.{decode_of}
 use Rattle.avp_lists.specs.declared.pairs.Pair.{Pair}
 use Rattle.avp_dict.specs.Ascii.{carriage_return, line_feed, space, tab}
+use Rattle.avp_dict.specs.declared.request.faults.LineFault.{LineFault}
 use Rattle.avp_dict.specs.declared.request.faults.LineKind.TheVariants as line
 use Rattle.avp_dict.specs.Dictionary.{Dictionary}
+use Rattle.avp_dict.specs.LineNumbers.{line_after}
 use Rattle.avp_forms.specs.Profiles.{profile_of}
-use Rattle.avp_forms.specs.Requests.{request_written}
+use Rattle.avp_forms.specs.Requests.{IsFirstRefused, request_written}
+use Rattle.avp_forms.specs.declared.profiles.Profile.{Profile}
 use Rattle.avp_packet.specs.declared.faults.PacketFault.{PacketFault}
 use Rattle.avp_packet.specs.declared.packets.Packet.{Packet}
 use Rattle.avp_packet.specs.Decoded.{decoded}
@@ -73,14 +76,24 @@ request_of Accounting dictionary secret job =
 abbrev pub request_for : Dictionary → Option (List ℕ) → Job → Result Packet Unread
 request_for dictionary secret job = request_of job.form dictionary secret job
 
--- The fault of a request that is none. Which fault of lines comes, and its line, is left open.
-abbrev pub IsUnreadBy : Unread → Fault → Type 0
-IsUnreadBy NotHex fault.NotHex = Unit {0}
-IsUnreadBy (BadPacket f) (fault.Packet g) = f ≡ g
-IsUnreadBy BadLines (fault.Request f) = f.kind ≢ line.Memory
-IsUnreadBy _ _ = ⊥
+-- Lines spell no list, and the fault is that of the first place that is refused: what it is refused for, its offset and
+-- its line.
+pub record AreRefusedWith (profile : Profile) (time_zone : Option ℤ) (dictionary : Dictionary)
+    (text : List ℕ) (f : LineFault) : Type 0 where
+  pub some : f.kind ≢ line.Memory
+  pub none : request_written profile time_zone text dictionary ≡ None
+  pub first : IsFirstRefused profile time_zone dictionary text f.kind f.offset
+  pub line : f.line ≡ line_after (take f.offset text)
+
+-- the fault of a request that is none
+abbrev pub IsUnreadBy : Dictionary → Job → Unread → Fault → Type 0
+IsUnreadBy dictionary job NotHex fault.NotHex = Unit {0}
+IsUnreadBy dictionary job (BadPacket f) (fault.Packet g) = f ≡ g
+IsUnreadBy dictionary job BadLines (fault.Request f) =
+    AreRefusedWith (profile_of job.request) None dictionary job.request f
+IsUnreadBy dictionary job _ _ = ⊥
 
 -- the request is none, with this fault
-abbrev pub IsUnreadRequest : Fault → Result Packet Unread → Type 0
-IsUnreadRequest f (Ok packet) = ⊥
-IsUnreadRequest f (Err unread) = IsUnreadBy unread f
+abbrev pub IsUnreadRequest : Dictionary → Job → Fault → Result Packet Unread → Type 0
+IsUnreadRequest dictionary job f (Ok packet) = ⊥
+IsUnreadRequest dictionary job f (Err unread) = IsUnreadBy dictionary job unread f

@@ -1,9 +1,10 @@
 -- Why a start is refused: a packet that is none, or lines that are no list.
-use Rattle.std.specs.Prelude.{◌≡◌, ◌≢◌, List, Option, None, Result, Err, IsOk}
-use Rattle.avp_lists.specs.declared.pairs.Pair.{Pair}
-use Rattle.avp_dict.specs.declared.request.faults.LineKind.TheVariants as line
+use Rattle.std.specs.Prelude.{◌≡◌, ℕ, ℤ, List, Option, Result, Err, IsOk}
+use Rattle.avp_dict.specs.Dictionary.{Dictionary}
+use Rattle.avp_forms.specs.declared.profiles.Profile.{Profile}
 use Rattle.avp_packet.specs.declared.faults.PacketFault.{PacketFault}
 use Rattle.avp_packet.specs.declared.packets.Packet.{Packet}
+use Rattle.radpolicy.specs.Received.{AreRefusedWith}
 use Rattle.radpolicy.specs.declared.faults.Fault.{Fault}
 use Rattle.radpolicy.specs.declared.faults.Fault.TheVariants as fault
 
@@ -13,16 +14,19 @@ IsUnreadPacket read (fault.Packet f) = read ≡ Err f
 IsUnreadPacket read fault.Memory = IsOk read
 IsUnreadPacket read _ = ⊥
 
--- Lines that spell no list. Which fault of them comes, and its line, is left open.
+-- ---- lines that spell no list, with the fault of the first place that is refused
 
-abbrev pub AreUnreadRequestLines : Option (List Pair) → Fault → Type 0
-AreUnreadRequestLines spelled (fault.Request f) = (f.kind ≢ line.Memory) × (spelled ≡ None)
-AreUnreadRequestLines spelled _ = ⊥
+abbrev pub AreUnreadRequestLines : Profile → Option ℤ → Dictionary → List ℕ → Fault → Type 0
+AreUnreadRequestLines profile time_zone dictionary text (fault.Request f) =
+    AreRefusedWith profile time_zone dictionary text f
+AreUnreadRequestLines profile time_zone dictionary text _ = ⊥
 
-abbrev pub AreUnreadReplyLines : Option (List Pair) → Fault → Type 0
-AreUnreadReplyLines spelled (fault.Reply f) = (f.kind ≢ line.Memory) × (spelled ≡ None)
-AreUnreadReplyLines spelled _ = ⊥
+abbrev pub AreUnreadReplyLines : Profile → Option ℤ → Dictionary → List ℕ → Fault → Type 0
+AreUnreadReplyLines profile time_zone dictionary text (fault.Reply f) =
+    AreRefusedWith profile time_zone dictionary text f
+AreUnreadReplyLines profile time_zone dictionary text _ = ⊥
 
-abbrev pub AreUnreadControlLines : Option (List Pair) → Fault → Type 0
-AreUnreadControlLines spelled (fault.Control f) = (f.kind ≢ line.Memory) × (spelled ≡ None)
-AreUnreadControlLines spelled _ = ⊥
+abbrev pub AreUnreadControlLines : Profile → Option ℤ → Dictionary → List ℕ → Fault → Type 0
+AreUnreadControlLines profile time_zone dictionary text (fault.Control f) =
+    AreRefusedWith profile time_zone dictionary text f
+AreUnreadControlLines profile time_zone dictionary text _ = ⊥

@@ -4,7 +4,7 @@ ghost use Rattle.std.specs.Prelude.{All, ◌≡◌, ◌≢◌, ◌⊎◌, ◌<�
 ghost use Rattle.std.specs.Io.KnownBytes.{Appends};
 ghost use Rattle.std.specs.Option.{option_copied};
 ghost use Rattle.radpolicy.specs.Faults.{IsPrintedWith, MemoryOr};
-ghost use Rattle.radpolicy.specs.JobReports.{IsCheckRefusal, IsCheckReport, IsCheckedPolicyRefusal, IsDictionaryRefusal, IsLeftOpen, IsOpened, IsMakingRefusal, IsOpenRefusal, IsPacketReport, IsPolicy, IsPolicyRefusal, IsRefused, IsReport, IsRequestOrReplyRefusal, IsRunReport, IsScript, IsScriptOrRequestRefusal, IsSizeOf, IsStepReport, decode_report, dictionary_for, encode_report, opened, policy_of, profile_for, script_of};
+ghost use Rattle.radpolicy.specs.JobReports.{IsCheckRefusal, IsCheckReport, IsCheckedPolicyRefusal, IsDictionaryRefusal, IsOpened, IsMakingRefusal, IsOpenRefusal, IsPacketReport, IsPolicy, IsPolicyRefusal, IsRefused, IsReport, IsRequestOrReplyRefusal, IsRunReport, IsScript, IsScriptOrRequestRefusal, IsSizeOf, IsStepReport, IsTooLargePattern, decode_report, dictionary_for, encode_report, opened, policy_of, profile_for, script_of};
 ghost use Rattle.radpolicy.specs.Scripts.{IsUnknownWord, script_spelled};
 ghost use Rattle.radpolicy.specs.OutcomeReports.{IsOutcomeRefusal, IsOutcomeReport};
 ghost use Rattle.radpolicy.specs.Plans.{IsSound, asked_by_job};
@@ -15,6 +15,7 @@ ghost use Rattle.radpolicy.specs.Starts.{start_of};
 ghost use Rattle.radpolicy.specs.Received.{IsUnreadRequest, request_for};
 ghost use Rattle.radpolicy.specs.Replies.{proxy_states};
 ghost use Rattle.avp_dict.specs.Sent.{is_clean};
+ghost use Rattle.avp_dict.specs.declared.request.faults.LineFault.{LineFault};
 ghost use Rattle.radpolicy.specs.Writing.{AppendsFrontOf};
 ghost use Rattle.radpolicy.specs.declared.faults.Fault.TheVariants as fault;
 ghost use Rattle.radpolicy.specs.declared.faults.Fault.{Fault};
@@ -125,7 +126,8 @@ fn start_for<'a>(
         (option_copied secret.entry) job.now.form start.request) }
     ensures proxies { IfOk result (λ start. is_clean (proxy_states start.request)
         prepared.entry.now.dictionary ≡ true) }
-    ensures refused { IfErr result (λ f. (f ≡ fault.Memory) ⊎ IsUnreadRequest f
+    ensures refused { IfErr result (λ f. (f ≡ fault.Memory)
+        ⊎ IsUnreadRequest prepared.entry.now.dictionary job.now f
         (request_for prepared.entry.now.dictionary (option_copied secret.entry) job.now)) }
     ensures printed { IfErr result (IsPrintedWith job.now.files) }
 {
@@ -329,9 +331,11 @@ pub fn answer<O: Output>(alloc: Global, job: &Job, out: &mut O) -> Result<Outcom
         ⊎ MemoryOr (IsRefused job.now) fault) }
     // A job has at most one report, and none if it is refused, but for a pattern that is too large.
     ensures one { (a b : Report) → IsReport job.now a → IsReport job.now b → a ≡ b }
-    ensures either { (report : Report) (fault : Fault)
-        → (IsLeftOpen (policy_of job.now) fault → ⊥)
-        → IsReport job.now report → IsRefused job.now fault → ⊥ }
+    ensures either { (report : Report) (fault : Fault) → IsReport job.now report
+        → IsRefused job.now fault → IsTooLargePattern job.now fault }
+    // Of its request's lines only one fault is such a fault, that of the first refused place.
+    ensures first { (a b : LineFault) → IsRefused job.now (fault.Request a)
+        → IsRefused job.now (fault.Request b) → a ≡ b }
     // The report of a run is the text of what its start comes to, and the run is refused where that comes to nothing.
     ensures ran { job.now.command ≡ TheRun → (report : Report)
         → IsRunReport job.now report ↔ IsOutcomeReport job.now report }

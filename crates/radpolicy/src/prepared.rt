@@ -7,7 +7,7 @@ ghost use Rattle.avp_unlang.specs.Policies.{SpellsPolicy};
 ghost use Rattle.avp_unlang.specs.Suiting.{IsSpelled};
 ghost use Rattle.avp_unlang.specs.declared.tree.Statement.{Statement as Tree};
 ghost use Rattle.radpolicy.specs.Faults.{IsPrintedAnywhere, MemoryOr};
-ghost use Rattle.radpolicy.specs.JobReports.{IsUnspelled};
+ghost use Rattle.radpolicy.specs.JobReports.{IsRefusedAsPolicy};
 ghost use Rattle.radpolicy.specs.internal.Starting.{statements_held};
 
 use crate::faults::Fault;
@@ -96,7 +96,7 @@ impl<'a> PreparedPolicy<'a> {
         ensures profile { IfOk result (λ prepared. prepared.profile ≡ profile_of text.now) }
         ensures spelled { IfOk result (λ prepared.
             SpellsPolicy dictionary.now text.now prepared.statements) }
-        ensures refused { IfErr result (MemoryOr (IsUnspelled dictionary.now text.now)) }
+        ensures refused { IfErr result (MemoryOr (IsRefusedAsPolicy dictionary.now text.now)) }
         ensures printed { IfErr result IsPrintedAnywhere }
     {
         match read_policy(alloc, dictionary, text) {
@@ -168,7 +168,7 @@ impl OwnedPolicy {
         ensures profile { IfOk result (λ owned. owned.profile ≡ profile_of text.now) }
         ensures spelled { IfOk result (λ owned.
             SpellsPolicy dictionary text.now owned.statements) }
-        ensures refused { IfErr result (MemoryOr (IsUnspelled dictionary text.now)) }
+        ensures refused { IfErr result (MemoryOr (IsRefusedAsPolicy dictionary text.now)) }
         ensures printed { IfErr result IsPrintedAnywhere }
     {
         OwnedPolicy::read_by(alloc, Arc::new(alloc, dictionary)?, text)
@@ -191,7 +191,8 @@ impl OwnedPolicy {
         ensures profile { IfOk result (λ owned. owned.profile ≡ profile_of text.now) }
         ensures spelled { IfOk result (λ owned.
             SpellsPolicy (arc_value dictionary) text.now owned.statements) }
-        ensures refused { IfErr result (MemoryOr (IsUnspelled (arc_value dictionary) text.now)) }
+        ensures refused { IfErr result (MemoryOr
+            (IsRefusedAsPolicy (arc_value dictionary) text.now)) }
         ensures printed { IfErr result IsPrintedAnywhere }
     {
         match read_policy(alloc, &dictionary, text) {

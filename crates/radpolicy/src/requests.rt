@@ -3,21 +3,26 @@
 ghost use Rattle.std.specs.Prelude.{◌≡◌, ◌≢◌, ◌⊎◌, ◌≤◌, ◌<◌, Err, IfErr, IfOk, IfSome, None, Ok, Some, length, true};
 ghost use Rattle.std.specs.List.{filter};
 ghost use Rattle.std.specs.Option.{option_copied};
+ghost use Rattle.avp_lists.specs.Instances.{instances};
 ghost use Rattle.avp_lists.specs.States.{max_pairs};
+ghost use Rattle.avp_lists.specs.declared.pairs.AttrId.TheVariants.{Plain};
+ghost use Rattle.avp_dict.specs.AttributeNumbers.{proxy_state};
+ghost use Rattle.avp_dict.specs.Sent.{is_clean};
+ghost use Rattle.avp_forms.specs.Requests.{request_written};
 ghost use Rattle.avp_packet.specs.Packets.{IsRequestCode};
 ghost use Rattle.radpolicy.specs.Faults.{IsPrintedWith};
-ghost use Rattle.radpolicy.specs.internal.Fitting.{AllFit};
-ghost use Rattle.avp_dict.specs.Sent.{is_clean};
+ghost use Rattle.radpolicy.specs.Received.{AreRefusedWith, IsUnreadRequest, hex_octets, is_no_white_space, lines_for, lines_spelled, packet_for, request_for};
 ghost use Rattle.radpolicy.specs.Replies.{proxy_states};
-ghost use Rattle.radpolicy.specs.Received.{IsUnreadRequest, hex_octets, is_no_white_space, lines_for, lines_spelled, packet_for, request_for};
 ghost use Rattle.radpolicy.specs.declared.faults.Fault.TheVariants as fault;
 ghost use Rattle.radpolicy.specs.declared.jobs.Form.TheVariants.{Hex as InHex};
+ghost use Rattle.radpolicy.specs.internal.Fitting.{AllFit};
+ghost use Rattle.radpolicy.specs.internal.Starting.{IsFittingList};
 
 use crate::faults::Fault;
 use crate::jobs::{Form, Job};
 use crate::secrets::Secret;
-use avp_dict::Dictionary;
-use avp_forms::{profile_of, read_request};
+use avp_dict::{Dictionary, LineFault, LineKind};
+use avp_forms::{Profile, profile_of, read_request};
 use avp_lists::Pairs;
 use avp_packet::{ACCESS_REQUEST, ACCOUNTING_REQUEST, Packet, decode};
 use hex::FromHexError;
@@ -70,7 +75,8 @@ fn packet_for(
     ensures fit { IfOk result (λ packet. AllFit dictionary.now packet.list) }
     ensures proxies { IfOk result (λ packet. is_clean (proxy_states packet) dictionary.now ≡ true) }
     ensures refused { IfErr result (λ f. (f ≡ fault.Memory)
-        ⊎ IsUnreadRequest f (packet_for dictionary.now secret.now (hex_octets job.now.request))) }
+        ⊎ IsUnreadRequest dictionary.now job.now f
+        (packet_for dictionary.now secret.now (hex_octets job.now.request))) }
     ensures printed { IfErr result (IsPrintedWith job.now.files) }
 {
     let Some(octets) = hex_octets(alloc, job.request.as_slice())? else {
@@ -78,6 +84,26 @@ fn packet_for(
     };
     let packet = decode(alloc, dictionary, secret.as_slice(), &octets)?;
     Ok(packet)
+}
+
+// The pairs of lines.
+pub(crate) fn read_lines(
+    alloc: Global,
+    dictionary: &Dictionary,
+    profile: Profile,
+    zone: Option<i16>,
+    text: &[u8],
+) -> Result<Pairs, LineFault>
+    ensures read { IfOk result (λ pairs.
+        request_written profile zone text.now dictionary.now ≡ Some pairs) }
+    ensures list { IfOk result (IsFittingList dictionary.now) }
+    ensures clean { IfOk result (λ pairs. is_clean pairs dictionary.now ≡ true) }
+    ensures proxies { IfOk result (λ pairs.
+        is_clean (instances (Plain proxy_state) pairs) dictionary.now ≡ true) }
+    ensures refused { IfErr result (λ f. f.kind ≢ LineKind.Memory
+        → AreRefusedWith profile zone dictionary.now text.now f) }
+{
+    Ok(Pairs::from_vec(read_request(alloc, dictionary, profile, zone, text)?))
 }
 
 // The lines of a request, as the list of a packet of this code.
@@ -89,17 +115,17 @@ fn lines_for(alloc: Global, dictionary: &Dictionary, code: u8, job: &Job) -> Res
     ensures fit { IfOk result (λ packet. AllFit dictionary.now packet.list) }
     ensures proxies { IfOk result (λ packet. is_clean (proxy_states packet) dictionary.now ≡ true) }
     ensures refused { IfErr result (λ f. (f ≡ fault.Memory)
-        ⊎ IsUnreadRequest f
+        ⊎ IsUnreadRequest dictionary.now job.now f
         (lines_for code job.now (lines_spelled job.now.request dictionary.now))) }
     ensures printed { IfErr result (IsPrintedWith job.now.files) }
 {
     let text = job.request.as_slice();
-    let pairs = read_request(alloc, dictionary, profile_of(text), None, text)?;
+    let list = read_lines(alloc, dictionary, profile_of(text), None, text)?;
     Ok(Packet {
         code,
         id: job.identifier,
         authenticator: job.authenticator.unwrap_or([0; 16]),
-        list: Pairs::from_vec(pairs),
+        list,
     })
 }
 
@@ -118,7 +144,8 @@ pub(crate) fn request_for(
     ensures fit { IfOk result (λ packet. AllFit dictionary.now packet.list) }
     ensures proxies { IfOk result (λ packet. is_clean (proxy_states packet) dictionary.now ≡ true) }
     ensures refused { IfErr result (λ f. (f ≡ fault.Memory)
-        ⊎ IsUnreadRequest f (request_for dictionary.now (option_copied secret.entry) job.now)) }
+        ⊎ IsUnreadRequest dictionary.now job.now f
+        (request_for dictionary.now (option_copied secret.entry) job.now)) }
     ensures printed { IfErr result (IsPrintedWith job.now.files) }
 {
     match (job.form, secret) {

@@ -1,12 +1,9 @@
 //! What a run begins with, and the run.
 
-ghost use Rattle.std.specs.Prelude.{◌≡◌, ◌≢◌, ◌<◌, ◌≤◌, true, length, IfErr, IfNone, IfOk, IfSome, None, Ok, OnOk, Some};
+ghost use Rattle.std.specs.Prelude.{◌≡◌, ◌<◌, ◌≤◌, true, length, IfErr, IfNone, IfOk, IfSome, None, Ok, OnOk, Some};
 ghost use Rattle.std.specs.Option.{option_copied, option_map};
 ghost use Rattle.avp_lists.specs.History.{present};
-ghost use Rattle.avp_lists.specs.Instances.{instances};
 ghost use Rattle.avp_lists.specs.States.{max_pairs};
-ghost use Rattle.avp_lists.specs.declared.pairs.AttrId.TheVariants.{Plain};
-ghost use Rattle.avp_dict.specs.AttributeNumbers.{proxy_state};
 ghost use Rattle.avp_dict.specs.Sent.{is_clean};
 ghost use Rattle.avp_forms.specs.Requests.{request_written};
 ghost use Rattle.avp_packet.specs.Decoded.{decoded};
@@ -32,10 +29,11 @@ use crate::heads::RequestHead;
 use crate::jobs::Form;
 use crate::prepared::PreparedPolicy;
 use crate::replies::{ReplyHead, reply_head, sent_by};
+use crate::requests::read_lines;
 use crate::run_outcomes::RunOutcome;
 use crate::secrets::Secret;
 use avp_dict::{Dictionary, LineFault, LineKind};
-use avp_forms::{Profile, read_request};
+use avp_forms::Profile;
 use avp_lists::{MAX_PAIRS, Pair, Pairs, SlotStore, State, Store};
 use avp_packet::{Packet, decode, decode_unchecked};
 use avp_step::Stepper;
@@ -94,26 +92,6 @@ fn entry_store(alloc: Global, lists: State) -> Result<SlotStore, AllocError>
         control.into_vec(),
     )
     .map_err(|_| AllocError)
-}
-
-// The pairs of lines.
-fn read_lines(
-    alloc: Global,
-    dictionary: &Dictionary,
-    profile: Profile,
-    zone: Option<i16>,
-    text: &[u8],
-) -> Result<Pairs, LineFault>
-    ensures read { IfOk result (λ pairs.
-        request_written profile zone text.now dictionary.now ≡ Some pairs) }
-    ensures list { IfOk result (IsFittingList dictionary.now) }
-    ensures clean { IfOk result (λ pairs. is_clean pairs dictionary.now ≡ true) }
-    ensures proxies { IfOk result (λ pairs.
-        is_clean (instances (Plain proxy_state) pairs) dictionary.now ≡ true) }
-    ensures refused { IfErr result (λ f. f.kind ≢ LineKind.Memory
-        → request_written profile zone text.now dictionary.now ≡ None) }
-{
-    Ok(Pairs::from_vec(read_request(alloc, dictionary, profile, zone, text)?))
 }
 
 // The place of the first pair that does not fit.
@@ -248,8 +226,8 @@ impl<'a> Start<'a> {
             ≡ start_with prepared.entry.now (option_copied secret.entry) head start.request.list) }
         ensures proxies { IfOk result (λ start. is_clean (proxy_states start.request)
             prepared.entry.now.dictionary ≡ true) }
-        ensures refused { IfErr result (MemoryOr (AreUnreadRequestLines
-            (request_written profile zone text.now prepared.entry.now.dictionary))) }
+        ensures refused { IfErr result (MemoryOr (AreUnreadRequestLines profile zone
+            prepared.entry.now.dictionary text.now)) }
         ensures printed { IfErr result IsPrintedAnywhere }
     {
         let pairs = read_lines(alloc, prepared.dictionary(), profile, zone, text)?;
@@ -305,8 +283,8 @@ impl<'a> Start<'a> {
             ≡ record self.entry { reply = start.reply }) }
         ensures clean { IfOk result (λ start.
             is_clean start.reply self.entry.prepared.dictionary ≡ true) }
-        ensures refused { IfErr result (MemoryOr (AreUnreadReplyLines
-            (request_written profile zone text.now self.entry.prepared.dictionary))) }
+        ensures refused { IfErr result (MemoryOr (AreUnreadReplyLines profile zone
+            self.entry.prepared.dictionary text.now)) }
         ensures printed { IfErr result IsPrintedAnywhere }
     {
         match read_lines(alloc, self.dictionary, profile, zone, text) {
@@ -327,8 +305,8 @@ impl<'a> Start<'a> {
             self.entry.prepared.dictionary ≡ Some start.control) }
         ensures start { IfOk result (λ start. start
             ≡ record self.entry { control = start.control }) }
-        ensures refused { IfErr result (MemoryOr (AreUnreadControlLines
-            (request_written profile zone text.now self.entry.prepared.dictionary))) }
+        ensures refused { IfErr result (MemoryOr (AreUnreadControlLines profile zone
+            self.entry.prepared.dictionary text.now)) }
         ensures printed { IfErr result IsPrintedAnywhere }
     {
         match read_lines(alloc, self.dictionary, profile, zone, text) {

@@ -5,7 +5,7 @@ use Rattle.avp_dict.specs.Dictionary.{Dictionary}
 use Rattle.avp_forms.specs.Profiles.{profile_of}
 use Rattle.avp_unlang.specs.Policies.{SpellsPolicy}
 use Rattle.radpolicy.specs.Faults.{MemoryOr}
-use Rattle.radpolicy.specs.JobReports.{IsUnspelled}
+use Rattle.radpolicy.specs.JobReports.{IsRefusedAsPolicy}
 use Rattle.radpolicy.specs.Starts.{Prepared}
 use Rattle.radpolicy.specs.declared.faults.Fault.{Fault}
 use Rattle.radpolicy.specs.declared.faults.Fault.TheVariants as fault
@@ -24,11 +24,11 @@ opened_over files text dictionary (Ok owned) read spelled = record { dictionary 
 opened_over files text dictionary (Err f) read spelled = tt
 
 pub refused_over : (files : List NamedFile) (text : List ℕ) (dictionary : Dictionary) (result : Result Prepared Fault)
-    → IsReadFrom files dictionary → IfErr result (MemoryOr (IsUnspelled dictionary text))
+    → IsReadFrom files dictionary → IfErr result (MemoryOr (IsRefusedAsPolicy dictionary text))
     → IfErr result (MemoryOr (IsPolicyRefusal files text))
 refused_over files text dictionary (Ok owned) read refused = tt
 refused_over files text dictionary (Err f) read (inl memory) = inl memory
-refused_over files text dictionary (Err f) read (inr none) = inr (record { dictionary = dictionary; read = read; none = none })
+refused_over files text dictionary (Err f) read (inr refused) = inr (record { dictionary = dictionary; read = read; refused = refused })
 
 pub not_memory : (X : Fault → Type 0) (f : Fault) → f ≢ fault.Memory → MemoryOr X f → X f
 not_memory X f other (inl memory) = absurd (other memory)

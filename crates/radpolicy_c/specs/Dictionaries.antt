@@ -4,7 +4,7 @@ use Rattle.std.specs.Option.{option_map}
 use Rattle.avp_dict.specs.Dictionary.{Dictionary}
 use Rattle.avp_dict.specs.declared.file.files.NamedFile.{NamedFile}
 use Rattle.radpolicy.specs.Faults.{fault_line}
-use Rattle.radpolicy.specs.JobReports.{IsUnspelled}
+use Rattle.radpolicy.specs.JobReports.{IsRefusedAsPolicy}
 use Rattle.radpolicy.specs.Starts.{Prepared}
 use Rattle.radpolicy.specs.declared.faults.Fault.{Fault}
 use Rattle.radpolicy_c.specs.Opening.{IsReadFrom, IsReadRefusal, IsSpelledBy}
@@ -53,7 +53,7 @@ OpensPolicyBy Done dictionary before text line after =
     × ((policy : Prepared) × IsSpelledBy dictionary text policy × (after ≡ Some policy))
 OpensPolicyBy Refused dictionary before text line after =
     (before ≡ None) × (after ≡ None)
-    × ((f : Fault) × IsUnspelled dictionary text f × (line ≡ fault_line [] f))
+    × ((f : Fault) × IsRefusedAsPolicy dictionary text f × (line ≡ fault_line [] f))
 OpensPolicyBy NoMemory dictionary before text line after =
     (before ≡ None) × (after ≡ None) × (line ≡ [])
 OpensPolicyBy AlreadyOpen dictionary before text line after =

@@ -7,7 +7,7 @@ use Rattle.avp_dict.specs.Lines.{HasDistinctNames}
 use Rattle.avp_forms.specs.Profiles.{profile_of}
 use Rattle.avp_unlang.specs.Policies.{SpellsPolicy}
 use Rattle.radpolicy.specs.Faults.{fault_line}
-use Rattle.radpolicy.specs.JobReports.{IsUnspelled}
+use Rattle.radpolicy.specs.JobReports.{IsRefusedAsPolicy}
 use Rattle.radpolicy.specs.Starts.{Prepared}
 use Rattle.radpolicy.specs.declared.faults.Fault.{Fault}
 use Rattle.radpolicy.specs.declared.faults.Fault.TheVariants as fault
@@ -47,11 +47,11 @@ abbrev pub IsReadRefusal : List NamedFile → Fault → Type 0
 IsReadRefusal files f =
     ((IsFileSet files → ⊥) × (f ≡ fault.OptionValue)) ⊎ IsDictionaryRefusal files f
 
--- the text spells no policy by the files' dictionary, or a pattern of a wider one is too large to be compiled
+-- the text is refused as a policy by the files' dictionary
 pub record IsPolicyRefusal (files : List NamedFile) (text : List ℕ) (f : Fault) : Type 0 where
   pub dictionary : Dictionary
   pub read : IsReadFrom files dictionary
-  pub none : IsUnspelled dictionary text f
+  pub refused : IsRefusedAsPolicy dictionary text f
 
 -- why no policy is opened, but for want of memory: no dictionary is read, or the text is refused
 abbrev pub IsOpenRefusal : List NamedFile → List ℕ → Fault → Type 0

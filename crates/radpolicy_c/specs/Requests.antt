@@ -1,6 +1,7 @@
 -- What the run of a request begins with, as C gives it, and why there is no run.
 use Rattle.std.specs.Prelude.{◌≡◌, ◌⊎◌, ℕ, ◌==◌, if◌then◌else◌, List, Option, None, Some, Ok}
 use Rattle.avp_dict.specs.Dictionary.{Dictionary}
+use Rattle.avp_forms.specs.Profiles.{profile_of}
 use Rattle.radpolicy.specs.Received.{lines_spelled}
 use Rattle.avp_packet.specs.Decoded.{decoded}
 use Rattle.radpolicy.specs.StartRefusals.{AreUnreadControlLines, AreUnreadReplyLines, AreUnreadRequestLines, IsUnreadPacket}
@@ -87,13 +88,13 @@ IsNotBegun None prepared secret asked f = f ≡ fault.OptionValue
 IsNotBegun (Some form.Hex) prepared secret asked f =
     IsNotBegunByPacket prepared secret asked.octets.now f
 IsNotBegun (Some _) prepared secret asked f =
-    AreUnreadRequestLines (lines_spelled asked.octets.now prepared.dictionary) f
+    AreUnreadRequestLines (profile_of asked.octets.now) None prepared.dictionary asked.octets.now f
 
--- the lines of an initial list spell none
+-- the lines of an initial list spell none, with the fault of the first place that is refused
 abbrev pub AreUnreadLists : Dictionary → RadpolicyRequest → Fault → Type 0
 AreUnreadLists dictionary asked f =
-    AreUnreadReplyLines (lines_spelled asked.reply.now dictionary) f
-    ⊎ AreUnreadControlLines (lines_spelled asked.control.now dictionary) f
+    AreUnreadReplyLines (profile_of asked.reply.now) None dictionary asked.reply.now f
+    ⊎ AreUnreadControlLines (profile_of asked.control.now) None dictionary asked.control.now f
 
 -- why no run begins, but for want of memory
 abbrev pub IsStartRefusal : Prepared → Option (List ℕ) → RadpolicyRequest → Fault → Type 0

@@ -2,7 +2,7 @@
 
 ghost use Rattle.std.specs.Prelude.{◌≡◌, Some, None, IfOk, IfErr, map};
 ghost use Rattle.radpolicy.specs.Faults.{IsPrintedAnywhere, IsPrintedWith, MemoryOr};
-ghost use Rattle.radpolicy.specs.JobReports.{IsUnspelled};
+ghost use Rattle.radpolicy.specs.JobReports.{IsRefusedAsPolicy};
 ghost use Rattle.radpolicy_c.specs.Dictionaries.{OpensDictionary, OpensPolicy, dictionary_held};
 ghost use Rattle.radpolicy_c.specs.Files.{file_given};
 ghost use Rattle.radpolicy_c.specs.Opening.{IsReadFrom, IsReadRefusal, IsSpelledBy};
@@ -106,7 +106,7 @@ pub(crate) fn open_dictionary(
 // The policy that a text spells by the dictionary of this one.
 fn policy_by(alloc: Global, empty: &SharedPolicy, text: &[u8]) -> Result<OwnedPolicy, Fault>
     ensures ok { IfOk result (IsSpelledBy empty.now.dictionary text.now) }
-    ensures refused { IfErr result (MemoryOr (IsUnspelled empty.now.dictionary text.now)) }
+    ensures refused { IfErr result (MemoryOr (IsRefusedAsPolicy empty.now.dictionary text.now)) }
     ensures printed { IfErr result IsPrintedAnywhere }
 {
     match empty.policy().share_dictionary() {

@@ -2,7 +2,7 @@
 
 ghost use Rattle.std.specs.Prelude.{◌≡◌, ◌⊎◌, IfOk, IfErr, if◌then◌else◌, Some, None};
 ghost use Rattle.std.specs.Option.{option_copied};
-ghost use Rattle.radpolicy.specs.Received.{lines_spelled};
+ghost use Rattle.avp_forms.specs.Profiles.{profile_of};
 ghost use Rattle.radpolicy.specs.Faults.{IsPrintedAnywhere, MemoryOr};
 ghost use Rattle.radpolicy.specs.StartRefusals.{AreUnreadRequestLines};
 ghost use Rattle.radpolicy_c.specs.Requests.{AreUnreadLists, BeginsRun, HasLists, IsBegun, IsBegunByLines, IsBegunByPacket, IsNotBegun, IsNotBegunByPacket, IsStartRefusal, form_given, head_given};
@@ -87,7 +87,8 @@ fn begun_by_lines<'a>(
     ensures ok { IfOk result
         (IsBegunByLines kind prepared.entry.now (option_copied secret.entry) asked.now) }
     ensures refused { IfErr result (MemoryOr (AreUnreadRequestLines
-        (lines_spelled asked.now.octets.now prepared.entry.now.dictionary))) }
+        (profile_of asked.now.octets.now) None prepared.entry.now.dictionary
+        asked.now.octets.now)) }
     ensures printed { IfErr result IsPrintedAnywhere }
 {
     Start::of_lines(

@@ -1,4 +1,5 @@
 use Rattle.std.proofs.Common.{inr, subst, sym}
+use Rattle.radpolicy.proofs.OneFault.{one_fault}
 use Rattle.radpolicy.proofs.OneReport.{not_both, one_report}
 use Rattle.radpolicy.specs.JobReports.{RefusalOf}
 use Rattle.radpolicy.specs.declared.jobs.Command.{Command}
@@ -52,3 +53,12 @@ pub returns-clause-too_long : goal.returns-clause-too_long
 returns-clause-too_long g c = λ is f none.
     let refused = outcome_is_refused c.args.job.now (made_of_lines c.args.job.now c.requires.sound is) f none in
     subst (λ (own : Command). RefusalOf own c.args.job.now f) (sym is) (inr (inr refused))
+
+pub returns-in_err-report-clause-first : goal.returns-in_err-report-clause-first
+returns-in_err-report-clause-first g c = one_fault c.args.job.now
+
+pub returns-in-Ok-clause-first : goal.returns-in-Ok-clause-first
+returns-in-Ok-clause-first g c = one_fault c.args.job.now
+
+pub returns-clause-first : goal.returns-clause-first
+returns-clause-first g c = one_fault c.args.job.now

@@ -1,9 +1,6 @@
 use Rattle.std.proofs.Common.{◌≡◌, ◌≢◌, ◌∙◌, ℕ, List, [], Option, None, Some, ap, subst, sym}
 use Rattle.std.specs.Option.{unwrap_or}
-use Rattle.avp_forms.specs.Profiles.{profile_of}
-use Rattle.avp_unlang.specs.Forms.{IsByText}
-use Rattle.avp_unlang.specs.Policies.{SpellsPolicy}
-use Rattle.avp_unlang.specs.declared.tree.Statement.{Statement}
+use Rattle.avp_unlang.specs.Policies.{IsRefusedPolicy, SpellsPolicy}
 use Rattle.avp_unlang.specs.Sizes.{size_of}
 use Rattle.radpolicy.specs.JobReports.{IsPolicy, IsSizeOf, policy_of}
 use Rattle.radpolicy.proofs.Refusals.{checked_refused}
@@ -15,11 +12,8 @@ returns-in-Err-clause-refused c =
     let is : c.args.job.now.policy ≡ Some c.in-Some.text = c.in-Some.is in
     let given : c.args.job.now.policy ≢ None = λ e. let both : Some c.in-Some.text ≡ None = sym is ∙ e in cc in
     let same = ap (λ (p : Option (List ℕ)). unwrap_or p []) is ∙ sym c.as_slice.ensures in
-    let none : IsByText (profile_of (policy_of c.args.job.now)) c.in-Err.fault.kind → (statements : List Statement)
-    → IsPolicy c.args.job.now d statements → ⊥ =
-    λ k statements h. c.in-Err.ensures.read (subst (λ (os : List ℕ). IsByText (profile_of os) c.in-Err.fault.kind) same k) statements
-    (subst (λ (os : List ℕ). SpellsPolicy d os statements) same h) in
-    rw c.from.ensures (checked_refused c.args.job.now c.in-Err.fault d c.requires given none)
+    let refused : IsRefusedPolicy d (policy_of c.args.job.now) c.in-Err.fault.kind = subst (λ (os : List ℕ). IsRefusedPolicy d os c.in-Err.fault.kind) (sym same) c.in-Err.ensures.read in
+    rw c.from.ensures (checked_refused c.args.job.now c.in-Err.fault d c.requires given refused)
 
 pub returns-in-Ok-clause-ok : goal.returns-in-Ok-clause-ok
 returns-in-Ok-clause-ok c =

@@ -1,14 +1,14 @@
-use Rattle.std.proofs.Common.{sym, subst}
+use Rattle.std.proofs.Common.{subst}
 use Rattle.std.specs.Arc.{arc_value}
 use Rattle.avp_dict.specs.Dictionary.{Dictionary}
-use Rattle.avp_unlang.specs.Policies.{SpellsPolicy}
-use Rattle.radpolicy.proofs.Refusals.{unspelled}
+use Rattle.avp_unlang.specs.Policies.{IsRefusedPolicy, SpellsPolicy}
+use Rattle.radpolicy.proofs.Refusals.{policy_refused}
 use Rattle.radpolicy.proofs.prepared.OwnedPolicy.read_by.Goals as goal
 
 pub returns-in-Err-clause-refused : goal.returns-in-Err-clause-refused
 returns-in-Err-clause-refused c =
-    rw c.from.ensures (unspelled (arc_value c.args.dictionary) c.args.text.now c.in-Err.fault (λ k statements spelled.
-    c.in-Err.ensures.read k statements (subst (λ (d : Dictionary). SpellsPolicy d c.args.text.now statements) (sym c.deref.ensures) spelled)))
+    rw c.from.ensures (policy_refused (arc_value c.args.dictionary) c.args.text.now c.in-Err.fault
+    (subst (λ (d : Dictionary). IsRefusedPolicy d c.args.text.now c.in-Err.fault.kind) c.deref.ensures c.in-Err.ensures.read))
 
 pub returns-in-Ok-clause-spelled : goal.returns-in-Ok-clause-spelled
 returns-in-Ok-clause-spelled c =

@@ -1,5 +1,5 @@
-use Rattle.radpolicy.proofs.Refusals.{unspelled}
+use Rattle.radpolicy.proofs.Refusals.{policy_refused}
 use Rattle.radpolicy.proofs.prepared.PreparedPolicy.read.Goals as goal
 
 pub returns-in-Err-clause-refused : goal.returns-in-Err-clause-refused
-returns-in-Err-clause-refused c = rw c.from.ensures (unspelled c.args.dictionary.now c.args.text.now c.in-Err.fault c.in-Err.ensures.read)
+returns-in-Err-clause-refused c = rw c.from.ensures (policy_refused c.args.dictionary.now c.args.text.now c.in-Err.fault c.in-Err.ensures.read)
