@@ -9,7 +9,7 @@ use Rattle.avp_unlang.specs.declared.codes.Code.TheVariants.{Ok, Fail}
 use Rattle.avp_unlang.specs.declared.tree.Cond.{Cond}
 use Rattle.avp_unlang.specs.declared.tree.Cond.TheVariants.{Last}
 use Rattle.avp_unlang.proofs.Truths.{truth_all, truth_any, truth_last}
-use Rattle.policy_warnings.specs.Groupings.{GroupsOtherwise, Next, NextCondition, TreesGroupAlike, TreesGroupOtherwise, and_condition, and_next, grouped, joint_of, next_truth, operands, or_condition, or_next, regroups, sign_of, tree_of, with_first}
+use Rattle.policy_warnings.specs.Groupings.{GroupsOtherwise, Next, NextCondition, TreesGroupAlike, TreesGroupOtherwise, and_condition, and_next, grouped, joint_of, next_truth, operands, or_condition, or_next, regroups, joint_before, tree_of, with_first}
 use Rattle.policy_warnings.specs.declared.groupings.Joint.{Joint}
 use Rattle.policy_warnings.proofs.Grouping.{alike, otherwise}
 
@@ -80,10 +80,10 @@ module _ (s : State) (code : Code) where
       any_holds (map all_of (operands first others)) ∙ groups_hold (operands first others)
       ∙ after_nothing first others ∙ operands_hold true first others
 
-  signs_kept : (others : List NextCondition) → map joint_of (map (next_truth s code) others) ≡ map sign_of others
+  signs_kept : (others : List NextCondition) → map joint_of (map (next_truth s code) others) ≡ map joint_before others
   signs_kept [] = refl
-  signs_kept (and_condition c ∷ others) = ap (λ js. sign_of (and_condition c) ∷ js) (signs_kept others)
-  signs_kept (or_condition c ∷ others) = ap (λ js. sign_of (or_condition c) ∷ js) (signs_kept others)
+  signs_kept (and_condition c ∷ others) = ap (λ js. joint_before (and_condition c) ∷ js) (signs_kept others)
+  signs_kept (or_condition c ∷ others) = ap (λ js. joint_before (or_condition c) ∷ js) (signs_kept others)
 
 pub trees_alike : (joints : List Joint) → regroups joints ≡ false → TreesGroupAlike joints
 trees_alike joints none = λ first others s code e.
@@ -103,7 +103,7 @@ condition_holds : (b : Bool) (s : State) → truth (condition_of b) s Ok ≡ b
 condition_holds true s = truth_last Ok s Ok
 condition_holds false s = truth_last Fail s Ok
 
-signs_of : (others : List Next) → map sign_of (map next_of others) ≡ map joint_of others
+signs_of : (others : List Next) → map joint_before (map next_of others) ≡ map joint_of others
 signs_of [] = refl
 signs_of (and_next b ∷ others) = ap (λ js. joint_of (and_next b) ∷ js) (signs_of others)
 signs_of (or_next b ∷ others) = ap (λ js. joint_of (or_next b) ∷ js) (signs_of others)

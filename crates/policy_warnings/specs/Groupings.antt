@@ -10,7 +10,7 @@ use Rattle.avp_unlang.specs.declared.tree.Cond.{Cond}
 use Rattle.policy_warnings.specs.declared.groupings.Joint.{Joint}
 use Rattle.policy_warnings.specs.declared.groupings.Joint.TheVariants.{And, Or}
 
--- what the next condition comes to, after the sign before it
+-- what the next condition comes to, after the `&&` or `||` before it
 pub data Next : Type 0 where
   and_next : Bool → Next
   or_next : Bool → Next
@@ -57,14 +57,14 @@ pub record GroupsOtherwise (joints : List Joint) : Type 0 where
 
 -- ---- conditions of a policy
 
--- the next condition, after the sign before it
+-- the next condition, after the `&&` or `||` before it
 pub data NextCondition : Type 0 where
   and_condition : Cond → NextCondition
   or_condition : Cond → NextCondition
 
-abbrev pub sign_of : NextCondition → Joint
-sign_of (and_condition c) = And
-sign_of (or_condition c) = Or
+abbrev pub joint_before : NextCondition → Joint
+joint_before (and_condition c) = And
+joint_before (or_condition c) = Or
 
 -- what it comes to in a state, after a code
 abbrev pub next_truth : State → Code → NextCondition → Next
@@ -75,33 +75,34 @@ abbrev pub with_first : Cond → List (List Cond) → List (List Cond)
 with_first first [] = (first ∷ []) ∷ []
 with_first first (conds ∷ others) = (first ∷ conds) ∷ others
 
--- the operands of each `||`, of which each has the operands of its `&&`
+-- conditions cut at each `||`, in groups that have `&&` between them
 abbrev pub operands : Cond → List NextCondition → List (List Cond)
 operands first [] = (first ∷ []) ∷ []
 operands first (and_condition c ∷ others) = with_first first (operands c others)
 operands first (or_condition c ∷ others) = (first ∷ []) ∷ operands c others
 
--- the tree that these conditions with these signs between them spell
+-- the tree that these conditions spell
 abbrev pub tree_of : Cond → List NextCondition → Cond
 tree_of first others = any_of (map all_of (operands first others))
 
--- what they come to in a state as a server groups them
-abbrev pub tree_on_server : Cond → List NextCondition → State → Code → Bool
-tree_on_server first others s code =
+-- whether they are true in a state, after a code, as a server groups them
+abbrev pub truth_on_server : Cond → List NextCondition → State → Code → Bool
+truth_on_server first others s code =
     server_grouped (truth first s code) (map (next_truth s code) others)
 
 -- whatever the conditions are, their tree is true exactly where they are as a server groups them
 abbrev pub TreesGroupAlike : List Joint → Type 0
 TreesGroupAlike joints =
     (first : Cond) (others : List NextCondition) (s : State) (code : Code)
-    → map sign_of others ≡ joints
-    → truth (tree_of first others) s code ≡ tree_on_server first others s code
+    → map joint_before others ≡ joints
+    → truth (tree_of first others) s code ≡ truth_on_server first others s code
 
--- there are conditions whose tree is true, and which are false as a server groups them
+-- there are conditions whose tree is true after a code, in every state, and which are then false as a server groups
+-- them
 pub record TreesGroupOtherwise (joints : List Joint) : Type 0 where
   pub first : Cond
   pub others : List NextCondition
   pub code : Code
-  pub has_joints : map sign_of others ≡ joints
+  pub has_joints : map joint_before others ≡ joints
   pub is_true : (s : State) → truth (tree_of first others) s code ≡ true
-  pub is_false_there : (s : State) → tree_on_server first others s code ≡ false
+  pub is_false_there : (s : State) → truth_on_server first others s code ≡ false
