@@ -29,7 +29,7 @@ use Rattle.avp_unlang.specs.declared.tree.MeantComparison.{MeantComparison}
 use Rattle.avp_unlang.specs.declared.tree.Relation.{Relation}
 use Rattle.avp_unlang.specs.declared.tree.Cond.{Cond}
 use Rattle.avp_unlang.specs.declared.tree.Cond.TheFolds.{fold-Cond, fold-roll-Cond, ind-Cond, map-Cond}
-use Rattle.avp_unlang.specs.declared.tree.Cond.TheOpen.{Cond-F, Any, All, Not, Last, Present, PresentSelected, Compare, CompareMeant, Match}
+use Rattle.avp_unlang.specs.declared.tree.Cond.TheOpen.{Cond-F, Any, All, Not, Last, Present, PresentSelected, Compare, CompareMeant, Match, Captured}
 use Rattle.avp_unlang.specs.declared.tree.Cond.TheViews.{roll-Cond}
 use Rattle.policy_warnings.specs.Absences.{all_of, always, asked, any_of, both, cond_absence, either, negated, said_of, silent, warns_of_absence}
 use Rattle.policy_warnings.specs.Answers.{Answer, Asked, answer_all, answer_any, answer_both, answer_either, cond_answer_with, is_true, server_answer, server_answer_by, server_truth, server_truth_by}
@@ -99,7 +99,7 @@ meant_comparand_there (meant.Literal form octets) s h = refl
 meant_comparand_there (meant.Instance list id selection form) s h =
     and_true (is_there s (selected list id selection)) true (found_octets list id selection form s h) refl
 
-meant_there : (k : MeantComparison) (s : State) → is_met_by_meaning k s ≡ true → list_all (is_there s) (meant_comparison_mentions k) ≡ true
+pub meant_there : (k : MeantComparison) (s : State) → is_met_by_meaning k s ≡ true → list_all (is_there s) (meant_comparison_mentions k) ≡ true
 meant_there k s h =
     and_true (is_there s (selected k.list k.id k.selection)) (list_all (is_there s) (meant_comparand_mentions k.comparand))
     (found_octets k.list k.id k.selection k.form s (first_meant k.relation (selected_octets k.list k.id k.selection k.form s) (meant_with k.comparand s) h))
@@ -119,46 +119,68 @@ instance_there k d (Some x) h = refl
 pub matched_looks : (d : Dictionary) → LooksAtItsOwn (is_matched d)
 matched_looks d k s h = found_first (is_selected k.selection k.id) (list_of k.list s) ∙ instance_there k d (instance_in k s) h
 
-matching_there : (matched : Matching → State → Bool) → LooksAtItsOwn matched → (k : Matching) (s : State) → matched k s ≡ true → list_all (is_there s) (matching_mentions k) ≡ true
+pub matching_there : (matched : Matching → State → Bool) → LooksAtItsOwn matched → (k : Matching) (s : State) → matched k s ≡ true → list_all (is_there s) (matching_mentions k) ≡ true
 matching_there matched looks k s h = and_true (is_there s (selected k.list k.id k.selection)) true (looks k s h) refl
 
-both_assoc : (a b d : Answer) → answer_both (answer_both a b) d ≡ answer_both a (answer_both b d)
+pub both_assoc : (a b d : Answer) → answer_both (answer_both a b) d ≡ answer_both a (answer_both b d)
 both_assoc None b d = refl
 both_assoc (Some true) b d = refl
 both_assoc (Some false) b d = refl
 
-either_assoc : (a b d : Answer) → answer_either (answer_either a b) d ≡ answer_either a (answer_either b d)
+pub either_assoc : (a b d : Answer) → answer_either (answer_either a b) d ≡ answer_either a (answer_either b d)
 either_assoc None b d = refl
 either_assoc (Some true) b d = refl
 either_assoc (Some false) b d = refl
 
-both_yes : (a : Answer) → a ≡ answer_both a (Some true)
+pub both_yes : (a : Answer) → a ≡ answer_both a (Some true)
 both_yes None = refl
 both_yes (Some true) = refl
 both_yes (Some false) = refl
 
-either_no : (a : Answer) → a ≡ answer_either a (Some false)
+pub either_no : (a : Answer) → a ≡ answer_either a (Some false)
 either_no None = refl
 either_no (Some true) = refl
 either_no (Some false) = refl
 
-and_assoc : (a b d : Bool) → ((a && b) && d) ≡ (a && (b && d))
+pub and_assoc : (a b d : Bool) → ((a && b) && d) ≡ (a && (b && d))
 and_assoc true b d = refl
 and_assoc false b d = refl
 
-or_assoc : (a b d : Bool) → ((a || b) || d) ≡ (a || (b || d))
+pub or_assoc : (a b d : Bool) → ((a || b) || d) ≡ (a || (b || d))
 or_assoc true b d = refl
 or_assoc false b d = refl
 
-and_yes : (a : Bool) → a ≡ (a && true)
+pub and_yes : (a : Bool) → a ≡ (a && true)
 and_yes true = refl
 and_yes false = refl
 
-or_no : (a : Bool) → a ≡ (a || false)
+pub or_no : (a : Bool) → a ≡ (a || false)
 or_no true = refl
 or_no false = refl
 
 -- ---- conditions
+
+module _ (s : State) where
+  pub silent_of : (b : Bool) (m : Mention) → is_there s m ≡ false → present_when b silent ≡ false
+  silent_of true m absent = refl
+  silent_of false m absent = refl
+
+  pub told_there : (x : Mention) (b : Bool) → is_there s x ≡ b → (m : Mention) → is_there s m ≡ false → present_when b (asked (implies x m)) ≡ false
+  told_there x true e m absent = not_implied s x m e absent
+  told_there x false e m absent = refl
+
+  pub said_same : (say also : Mention → Absence) (ms : List Mention) (a : Answer) (t : Bool) → ((m : Mention) → say m ≡ also m) → Sound s say ms a t → Sound s also ms a t
+  said_same say also ms a t e p = (
+    (λ m h. ap (present_when t) (sym (e m)) ∙ p.0 m h),
+    p.1,
+    (λ k. any_mono (misses s say t) (misses s also t) (λ m h. ap (λ z. not (is_there s m) && overlooked_when t z) (sym (e m)) ∙ h) ms (p.2 k)),
+  )
+
+  pub agreeing : (say : Mention → Absence) (ms : List Mention) (a : Answer) (t : Bool) → Sound s say ms a t → list_any (λ (m : Mention). (say m).overlooked_when_true) ms ≡ false → t ≡ is_true a
+  agreeing say ms (Some b) t p h = p.1 b refl
+  agreeing say ms None false p h = refl
+  agreeing say ms None true p h =
+      sym (any_mono (misses s say true) (λ m. (say m).overlooked_when_true) (λ m k. and_right (not (is_there s m)) ((say m).overlooked_when_true) k) ms (p.2 refl)) ∙ h
 
 module _ (matched : Matching → State → Bool) (looks : LooksAtItsOwn matched) (s : State) (c : Code) where
   abbrev Answered : Cond → Asked
@@ -218,14 +240,6 @@ module _ (matched : Matching → State → Bool) (looks : LooksAtItsOwn matched)
       (append_assoc ms (mentions e.0) (the_mentions es)) (either_assoc a (Answered e.0 s c) (any_answers es)) (or_assoc t (Given e.0 s c) (any_true es))
       (any_sound es joint (ms ++ mentions e.0) answered value (sound_either s say also ms (mentions e.0) a (Answered e.0 s c) t (Given e.0 s c) p e.1))
 
-  silent_of : (b : Bool) (m : Mention) → is_there s m ≡ false → present_when b silent ≡ false
-  silent_of true m absent = refl
-  silent_of false m absent = refl
-
-  told_there : (x : Mention) (b : Bool) → is_there s x ≡ b → (m : Mention) → is_there s m ≡ false → present_when b (asked (implies x m)) ≡ false
-  told_there x true e m absent = not_implied s x m e absent
-  told_there x false e m absent = refl
-
   abbrev LayerSound : Cond-F Cond → Type 0
   LayerSound x =
       Sound s (λ m. cond_absence m (map-Cond Cond Absence (said_of m) x)) (cond_mentions (map-Cond Cond (List Mention) mentions x))
@@ -235,29 +249,23 @@ module _ (matched : Matching → State → Bool) (looks : LooksAtItsOwn matched)
   layer_sound (Any parts) = any_sound parts (λ m. negated always) [] (Some false) false (sound_told s (λ m. negated always) false (λ m absent. refl))
   layer_sound (All parts) = all_sound parts (λ m. always) [] (Some true) true (sound_told s (λ m. always) true (λ m absent. refl))
   layer_sound (Not part) = sound_negated s (λ m. said_of m part.0) (mentions part.0) (Answered part.0 s c) (Given part.0 s c) part.1
-  layer_sound (Last word) = sound_told s (λ m. silent) (same_code c word) (silent_of (same_code c word))
+  layer_sound (Last word) = sound_told s (λ m. silent) (same_code c word) (silent_of s (same_code c word))
   layer_sound (Present list id) =
-      sound_told s (λ m. asked (implies (whole list id) m)) (has_instance id (list_of list s)) (told_there (whole list id) (has_instance id (list_of list s)) refl)
+      sound_told s (λ m. asked (implies (whole list id) m)) (has_instance id (list_of list s)) (told_there s (whole list id) (has_instance id (list_of list s)) refl)
   layer_sound (PresentSelected list id selection) =
       let there = has_selected selection id (list_of list s) in
       sound_same s (λ m. asked (implies (selected list id selection) m)) [] [] (Some there) (Some there) there (is_some (first_selected_instance selection id (list_of list s)))
       refl refl (found_first (is_selected selection id) (list_of list s))
-      (sound_told s (λ m. asked (implies (selected list id selection) m)) there (told_there (selected list id selection) there refl))
+      (sound_told s (λ m. asked (implies (selected list id selection) m)) there (told_there s (selected list id selection) there refl))
   layer_sound (Compare k) = sound_compared s (comparison_mentions k) (is_met k s) (met_there k s)
   layer_sound (CompareMeant k) = sound_compared s (meant_comparison_mentions k) (is_met_by_meaning k s) (meant_there k s)
   layer_sound (Match k) = sound_compared s (matching_mentions k) (matched k s) (matching_there matched looks k s)
-
-  said_same : (say also : Mention → Absence) (ms : List Mention) (a : Answer) (t : Bool) → ((m : Mention) → say m ≡ also m) → Sound s say ms a t → Sound s also ms a t
-  said_same say also ms a t e p = (
-    (λ m h. ap (present_when t) (sym (e m)) ∙ p.0 m h),
-    p.1,
-    (λ k. any_mono (misses s say t) (misses s also t) (λ m h. ap (λ z. not (is_there s m) && overlooked_when t z) (sym (e m)) ∙ h) ms (p.2 k)),
-  )
+  layer_sound (Captured group) = sound_told s (λ m. silent) false (silent_of s false)
 
   rolled : (x : Cond-F Cond) → LayerSound x → IsSound (roll-Cond x)
   unfolding said_of mentions
   rolled x p =
-      said_same (λ m. cond_absence m (map-Cond Cond Absence (said_of m) x)) (λ m. said_of m (roll-Cond x)) (mentions (roll-Cond x)) (Answered (roll-Cond x) s c) (Given (roll-Cond x) s c)
+      said_same s (λ m. cond_absence m (map-Cond Cond Absence (said_of m) x)) (λ m. said_of m (roll-Cond x)) (mentions (roll-Cond x)) (Answered (roll-Cond x) s c) (Given (roll-Cond x) s c)
       (λ m. sym (fold-roll-Cond Absence (cond_absence m) x))
       (sound_same s (λ m. cond_absence m (map-Cond Cond Absence (said_of m) x)) (cond_mentions (map-Cond Cond (List Mention) mentions x)) (mentions (roll-Cond x))
       (cond_answer_with matched (map-Cond Cond Asked Answered x) s c) (Answered (roll-Cond x) s c) (cond_truth_with matched (map-Cond Cond Test Given x) s c) (Given (roll-Cond x) s c)
@@ -268,14 +276,8 @@ module _ (matched : Matching → State → Bool) (looks : LooksAtItsOwn matched)
   pub sound : (k : Cond) → IsSound k
   sound = ind-Cond IsSound (λ x y is. subst (λ z. IsSound (roll-Cond z)) is (rolled (layer y) (layer_sound y)))
 
-  agreeing : (say : Mention → Absence) (ms : List Mention) (a : Answer) (t : Bool) → Sound s say ms a t → list_any (λ (m : Mention). (say m).overlooked_when_true) ms ≡ false → t ≡ is_true a
-  agreeing say ms (Some b) t p h = p.1 b refl
-  agreeing say ms None false p h = refl
-  agreeing say ms None true p h =
-      sym (any_mono (misses s say true) (λ m. (say m).overlooked_when_true) (λ m k. and_right (not (is_there s m)) ((say m).overlooked_when_true) k) ms (p.2 refl)) ∙ h
-
   both_agree : (k : Cond) → warns_of_absence k ≡ false → Given k s c ≡ is_true (Answered k s c)
-  both_agree k h = agreeing (λ m. said_of m k) (mentions k) (Answered k s c) (Given k s c) (sound k) h
+  both_agree k h = agreeing s (λ m. said_of m k) (mentions k) (Answered k s c) (Given k s c) (sound k) h
 
 -- without a warning both take the same branch
 pub agrees : (k : Cond) (s : State) (c : Code) → warns_of_absence k ≡ false → truth k s c ≡ server_truth k s c

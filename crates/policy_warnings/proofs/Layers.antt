@@ -1,5 +1,5 @@
 -- What each kind of condition mentions, says and is answered.
-use Rattle.std.proofs.Common.{◌≡◌, List, [], ◌∷◌, ◌++◌, refl, sym, ap, ◌∙◌, map}
+use Rattle.std.proofs.Common.{◌≡◌, ℕ, List, [], ◌∷◌, ◌++◌, refl, sym, ap, ◌∙◌, map}
 use Rattle.std.specs.List.{flat_map}
 use Rattle.avp_lists.specs.declared.tags.Selection.{Selection}
 use Rattle.avp_lists.specs.declared.pairs.AttrId.{AttrId}
@@ -11,7 +11,7 @@ use Rattle.avp_unlang.specs.declared.tree.Matching.{Matching}
 use Rattle.avp_unlang.specs.declared.tree.MeantComparison.{MeantComparison}
 use Rattle.avp_unlang.specs.declared.tree.Cond.TheFolds.{fold-roll-Cond}
 use Rattle.avp_unlang.specs.declared.tree.Cond.TheOpen as layer
-use Rattle.avp_unlang.specs.declared.tree.Cond.TheVariants.{Any, All, Not, Last, Present, PresentSelected, Compare, CompareMeant, Match, rolls-Any, rolls-All, rolls-Not, rolls-Last, rolls-Present, rolls-PresentSelected, rolls-Compare, rolls-CompareMeant, rolls-Match}
+use Rattle.avp_unlang.specs.declared.tree.Cond.TheVariants.{Any, All, Not, Last, Present, PresentSelected, Compare, CompareMeant, Match, Captured, rolls-Any, rolls-All, rolls-Not, rolls-Last, rolls-Present, rolls-PresentSelected, rolls-Compare, rolls-CompareMeant, rolls-Match, rolls-Captured}
 use Rattle.policy_warnings.specs.Absences.{said_of, all_of, always, any_implies, any_of, asked, compared, cond_absence, negated, silent}
 use Rattle.policy_warnings.specs.Mentions.{comparison_mentions, cond_mentions, implies, matching_mentions, meant_comparison_mentions, mentions, selected, whole}
 use Rattle.policy_warnings.specs.declared.absences.Absence.{Absence}
@@ -58,6 +58,10 @@ pub mentions_match : (k : Matching) → mentions (Match k) ≡ matching_mentions
 unfolding mentions
 mentions_match k = ap mentions (sym (rolls-Match k)) ∙ fold-roll-Cond (List Mention) cond_mentions (layer.Match k)
 
+pub mentions_captured : (group : ℕ) → mentions (Captured group) ≡ []
+unfolding mentions
+mentions_captured group = ap mentions (sym (rolls-Captured group)) ∙ fold-roll-Cond (List Mention) cond_mentions (layer.Captured group)
+
 module _ (m : Mention) where
   pub absence_any : (cs : List Cond) → said_of m (Any cs) ≡ any_of (negated always) (map (said_of m) cs)
   unfolding said_of
@@ -95,3 +99,7 @@ module _ (m : Mention) where
   pub absence_match : (k : Matching) → said_of m (Match k) ≡ compared (any_implies (matching_mentions k) m)
   unfolding said_of
   absence_match k = ap (said_of m) (sym (rolls-Match k)) ∙ fold-roll-Cond Absence (cond_absence m) (layer.Match k)
+
+  pub absence_captured : (group : ℕ) → said_of m (Captured group) ≡ silent
+  unfolding said_of
+  absence_captured group = ap (said_of m) (sym (rolls-Captured group)) ∙ fold-roll-Cond Absence (cond_absence m) (layer.Captured group)

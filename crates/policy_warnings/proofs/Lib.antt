@@ -8,4 +8,5 @@ pub mod Negations
 pub mod Passing
 pub mod Repeating
 pub mod Sameness
+pub mod ServerCaptures
 pub mod Sound

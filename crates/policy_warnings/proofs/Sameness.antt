@@ -1,5 +1,5 @@
 -- Conditions of one form.
-use Rattle.std.proofs.Common.{◌≡◌, ◌&&◌, suc, Bool, true, false, List, [], ◌∷◌, refl, sym, ap, ◌∙◌, length, map}
+use Rattle.std.proofs.Common.{◌≡◌, ◌&&◌, ℕ, suc, Bool, true, false, List, [], ◌∷◌, refl, sym, ap, ◌∙◌, length, map}
 use Rattle.avp_lists.specs.declared.lists.List.{List as Name}
 use Rattle.avp_lists.specs.declared.pairs.AttrId.{AttrId}
 use Rattle.avp_lists.specs.declared.tags.Selection.{Selection}
@@ -9,7 +9,7 @@ use Rattle.avp_unlang.specs.declared.tree.Cond.{Cond}
 use Rattle.avp_unlang.specs.declared.tree.Cond.TheFolds.{fold-roll-Cond, map-Cond}
 use Rattle.avp_unlang.specs.declared.tree.Cond.TheOpen.{Cond-F}
 use Rattle.avp_unlang.specs.declared.tree.Cond.TheOpen as layer
-use Rattle.avp_unlang.specs.declared.tree.Cond.TheVariants.{Any, All, Not, Last, Present, PresentSelected, Compare, CompareMeant, Match, rolls-Any, rolls-All, rolls-Not, rolls-Last, rolls-Present, rolls-PresentSelected, rolls-Compare, rolls-CompareMeant, rolls-Match}
+use Rattle.avp_unlang.specs.declared.tree.Cond.TheVariants.{Any, All, Not, Last, Present, PresentSelected, Compare, CompareMeant, Match, Captured, rolls-Any, rolls-All, rolls-Not, rolls-Last, rolls-Present, rolls-PresentSelected, rolls-Compare, rolls-CompareMeant, rolls-Match, rolls-Captured}
 use Rattle.avp_unlang.specs.declared.tree.Cond.TheViews.{out-Cond, out-roll-Cond, roll-Cond, roll-out-Cond}
 use Rattle.avp_unlang.specs.declared.tree.Matching.{Matching}
 use Rattle.avp_unlang.specs.declared.tree.MeantComparison.{MeantComparison}
@@ -68,6 +68,7 @@ module _ (k other : Cond) where
   other_than_Any a never (layer.Compare b) e = refl
   other_than_Any a never (layer.CompareMeant b) e = refl
   other_than_Any a never (layer.Match b) e = refl
+  other_than_Any a never (layer.Captured b) e = refl
 
   pub no_Any : (a : List Cond) → k ≡ Any a → ((b : List Cond) → other ≡ Any b → ⊥) → false ≡ same_cond k other
   no_Any a e never = sym (opened (layer.Any a) k other (e ∙ sym (rolls-Any a)) ∙ other_than_Any (map same_cond a) never (out-Cond other) refl)
@@ -82,6 +83,7 @@ module _ (k other : Cond) where
   other_than_All a never (layer.Compare b) e = refl
   other_than_All a never (layer.CompareMeant b) e = refl
   other_than_All a never (layer.Match b) e = refl
+  other_than_All a never (layer.Captured b) e = refl
 
   pub no_All : (a : List Cond) → k ≡ All a → ((b : List Cond) → other ≡ All b → ⊥) → false ≡ same_cond k other
   no_All a e never = sym (opened (layer.All a) k other (e ∙ sym (rolls-All a)) ∙ other_than_All (map same_cond a) never (out-Cond other) refl)
@@ -96,6 +98,7 @@ module _ (k other : Cond) where
   other_than_Not a never (layer.Compare b) e = refl
   other_than_Not a never (layer.CompareMeant b) e = refl
   other_than_Not a never (layer.Match b) e = refl
+  other_than_Not a never (layer.Captured b) e = refl
 
   pub no_Not : (a : Cond) → k ≡ Not a → ((b : Cond) → other ≡ Not b → ⊥) → false ≡ same_cond k other
   no_Not a e never = sym (opened (layer.Not a) k other (e ∙ sym (rolls-Not a)) ∙ other_than_Not (same_cond a) never (out-Cond other) refl)
@@ -110,6 +113,7 @@ module _ (k other : Cond) where
   other_than_Last a never (layer.Compare b) e = refl
   other_than_Last a never (layer.CompareMeant b) e = refl
   other_than_Last a never (layer.Match b) e = refl
+  other_than_Last a never (layer.Captured b) e = refl
 
   pub no_Last : (a : Code) → k ≡ Last a → ((b : Code) → other ≡ Last b → ⊥) → false ≡ same_cond k other
   no_Last a e never = sym (opened (layer.Last a) k other (e ∙ sym (rolls-Last a)) ∙ other_than_Last a never (out-Cond other) refl)
@@ -124,6 +128,7 @@ module _ (k other : Cond) where
   other_than_Present a n never (layer.Compare b) e = refl
   other_than_Present a n never (layer.CompareMeant b) e = refl
   other_than_Present a n never (layer.Match b) e = refl
+  other_than_Present a n never (layer.Captured b) e = refl
 
   pub no_Present : (a : Name) (n : AttrId) → k ≡ Present a n → ((b : Name) (m : AttrId) → other ≡ Present b m → ⊥) → false ≡ same_cond k other
   no_Present a n e never = sym (opened (layer.Present a n) k other (e ∙ sym (rolls-Present a n)) ∙ other_than_Present a n never (out-Cond other) refl)
@@ -138,6 +143,7 @@ module _ (k other : Cond) where
   other_than_PresentSelected a n t never (layer.Compare b) e = refl
   other_than_PresentSelected a n t never (layer.CompareMeant b) e = refl
   other_than_PresentSelected a n t never (layer.Match b) e = refl
+  other_than_PresentSelected a n t never (layer.Captured b) e = refl
 
   pub no_PresentSelected : (a : Name) (n : AttrId) (t : Selection) → k ≡ PresentSelected a n t → ((b : Name) (m : AttrId) (u : Selection) → other ≡ PresentSelected b m u → ⊥) → false ≡ same_cond k other
   no_PresentSelected a n t e never = sym (opened (layer.PresentSelected a n t) k other (e ∙ sym (rolls-PresentSelected a n t)) ∙ other_than_PresentSelected a n t never (out-Cond other) refl)
@@ -152,6 +158,7 @@ module _ (k other : Cond) where
   other_than_Compare a never (layer.Compare b) e = absurd (never b (sym (roll-out-Cond other) ∙ ap roll-Cond e ∙ rolls-Compare b))
   other_than_Compare a never (layer.CompareMeant b) e = refl
   other_than_Compare a never (layer.Match b) e = refl
+  other_than_Compare a never (layer.Captured b) e = refl
 
   pub no_Compare : (a : Comparison) → k ≡ Compare a → ((b : Comparison) → other ≡ Compare b → ⊥) → false ≡ same_cond k other
   no_Compare a e never = sym (opened (layer.Compare a) k other (e ∙ sym (rolls-Compare a)) ∙ other_than_Compare a never (out-Cond other) refl)
@@ -166,6 +173,7 @@ module _ (k other : Cond) where
   other_than_CompareMeant a never (layer.Compare b) e = refl
   other_than_CompareMeant a never (layer.CompareMeant b) e = absurd (never b (sym (roll-out-Cond other) ∙ ap roll-Cond e ∙ rolls-CompareMeant b))
   other_than_CompareMeant a never (layer.Match b) e = refl
+  other_than_CompareMeant a never (layer.Captured b) e = refl
 
   pub no_CompareMeant : (a : MeantComparison) → k ≡ CompareMeant a → ((b : MeantComparison) → other ≡ CompareMeant b → ⊥) → false ≡ same_cond k other
   no_CompareMeant a e never = sym (opened (layer.CompareMeant a) k other (e ∙ sym (rolls-CompareMeant a)) ∙ other_than_CompareMeant a never (out-Cond other) refl)
@@ -180,9 +188,25 @@ module _ (k other : Cond) where
   other_than_Match a never (layer.Compare b) e = refl
   other_than_Match a never (layer.CompareMeant b) e = refl
   other_than_Match a never (layer.Match b) e = absurd (never b (sym (roll-out-Cond other) ∙ ap roll-Cond e ∙ rolls-Match b))
+  other_than_Match a never (layer.Captured b) e = refl
 
   pub no_Match : (a : Matching) → k ≡ Match a → ((b : Matching) → other ≡ Match b → ⊥) → false ≡ same_cond k other
   no_Match a e never = sym (opened (layer.Match a) k other (e ∙ sym (rolls-Match a)) ∙ other_than_Match a never (out-Cond other) refl)
+
+  never_Captured : (group : ℕ) (y : Cond-F Cond) → same_layer (layer.Captured group) y ≡ false
+  never_Captured group (layer.Any b) = refl
+  never_Captured group (layer.All b) = refl
+  never_Captured group (layer.Not b) = refl
+  never_Captured group (layer.Last b) = refl
+  never_Captured group (layer.Present b m) = refl
+  never_Captured group (layer.PresentSelected b m u) = refl
+  never_Captured group (layer.Compare b) = refl
+  never_Captured group (layer.CompareMeant b) = refl
+  never_Captured group (layer.Match b) = refl
+  never_Captured group (layer.Captured b) = refl
+
+  pub no_Captured : (group : ℕ) → k ≡ Captured group → false ≡ same_cond k other
+  no_Captured group e = sym (opened (layer.Captured group) k other (e ∙ sym (rolls-Captured group)) ∙ never_Captured group (out-Cond other))
 
 -- ---- lists
 

@@ -1,5 +1,6 @@
 -- Where a condition overlooks that an attribute is absent: a server ends the whole condition at a comparison with it, and
--- by the rules of the language the comparison is false and the rest goes on.
+-- by the rules of the language the comparison is false and the rest goes on. What was captured is always there, empty or
+-- not, and says nothing of an attribute.
 use Rattle.std.specs.Prelude.{◌≡◌, Bool, true, false, not, ◌&&◌, ◌||◌, List, [], ◌∷◌}
 use Rattle.std.specs.List.{list_any}
 use Rattle.avp_lists.specs.States.{empty_state}
@@ -10,7 +11,7 @@ use Rattle.avp_unlang.specs.declared.codes.Code.{Code}
 use Rattle.avp_unlang.specs.declared.tree.Comparison.{Comparison}
 use Rattle.avp_unlang.specs.declared.tree.Cond.{Cond}
 use Rattle.avp_unlang.specs.declared.tree.Cond.TheFolds.{fold-Cond}
-use Rattle.avp_unlang.specs.declared.tree.Cond.TheOpen.{Cond-F, Any, All, Not, Last, Present, PresentSelected, Compare, CompareMeant, Match}
+use Rattle.avp_unlang.specs.declared.tree.Cond.TheOpen.{Cond-F, Any, All, Not, Last, Present, PresentSelected, Compare, CompareMeant, Match, Captured}
 use Rattle.avp_unlang.specs.declared.tree.Cond.TheVariants as cond
 use Rattle.avp_unlang.specs.declared.tree.Matching.{Matching}
 use Rattle.policy_warnings.specs.Answers.{server_truth, server_truth_by}
@@ -89,6 +90,7 @@ cond_absence m (PresentSelected list id selection) = asked (implies (selected li
 cond_absence m (Compare k) = compared (any_implies (comparison_mentions k) m)
 cond_absence m (CompareMeant k) = compared (any_implies (meant_comparison_mentions k) m)
 cond_absence m (Match k) = compared (any_implies (matching_mentions k) m)
+cond_absence m (Captured group) = silent
 
 -- what a condition says of m, and where it overlooks that m is absent
 unfoldable pub said_of : Mention → Cond → Absence

@@ -12,7 +12,7 @@ use Rattle.avp_unlang.specs.Truth.{is_met, is_met_by_meaning, never_matched, sam
 use Rattle.avp_unlang.specs.declared.codes.Code.{Code}
 use Rattle.avp_unlang.specs.declared.tree.Cond.{Cond}
 use Rattle.avp_unlang.specs.declared.tree.Cond.TheFolds.{fold-Cond}
-use Rattle.avp_unlang.specs.declared.tree.Cond.TheOpen.{Cond-F, Any, All, Not, Last, Present, PresentSelected, Compare, CompareMeant, Match}
+use Rattle.avp_unlang.specs.declared.tree.Cond.TheOpen.{Cond-F, Any, All, Not, Last, Present, PresentSelected, Compare, CompareMeant, Match, Captured}
 use Rattle.avp_unlang.specs.declared.tree.Matching.{Matching}
 use Rattle.policy_warnings.specs.Mentions.{comparison_mentions, is_there, matching_mentions, meant_comparison_mentions}
 use Rattle.policy_warnings.specs.declared.mentions.Mention.{Mention}
@@ -63,6 +63,7 @@ cond_answer_with matched (CompareMeant k) s c =
     answer_compared (meant_comparison_mentions k) s (is_met_by_meaning k s)
 cond_answer_with matched (Match m) s c =
     answer_compared (matching_mentions m) s (matched m s)
+cond_answer_with matched (Captured group) s c = Some false
 
 -- of a condition that compares with no pattern; a comparison with one of an attribute that is there counts as false
 unfoldable pub server_answer : Cond → Asked

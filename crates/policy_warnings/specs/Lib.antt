@@ -5,4 +5,5 @@ pub mod Groupings
 pub mod Mentions
 pub mod Passages
 pub mod Repeats
+pub mod ServerEvaluations
 pub mod Warnings

@@ -17,7 +17,7 @@ use Rattle.avp_unlang.specs.declared.tree.Comparand.TheVariants as comparand
 use Rattle.avp_unlang.specs.declared.tree.Comparison.{Comparison}
 use Rattle.avp_unlang.specs.declared.tree.Cond.{Cond}
 use Rattle.avp_unlang.specs.declared.tree.Cond.TheFolds.{fold-Cond}
-use Rattle.avp_unlang.specs.declared.tree.Cond.TheOpen.{Cond-F, Any, All, Not, Last, Present, PresentSelected, Compare, CompareMeant, Match}
+use Rattle.avp_unlang.specs.declared.tree.Cond.TheOpen.{Cond-F, Any, All, Not, Last, Present, PresentSelected, Compare, CompareMeant, Match, Captured}
 use Rattle.avp_unlang.specs.declared.tree.Matching.{Matching}
 use Rattle.avp_unlang.specs.declared.tree.MeantComparand.{MeantComparand}
 use Rattle.avp_unlang.specs.declared.tree.MeantComparand.TheVariants as meant
@@ -98,6 +98,7 @@ cond_mentions (PresentSelected list id selection) = []
 cond_mentions (Compare k) = comparison_mentions k
 cond_mentions (CompareMeant k) = meant_comparison_mentions k
 cond_mentions (Match k) = matching_mentions k
+cond_mentions (Captured group) = []
 
 -- what the comparisons of a condition look at
 unfoldable pub mentions : Cond → List Mention

@@ -1,4 +1,7 @@
--- Conditions of a chain of `if` and `elsif` that repeat an earlier one of it: where they are asked they are false.
+-- Conditions of a chain of `if` and `elsif` that repeat an earlier one of it: where they are asked they are false. One that
+-- asks for what was captured repeats none, also not one of the same form: a comparison with a pattern may have captured
+-- something else since. A comparison with a pattern is repeated by another: both look at the same lists, and what was
+-- captured has no part in it. It captures all the same where it is asked.
 use Rattle.std.specs.Prelude.{ℕ, Bool, true, false, ◌&&◌, List, [], ◌∷◌, ◌++◌, bytes_eq}
 use Rattle.std.specs.List.{flat_map, list_any}
 use Rattle.avp_lists.specs.Pairs.{value_eq}
@@ -13,7 +16,7 @@ use Rattle.avp_unlang.specs.declared.tree.Comparand.TheVariants as comparand
 use Rattle.avp_unlang.specs.declared.tree.Comparison.{Comparison}
 use Rattle.avp_unlang.specs.declared.tree.Cond.{Cond}
 use Rattle.avp_unlang.specs.declared.tree.Cond.TheFolds.{fold-Cond}
-use Rattle.avp_unlang.specs.declared.tree.Cond.TheOpen.{Cond-F, Any, All, Not, Last, Present, PresentSelected, Compare, CompareMeant, Match}
+use Rattle.avp_unlang.specs.declared.tree.Cond.TheOpen.{Cond-F, Any, All, Not, Last, Present, PresentSelected, Compare, CompareMeant, Match, Captured}
 use Rattle.avp_unlang.specs.declared.tree.Cond.TheViews.{out-Cond}
 use Rattle.avp_unlang.specs.declared.tree.Matching.{Matching}
 use Rattle.avp_unlang.specs.declared.tree.MeantComparand.{MeantComparand}
@@ -99,12 +102,13 @@ same_layer (PresentSelected list id selection) (PresentSelected other n tags) =
 same_layer (Compare k) (Compare l) = same_comparison k l
 same_layer (CompareMeant k) (CompareMeant l) = same_meant_comparison k l
 same_layer (Match k) (Match l) = same_matching k l
+same_layer (Captured group) (Captured other) = false
 same_layer _ _ = false
 
 abbrev pub same_as : Cond-F (Cond → Bool) → Cond → Bool
 same_as layer other = same_layer layer (out-Cond other)
 
--- both are of one form, with the same parts
+-- both are of one form, with the same parts, and neither asks for what was captured
 unfoldable pub same_cond : Cond → Cond → Bool
 same_cond = fold-Cond (Cond → Bool) same_as
 

@@ -38,7 +38,8 @@ abbrev pub is_literal : Source → Bool
 is_literal (Literal v) = true
 is_literal _ = false
 
--- both lines are `:=` of one attribute, and the second does not look at what the first set
+-- Both lines are `:=` of one attribute, and the second does not look at what the first set. A text is taken to look at
+-- it, also one in which nothing is put but what was captured.
 abbrev pub is_undone : Line → Line → Bool
 is_undone line next =
     is_replacement line.op && is_replacement next.op && same_list line.list next.list

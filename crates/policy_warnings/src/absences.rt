@@ -10,6 +10,7 @@ ghost use Rattle.avp_unlang.specs.declared.tree.Cond.{Cond};
 ghost use Rattle.policy_warnings.specs.Absences.{EmptyLacks, NegatedMatchingsDiffer, NegationsDiffer, WarnsOfNegatedMatchings, WarnsOfNegations, all_of, always, any_implies, any_of, asked, both, compared, either, negated, said_of, warns_of_absence};
 ghost use Rattle.policy_warnings.specs.Answers.{server_truth, server_truth_by};
 ghost use Rattle.policy_warnings.specs.Mentions.{comparand_mentions, comparison_mentions, matching_mentions, meant_comparand_mentions, meant_comparison_mentions, mentions};
+ghost use Rattle.policy_warnings.specs.ServerEvaluations.{CapturesAlike, TakesAlike};
 ghost use Rattle.policy_warnings.specs.declared.absences.Absence.{Absence};
 ghost use Rattle.policy_warnings.specs.declared.mentions.Mention.{Mention};
 
@@ -149,7 +150,7 @@ fn any_of(conds: &[Cond], mention: Mention) -> Absence
 }
 
 #[cycle(absences)]
-#[tactic(auto, using(crate::proofs::Layers::absence_any, crate::proofs::Layers::absence_all, crate::proofs::Layers::absence_not, crate::proofs::Layers::absence_last, crate::proofs::Layers::absence_present, crate::proofs::Layers::absence_present_selected, crate::proofs::Layers::absence_compare, crate::proofs::Layers::absence_compare_meant, crate::proofs::Layers::absence_match))]
+#[tactic(auto, using(crate::proofs::Layers::absence_any, crate::proofs::Layers::absence_all, crate::proofs::Layers::absence_not, crate::proofs::Layers::absence_last, crate::proofs::Layers::absence_present, crate::proofs::Layers::absence_present_selected, crate::proofs::Layers::absence_compare, crate::proofs::Layers::absence_compare_meant, crate::proofs::Layers::absence_match, crate::proofs::Layers::absence_captured))]
 pub(crate) fn said_of(cond: &Cond, mention: Mention) -> Absence
     ensures { result ≡ said_of mention cond.now }
 {
@@ -157,7 +158,7 @@ pub(crate) fn said_of(cond: &Cond, mention: Mention) -> Absence
         Cond::Any(conds) => any_of(conds.as_slice(), mention),
         Cond::All(conds) => all_of(conds.as_slice(), mention),
         Cond::Not(cond) => said_of(cond.get(), mention).negated(),
-        Cond::Last(_) => SILENT,
+        Cond::Last(_) | Cond::Captured(_) => SILENT,
         Cond::Present(list, id) => Absence::asked(Mention::whole(*list, *id).implies(mention)),
         Cond::PresentSelected(list, id, selection) => {
             Absence::asked(Mention::selected(*list, *id, *selection).implies(mention))
@@ -227,7 +228,7 @@ fn any_overlooked(conds: &[Cond], whole: &Cond) -> bool
 
 // Whether an absence that a comparison in this part of a condition may meet is overlooked by the whole.
 #[cycle(overlooking)]
-#[tactic(auto, using(crate::proofs::Layers::mentions_any, crate::proofs::Layers::mentions_all, crate::proofs::Layers::mentions_not, crate::proofs::Layers::mentions_last, crate::proofs::Layers::mentions_present, crate::proofs::Layers::mentions_present_selected, crate::proofs::Layers::mentions_compare, crate::proofs::Layers::mentions_compare_meant, crate::proofs::Layers::mentions_match))]
+#[tactic(auto, using(crate::proofs::Layers::mentions_any, crate::proofs::Layers::mentions_all, crate::proofs::Layers::mentions_not, crate::proofs::Layers::mentions_last, crate::proofs::Layers::mentions_present, crate::proofs::Layers::mentions_present_selected, crate::proofs::Layers::mentions_compare, crate::proofs::Layers::mentions_compare_meant, crate::proofs::Layers::mentions_match, crate::proofs::Layers::mentions_captured))]
 fn is_overlooked(part: &Cond, whole: &Cond) -> bool
     ensures { result ≡ list_any (λ (m : Mention). (said_of m whole.now).overlooked_when_true)
         (mentions part.now) }
@@ -235,7 +236,7 @@ fn is_overlooked(part: &Cond, whole: &Cond) -> bool
     match part {
         Cond::Any(conds) | Cond::All(conds) => any_overlooked(conds.as_slice(), whole),
         Cond::Not(cond) => is_overlooked(cond.get(), whole),
-        Cond::Last(_) | Cond::Present(..) | Cond::PresentSelected(..) => false,
+        Cond::Last(_) | Cond::Present(..) | Cond::PresentSelected(..) | Cond::Captured(_) => false,
         Cond::Compare(comparison) => comparison_overlooked(comparison, whole),
         Cond::CompareMeant(comparison) => meant_comparison_overlooked(comparison, whole),
         Cond::Match(matching) => matching_overlooked(matching, whole),
@@ -243,13 +244,16 @@ fn is_overlooked(part: &Cond, whole: &Cond) -> bool
 }
 
 /// Whether a condition compares an attribute that may be absent where that matters: a server ends the whole condition
-/// there, as false. Without a warning a server takes the branch in the same states and after the same codes.
+/// there, as false. Without a warning a server takes the branch in the same states, after the same codes and whatever was
+/// captured before.
 pub fn warns_of_absence(cond: &Cond) -> bool
     ensures definition { result ≡ warns_of_absence cond.now }
     ensures agrees { result ≡ false
         → (s : State) (c : Code) → truth cond.now s c ≡ server_truth cond.now s c }
     ensures agrees_by { result ≡ false → (d : Dictionary) (s : State) (c : Code)
         → truth_by d cond.now s c ≡ server_truth_by d cond.now s c }
+    ensures takes_alike { result ≡ false → TakesAlike cond.now }
+    ensures captures_alike { CapturesAlike cond.now }
 {
     is_overlooked(cond, cond)
 }

@@ -21,7 +21,7 @@ fn several(alloc: Global, policy: &[u8]) -> Result<usize, Fail> {
     warned(alloc, policy, Reason::SeveralInstances)
 }
 
-fn absent(alloc: Global, policy: &[u8]) -> Result<usize, Fail> {
+pub(crate) fn absent(alloc: Global, policy: &[u8]) -> Result<usize, Fail> {
     warned(alloc, policy, Reason::AbsentSource)
 }
 

@@ -18,6 +18,12 @@ fn line_of(warnings: &[Warning], reason: Reason) -> usize {
     }
 }
 
+// The line of the only warning, which is of a line that the next one undoes; 0 where it is otherwise.
+pub(crate) fn undone(alloc: Global, policy: &[u8]) -> Result<usize, Fail> {
+    let warnings = warned(alloc, policy)?;
+    Ok(line_of(&warnings, Reason::UndoneLine))
+}
+
 #[test]
 fn updates(rt: HostRuntime) -> Result<(), Fail> {
     let found = warned(rt.alloc(), b"ok\nupdate reply { }\n")?;
