@@ -231,19 +231,19 @@ def check_held(subject: Subject, report: Report, folder: Path) -> None:
         report.check(f"regular expressions beside a server: {condition}", wrong)
 
 
-def is_taken_by_server(condition: str) -> bool:
-    """Whether a server starts with the condition."""
+def is_taken_by_server(policy: str) -> bool:
+    """Whether a server starts with the policy."""
     with new_folder() as folder:
-        configure(folder, free_port(), policy_of([condition]))
+        configure(folder, free_port(), policy)
         command = [SERVER, "-C", "-l", "stdout", "-d", str(folder)]
         ended = subprocess.run(command, stdout=subprocess.DEVNULL, stderr=subprocess.DEVNULL, timeout=SECONDS)
         return ended.returncode == 0
 
 
-def fault_of(subject: Subject, condition: str) -> str:
-    """The number of the fault with which the condition is refused; none where it is taken."""
+def fault_of(subject: Subject, policy: str) -> str:
+    """The number of the fault with which the policy is refused; none where it is taken."""
     with new_folder() as folder:
-        (folder / "policy").write_text(written(policy_of([condition])))
+        (folder / "policy").write_text(written(policy))
         words = ["check", "--policy", "policy", *dictionaries_of(subject, folder)]
         found = told(run([subject.program, *words], folder).errors)
         return found.number if found else ""
@@ -254,7 +254,8 @@ def check_refused(subject: Subject, report: Report) -> None:
     asked: List[Tuple[str, str, bool]] = [(text, fault, True) for text, fault in TAKEN.items()]
     asked += [(text, fault, False) for text, fault in REFUSED.items()]
     asked += [(text, "", False) for text in TAKEN_HERE]
-    answers = on_all(lambda one: (is_taken_by_server(one[0]), fault_of(subject, one[0])), asked)
+    policies = [policy_of([condition]) for condition, _, _ in asked]
+    answers = on_all(lambda policy: (is_taken_by_server(policy), fault_of(subject, policy)), policies)
     for (condition, fault, is_taken), (is_taken_there, found) in zip(asked, answers):
         wrong = [f"here it is {f'refused as {found}' if found else 'taken'}"] if found != fault else []
         wrong += [f"a server {'takes' if is_taken_there else 'refuses'} it"] if is_taken_there != is_taken else []
