@@ -33,6 +33,8 @@ pub(crate) enum Expected {
     ComparedReference,
     /// What may follow a whole operand.
     Joint,
+    /// The same after a group that was captured, which is not compared.
+    GroupJoint,
 }
 
 /// An open block: where its first word begins, and whether it is an `update`.
@@ -131,6 +133,8 @@ impl<'a> Context<'a> {
             self.expected = Expected::Reference;
         } else if is_code(token.text()) {
             self.expected = Expected::Joint;
+        } else if token.text().starts_with("\"") {
+            self.expected = Expected::GroupJoint;
         } else if token.is_word() {
             self.name = token.text();
             self.expected = Expected::Relation;
@@ -172,7 +176,7 @@ impl<'a> Context<'a> {
                 self.name = token.text();
                 self.expected = Expected::Relation;
             }
-            Expected::Relation | Expected::Joint => self.read_joint(token),
+            Expected::Relation | Expected::Joint | Expected::GroupJoint => self.read_joint(token),
             Expected::Comparand if is_reference => self.expected = Expected::ComparedReference,
             Expected::Comparand | Expected::ComparedReference => self.expected = Expected::Joint,
         }
@@ -212,6 +216,10 @@ pub(crate) fn expected_text(
             "an attribute, reply: or control: before it where it is of another list"
         }
         Expected::Condition => "(",
+        Expected::Operand if profile == Profile::Wider => {
+            "& and an attribute, \"%{1}\" or another group, a code (ok, noop, updated, fail or reject), \
+            ! or ("
+        }
         Expected::Operand =>
             "& and an attribute, a code (ok, noop, updated, fail or reject), ! or (",
         Expected::Relation if profile == Profile::Wider => {
@@ -219,6 +227,6 @@ pub(crate) fn expected_text(
         }
         Expected::Relation => "one of == != < <= > >= && || )",
         Expected::Comparand => "a value, a text in quotes, or & and an attribute",
-        Expected::Joint => "one of && || )",
+        Expected::Joint | Expected::GroupJoint => "one of && || )",
     }
 }

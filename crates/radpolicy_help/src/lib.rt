@@ -7,6 +7,7 @@
 #![tactic(auto)]
 
 mod allowances;
+mod captures;
 mod colours;
 mod command_lines;
 mod contexts;

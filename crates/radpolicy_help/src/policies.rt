@@ -1,6 +1,7 @@
 //! Help for faults of policies.
 
 use crate::allowances::push_unread_profile;
+use crate::captures::{group_hint, has_number, is_group, is_number, next_expansion, operand_hint};
 use crate::contexts::{Context, Expected, context_after, expected_text, is_code};
 use crate::names::push_unknown_attribute;
 use crate::nearest::nearest_of;
@@ -10,6 +11,7 @@ use crate::policy_tokens::{from_token, is_match, is_update_operator, text_of, to
 use crate::sources::Sources;
 use crate::texts::{push_all, push_choices};
 use crate::values::{push_not_value, tag_hint};
+use avp_dict::Dictionary;
 use avp_forms::{Profile, profile_of};
 use avp_unlang::{PolicyFault, PolicyKind};
 use std::alloc::{AllocError, Global};
@@ -123,14 +125,19 @@ fn condition_hint(context: &Context<'_>, found: &str, profile: Profile) -> &'sta
             == and the whole text"
         }
         (_, "=~" | "!~") => "a regular expression follows & and the name of an attribute",
+        (Expected::GroupJoint, "=" | ":=" | "==" | "!=" | "<" | "<=" | ">" | ">=") => {
+            "what was captured is not compared here: write into the regular expression what it has to be"
+        }
         (Expected::Relation, "=" | ":=") => "to compare, write ==; = and := set attributes",
         (Expected::Relation, "===" | "!==") => "to compare, write == or !=",
-        (Expected::Relation | Expected::Joint, "{") => "a ) is missing before it",
+        (Expected::Relation | Expected::Joint | Expected::GroupJoint, "{") =>
+            "a ) is missing before it",
         (Expected::Operand | Expected::Comparand, ")" | "{") => "what is compared is missing",
         (Expected::Comparand, "(") => "write a value, not a cast or an expression",
         (Expected::Operand, "<") => "casts are left out here: write &Name alone",
+        (Expected::Operand, _) if has_number(found) => operand_hint(found, profile),
         (Expected::Operand, _) => "write &Name to test or compare an attribute",
-        (Expected::Relation | Expected::Joint, _) => {
+        (Expected::Relation | Expected::Joint | Expected::GroupJoint, _) => {
             "put a text with blanks into quotes, and && or || between two conditions"
         }
         _ => "write the attribute's name after the &",
@@ -196,7 +203,8 @@ fn push_misplaced_hint(
         | Expected::Relation
         | Expected::Comparand
         | Expected::ComparedReference
-        | Expected::Joint => condition_hint(context, found, profile),
+        | Expected::Joint
+        | Expected::GroupJoint => condition_hint(context, found, profile),
     };
     push_all(help, &[hint, "\n"])
 }
@@ -271,11 +279,13 @@ fn expansion_hint(text: &str) -> &'static str {
 }
 
 // What to do about what is no token, by its first octets.
-fn unreadable_hint(found: &str) -> &'static str {
+fn unreadable_hint(found: &str, expected: Expected) -> &'static str {
     if found.starts_with("\"") || found.starts_with("'") {
         let is_ended = found.len() > 1
             && found.ends_with(if found.starts_with("'") { "'" } else { "\"" });
-        if is_ended {
+        if is_ended && expected == Expected::Comparand && has_number(found) {
+            "to compare with what was captured, set an attribute to it in an update, and compare with that"
+        } else if is_ended {
             expansion_hint(found)
         } else {
             "the text has no closing quote on its line"
@@ -299,19 +309,48 @@ fn unreadable_hint(found: &str) -> &'static str {
     }
 }
 
-// The name of an attribute in a word: without its list, and without the quotes and signs of an expansion.
-fn name_in(found: &str) -> &str {
-    let word = match found.split_once("%{") {
-        Some((_, rest)) => match rest.split_once("}") {
-            Some((word, _)) => word,
-            None => rest,
-        },
-        None => found,
-    };
+fn without_list(word: &str) -> &str {
     match word.split_once(":") {
         Some(("request" | "reply" | "control", name)) => name,
         _ => word,
     }
+}
+
+// The name of an attribute in a word: without its list, and without the quotes and signs of an expansion.
+fn name_in(found: &str) -> &str {
+    match next_expansion(found) {
+        Some((word, _)) => without_list(word),
+        None => without_list(found),
+    }
+}
+
+// Whether a dictionary has the attribute of this name, whatever tag follows it.
+fn is_attribute(dictionary: &Dictionary, name: &str) -> bool {
+    let name = match name.split_once(":") {
+        Some((name, _)) => name,
+        None => name,
+    };
+    dictionary.by_name(name.as_bytes()).is_some()
+}
+
+// The name of no attribute in a word, or in the first expansion that is neither of an attribute nor of a group.
+fn unknown_name<'a>(alloc: Global, sources: &Sources<'_>, found: &'a str) -> &'a str {
+    let profile = profile_of(sources.policy.text);
+    let Some(dictionary) = sources.dictionary(alloc) else {
+        return name_in(found);
+    };
+    let mut rest = found;
+    for _ in 0..found.len() {
+        let Some((word, others)) = next_expansion(rest) else {
+            break;
+        };
+        let name = without_list(word);
+        if !is_group(word, profile) && !is_attribute(&dictionary, name) {
+            return name;
+        }
+        rest = others;
+    }
+    name_in(found)
 }
 
 fn push_unknown_hint(
@@ -394,11 +433,15 @@ fn push_sentences(
         }
         PolicyKind::Unreadable => {
             push_all(help, &["found ", found, "\n"])?;
-            push_all(help, &[unreadable_hint(found), "\n"])
+            push_all(help, &[unreadable_hint(found, context.expected), "\n"])
         }
         PolicyKind::Unknown => {
-            let name = name_in(found);
+            let name = unknown_name(alloc, sources, found);
             push_all(help, &["no attribute has the name ", name, "\n"])?;
+            if is_number(name) && found.contains("%{") {
+                let profile = profile_of(sources.policy.text);
+                return push_all(help, &[group_hint(profile), "\n"]);
+            }
             push_unknown_hint(alloc, help, sources, context, name)
         }
         PolicyKind::NotValue => {

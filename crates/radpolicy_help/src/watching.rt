@@ -143,7 +143,7 @@ impl<'a> Watcher<'a> {
         match cond {
             Cond::Any(conds) | Cond::All(conds) => self.any_asks_virtual(conds.as_slice()),
             Cond::Not(cond) => self.asks_virtual(cond.get()),
-            Cond::Last(_) => false,
+            Cond::Last(_) | Cond::Captured(_) => false,
             Cond::Present(list, id) | Cond::PresentSelected(list, id, _) => {
                 self.is_virtual(*list, *id)
             }
@@ -155,7 +155,8 @@ impl<'a> Watcher<'a> {
 
     fn any_part_is_virtual(&self, parts: &[Part]) -> bool {
         parts.iter().any(|part| match part {
-            Part::Text(_) => false,
+            // What was captured is warned of where it is compared.
+            Part::Text(_) | Part::Capture(_) => false,
             Part::Instance(list, id) | Part::Meant(list, id, _) => self.is_virtual(*list, *id),
         })
     }
@@ -177,7 +178,7 @@ impl<'a> Watcher<'a> {
         match source {
             Source::Text(_, parts) => parts.as_slice().iter().any(|part| match part {
                 Part::Instance(_, id) => self.is_date(*id),
-                Part::Text(_) | Part::Meant(..) => false,
+                Part::Text(_) | Part::Meant(..) | Part::Capture(_) => false,
             }),
             _ => false,
         }
