@@ -28,11 +28,17 @@ transaction {
 	if (&User-Password == "another literal") { reject }
 	fail
 }
+if (&User-Password =~ /^(.*)$/) {
+	update control { Tmp-String-1 := "%{1}" }
+}
 update reply { Filter-Id := &control:Tmp-String-0 }
 """
 SECRETS = (PASSWORD, "the literal", "another literal")
 ESCAPES = ((b"\\u003c", b"\\u003e"), (b"&lt;", b"&gt;"))
-INTERNAL = "ATTRIBUTE Tmp-String-0 1820 string\nATTRIBUTE Cleartext-Password 1100 string\n"
+INTERNAL = """ATTRIBUTE Tmp-String-0 1820 string
+ATTRIBUTE Tmp-String-1 1821 string
+ATTRIBUTE Cleartext-Password 1100 string
+"""
 BUTTONS = ("To the start", "One step back", "One step forward", "To the end")
 CONTROLS = {("slider", "Position"), *(("button", name) for name in BUTTONS)}
 # What is shown at a position: the words of the step, and each list.

@@ -1,4 +1,5 @@
 pub mod Markings
+pub mod MatchedAttributes
 pub mod PageParts
 pub mod PolicyLines
 pub mod SecretAttributes

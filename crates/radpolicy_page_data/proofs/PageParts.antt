@@ -12,25 +12,25 @@ use Rattle.radpolicy_page_data.specs.Embedding.{embedded, markup_text}
 use Rattle.radpolicy_page_data.specs.Packets.{reply_text}
 use Rattle.radpolicy_page_data.specs.Pages.{ArePositionsTooLarge, IsPage, IsRedactionOf, data_text, last_lists, lists_text, trace_from}
 use Rattle.radpolicy_page_data.specs.Positions.{ArePositions, IsTooLarge}
-use Rattle.radpolicy_page_data.specs.Secrets.{AreSecret, Redaction, lines_of}
+use Rattle.radpolicy_page_data.specs.Secrets.{AreSecret, Redaction}
 use Rattle.radpolicy_page_data.specs.declared.pages.Page.{Page}
 
 module _ (start : Start) (secrets : SecretValues) (redaction : Redaction) (dictionary : Dictionary) (statements : List Statement) (w : Walk) where
-  redacts : redaction.dictionary ≡ dictionary → redaction.secrets ≡ secrets → AreSecret dictionary (lines_of statements) redaction.ids → dictionary ≡ start.prepared.dictionary → statements ≡ start.prepared.statements → IsRedactionOf start secrets redaction
+  redacts : redaction.dictionary ≡ dictionary → redaction.secrets ≡ secrets → AreSecret dictionary statements redaction.ids → dictionary ≡ start.prepared.dictionary → statements ≡ start.prepared.statements → IsRedactionOf start secrets redaction
   redacts d s ids is_dictionary is_statements = record {
     dictionary = d ∙ is_dictionary;
     secrets = s;
-    ids = subst (λ (x : Dictionary). AreSecret x (lines_of start.prepared.statements) redaction.ids) is_dictionary
-        (subst (λ (ss : List Statement). AreSecret dictionary (lines_of ss) redaction.ids) is_statements ids);
+    ids = subst (λ (x : Dictionary). AreSecret x start.prepared.statements redaction.ids) is_dictionary
+        (subst (λ (ss : List Statement). AreSecret dictionary ss redaction.ids) is_statements ids);
   }
 
-  pub too_large : redaction.dictionary ≡ dictionary → redaction.secrets ≡ secrets → AreSecret dictionary (lines_of statements) redaction.ids → dictionary ≡ start.prepared.dictionary → statements ≡ start.prepared.statements
+  pub too_large : redaction.dictionary ≡ dictionary → redaction.secrets ≡ secrets → AreSecret dictionary statements redaction.ids → dictionary ≡ start.prepared.dictionary → statements ≡ start.prepared.statements
       → w ≡ walk_from start.prepared.dictionary start.prepared.statements (entry_of start) → IsTooLarge redaction w.trace → ArePositionsTooLarge start secrets
   too_large d s ids is_dictionary is_statements walk large =
       (redaction, redacts d s ids is_dictionary is_statements, subst (λ (v : Walk). IsTooLarge redaction v.trace) walk large)
 
   pub page_is : (policy told positions : List ℕ) (reply : Reply) (lists : State) (page : Page)
-      → redaction.dictionary ≡ dictionary → redaction.secrets ≡ secrets → AreSecret dictionary (lines_of statements) redaction.ids → dictionary ≡ start.prepared.dictionary → statements ≡ start.prepared.statements
+      → redaction.dictionary ≡ dictionary → redaction.secrets ≡ secrets → AreSecret dictionary statements redaction.ids → dictionary ≡ start.prepared.dictionary → statements ≡ start.prepared.statements
       → w ≡ walk_from start.prepared.dictionary start.prepared.statements (entry_of start) → ArePositions redaction w.trace (length w.trace) told → lists ≡ lists_at w.trace (length w.trace - 1) → positions ≡ told
       → page.run.items ≡ embedded (data_text redaction policy positions (reply_text redaction lists.reply reply)) → page.lists.items ≡ markup_text (lists_text redaction lists) → IsPage start secrets policy reply page
   page_is policy told positions reply lists page d s ids is_dictionary is_statements walk are is_lists is_positions run shown =

@@ -13,7 +13,7 @@ use Rattle.avp_unlang.specs.declared.tree.Statement.TheViews.{out-Branch}
 use Rattle.radpolicy_page_data.specs.internal.PolicyLines.{lines_if_given}
 use Rattle.radpolicy_page_data.specs.Secrets.{branch_lines, joined, lines_in, lines_in_branch, lines_of, statement_lines}
 
-flat_mapped : {X : Type 0} (f : X → List Line) (xs : List X) → joined (map f xs) ≡ flat_map f xs
+pub flat_mapped : {X A : Type 0} (f : X → List A) (xs : List X) → joined (map f xs) ≡ flat_map f xs
 flat_mapped f [] = refl
 flat_mapped f (x ∷ xs) = ap (λ rest. f x ++ rest) (flat_mapped f xs)
 

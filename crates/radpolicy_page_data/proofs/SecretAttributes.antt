@@ -11,7 +11,7 @@ use Rattle.avp_unlang.specs.declared.tree.Part.{Part}
 use Rattle.avp_unlang.specs.declared.tree.Part.TheVariants as part
 use Rattle.avp_unlang.specs.declared.tree.Source.{Source}
 use Rattle.avp_unlang.specs.declared.tree.Source.TheVariants as source
-use Rattle.radpolicy_page_data.specs.Secrets.{AreAmong, IsClosed, is_among, is_secret_attribute, part_names, source_names, takes_secret}
+use Rattle.radpolicy_page_data.specs.Secrets.{AreAmong, IsClosed, is_among, is_secret_attribute, part_takes, source_takes, takes_secret}
 use Rattle.radpolicy_page_data.specs.internal.PolicyLines.{count_unknown, is_newly_secret, next_secret}
 
 -- ---- two tests
@@ -20,22 +20,28 @@ use Rattle.radpolicy_page_data.specs.internal.PolicyLines.{count_unknown, is_new
 abbrev Passes : (AttrId → Bool) → (AttrId → Bool) → Type 0
 Passes P Q = (id : AttrId) → P id ≡ true → Q id ≡ true
 
-part_passes : (P Q : AttrId → Bool) → Passes P Q → (p : Part) → part_names P p ≡ true → part_names Q p ≡ true
-part_passes P Q more (part.Text octets) h = h
-part_passes P Q more (part.Instance list id) h = more id h
-part_passes P Q more (part.Meant list id selection) h = more id h
+ids_pass : (P Q : AttrId → Bool) → Passes P Q → (ids : List AttrId) → list_any P ids ≡ true → list_any Q ids ≡ true
+ids_pass P Q more [] h = h
+ids_pass P Q more (id ∷ ids) h = grind (arith, more id, ids_pass P Q more ids)
 
-parts_pass : (P Q : AttrId → Bool) → Passes P Q → (ps : List Part) → list_any (part_names P) ps ≡ true → list_any (part_names Q) ps ≡ true
-parts_pass P Q more [] h = h
-parts_pass P Q more (p ∷ ps) h = grind (arith, part_passes P Q more p, parts_pass P Q more ps)
+module _ (P Q : AttrId → Bool) (more : Passes P Q) (b c : Bool) (captured : b ≡ true → c ≡ true) where
+  part_passes : (p : Part) → part_takes P b p ≡ true → part_takes Q c p ≡ true
+  part_passes (part.Text octets) h = h
+  part_passes (part.Instance list id) h = more id h
+  part_passes (part.Meant list id selection) h = more id h
+  part_passes (part.Capture group) h = captured h
 
-source_passes : (P Q : AttrId → Bool) → Passes P Q → (s : Source) → source_names P s ≡ true → source_names Q s ≡ true
-source_passes P Q more (source.Literal value) h = h
-source_passes P Q more (source.Text raw parts) h = parts_pass P Q more parts h
-source_passes P Q more (source.WiderText raw tag parts) h = parts_pass P Q more parts h
-source_passes P Q more (source.Instance list id) h = more id h
-source_passes P Q more (source.Tagged list id selection form tag) h = more id h
-source_passes P Q more source.Any h = h
+  parts_pass : (ps : List Part) → list_any (part_takes P b) ps ≡ true → list_any (part_takes Q c) ps ≡ true
+  parts_pass [] h = h
+  parts_pass (p ∷ ps) h = grind (arith, part_passes p, parts_pass ps)
+
+  source_passes : (s : Source) → source_takes P b s ≡ true → source_takes Q c s ≡ true
+  source_passes (source.Literal value) h = h
+  source_passes (source.Text raw parts) h = parts_pass parts h
+  source_passes (source.WiderText raw tag parts) h = parts_pass parts h
+  source_passes (source.Instance list id) h = more id h
+  source_passes (source.Tagged list id selection form tag) h = more id h
+  source_passes source.Any h = h
 
 -- ---- among
 
@@ -63,31 +69,42 @@ among_last d ids id = grind (arith, id_eq-same id, list_any-append (id_eq id) id
 
 -- ---- the next one
 
+abbrev is_newly : Dictionary → List AttrId → List AttrId → Line → Bool
+is_newly d matched ids line = is_newly_secret d ids (list_any (is_among d ids) matched) line
+
+-- a line that takes from these takes from the others
+others_take : (d : Dictionary) (matched ids others : List AttrId) (line : Line) → AreAmong d others ids → takes_secret d matched ids line ≡ true → takes_secret d matched others line ≡ true
+others_take d matched ids others line all h =
+    let P = is_among d ids in
+    let Q = is_among d others in
+    let more : Passes P Q = among_others d others ids all in
+    source_passes P Q more (list_any P matched) (list_any Q matched) (ids_pass P Q more matched) line.source h
+
 -- where there is none, these are all
-pub none_is_closed : (d : Dictionary) (ids : List AttrId) (lines : List Line) → next_secret d ids lines ≡ None → IsClosed d lines ids
-none_is_closed d ids [] h = tt
-none_is_closed d ids (line ∷ lines) h =
-    let first : is_newly_secret d ids line ≡ false = grind (arith, h) in
-    ((λ takes. grind (arith, first, takes)), none_is_closed d ids lines (grind (arith, h, first)))
+pub none_is_closed : (d : Dictionary) (matched ids : List AttrId) (lines : List Line) → next_secret d matched ids lines ≡ None → IsClosed d matched lines ids
+none_is_closed d matched ids [] h = tt
+none_is_closed d matched ids (line ∷ lines) h =
+    let first : is_newly d matched ids line ≡ false = grind (arith, h) in
+    ((λ takes. grind (arith, first, takes)), none_is_closed d matched ids lines (grind (arith, h, first)))
 
 -- it is one of any others that are closed
-next_is_among : (d : Dictionary) (ids others : List AttrId) (lines : List Line) (id : AttrId) → AreAmong d others ids → IsClosed d lines others → next_secret d ids lines ≡ Some id → is_among d others id ≡ true
-next_is_among d ids others [] id all closed h = cc
-next_is_among d ids others (line ∷ lines) id all closed h =
-    elim (is_newly_secret d ids line) as (λ b. is_newly_secret d ids line ≡ b → (if b then Some line.id else next_secret d ids lines) ≡ Some id → is_among d others id ≡ true) [
+next_is_among : (d : Dictionary) (matched ids others : List AttrId) (lines : List Line) (id : AttrId) → AreAmong d others ids → IsClosed d matched lines others → next_secret d matched ids lines ≡ Some id → is_among d others id ≡ true
+next_is_among d matched ids others [] id all closed h = cc
+next_is_among d matched ids others (line ∷ lines) id all closed h =
+    elim (is_newly d matched ids line) as (λ b. is_newly d matched ids line ≡ b → (if b then Some line.id else next_secret d matched ids lines) ≡ Some id → is_among d others id ≡ true) [
       | true ↦ λ e g. (
-          let takes : takes_secret d ids line ≡ true = grind (arith, e) in
+          let takes : takes_secret d matched ids line ≡ true = grind (arith, e) in
           let same : line.id ≡ id = grind (arith, g) in
-          subst (λ (x : AttrId). is_among d others x ≡ true) same (closed.0 (source_passes (is_among d ids) (is_among d others) (among_others d others ids all) line.source takes)))
-      | false ↦ λ e g. next_is_among d ids others lines id all closed.1 g
+          subst (λ (x : AttrId). is_among d others x ≡ true) same (closed.0 (others_take d matched ids others line all takes)))
+      | false ↦ λ e g. next_is_among d matched ids others lines id all closed.1 g
     ] refl h
 
 all_and_one : (d : Dictionary) (others ids : List AttrId) (id : AttrId) → AreAmong d others ids → is_among d others id ≡ true → AreAmong d others (ids ++ id ∷ [])
 all_and_one d others [] id all one = (one, tt)
 all_and_one d others (own ∷ ids) id all one = (all.0, all_and_one d others ids id all.1 one)
 
-pub still_least : (d : Dictionary) (ids others : List AttrId) (lines : List Line) (id : AttrId) → next_secret d ids lines ≡ Some id → IsClosed d lines others → AreAmong d others ids → AreAmong d others (ids ++ id ∷ [])
-still_least d ids others lines id h closed all = all_and_one d others ids id all (next_is_among d ids others lines id all closed h)
+pub still_least : (d : Dictionary) (matched ids others : List AttrId) (lines : List Line) (id : AttrId) → next_secret d matched ids lines ≡ Some id → IsClosed d matched lines others → AreAmong d others ids → AreAmong d others (ids ++ id ∷ [])
+still_least d matched ids others lines id h closed all = all_and_one d others ids id all (next_is_among d matched ids others lines id all closed h)
 
 -- ---- fewer and fewer
 
@@ -102,10 +119,10 @@ no_more d ids own (line ∷ lines) =
     let first = fewer_by (is_among d ids line.id) (is_among d (ids ++ own ∷ []) line.id) (among_more d ids own line.id) in
     omega (arith, first, no_more d ids own lines)
 
-pub one_fewer : (d : Dictionary) (ids : List AttrId) (lines : List Line) (id : AttrId) → next_secret d ids lines ≡ Some id → count_unknown d (ids ++ id ∷ []) lines < count_unknown d ids lines
-one_fewer d ids [] id h = cc
-one_fewer d ids (line ∷ lines) id h =
-    elim (is_newly_secret d ids line) as (λ b. is_newly_secret d ids line ≡ b → (if b then Some line.id else next_secret d ids lines) ≡ Some id → count_unknown d (ids ++ id ∷ []) (line ∷ lines) < count_unknown d ids (line ∷ lines)) [
+pub one_fewer : (d : Dictionary) (matched ids : List AttrId) (lines : List Line) (id : AttrId) → next_secret d matched ids lines ≡ Some id → count_unknown d (ids ++ id ∷ []) lines < count_unknown d ids lines
+one_fewer d matched ids [] id h = cc
+one_fewer d matched ids (line ∷ lines) id h =
+    elim (is_newly d matched ids line) as (λ b. is_newly d matched ids line ≡ b → (if b then Some line.id else next_secret d matched ids lines) ≡ Some id → count_unknown d (ids ++ id ∷ []) (line ∷ lines) < count_unknown d ids (line ∷ lines)) [
       | true ↦ λ e g. (
           let unknown : is_among d ids line.id ≡ false = grind (arith, e) in
           let same : line.id ≡ id = grind (arith, g) in
@@ -113,5 +130,5 @@ one_fewer d ids (line ∷ lines) id h =
           rw (unknown, known) (omega (arith, no_more d ids id lines)))
       | false ↦ λ e g. (
           let first = fewer_by (is_among d ids line.id) (is_among d (ids ++ id ∷ []) line.id) (among_more d ids id line.id) in
-          omega (arith, first, one_fewer d ids lines id g))
+          omega (arith, first, one_fewer d matched ids lines id g))
     ] refl h

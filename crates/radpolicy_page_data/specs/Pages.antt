@@ -13,7 +13,7 @@ use Rattle.radpolicy_page_data.specs.Embedding.{embedded, markup_text, string_te
 use Rattle.radpolicy_page_data.specs.Packets.{reply_text}
 use Rattle.radpolicy_page_data.specs.Policies.{policy_shown}
 use Rattle.radpolicy_page_data.specs.Positions.{ArePositions, IsTooLarge}
-use Rattle.radpolicy_page_data.specs.Secrets.{AreSecret, Redaction, lines_of, redacted}
+use Rattle.radpolicy_page_data.specs.Secrets.{AreSecret, Redaction, redacted}
 use Rattle.radpolicy_page_data.specs.declared.pages.Page.{Page}
 use Rattle.radpolicy_page_data.specs.declared.pages.TheConstants.{MAX_PAGE_OCTETS}
 
@@ -29,7 +29,7 @@ last_lists trace = lists_at trace (length trace - 1)
 pub record IsRedactionOf (start : Start) (asked : SecretValues) (redaction : Redaction) : Type 0 where
   pub dictionary : redaction.dictionary ≡ start.prepared.dictionary
   pub secrets : redaction.secrets ≡ asked
-  pub ids : AreSecret start.prepared.dictionary (lines_of start.prepared.statements) redaction.ids
+  pub ids : AreSecret start.prepared.dictionary start.prepared.statements redaction.ids
 
 -- ---- the lists at the end, as a text
 

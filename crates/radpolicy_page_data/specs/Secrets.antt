@@ -9,6 +9,11 @@ use Rattle.avp_lists.specs.declared.pairs.Value.TheVariants.{Int}
 use Rattle.avp_dict.specs.Dictionary.{Dictionary}
 use Rattle.avp_forms.specs.Printing.{printed_pair_name, printed_pair_text}
 use Rattle.avp_forms.specs.declared.profiles.Profile.TheVariants.{Wider}
+use Rattle.avp_unlang.specs.declared.tree.Branch.{Branch}
+use Rattle.avp_unlang.specs.declared.tree.Cond.{Cond}
+use Rattle.avp_unlang.specs.declared.tree.Cond.TheFolds.{fold-Cond}
+use Rattle.avp_unlang.specs.declared.tree.Cond.TheOpen as cond
+use Rattle.avp_unlang.specs.declared.tree.Cond.TheOpen.{Cond-F}
 use Rattle.avp_unlang.specs.declared.tree.Line.{Line}
 use Rattle.avp_unlang.specs.declared.tree.Part.{Part}
 use Rattle.avp_unlang.specs.declared.tree.Part.TheVariants as part
@@ -16,20 +21,19 @@ use Rattle.avp_unlang.specs.declared.tree.Source.{Source}
 use Rattle.avp_unlang.specs.declared.tree.Source.TheVariants as source
 use Rattle.avp_unlang.specs.declared.tree.Statement.{Statement}
 use Rattle.avp_unlang.specs.declared.tree.Statement.TheFolds.{fold-Statement, fold-Branch}
-use Rattle.avp_unlang.specs.declared.tree.Branch.{Branch}
 use Rattle.avp_unlang.specs.declared.tree.Statement.TheOpen.{Statement-F, Branch-F, Update, If, Transaction, Word}
 use Rattle.radpolicy_common.specs.SecretAttributes.{is_secret}
 use Rattle.radpolicy_common.specs.declared.change_texts.SecretValues.{SecretValues}
 use Rattle.radpolicy_common.specs.declared.change_texts.SecretValues.TheVariants.{Hidden, Shown}
 
--- ---- the update lines of a policy, in the order of its text
+abbrev pub joined : {A : Type 0} → List (List A) → List A
+joined lists = flat_map (λ list. list) lists
 
-abbrev pub joined : List (List Line) → List Line
-joined = flat_map (λ (lines : List Line). lines)
-
-abbrev pub joined_if_given : Option (List (List Line)) → List Line
+abbrev pub joined_if_given : {A : Type 0} → Option (List (List A)) → List A
 joined_if_given None = []
-joined_if_given (Some block) = joined block
+joined_if_given (Some lists) = joined lists
+
+-- ---- the update lines of a policy, in the order of its text
 
 abbrev pub statement_lines : Statement-F (List Line) (List Line) → List Line
 statement_lines (Update n lines) = lines
@@ -49,22 +53,54 @@ lines_in_branch = fold-Branch (List Line) (List Line) statement_lines branch_lin
 abbrev pub lines_of : List Statement → List Line
 lines_of statements = flat_map lines_in statements
 
--- ---- the attributes that a source names
+-- ---- the attributes that a policy compares with patterns, in the order of its text
 
--- in an expansion
-abbrev pub part_names : (AttrId → Bool) → Part → Bool
-part_names passes (part.Text octets) = false
-part_names passes (part.Instance list id) = passes id
-part_names passes (part.Meant list id selection) = passes id
+abbrev pub cond_matched : Cond-F (List AttrId) → List AttrId
+cond_matched (cond.Any parts) = joined parts
+cond_matched (cond.All parts) = joined parts
+cond_matched (cond.Not part) = part
+cond_matched (cond.Match matching) = matching.id ∷ []
+cond_matched _ = []
+
+unfoldable pub matched_in_cond : Cond → List AttrId
+matched_in_cond = fold-Cond (List AttrId) cond_matched
+
+abbrev pub statement_matched : Statement-F (List AttrId) (List AttrId) → List AttrId
+statement_matched (Update n lines) = []
+statement_matched (If branches otherwise) = joined branches ++ joined_if_given otherwise
+statement_matched (Transaction n block) = joined block
+statement_matched (Word n word) = []
+
+abbrev pub branch_matched : Branch-F (List AttrId) (List AttrId) → List AttrId
+branch_matched b = matched_in_cond b.cond ++ joined b.block
+
+unfoldable pub matched_in : Statement → List AttrId
+matched_in = fold-Statement (List AttrId) (List AttrId) statement_matched branch_matched
+
+unfoldable pub matched_in_branch : Branch → List AttrId
+matched_in_branch = fold-Branch (List AttrId) (List AttrId) statement_matched branch_matched
+
+abbrev pub matched_of : List Statement → List AttrId
+matched_of statements = flat_map matched_in statements
+
+-- ---- the attributes from which a source takes
+
+-- in an expansion; whether what was captured is of one that passes is given
+abbrev pub part_takes : (AttrId → Bool) → Bool → Part → Bool
+part_takes passes captured (part.Text octets) = false
+part_takes passes captured (part.Instance list id) = passes id
+part_takes passes captured (part.Meant list id selection) = passes id
+part_takes passes captured (part.Capture group) = captured
 
 -- by `&`, or in an expansion
-abbrev pub source_names : (AttrId → Bool) → Source → Bool
-source_names passes (source.Literal value) = false
-source_names passes (source.Text raw parts) = list_any (part_names passes) parts
-source_names passes (source.WiderText raw tag parts) = list_any (part_names passes) parts
-source_names passes (source.Instance list id) = passes id
-source_names passes (source.Tagged list id selection form tag) = passes id
-source_names passes source.Any = false
+abbrev pub source_takes : (AttrId → Bool) → Bool → Source → Bool
+source_takes passes captured (source.Literal value) = false
+source_takes passes captured (source.Text raw parts) = list_any (part_takes passes captured) parts
+source_takes passes captured (source.WiderText raw tag parts) =
+    list_any (part_takes passes captured) parts
+source_takes passes captured (source.Instance list id) = passes id
+source_takes passes captured (source.Tagged list id selection form tag) = passes id
+source_takes passes captured source.Any = false
 
 -- ---- secret attributes
 
@@ -76,16 +112,23 @@ is_secret_attribute dictionary id = is_secret id (Int 0) dictionary
 abbrev pub is_among : Dictionary → List AttrId → AttrId → Bool
 is_among dictionary ids id = is_secret_attribute dictionary id || list_any (id_eq id) ids
 
--- a line's source names one of them
-abbrev pub takes_secret : Dictionary → List AttrId → Line → Bool
-takes_secret dictionary ids line = source_names (is_among dictionary ids) line.source
+-- A line's source takes from one of them. Which comparison captured is known in a run alone, so what was captured may be
+-- of each attribute that is compared with a pattern.
+abbrev pub takes_secret : Dictionary → List AttrId → List AttrId → Line → Bool
+takes_secret dictionary matched ids line =
+    source_takes (is_among dictionary ids) (list_any (is_among dictionary ids) matched) line.source
 
 -- each attribute to which an update line gives a value of one of them is one of them
-abbrev pub IsClosed : Dictionary → List Line → List AttrId → Type 0
-IsClosed dictionary [] ids = Unit {0}
-IsClosed dictionary (line ∷ lines) ids =
-    (takes_secret dictionary ids line ≡ true → is_among dictionary ids line.id ≡ true)
-    × IsClosed dictionary lines ids
+abbrev pub IsClosed : Dictionary → List AttrId → List Line → List AttrId → Type 0
+IsClosed dictionary matched [] ids = Unit {0}
+IsClosed dictionary matched (line ∷ lines) ids =
+    (takes_secret dictionary matched ids line ≡ true → is_among dictionary ids line.id ≡ true)
+    × IsClosed dictionary matched lines ids
+
+-- the same of all update lines of a policy
+abbrev pub IsClosedIn : Dictionary → List Statement → List AttrId → Type 0
+IsClosedIn dictionary statements ids =
+    IsClosed dictionary (matched_of statements) (lines_of statements) ids
 
 -- each of these is one of the others
 abbrev pub AreAmong : Dictionary → List AttrId → List AttrId → Type 0
@@ -94,10 +137,10 @@ AreAmong dictionary others (id ∷ ids) =
     (is_among dictionary others id ≡ true) × AreAmong dictionary others ids
 
 -- the least such: together with those that are secret whatever the policy does, these are the secret attributes of a
--- policy with these update lines
-pub record AreSecret (dictionary : Dictionary) (lines : List Line) (ids : List AttrId) : Type 0 where
-  pub closed : IsClosed dictionary lines ids
-  pub least : (others : List AttrId) → IsClosed dictionary lines others → AreAmong dictionary others ids
+-- policy
+pub record AreSecret (dictionary : Dictionary) (statements : List Statement) (ids : List AttrId) : Type 0 where
+  pub closed : IsClosedIn dictionary statements ids
+  pub least : (others : List AttrId) → IsClosedIn dictionary statements others → AreAmong dictionary others ids
 
 -- ---- what is shown
 

@@ -6,6 +6,7 @@ mod differences;
 mod faults;
 mod json;
 mod markup;
+mod matchings;
 mod packets;
 mod pages;
 mod policies;

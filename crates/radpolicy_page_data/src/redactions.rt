@@ -2,7 +2,7 @@
 
 ghost use Rattle.std.specs.Prelude.{◌≡◌, ◌++◌, IfOk, OnOk};
 ghost use Rattle.radpolicy_common.specs.ChangeTexts.{Fits};
-ghost use Rattle.radpolicy_page_data.specs.Secrets.{AreSecret, hides, is_among, lines_of, redacted, shown_text};
+ghost use Rattle.radpolicy_page_data.specs.Secrets.{AreSecret, hides, is_among, redacted, shown_text};
 
 use crate::secrets::{has_id, is_among, secret_attributes};
 use avp_dict::Dictionary;
@@ -44,7 +44,7 @@ impl<'a> Redaction<'a> {
         ensures dictionary { IfOk result (λ redaction. redaction.dictionary ≡ dictionary.now) }
         ensures secrets { IfOk result (λ redaction. redaction.secrets ≡ secrets) }
         ensures ids { IfOk result (λ redaction.
-            AreSecret dictionary.now (lines_of policy.now) redaction.ids) }
+            AreSecret dictionary.now policy.now redaction.ids) }
     {
         let ids = secret_attributes(alloc, dictionary, policy)?;
         Ok(Redaction {

@@ -3,9 +3,10 @@
 ghost use Rattle.std.specs.Prelude.{◌≡◌, ◌++◌, IfOk, OnOk};
 ghost use Rattle.std.specs.List.{flat_map, list_any};
 ghost use Rattle.avp_lists.specs.Pairs.{id_eq};
-ghost use Rattle.radpolicy_page_data.specs.Secrets.{AreSecret, is_among, is_secret_attribute, lines_in, lines_in_branch, lines_of, part_names, takes_secret};
-ghost use Rattle.radpolicy_page_data.specs.internal.PolicyLines.{is_newly_secret, lines_behind, next_secret};
+ghost use Rattle.radpolicy_page_data.specs.Secrets.{AreSecret, is_among, is_secret_attribute, lines_in, lines_in_branch, lines_of, part_takes, source_takes};
+ghost use Rattle.radpolicy_page_data.specs.internal.PolicyLines.{first_secret, is_newly_secret, lines_behind, next_secret};
 
+use crate::matchings::matched_of;
 use avp_dict::Dictionary;
 use avp_lists::{AttrId, Value};
 use avp_unlang::{Branch, Line, Part, Policy, Source, Statement};
@@ -103,48 +104,72 @@ pub(crate) fn is_among(dictionary: &Dictionary, ids: &[AttrId], id: AttrId) -> b
     is_secret_attribute(dictionary, id) || has_id(ids, id)
 }
 
-fn part_names_secret(dictionary: &Dictionary, ids: &[AttrId], part: &Part) -> bool
-    ensures { result ≡ part_names (is_among dictionary.now ids.now) part.now }
+// Whether one of these is secret whatever the policy does, or one of the others.
+fn is_any_among(dictionary: &Dictionary, others: &[AttrId], ids: &[AttrId]) -> bool
+    ensures { result ≡ list_any (is_among dictionary.now others.now) ids.now }
+{
+    ids.iter().any(|id| is_among(dictionary, others, *id))
+}
+
+fn part_takes_secret(dictionary: &Dictionary, ids: &[AttrId], captured: bool, part: &Part) -> bool
+    ensures { result ≡ part_takes (is_among dictionary.now ids.now) captured part.now }
 {
     match part {
         Part::Text(_) => false,
         Part::Instance(_, id) | Part::Meant(_, id, _) => is_among(dictionary, ids, *id),
+        Part::Capture(_) => captured,
     }
 }
 
-fn parts_name_secret(dictionary: &Dictionary, ids: &[AttrId], parts: &[Part]) -> bool
-    ensures { result ≡ list_any (part_names (is_among dictionary.now ids.now)) parts.now }
+fn parts_take_secret(
+    dictionary: &Dictionary,
+    ids: &[AttrId],
+    captured: bool,
+    parts: &[Part],
+) -> bool
+    ensures { result ≡ list_any (part_takes (is_among dictionary.now ids.now) captured) parts.now }
 {
     parts
         .iter()
-        .any(|part| part_names_secret(dictionary, ids, part))
+        .any(|part| part_takes_secret(dictionary, ids, captured, part))
 }
 
-fn takes_secret(dictionary: &Dictionary, ids: &[AttrId], line: &Line) -> bool
-    ensures { result ≡ takes_secret dictionary.now ids.now line.now }
+fn source_takes_secret(
+    dictionary: &Dictionary,
+    ids: &[AttrId],
+    captured: bool,
+    source: &Source,
+) -> bool
+    ensures { result ≡ source_takes (is_among dictionary.now ids.now) captured source.now }
 {
-    match &line.source {
+    match source {
         Source::Literal(_) | Source::Any => false,
         Source::Text(_, parts) | Source::WiderText(_, _, parts) => {
-            parts_name_secret(dictionary, ids, parts.as_slice())
+            parts_take_secret(dictionary, ids, captured, parts.as_slice())
         }
         Source::Instance(_, id) | Source::Tagged(_, id, _, _, _) => is_among(dictionary, ids, *id),
     }
 }
 
-fn is_newly_secret(dictionary: &Dictionary, ids: &[AttrId], line: &Line) -> bool
-    ensures { result ≡ is_newly_secret dictionary.now ids.now line.now }
+fn is_newly_secret(dictionary: &Dictionary, ids: &[AttrId], captured: bool, line: &Line) -> bool
+    ensures { result ≡ is_newly_secret dictionary.now ids.now captured line.now }
 {
-    takes_secret(dictionary, ids, line) && !is_among(dictionary, ids, line.id)
+    source_takes_secret(dictionary, ids, captured, &line.source)
+        && !is_among(dictionary, ids, line.id)
 }
 
 // An attribute that a line gives a secret value, and that is not yet known to be secret.
-fn next_secret(dictionary: &Dictionary, ids: &[AttrId], lines: &[&Line]) -> Option<AttrId>
-    ensures { result ≡ next_secret dictionary.now ids.now (lines_behind lines.now) }
+fn first_secret(
+    dictionary: &Dictionary,
+    ids: &[AttrId],
+    captured: bool,
+    lines: &[&Line],
+) -> Option<AttrId>
+    ensures { result ≡ first_secret dictionary.now ids.now captured (lines_behind lines.now) }
 {
     let mut rest = lines;
     while let [line, others @ ..] = rest {
-        if is_newly_secret(dictionary, ids, line) {
+        if is_newly_secret(dictionary, ids, captured, line) {
             return Some(line.id);
         }
         rest = others;
@@ -152,19 +177,34 @@ fn next_secret(dictionary: &Dictionary, ids: &[AttrId], lines: &[&Line]) -> Opti
     None
 }
 
+// The same, by the attributes that are compared with patterns.
+fn next_secret(
+    dictionary: &Dictionary,
+    matched: &[AttrId],
+    ids: &[AttrId],
+    lines: &[&Line],
+) -> Option<AttrId>
+    ensures { result ≡ next_secret dictionary.now matched.now ids.now (lines_behind lines.now) }
+{
+    let captured = is_any_among(dictionary, ids, matched);
+    first_secret(dictionary, ids, captured, lines)
+}
+
 /// The attributes to which the policy's update lines give values of secret ones, by `&` or in an expansion and however
-/// often in turn, beside those that are secret whatever the policy does ([`is_secret`]).
+/// often in turn, beside those that are secret whatever the policy does ([`is_secret`]). What a comparison with a pattern
+/// captures is a value of each attribute that the policy compares with one.
 #[tactic(auto, using(crate::proofs::SecretAttributes::none_is_closed, crate::proofs::SecretAttributes::still_least, crate::proofs::SecretAttributes::one_fewer))]
 pub fn secret_attributes(
     alloc: Global,
     dictionary: &Dictionary,
     policy: &Policy,
 ) -> Result<Vec<AttrId>, AllocError>
-    ensures { IfOk result (λ ids. AreSecret dictionary.now (lines_of policy.now) ids.items) }
+    ensures { IfOk result (λ ids. AreSecret dictionary.now policy.now ids.items) }
 {
     let lines = lines_of(alloc, policy)?;
+    let matched = matched_of(alloc, policy)?;
     let mut ids = Vec::new(alloc);
-    'found: while let Some(id) = next_secret(dictionary, &ids, &lines) {
+    'found: while let Some(id) = next_secret(dictionary, &matched, &ids, &lines) {
         ids.push(id)?;
     }
     Ok(ids)

@@ -68,6 +68,46 @@ update reply { Reply-Message := \"%{control:Class}\" }";
     Ok(())
 }
 
+// Whether the data of the policy's page has these octets.
+fn shows(alloc: Global, policy: &[u8], octets: &[u8]) -> Result<bool, Fail> {
+    if octets.len() < 1 {
+        return Err(Fail::new("no octets"));
+    }
+    let data = data_of(alloc, policy, SecretValues::Hidden)?;
+    let is_shown = data.windows(octets.len()).any(|own| own == octets);
+    Ok(is_shown)
+}
+
+#[test]
+fn captured_secrets_are_hidden(rt: HostRuntime) -> Result<(), Fail> {
+    let policy = b"# profile: wider
+if (&User-Password =~ /^(.*)$/) { update reply { Reply-Message := \"%{1}\" } }";
+    assert!(&rt; !shows(rt.alloc(), policy, b"hello")?);
+    assert!(&rt; shows(rt.alloc(), policy, b"\"Reply-Message = (hidden)\"")?);
+    assert!(&rt; shows(rt.alloc(), policy, b"Reply-Message := (hidden) } }")?);
+    Ok(())
+}
+
+#[test]
+fn secrets_are_hidden_through_two_captures(rt: HostRuntime) -> Result<(), Fail> {
+    let policy = b"# profile: wider
+if (&User-Password =~ /(.*)o/) { update control { Reply-Message := \"%{1}\" } }
+if (!(&control:Reply-Message !~ /e(.*)/)) { update reply { Acct-Session-Id := \"%{1}\" } }";
+    assert!(&rt; !shows(rt.alloc(), policy, b"\"hell")?);
+    assert!(&rt; !shows(rt.alloc(), policy, b"\"ll")?);
+    assert!(&rt; shows(rt.alloc(), policy, b"\"Acct-Session-Id = (hidden)\"")?);
+    Ok(())
+}
+
+#[test]
+fn other_captures_are_shown(rt: HostRuntime) -> Result<(), Fail> {
+    let policy = b"# profile: wider
+if (&User-Name =~ /^(.)/) { update reply { Reply-Message := \"%{1}!\" } }";
+    assert!(&rt; shows(rt.alloc(), policy, b"\"Reply-Message = \\\"b!\\\"\"")?);
+    assert!(&rt; shows(rt.alloc(), policy, b"Reply-Message := \\\"%{1}!\\\" } }")?);
+    Ok(())
+}
+
 #[test]
 fn lists_at_the_end_are_text(rt: HostRuntime) -> Result<(), Fail> {
     let page = page_by(rt.alloc(), b"noop", &Reply::Unmade, SecretValues::Hidden)?;
