@@ -16,6 +16,7 @@ ADDING = {
     "nested-transactions": {1, 3, 5, 10},
     "walk-over-rollbacks": {1, 5, 8, 11},
     "walk-over-a-condition": {2},
+    "walk-over-captures": {3, 7, 12},
 }
 SCRIPTS = {
     "to the end twice": ["end", *["back"] * 5, "end", *["back"] * 20, *["forward"] * 20],

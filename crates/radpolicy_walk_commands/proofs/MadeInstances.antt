@@ -16,14 +16,16 @@ use Rattle.avp_lists.specs.declared.pairs.Value.{Value}
 use Rattle.avp_lists.specs.declared.tags.Selection.{Selection}
 use Rattle.avp_lists.proofs.Equality.{same_id}
 use Rattle.avp_dict.specs.Dictionary.{Dictionary}
-use Rattle.avp_unlang.specs.Meaning.{Edited, Failed, Outcome, edit_of, line_result, result_from, running}
+use Rattle.avp_unlang.specs.Captures.{Captures, filled, filled_source}
+use Rattle.avp_unlang.specs.Evaluations.{evaluated}
+use Rattle.avp_unlang.specs.Meaning.{Edited, Failed, Outcome, Point, edit_of, going_on, line_result, result_from}
 use Rattle.avp_unlang.specs.Resolutions.{pair_of, paired, resolution, source_value}
 use Rattle.avp_unlang.specs.declared.meaning.reasons.Reason.TheVariants.{Full}
 use Rattle.avp_unlang.specs.declared.tree.Line.{Line}
 use Rattle.avp_unlang.specs.declared.tree.Source.{Source}
 use Rattle.avp_unlang.specs.declared.tree.Source.TheVariants.{Literal}
 use Rattle.avp_unlang.specs.declared.tree.Statement.{Statement}
-use Rattle.avp_step.specs.Trace.{Entry, all_steps, closed, end_of, line_step, line_steps, start, steps, trace_of}
+use Rattle.avp_step.specs.Trace.{Entry, Step, block_steps, closed, end_of, entry_in, first_point, goes_on, line_step, line_steps, start, trace_of}
 use Rattle.avp_step.specs.declared.labels.Label.TheVariants as label
 use Rattle.radpolicy_walk_commands.specs.declared.edited_lines.Effect.{Effect}
 use Rattle.radpolicy_walk_commands.specs.internal.EditedLines.{Agree, IsEffectOf, lines_of, made_by, same_list}
@@ -91,11 +93,16 @@ module _ (d : Dictionary) (list : Name) (id : AttrId) (n : ℕ) (effect : Effect
   same_line : (a b : ℕ) → label.Line a ≡ label.Line b → a ≡ b
   same_line a b e = cc e
 
-  lines_made : (entry : State) (ls : List Line) → Agree list id n effect ls → (o : Outcome) → AreSteps IsMade o (line_steps d entry ls o)
-  lines_made entry [] h o = tt
-  lines_made entry (l ∷ ls) h o =
-      elim (line_result d l o.state) as (λ r. line_result d l o.state ≡ r → AreSteps IsMade o (line_step entry l r o.code (line_steps d entry ls))) [
-        | Edited s ↦ (λ e. ((λ f. line_made l o.state s e (h.0 (same_line l.line n f))), lines_made entry ls h.1 (running s o.code)))
+  -- with what was captured put into its text the line makes the same
+  filled_effect : (k : Captures) (l : Line) → IsEffectOf list id effect l → IsEffectOf list id effect (filled k l)
+  filled_effect k l h = record { edit = h.edit; source = ap (filled_source k) h.source; op = h.op; selection = h.selection }
+
+  lines_made : (entry : State) (ls : List Line) → Agree list id n effect ls → (p : Point) → AreSteps IsMade p (line_steps d entry ls p)
+  lines_made entry [] h p = tt
+  lines_made entry (l ∷ ls) h p =
+      let own = filled p.captures l in
+      elim (line_result d own p.outcome.state) as (λ r. line_result d own p.outcome.state ≡ r → AreSteps IsMade p (line_step entry l r p.outcome.code p.captures (line_steps d entry ls))) [
+        | Edited s ↦ (λ e. ((λ f. line_made own p.outcome.state s e (filled_effect p.captures l (h.0 (same_line l.line n f)))), lines_made entry ls h.1 (going_on s p.outcome.code p.captures)))
         | Failed why ↦ (λ e. ((λ f. absurd (cc f)), tt))
       ] refl
 
@@ -107,18 +114,20 @@ module _ (d : Dictionary) (list : Name) (id : AttrId) (n : ℕ) (effect : Effect
   agree_next [] ys h = h
   agree_next (x ∷ xs) ys h = agree_next xs ys h.1
 
-  closed_made : (k : ℕ) (o r : Outcome) → IsMade r (closed k o.state r)
-  closed_made k o r = elim r.stopped as (λ b. IsMade r (cond b (record { label = label.Rollback k; outcome = running o.state r.code }) (record { label = label.Commit k; outcome = running r.state r.code }))) [ true ↦ (λ f. absurd (cc f)) | false ↦ (λ f. absurd (cc f)) ]
+  closed_made : (k : ℕ) (p r : Point) → IsMade r.outcome (entry_in (closed k p.outcome.state r))
+  closed_made k p r =
+      elim r.outcome.stopped as (λ b. IsMade r.outcome (entry_in (cond b (record { label = label.Rollback k; point = going_on p.outcome.state r.outcome.code r.captures }) (record { label = label.Commit k; point = goes_on r }))))
+      [ true ↦ (λ f. absurd (cc f)) | false ↦ (λ f. absurd (cc f)) ]
 
   all_made : Shows d IsMade (Agree list id n effect)
   all_made = record {
     first = agree_first;
     next = agree_next;
-    lines = λ o ls h. lines_made o.state ls h o;
-    test = λ k b o f. absurd (cc f);
-    enter = λ k o f. absurd (cc f);
-    word = λ k word o f. absurd (cc f);
-    close = λ k o es h. closed_made k o (end_of (running o.state o.code) es);
+    lines = λ p ls h. lines_made p.outcome.state ls h p;
+    test = λ k e p f. absurd (cc f);
+    enter = λ k p f. absurd (cc f);
+    word = λ k word p f. absurd (cc f);
+    close = λ k p ts h. closed_made k p (end_of (goes_on p) ts);
   }
 
   pub instances_made : (ss : List Statement) (s : State) → Agree list id n effect (lines_of ss) → (k : ℕ) → 0 < k → k < length (trace_of d ss s)
@@ -127,10 +136,11 @@ module _ (d : Dictionary) (list : Name) (id : AttrId) (n : ℕ) (effect : Effect
       ≡ made_by id effect (instances id (list_of list (slice_index_or (trace_of d ss s) (k - 1) (start empty_state)).outcome.state))
   instances_made ss s h zero above within = absurd (omega arith)
   instances_made ss s h (suc k) above within =
-      let first = start s in
-      let es = all_steps (map (steps d) ss) first.outcome in
+      let first : Step = record { label = label.Start; point = first_point s } in
+      let ts = block_steps d (evaluated d) ss (first_point s) in
+      let es = map entry_in ts in
       let dark = start empty_state in
       let place : k ≡ suc k - 1 = omega arith in
-      let step = step_at d IsMade (Agree list id n effect) all_made first es (of_all d IsMade (Agree list id n effect) all_made ss h first.outcome) k dark (omega arith) in
+      let step = step_at d IsMade (Agree list id n effect) all_made first ts (of_all d IsMade (Agree list id n effect) all_made ss h (first_point s)) k dark (omega arith) in
       subst (λ (j : ℕ). (slice_index_or es k dark).label ≡ label.Line n
-      → instances id (list_of list (slice_index_or es k dark).outcome.state) ≡ made_by id effect (instances id (list_of list (slice_index_or (first ∷ es) j dark).outcome.state))) place step
+      → instances id (list_of list (slice_index_or es k dark).outcome.state) ≡ made_by id effect (instances id (list_of list (slice_index_or (start s ∷ es) j dark).outcome.state))) place step

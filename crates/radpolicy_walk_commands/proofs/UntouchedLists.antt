@@ -12,13 +12,15 @@ use Rattle.avp_lists.specs.declared.pairs.AttrId.{AttrId}
 use Rattle.avp_lists.specs.declared.pairs.Pair.{Pair}
 use Rattle.avp_lists.specs.declared.pairs.Value.{Value}
 use Rattle.avp_dict.specs.Dictionary.{Dictionary}
-use Rattle.avp_unlang.specs.Meaning.{Edited, Failed, Outcome, edit_of, line_result, result_from, running}
+use Rattle.avp_unlang.specs.Captures.{filled}
+use Rattle.avp_unlang.specs.Evaluations.{evaluated}
+use Rattle.avp_unlang.specs.Meaning.{Edited, Failed, Outcome, Point, edit_of, going_on, line_result, result_from}
 use Rattle.avp_unlang.specs.Resolutions.{pair_of, paired, resolution, source_value}
 use Rattle.avp_unlang.specs.declared.meaning.reasons.Reason.TheVariants.{Full}
 use Rattle.avp_unlang.specs.declared.meaning.resolving.Unresolved.{Unresolved}
 use Rattle.avp_unlang.specs.declared.tree.Line.{Line}
 use Rattle.avp_unlang.specs.declared.tree.Statement.{Statement}
-use Rattle.avp_step.specs.Trace.{Entry, all_steps, closed, end_of, line_step, line_steps, start, steps, trace_of}
+use Rattle.avp_step.specs.Trace.{Entry, Step, block_steps, closed, end_of, entry_in, first_point, goes_on, line_step, line_steps, start, trace_of}
 use Rattle.avp_step.specs.declared.labels.Label.{Label}
 use Rattle.avp_step.specs.declared.labels.Label.TheVariants as label
 use Rattle.radpolicy_walk_commands.specs.Steps.{is_one_of}
@@ -49,9 +51,9 @@ module _ (d : Dictionary) (list : Name) (id : AttrId) (policy : List ℕ) where
   none_may e (label.Commit n) = refl
   none_may e (label.Rollback n) = e
 
-  none_changes : has_any policy ≡ false → (o : Outcome) (es : List Entry) → AreSteps Leaves o es → found o ≡ found (end_of o es)
-  none_changes none o [] h = refl
-  none_changes none o (e ∷ es) h = h.0 (none_may none e.label) ∙ none_changes none e.outcome es h.1
+  none_changes : has_any policy ≡ false → (p : Point) (ts : List Step) → AreSteps Leaves p ts → found p.outcome ≡ found (end_of p ts).outcome
+  none_changes none p [] h = refl
+  none_changes none p (t ∷ ts) h = h.0 (none_may none t.label) ∙ none_changes none t.point ts h.1
 
   -- ---- update lines
 
@@ -87,15 +89,16 @@ module _ (d : Dictionary) (list : Name) (id : AttrId) (policy : List ℕ) where
   not_edited true b h e = absurd (cc (h refl, e))
   not_edited false b h e = refl
 
-  lines_leave : (entry : State) (ls : List Line) → AreCovered (line_numbers list id ls) → (o : Outcome) → (has_any policy ≡ false → found o ≡ instances id (list_of list entry)) → AreSteps Leaves o (line_steps d entry ls o)
-  lines_leave entry [] covered o h = tt
-  lines_leave entry (l ∷ ls) covered o h =
+  lines_leave : (entry : State) (ls : List Line) → AreCovered (line_numbers list id ls) → (p : Point) → (has_any policy ≡ false → found p.outcome ≡ instances id (list_of list entry)) → AreSteps Leaves p (line_steps d entry ls p)
+  lines_leave entry [] covered p h = tt
+  lines_leave entry (l ∷ ls) covered p h =
       let own = line_covered (edits list id l) l.line (line_numbers list id ls) covered in
-      elim (line_result d l o.state) as (λ r. line_result d l o.state ≡ r → AreSteps Leaves o (line_step entry l r o.code (line_steps d entry ls))) [
+      let line = filled p.captures l in
+      elim (line_result d line p.outcome.state) as (λ r. line_result d line p.outcome.state ≡ r → AreSteps Leaves p (line_step entry l r p.outcome.code p.captures (line_steps d entry ls))) [
         | Edited s ↦ (λ e.
-            let leaves : is_one_of policy l.line ≡ false → found o ≡ instances id (list_of list s) =
-            λ none. line_apart l o.state s e (not_edited (edits list id l) (is_one_of policy l.line) own.0 none) in
-            (leaves, lines_leave entry ls own.1 (running s o.code) (λ none. sym (leaves (none_on policy l.line none)) ∙ h none)))
+            let leaves : is_one_of policy l.line ≡ false → found p.outcome ≡ instances id (list_of list s) =
+            λ none. line_apart line p.outcome.state s e (not_edited (edits list id l) (is_one_of policy l.line) own.0 none) in
+            (leaves, lines_leave entry ls own.1 (going_on s p.outcome.code p.captures) (λ none. sym (leaves (none_on policy l.line none)) ∙ h none)))
         | Failed why ↦ (λ e. (h, tt))
       ] refl
 
@@ -117,18 +120,20 @@ module _ (d : Dictionary) (list : Name) (id : AttrId) (policy : List ℕ) where
   abbrev LinesCovered : List Line → Type 0
   LinesCovered lines = AreCovered (line_numbers list id lines)
 
-  closed_leaves : (n : ℕ) (o : Outcome) (r : Outcome) → (has_any policy ≡ false → found r ≡ found o) → Leaves r (closed n o.state r)
-  closed_leaves n o r h = elim r.stopped as (λ b. Leaves r (cond b (record { label = label.Rollback n; outcome = running o.state r.code }) (record { label = label.Commit n; outcome = running r.state r.code }))) [ true ↦ h | false ↦ (λ none. refl) ]
+  closed_leaves : (n : ℕ) (p r : Point) → (has_any policy ≡ false → found r.outcome ≡ found p.outcome) → Leaves r.outcome (entry_in (closed n p.outcome.state r))
+  closed_leaves n p r h =
+      elim r.outcome.stopped as (λ b. Leaves r.outcome (entry_in (cond b (record { label = label.Rollback n; point = going_on p.outcome.state r.outcome.code r.captures }) (record { label = label.Commit n; point = goes_on r }))))
+      [ true ↦ h | false ↦ (λ none. refl) ]
 
   pub all_leave : Shows d Leaves LinesCovered
   all_leave = record {
     first = λ xs ys h. covered_first (line_numbers list id xs) (line_numbers list id ys) (subst AreCovered (numbers_joined xs ys) h);
     next = λ xs ys h. covered_next (line_numbers list id xs) (line_numbers list id ys) (subst AreCovered (numbers_joined xs ys) h);
-    lines = λ o ls h. lines_leave o.state ls h o (λ none. refl);
-    test = λ n b o none. refl;
-    enter = λ n o none. refl;
-    word = λ n word o none. refl;
-    close = λ n o es h. closed_leaves n o (end_of (running o.state o.code) es) (λ none. sym (none_changes none (running o.state o.code) es h));
+    lines = λ p ls h. lines_leave p.outcome.state ls h p (λ none. refl);
+    test = λ n e p none. refl;
+    enter = λ n p none. refl;
+    word = λ n word p none. refl;
+    close = λ n p ts h. closed_leaves n p (end_of (goes_on p) ts) (λ none. sym (none_changes none (goes_on p) ts h));
   }
 
 -- ---- all lines of a policy
@@ -152,13 +157,14 @@ module _ (d : Dictionary) (list : Name) (id : AttrId) (policy : List ℕ) where
 pub others_left : (d : Dictionary) (list : Name) (id : AttrId) (ss : List Statement) (s : State) → Leave list id (trace_of d ss s) (may_change (line_numbers list id (lines_of ss)))
 others_left d list id ss s zero above within = absurd (omega arith)
 others_left d list id ss s (suc k) above within =
-    let first = start s in
-    let es = all_steps (map (steps d) ss) first.outcome in
+    let first : Step = record { label = label.Start; point = first_point s } in
+    let ts = block_steps d (evaluated d) ss (first_point s) in
+    let es = map entry_in ts in
     let numbers = line_numbers list id (lines_of ss) in
     let dark = start empty_state in
     let place : k ≡ suc k - 1 = omega arith in
     let shows = all_leave d list id numbers in
-    let all = of_all d (Leaves d list id numbers) (LinesCovered d list id numbers) shows ss (all_covered d list id numbers numbers (λ n e. e)) first.outcome in
-    let step = step_at d (Leaves d list id numbers) (LinesCovered d list id numbers) shows first es all k dark (omega arith) in
+    let all = of_all d (Leaves d list id numbers) (LinesCovered d list id numbers) shows ss (all_covered d list id numbers numbers (λ n e. e)) (first_point s) in
+    let step = step_at d (Leaves d list id numbers) (LinesCovered d list id numbers) shows first ts all k dark (omega arith) in
     subst (λ (j : ℕ). may_change numbers (slice_index_or es k dark).label ≡ false
-    → instances id (list_of list (slice_index_or (first ∷ es) j dark).outcome.state) ≡ instances id (list_of list (slice_index_or es k dark).outcome.state)) place step
+    → instances id (list_of list (slice_index_or (start s ∷ es) j dark).outcome.state) ≡ instances id (list_of list (slice_index_or es k dark).outcome.state)) place step

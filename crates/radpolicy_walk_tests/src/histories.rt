@@ -91,3 +91,23 @@ reply
     );
     Ok(())
 }
+
+#[test]
+fn captures_are_told(rt: HostRuntime) -> Result<(), Fail> {
+    let policy = b"# profile: wider
+if (&User-Name =~ /^(b)(o)/) { update control { Class := \"%{2}\" } }
+if (\"%{1}\") { update reply { Class := \"%{1}\" } }
+";
+    let wanted = b"[2 of 4] line 2 ok
+control
++ Class = 0x6f
+[4 of 4] line 3 ok
+reply
++ Class = 0x62
+";
+    assert_eq!(&rt;
+        history_of(rt.alloc(), policy)?.as_slice(),
+        wanted.as_slice()
+    );
+    Ok(())
+}
