@@ -20,6 +20,19 @@ SEED = 20_261_127
 REQUESTS = 10
 # Debian's own policies.
 DEBIAN = ("filter_username", "deny_realms")
+# Debian's policies that look at what they capture, and the attribute that each rewrites.
+CAPTURING = {"rewrite_called_station_id": "Called-Station-Id", "rewrite_calling_station_id": "Calling-Station-Id"}
+# What they leave, in the reply.
+SHOWN = """{name}
+update reply {{
+{captures}
+Reply-Message += "now %{{{attribute}}}"
+Reply-Message += "network %{{Called-Station-SSID}}"
+}}
+"""
+SHOWING = "after_"
+HARDWARE = re.compile("[^0-9a-f]?".join(6 * ["([0-9a-f]{2})"]), re.I)
+STUB = re.compile(r"&control:(\S+) for %\{toupper:")
 # As operators write them.
 WRITTEN: Dict[str, str] = {
     "realm_in_any_case": 'if (&User-Name =~ /@example\\.com$/i) {\nupdate reply {\nReply-Message := "of %{User-Name}"\n}\n}\n'
@@ -55,6 +68,13 @@ WRITTEN: Dict[str, str] = {
     'Reply-Message -= "one"\nSession-Timeout = 10\nSession-Timeout = 20\n}\nif (&NAS-Port > 2) {\nupdate reply {\n'
     'Session-Timeout !* ANY\n}\n}\n',
     "fails": 'update reply {\nReply-Message := "before"\n}\nif (&User-Name == "bob") {\nfail\n}\n',
+    "captures": 'if (&User-Name =~ /^([^@]*)(@(.+))?$/m) {\nif ("%{3}" != \'\') {\nupdate reply {\n'
+    'Reply-Message += "realm %{3}"\n}\n}\nif (&Calling-Station-Id =~ /zz/) {\nok\n}\nupdate reply {\n'
+    'Reply-Message += "name %{%{1}:-none}"\n}\n}\n',
+    "captured_by_the_last": 'if ((&Calling-Station-Id =~ /^(..)-(..)/ && &NAS-Port == 1) || &User-Name =~ /^(.)/m) {\nok\n}\n'
+    'update reply {\nReply-Message := "%{0} %{1} %{2}"\n}\nif (!(&User-Name =~ /(b)/) || &Service-Type == Login-User) {\nok\n}\n'
+    'update reply {\nReply-Message += "%{0} %{1} %{2}"\n}\nif (&NAS-Port == 1 || (&User-Name !~ /(.)@/ && &NAS-Port == 2)) {\n'
+    'ok\n}\nupdate reply {\nReply-Message += "%{0} %{1} %{2}"\n}\n',
     "one_in_another": 'deny_realms\nif (&Service-Type == Login-User && &NAS-Port <= 2) {\nservice\n}\n',
 }
 CONFIGURATION = """prefix = /usr
@@ -73,9 +93,11 @@ client here {{
 }}
 modules {{
 	$INCLUDE {installed}/mods-available/always
+	$INCLUDE {installed}/mods-available/expr
 }}
 policy {{
 	$INCLUDE {installed}/policy.d/filter
+	$INCLUDE {installed}/policy.d/canonicalization
 {policies}}}
 {servers}"""
 SITE = """server {name} {{
@@ -98,6 +120,7 @@ NAMES = (
     "heidi@example.com.\\n", "ivan@example.com\\n",
 )
 STATIONS = ("00-11-22-33-44-55", "00:11:22:aa:BB:cc", "001122334455", "none", "00-11-22")
+NETWORKS = ("", ":guests", "-A network", ":")
 REJECTED = re.compile(r"^result (reject|fail)\b", re.M)
 
 
@@ -138,12 +161,24 @@ def requests(name: str) -> List[str]:
             f"Service-Type = {chance.choice(('Framed-User', 'Login-User', 'Outbound-User'))}", "Class = 0x0a0b",
         ]
         lines += [line for line in optional if chance.random() < 0.75]
+        if name.startswith(SHOWING):
+            lines.append(f'Called-Station-Id = "{chance.choice(STATIONS)}{chance.choice(NETWORKS)}"')
         made.append("\n".join(lines) + "\n")
     return made
 
 
+def showing() -> Dict[str, str]:
+    """Policies that put into the reply what others capture and rewrite."""
+    captures = "\n".join(f'Reply-Message += "{group} %{{{group}}}"' for group in range(10))
+    return {
+        SHOWING + name: SHOWN.format(name=name, captures=captures, attribute=attribute)
+        for name, attribute in CAPTURING.items()
+    }
+
+
 def configure(folder: Path, raddb: Path, ports: Dict[str, int]) -> None:
-    policies = "".join(f"{name} {{\n{text}}}\n" for name, text in WRITTEN.items())
+    written = {**WRITTEN, **showing()}
+    policies = "".join(f"{name} {{\n{text}}}\n" for name, text in written.items())
     servers = "".join(SITE.format(name=name, port=port) for name, port in ports.items())
     (folder / "radiusd.conf").write_text(CONFIGURATION.format(
         folder=folder, secret=SECRET, installed=raddb, policies=policies, servers=servers))
@@ -155,10 +190,23 @@ def of_server(port: int, request: str) -> Answer:
     return Answer(said.split(" ")[0], [line for line in lines if not line.startswith("Message-Authenticator")])
 
 
-def of_policy(subject: Subject, folder: Path, name: str, dictionaries: List[str], request: str) -> Answer:
+def with_given(policy: str, stub: str, name: str, request: str) -> str:
+    """The policy, with what the function of a server is given."""
+    if not stub:
+        return policy
+    attribute = CAPTURING[name[len(SHOWING):]]
+    station = re.search(f'^{attribute} = "(.*)"$', request, re.M)
+    found = HARDWARE.search(station[1]) if station else None
+    given = "-".join(found.groups()).upper() if found else ""
+    profile, rest = policy.split("\n", 1)
+    return f'{profile}\nupdate control {{\n{stub} := "{given}"\n}}\n{rest}'
+
+
+def of_policy(subject: Subject, policy: str, dictionaries: List[str], request: str) -> Answer:
     with new_folder() as here:
         (here / "request").write_text(request)
-        words = ["run", "-f", "request", "--policy", folder / f"{name}.policy"]
+        (here / "policy").write_text(policy)
+        words = ["run", "-f", "request", "--policy", "policy"]
         ended = run([subject.program, *words, *dictionaries], here)
     if ended.status:
         return Answer("", [ended.errors.decode()])
@@ -172,15 +220,20 @@ def imported(subject: Subject, folder: Path, dictionaries: Path, name: str) -> T
     """The report of the import of a policy, and the dictionaries that it is read with."""
     others = folder / f"{name}.dictionary"
     words = ["--server", name, "--dictionary", others, "-o", folder / f"{name}.policy"]
+    if name.startswith(SHOWING):
+        words.append("--stub-functions")
     named = dictionary_words(dictionaries)
     ended = run([subject.driver("radpolicy_import"), *words, *named, folder], folder)
     return ended.errors.decode(), [str(others), *(word.split("=", 1)[1] for word in named)]
 
 
-def differences(subject: Subject, folder: Path, dictionaries: List[str], name: str, port: int) -> List[Difference]:
+def differences(
+    subject: Subject, policy: str, stub: str, dictionaries: List[str], name: str, port: int,
+) -> List[Difference]:
     found = []
     for request in requests(name):
-        wanted, made = of_server(port, request), of_policy(subject, folder, name, dictionaries, request)
+        given = with_given(policy, stub, name, request)
+        wanted, made = of_server(port, request), of_policy(subject, given, dictionaries, request)
         if wanted != made:
             found.append(Difference(request, wanted, made))
     return found
@@ -189,7 +242,8 @@ def differences(subject: Subject, folder: Path, dictionaries: List[str], name: s
 def compare(subject: Subject, report: Report, folder: Path, dictionaries: Path, ports: Dict[str, int]) -> None:
     def compared(name: str) -> Tuple[str, List[Difference]]:
         said, named = imported(subject, folder, dictionaries, name)
-        return said, differences(subject, folder, named, name, ports[name])
+        policy, stub = (folder / f"{name}.policy").read_text(), STUB.search(said)
+        return said, differences(subject, policy, stub[1] if stub else "", named, name, ports[name])
 
     for name, (said, found) in zip(ports, on_all(compared, ports)):
         kept = re.match(r"(\d+) of (\d+) statements kept", said)
@@ -206,7 +260,7 @@ def check(subject: Subject, report: Report) -> None:
     if not all(map(shutil.which, (SERVER, CLIENT))) or not os.access(raddb / "policy.d" / "filter", os.R_OK):
         report.say(f"imported policies beside a server: left out, there is no {SERVER}, {CLIENT} or {raddb}")
         return
-    names = [*DEBIAN, *WRITTEN]
+    names = [*DEBIAN, *WRITTEN, *showing()]
     with new_folder() as folder:
         ports = dict(zip(names, free_ports(len(names))))
         configure(folder, raddb, ports)

@@ -1,2 +1,4 @@
 pub mod Cases
+pub mod KeptCaptures
+pub mod Repeated
 pub mod Truths

@@ -1,5 +1,5 @@
 -- What our conditions come to, and a server's.
-use Rattle.std.proofs.Common.{◌≡◌, Bool, true, false, not, ◌&&◌, ◌||◌, ◌++◌, List, [], ◌∷◌, Option, Some, None, IsTrue, refl, sym, ap, ◌∙◌, cond, filter, is_some}
+use Rattle.std.proofs.Common.{◌≡◌, ℕ, Bool, true, false, not, ◌&&◌, ◌||◌, ◌++◌, List, [], ◌∷◌, Option, Some, None, IsTrue, refl, sym, ap, ◌∙◌, cond, filter, is_some}
 use Rattle.std.specs.List.{list_all, list_any}
 use Rattle.std.specs.Option.{option_map, option_map_or}
 use Rattle.avp_lists.specs.Instances.{first_instance, front, has_id, has_instance}
@@ -22,10 +22,10 @@ use Rattle.avp_unlang.specs.declared.codes.Code.{Code}
 use Rattle.avp_unlang.specs.declared.tree.Comparand.TheVariants as comparand
 use Rattle.avp_unlang.specs.declared.tree.Comparison.{Comparison}
 use Rattle.avp_unlang.specs.declared.tree.Cond.{Cond}
-use Rattle.avp_unlang.specs.declared.tree.Cond.TheVariants.{Any, All, Not, Last, Present, PresentSelected, Compare, Match}
+use Rattle.avp_unlang.specs.declared.tree.Cond.TheVariants.{Any, All, Not, Last, Present, PresentSelected, Compare, Match, Captured}
 use Rattle.avp_unlang.specs.declared.tree.Matching.{Matching}
 use Rattle.avp_unlang.specs.declared.tree.Relation.{Relation}
-use Rattle.avp_unlang.proofs.Truths.{given_any, given_all, given_compare, given_last, given_match, given_not, given_present, given_present_selected}
+use Rattle.avp_unlang.proofs.Truths.{given_any, given_all, given_captured, given_compare, given_last, given_match, given_not, given_present, given_present_selected}
 use Rattle.radpolicy_import_conditions.specs.Conditions.{Answer, both, either, compared, comparison_answer, is_true, is_false, matching_answer}
 use Rattle.radpolicy_import_conditions.specs.internal.Guards.{Matches, truth_of}
 
@@ -65,6 +65,10 @@ truth_of_match : (m : Matches) (k : Matching) (s : State) (c : Code) → truth_o
 unfolding truth_of
 truth_of_match m = given_match m.is_met
 
+truth_of_captured : (m : Matches) (group : ℕ) (s : State) (c : Code) → truth_of m (Captured group) s c ≡ false
+unfolding truth_of
+truth_of_captured m = given_captured m.is_met
+
 -- ---- two sets of them
 
 pub never_there : (k : Matching) (s : State) → IsTrue (never_matched k s) → IsTrue (has_selected k.selection k.id (list_of k.list s))
@@ -77,7 +81,7 @@ pub truth_of_none : (cond : Cond) (s : State) (c : Code) → truth cond s c ≡ 
 unfolding truth truth_of
 truth_of_none cond s c = refl
 
-found_selected : (f : Pair → Bool) (pairs : List Pair) → list_any f pairs ≡ is_some (front (filter f pairs))
+pub found_selected : (f : Pair → Bool) (pairs : List Pair) → list_any f pairs ≡ is_some (front (filter f pairs))
 found_selected f [] = refl
 found_selected f (p ∷ ps) =
     elim (f p) as (λ b. (b || list_any f ps) ≡ is_some (front (cond b (p ∷ filter f ps) (filter f ps)))) [
@@ -161,7 +165,7 @@ answer_instance k list id s h =
     ∙ ap (λ b. b && is_some (first_value list id s)) (sym (found_value k.list k.id s))
     ∙ ap (λ b. has_instance k.id (list_of k.list s) && b) (sym (found_value list id s))
 
-related : (k : Kind) (r : Relation) (x y : Option Value) → are_related k r x y ≡ is_true (compared k r x y)
+pub related : (k : Kind) (r : Relation) (x y : Option Value) → are_related k r x y ≡ is_true (compared k r x y)
 related k r None y = refl
 related k r (Some x) None = refl
 related k r (Some x) (Some y) = refl
@@ -373,6 +377,12 @@ compare_copied m k copy s c e = ap (λ x. truth_of m (Compare x) s c) e ∙ trut
 pub not_last : (m : Matches) (word : Code) (s : State) (c : Code) (z : Bool) → z ≡ not (truth_of m (Last word) s c) → z ≡ not (same_code c word)
 not_last m word s c z e = e ∙ ap not (truth_of_last m word s c)
 
+pub captured_false : (m : Matches) (group : ℕ) (s : State) (c : Code) → truth_of m (Captured group) s c ≡ false
+captured_false m group s c = truth_of_captured m group s c
+
+pub not_captured : (m : Matches) (group : ℕ) (s : State) (c : Code) (z : Bool) → z ≡ not (truth_of m (Captured group) s c) → z ≡ true
+not_captured m group s c z e = e ∙ ap not (truth_of_captured m group s c)
+
 pub not_there : (m : Matches) (list : Name) (id : AttrId) (s : State) (c : Code) (z : Bool) → z ≡ not (truth_of m (Present list id) s c)
     → z ≡ not (has_instance id (list_of list s))
 not_there m list id s c z e = e ∙ ap not (truth_there m list id s c)
@@ -387,7 +397,7 @@ false_of_either a b z f n e x y = e ∙ ap (λ k. k && n) x ∙ ap (λ k. is_fal
 
 -- ---- comparisons with patterns
 
-selected_instance : (selection : Selection) (id : AttrId) (pairs : List Pair) → IsTrue (has_selected selection id pairs) → IsTrue (has_instance id pairs)
+pub selected_instance : (selection : Selection) (id : AttrId) (pairs : List Pair) → IsTrue (has_selected selection id pairs) → IsTrue (has_instance id pairs)
 selected_instance selections.All id pairs h = h
 selected_instance (selections.EachTag tagging) id pairs h = h
 selected_instance (selections.Tag tagging n) id [] h = h
@@ -407,16 +417,16 @@ pub some_there : (m : Matches) (list : Name) (id : AttrId) (selection : Selectio
     → truth_of m (PresentSelected list id selection) s c ≡ has_selected selection id (list_of list s)
 some_there m list id selection s c = truth_of_present_selected m list id selection s c ∙ sym (found_selected (is_selected selection id) (list_of list s))
 
-answered : (there met : Bool) → (IsTrue met → IsTrue there) → met ≡ is_true (cond there (Some met) None)
-answered true met f = refl
-answered false true f = sym (f refl)
-answered false false f = refl
+pub is_answered : (there met : Bool) → (IsTrue met → IsTrue there) → met ≡ is_true (cond there (Some met) None)
+is_answered true met f = refl
+is_answered false true f = sym (f refl)
+is_answered false false f = refl
 
 unanswered : (there met : Bool) → (there && not met) ≡ is_false (cond there (Some met) None)
 unanswered true met = refl
 unanswered false met = refl
 
-some_answered : (there met : Bool) → is_some (cond there (Some met) None) ≡ there
+pub some_answered : (there met : Bool) → is_some (cond there (Some met) None) ≡ there
 some_answered true met = refl
 some_answered false met = refl
 
@@ -428,7 +438,7 @@ pub match_copied : (m : Matches) (k copy : Matching) (s : State) (c : Code) → 
     → truth_of m (Match copy) s c ≡ is_true (matching_answer m.is_met k s)
 match_copied m k copy s c e =
     ap (λ x. truth_of m (Match x) s c) e ∙ truth_of_match m k s c
-    ∙ answered (has_selected k.selection k.id (list_of k.list s)) (m.is_met k s) (m.is_there k s)
+    ∙ is_answered (has_selected k.selection k.id (list_of k.list s)) (m.is_met k s) (m.is_there k s)
 
 pub mismatch_of : (m : Matches) (k copy : Matching) (s : State) (c : Code) (z x y : Bool) → copy ≡ k → z ≡ (x && y)
     → x ≡ has_selected k.selection k.id (list_of k.list s) → y ≡ not (truth_of m (Match copy) s c)

@@ -14,7 +14,7 @@ use Rattle.avp_unlang.specs.declared.codes.Code.{Code}
 use Rattle.avp_unlang.specs.declared.tree.Comparison.{Comparison}
 use Rattle.avp_unlang.specs.declared.tree.Matching.{Matching}
 use Rattle.avp_unlang.specs.declared.tree.Relation.{Relation}
-use Rattle.radpolicy_import_conditions.specs.declared.server_conditions.ServerCondition.{ServerCondition, Constant, Last, Present, Compare, Match, Not', And', Or'}
+use Rattle.radpolicy_import_conditions.specs.declared.server_conditions.ServerCondition.{ServerCondition, Constant, Last, Present, Compare, Match, Captured, Not', And', Or'}
 
 -- true or false; nothing where a comparison with an absent attribute is met, which ends the whole condition
 abbrev pub Answer : Type 0
@@ -47,12 +47,14 @@ abbrev pub matching_answer : (Matching → State → Bool) → Matching → Stat
 matching_answer matched m s =
     if has_selected m.selection m.id (list_of m.list s) then Some (matched m s) else None
 
+-- what was captured is not looked at, and counts as empty
 abbrev pub answer_with : (Matching → State → Bool) → ServerCondition → State → Code → Answer
 answer_with matched (Constant value) s c = Some value
 answer_with matched (Last word) s c = Some (same_code c word)
 answer_with matched (Present list id) s c = Some (has_instance id (list_of list s))
 answer_with matched (Compare comparison) s c = comparison_answer comparison s
 answer_with matched (Match matching) s c = matching_answer matched matching s
+answer_with matched (Captured group) s c = Some false
 answer_with matched (Not' p inner) s c = option_map not (answer_with matched inner s c)
 answer_with matched (And' p first q next) s c =
     both (answer_with matched first s c) (answer_with matched next s c)

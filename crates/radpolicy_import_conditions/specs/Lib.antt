@@ -1,3 +1,4 @@
+pub mod Capturing
 pub mod Conditions
 pub mod Switches
 pub mod internal

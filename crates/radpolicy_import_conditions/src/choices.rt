@@ -6,7 +6,7 @@ use crate::expansions::closing_brace;
 use crate::lines::UpdateLine;
 use crate::reasons::{Reason, Refusal};
 use crate::references::{Names, Reference, kind_of};
-use crate::texts::{between, expansion, push_reference};
+use crate::texts::{between, capture_named, expansion, push_captured, push_reference};
 use avp_dict::Kind;
 use avp_lists::AttrId;
 use std::alloc::{AllocError, Global};
@@ -16,6 +16,8 @@ use std::alloc::{AllocError, Global};
 pub struct Alternative {
     /// Empty where no condition is left.
     pub condition: Vec<u8>,
+    /// Whether the condition is one of the wider profile.
+    pub is_wider: bool,
     pub text: Vec<u8>,
     /// The attribute whose text it is, if it is that alone, which is there.
     pub whole: Option<AttrId>,
@@ -109,15 +111,21 @@ pub fn has_choices(text: &[u8]) -> bool {
     !matches!(first_choice(text), Ok(None))
 }
 
+fn push_and(out: &mut Vec<u8>) -> Result<(), AllocError> {
+    if out.is_empty() {
+        Ok(())
+    } else {
+        out.extend_from_slice(b" && ")
+    }
+}
+
 // That the attribute is there, and not empty: only a text is empty to a server.
 fn push_condition(
     out: &mut Vec<u8>,
     names: &Names<'_>,
     reference: &Reference<'_>,
 ) -> Result<(), AllocError> {
-    if !out.is_empty() {
-        out.extend_from_slice(b" && ")?;
-    }
+    push_and(out)?;
     push_reference(out, names.dictionary, reference)?;
     if kind_of(names.dictionary, reference.named) == Kind::Text {
         out.extend_from_slice(b" && ")?;
@@ -127,8 +135,34 @@ fn push_condition(
     Ok(())
 }
 
+// The text with its first part, which is there.
+fn first_text(alloc: Global, choice: Choice<'_>) -> Result<Vec<u8>, AllocError> {
+    let mut text = between(alloc, choice.before, b"%{", choice.first)?;
+    text.push(b'}')?;
+    text.extend_from_slice(choice.after)?;
+    Ok(text)
+}
+
+// The text where what was captured is not empty.
+fn with_capture(
+    alloc: Global,
+    one: &Alternative,
+    choice: Choice<'_>,
+    group: u8,
+) -> Result<Alternative, AllocError> {
+    let mut condition = Vec::from_slice(alloc, &one.condition)?;
+    push_and(&mut condition)?;
+    push_captured(&mut condition, group)?;
+    Ok(Alternative {
+        condition,
+        is_wider: true,
+        text: first_text(alloc, choice)?,
+        whole: None,
+    })
+}
+
 // The text where the attribute is there and not empty.
-fn with_first(
+fn with_attribute(
     alloc: Global,
     names: &Names<'_>,
     one: &Alternative,
@@ -137,15 +171,25 @@ fn with_first(
     let reference = expansion(names, choice.first)?;
     let mut condition = Vec::from_slice(alloc, &one.condition)?;
     push_condition(&mut condition, names, &reference)?;
-    let mut text = between(alloc, choice.before, b"%{", choice.first)?;
-    text.push(b'}')?;
-    text.extend_from_slice(choice.after)?;
     let is_whole = choice.before.is_empty() && choice.after.is_empty();
     Ok(Alternative {
         condition,
-        text,
+        is_wider: one.is_wider,
+        text: first_text(alloc, choice)?,
         whole: is_whole.then_some(reference.named.id),
     })
+}
+
+fn with_first(
+    alloc: Global,
+    names: &Names<'_>,
+    one: &Alternative,
+    choice: Choice<'_>,
+) -> Result<Alternative, Refusal> {
+    match capture_named(choice.first) {
+        Some(group) => Ok(with_capture(alloc, one, choice, group)?),
+        None => with_attribute(alloc, names, one, choice),
+    }
 }
 
 // The text where it is not.
@@ -156,6 +200,7 @@ fn with_other(
 ) -> Result<Alternative, AllocError> {
     Ok(Alternative {
         condition: Vec::from_slice(alloc, &one.condition)?,
+        is_wider: one.is_wider,
         text: between(alloc, choice.before, choice.other, choice.after)?,
         whole: None,
     })
@@ -174,6 +219,7 @@ pub fn alternatives(
     let mut open = vec![in alloc;
         Alternative {
             condition: Vec::new(alloc),
+            is_wider: false,
             text: Vec::from_slice(alloc, text)?,
             whole: None,
         },

@@ -6,7 +6,7 @@ use crate::patterns::{WrittenPattern, flagged, match_sign, pattern_text};
 use crate::reasons::{Reason, Refusal};
 use crate::references::{Names, Reference, has_texts, is_number, kind_of, reference_of};
 use crate::server_conditions::ServerCondition;
-use crate::texts::{sole_expansion, text_octets};
+use crate::texts::{sole_capture, sole_expansion, text_octets};
 use avp_dict::Kind;
 use avp_lists::{Octets, Selection};
 use avp_unlang::{Code, Comparand, Comparison, Matching, Relation};
@@ -41,7 +41,7 @@ pub struct ConditionReader<'a> {
     pub names: Names<'a>,
     /// Whether the last code is known.
     pub knows_code: bool,
-    /// Whether comparisons with regular expressions are taken.
+    /// Whether comparisons with regular expressions are taken, and what they capture.
     pub takes_patterns: bool,
 }
 
@@ -294,6 +294,37 @@ impl<'a> ConditionReader<'a> {
         }
     }
 
+    // The group that an operand is of what was captured, if it is one alone.
+    fn capture(&self, operand: Operand<'_>) -> Result<Option<u8>, Reason> {
+        let group = match operand.quote {
+            Quote::Bare | Quote::Double => sole_capture(operand.octets),
+            Quote::Single | Quote::Back => None,
+        };
+        if group.is_some() && !self.takes_patterns {
+            return Err(Reason::Capture);
+        }
+        Ok(group)
+    }
+
+    // The comparison of what was captured with a text: policies ask whether it is empty.
+    fn capture_compared(
+        &self,
+        group: u8,
+        relation: Relation,
+        operand: Operand<'_>,
+    ) -> Result<ServerCondition, Refusal> {
+        let is_empty = matches!(operand.quote, Quote::Single | Quote::Double)
+            && operand.octets.is_empty();
+        let captured = ServerCondition::Captured(group);
+        match relation {
+            Relation::Differs if is_empty => Ok(captured),
+            Relation::Equal if is_empty => Ok(ServerCondition::Not(Box::new(
+                self.alloc, captured,
+            )?)),
+            _ => Err(Refusal::LeftOut(Reason::Capture)),
+        }
+    }
+
     // The condition that a comparison of two operands is.
     fn compared(
         &self,
@@ -301,6 +332,12 @@ impl<'a> ConditionReader<'a> {
         relation: Relation,
         right: Operand<'_>,
     ) -> Result<ServerCondition, Refusal> {
+        if let Some(group) = self.capture(left)? {
+            return self.capture_compared(group, relation, right);
+        }
+        if let Some(group) = self.capture(right)? {
+            return self.capture_compared(group, turned(relation), left);
+        }
         let own = self.attribute(left, true)?;
         let other = self.attribute(right, false)?;
         match (own, other) {
@@ -380,6 +417,9 @@ impl<'a> ConditionReader<'a> {
             let name = operand.octets.strip_prefix(b"&").unwrap_or(operand.octets);
             let found = reference_of(&self.names, name)?;
             return Ok(ServerCondition::Present(found.list, found.named.id));
+        }
+        if let Some(group) = self.capture(operand)? {
+            return Ok(ServerCondition::Captured(group));
         }
         if let Some(found) = self.attribute(operand, false)? {
             if found.is_asked() {

@@ -4,6 +4,7 @@
 //! branch, and [`ConditionPrinter`] writes it; [`LineReader`] does all of that with a line of an update.
 #![tactic(auto)]
 
+mod capturing;
 mod choices;
 mod condition_texts;
 mod expansions;
@@ -19,6 +20,7 @@ mod server_conditions;
 mod switches;
 mod texts;
 
+pub use capturing::{captures_anew, has_pattern, keeps_captures, uses_captures};
 pub use choices::{Alternative, ChosenLine, alternatives, has_choices};
 pub use condition_texts::{ConditionReader, Operand};
 pub use expansions::{Expansion, expansions_in};

@@ -19,6 +19,8 @@ pub struct UpdateLine {
     pub needs: Option<Vec<u8>>,
     /// Whether it is one of the wider profile.
     pub is_wider: bool,
+    /// Whether something captured is put into it.
+    pub captures: bool,
 }
 
 // A line that needs nothing, of the plain profile.
@@ -27,6 +29,7 @@ fn plain_line(text: Vec<u8>) -> UpdateLine {
         text,
         needs: None,
         is_wider: false,
+        captures: false,
     }
 }
 
@@ -39,6 +42,8 @@ pub struct LineReader<'a> {
     pub own: ServerList,
     /// Whether a line with an absent source is skipped, as a server does.
     pub skips: bool,
+    /// Whether what regular expressions capture is taken.
+    pub takes_captures: bool,
 }
 
 // The operator of an update, as it is written.
@@ -92,34 +97,40 @@ impl<'a> LineReader<'a> {
         }
     }
 
+    // Whether something captured is put into it.
     fn push_text(
         &self,
         out: &mut Vec<u8>,
         target: &Reference<'_>,
         text: &[u8],
-    ) -> Result<(), Refusal> {
-        let expands = push_double(out, &self.names, text)?;
-        if expands && !self.takes_expansions(target) {
+    ) -> Result<bool, Refusal> {
+        let put_in = push_double(out, &self.names, text)?;
+        if put_in.captures && !self.takes_captures {
+            return Err(Refusal::LeftOut(Reason::Capture));
+        }
+        if (put_in.attributes || put_in.captures) && !self.takes_expansions(target) {
             return Err(Refusal::LeftOut(Reason::ExpandedValue));
         }
-        Ok(())
+        Ok(put_in.captures)
     }
 
+    // Whether something captured is put into it.
     fn push_value(
         &self,
         out: &mut Vec<u8>,
         target: &Reference<'_>,
         value: &Text,
-    ) -> Result<(), Refusal> {
+    ) -> Result<bool, Refusal> {
         let octets = value.octets.as_slice();
         match value.quote {
-            Quote::Double => self.push_text(out, target, octets),
-            Quote::Single => Ok(push_octets(out, &single_octets(self.alloc, octets)?)?),
-            Quote::Back => Err(Refusal::LeftOut(Reason::Command)),
-            Quote::Bare if has_expansion(octets) => self.push_text(out, target, octets),
-            Quote::Bare if is_word(octets) => Ok(out.extend_from_slice(octets)?),
-            Quote::Bare => Ok(push_octets(out, octets)?),
+            Quote::Double => return self.push_text(out, target, octets),
+            Quote::Single => push_octets(out, &single_octets(self.alloc, octets)?)?,
+            Quote::Back => return Err(Refusal::LeftOut(Reason::Command)),
+            Quote::Bare if has_expansion(octets) => return self.push_text(out, target, octets),
+            Quote::Bare if is_word(octets) => out.extend_from_slice(octets)?,
+            Quote::Bare => push_octets(out, octets)?,
         }
+        Ok(false)
     }
 
     // `&` and the source's name, which the line needs.
@@ -178,10 +189,16 @@ impl<'a> LineReader<'a> {
                 text,
                 needs,
                 is_wider: false,
+                captures: false,
             });
         }
-        self.push_value(&mut text, &target, value)?;
-        Ok(plain_line(text))
+        let captures = self.push_value(&mut text, &target, value)?;
+        Ok(UpdateLine {
+            text,
+            needs: None,
+            is_wider: captures,
+            captures,
+        })
     }
 
     // The name of a line's attribute, which may have a tag. False where it is of another list and not known.
@@ -247,6 +264,7 @@ impl<'a> LineReader<'a> {
             text,
             needs: None,
             is_wider: true,
+            captures: false,
         }))
     }
 }

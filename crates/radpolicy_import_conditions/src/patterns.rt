@@ -7,7 +7,7 @@ use avp_unlang::Matching;
 use std::alloc::{AllocError, Global};
 use thiserror::Error;
 
-/// How a server takes a part of a regular expression otherwise than policies do.
+/// How a server takes a part of a regular expression, or what it captures, otherwise than policies do.
 #[derive(Clone, Copy, Debug, PartialEq, Eq, Error)]
 pub enum PatternDifference {
     #[error("on a server $ also matches before a line feed at the end")]
@@ -24,6 +24,9 @@ pub enum PatternDifference {
     Possessive,
     #[error("on a server \\v is each line break")]
     LineBreak,
+    /// The policy begins with nothing captured.
+    #[error("on a server %{{0}} to %{{9}} may be of a comparison before, or of one that is left out")]
+    Earlier,
 }
 
 /// A regular expression as it is written between slashes, and its flags.
@@ -121,7 +124,8 @@ pub fn push_matchings<'c>(
         ServerCondition::Constant(_)
         | ServerCondition::Last(_)
         | ServerCondition::Present(..)
-        | ServerCondition::Compare(_) => Ok(()),
+        | ServerCondition::Compare(_)
+        | ServerCondition::Captured(_) => Ok(()),
     }
 }
 

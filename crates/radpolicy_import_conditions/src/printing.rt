@@ -3,6 +3,7 @@
 use crate::patterns::push_pattern;
 use crate::reasons::{Reason, Refusal};
 use crate::references::list_name;
+use crate::texts::push_captured;
 use avp_dict::Dictionary;
 use avp_lists::{AttrId, List, Pair, Selection, Value};
 use avp_unlang::{Code, Comparand, Comparison, Cond, Matching, Relation};
@@ -173,6 +174,7 @@ impl<'a> ConditionPrinter<'a> {
             Cond::Present(list, id) => self.push_attribute(out, *list, *id),
             Cond::Compare(comparison) => self.push_comparison(out, comparison),
             Cond::Match(matching) => self.push_matching(out, matching),
+            Cond::Captured(group) => Ok(push_captured(out, *group)?),
             // Conditions of wider policies, which an import does not write.
             Cond::PresentSelected(..) => Err(Refusal::LeftOut(Reason::Tag)),
             Cond::CompareMeant(_) => Err(Refusal::LeftOut(Reason::OctetsHere)),

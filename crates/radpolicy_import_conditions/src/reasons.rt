@@ -45,6 +45,11 @@ pub enum Reason {
     MatchedValue,
     #[error("a regular expression for a text with an expansion")]
     MatchedText,
+    #[error("what a regular expression captures")]
+    Capture,
+    /// It may be asked twice, and would look at what it captured itself.
+    #[error("a part before another that captures and looks at what was captured")]
+    MixedCaptures,
     #[error("a cast")]
     Cast,
     #[error("a comparison of two texts")]

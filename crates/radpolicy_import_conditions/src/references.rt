@@ -81,18 +81,6 @@ impl<'a> Names<'a> {
     }
 }
 
-pub(crate) fn list_named(word: &[u8]) -> Option<List> {
-    if word.eq_ignore_ascii_case(b"request") {
-        Some(List::Request)
-    } else if word.eq_ignore_ascii_case(b"reply") {
-        Some(List::Reply)
-    } else if word.eq_ignore_ascii_case(b"control") || word.eq_ignore_ascii_case(b"config") {
-        Some(List::Control)
-    } else {
-        None
-    }
-}
-
 pub fn list_name(list: List) -> &'static [u8] {
     match list {
         List::Request => b"request",

@@ -6,10 +6,15 @@ ghost use Rattle.avp_lists.specs.Instances.{has_instance};
 ghost use Rattle.avp_lists.specs.Selections.{has_selected};
 ghost use Rattle.avp_lists.specs.States.{list_of};
 ghost use Rattle.avp_lists.specs.declared.lists.State.{State};
+ghost use Rattle.avp_unlang.specs.Captures.{Captures};
+ghost use Rattle.avp_unlang.specs.Evaluations.{evaluated};
 ghost use Rattle.avp_unlang.specs.Truth.{same_code, truth, truth_by};
 ghost use Rattle.avp_unlang.specs.declared.codes.Code.{Code as TheCode};
+ghost use Rattle.avp_unlang.specs.declared.tree.Cond.TheVariants as conds;
+ghost use Rattle.radpolicy_import_conditions.specs.Capturing.{keeps_captures, server_evaluated};
 ghost use Rattle.radpolicy_import_conditions.specs.Conditions.{Answer, both, comparison_answer, either, is_false, is_true, matching_answer, server_truth, server_truth_by};
 ghost use Rattle.radpolicy_import_conditions.specs.internal.Guards.{Matches, answer_of, truth_if, truth_of};
+ghost use Rattle.radpolicy_import_conditions.specs.internal.Rewriting as ours;
 
 use crate::server_conditions::ServerCondition;
 use avp_lists::{AttrId, List, Selection};
@@ -18,8 +23,9 @@ use std::alloc::{AllocError, Global};
 
 #[tactic(auto, using(crate::proofs::Truths::all_pushed))]
 fn both(alloc: Global, first: Cond, next: Cond) -> Result<Cond, AllocError>
-    ensures { IfOk result (λ cond. (m : Matches) (s : State) (c : TheCode) → truth_of m cond s c
+    ensures truth { IfOk result (λ cond. (m : Matches) (s : State) (c : TheCode) → truth_of m cond s c
         ≡ (truth_of m first s c && truth_of m next s c)) }
+    ensures made { IfOk result (λ cond. cond ≡ ours.both first next) }
 {
     let mut conds = Vec::new(alloc);
     conds.push(first)?;
@@ -29,8 +35,9 @@ fn both(alloc: Global, first: Cond, next: Cond) -> Result<Cond, AllocError>
 
 #[tactic(auto, using(crate::proofs::Truths::any_pushed))]
 fn either(alloc: Global, first: Cond, next: Cond) -> Result<Cond, AllocError>
-    ensures { IfOk result (λ cond. (m : Matches) (s : State) (c : TheCode) → truth_of m cond s c
+    ensures truth { IfOk result (λ cond. (m : Matches) (s : State) (c : TheCode) → truth_of m cond s c
         ≡ (truth_of m first s c || truth_of m next s c)) }
+    ensures made { IfOk result (λ cond. cond ≡ ours.either first next) }
 {
     let mut conds = Vec::new(alloc);
     conds.push(first)?;
@@ -40,8 +47,9 @@ fn either(alloc: Global, first: Cond, next: Cond) -> Result<Cond, AllocError>
 
 #[tactic(auto, using(crate::proofs::Truths::negated_made))]
 fn negated(alloc: Global, cond: Cond) -> Result<Cond, AllocError>
-    ensures { IfOk result (λ made. (m : Matches) (s : State) (c : TheCode) → truth_of m made s c
+    ensures truth { IfOk result (λ made. (m : Matches) (s : State) (c : TheCode) → truth_of m made s c
         ≡ not (truth_of m cond s c)) }
+    ensures made { IfOk result (λ made. made ≡ conds.Not cond) }
 {
     Ok(Cond::Not(Boxed::new(alloc, cond)?))
 }
@@ -49,8 +57,9 @@ fn negated(alloc: Global, cond: Cond) -> Result<Cond, AllocError>
 // Our conditions have no constants: a code is the last one, or it is not.
 #[tactic(auto, using(crate::proofs::Truths::or_negated))]
 fn always(alloc: Global) -> Result<Cond, AllocError>
-    ensures { IfOk result (λ cond. (m : Matches) (s : State) (c : TheCode)
+    ensures truth { IfOk result (λ cond. (m : Matches) (s : State) (c : TheCode)
         → truth_of m cond s c ≡ true) }
+    ensures made { IfOk result (λ cond. cond ≡ ours.always) }
 {
     let is_other = negated(alloc, Cond::Last(Code::Ok))?;
     let made = either(alloc, Cond::Last(Code::Ok), is_other)?;
@@ -59,8 +68,9 @@ fn always(alloc: Global) -> Result<Cond, AllocError>
 
 #[tactic(auto, using(crate::proofs::Truths::and_negated))]
 fn never(alloc: Global) -> Result<Cond, AllocError>
-    ensures { IfOk result (λ cond. (m : Matches) (s : State) (c : TheCode)
+    ensures truth { IfOk result (λ cond. (m : Matches) (s : State) (c : TheCode)
         → truth_of m cond s c ≡ false) }
+    ensures made { IfOk result (λ cond. cond ≡ ours.never) }
 {
     let is_other = negated(alloc, Cond::Last(Code::Ok))?;
     let made = both(alloc, Cond::Last(Code::Ok), is_other)?;
@@ -107,8 +117,9 @@ fn copy_matching(alloc: Global, matching: &Matching) -> Result<Matching, AllocEr
 // Whether the attribute is there that is compared with a pattern.
 #[tactic(auto, using(crate::proofs::Truths::all_there, crate::proofs::Truths::some_there))]
 fn is_there(matching: &Matching) -> Cond
-    ensures { (m : Matches) (s : State) (c : TheCode) → truth_of m result s c
+    ensures truth { (m : Matches) (s : State) (c : TheCode) → truth_of m result s c
         ≡ has_selected matching.now.selection matching.now.id (list_of matching.now.list s) }
+    ensures made { result ≡ ours.is_there matching.now }
 {
     match matching.selection {
         Selection::All => Cond::Present(matching.list, matching.id),
@@ -119,8 +130,9 @@ fn is_there(matching: &Matching) -> Cond
 // Where a comparison with a pattern is false, and not without an answer.
 #[tactic(auto, using(crate::proofs::Truths::mismatch_of))]
 fn mismatches(alloc: Global, matching: &Matching) -> Result<Cond, AllocError>
-    ensures { IfOk result (λ cond. (m : Matches) (s : State) (c : TheCode) → truth_of m cond s c
+    ensures truth { IfOk result (λ cond. (m : Matches) (s : State) (c : TheCode) → truth_of m cond s c
         ≡ is_false (matching_answer m.is_met matching.now s)) }
+    ensures made { IfOk result (λ cond. cond ≡ ours.mismatches matching.now) }
 {
     let is_unmet = negated(alloc, Cond::Match(copy_matching(alloc, matching)?))?;
     let made = both(alloc, is_there(matching), is_unmet)?;
@@ -130,8 +142,9 @@ fn mismatches(alloc: Global, matching: &Matching) -> Result<Cond, AllocError>
 // Whether both sides of a comparison are there.
 #[tactic(auto, using(crate::proofs::Truths::sides_literal, crate::proofs::Truths::sides_instance))]
 fn both_sides(alloc: Global, comparison: &Comparison) -> Result<Cond, AllocError>
-    ensures { IfOk result (λ cond. (m : Matches) (s : State) (c : TheCode) → truth_of m cond s c
+    ensures truth { IfOk result (λ cond. (m : Matches) (s : State) (c : TheCode) → truth_of m cond s c
         ≡ is_some (comparison_answer comparison.now s)) }
+    ensures made { IfOk result (λ cond. cond ≡ ours.both_sides comparison.now) }
 {
     let present = Cond::Present(comparison.list, comparison.id);
     match comparison.comparand {
@@ -146,8 +159,9 @@ fn both_sides(alloc: Global, comparison: &Comparison) -> Result<Cond, AllocError
 // Where a comparison is not true.
 #[tactic(auto, using(crate::proofs::Truths::unmet_copy))]
 fn unmet(alloc: Global, comparison: &Comparison) -> Result<Cond, AllocError>
-    ensures { IfOk result (λ cond. (m : Matches) (s : State) (c : TheCode) → truth_of m cond s c
+    ensures truth { IfOk result (λ cond. (m : Matches) (s : State) (c : TheCode) → truth_of m cond s c
         ≡ not (is_true (comparison_answer comparison.now s))) }
+    ensures made { IfOk result (λ cond. cond ≡ conds.Not (conds.Compare comparison.now)) }
 {
     let compared = Cond::Compare(copy_comparison(alloc, comparison)?);
     let made = negated(alloc, compared)?;
@@ -157,8 +171,9 @@ fn unmet(alloc: Global, comparison: &Comparison) -> Result<Cond, AllocError>
 // Where a comparison is false, and not without an answer.
 #[tactic(auto, using(crate::proofs::Truths::differs_of))]
 fn differs(alloc: Global, comparison: &Comparison) -> Result<Cond, AllocError>
-    ensures { IfOk result (λ cond. (m : Matches) (s : State) (c : TheCode) → truth_of m cond s c
+    ensures truth { IfOk result (λ cond. (m : Matches) (s : State) (c : TheCode) → truth_of m cond s c
         ≡ is_false (comparison_answer comparison.now s)) }
+    ensures made { IfOk result (λ cond. cond ≡ ours.differs comparison.now) }
 {
     let are_there = both_sides(alloc, comparison)?;
     let is_unmet = unmet(alloc, comparison)?;
@@ -169,8 +184,9 @@ fn differs(alloc: Global, comparison: &Comparison) -> Result<Cond, AllocError>
 // Where another code is the last one.
 #[tactic(auto, using(crate::proofs::Truths::not_last))]
 fn is_other_code(alloc: Global, word: Code) -> Result<Cond, AllocError>
-    ensures { IfOk result (λ cond. (m : Matches) (s : State) (c : TheCode) → truth_of m cond s c
+    ensures truth { IfOk result (λ cond. (m : Matches) (s : State) (c : TheCode) → truth_of m cond s c
         ≡ not (same_code c word)) }
+    ensures made { IfOk result (λ cond. cond ≡ conds.Not (conds.Last word)) }
 {
     let made = negated(alloc, Cond::Last(word))?;
     Ok(made)
@@ -178,13 +194,15 @@ fn is_other_code(alloc: Global, word: Code) -> Result<Cond, AllocError>
 
 // Whether a condition has an answer in all lists.
 fn is_certain(condition: &ServerCondition) -> bool
-    ensures { IsTrue result → (m : Matches) (s : State) (c : TheCode)
+    ensures truth { IsTrue result → (m : Matches) (s : State) (c : TheCode)
         → is_some (answer_of m condition.now s c) ≡ true }
+    ensures made { result ≡ ours.is_certain condition.now }
 {
     match condition {
-        ServerCondition::Constant(_) | ServerCondition::Last(_) | ServerCondition::Present(..) => {
-            true
-        }
+        ServerCondition::Constant(_)
+        | ServerCondition::Last(_)
+        | ServerCondition::Present(..)
+        | ServerCondition::Captured(_) => true,
         ServerCondition::Compare(_) | ServerCondition::Match(_) => false,
         ServerCondition::Not(inner) => is_certain(inner),
         ServerCondition::And(first, next) | ServerCondition::Or(first, next) => {
@@ -196,9 +214,10 @@ fn is_certain(condition: &ServerCondition) -> bool
 // Whether an attribute has an instance wherever a condition is true.
 #[tactic(auto, using(crate::proofs::Truths::moved_present, crate::proofs::Truths::from_first, crate::proofs::Truths::from_next, crate::proofs::Truths::from_either))]
 fn implies_present(condition: &ServerCondition, list: List, id: AttrId) -> bool
-    ensures { IsTrue result → (m : Matches) (s : State) (c : TheCode)
+    ensures truth { IsTrue result → (m : Matches) (s : State) (c : TheCode)
         → IsTrue (is_true (answer_of m condition.now s c))
         → IsTrue (has_instance id (list_of list s)) }
+    ensures made { result ≡ ours.implies_present condition.now list id }
 {
     match condition {
         ServerCondition::Present(other, other_id) => is_same(*other, *other_id, list, id),
@@ -215,7 +234,8 @@ fn implies_present(condition: &ServerCondition, list: List, id: AttrId) -> bool
 }
 
 fn is_same_list(list: List, other: List) -> bool
-    ensures { IsTrue result → list ≡ other }
+    ensures truth { IsTrue result → list ≡ other }
+    ensures made { result ≡ ours.is_same_list list other }
 {
     matches!(
         (list, other),
@@ -227,6 +247,7 @@ fn is_same_list(list: List, other: List) -> bool
 fn is_same(list: List, id: AttrId, other: List, other_id: AttrId) -> bool
     ensures list { IsTrue result → list ≡ other }
     ensures id { IsTrue result → id ≡ other_id }
+    ensures made { result ≡ ours.is_same list id other other_id }
 {
     is_same_list(list, other) && id.equals(other_id)
 }
@@ -234,8 +255,9 @@ fn is_same(list: List, id: AttrId, other: List, other_id: AttrId) -> bool
 // Whether what a comparison compares is the attribute.
 #[tactic(auto, using(crate::proofs::Truths::left_present))]
 fn is_left(comparison: &Comparison, list: List, id: AttrId) -> bool
-    ensures { IsTrue result → (s : State) → IsTrue (is_true (comparison_answer comparison.now s))
+    ensures truth { IsTrue result → (s : State) → IsTrue (is_true (comparison_answer comparison.now s))
         → IsTrue (has_instance id (list_of list s)) }
+    ensures made { result ≡ ours.is_same comparison.now.list comparison.now.id list id }
 {
     is_same(comparison.list, comparison.id, list, id)
 }
@@ -243,8 +265,9 @@ fn is_left(comparison: &Comparison, list: List, id: AttrId) -> bool
 // Whether what a comparison compares with is the attribute.
 #[tactic(auto, using(crate::proofs::Truths::right_present))]
 fn is_right(comparison: &Comparison, list: List, id: AttrId) -> bool
-    ensures { IsTrue result → (s : State) → IsTrue (is_true (comparison_answer comparison.now s))
+    ensures truth { IsTrue result → (s : State) → IsTrue (is_true (comparison_answer comparison.now s))
         → IsTrue (has_instance id (list_of list s)) }
+    ensures made { result ≡ ours.is_right comparison.now.comparand list id }
 {
     match comparison.comparand {
         Comparand::Literal(_) => false,
@@ -254,8 +277,9 @@ fn is_right(comparison: &Comparison, list: List, id: AttrId) -> bool
 
 // Whether one side of a comparison is the attribute.
 fn names(comparison: &Comparison, list: List, id: AttrId) -> bool
-    ensures { IsTrue result → (s : State) → IsTrue (is_true (comparison_answer comparison.now s))
+    ensures truth { IsTrue result → (s : State) → IsTrue (is_true (comparison_answer comparison.now s))
         → IsTrue (has_instance id (list_of list s)) }
+    ensures made { result ≡ ours.names comparison.now list id }
 {
     is_left(comparison, list, id) || is_right(comparison, list, id)
 }
@@ -263,21 +287,37 @@ fn names(comparison: &Comparison, list: List, id: AttrId) -> bool
 // Whether what is compared with a pattern is the attribute.
 #[tactic(auto, using(crate::proofs::Truths::matched_present))]
 fn is_matched(matching: &Matching, list: List, id: AttrId) -> bool
-    ensures { IsTrue result → (m : Matches) (s : State)
+    ensures truth { IsTrue result → (m : Matches) (s : State)
         → IsTrue (is_true (matching_answer m.is_met matching.now s))
         → IsTrue (has_instance id (list_of list s)) }
+    ensures made { result ≡ ours.is_same matching.now.list matching.now.id list id }
 {
     is_same(matching.list, matching.id, list, id)
+}
+
+// Whether a condition captures nothing where an attribute is absent.
+fn captures_with(condition: &ServerCondition, list: List, id: AttrId) -> bool
+    ensures { result ≡ ours.captures_with condition.now list id }
+{
+    match condition {
+        ServerCondition::Match(matching) => is_same(matching.list, matching.id, list, id),
+        ServerCondition::Not(inner) => captures_with(inner, list, id),
+        ServerCondition::And(first, next) | ServerCondition::Or(first, next) => {
+            captures_with(first, list, id) && captures_with(next, list, id)
+        }
+        _ => true,
+    }
 }
 
 // That an attribute has an instance, unless a condition implies it.
 #[tactic(auto, using(crate::proofs::Truths::implied_same, crate::proofs::Truths::present_same))]
 fn present_before(list: List, id: AttrId, next: &ServerCondition) -> Option<Cond>
-    ensures { (m : Matches) (s : State) (c : TheCode)
+    ensures truth { (m : Matches) (s : State) (c : TheCode)
         → (truth_if m result s c && is_true (answer_of m next.now s c))
         ≡ (has_instance id (list_of list s) && is_true (answer_of m next.now s c)) }
+    ensures made { result ≡ ours.present_before list id next.now }
 {
-    if implies_present(next, list, id) {
+    if implies_present(next, list, id) && captures_with(next, list, id) {
         None
     } else {
         Some(Cond::Present(list, id))
@@ -291,9 +331,10 @@ fn sides_before(
     comparison: &Comparison,
     next: &ServerCondition,
 ) -> Result<Option<Cond>, AllocError>
-    ensures { IfOk result (λ made. (m : Matches) (s : State) (c : TheCode)
+    ensures truth { IfOk result (λ made. (m : Matches) (s : State) (c : TheCode)
         → (truth_if m made s c && is_true (answer_of m next.now s c))
         ≡ (is_some (comparison_answer comparison.now s) && is_true (answer_of m next.now s c))) }
+    ensures made { IfOk result (λ made. made ≡ ours.sides_before comparison.now next.now) }
 {
     match comparison.comparand {
         Comparand::Literal(_) => Ok(present_before(comparison.list, comparison.id, next)),
@@ -307,10 +348,11 @@ fn sides_before(
 // That what is compared with a pattern is there, unless a condition implies it.
 #[tactic(auto, using(crate::proofs::Truths::matched_before, crate::proofs::Truths::matched_here))]
 fn there_before(matching: &Matching, next: &ServerCondition) -> Option<Cond>
-    ensures { (m : Matches) (s : State) (c : TheCode)
+    ensures truth { (m : Matches) (s : State) (c : TheCode)
         → (truth_if m result s c && is_true (answer_of m next.now s c))
         ≡ (is_some (matching_answer m.is_met matching.now s)
         && is_true (answer_of m next.now s c)) }
+    ensures made { result ≡ ours.there_before matching.now next.now }
 {
     match matching.selection {
         Selection::All => present_before(matching.list, matching.id, next),
@@ -328,10 +370,11 @@ fn guard_of(
 ) -> Result<Option<Cond>, AllocError>
     requires { (m : Matches) (s : State) (c : TheCode) → truth_of m fails_first s c
         ≡ is_false (answer_of m first.now s c) }
-    ensures { IfOk result (λ guard. (m : Matches) (s : State) (c : TheCode)
+    ensures truth { IfOk result (λ guard. (m : Matches) (s : State) (c : TheCode)
         → (is_true (answer_of m first.now s c)
         || (truth_if m guard s c && is_true (answer_of m next.now s c)))
         ≡ is_true (either (answer_of m first.now s c) (answer_of m next.now s c))) }
+    ensures made { IfOk result (λ guard. guard ≡ ours.guard_of first.now fails_first next.now) }
 {
     if is_certain(first) {
         return Ok(None);
@@ -353,8 +396,9 @@ fn either_guarded(
     guard: Option<Cond>,
     next: Cond,
 ) -> Result<Cond, AllocError>
-    ensures { IfOk result (λ cond. (m : Matches) (s : State) (c : TheCode) → truth_of m cond s c
+    ensures truth { IfOk result (λ cond. (m : Matches) (s : State) (c : TheCode) → truth_of m cond s c
         ≡ (truth_of m first s c || (truth_if m guard s c && truth_of m next s c))) }
+    ensures made { IfOk result (λ cond. cond ≡ ours.either_guarded first guard next) }
 {
     match guard {
         Some(guard) => {
@@ -379,8 +423,9 @@ fn neither(
         ≡ is_false (answer_of m first.now s c) }
     requires next { (m : Matches) (s : State) (c : TheCode) → truth_of m fails_next s c
         ≡ is_false (answer_of m next.now s c) }
-    ensures { IfOk result (λ cond. (m : Matches) (s : State) (c : TheCode) → truth_of m cond s c
+    ensures truth { IfOk result (λ cond. (m : Matches) (s : State) (c : TheCode) → truth_of m cond s c
         ≡ is_false (either (answer_of m first.now s c) (answer_of m next.now s c))) }
+    ensures made { IfOk result (λ cond. cond ≡ ours.both fails_first fails_next) }
 {
     let made = both(alloc, fails_first, fails_next)?;
     Ok(made)
@@ -391,9 +436,10 @@ fn neither(
 fn guard_of_and(first: &ServerCondition, holds_first: Cond) -> Option<Cond>
     requires { (m : Matches) (s : State) (c : TheCode) → truth_of m holds_first s c
         ≡ is_true (answer_of m first.now s c) }
-    ensures { (m : Matches) (s : State) (c : TheCode) (next : Answer)
+    ensures truth { (m : Matches) (s : State) (c : TheCode) (next : Answer)
         → (is_false (answer_of m first.now s c) || (truth_if m result s c && is_false next))
         ≡ is_false (both (answer_of m first.now s c) next) }
+    ensures made { result ≡ ours.guard_of_and first.now holds_first }
 {
     if is_certain(first) {
         None
@@ -404,10 +450,11 @@ fn guard_of_and(first: &ServerCondition, holds_first: Cond) -> Option<Cond>
 
 // Our condition that is true where the server's has the answer true.
 #[cycle(rewriting)]
-#[tactic(auto, using(crate::proofs::Truths::last_word, crate::proofs::Truths::truth_there, crate::proofs::Truths::compare_copied, crate::proofs::Truths::match_copied))]
+#[tactic(auto, using(crate::proofs::Truths::last_word, crate::proofs::Truths::truth_there, crate::proofs::Truths::compare_copied, crate::proofs::Truths::match_copied, crate::proofs::Truths::captured_false))]
 fn where_true(alloc: Global, condition: &ServerCondition) -> Result<Cond, AllocError>
-    ensures { IfOk result (λ cond. (m : Matches) (s : State) (c : TheCode) → truth_of m cond s c
+    ensures truth { IfOk result (λ cond. (m : Matches) (s : State) (c : TheCode) → truth_of m cond s c
         ≡ is_true (answer_of m condition.now s c)) }
+    ensures made { IfOk result (λ cond. cond ≡ ours.rewritten_as condition.now true) }
 {
     match condition {
         ServerCondition::Constant(true) => always(alloc),
@@ -418,6 +465,7 @@ fn where_true(alloc: Global, condition: &ServerCondition) -> Result<Cond, AllocE
             Ok(Cond::Compare(copy_comparison(alloc, comparison)?))
         }
         ServerCondition::Match(matching) => Ok(Cond::Match(copy_matching(alloc, matching)?)),
+        ServerCondition::Captured(group) => Ok(Cond::Captured(*group)),
         ServerCondition::Not(inner) => where_false(alloc, inner),
         ServerCondition::And(first, next) => {
             let holds_first = where_true(alloc, first)?;
@@ -436,10 +484,11 @@ fn where_true(alloc: Global, condition: &ServerCondition) -> Result<Cond, AllocE
 
 // Our condition that is true where the server's has the answer false.
 #[cycle(rewriting)]
-#[tactic(auto, using(crate::proofs::Truths::not_there, crate::proofs::Truths::false_of_both))]
+#[tactic(auto, using(crate::proofs::Truths::not_there, crate::proofs::Truths::false_of_both, crate::proofs::Truths::not_captured))]
 fn where_false(alloc: Global, condition: &ServerCondition) -> Result<Cond, AllocError>
-    ensures { IfOk result (λ cond. (m : Matches) (s : State) (c : TheCode) → truth_of m cond s c
+    ensures truth { IfOk result (λ cond. (m : Matches) (s : State) (c : TheCode) → truth_of m cond s c
         ≡ is_false (answer_of m condition.now s c)) }
+    ensures made { IfOk result (λ cond. cond ≡ ours.rewritten_as condition.now false) }
 {
     match condition {
         ServerCondition::Constant(true) => never(alloc),
@@ -451,6 +500,10 @@ fn where_false(alloc: Global, condition: &ServerCondition) -> Result<Cond, Alloc
         }
         ServerCondition::Compare(comparison) => differs(alloc, comparison),
         ServerCondition::Match(matching) => mismatches(alloc, matching),
+        ServerCondition::Captured(group) => {
+            let made = negated(alloc, Cond::Captured(*group))?;
+            Ok(made)
+        }
         ServerCondition::Not(inner) => where_true(alloc, inner),
         ServerCondition::And(first, next) => {
             let fails_first = where_false(alloc, first)?;
@@ -477,6 +530,10 @@ pub fn rewritten(alloc: Global, condition: &ServerCondition) -> Result<Cond, All
     // Any, by whichever dictionary values are printed.
     ensures by { IfOk result (λ cond. (d : Dictionary) (s : State) (c : TheCode)
         → truth_by d cond s c ≡ server_truth_by d condition.now s c) }
+    // One that is evaluated as the server's: the same is captured.
+    ensures captures { IfOk result (λ cond. IsTrue (keeps_captures condition.now)
+        → (d : Dictionary) (s : State) (c : TheCode) (captures : Captures)
+        → evaluated d cond s c captures ≡ server_evaluated d condition.now s c captures) }
 {
     where_true(alloc, condition)
 }

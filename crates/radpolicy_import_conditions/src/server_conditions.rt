@@ -16,6 +16,8 @@ pub enum ServerCondition {
     Compare(Comparison),
     /// A comparison with a regular expression.
     Match(Matching),
+    /// Whether the group that a regular expression captured last, as `%{8}`, is not empty.
+    Captured(u8),
     Not(Box<ServerCondition>),
     And(Box<ServerCondition>, Box<ServerCondition>),
     Or(Box<ServerCondition>, Box<ServerCondition>),

@@ -14,6 +14,15 @@ use std::alloc::{AllocError, Global};
 enum Part<'a> {
     Octet(u8),
     Expansion(Reference<'a>),
+    // What a regular expression captured, as `%{1}`.
+    Capture(u8),
+}
+
+/// What is put into a text.
+#[derive(Clone, Copy)]
+pub(crate) struct PutIn {
+    pub(crate) attributes: bool,
+    pub(crate) captures: bool,
 }
 
 // What follows a `\`. One that escapes nothing stays.
@@ -44,7 +53,10 @@ fn expanded<'a>(names: &Names<'_>, text: &'a [u8]) -> Result<(Part<'a>, &'a [u8]
             };
             let (word, after) = rest.split_at(end);
             let after = after.strip_prefix(b"}").unwrap_or(after);
-            Ok((Part::Expansion(expansion(names, word)?), after))
+            match capture_named(word) {
+                Some(group) => Ok((Part::Capture(group), after)),
+                None => Ok((Part::Expansion(expansion(names, word)?), after)),
+            }
         }
         [letter, ..] if letter.is_ascii_alphabetic() => Err(Reason::Expansion),
         _ => Ok((Part::Octet(b'%'), text)),
@@ -133,29 +145,47 @@ pub(crate) fn push_octets(out: &mut Vec<u8>, octets: &[u8]) -> Result<(), AllocE
     Ok(out.push(b'"')?)
 }
 
-/// A source of an update between double quotes, of what a server reads between them; and whether it has an expansion.
+/// What a regular expression captured, between double quotes.
+pub(crate) fn push_captured(out: &mut Vec<u8>, group: u8) -> Result<(), AllocError> {
+    out.push(b'"')?;
+    push_capture(out, group)?;
+    Ok(out.push(b'"')?)
+}
+
+fn push_capture(out: &mut Vec<u8>, group: u8) -> Result<(), AllocError> {
+    out.extend_from_slice(&[b'%', b'{', b'0' + group % 10, b'}'])
+}
+
+/// A source of an update between double quotes, of what a server reads between them; and what is put into it.
 pub(crate) fn push_double(
     out: &mut Vec<u8>,
     names: &Names<'_>,
     text: &[u8],
-) -> Result<bool, Refusal> {
-    let mut expands = false;
+) -> Result<PutIn, Refusal> {
+    let (mut attributes, mut captures) = (false, false);
     let mut rest = text;
     out.push(b'"')?;
     while let Some((part, after)) = next_part(names, rest)? {
         match part {
             Part::Octet(octet) => push_octet(out, octet)?,
             Part::Expansion(reference) => {
-                expands = true;
+                attributes = true;
                 out.extend_from_slice(b"%{")?;
                 push_name(out, names.dictionary, &reference)?;
                 out.push(b'}')?;
+            }
+            Part::Capture(group) => {
+                captures = true;
+                push_capture(out, group)?;
             }
         }
         rest = after;
     }
     out.push(b'"')?;
-    Ok(expands)
+    Ok(PutIn {
+        attributes,
+        captures,
+    })
 }
 
 // The octets of a text between double quotes without expansions.
@@ -166,6 +196,7 @@ fn double_octets(alloc: Global, names: &Names<'_>, text: &[u8]) -> Result<Vec<u8
         match part {
             Part::Octet(octet) => octets.push(octet)?,
             Part::Expansion(_) => return Err(Refusal::LeftOut(Reason::Expansion)),
+            Part::Capture(_) => return Err(Refusal::LeftOut(Reason::Capture)),
         }
         rest = after;
     }
@@ -219,6 +250,19 @@ pub(crate) fn sole_expansion<'a>(names: &Names<'_>, text: &'a [u8]) -> Option<Re
         Ok(found) => Some(found),
         Err(_) => None,
     }
+}
+
+/// The group that an expansion is of what a regular expression captured, by the text between its braces.
+pub(crate) fn capture_named(word: &[u8]) -> Option<u8> {
+    match word {
+        [digit @ b'0'..=b'9'] => Some(*digit - b'0'),
+        _ => None,
+    }
+}
+
+/// The group that a text is alone, as `%{8}`.
+pub(crate) fn sole_capture(text: &[u8]) -> Option<u8> {
+    capture_named(text.strip_prefix(b"%{")?.strip_suffix(b"}")?)
 }
 
 /// A text with another before it and one after it.

@@ -31,6 +31,10 @@ pub(crate) struct DraftCondition {
     /// The profile that it needs.
     pub(crate) profile: Profile,
     pub(crate) differences: Vec<PatternDifference>,
+    /// Whether it looks at what was captured before it.
+    pub(crate) uses_captures: bool,
+    /// Whether something else was captured where it is true.
+    pub(crate) captures_anew: bool,
 }
 
 impl DraftCondition {
@@ -40,6 +44,8 @@ impl DraftCondition {
             text: Vec::new(alloc),
             profile: Profile::Plain,
             differences: Vec::new(alloc),
+            uses_captures: false,
+            captures_anew: false,
         }
     }
 }
@@ -52,7 +58,7 @@ pub(crate) struct DraftPart {
     pub(crate) reason: Reason,
 }
 
-/// A comparison with a regular expression that a server may decide otherwise.
+/// A comparison with a regular expression that a server may decide otherwise, or what it captures.
 #[derive(Drop)]
 pub(crate) struct DraftWarning {
     pub(crate) place: usize,

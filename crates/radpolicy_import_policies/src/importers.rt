@@ -12,7 +12,8 @@ use avp_forms::Profile;
 use avp_lists::List;
 use avp_unlang::Code;
 use radpolicy_import_conditions::{
-    ChosenLine, Reason, Refusal, ServerList, SwitchChain, UpdateLine, between, list_name,
+    ChosenLine, PatternDifference, Reason, Refusal, ServerList, SwitchChain, UpdateLine, between,
+    list_name,
 };
 use std::alloc::AllocError;
 
@@ -37,6 +38,8 @@ pub(crate) struct Importer<'a> {
     pub(crate) returns: usize,
     /// How many of the statements that are kept have a value that is given.
     pub(crate) given: usize,
+    /// Whether a server may have captured something else: before the section, or in a part that is left out.
+    pub(crate) captured_else: bool,
 }
 
 /// Whether a place is before another, if there is another.
@@ -91,6 +94,7 @@ impl<'a> Importer<'a> {
             follows: false,
             returns: 0,
             given: 0,
+            captured_else: true,
         }
     }
 
@@ -171,6 +175,30 @@ impl<'a> Importer<'a> {
         Ok(())
     }
 
+    /// Leaves statements out, and so many that they are in.
+    pub(crate) fn leave_all(
+        &mut self,
+        place: usize,
+        statements: &[Statement],
+        others: usize,
+        reason: Reason,
+    ) -> Result<(), ImportFault> {
+        self.leave(place, counted(statements)?.saturating_add(others), reason)?;
+        self.captured_else = self.captured_else || self.reader.have_patterns(statements);
+        Ok(())
+    }
+
+    fn warn(&mut self, place: usize, difference: PatternDifference) -> Result<(), ImportFault> {
+        let is_told = match self.warnings.last() {
+            Some(last) => last.place == place && last.difference == difference,
+            None => false,
+        };
+        if !is_told {
+            self.warnings.push(DraftWarning { place, difference })?;
+        }
+        Ok(())
+    }
+
     // ---- updates
 
     fn open_update(&mut self, place: usize, own: List) -> Result<(), ImportFault> {
@@ -207,9 +235,13 @@ impl<'a> Importer<'a> {
             text,
             needs,
             is_wider,
+            captures,
         } = line;
         if is_wider && self.wider.is_none() {
             self.wider = Some(place);
+        }
+        if captures && self.captured_else {
+            self.warn(place, PatternDifference::Earlier)?;
         }
         if let Some(needs) = needs {
             if is_open {
@@ -454,10 +486,10 @@ impl<'a> Importer<'a> {
             self.wider = Some(place);
         }
         for difference in &condition.differences {
-            self.warnings.push(DraftWarning {
-                place,
-                difference: *difference,
-            })?;
+            self.warn(place, *difference)?;
+        }
+        if condition.uses_captures && self.captured_else {
+            self.warn(place, PatternDifference::Earlier)?;
         }
         self.push_between(place, Self::keyword(kind), &condition.text, b" {")
     }
@@ -468,16 +500,21 @@ impl<'a> Importer<'a> {
         branches: &[Statement],
         conditions: &[DraftCondition],
     ) -> Result<(), ImportFault> {
-        let knows_code = self.knows_code;
+        let (knows_code, before) = (self.knows_code, self.captured_else);
+        let mut after = before;
         for (branch, condition) in branches.iter().zip(conditions) {
+            self.captured_else = before;
             self.count_given(branch.place)?;
             self.push_branch(branch.place, branch.kind, condition)?;
             self.indent();
             self.knows_code = knows_code;
+            self.captured_else = before && !condition.captures_anew;
             self.block(branch.block.as_slice())?;
             self.close(branch.place)?;
+            after = after || self.captured_else;
         }
         self.knows_code = false;
+        self.captured_else = after;
         Ok(())
     }
 
@@ -485,10 +522,7 @@ impl<'a> Importer<'a> {
     fn chain(&mut self, place: usize, branches: &[Statement]) -> Result<(), ImportFault> {
         match self.reader.conditions(branches, self.knows_code) {
             Ok(conditions) => self.branches(branches, &conditions),
-            Err(refusal) => {
-                let reason = reason_of(refusal)?;
-                self.leave(place, counted(branches)?, reason)
-            }
+            Err(refusal) => self.leave_all(place, branches, 0, reason_of(refusal)?),
         }
     }
 
@@ -524,8 +558,7 @@ impl<'a> Importer<'a> {
                 self.case_block(case, word, condition)?;
                 word = b"elsif ";
             } else if chain.otherwise != Some(at) {
-                let count = counted(case.block.as_slice())?.saturating_add(1);
-                self.leave(case.place, count, Reason::OtherDefault)?;
+                self.leave_all(case.place, case.block.as_slice(), 1, Reason::OtherDefault)?;
             }
         }
         Ok(())
@@ -560,11 +593,7 @@ impl<'a> Importer<'a> {
                 self.knows_code = false;
                 Ok(())
             }
-            Err(refusal) => {
-                let reason = reason_of(refusal)?;
-                let count = counted(cases)?.saturating_add(1);
-                self.leave(place, count, reason)
-            }
+            Err(refusal) => self.leave_all(place, cases, 1, reason_of(refusal)?),
         }
     }
 
@@ -579,7 +608,7 @@ impl<'a> Importer<'a> {
         self.statement(first)?;
         match others {
             [] => Ok(()),
-            others => self.leave(place, counted(others)?, Reason::OtherMember),
+            others => self.leave_all(place, others, 0, Reason::OtherMember),
         }
     }
 
@@ -620,18 +649,12 @@ impl<'a> Importer<'a> {
                 let shown = shown_item(self.reader.alloc, self.reader.configuration, place)?;
                 self.comment(place, b"a section of its own,", &shown)
             }
-            StatementKind::LeftOut(reason) => {
-                let count = counted(block)?.saturating_add(1);
-                self.leave(place, count, reason)
-            }
+            StatementKind::LeftOut(reason) => self.leave_all(place, block, 1, reason),
             StatementKind::Line
             | StatementKind::If
             | StatementKind::Elsif
             | StatementKind::Else
-            | StatementKind::Case => {
-                let count = counted(block)?.saturating_add(1);
-                self.leave(place, count, Reason::OtherSection)
-            }
+            | StatementKind::Case => self.leave_all(place, block, 1, Reason::OtherSection),
         }
     }
 

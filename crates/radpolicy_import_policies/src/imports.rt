@@ -32,12 +32,13 @@ pub struct LeftOut {
     pub shown: Vec<u8>,
 }
 
-/// A condition with a regular expression that a server may decide otherwise.
+/// A condition with a regular expression that a server may decide otherwise, or something that looks at what such a one
+/// captured, which may be something else there.
 #[derive(Debug, Drop)]
 pub struct PatternWarning {
     pub origin: Origin,
     pub difference: PatternDifference,
-    /// What the condition says, or the beginning of it.
+    /// What the condition or the line says, or the beginning of it.
     pub shown: Vec<u8>,
 }
 
@@ -282,7 +283,7 @@ fn add_statement(
 ) -> Result<(), ImportFault> {
     let (drafts, parts, calls) = (importer.drafts.len(), importer.parts.len(), importer.calls);
     let (wider, returns, given) = (importer.wider, importer.returns, importer.given);
-    let warnings = importer.warnings.len();
+    let (warnings, captured_else) = (importer.warnings.len(), importer.captured_else);
     importer.statement(statement)?;
     let Some(added) = importer.drafts.get(drafts..) else {
         return Ok(());
@@ -302,9 +303,9 @@ fn add_statement(
     importer.returns = returns;
     importer.given = given;
     importer.warnings.truncate(warnings);
+    importer.captured_else = captured_else;
     let alone = std::slice::from_ref(statement);
-    let count = counted(alone)?;
-    importer.leave(statement.place, count, Reason::Refused(kind))
+    importer.leave_all(statement.place, alone, 0, Reason::Refused(kind))
 }
 
 // Adds what becomes of the statements of the section. What may follow `return` is in a branch.

@@ -11,7 +11,8 @@ use avp_unlang::{Comparison, Cond, Relation, read_policy};
 use radpolicy_import_conditions::{
     Alternative, ChosenLine, ConditionPrinter, ConditionReader, LineReader, Names, Operand, Reason,
     Refusal, ServerCondition, ServerList, SwitchChain, UpdateLine, add_differences, alternatives,
-    between, chain_of, expansions_in, has_choices, list_name, parts_of, push_matchings, rewritten,
+    between, captures_anew, chain_of, expansions_in, has_choices, keeps_captures, list_name,
+    parts_of, push_matchings, rewritten, uses_captures,
 };
 use server_configuration::{Configuration, Content, Operator, Quote, Text, has_reference};
 use std::alloc::Global;
@@ -98,6 +99,9 @@ impl<'a> ItemReader<'a> {
         if self.settings.meaning == Meaning::Plain && self.check_condition(profile, &text).is_ok() {
             return Ok(text);
         }
+        if !keeps_captures(condition) {
+            return Err(Refusal::LeftOut(Reason::MixedCaptures));
+        }
         let cond = rewritten(self.alloc, condition)?;
         self.printed(profile, &cond)
     }
@@ -111,19 +115,22 @@ impl<'a> ItemReader<'a> {
         let condition = self.reader(knows_code).condition(&text)?;
         let mut matchings = Vec::new(self.alloc);
         push_matchings(&mut matchings, &condition)?;
-        let profile = if matchings.is_empty() {
-            Profile::Plain
-        } else {
-            Profile::Wider
-        };
         let mut differences = Vec::new(self.alloc);
         for matching in &matchings {
             add_differences(&mut differences, matching)?;
         }
+        let uses_captures = uses_captures(&condition);
+        let profile = if matchings.is_empty() && !uses_captures {
+            Profile::Plain
+        } else {
+            Profile::Wider
+        };
         Ok(DraftCondition {
             text: self.condition_in(profile, text, &condition)?,
             profile,
             differences,
+            uses_captures,
+            captures_anew: captures_anew(&condition),
         })
     }
 
@@ -135,6 +142,24 @@ impl<'a> ItemReader<'a> {
             },
             None => &[],
         }
+    }
+
+    // Whether the condition at a place may compare with a regular expression.
+    fn has_pattern(&self, place: usize) -> bool {
+        self.arguments(place)
+            .iter()
+            .any(|text| text.octets.as_slice().contains(&b'~'))
+    }
+
+    /// Whether a condition of statements may compare with a regular expression.
+    #[cycle(patterns)]
+    pub(crate) fn have_patterns(&self, statements: &[Statement]) -> bool {
+        for statement in statements {
+            if self.has_pattern(statement.place) || self.have_patterns(statement.block.as_slice()) {
+                return true;
+            }
+        }
+        false
     }
 
     // The line, where a policy of its profile can have it.
@@ -191,6 +216,7 @@ impl<'a> ItemReader<'a> {
             names: self.names(),
             own,
             skips: self.settings.meaning == Meaning::Server,
+            takes_captures: self.settings.profile == Profile::Wider,
         }
     }
 
@@ -226,11 +252,18 @@ impl<'a> ItemReader<'a> {
     ) -> Result<ChosenLine, Refusal> {
         let Alternative {
             condition,
+            is_wider,
             text,
             whole,
         } = alternative;
+        let profile = if is_wider {
+            Profile::Wider
+        } else {
+            Profile::Plain
+        };
         if !condition.is_empty() {
-            self.check(b"if (", &condition, b") { }")?;
+            let condition = between(self.alloc, b"(", &condition, b")")?;
+            self.check_condition(profile, &condition)?;
         }
         let value = match (whole, text.strip_prefix(b"%{")) {
             (Some(source), Some(word)) if self.line_reader(own).copies(name, source) => Text {

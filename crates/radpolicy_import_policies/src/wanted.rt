@@ -61,7 +61,7 @@ impl Reads {
         match cond {
             Cond::Any(conds) | Cond::All(conds) => self.conditions(line, conds.as_slice()),
             Cond::Not(cond) => self.condition(line, cond.get()),
-            Cond::Last(_) => Ok(()),
+            Cond::Last(_) | Cond::Captured(_) => Ok(()),
             Cond::Present(list, id) | Cond::PresentSelected(list, id, _) => {
                 self.read(line, *list, *id)
             }
@@ -82,7 +82,7 @@ impl Reads {
     fn parts(&mut self, line: usize, parts: &[Part]) -> Result<(), AllocError> {
         for part in parts {
             match part {
-                Part::Text(_) => {}
+                Part::Text(_) | Part::Capture(_) => {}
                 Part::Instance(list, id) | Part::Meant(list, id, _) => {
                     self.read(line, *list, *id)?;
                 }
