@@ -6,7 +6,7 @@ use crate::patterns::{WrittenPattern, flagged, match_sign, pattern_text};
 use crate::reasons::{Reason, Refusal};
 use crate::references::{Names, Reference, has_texts, is_number, kind_of, reference_of};
 use crate::server_conditions::ServerCondition;
-use crate::texts::{sole_capture, sole_expansion, text_octets};
+use crate::texts::{has_expansion, sole_capture, sole_expansion, text_octets};
 use avp_dict::Kind;
 use avp_lists::{Octets, Selection};
 use avp_unlang::{Code, Comparand, Comparison, Matching, Relation};
@@ -325,6 +325,50 @@ impl<'a> ConditionReader<'a> {
         }
     }
 
+    // The comparison of two texts that are written out, which has one truth.
+    fn texts_compared(
+        &self,
+        left: Operand<'_>,
+        relation: Relation,
+        right: Operand<'_>,
+    ) -> Result<ServerCondition, Refusal> {
+        let is_quoted = matches!(left.quote, Quote::Single | Quote::Double);
+        if !is_quoted || has_expansion(left.octets) || has_expansion(right.octets) {
+            return Err(Refusal::LeftOut(Reason::TwoTexts));
+        }
+        let one = text_octets(self.alloc, &self.names, left.quote, left.octets)?;
+        let other = text_octets(self.alloc, &self.names, right.quote, right.octets)?;
+        if is_number(&one) && is_number(&other) {
+            return Err(Refusal::LeftOut(Reason::TwoTexts));
+        }
+        let is_same = one.as_slice() == other.as_slice();
+        match relation {
+            Relation::Equal => Ok(ServerCondition::Constant(is_same)),
+            Relation::Differs => Ok(ServerCondition::Constant(!is_same)),
+            _ => Err(Refusal::LeftOut(Reason::TwoTexts)),
+        }
+    }
+
+    // The comparison of a text with what is in place of an expansion, which is the empty text where there is nothing.
+    fn compared_with_asked(
+        &self,
+        own: &Reference<'_>,
+        relation: Relation,
+        asked: &Reference<'_>,
+    ) -> Result<ServerCondition, Refusal> {
+        let alloc = self.alloc;
+        let with_asked = self.compared_with_attribute(own, relation, asked)?;
+        let with_empty = self.compared_with_text(own, relation, EMPTY)?;
+        let is_there = Box::new(alloc, ServerCondition::Present(asked.list, asked.named.id))?;
+        let is_there_too = Box::new(alloc, ServerCondition::Present(asked.list, asked.named.id))?;
+        let is_absent = Box::new(alloc, ServerCondition::Not(is_there_too))?;
+        let compare = Box::new(alloc, ServerCondition::Compare(with_asked))?;
+        let compare_empty = Box::new(alloc, ServerCondition::Compare(with_empty))?;
+        let first = Box::new(alloc, ServerCondition::Or(is_absent, compare))?;
+        let next = Box::new(alloc, ServerCondition::Or(is_there, compare_empty))?;
+        Ok(ServerCondition::And(first, next))
+    }
+
     // The condition that a comparison of two operands is.
     fn compared(
         &self,
@@ -344,6 +388,13 @@ impl<'a> ConditionReader<'a> {
             (Some(own), None) if own.is_asked() => self.asked_compared(&own, relation, right),
             (None, Some(other)) if other.is_asked() => {
                 self.asked_compared(&other, turned(relation), left)
+            }
+            (None, None) => self.texts_compared(left, relation, right),
+            (Some(own), Some(asked)) if asked.is_asked() && !own.is_asked() => {
+                self.compared_with_asked(&own, relation, &asked)
+            }
+            (Some(asked), Some(other)) if asked.is_asked() && !other.is_asked() => {
+                self.compared_with_asked(&other, turned(relation), &asked)
             }
             _ => {
                 let comparison = self.comparison(left, relation, right)?;

@@ -6,7 +6,7 @@ use crate::references::{
     Names, Reference, has_texts, list_name, parts_of, push_spelling, reference_in, reference_of,
 };
 use crate::texts::{has_expansion, push_double, push_octets, push_reference, single_octets};
-use avp_dict::Kind;
+use avp_dict::{Form, Kind};
 use avp_lists::{AttrId, List};
 use server_configuration::{Operator, Quote, Text};
 use std::alloc::{AllocError, Global};
@@ -238,8 +238,42 @@ impl<'a> LineReader<'a> {
         Ok(true)
     }
 
-    /// The line in the wider profile of a name, which may have a tag, an operator and a value that is written out; none
-    /// where it is not of this form.
+    // The attribute that a line copies, with its `&`, where both are IPv6 addresses or the like, whose octets are the
+    // same.
+    fn copied(&self, name: &[u8], value: &Text) -> Result<Option<Vec<u8>>, Refusal> {
+        let (Quote::Bare, Some(word)) = (value.quote, value.octets.strip_prefix(b"&")) else {
+            return Ok(None);
+        };
+        let target = reference_in(&self.names, self.own, name)?;
+        let source = reference_of(&self.names, word)?;
+        let dictionary = self.names.dictionary;
+        let form = dictionary.form(source.named.id);
+        let is_plain = matches!(
+            form,
+            Some(Form::Ipv6Address | Form::Ipv6Prefix | Form::Ipv4Prefix | Form::InterfaceId)
+        );
+        if !is_plain || dictionary.form(target.named.id) != form {
+            return Ok(None);
+        }
+        let mut text = Vec::new(self.alloc);
+        push_reference(&mut text, dictionary, &source)?;
+        Ok(Some(text))
+    }
+
+    // The line that copies an attribute, which needs it.
+    fn copying_line(&self, before: Vec<u8>, source: Vec<u8>) -> Result<UpdateLine, Refusal> {
+        let mut text = before;
+        text.extend_from_slice(&source)?;
+        Ok(UpdateLine {
+            text,
+            needs: self.skips.then_some(source),
+            is_wider: true,
+            captures: false,
+        })
+    }
+
+    /// The line in the wider profile of a name, which may have a tag, an operator and a value that is written out, or an
+    /// attribute of the same form; none where it is not of this form.
     pub fn wider_line(
         &self,
         name: &[u8],
@@ -257,6 +291,10 @@ impl<'a> LineReader<'a> {
         text.push(b' ')?;
         text.extend_from_slice(sign)?;
         text.push(b' ')?;
+        if let Some(source) = self.copied(name, value)? {
+            let line = self.copying_line(text, source)?;
+            return Ok(Some(line));
+        }
         if !self.push_written(&mut text, value)? {
             return Ok(None);
         }

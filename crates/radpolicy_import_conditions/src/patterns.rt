@@ -24,6 +24,10 @@ pub enum PatternDifference {
     Possessive,
     #[error("on a server \\v is each line break")]
     LineBreak,
+    #[error("on a server ^ does not match behind a line feed at the end")]
+    LineStart,
+    #[error("on a server %% is one %, and a letter behind a % makes it what that stands for")]
+    Percent,
     /// The policy begins with nothing captured.
     #[error("on a server %{{0}} to %{{9}} may be of a comparison before, or of one that is left out")]
     Earlier,
@@ -221,6 +225,7 @@ fn outside(text: &[u8], is_multi_line: bool) -> Piece {
         [b'(', b'?', flags @ ..] => (flags_changed(flags), 2, false),
         [b'*' | b'+' | b'?' | b'}', b'+', ..] => (Some(PatternDifference::Possessive), 2, false),
         [b'$', ..] if !is_multi_line => (Some(PatternDifference::LineFeed), 1, false),
+        [b'^', ..] if is_multi_line => (Some(PatternDifference::LineStart), 1, false),
         _ => (None, 1, false),
     };
     Piece {
@@ -233,6 +238,11 @@ fn outside(text: &[u8], is_multi_line: bool) -> Piece {
 fn next_piece(text: &[u8], is_in_class: bool, is_multi_line: bool) -> Piece {
     match text {
         [b'\\', ..] => escaped(text, is_in_class),
+        [b'%', ..] => Piece {
+            difference: Some(PatternDifference::Percent),
+            length: 1,
+            is_in_class,
+        },
         _ if is_in_class => in_class(text),
         _ => outside(text, is_multi_line),
     }

@@ -30,7 +30,7 @@ pub enum StatementKind {
     Else,
     /// `switch`, with its cases.
     Switch,
-    /// `case`, with a value or without.
+    /// `case`, with a value or without, or `default`.
     Case,
     Group,
     /// `redundant` and `load-balance`: of its members the first counts.
@@ -201,7 +201,7 @@ fn kind_of_section(name: &[u8], arguments: &[Text]) -> StatementKind {
         b"elsif" => StatementKind::Elsif,
         b"else" => StatementKind::Else,
         b"switch" => StatementKind::Switch,
-        b"case" => StatementKind::Case,
+        b"case" | b"default" => StatementKind::Case,
         b"group" => StatementKind::Group,
         b"redundant" | b"load-balance" | b"redundant-load-balance" => StatementKind::FirstOf,
         b"foreach" | b"parallel" | b"limit" | b"timeout" | b"map" | b"actions" => {

@@ -169,6 +169,34 @@ fn the_cases_of_a_switch(rt: HostRuntime) -> Result<(), Fail> {
 }
 
 #[test]
+fn a_case_that_is_called_default(rt: HostRuntime) -> Result<(), Fail> {
+    assert!(rt;
+        becomes(
+            rt.alloc(),
+            b"authorize {\n switch &NAS-Port {\n case 1 {\n ok\n }\n default {\n reject\n }\n }\n}",
+            b"if (&NAS-Port == 1) {  # main:3\n\tok  # main:4\n}  # main:3\n\
+          else {  # main:6\n\treject  # main:7\n}  # main:6\n",
+            (5, 5, 0),
+        )?
+    );
+    Ok(())
+}
+
+#[test]
+fn texts_that_are_written_out(rt: HostRuntime) -> Result<(), Fail> {
+    assert!(rt;
+        becomes(
+            rt.alloc(),
+            b"x = \"no\"\nauthorize {\n if ('${x}' != 'yes') {\n ok\n }\n if (\"a\" == b) {\n noop\n }\n}",
+            b"if (ok || !ok) {  # main:3\n\tok  # main:4\n}  # main:3\n\
+          if (ok && !ok) {  # main:6\n\tnoop  # main:7\n}  # main:6\n",
+            (4, 4, 0),
+        )?
+    );
+    Ok(())
+}
+
+#[test]
 fn a_policy_in_its_place(rt: HostRuntime) -> Result<(), Fail> {
     assert!(rt;
         becomes(
@@ -220,6 +248,37 @@ fn an_answer_for_a_module(rt: HostRuntime) -> Result<(), Fail> {
             (2, 2, 0),
         )?
     );
+    Ok(())
+}
+
+const PREFIXES: &[u8] = b"ATTRIBUTE Framed-IPv6-Prefix 97 ipv6prefix\n\
+    ATTRIBUTE Delegated-IPv6-Prefix 123 ipv6prefix\nATTRIBUTE NAS-IPv6-Address 95 ipv6addr\n";
+
+// The policy of a section by these attributes.
+fn with_prefixes(alloc: Global, text: &[u8]) -> Result<Vec<u8>, Fail> {
+    let files = one_file(alloc, PREFIXES)?;
+    if files.is_empty() || !files.has_distinct_names() {
+        return Err(Fail::new("no files"));
+    }
+    let dictionary = Dictionary::read(alloc, &files)?;
+    Ok(imported(alloc, &dictionary, settings_of(Profile::Wider), text)?.text)
+}
+
+#[test]
+fn a_prefix_that_is_copied(rt: HostRuntime) -> Result<(), Fail> {
+    let text = with_prefixes(
+        rt.alloc(),
+        b"authorize {\n update reply {\n Framed-IPv6-Prefix := &Delegated-IPv6-Prefix\n }\n}",
+    )?;
+    let wanted = b"# profile: wider\nif (&Delegated-IPv6-Prefix) {  # main:3\n\
+        \tupdate reply {  # main:3\n\t\tFramed-IPv6-Prefix := &Delegated-IPv6-Prefix  # main:3\n\
+        \t}  # main:3\n}  # main:3\n";
+    assert_eq!(rt; text.as_slice(), wanted.as_slice());
+    let text = with_prefixes(
+        rt.alloc(),
+        b"authorize {\n update reply {\n Framed-IPv6-Prefix := &NAS-IPv6-Address\n }\n}",
+    )?;
+    assert!(rt; text.starts_with(b"# left out, a value whose text is octets here: "));
     Ok(())
 }
 

@@ -13,3 +13,5 @@ mod memory_files;
 mod other_lists;
 #[cfg(test)]
 mod patterns;
+#[cfg(test)]
+mod stations;

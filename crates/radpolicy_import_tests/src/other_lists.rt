@@ -37,14 +37,14 @@ const DEFINED: &[u8] = b"$INCLUDE d\n\n\
     ATTRIBUTE\tImport-Sql-1\t1383806283\tstring\n\n\
     VALUE\tOuter-Reply-Tunnel-Type\tVLAN\t13\n";
 
-fn dictionary_of(alloc: Global, files: &FileSet) -> Result<Dictionary, Fail> {
+pub(crate) fn dictionary_of(alloc: Global, files: &FileSet) -> Result<Dictionary, Fail> {
     if files.is_empty() || !files.has_distinct_names() {
         return Err(Fail::new("no files"));
     }
     Ok(Dictionary::read(alloc, files)?)
 }
 
-fn named(alloc: Global, name: &[u8], text: &[u8]) -> Result<NamedFile, Fail> {
+pub(crate) fn named(alloc: Global, name: &[u8], text: &[u8]) -> Result<NamedFile, Fail> {
     let (name, octets) = (
         Octets::from_slice(alloc, name)?,
         Octets::from_slice(alloc, text)?,
@@ -141,13 +141,13 @@ const ENDED: &[u8] =
     if (!&control:Import-Returned) {\n\tupdate control {\n\t\tImport-Returned := \"yes\"\n\t}\n}\n\
     if (!&control:Import-Returned) {\n\treject\n\t# return, and nothing follows\n}\n";
 
-// The policy of a section that may end early, and how many attributes it wants.
-fn ended(alloc: Global) -> Result<(Vec<u8>, usize), Fail> {
+// The policy of a section with such attributes, and how many of them it wants.
+fn policy_of(alloc: Global, text: &[u8]) -> Result<(Vec<u8>, usize), Fail> {
     let files = one_file(alloc, ATTRIBUTES)?;
     let plain = dictionary_of(alloc, &files)?;
-    let others = others_of(alloc, &plain, RETURNS)?;
-    let text = other_dictionary(alloc, &files, &plain, &others)?;
-    let dictionary = dictionary_of(alloc, &both(alloc, &text)?)?;
+    let others = others_of(alloc, &plain, text)?;
+    let defined = other_dictionary(alloc, &files, &plain, &others)?;
+    let dictionary = dictionary_of(alloc, &both(alloc, &defined)?)?;
     let settings = Settings {
         meaning: Meaning::Server,
         line_ends: LineEnds::Nothing,
@@ -156,15 +156,26 @@ fn ended(alloc: Global) -> Result<(Vec<u8>, usize), Fail> {
         others: &others,
         initial: 0,
     };
-    let imported = imported(alloc, &dictionary, settings, RETURNS)?;
+    let imported = imported(alloc, &dictionary, settings, text)?;
     let unset = unset_attributes(alloc, &dictionary, &imported.policy, &others)?.len();
     Ok((imported.text, unset))
 }
 
 #[test]
 fn what_follows_a_return(rt: HostRuntime) -> Result<(), Fail> {
-    let (text, unset) = ended(rt.alloc())?;
+    let (text, unset) = policy_of(rt.alloc(), RETURNS)?;
     assert_eq!(rt; text.as_slice(), ENDED);
     assert_eq!(rt; unset, 0);
+    Ok(())
+}
+
+#[test]
+fn compared_with_what_is_asked(rt: HostRuntime) -> Result<(), Fail> {
+    let text = b"authorize {\n if (&User-Name != \"%{sql:x}\") {\n ok\n }\n}";
+    let (text, unset) = policy_of(rt.alloc(), text)?;
+    let wanted = b"if ((!&control:Import-Sql-1 || &User-Name != &control:Import-Sql-1) && \
+        (&control:Import-Sql-1 || &User-Name != \"\")) {\n\tok\n}\n";
+    assert_eq!(rt; text.as_slice(), wanted.as_slice());
+    assert_eq!(rt; unset, 1);
     Ok(())
 }

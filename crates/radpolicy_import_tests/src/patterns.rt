@@ -145,8 +145,24 @@ fn is_warned(
 fn an_end_before_a_line_feed(rt: HostRuntime) -> Result<(), Fail> {
     let end = Some(PatternDifference::LineFeed);
     assert!(rt; is_warned(rt.alloc(), b"/^a$/", end)?);
-    assert!(rt; is_warned(rt.alloc(), b"/^a$/m", None)?);
+    assert!(rt; is_warned(rt.alloc(), b"/a$/m", None)?);
     assert!(rt; is_warned(rt.alloc(), b"/[$]\\$/", None)?);
+    Ok(())
+}
+
+#[test]
+fn a_start_behind_a_line_feed(rt: HostRuntime) -> Result<(), Fail> {
+    assert!(rt; is_warned(rt.alloc(), b"/^a/m", Some(PatternDifference::LineStart))?);
+    assert!(rt; is_warned(rt.alloc(), b"/^[^a]\\^/", None)?);
+    Ok(())
+}
+
+#[test]
+fn what_begins_with_a_percent_sign(rt: HostRuntime) -> Result<(), Fail> {
+    let percent = Some(PatternDifference::Percent);
+    assert!(rt; is_warned(rt.alloc(), b"/100%%/", percent)?);
+    assert!(rt; is_warned(rt.alloc(), b"/[%t]/", percent)?);
+    assert!(rt; is_warned(rt.alloc(), b"/100\\%/", None)?);
     Ok(())
 }
 

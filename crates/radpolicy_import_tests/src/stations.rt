@@ -1,0 +1,59 @@
+//! Policies that rewrite hardware addresses by what they capture, as Debian installs them.
+
+use crate::imports::{authorize, configuration, imported, settings_of};
+use crate::other_lists::{dictionary_of, named};
+use avp_dict::FileSet;
+use avp_forms::Profile;
+use radpolicy_import_policies::{
+    Imported, LineEnds, Settings, Stubs, other_attributes, other_dictionary,
+};
+use samples::one_file;
+use std::alloc::Global;
+use std::test::Fail;
+
+const ATTRIBUTES: &[u8] = b"ATTRIBUTE Called-Station-Id 30 string\n\
+    ATTRIBUTE Calling-Station-Id 31 string\nATTRIBUTE Called-Station-SSID 1139 string\n";
+
+const CONFIGURATION: &[u8] = b"policy {\n mac = '([0-9a-f]{2})[^0-9a-f]?([0-9a-f]{2})'\n \
+    rewrite_called_station_id {\n if (&Called-Station-Id && \
+    (&Called-Station-Id =~ /^${policy.mac}([^0-9a-f](.+))?$/i)) {\n update request {\n \
+    &Called-Station-Id := \"%{toupper:%{1}-%{2}}\"\n }\n if (\"%{4}\") {\n update request {\n \
+    &Called-Station-SSID := \"%{4}\"\n }\n }\n updated\n }\n else {\n noop\n }\n }\n}\n\
+    authorize {\n rewrite_called_station_id\n}";
+
+const POLICY: &[u8] = b"# profile: wider\n# policy rewrite_called_station_id\n\
+    if (&Called-Station-Id && &Called-Station-Id =~ \
+    /^([0-9a-f]{2})[^0-9a-f]?([0-9a-f]{2})([^0-9a-f](.+))?$/i) {\n\
+    \tupdate request {\n\t\tCalled-Station-Id := \"%{control:Import-Toupper-1}\"\n\t}\n\
+    \tif (\"%{4}\") {\n\t\tupdate request {\n\t\t\tCalled-Station-SSID := \"%{4}\"\n\t\t}\n\t}\n\
+    \tupdated\n}\nelse {\n\tnoop\n}\n";
+
+// The policy with what functions compute in attributes of control.
+fn with_functions(alloc: Global, text: &[u8]) -> Result<Imported, Fail> {
+    let files = one_file(alloc, ATTRIBUTES)?;
+    let plain = dictionary_of(alloc, &files)?;
+    let read = configuration(alloc, text)?;
+    let statements = authorize(alloc, &read)?;
+    let statements = statements.as_slice();
+    let others = other_attributes(alloc, &read, &plain, Stubs::Functions, statements)?;
+    let defined = other_dictionary(alloc, &files, &plain, &others)?;
+    let both = vec![in alloc;
+        named(alloc, b"others", &defined)?,
+        named(alloc, b"d", ATTRIBUTES)?,
+    ]?;
+    let dictionary = dictionary_of(alloc, &FileSet::from_vec(both))?;
+    let settings = Settings {
+        line_ends: LineEnds::Nothing,
+        others: &others,
+        ..settings_of(Profile::Wider)
+    };
+    imported(alloc, &dictionary, settings, text)
+}
+
+#[test]
+fn a_called_station(rt: HostRuntime) -> Result<(), Fail> {
+    let imported = with_functions(rt.alloc(), CONFIGURATION)?;
+    assert_eq!(rt; imported.text.as_slice(), POLICY);
+    assert!(rt; (imported.kept, imported.read, imported.given) == (8, 8, 1));
+    Ok(())
+}
