@@ -3,6 +3,7 @@
  *     struct radpolicy_policy policy = RADPOLICY_CLOSED;
  *     status = radpolicy_open(&policy, files, count, text, text_length, room, room_length, &line_length);
  *     status = radpolicy_run(&policy, &request, &outcome, packet, packet_room, report, report_room);
+ *     status = radpolicy_reply(&policy, &request, &outcome, packet, packet_room, line, line_room);
  *     status = radpolicy_run_pairs(&policy, &request, &lists, packet, packet_room, pairs, pair_room, octets,
  *                                  octet_room);
  *     status = radpolicy_share(&policy, &other);
@@ -15,13 +16,13 @@
  *     status = radpolicy_policy_open(&policy, &dictionary, text, text_length, room, room_length, &line_length);
  *     radpolicy_dictionary_close(&dictionary);
  *
- * A server's own lists are kept in a store, edited there by the operators of policies, and come back whole:
+ * A server's own lists are kept in a store, edited there by the operators of policies, and come back whole; no memory is
+ * wanted for that:
  *
  *     struct radpolicy_store store = RADPOLICY_CLOSED;
  *     status = radpolicy_store_open(&store);
- *     status = radpolicy_store_place(&store, &before);
  *     status = radpolicy_store_edit(&store, &edit);
- *     status = radpolicy_store_rollback(&store, before);
+ *     status = radpolicy_store_undo(&store);
  *     radpolicy_store_close(&store);
  *
  * What the caller keeps
@@ -196,7 +197,7 @@ enum radpolicy_sends {
  * report_length is 0. */
 struct radpolicy_outcome {
     size_t packet_length; /* of the reply packet, at most 4096 */
-    size_t report_length; /* of the report, or of a fault's line */
+    size_t report_length; /* of the report, or of a fault's line; of radpolicy_reply only of a fault's line */
     uint8_t code;         /* enum radpolicy_code */
     uint8_t sends;        /* enum radpolicy_sends */
     bool stopped;         /* whether the policy was stopped before its end */
@@ -210,6 +211,14 @@ struct radpolicy_outcome {
 uint8_t radpolicy_run(struct radpolicy_policy *policy, const struct radpolicy_request *request,
                       struct radpolicy_outcome *outcome, uint8_t *packet, size_t packet_room, uint8_t *report,
                       size_t report_room);
+
+/* Runs the policy on a request as radpolicy_run does, and makes no report, which takes most of a run's time: what a server
+ * sends is in the room for the packet. The room for the line is for that of a fault.
+ *
+ * The statuses are those of radpolicy_run, with the same meaning. */
+uint8_t radpolicy_reply(struct radpolicy_policy *policy, const struct radpolicy_request *request,
+                        struct radpolicy_outcome *outcome, uint8_t *packet, size_t packet_room, uint8_t *line,
+                        size_t line_room);
 
 /* The kind of an attribute. */
 enum radpolicy_kind {
@@ -293,7 +302,7 @@ uint8_t radpolicy_answer(const struct radpolicy_job *job, uint8_t *room, size_t 
 /* Stores. A store has three lists of pairs in order, and the states through which these went: the first one, of empty
  * lists, is at place 0. One state is the present one. Each edit adds a state after it, in place of those that were
  * there; undo and redo go from one to the next, and a rollback adds an earlier one once more. A call that is not done
- * changes nothing. A store serves one thread at a time: there is no second handle on it. */
+ * changes nothing in the store. A store serves one thread at a time: there is no second handle on it. */
 
 enum radpolicy_list {
     RADPOLICY_REQUEST_LIST = 0,

@@ -19,8 +19,8 @@ from library import jobs, watched
 from library.building import missing, program, shared_library
 
 EXPORTED = ["radpolicy_answer", "radpolicy_close", "radpolicy_dictionary_close", "radpolicy_dictionary_open",
-            "radpolicy_dictionary_share", "radpolicy_open", "radpolicy_policy_open", "radpolicy_run",
-            "radpolicy_run_pairs", "radpolicy_share", "radpolicy_store_close", "radpolicy_store_count",
+            "radpolicy_dictionary_share", "radpolicy_open", "radpolicy_policy_open", "radpolicy_reply",
+            "radpolicy_run", "radpolicy_run_pairs", "radpolicy_share", "radpolicy_store_close", "radpolicy_store_count",
             "radpolicy_store_edit", "radpolicy_store_open", "radpolicy_store_pair", "radpolicy_store_place",
             "radpolicy_store_redo", "radpolicy_store_rollback", "radpolicy_store_settle", "radpolicy_store_undo"]
 CLIENT = "radclient"
@@ -120,6 +120,18 @@ def pairs_told(library: ctypes.CDLL, asked: Tuple, case: Case, report: bytes) ->
     return wrong + ([] if report.startswith(said + b"result ") else [f"its pairs are {said!r}"])
 
 
+def reply_told(library: ctypes.CDLL, asked: Tuple, ran: ctypes.Structure, packet: bytes, report: bytes) -> List[str]:
+    """What the library tells otherwise where the reply packet alone is wanted."""
+    outcome, room, line = type(ran)(), ctypes.create_string_buffer(4096), ctypes.create_string_buffer(ROOM)
+    status = library.radpolicy_reply(*asked, ctypes.byref(outcome), room, ctypes.c_size_t(len(room)), line,
+                                     ctypes.c_size_t(ROOM))
+    said = line.raw[: outcome.report_length]
+    wrong = [] if said == (b"" if status == 0 else report) else [f"without a report it tells {status} {said!r}"]
+    if room.raw[: outcome.packet_length] != packet or outcome.code != ran.code or outcome.sends != ran.sends:
+        wrong.append(f"without a report it tells {room.raw[:outcome.packet_length].hex()}")
+    return wrong
+
+
 def told_by(library: ctypes.CDLL, python: ModuleType, case: Case) -> Tuple[int, bytes, List[str]]:
     """The status, and the report or the line of the fault, that the library tells of a case; and what it tells otherwise
     of the pairs."""
@@ -138,6 +150,8 @@ def told_by(library: ctypes.CDLL, python: ModuleType, case: Case) -> Tuple[int, 
         status = library.radpolicy_run(*asked, ctypes.byref(outcome), packet, ctypes.c_size_t(len(packet)), room, size)
         told.value = outcome.report_length
         wrong = pairs_told(library, asked, case, room.raw[: told.value])
+        sent = packet.raw[: outcome.packet_length]
+        wrong += reply_told(library, asked, outcome, sent, room.raw[: told.value])
         library.radpolicy_close(ctypes.byref(policy))
     return status, room.raw[: told.value], wrong
 
@@ -147,6 +161,7 @@ def check_cases(subject: Subject, report: Report, made: Path) -> None:
     python = example(subject)
     library = python.load(str(made))
     library.radpolicy_run_pairs.restype = ctypes.c_uint8
+    library.radpolicy_reply.restype = ctypes.c_uint8
     for folder in (subject.root / "examples", subject.root / "tests" / "cases"):
         for case in cases_below(folder):
             options, names = words_of(case)

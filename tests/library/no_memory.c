@@ -96,6 +96,13 @@ static uint8_t run_it(void) {
     return status;
 }
 
+static uint8_t run_for_reply(void) {
+    struct radpolicy_outcome outcome;
+    uint8_t status = radpolicy_reply(&policy, &request, &outcome, packet, sizeof packet, room, ROOM);
+    told = outcome.report_length;
+    return status;
+}
+
 static uint8_t run_with_pairs(void) {
     struct radpolicy_lists lists;
     uint8_t status =
@@ -157,6 +164,8 @@ int main(int count, char **words) {
     wanted(radpolicy_store_close(&store) == RADPOLICY_DONE, "it is not closed", 0);
     wanted(run_it() == RADPOLICY_DONE, "it does not run", 0);
     try_again(run_it, "it is run");
+    wanted(run_for_reply() == RADPOLICY_DONE, "it does not run for its reply", 0);
+    try_again(run_for_reply, "it is run for its reply");
     wanted(run_with_pairs() == RADPOLICY_DONE, "it does not run with pairs", 0);
     try_again(run_with_pairs, "it is run with pairs");
     wanted(answer_it() == RADPOLICY_DONE, "no answer", 0);

@@ -39,7 +39,9 @@ static void run(struct job *job, struct radpolicy_policy *policy, uint8_t *room,
                    memcmp(room, report, told.report_length);
     status = radpolicy_run_pairs(policy, &request, &lists, packet, sizeof packet, pairs, PAIRS, room, ROOM);
     job->faults += status != RADPOLICY_DONE || lists.packet_length != told.packet_length;
-    job->runs += 2;
+    status = radpolicy_reply(policy, &request, &outcome, packet, sizeof packet, room, ROOM);
+    job->faults += status != RADPOLICY_DONE || outcome.packet_length != told.packet_length || outcome.report_length;
+    job->runs += 3;
 }
 
 static void *run_all(void *argument) {

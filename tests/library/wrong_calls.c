@@ -163,9 +163,11 @@ static void try_closed(struct radpolicy_policy *policy, struct radpolicy_request
     uint8_t *a, *b;
     wanted(run(policy, request, &outcome, 0, 0, &a, &b) == RADPOLICY_IS_CLOSED, "a closed handle is run", 0);
     wanted(outcome.report_length == 0 && outcome.packet_length == 0, "its lengths", 0);
+    uint8_t status = radpolicy_reply(policy, request, &outcome, a, 0, b, 0);
+    wanted(status == RADPOLICY_IS_CLOSED && outcome.report_length == 0, "for its reply", 0);
     struct radpolicy_lists lists;
     struct radpolicy_pair pair;
-    uint8_t status = radpolicy_run_pairs(policy, request, &lists, a, 0, &pair, 0, b, 0);
+    status = radpolicy_run_pairs(policy, request, &lists, a, 0, &pair, 0, b, 0);
     wanted(status == RADPOLICY_IS_CLOSED && lists.octets_length == 0 && count_of(&lists) == 0, "with pairs", 0);
     wanted(radpolicy_close(policy) == RADPOLICY_IS_CLOSED, "a closed handle is closed", 0);
     free(a);

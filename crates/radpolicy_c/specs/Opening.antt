@@ -42,10 +42,11 @@ abbrev pub IsDictionaryRefusal : List NamedFile → Fault → Type 0
 IsDictionaryRefusal files (fault.Dictionary f) = dictionary_of max_lines files ≡ Err f
 IsDictionaryRefusal files _ = ⊥
 
--- why no dictionary is read, but for want of memory: the files are no set, or their dictionary is refused
+-- why no dictionary is read, but for want of memory: the files are no set, or they are and their dictionary is refused
 abbrev pub IsReadRefusal : List NamedFile → Fault → Type 0
 IsReadRefusal files f =
-    ((IsFileSet files → ⊥) × (f ≡ fault.OptionValue)) ⊎ IsDictionaryRefusal files f
+    ((IsFileSet files → ⊥) × (f ≡ fault.OptionValue))
+    ⊎ (IsFileSet files × IsDictionaryRefusal files f)
 
 -- the text is refused as a policy by the files' dictionary
 pub record IsPolicyRefusal (files : List NamedFile) (text : List ℕ) (f : Fault) : Type 0 where

@@ -1,10 +1,10 @@
 -- What the run of a request begins with, as C gives it, and why there is no run.
-use Rattle.std.specs.Prelude.{◌≡◌, ◌⊎◌, ℕ, ◌==◌, if◌then◌else◌, List, Option, None, Some, Ok}
+use Rattle.std.specs.Prelude.{◌≡◌, ◌⊎◌, ℕ, ◌==◌, if◌then◌else◌, List, Option, None, Some, Ok, Err}
 use Rattle.avp_dict.specs.Dictionary.{Dictionary}
 use Rattle.avp_forms.specs.Profiles.{profile_of}
 use Rattle.radpolicy.specs.Received.{lines_spelled}
 use Rattle.avp_packet.specs.Decoded.{decoded}
-use Rattle.radpolicy.specs.StartRefusals.{AreUnreadControlLines, AreUnreadReplyLines, AreUnreadRequestLines, IsUnreadPacket}
+use Rattle.radpolicy.specs.StartRefusals.{AreUnreadControlLines, AreUnreadReplyLines, AreUnreadRequestLines}
 use Rattle.radpolicy.specs.Starts.{Prepared, Start, start_of, start_with}
 use Rattle.radpolicy.specs.declared.faults.Fault.{Fault}
 use Rattle.radpolicy.specs.declared.faults.Fault.TheVariants as fault
@@ -78,8 +78,9 @@ pub record BeginsRun (prepared : Prepared) (secret : Option (List ℕ)) (asked :
 -- the octets are no packet by the secret, or there is no secret
 abbrev pub IsNotBegunByPacket : Prepared → Option (List ℕ) → List ℕ → Fault → Type 0
 IsNotBegunByPacket prepared None octets f = f ≡ fault.OptionValue
-IsNotBegunByPacket prepared (Some secret) octets f =
-    IsUnreadPacket (decoded prepared.dictionary secret octets) f
+IsNotBegunByPacket prepared (Some secret) octets (fault.Packet f) =
+    decoded prepared.dictionary secret octets ≡ Err f
+IsNotBegunByPacket prepared (Some secret) octets _ = ⊥
 
 -- the request is none, or its form is not known
 abbrev pub IsNotBegun
@@ -96,7 +97,8 @@ AreUnreadLists dictionary asked f =
     AreUnreadReplyLines (profile_of asked.reply.now) None dictionary asked.reply.now f
     ⊎ AreUnreadControlLines (profile_of asked.control.now) None dictionary asked.control.now f
 
--- why no run begins, but for want of memory
+-- Why no run begins, but for want of memory. Where several of the lines spell no list, which of them is told is left
+-- open.
 abbrev pub IsStartRefusal : Prepared → Option (List ℕ) → RadpolicyRequest → Fault → Type 0
 IsStartRefusal prepared secret asked f =
     IsNotBegun (form_given asked.form) prepared secret asked f

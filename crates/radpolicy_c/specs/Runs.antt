@@ -15,7 +15,7 @@ use Rattle.radpolicy_c.specs.declared.pairs.ToldLists.{ToldLists}
 use Rattle.radpolicy_c.specs.declared.requests.RadpolicyRequest.{RadpolicyRequest}
 use Rattle.radpolicy_c.specs.declared.runs.Ran.{Ran}
 use Rattle.radpolicy_c.specs.declared.runs.Wanted.{Wanted}
-use Rattle.radpolicy_c.specs.declared.runs.Wanted.TheVariants.{Pairs, Report}
+use Rattle.radpolicy_c.specs.declared.runs.Wanted.TheVariants.{Pairs, Reply as TheReply, Report}
 use Rattle.radpolicy_c.specs.declared.statuses.Status.{Status}
 use Rattle.radpolicy_c.specs.declared.statuses.Status.TheVariants.{Closed, Done, NoMemory, Refused}
 
@@ -35,12 +35,14 @@ abbrev pub packet_of : Reply → List ℕ
 packet_of (reply.Packet octets) = octets
 packet_of _ = []
 
--- the report as the command `run` prints it, or the octets of the pairs
+-- beside the reply no octets, or the report as the command `run` prints it, or the octets of the pairs
 abbrev pub octets_wanted : Wanted → RunOutcome → List ℕ
+octets_wanted TheReply outcome = []
 octets_wanted Report outcome = (outcome_report outcome).text
 octets_wanted Pairs outcome = outcome_octets outcome
 
 abbrev pub lists_wanted : Wanted → RunOutcome → ToldLists
+lists_wanted TheReply outcome = no_lists
 lists_wanted Report outcome = no_lists
 lists_wanted Pairs outcome = outcome_lists outcome
 

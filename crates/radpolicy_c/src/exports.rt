@@ -163,6 +163,29 @@ pub extern "C" fn radpolicy_run(
     tell_run(&ran, outcome, packet, report).number()
 }
 
+/// Runs the policy that is held on a request, as `radpolicy_run` does, and tells the reply packet alone. It goes to the
+/// front of its room; the room for the line is for that of a fault.
+#[unsafe(no_mangle)]
+pub extern "C" fn radpolicy_reply(
+    alloc: Global,
+    policy: &mut RadpolicyPolicy,
+    asked: &RadpolicyRequest<'_>,
+    outcome: &mut RadpolicyOutcome,
+    packet: &mut [u8],
+    line: &mut [u8],
+) -> u8
+    ensures kept { policy.new.held.policy ≡ policy.old.held.policy }
+    ensures runs { (ran : Ran)
+        × Runs wanted.Reply policy.old.held.policy asked.now ran
+        × (result ≡ number_of (run_status ran packet.old line.old))
+        × (outcome.new ≡ outcome_told ran)
+        × (packet.new ≡ room_after (are_short ran packet.old line.old) ran.packet packet.old)
+        × (line.new ≡ room_after (are_short ran packet.old line.old) ran.octets line.old) }
+{
+    let ran = run_held(alloc, Wanted::Reply, policy, asked);
+    tell_run(&ran, outcome, packet, line).number()
+}
+
 /// Runs the policy that is held on a request, as `radpolicy_run` does, and tells each pair of its lists. The reply packet,
 /// the records of the pairs and the octets to which these point go to the fronts of their rooms.
 #[unsafe(no_mangle)]

@@ -28,8 +28,8 @@ pub use answers::Answered;
 pub use dictionaries::RadpolicyDictionary;
 pub use exports::{
     radpolicy_answer, radpolicy_close, radpolicy_dictionary_close, radpolicy_dictionary_open,
-    radpolicy_dictionary_share, radpolicy_open, radpolicy_policy_open, radpolicy_run,
-    radpolicy_run_pairs, radpolicy_share,
+    radpolicy_dictionary_share, radpolicy_open, radpolicy_policy_open, radpolicy_reply,
+    radpolicy_run, radpolicy_run_pairs, radpolicy_share,
 };
 pub use files::RadpolicyFile;
 pub use handles::RadpolicyPolicy;

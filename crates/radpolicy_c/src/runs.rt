@@ -22,6 +22,8 @@ use std::mem;
 /// What is wanted of the lists of a run.
 #[derive(Clone, Copy, Debug, PartialEq, Eq)]
 pub enum Wanted {
+    /// Nothing: the reply packet is enough.
+    Reply,
     /// The report, as the command `run` prints it.
     Report,
     /// The pairs one by one.
@@ -39,7 +41,7 @@ pub struct Ran {
     pub stopped: bool,
     /// The octets of the packet that is sent.
     pub packet: Octets,
-    /// The report of the run, or the octets of its pairs, or the line of the fault.
+    /// The report of the run, or the octets of its pairs, where they are wanted; or the line of the fault.
     pub octets: Octets,
     /// The pairs, where they are wanted.
     pub lists: ToldLists,
@@ -105,6 +107,7 @@ fn wanted_of(
     ensures lists { IfOk result (λ told. told.1 ≡ lists_wanted wanted outcome.now) }
 {
     match wanted {
+        Wanted::Reply => Ok((Octets::from_vec(Vec::new(alloc)), ToldLists::none(alloc))),
         Wanted::Report => {
             let text = outcome.text(alloc)?;
             Ok((Octets::from_vec(text), ToldLists::none(alloc)))
