@@ -30,7 +30,7 @@ trials:
 	@tests/run $(PROGRAM)
 
 bench: build
-	@RT="$(RT)" scripts/build bench_packets drive_runs
+	@RT="$(RT)" scripts/build bench_packets drive_runs radpolicy_c
 	@RT="$(RT)" bench/run $(PROGRAM) crates/bench_packets/out/bench_packets crates/drive_runs/out/drive_runs \
 		crates/radpolicy_replay/out/radpolicy_replay
 
