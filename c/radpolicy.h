@@ -58,8 +58,8 @@ extern "C" {
 /* How a call ended. The numbers never change. */
 enum radpolicy_status {
     RADPOLICY_DONE = 0,
-    /* What was given is refused. The room (of a run: that of the report or of the octets) has the line that the program
-     * radpolicy prints, as "radpolicy: E32 policy:3: unknown attribute\n". */
+    /* What was given is refused. The room (of a run: that of the report, of the line or of the octets) has the line that
+     * the program radpolicy prints, as "radpolicy: E32 policy:3: unknown attribute\n". */
     RADPOLICY_REFUSED = 2,
     /* There is not enough memory. No text is told, and no handle has changed. */
     RADPOLICY_NO_MEMORY = 4,
