@@ -212,8 +212,8 @@ uint8_t radpolicy_run(struct radpolicy_policy *policy, const struct radpolicy_re
                       struct radpolicy_outcome *outcome, uint8_t *packet, size_t packet_room, uint8_t *report,
                       size_t report_room);
 
-/* Runs the policy on a request as radpolicy_run does, and makes no report, which takes most of a run's time: what a server
- * sends is in the room for the packet. The room for the line is for that of a fault.
+/* Runs the policy on a request as radpolicy_run does, and makes no report, which is a good third of a run's work: what a
+ * server sends is in the room for the packet. The room for the line is for that of a fault.
  *
  * The statuses are those of radpolicy_run, with the same meaning. */
 uint8_t radpolicy_reply(struct radpolicy_policy *policy, const struct radpolicy_request *request,
