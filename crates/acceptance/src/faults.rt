@@ -73,6 +73,7 @@ const FAULTS: [(Fault, u8, &str); 19] = [
         Fault::Dictionary(DictFault {
             file: 0,
             line: 2,
+            offset: 34,
             kind: DictKind::OtherNumber,
         }),
         2,
@@ -82,6 +83,7 @@ const FAULTS: [(Fault, u8, &str); 19] = [
         Fault::Dictionary(DictFault {
             file: 1,
             line: 200_000,
+            offset: 0,
             kind: DictKind::OtherValue,
         }),
         2,
@@ -91,6 +93,7 @@ const FAULTS: [(Fault, u8, &str); 19] = [
         Fault::Dictionary(DictFault {
             file: 0,
             line: 0,
+            offset: 0,
             kind: DictKind::Memory,
         }),
         4,

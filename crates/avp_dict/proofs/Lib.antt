@@ -35,9 +35,11 @@ pub mod PrintedNames
 pub mod ReadPairs
 pub mod ReadingBack
 pub mod RefusedLines
+pub mod RefusedWords
 pub mod Resolving
 pub mod SoundDictionary
 pub mod SoundLines
 pub mod SpelledClean
 pub mod Unescaping
 pub mod UsedLines
+pub mod WordPlaces

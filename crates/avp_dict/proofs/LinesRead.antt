@@ -1,20 +1,19 @@
 -- One line more.
-use Rattle.std.proofs.Common.{◌≡◌, ℕ, Bool, true, false, ◌&&◌, ◌==◌, ◌-◌, ◌∙◌, sym, ap, take, ◌<◌, List, [], ◌∷◌, ◌++◌, Result, Ok, Err, refl, length, if◌then◌else◌, nat_lt, ltb-true}
+use Rattle.std.proofs.Common.{◌≡◌, ℕ, Bool, true, false, ◌-◌, ◌∙◌, sym, ap, take, ◌<◌, List, [], ◌∷◌, ◌++◌, Result, Ok, Err, refl, length, if◌then◌else◌, nat_lt, ltb-true}
 use Rattle.std.proofs.lemmas.List.{length-map, take-map}
 use Rattle.std.proofs.lemmas.List.Sums.{fold_push}
 use Rattle.avp_dict.specs.declared.file.files.NamedFile.{NamedFile}
-use Rattle.avp_dict.specs.declared.faults.DictKind.{DictKind}
+use Rattle.avp_dict.specs.declared.faults.RefusedWord.{RefusedWord}
 use Rattle.avp_dict.specs.declared.faults.DictKind.TheVariants.{TooLong}
 use Rattle.avp_dict.specs.declared.file.meanings.Reading.{Reading as CodeReading}
-use Rattle.avp_dict.specs.declared.faults.DictFault.{DictFault}
+use Rattle.avp_dict.specs.declared.faults.RefusedLine.{RefusedLine}
 use Rattle.avp_lists.specs.Meets.{Unless}
 use Rattle.avp_dict.specs.Lines.{Line}
 use Rattle.avp_dict.specs.Meanings.{Context, Meaning, Reading, after_reading, context_of, no_context}
-use Rattle.avp_dict.specs.Outcomes.{is_memory, is_memory_kind, want_of_memory}
 use Rattle.avp_dict.specs.Readings.{read_line, read_lines, within}
-use Rattle.avp_dict.specs.Refusals.{refused_at, ◌>>=◌}
+use Rattle.avp_dict.specs.Refusals.{at_word, refused_at, ◌>>=◌}
 use Rattle.avp_dict.specs.internal.Meanings.{reading_view, reading_views}
-use Rattle.avp_dict.specs.internal.Refused.{fault_at}
+use Rattle.avp_dict.specs.internal.Refused.{is_memory_refusal, is_memory_word}
 
 pub context_of_push : (lines : List Reading) (r : Reading) → context_of (lines ++ r ∷ []) ≡ after_reading (context_of lines) r
 unfolding context_of
@@ -43,16 +42,16 @@ pub refuses_through : {A B E : Type 0} (memory : Bool) (fault : E) (r : Result A
 refuses_through true fault r f h = h
 refuses_through false fault r f h = rw h
 
-pub read_lines_fails : (limit : ℕ) (files : List NamedFile) (before : List Reading) (line : Line) (lines : List Line) (fault : DictFault) → Unless (is_memory fault) (refused_at line.file line.number (within limit before (read_line files (context_of before) line)) ≡ Err fault) → Unless (is_memory fault) (read_lines limit files before (line ∷ lines) ≡ Err fault)
+pub read_lines_fails : (limit : ℕ) (files : List NamedFile) (before : List Reading) (line : Line) (lines : List Line) (fault : RefusedLine) → Unless (is_memory_refusal fault) (refused_at line.file line.number (within limit before (read_line files (context_of before) line)) ≡ Err fault) → Unless (is_memory_refusal fault) (read_lines limit files before (line ∷ lines) ≡ Err fault)
 unfolding read_lines
-read_lines_fails limit files before line lines fault h = refuses_through (is_memory fault) fault (refused_at line.file line.number (within limit before (read_line files (context_of before) line))) _ h
+read_lines_fails limit files before line lines fault h = refuses_through (is_memory_refusal fault) fault (refused_at line.file line.number (within limit before (read_line files (context_of before) line))) _ h
 
 -- one line is read only where there is room
-read_by : (room : Bool) (read : Result Meaning DictKind) (m : Meaning) → (if room then read else Err TooLong) ≡ Ok m → (room ≡ true) × (read ≡ Ok m)
+read_by : (room : Bool) (read : Result Meaning RefusedWord) (m : Meaning) → (if room then read else Err (at_word 0 TooLong)) ≡ Ok m → (room ≡ true) × (read ≡ Ok m)
 read_by true read m h = (refl, h)
 read_by false read m h = absurd (cc)
 
-pub read_within : (limit : ℕ) (before : List Reading) (read : Result Meaning DictKind) (m : Meaning) → within limit before read ≡ Ok m → (length before < limit) × (read ≡ Ok m)
+pub read_within : (limit : ℕ) (before : List Reading) (read : Result Meaning RefusedWord) (m : Meaning) → within limit before read ≡ Ok m → (length before < limit) × (read ≡ Ok m)
 read_within limit before read m h =
     let parts = read_by (nat_lt (length before) limit) read m h in
     (ltb-true (length before) limit parts.0, parts.1)
@@ -62,20 +61,12 @@ pub context_after : (before : List Reading) (was now : Context) (r : Reading) (a
 context_after before was now r after is_was is_now is_after = rw (is_after, context_of_push, ← is_was) is_now
 
 -- the refusal of a line is what its definition gives
-refused : {A : Type 0} (file line : ℕ) (kind : DictKind) (read : Result A DictKind) → is_memory_kind kind ≡ false → read ≡ Err kind
-    → Unless (is_memory_kind kind && (file == 0 && line == 0)) (refused_at file line read ≡ Err (record { file = file; line = line; kind = kind }))
-refused file line kind read e h = rw (e, h)
-
-abbrev fault_if : Bool → ℕ → ℕ → DictKind → DictFault
-fault_if memory file line kind = if memory then want_of_memory else record { file = file; line = line; kind = kind }
-
-fault_by : {A : Type 0} (memory : Bool) (file line : ℕ) (kind : DictKind) (read : Result A DictKind) → is_memory_kind kind ≡ memory → Unless memory (read ≡ Err kind)
-    → Unless (is_memory (fault_if memory file line kind)) (refused_at file line read ≡ Err (fault_if memory file line kind))
-fault_by true file line kind read e h = tt
-fault_by false file line kind read e h = refused file line kind read e h
-
-pub refused_by : {A : Type 0} (file line : ℕ) (kind : DictKind) (read : Result A DictKind) (fault : DictFault) → fault ≡ fault_at file line kind → Unless (is_memory_kind kind) (read ≡ Err kind) → Unless (is_memory fault) (refused_at file line read ≡ Err fault)
-refused_by file line kind read fault e h = rw e (fault_by (is_memory_kind kind) file line kind read refl h)
+pub refused_by : {A : Type 0} (file line : ℕ) (refused : RefusedWord) (read : Result A RefusedWord) (refusal : RefusedLine) → refusal ≡ record { file = file; line = line; refused = refused } → Unless (is_memory_word refused) (read ≡ Err refused) → Unless (is_memory_refusal refusal) (refused_at file line read ≡ Err refusal)
+refused_by file line refused read refusal e h = rw e (by (is_memory_word refused) h)
+  where
+    by : (memory : Bool) → Unless memory (read ≡ Err refused) → Unless memory (refused_at file line read ≡ Err (record { file = file; line = line; refused = refused }))
+    by true h = tt
+    by false h = rw h
 
 -- all open blocks but the innermost
 pub opened_cut : (opened : List CodeReading) (n : ℕ) → n ≡ length opened - 1 → reading_views (take n opened) ≡ take (length (reading_views opened) - 1) (reading_views opened)

@@ -1,9 +1,9 @@
 -- What is read of another number of words, or of parts, than there has to be.
 use Rattle.std.proofs.Common.{◌≡◌, ◌≢◌, ℕ, List, [], ◌∷◌, Option, None, Err, length, get_or, refl, true, arith, Bor}
 use Rattle.avp_dict.specs.declared.entries.VendorLine.{VendorLine}
-use Rattle.avp_dict.specs.declared.faults.DictKind.TheVariants.{Unreadable}
 use Rattle.avp_dict.specs.Attributes.{id_of_parts, id_of_more}
 use Rattle.avp_dict.specs.Readings.{value}
+use Rattle.avp_dict.specs.Refusals.{miscounted}
 use Rattle.avp_dict.specs.Vendors.{format_parts, two_parts}
 use Rattle.avp_dict.specs.Words.{number_of}
 use Rattle.avp_dict.specs.internal.Views.{views}
@@ -14,7 +14,7 @@ many_ids vendors block (n ∷ []) one two = absurd (one refl)
 many_ids vendors block (t ∷ x ∷ []) one two = absurd (two refl)
 many_ids vendors block _ one two = refl
 
-pub no_value : (words : List (Bor (List ℕ))) → length words ≢ 3 → value (views words) ≡ Err Unreadable
+pub no_value : (words : List (Bor (List ℕ))) → length words ≢ 3 → value (views words) ≡ Err (miscounted 3 (views words))
 unfolding value
 no_value (a ∷ b ∷ c ∷ []) three = absurd (three refl)
 no_value _ three = refl

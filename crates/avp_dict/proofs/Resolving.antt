@@ -1,14 +1,14 @@
 -- What one line more adds to a dictionary.
 use Rattle.std.proofs.Common.{ap, ◌≡◌, ℕ, ◌+◌, ◌<◌, ◌≤◌, List, [], ◌∷◌, Err, Ok, refl, length, drop, get_or, add-one, drop-cons}
 use Rattle.std.proofs.lemmas.List.{drop_all}
-use Rattle.avp_dict.specs.declared.faults.DictFault.{DictFault}
+use Rattle.avp_dict.specs.declared.faults.RefusedLine.{RefusedLine}
 use Rattle.avp_dict.specs.declared.file.meanings.Meaning.TheVariants as meanings
 use Rattle.avp_dict.specs.declared.file.meanings.Reading.{Reading as CodeReading}
 use Rattle.avp_lists.specs.Meets.{Unless}
 use Rattle.avp_dict.proofs.LinesRead.{refuses_through}
 use Rattle.avp_dict.specs.Dictionary.{Dictionary}
 use Rattle.avp_dict.specs.Meanings.{Reading}
-use Rattle.avp_dict.specs.Outcomes.{is_memory}
+use Rattle.avp_dict.specs.internal.Refused.{is_memory_refusal}
 use Rattle.avp_dict.specs.Values.{resolve, with_line}
 use Rattle.avp_dict.specs.internal.Meanings.{reading_view, reading_views}
 
@@ -20,9 +20,9 @@ pub resolve_ok : (skipped : List (List ℕ)) (dictionary more : Dictionary) (r :
 unfolding resolve
 resolve_ok skipped dictionary more r rs e = rw e
 
-pub resolve_fails : (skipped : List (List ℕ)) (dictionary : Dictionary) (r : Reading) (rs : List Reading) (fault : DictFault) → Unless (is_memory fault) (with_line skipped dictionary r ≡ Err fault) → Unless (is_memory fault) (resolve skipped dictionary (r ∷ rs) ≡ Err fault)
+pub resolve_fails : (skipped : List (List ℕ)) (dictionary : Dictionary) (r : Reading) (rs : List Reading) (fault : RefusedLine) → Unless (is_memory_refusal fault) (with_line skipped dictionary r ≡ Err fault) → Unless (is_memory_refusal fault) (resolve skipped dictionary (r ∷ rs) ≡ Err fault)
 unfolding resolve
-resolve_fails skipped dictionary r rs fault h = refuses_through (is_memory fault) fault (with_line skipped dictionary r) _ h
+resolve_fails skipped dictionary r rs fault h = refuses_through (is_memory_refusal fault) fault (with_line skipped dictionary r) _ h
 
 abbrev pub some_reading : CodeReading
 some_reading = record { file = 0; line = 0; meaning = meanings.Nothing }

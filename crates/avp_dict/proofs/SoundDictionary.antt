@@ -10,8 +10,8 @@ use Rattle.avp_lists.specs.Pairs.{id_eq}
 use Rattle.avp_dict.specs.declared.entries.AttributeLine.{AttributeLine}
 use Rattle.avp_dict.specs.declared.entries.ValueLine.{ValueLine}
 use Rattle.avp_dict.specs.declared.entries.Typing.{Typing}
-use Rattle.avp_dict.specs.declared.faults.DictFault.{DictFault}
-use Rattle.avp_dict.specs.declared.faults.DictKind.{DictKind}
+use Rattle.avp_dict.specs.declared.faults.RefusedLine.{RefusedLine}
+use Rattle.avp_dict.specs.declared.faults.RefusedWord.{RefusedWord}
 use Rattle.avp_dict.specs.declared.file.files.NamedFile.{NamedFile}
 use Rattle.avp_dict.proofs.Agreement.{other_value_sym}
 use Rattle.avp_dict.proofs.AgreeingLines.{alone_by_number}
@@ -19,7 +19,7 @@ use Rattle.avp_dict.proofs.LinesRead.{then_both}
 use Rattle.avp_dict.proofs.SoundLines.{AllRead, AreRead, IsReadAttribute, is_ranged, none_read, read_lines_read}
 use Rattle.avp_dict.specs.Blocks.{innermost}
 use Rattle.avp_dict.specs.Dictionary.{Dictionary, id_named, number_named, typing_of_id}
-use Rattle.avp_dict.specs.DictionaryReading.{dictionary_of, outline_of, settled_dictionary, unless_open}
+use Rattle.avp_dict.specs.DictionaryReading.{outline_of, read_dictionary, settled_dictionary, unless_open}
 use Rattle.avp_dict.specs.Letters.{is_value_name_octet, max_name}
 use Rattle.avp_dict.specs.Limits.{is_known}
 use Rattle.avp_dict.specs.Lines.{lines_of}
@@ -88,12 +88,12 @@ no_number name h =
     not-true (reads_as_number name) (and_parts (list_all is_value_name_octet name && nat_le (length name) max_name) (not (reads_as_number name)) (not-false (is_value_name name) h)).1
 
 -- what a line adds is sound
-abbrev AddsSound : List ValueLine → Result (Option ValueLine) DictKind → Type 0
+abbrev AddsSound : List ValueLine → Result (Option ValueLine) RefusedWord → Type 0
 AddsSound values (Ok None) = Unit {0}
 AddsSound values (Ok (Some v)) = IsSoundValue values v
 AddsSound values (Err kind) = Unit {0}
 
-abbrev pub AllSound : Result Dictionary DictFault → Type 0
+abbrev pub AllSound : Result Dictionary RefusedLine → Type 0
 AllSound (Ok dictionary) = IsSound dictionary
 AllSound (Err fault) = Unit {0}
 
@@ -155,7 +155,7 @@ module _ (skipped : List (List ℕ)) (d : Dictionary) (sound : IsSound d) where
   with_tagged_sound e None h is = is
   with_tagged_sound e (Some v) h is = same_but_values e (with_tagged e (Some v)) refl refl is.values (All-push IsSoundTagged e.tagged_values v is.tagged_values h) is
 
-  value_sound : (value : Result (Option ValueLine) DictKind) (tagged : Option ValueLine) (r : Reading) → AddsSound d.values value → IfSome tagged IsSoundTagged → AllSound (refused_at r.file r.line value >>= λ v. Ok (with_tagged (with_value d r v) tagged))
+  value_sound : (value : Result (Option ValueLine) RefusedWord) (tagged : Option ValueLine) (r : Reading) → AddsSound d.values value → IfSome tagged IsSoundTagged → AllSound (refused_at r.file r.line value >>= λ v. Ok (with_tagged (with_value d r v) tagged))
   value_sound (Ok None) tagged r h t = with_tagged_sound (with_note d r) tagged t (note_sound r)
   value_sound (Ok (Some v)) tagged r h t =
       with_tagged_sound (with_value d r (Some v)) tagged t (same_but_values d (with_value d r (Some v)) refl refl (value_more d.values v sound.values h) sound.tagged_values sound)
@@ -182,13 +182,13 @@ unless_open_holds : (opened : Option Reading) (lines : List Reading) → AreRead
 unless_open_holds None lines h = h
 unless_open_holds (Some r) lines h = tt
 
-pub dictionary_sound : (limit : ℕ) (files : List NamedFile) → AllSound (dictionary_of limit files)
-unfolding dictionary_of
+pub dictionary_sound : (limit : ℕ) (files : List NamedFile) → AllSound (read_dictionary limit files)
+unfolding read_dictionary
 dictionary_sound limit files =
     then_both AllRead AllSound (read_lines limit files [] (lines_of files)) _ (read_lines_read limit files [] (lines_of files) none_read) (λ lines are.
     then_both AllRead AllSound (unless_open (innermost (context_of lines).opened) lines) _
     (unless_open_holds (innermost (context_of lines).opened) lines are) settled_sound (λ e h. tt))
     (λ e h. tt)
 
-pub sound_of : (limit : ℕ) (files : List NamedFile) (dictionary : Dictionary) → dictionary_of limit files ≡ Ok dictionary → IsSound dictionary
+pub sound_of : (limit : ℕ) (files : List NamedFile) (dictionary : Dictionary) → read_dictionary limit files ≡ Ok dictionary → IsSound dictionary
 sound_of limit files dictionary e = subst AllSound e (dictionary_sound limit files)

@@ -1,6 +1,6 @@
 -- What each line is read as keeps to what holds of every dictionary.
 use Rattle.std.proofs.Common.{◌≡◌, ℕ, Bool, true, false, not, cond, ◌&&◌, ◌≤◌, nat_lt, nat_le, codes, List, [], ◌∷◌, ◌++◌, length, get_or, Option, Some, None, Result, Ok, Err, refl, sym, subst, arith, IfSome, drop, take, is_none}
-use Rattle.std.proofs.lemmas.Bool.{and_parts, cond_both, leb-true, not-true}
+use Rattle.std.proofs.lemmas.Bool.{and_parts, cond_both, leb-true, not-false, not-true}
 use Rattle.std.proofs.lemmas.Grind.{common_steps}
 use Rattle.std.specs.List.{All, list_all, list_any, slice_split}
 use Rattle.std.proofs.lemmas.List.Elements.{All-nil, All-push}
@@ -17,7 +17,8 @@ use Rattle.avp_dict.specs.declared.entries.VendorLine.{VendorLine}
 use Rattle.avp_dict.specs.declared.forms.Form.{Form}
 use Rattle.avp_dict.specs.declared.faults.DictKind.{DictKind}
 use Rattle.avp_dict.specs.declared.faults.DictKind.TheVariants.{UnknownVendor}
-use Rattle.avp_dict.specs.declared.faults.DictFault.{DictFault}
+use Rattle.avp_dict.specs.declared.faults.RefusedWord.{RefusedWord}
+use Rattle.avp_dict.specs.declared.faults.RefusedLine.{RefusedLine}
 use Rattle.avp_dict.specs.declared.file.files.NamedFile.{NamedFile}
 use Rattle.avp_dict.specs.declared.file.meanings.Meaning.{Meaning as CodeMeaning}
 use Rattle.avp_dict.specs.declared.file.meanings.Meaning.TheVariants as code
@@ -26,7 +27,7 @@ use Rattle.avp_dict.proofs.AgreeingLines.{AreAloneNames, alone_by_id}
 use Rattle.avp_dict.proofs.FormedTypings.{typing_formed}
 use Rattle.avp_dict.proofs.LinesRead.{context_of_push, context_of_none, then_both}
 use Rattle.avp_dict.specs.AttributeNumbers.{greatest_number, greatest_value}
-use Rattle.avp_dict.specs.Attributes.{attribute, attribute_line, attribute_of, id_of_dotted, id_of_parts, is_attribute_name, is_extended_id, is_held, is_number, is_of_other_id, number_id, id_of_number, vendor_id}
+use Rattle.avp_dict.specs.Attributes.{attribute, attribute_line, attribute_of, id_of_dotted, id_of_parts, is_attribute_name, is_extended_id, is_held, is_of_other_id, number_id, id_of_number, vendor_id}
 use Rattle.avp_dict.specs.Blocks.{begin_known, begin_tlv, begin_vendor, block_vendor, end_tlv, end_vendor, ended, is_skipping, unless_third}
 use Rattle.avp_dict.specs.Dictionary.{format_of, id_named, vendor_named}
 use Rattle.avp_dict.specs.Letters.{begins_as_attr, is_comma, is_dot, is_name_octet, is_visible, word_before_bracket, max_name}
@@ -34,10 +35,10 @@ use Rattle.avp_dict.specs.Lines.{Line, file_included, is_include}
 use Rattle.avp_dict.specs.Meanings.{Meaning, Vendor, Attribute, BeginVendor, Reading, Context, after_reading, context_of}
 use Rattle.avp_dict.specs.Readings.{include, plain_line, read_head, read_line, read_lines, read_words, skipped_line, value, within}
 use Rattle.avp_dict.specs.Soundness.{IsSoundVendor, names_other_id}
-use Rattle.avp_dict.specs.Refusals.{refused_at, ◌>>=◌}
+use Rattle.avp_dict.specs.Refusals.{at_word, refused_at, word_read, ◌>>=◌}
 use Rattle.avp_dict.specs.Types.{are_flags, form_by, is_fixed, is_formed, is_hiding, is_marked, is_opaque, is_text_kind, kind_word, typing_by, typing_of}
-use Rattle.avp_dict.specs.Vendors.{bounded, format_parts, format_word, is_format, is_other_vendor, is_vendor_name, standard_format, two_parts, vendor, vendor_line, vendor_numbered}
-use Rattle.avp_dict.specs.Words.{number_of, same_name, words_of}
+use Rattle.avp_dict.specs.Vendors.{bounded, format_parts, format_word, is_format, is_other_vendor, is_vendor_name, standard_format, two_parts, vendor, vendor_formatted, vendor_line, vendor_numbered}
+use Rattle.avp_dict.specs.Words.{is_number, number_of, same_name, words_of}
 use Rattle.avp_dict.specs.internal.Meanings.{IsShort, meaning_view}
 
 -- ---- what is kept
@@ -103,11 +104,11 @@ one_more before r _ e are is = rw e (record { attributes = are.attributes; vendo
 
 -- ---- what a line is read as
 
-abbrev pub Reads : Context → Result Meaning DictKind → Type 0
+abbrev pub Reads : Context → Result Meaning RefusedWord → Type 0
 Reads before (Ok m) = IsRead before m
 Reads before (Err kind) = Unit {0}
 
-either : (before : Context) (b : Bool) (x y : Result Meaning DictKind) → Reads before x → Reads before y → Reads before (cond b x y)
+either : (before : Context) (b : Bool) (x y : Result Meaning RefusedWord) → Reads before x → Reads before y → Reads before (cond b x y)
 either before b x y hx hy = cond_both b x y (Reads before) (λ _. hx) (λ _. hy)
 
 -- ---- names and ids
@@ -115,9 +116,13 @@ either before b x y hx hy = cond_both b x y (Reads before) (λ _. hx) (λ _. hy)
 abbrev IsIdRanged : Option AttrId → Type 0
 IsIdRanged o = IfSome o (λ id. is_ranged id ≡ true)
 
-abbrev GivesRanged : Result (Option AttrId) DictKind → Type 0
+abbrev GivesRanged : {E : Type 0} → Result (Option AttrId) E → Type 0
 GivesRanged (Ok id) = IsIdRanged id
 GivesRanged (Err kind) = Unit {0}
+
+word_ranged : (word : ℕ) (r : Result (Option AttrId) DictKind) → GivesRanged r → GivesRanged (word_read word r)
+word_ranged word (Ok id) h = h
+word_ranged word (Err kind) h = tt
 
 extended_ranged : (b : Bool) (t x : ℕ) → (b && is_extended_id 1 t x) ≡ true → is_ranged (ids.Extended t x) ≡ true
 extended_ranged b t x h = grind (arith, common_steps)
@@ -181,7 +186,7 @@ module _ (before : Context) where
   begin_tlv_reads (name ∷ []) = tt
   begin_tlv_reads _ = tt
 
-  begin_known_by : (name : List ℕ) (found : Option ℕ) → Reads before (elim found [ None ↦ Err UnknownVendor | Some vendor ↦ Ok (BeginVendor name (unless_third vendor (format_of vendor before.vendors))) ])
+  begin_known_by : (name : List ℕ) (found : Option ℕ) → Reads before (elim found [ None ↦ Err (at_word 1 UnknownVendor) | Some vendor ↦ Ok (BeginVendor name (unless_third vendor (format_of vendor before.vendors))) ])
   begin_known_by name None = tt
   begin_known_by name (Some vendor) = tt
 
@@ -199,7 +204,7 @@ module _ (before : Context) where
 
   value_reads : (rest : List (List ℕ)) → Reads before (value rest)
   unfolding value
-  value_reads (attribute ∷ name ∷ number ∷ []) = then_both (λ r. Unit {0}) (Reads before) (bounded greatest_value number) _ tt (λ n h. tt) (λ e h. tt)
+  value_reads (attribute ∷ name ∷ number ∷ []) = then_both (λ r. Unit {0}) (Reads before) (word_read 3 (bounded greatest_value number)) _ tt (λ n h. tt) (λ e h. tt)
   value_reads _ = tt
 
   -- the format, if there is one, is one of those that there are
@@ -225,13 +230,17 @@ module _ (before : Context) where
   unfolding vendor_numbered
   vendor_numbered_reads name f short known n = either before (is_other_vendor n (vendor_named name before.vendors)) _ _ tt (record { short = short; format = known })
 
+  vendor_formatted_reads : (name number : List ℕ) (f : Option VendorFormat) → length name ≤ max_name → IsKnownFormat f → Reads before (vendor_formatted before.vendors name number f)
+  unfolding vendor_formatted
+  vendor_formatted_reads name number None short known = tt
+  vendor_formatted_reads name number (Some f) short known =
+      then_both (λ r. Unit {0}) (Reads before) (word_read 2 (bounded greatest_number number)) _ tt (λ n h. vendor_numbered_reads name f short known n) (λ e h. tt)
+
   vendor_line_reads : (name number : List ℕ) (f : Option VendorFormat) → IsKnownFormat f → Reads before (vendor_line before.vendors name number f)
   unfolding vendor_line
-  vendor_line_reads name number None known = tt
-  vendor_line_reads name number (Some f) known =
-      cond_both (is_vendor_name name) _ _ (Reads before)
-      (λ named. then_both (λ r. Unit {0}) (Reads before) (bounded greatest_number number) _ tt (λ n h. vendor_numbered_reads name f (short_vendor name named) known n) (λ e h. tt))
-      (λ other. tt)
+  vendor_line_reads name number f known =
+      cond_both (not (is_vendor_name name)) _ _ (Reads before) (λ other. tt)
+      (λ named. cond_both (not (is_number number)) _ _ (Reads before) (λ other. tt) (λ h. vendor_formatted_reads name number f (short_vendor name (not-false (is_vendor_name name) named)) known))
 
   vendor_reads : (rest : List (List ℕ)) → Reads before (vendor before.vendors rest)
   unfolding vendor
@@ -282,8 +291,8 @@ module _ (before : Context) where
   attribute_line_reads : (block : Option ℕ) (name number kind : List ℕ) (flags : List (List ℕ)) → Reads before (attribute_line before block name number kind flags)
   unfolding attribute_line
   attribute_line_reads block name number kind flags =
-      then_both GivesRanged (Reads before) (id_of_parts before.vendors block (slice_split is_dot number)) _
-      (id_of_parts_ranged block (slice_split is_dot number)) (attribute_of_reads name kind flags) (λ e h. tt)
+      then_both GivesRanged (Reads before) (word_read 2 (id_of_parts before.vendors block (slice_split is_dot number))) _
+      (word_ranged 2 (id_of_parts before.vendors block (slice_split is_dot number)) (id_of_parts_ranged block (slice_split is_dot number))) (attribute_of_reads name kind flags) (λ e h. tt)
 
   attribute_reads : (block : Option ℕ) (rest : List (List ℕ)) → Reads before (attribute before block rest)
   unfolding attribute
@@ -334,11 +343,11 @@ short_read before files line m e = by_meaning m (rw e at (read_line_reads before
     by_meaning (code.Vendor name number format) h = h.short
     by_meaning _ h = tt
 
-abbrev pub AllRead : Result (List Reading) DictFault → Type 0
+abbrev pub AllRead : Result (List Reading) RefusedLine → Type 0
 AllRead (Ok lines) = AreRead (context_of lines)
 AllRead (Err fault) = Unit {0}
 
-step_read : (before : Context) (file line : ℕ) (r : Result Meaning DictKind) (f : Meaning → Result (List Reading) DictFault) → Reads before r → ((m : Meaning) → IsRead before m → AllRead (f m)) → AllRead (refused_at file line r >>= f)
+step_read : (before : Context) (file line : ℕ) (r : Result Meaning RefusedWord) (f : Meaning → Result (List Reading) RefusedLine) → Reads before r → ((m : Meaning) → IsRead before m → AllRead (f m)) → AllRead (refused_at file line r >>= f)
 step_read before file line (Ok m) f reads next = next m reads
 step_read before file line (Err kind) f reads next = tt
 

@@ -1,19 +1,20 @@
 -- ATTRIBUTE lines: a name, a number, a type and flags.
-use Rattle.std.specs.Prelude.{ℕ, Bool, false, not, ◌&&◌, ◌==◌, nat_le, if◌then◌else◌, List, [], ◌∷◌, length, Option, Some, None, is_some, is_none, Result, Ok, Err}
+use Rattle.std.specs.Prelude.{ℕ, Bool, false, not, ◌&&◌, ◌==◌, nat_le, if◌then◌else◌, List, [], ◌∷◌, length, Option, Some, None, is_none, Result, Ok, Err}
 use Rattle.std.specs.List.{list_all, slice_split}
 use Rattle.avp_lists.specs.declared.pairs.AttrId.{AttrId}
 use Rattle.avp_lists.specs.declared.pairs.AttrId.TheVariants as ids
 use Rattle.avp_lists.specs.Pairs.{id_eq}
 use Rattle.avp_dict.specs.declared.faults.DictKind.{DictKind}
+use Rattle.avp_dict.specs.declared.faults.RefusedWord.{RefusedWord}
 use Rattle.avp_dict.specs.declared.faults.DictKind.TheVariants.{Unreadable, OutOfRange, OtherNumber}
 use Rattle.avp_dict.specs.declared.entries.AttributeLine.{AttributeLine}
 use Rattle.avp_dict.specs.declared.entries.VendorFormat.{VendorFormat}
 use Rattle.avp_dict.specs.declared.entries.VendorLine.{VendorLine}
 use Rattle.avp_dict.specs.Meanings.{Meaning, Attribute, SkippedAttribute, Context}
-use Rattle.avp_dict.specs.Words.{number_of}
+use Rattle.avp_dict.specs.Words.{is_number, number_of}
 use Rattle.avp_dict.specs.AttributeNumbers.{greatest_number, is_extended_type}
 use Rattle.avp_dict.specs.Letters.{is_dot, is_comma, is_name_octet, begins_as_attr, max_name}
-use Rattle.avp_dict.specs.Refusals.{◌>>=◌}
+use Rattle.avp_dict.specs.Refusals.{◌>>=◌, at_word, miscounted, word_read}
 use Rattle.avp_dict.specs.Dictionary.{format_of, id_named}
 use Rattle.avp_dict.specs.Types.{are_flags, typing_of}
 
@@ -52,9 +53,6 @@ id_of_dotted block (Some t) (Some x) =
     Ok (if is_none block && is_extended_id 1 t x then Some (ids.Extended t x) else None)
 id_of_dotted block _ _ = Err Unreadable
 
-abbrev pub is_number : List ℕ → Bool
-is_number word = is_some (number_of word)
-
 -- other dotted numbers skip the line
 abbrev pub id_of_more : List (List ℕ) → Result (Option AttrId) DictKind
 id_of_more parts = if list_all is_number parts then Ok None else Err Unreadable
@@ -80,21 +78,21 @@ is_of_other_id id (Some other) = not (id_eq other id)
 
 -- a line whose number is read
 unfoldable pub attribute_of : List AttributeLine → List ℕ → List ℕ → List (List ℕ) → Option AttrId
-    → Result Meaning DictKind
+    → Result Meaning RefusedWord
 attribute_of attributes name kind flags None = Ok (SkippedAttribute name)
 attribute_of attributes name kind flags (Some id) = if is_attribute_name name && are_flags flags
-    then (if is_of_other_id id (id_named name attributes) then Err OtherNumber
+    then (if is_of_other_id id (id_named name attributes) then Err (at_word 1 OtherNumber)
     else Ok (Attribute (record { name = name; id = id; typing = typing_of id kind flags })))
     else Ok (SkippedAttribute name)
 
 unfoldable pub attribute_line : Context → Option ℕ → List ℕ → List ℕ → List ℕ → List (List ℕ)
-    → Result Meaning DictKind
+    → Result Meaning RefusedWord
 attribute_line before block name number kind flags =
-    id_of_parts before.vendors block (slice_split is_dot number)
+    word_read 2 (id_of_parts before.vendors block (slice_split is_dot number))
     >>= attribute_of before.attributes name kind flags
 
-unfoldable pub attribute : Context → Option ℕ → List (List ℕ) → Result Meaning DictKind
+unfoldable pub attribute : Context → Option ℕ → List (List ℕ) → Result Meaning RefusedWord
 attribute before block (name ∷ number ∷ kind ∷ []) = attribute_line before block name number kind []
 attribute before block (name ∷ number ∷ kind ∷ flags ∷ []) =
     attribute_line before block name number kind (slice_split is_comma flags)
-attribute before block _ = Err Unreadable
+attribute before block words = Err (miscounted 4 words)

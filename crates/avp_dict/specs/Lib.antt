@@ -28,5 +28,6 @@ pub mod Spellings
 pub mod Types
 pub mod Values
 pub mod Vendors
+pub mod WordPlaces
 pub mod Words
 pub mod internal

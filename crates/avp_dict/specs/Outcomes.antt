@@ -14,10 +14,12 @@ is_memory_kind _ = false
 
 -- it has no place
 abbrev pub want_of_memory : DictFault
-want_of_memory = record { file = 0; line = 0; kind = Memory }
+want_of_memory = record { file = 0; line = 0; offset = 0; kind = Memory }
 
 abbrev pub is_memory : DictFault → Bool
-is_memory fault = is_memory_kind fault.kind && (fault.file == 0 && fault.line == 0)
+is_memory fault =
+    is_memory_kind fault.kind
+    && (fault.file == 0 && (fault.line == 0 && fault.offset == 0))
 
 abbrev pub is_memory_value : ValueFault → Bool
 is_memory_value values.Memory = true

@@ -12,15 +12,15 @@ use Rattle.avp_dict.specs.declared.entries.ValueLine.{ValueLine}
 use Rattle.avp_dict.specs.declared.entries.VendorLine.{VendorLine}
 use Rattle.avp_dict.specs.declared.forms.Form.{Form}
 use Rattle.avp_dict.specs.declared.forms.Form.TheVariants.{TaggedInteger}
-use Rattle.avp_dict.specs.declared.faults.DictKind.{DictKind}
+use Rattle.avp_dict.specs.declared.faults.RefusedWord.{RefusedWord}
 use Rattle.avp_dict.specs.declared.faults.DictKind.TheVariants.{OutOfRange, NoAttribute, OtherValue}
-use Rattle.avp_dict.specs.declared.faults.DictFault.{DictFault}
+use Rattle.avp_dict.specs.declared.faults.RefusedLine.{RefusedLine}
 use Rattle.avp_dict.specs.AttributeNumbers.{greatest_number, greatest_value}
 use Rattle.avp_dict.specs.Dictionary.{Dictionary, id_named, number_named, typing_of_id}
 use Rattle.avp_dict.specs.Letters.{is_value_name_octet, max_name}
 use Rattle.avp_dict.specs.Meanings.{Meaning, Skipped, SkippedAttribute, Attribute, Value, BeginVendor, BeginTlv, End, Reading}
 use Rattle.avp_dict.specs.Settled.{is_kept}
-use Rattle.avp_dict.specs.Refusals.{◌>>=◌, refused_at}
+use Rattle.avp_dict.specs.Refusals.{◌>>=◌, at_word, refused_at}
 use Rattle.avp_dict.specs.Words.{digits, is_hexadecimal, same_name}
 
 -- ---- the name of a value
@@ -59,12 +59,12 @@ is_of_other_number number (Some other) = not (other == number)
 
 -- the name of a number of an attribute with this greatest number; none where the line only gives a note
 unfoldable pub value_up_to : List ValueLine → AttrId → List ℕ → ℕ → Option ℕ
-    → Result (Option ValueLine) DictKind
+    → Result (Option ValueLine) RefusedWord
 value_up_to values id name number None = Ok None
 value_up_to values id name number (Some most) =
     if not (is_value_name name) then Ok None
-    else if not (nat_le number most) then Err OutOfRange
-    else if is_of_other_number number (number_named id name values) then Err OtherValue
+    else if not (nat_le number most) then Err (at_word 3 OutOfRange)
+    else if is_of_other_number number (number_named id name values) then Err (at_word 2 OtherValue)
     else Ok (Some (record { id = id; name = name; number = number }))
 
 abbrev pub is_same_name : List ℕ → List ℕ → Bool
@@ -73,12 +73,12 @@ is_same_name name other = same_name other name
 -- a VALUE line of this attribute's name; without such an attribute a note if the name is that of a skipped ATTRIBUTE
 -- line
 unfoldable pub value_of : List (List ℕ) → Dictionary → List ℕ → List ℕ → ℕ → Option AttrId
-    → Result (Option ValueLine) DictKind
+    → Result (Option ValueLine) RefusedWord
 value_of skipped dictionary attribute name number (Some id) =
     value_up_to dictionary.values id name number
     (option_and_then max_of_typing (typing_of_id id dictionary.attributes))
 value_of skipped dictionary attribute name number None =
-    if list_any (is_same_name attribute) skipped then Ok None else Err NoAttribute
+    if list_any (is_same_name attribute) skipped then Ok None else Err (at_word 1 NoAttribute)
 
 -- ---- the names of numbers beside tags
 
@@ -133,7 +133,7 @@ with_tagged dictionary (Some v) =
     record dictionary { tagged_values = dictionary.tagged_values ++ v ∷ [] }
 
 -- the dictionary with what a line adds; skipped are the names on skipped ATTRIBUTE lines
-unfoldable pub with_line : List (List ℕ) → Dictionary → Reading → Result Dictionary DictFault
+unfoldable pub with_line : List (List ℕ) → Dictionary → Reading → Result Dictionary RefusedLine
 with_line skipped dictionary r = elim r.meaning [
   | Value attribute name number ↦
       refused_at r.file r.line
@@ -145,7 +145,7 @@ with_line skipped dictionary r = elim r.meaning [
 ]
 
 -- the dictionary with what the lines add, or the first refusal
-unfoldable pub resolve : List (List ℕ) → Dictionary → List Reading → Result Dictionary DictFault
+unfoldable pub resolve : List (List ℕ) → Dictionary → List Reading → Result Dictionary RefusedLine
 resolve skipped dictionary [] = Ok dictionary
 resolve skipped dictionary (r ∷ rs) =
     with_line skipped dictionary r >>= λ more. resolve skipped more rs

@@ -3,13 +3,14 @@ use Rattle.std.specs.Prelude.{codes, ℕ, Bool, true, false, not, ◌&&◌, ◌|
 use Rattle.std.specs.List.{list_all, slice_split}
 use Rattle.avp_dict.specs.declared.faults.DictKind.{DictKind}
 use Rattle.avp_dict.specs.declared.faults.DictKind.TheVariants.{Unreadable, OutOfRange, OtherNumber}
+use Rattle.avp_dict.specs.declared.faults.RefusedWord.{RefusedWord}
 use Rattle.avp_dict.specs.declared.entries.VendorFormat.{VendorFormat}
 use Rattle.avp_dict.specs.declared.entries.VendorLine.{VendorLine}
 use Rattle.avp_dict.specs.AttributeNumbers.{greatest_number}
 use Rattle.avp_dict.specs.Meanings.{Meaning, Vendor}
-use Rattle.avp_dict.specs.Words.{same_name, number_of}
+use Rattle.avp_dict.specs.Words.{is_number, same_name, number_of}
 use Rattle.avp_dict.specs.Letters.{is_comma, is_visible, max_name}
-use Rattle.avp_dict.specs.Refusals.{◌>>=◌}
+use Rattle.avp_dict.specs.Refusals.{◌>>=◌, at_word, miscounted, word_read}
 use Rattle.avp_dict.specs.Dictionary.{vendor_named}
 
 abbrev pub at_most : ℕ → ℕ → Result ℕ DictKind
@@ -55,19 +56,26 @@ is_other_vendor number (Some other) = not (other == number)
 
 -- a name and a number that are good, and the format
 unfoldable pub vendor_numbered : List VendorLine → List ℕ → VendorFormat → ℕ
-    → Result Meaning DictKind
+    → Result Meaning RefusedWord
 vendor_numbered vendors name f n =
-    if is_other_vendor n (vendor_named name vendors) then Err OtherNumber
+    if is_other_vendor n (vendor_named name vendors) then Err (at_word 1 OtherNumber)
     else Ok (Vendor (record { name = name; number = n; format = f }))
 
-unfoldable pub vendor_line : List VendorLine → List ℕ → List ℕ → Option VendorFormat
-    → Result Meaning DictKind
-vendor_line vendors name number None = Err Unreadable
-vendor_line vendors name number (Some f) =
-    if is_vendor_name name then (bounded greatest_number number >>= vendor_numbered vendors name f)
-    else Err Unreadable
+-- a name that is good, and a number
+unfoldable pub vendor_formatted : List VendorLine → List ℕ → List ℕ → Option VendorFormat
+    → Result Meaning RefusedWord
+vendor_formatted vendors name number None = Err (at_word 3 Unreadable)
+vendor_formatted vendors name number (Some f) =
+    word_read 2 (bounded greatest_number number) >>= vendor_numbered vendors name f
 
-unfoldable pub vendor : List VendorLine → List (List ℕ) → Result Meaning DictKind
+unfoldable pub vendor_line : List VendorLine → List ℕ → List ℕ → Option VendorFormat
+    → Result Meaning RefusedWord
+vendor_line vendors name number format =
+    if not (is_vendor_name name) then Err (at_word 1 Unreadable)
+    else if not (is_number number) then Err (at_word 2 Unreadable)
+    else vendor_formatted vendors name number format
+
+unfoldable pub vendor : List VendorLine → List (List ℕ) → Result Meaning RefusedWord
 vendor vendors (name ∷ number ∷ []) = vendor_line vendors name number (Some standard_format)
 vendor vendors (name ∷ number ∷ format ∷ []) = vendor_line vendors name number (format_word format)
-vendor vendors _ = Err Unreadable
+vendor vendors words = Err (miscounted 3 words)

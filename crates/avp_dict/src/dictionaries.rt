@@ -1,24 +1,27 @@
-ghost use Rattle.std.specs.Prelude.{◌≡◌, ◌<◌, ◌^◌, length, slice_get, All, IfOk, IfErr};
+ghost use Rattle.std.specs.Prelude.{◌≡◌, ◌<◌, ◌^◌, if◌then◌else◌, length, slice_get, All, IfOk, IfErr};
 ghost use Rattle.std.specs.Option.{option_map, option_copied};
 ghost use Rattle.std.specs.Result.{result_map_both};
-ghost use Rattle.avp_lists.specs.Meets.{Meets};
+ghost use Rattle.avp_lists.specs.Meets.{Meets, Unless};
 ghost use Rattle.avp_dict.specs.Counts.{counts_of};
 ghost use Rattle.avp_dict.specs.Dictionary.{first_names, name_numbered, number_named, tagged_name_numbered, typing_of_id};
-ghost use Rattle.avp_dict.specs.DictionaryReading.{dictionary_of, max_lines};
-ghost use Rattle.avp_dict.specs.Lines.{HasDistinctNames};
+ghost use Rattle.avp_dict.specs.DictionaryReading.{dictionary_of, fault_of, max_lines, read_dictionary};
+ghost use Rattle.avp_dict.specs.Lines.{HasDistinctNames, octets_at};
 ghost use Rattle.avp_dict.specs.Names.{described, form_of, is_marked_secret, named, unless_three, vendor_format};
-ghost use Rattle.avp_dict.specs.Outcomes.{is_memory};
+ghost use Rattle.avp_dict.specs.Outcomes.{is_memory, want_of_memory};
 ghost use Rattle.avp_dict.specs.Settled.{is_in_format};
 ghost use Rattle.avp_dict.specs.Soundness.{IsSound};
+ghost use Rattle.avp_dict.specs.WordPlaces.{IsWordPlace};
 ghost use Rattle.avp_dict.specs.internal.Contents.{contents_view};
 ghost use Rattle.avp_dict.specs.internal.Entries.{entry_view};
+ghost use Rattle.avp_dict.specs.internal.Refused.{is_memory_refusal};
 
 use crate::contents::Contents;
 use crate::entries::{Counts, Entry, Format, Named, Note, Typing, VendorFormat};
-use crate::faults::DictFault;
+use crate::faults::{DictFault, OUT_OF_MEMORY, RefusedLine};
 use crate::file::attributes::begins_as_attr;
 use crate::file::files::{FileSet, NamedFile};
-use crate::file::lines::MAX_LINES;
+use crate::file::lines::{MAX_LINES, octets_at};
+use crate::file::offsets::word_offset;
 use crate::file::reader::{ReadLines, read_set};
 use crate::file::settling::{is_in_format, settle};
 use crate::forms::Form;
@@ -70,15 +73,36 @@ pub(crate) fn read_up_to(
     alloc: Global,
     files: &[NamedFile],
     limit: usize,
-) -> Result<Contents, DictFault>
+) -> Result<Contents, RefusedLine>
     requires { limit < 2 ^ 32 }
-    ensures { Meets is_memory (result_map_both contents_view (λ fault. fault) result)
-        (dictionary_of limit files.now) }
+    ensures { Meets is_memory_refusal (result_map_both contents_view (λ refused. refused) result)
+        (read_dictionary limit files.now) }
 {
     let mut read = ReadLines::new(alloc);
     read_set(alloc, files, limit, &mut read)?;
     let ReadLines { readings, context } = read;
     settle(alloc, &readings, context)
+}
+
+// The fault of a file set for a line that was refused.
+fn fault_for(files: &[NamedFile], refused: RefusedLine) -> DictFault
+    ensures { result
+        ≡ if is_memory_refusal refused then want_of_memory else fault_of files.now refused }
+{
+    let RefusedLine {
+        file,
+        line,
+        refused,
+    } = refused;
+    if refused.kind.is_memory() {
+        return OUT_OF_MEMORY;
+    }
+    DictFault {
+        file,
+        line,
+        offset: word_offset(line, refused.word, octets_at(files, file)),
+        kind: refused.kind,
+    }
 }
 
 impl Dictionary {
@@ -101,11 +125,15 @@ impl Dictionary {
         requires names { HasDistinctNames files.now }
         ensures read { Meets is_memory result (dictionary_of max_lines files.now) }
         ensures placed { IfErr result (λ fault. fault.file < length files.now) }
+        ensures place { IfErr result (λ fault. Unless (is_memory fault)
+            (IsWordPlace (octets_at files.now fault.file) fault.line fault.offset)) }
         ensures noted { IfOk result (λ dictionary.
             All (λ note. note.file < length files.now) dictionary.notes) }
     {
-        let contents = read_up_to(alloc, files.as_slice(), MAX_LINES)?;
-        Ok(Dictionary { contents })
+        match read_up_to(alloc, files.as_slice(), MAX_LINES) {
+            Ok(contents) => Ok(Dictionary { contents }),
+            Err(refused) => Err(fault_for(files.as_slice(), refused)),
+        }
     }
 
     // What holds of every dictionary that was read.

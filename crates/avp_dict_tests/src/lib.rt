@@ -2,6 +2,8 @@
 #![tactic(auto)]
 
 #[cfg(test)]
+mod dictionary_places;
+#[cfg(test)]
 mod files;
 #[cfg(test)]
 mod forms;

@@ -4,7 +4,7 @@ use Rattle.std.specs.Result.{result_map_both}
 use Rattle.avp_dict.specs.declared.entries.VendorLine.{VendorLine}
 use Rattle.avp_dict.specs.Letters.{max_name}
 use Rattle.avp_dict.specs.Settled.{is_kept}
-use Rattle.avp_dict.specs.declared.faults.DictKind.{DictKind}
+use Rattle.avp_dict.specs.declared.faults.RefusedWord.{RefusedWord}
 use Rattle.avp_dict.specs.declared.file.context.Context.{Context as CodeContext}
 use Rattle.avp_dict.specs.declared.file.meanings.Meaning.{Meaning as CodeMeaning}
 use Rattle.avp_dict.specs.declared.file.meanings.Meaning.TheVariants as code
@@ -26,8 +26,8 @@ meaning_view (code.BeginTlv name) = BeginTlv name.now
 meaning_view (code.End noted) = End noted
 
 -- what a line was read as, if it was
-abbrev pub read_view : Result CodeMeaning DictKind → Result Meaning DictKind
-read_view read = result_map_both meaning_view (λ kind. kind) read
+abbrev pub read_view : Result CodeMeaning RefusedWord → Result Meaning RefusedWord
+read_view read = result_map_both meaning_view (λ refused. refused) read
 
 abbrev pub reading_view : CodeReading → Reading
 reading_view r = record { file = r.file; line = r.line; meaning = meaning_view r.meaning }

@@ -1,9 +1,11 @@
--- The refusal of a file set for what one line gave.
-use Rattle.std.specs.Prelude.{ℕ, if◌then◌else◌}
-use Rattle.avp_dict.specs.declared.faults.DictKind.{DictKind}
-use Rattle.avp_dict.specs.declared.faults.DictFault.{DictFault}
-use Rattle.avp_dict.specs.Outcomes.{is_memory_kind, want_of_memory}
+-- Which refusals of lines are want of memory.
+use Rattle.std.specs.Prelude.{Bool}
+use Rattle.avp_dict.specs.declared.faults.RefusedLine.{RefusedLine}
+use Rattle.avp_dict.specs.declared.faults.RefusedWord.{RefusedWord}
+use Rattle.avp_dict.specs.Outcomes.{is_memory_kind}
 
-abbrev pub fault_at : ℕ → ℕ → DictKind → DictFault
-fault_at file line kind =
-    if is_memory_kind kind then want_of_memory else record { file = file; line = line; kind = kind }
+abbrev pub is_memory_word : RefusedWord → Bool
+is_memory_word refused = is_memory_kind refused.kind
+
+abbrev pub is_memory_refusal : RefusedLine → Bool
+is_memory_refusal refused = is_memory_word refused.refused

@@ -4,19 +4,21 @@ ghost use Rattle.std.specs.Prelude.{◌≡◌, ◌≤◌, ℕ, Option, Some, Non
 ghost use Rattle.std.specs.List.{list_all, slice_split};
 ghost use Rattle.avp_lists.specs.declared.pairs.AttrId.TheVariants.{Extended};
 ghost use Rattle.avp_lists.specs.Meets.{Meets};
-ghost use Rattle.avp_dict.specs.Attributes.{attribute, attribute_line, attribute_of, id_of_dotted, id_of_parts, is_attribute_name, is_extended_id, is_held, is_number, is_of_other_id, id_of_more, max_in, number_id, id_of_number, vendor_id};
+ghost use Rattle.avp_dict.specs.Attributes.{attribute, attribute_line, attribute_of, id_of_dotted, id_of_parts, is_attribute_name, is_extended_id, is_held, is_of_other_id, id_of_more, max_in, number_id, id_of_number, vendor_id};
 ghost use Rattle.avp_dict.specs.Letters.{begins_as_attr, is_decimal, is_dot, is_name_octet};
 ghost use Rattle.avp_dict.specs.Outcomes.{is_memory_kind};
+ghost use Rattle.avp_dict.specs.Words.{is_number};
 ghost use Rattle.avp_dict.specs.internal.Numbers.{Reads};
 ghost use Rattle.avp_dict.specs.internal.Meanings.{context_view, read_view};
+ghost use Rattle.avp_dict.specs.internal.Refused.{is_memory_word};
 ghost use Rattle.avp_dict.specs.internal.Views.{views};
 
 use crate::attribute_numbers::is_extended_type;
 use crate::entries::VendorFormat;
-use crate::faults::DictKind;
+use crate::faults::{DictKind, RefusedWord, miscounted};
 use crate::file::context::Context;
 use crate::file::meanings::Meaning;
-use crate::file::numbers::{MAX_NUMBER, Number, number_of};
+use crate::file::numbers::{MAX_NUMBER, Number, is_number, number_of};
 use crate::file::parts::{first_between, parts_between};
 use crate::file::types::{are_flags, typing_of};
 use crate::file::words::{MAX_NAME, same_name};
@@ -110,12 +112,6 @@ fn id_of_dotted(block: Option<u32>, t: Number, x: Number) -> Result<Option<AttrI
         (Number::Is(t), Number::Is(x)) if block.is_none() => Ok(extended_id(1, t, x)),
         _ => Ok(None),
     }
-}
-
-fn is_number(word: &[u8]) -> bool
-    ensures { result ≡ is_number word.now }
-{
-    number_of(word).is_read()
 }
 
 fn are_numbers(parts: &[&[u8]]) -> bool
@@ -221,8 +217,8 @@ fn attribute_of<'a>(
     kind: &[u8],
     flags: &[&[u8]],
     id: Option<AttrId>,
-) -> Result<Meaning<'a>, DictKind>
-    ensures { Meets is_memory_kind (read_view result)
+) -> Result<Meaning<'a>, RefusedWord>
+    ensures { Meets is_memory_word (read_view result)
         (attribute_of attributes.now name.now kind.now (views flags.now) id) }
 {
     match id {
@@ -232,7 +228,7 @@ fn attribute_of<'a>(
                 return Ok(Meaning::SkippedAttribute(name));
             }
             if is_of_other_id(id, attributes.id_named(name)) {
-                return Err(DictKind::OtherNumber);
+                return Err(DictKind::OtherNumber.at_word(1));
             }
             Ok(Meaning::Attribute(name, id, typing_of(id, kind, flags)))
         }
@@ -248,12 +244,14 @@ fn attribute_line<'a>(
     number: &[u8],
     kind: &[u8],
     flags: &[&[u8]],
-) -> Result<Meaning<'a>, DictKind>
-    ensures { Meets is_memory_kind (read_view result) (attribute_line
+) -> Result<Meaning<'a>, RefusedWord>
+    ensures { Meets is_memory_word (read_view result) (attribute_line
         (context_view before.now) block name.now number.now kind.now (views flags.now)) }
 {
-    let id = id_of_word(alloc, &before.vendors, block, number)?;
-    attribute_of(&before.attributes, name, kind, flags, id)
+    match id_of_word(alloc, &before.vendors, block, number) {
+        Ok(id) => attribute_of(&before.attributes, name, kind, flags, id),
+        Err(kind) => Err(kind.at_word(2)),
+    }
 }
 
 /// An ATTRIBUTE line after its keyword.
@@ -263,8 +261,8 @@ pub(crate) fn read_attribute<'a>(
     before: &Context<'_>,
     block: Option<u32>,
     words: &[&'a [u8]],
-) -> Result<Meaning<'a>, DictKind>
-    ensures { Meets is_memory_kind (read_view result)
+) -> Result<Meaning<'a>, RefusedWord>
+    ensures { Meets is_memory_word (read_view result)
         (attribute (context_view before.now) block (views words.now)) }
 {
     match words {
@@ -273,6 +271,6 @@ pub(crate) fn read_attribute<'a>(
             let flags = parts_between(alloc, b',', flags)?;
             attribute_line(alloc, before, block, name, number, kind, &flags)
         }
-        _ => Err(DictKind::Unreadable),
+        _ => Err(miscounted(4, words)),
     }
 }

@@ -4,13 +4,13 @@ ghost use Rattle.std.specs.Prelude.{◌≡◌, false};
 ghost use Rattle.std.specs.Option.{option_map_or};
 ghost use Rattle.avp_lists.specs.Meets.{Meets};
 ghost use Rattle.avp_dict.specs.Blocks.{begin_known, begin_tlv, begin_vendor, end_tlv, end_vendor, ended, innermost, opens_tlv_named, opens_vendor_named, unless_third};
-ghost use Rattle.avp_dict.specs.Outcomes.{is_memory_kind};
 ghost use Rattle.avp_dict.specs.Readings.{include, include_line};
 ghost use Rattle.avp_dict.specs.internal.Meanings.{read_view, reading_view, reading_views};
+ghost use Rattle.avp_dict.specs.internal.Refused.{is_memory_word};
 ghost use Rattle.avp_dict.specs.internal.Views.{views};
 
 use crate::entries::VendorFormat;
-use crate::faults::DictKind;
+use crate::faults::{DictKind, RefusedWord, miscounted};
 use crate::file::context::{innermost, is_skipping};
 use crate::file::keywords::DOLLAR_INCLUDE;
 use crate::file::lines::MAX_DEPTH;
@@ -56,13 +56,13 @@ fn is_in_tlv(opened: &[Reading<'_>], name: &[u8]) -> bool
     }
 }
 
-fn ended<'a>(fits: bool, opened: &[Reading<'_>]) -> Result<Meaning<'a>, DictKind>
-    ensures { Meets is_memory_kind (read_view result) (ended fits (reading_views opened.now)) }
+fn ended<'a>(fits: bool, opened: &[Reading<'_>]) -> Result<Meaning<'a>, RefusedWord>
+    ensures { Meets is_memory_word (read_view result) (ended fits (reading_views opened.now)) }
 {
     if fits {
         Ok(Meaning::End(is_skipping(opened)))
     } else {
-        Err(DictKind::Unmatched)
+        Err(DictKind::Unmatched.at_word(1))
     }
 }
 
@@ -70,13 +70,13 @@ fn ended<'a>(fits: bool, opened: &[Reading<'_>]) -> Result<Meaning<'a>, DictKind
 pub(crate) fn end_vendor<'a>(
     opened: &[Reading<'_>],
     words: &[&'a [u8]],
-) -> Result<Meaning<'a>, DictKind>
-    ensures { Meets is_memory_kind (read_view result)
+) -> Result<Meaning<'a>, RefusedWord>
+    ensures { Meets is_memory_word (read_view result)
         (end_vendor (reading_views opened.now) (views words.now)) }
 {
     match words {
         [name] => ended(is_in_vendor(opened, name), opened),
-        _ => Err(DictKind::Unreadable),
+        _ => Err(miscounted(1, words)),
     }
 }
 
@@ -84,23 +84,23 @@ pub(crate) fn end_vendor<'a>(
 pub(crate) fn end_tlv<'a>(
     opened: &[Reading<'_>],
     words: &[&'a [u8]],
-) -> Result<Meaning<'a>, DictKind>
-    ensures { Meets is_memory_kind (read_view result)
+) -> Result<Meaning<'a>, RefusedWord>
+    ensures { Meets is_memory_word (read_view result)
         (end_tlv (reading_views opened.now) (views words.now)) }
 {
     match words {
         [name] => ended(is_in_tlv(opened, name), opened),
-        _ => Err(DictKind::Unreadable),
+        _ => Err(miscounted(1, words)),
     }
 }
 
 #[tactic(auto, unfolding(crate::specs::Blocks::begin_tlv))]
-pub(crate) fn begin_tlv<'a>(words: &[&'a [u8]]) -> Result<Meaning<'a>, DictKind>
-    ensures { Meets is_memory_kind (read_view result) (begin_tlv (views words.now)) }
+pub(crate) fn begin_tlv<'a>(words: &[&'a [u8]]) -> Result<Meaning<'a>, RefusedWord>
+    ensures { Meets is_memory_word (read_view result) (begin_tlv (views words.now)) }
 {
     match words {
         [name] => Ok(Meaning::BeginTlv(name)),
-        _ => Err(DictKind::Unreadable),
+        _ => Err(miscounted(1, words)),
     }
 }
 
@@ -114,11 +114,11 @@ fn unless_third(vendor: u32, format: Option<VendorFormat>) -> Option<u32>
 }
 
 #[tactic(auto, unfolding(crate::specs::Blocks::begin_known))]
-fn begin_known<'a>(vendors: &Vendors, name: &'a [u8]) -> Result<Meaning<'a>, DictKind>
-    ensures { Meets is_memory_kind (read_view result) (begin_known vendors.now name.now) }
+fn begin_known<'a>(vendors: &Vendors, name: &'a [u8]) -> Result<Meaning<'a>, RefusedWord>
+    ensures { Meets is_memory_word (read_view result) (begin_known vendors.now name.now) }
 {
     match vendors.vendor_named(name) {
-        None => Err(DictKind::UnknownVendor),
+        None => Err(DictKind::UnknownVendor.at_word(1)),
         Some(vendor) => Ok(Meaning::BeginVendor(
             name,
             unless_third(vendor, vendors.format_of(vendor)),
@@ -131,8 +131,8 @@ pub(crate) fn begin_vendor<'a>(
     vendors: &Vendors,
     opened: &[Reading<'_>],
     words: &[&'a [u8]],
-) -> Result<Meaning<'a>, DictKind>
-    ensures { Meets is_memory_kind (read_view result)
+) -> Result<Meaning<'a>, RefusedWord>
+    ensures { Meets is_memory_word (read_view result)
         (begin_vendor vendors.now (reading_views opened.now) (views words.now)) }
 {
     match words {
@@ -144,7 +144,7 @@ pub(crate) fn begin_vendor<'a>(
             }
         }
         [name, _] => Ok(Meaning::BeginVendor(name, None)),
-        _ => Err(DictKind::Unreadable),
+        _ => Err(miscounted(2, words)),
     }
 }
 
@@ -152,13 +152,13 @@ fn include_line<'a>(
     required: bool,
     found: Option<usize>,
     depth: usize,
-) -> Result<Meaning<'a>, DictKind>
-    ensures { Meets is_memory_kind (read_view result) (include_line required found depth) }
+) -> Result<Meaning<'a>, RefusedWord>
+    ensures { Meets is_memory_word (read_view result) (include_line required found depth) }
 {
     match found {
         None => {
             if required {
-                Err(DictKind::NoFile)
+                Err(DictKind::NoFile.at_word(1))
             } else {
                 Ok(Meaning::Skipped)
             }
@@ -167,7 +167,7 @@ fn include_line<'a>(
             if depth < MAX_DEPTH {
                 Ok(Meaning::Nothing)
             } else {
-                Err(DictKind::TooDeep)
+                Err(DictKind::TooDeep.at_word(0))
             }
         }
     }
@@ -179,12 +179,12 @@ pub(crate) fn include<'a>(
     depth: usize,
     head: &[u8],
     words: &[&'a [u8]],
-) -> Result<Meaning<'a>, DictKind>
-    ensures { Meets is_memory_kind (read_view result)
+) -> Result<Meaning<'a>, RefusedWord>
+    ensures { Meets is_memory_word (read_view result)
         (include found depth head.now (views words.now)) }
 {
     match words {
         [_] => include_line(same_name(head, DOLLAR_INCLUDE), found, depth),
-        _ => Err(DictKind::Unreadable),
+        _ => Err(miscounted(1, words)),
     }
 }

@@ -5,7 +5,7 @@ ghost use Rattle.std.specs.Char.{digit_value};
 ghost use Rattle.avp_lists.specs.Meets.{Meets};
 ghost use Rattle.avp_dict.specs.Outcomes.{is_memory_kind};
 ghost use Rattle.avp_dict.specs.Vendors.{bounded};
-ghost use Rattle.avp_dict.specs.Words.{digits, number_of};
+ghost use Rattle.avp_dict.specs.Words.{digits, is_number, number_of};
 ghost use Rattle.avp_dict.specs.internal.Numbers.{Holds, Reads};
 
 use crate::faults::DictKind;
@@ -92,6 +92,12 @@ pub(crate) fn number_of(word: &[u8]) -> Number
         [b'0', b'x', rest @ ..] => digits(16, rest),
         _ => digits(10, word),
     }
+}
+
+pub(crate) fn is_number(word: &[u8]) -> bool
+    ensures { result ≡ is_number word.now }
+{
+    number_of(word).is_read()
 }
 
 /// A number of a line, within its bound.

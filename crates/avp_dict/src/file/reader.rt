@@ -3,17 +3,17 @@
 ghost use Rattle.std.specs.Prelude.{◌≡◌, ◌∷◌, ◌++◌, ◌+◌, ◌<◌, ◌≤◌, ◌^◌, [], Err, None, List, OnOk, IfErr, length};
 ghost use Rattle.avp_lists.specs.Meets.{Meets, Unless};
 ghost use Rattle.avp_dict.specs.Blocks.{innermost};
-ghost use Rattle.avp_dict.specs.DictionaryReading.{dictionary_of, settled_dictionary, unless_open};
+ghost use Rattle.avp_dict.specs.DictionaryReading.{read_dictionary, settled_dictionary, unless_open};
 ghost use Rattle.avp_dict.specs.Lines.{Line as SetLine, file_included, lines_in};
 ghost use Rattle.avp_dict.specs.Meanings.{Reading as SetReading, context_of};
-ghost use Rattle.avp_dict.specs.Outcomes.{is_memory, is_memory_kind};
 ghost use Rattle.avp_dict.specs.Readings.{read_line, read_lines, within};
 ghost use Rattle.avp_dict.specs.Words.{words_of};
 ghost use Rattle.avp_dict.specs.internal.LineViews.{line_view};
 ghost use Rattle.avp_dict.specs.internal.Meanings.{context_view, read_view, reading_views};
+ghost use Rattle.avp_dict.specs.internal.Refused.{is_memory_refusal, is_memory_word};
 ghost use Rattle.avp_dict.specs.internal.Views.{views};
 
-use crate::faults::{DictFault, DictKind};
+use crate::faults::{DictKind, RefusedLine, RefusedWord};
 use crate::file::context::{Context, innermost};
 use crate::file::files::NamedFile;
 use crate::file::lines::{Line, MAX_LEVELS, octets_at, place_included, split_line};
@@ -50,15 +50,15 @@ impl<'a> ReadLines<'a> {
         line: Line<'a>,
         words: &[&'a [u8]],
         included: Option<usize>,
-    ) -> Result<Meaning<'a>, DictKind>
+    ) -> Result<Meaning<'a>, RefusedWord>
         requires words { views words.now ≡ words_of line.text.now }
         requires included { included ≡ file_included files.now line.text.now }
-        ensures { Meets is_memory_kind (read_view result)
+        ensures { Meets is_memory_word (read_view result)
             (within limit (reading_views self.now.readings.items)
             (read_line files.now (context_view self.now.context) (line_view line.entry))) }
     {
         if self.readings.len() >= limit {
-            return Err(DictKind::TooLong);
+            return Err(DictKind::TooLong.at_word(0));
         }
         read_words(alloc, &self.context, included, line.depth, words)
     }
@@ -72,7 +72,7 @@ impl<'a> ReadLines<'a> {
         line: Line<'a>,
         words: &[&'a [u8]],
         included: Option<usize>,
-    ) -> Result<(), DictFault>
+    ) -> Result<(), RefusedLine>
         requires tracked { context_view self.old.context
             ≡ context_of (reading_views self.old.readings.items) }
         requires words { views words.now ≡ words_of line.text.now }
@@ -88,9 +88,9 @@ impl<'a> ReadLines<'a> {
             (line_view line.entry ∷ ls) ≡ read_lines limit files.now
             (reading_views self.new.readings.items) ls) }
         ensures refused { (ls : List SetLine)
-            → IfErr result (λ fault. Unless (is_memory fault)
+            → IfErr result (λ refused. Unless (is_memory_refusal refused)
             (read_lines limit files.now (reading_views self.old.readings.items)
-            (line_view line.entry ∷ ls) ≡ Err fault)) }
+            (line_view line.entry ∷ ls) ≡ Err refused)) }
     {
         match self.read_one(alloc, files, limit, line, words, included) {
             Ok(meaning) => {
@@ -103,7 +103,7 @@ impl<'a> ReadLines<'a> {
                 self.readings.push(reading)?;
                 Ok(())
             }
-            Err(error) => Err(error.at(line.file, line.number)),
+            Err(refused) => Err(refused.at_line(line.file, line.number)),
         }
     }
 
@@ -115,7 +115,7 @@ impl<'a> ReadLines<'a> {
         limit: usize,
         levels: usize,
         place: usize,
-    ) -> Result<(), DictFault>
+    ) -> Result<(), RefusedLine>
         requires levels { levels ≤ MAX_LEVELS }
         requires limit { limit < 2 ^ 32 }
         requires tracked { context_view self.old.context
@@ -131,9 +131,9 @@ impl<'a> ReadLines<'a> {
             (lines_in files.now levels place ++ ls)
             ≡ read_lines limit files.now (reading_views self.new.readings.items) ls) }
         ensures refused { (ls : List SetLine)
-            → IfErr result (λ fault. Unless (is_memory fault)
+            → IfErr result (λ refused. Unless (is_memory_refusal refused)
             (read_lines limit files.now (reading_views self.old.readings.items)
-            (lines_in files.now levels place ++ ls) ≡ Err fault)) }
+            (lines_in files.now levels place ++ ls) ≡ Err refused)) }
     {
         if levels == 0 {
             return Ok(());
@@ -164,18 +164,18 @@ impl<'a> ReadLines<'a> {
 }
 
 // Refuses the last of the lines that opened blocks.
-fn refuse_open(opened: &[Reading<'_>]) -> Result<(), DictFault>
+fn refuse_open(opened: &[Reading<'_>]) -> Result<(), RefusedLine>
     ensures closed { OnOk result (innermost (reading_views opened.now) ≡ None) }
     ensures left { (all : List SetReading)
-        → IfErr result (λ fault. unless_open (innermost (reading_views opened.now)) all
-        ≡ Err fault) }
+        → IfErr result (λ refused. unless_open (innermost (reading_views opened.now)) all
+        ≡ Err refused) }
 {
     match innermost(opened) {
-        Some(reading) => Err(DictFault {
-            file: reading.file,
-            line: reading.line,
-            kind: DictKind::Unmatched,
-        }),
+        Some(reading) => Err(
+            DictKind::Unmatched
+                .at_word(1)
+                .at_line(reading.file, reading.line),
+        ),
         None => Ok(()),
     }
 }
@@ -186,16 +186,16 @@ pub(crate) fn read_set<'a>(
     files: &'a [NamedFile],
     limit: usize,
     read: &mut ReadLines<'a>,
-) -> Result<(), DictFault>
+) -> Result<(), RefusedLine>
     requires limit { limit < 2 ^ 32 }
     requires read { reading_views read.old.readings.items ≡ [] }
     requires tracked { context_view read.old.context ≡ context_of [] }
     ensures tracked { OnOk result (context_view read.new.context
         ≡ context_of (reading_views read.new.readings.items)) }
-    ensures read { OnOk result (dictionary_of limit files.now
+    ensures read { OnOk result (read_dictionary limit files.now
         ≡ settled_dictionary (reading_views read.new.readings.items)) }
-    ensures refused { IfErr result (λ fault.
-        Unless (is_memory fault) (dictionary_of limit files.now ≡ Err fault)) }
+    ensures refused { IfErr result (λ refused.
+        Unless (is_memory_refusal refused) (read_dictionary limit files.now ≡ Err refused)) }
 {
     read.read_file(alloc, files, limit, MAX_LEVELS, 0)?;
     refuse_open(&read.context.opened)?;

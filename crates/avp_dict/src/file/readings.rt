@@ -2,12 +2,12 @@
 
 ghost use Rattle.std.specs.Prelude.{◌≡◌};
 ghost use Rattle.avp_lists.specs.Meets.{Meets};
-ghost use Rattle.avp_dict.specs.Outcomes.{is_memory_kind};
 ghost use Rattle.avp_dict.specs.Readings.{plain_line, read_head, read_words, skipped_line, value, value_words};
 ghost use Rattle.avp_dict.specs.internal.Meanings.{context_view, meaning_view, read_view};
+ghost use Rattle.avp_dict.specs.internal.Refused.{is_memory_word};
 ghost use Rattle.avp_dict.specs.internal.Views.{views};
 
-use crate::faults::DictKind;
+use crate::faults::{DictKind, RefusedWord, miscounted};
 use crate::file::attributes::read_attribute;
 use crate::file::blocks::{begin_tlv, begin_vendor, end_tlv, end_vendor, include};
 use crate::file::context::{Context, block_vendor, is_skipping};
@@ -25,21 +25,23 @@ fn value_words<'a>(
     attribute: &'a [u8],
     name: &'a [u8],
     number: &[u8],
-) -> Result<Meaning<'a>, DictKind>
-    ensures { Meets is_memory_kind (read_view result)
+) -> Result<Meaning<'a>, RefusedWord>
+    ensures { Meets is_memory_word (read_view result)
         (value_words attribute.now name.now number.now) }
 {
-    let number = bounded(MAX_VALUE, number)?;
-    Ok(Meaning::Value(attribute, name, number))
+    match bounded(MAX_VALUE, number) {
+        Ok(number) => Ok(Meaning::Value(attribute, name, number)),
+        Err(kind) => Err(kind.at_word(3)),
+    }
 }
 
 #[tactic(auto, unfolding(crate::specs::Readings::value))]
-fn read_value<'a>(words: &[&'a [u8]]) -> Result<Meaning<'a>, DictKind>
-    ensures { Meets is_memory_kind (read_view result) (value (views words.now)) }
+fn read_value<'a>(words: &[&'a [u8]]) -> Result<Meaning<'a>, RefusedWord>
+    ensures { Meets is_memory_word (read_view result) (value (views words.now)) }
 {
     match words {
         [attribute, name, number] => value_words(attribute, name, number),
-        _ => Err(DictKind::Unreadable),
+        _ => Err(miscounted(3, words)),
     }
 }
 
@@ -65,8 +67,8 @@ fn plain_line<'a>(
     block: Option<u32>,
     head: &[u8],
     words: &[&'a [u8]],
-) -> Result<Meaning<'a>, DictKind>
-    ensures { Meets is_memory_kind (read_view result)
+) -> Result<Meaning<'a>, RefusedWord>
+    ensures { Meets is_memory_word (read_view result)
         (plain_line (context_view before.now) block head.now (views words.now)) }
 {
     if same_name(head, ATTRIBUTE) {
@@ -76,7 +78,7 @@ fn plain_line<'a>(
     } else if same_name(head, VENDOR) {
         read_vendor(alloc, &before.vendors, words)
     } else {
-        Err(DictKind::Unreadable)
+        Err(DictKind::Unreadable.at_word(0))
     }
 }
 
@@ -89,8 +91,8 @@ fn read_head<'a>(
     depth: usize,
     head: &[u8],
     words: &[&'a [u8]],
-) -> Result<Meaning<'a>, DictKind>
-    ensures { Meets is_memory_kind (read_view result)
+) -> Result<Meaning<'a>, RefusedWord>
+    ensures { Meets is_memory_word (read_view result)
         (read_head (context_view before.now) found depth head.now
         (views words.now)) }
 {
@@ -120,8 +122,8 @@ pub(crate) fn read_words<'a>(
     found: Option<usize>,
     depth: usize,
     words: &[&'a [u8]],
-) -> Result<Meaning<'a>, DictKind>
-    ensures { Meets is_memory_kind (read_view result)
+) -> Result<Meaning<'a>, RefusedWord>
+    ensures { Meets is_memory_word (read_view result)
         (read_words (context_view before.now) found depth (views words.now)) }
 {
     match words {

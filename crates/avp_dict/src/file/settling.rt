@@ -8,15 +8,15 @@ ghost use Rattle.std.specs.Result.{result_map_both};
 ghost use Rattle.avp_lists.specs.Meets.{Meets, Unless};
 ghost use Rattle.avp_dict.specs.DictionaryReading.{settled_dictionary};
 ghost use Rattle.avp_dict.specs.Meanings.{context_of};
-ghost use Rattle.avp_dict.specs.Outcomes.{is_memory};
 ghost use Rattle.avp_dict.specs.Settled.{holds, is_in_format, is_kept, skipped_names, used};
 ghost use Rattle.avp_dict.specs.Values.{resolve};
 ghost use Rattle.avp_dict.specs.internal.Contents.{contents_view};
 ghost use Rattle.avp_dict.specs.internal.Meanings.{context_view, meaning_view, name_if, reading_views, skipped_name_of};
+ghost use Rattle.avp_dict.specs.internal.Refused.{is_memory_refusal};
 
 use crate::contents::Contents;
 use crate::entries::{AttributeLine, VendorFormat};
-use crate::faults::DictFault;
+use crate::faults::RefusedLine;
 use crate::file::attributes::is_held;
 use crate::file::context::Context;
 use crate::file::meanings::{Meaning, Reading};
@@ -140,14 +140,14 @@ fn add_all(
     alloc: Global,
     readings: &[Reading<'_>],
     contents: &mut Contents,
-) -> Result<(), DictFault>
+) -> Result<(), RefusedLine>
     ensures ok { OnOk result (resolve (skipped_names contents.old.vendors
         (reading_views readings.now)) (contents_view contents.old) (reading_views readings.now)
         ≡ Ok (contents_view contents.new)) }
-    ensures refused { IfErr result (λ fault.
-        Unless (is_memory fault) (resolve
+    ensures refused { IfErr result (λ refused.
+        Unless (is_memory_refusal refused) (resolve
         (skipped_names contents.old.vendors (reading_views readings.now))
-        (contents_view contents.old) (reading_views readings.now) ≡ Err fault)) }
+        (contents_view contents.old) (reading_views readings.now) ≡ Err refused)) }
 {
     let mut skipped = NameSet::new(alloc);
     add_skipped(alloc, &contents.vendors, readings, &mut skipped)?;
@@ -160,9 +160,9 @@ pub(crate) fn settle(
     alloc: Global,
     readings: &[Reading<'_>],
     context: Context<'_>,
-) -> Result<Contents, DictFault>
+) -> Result<Contents, RefusedLine>
     requires { context_view context ≡ context_of (reading_views readings.now) }
-    ensures { Meets is_memory (result_map_both contents_view (λ fault. fault) result)
+    ensures { Meets is_memory_refusal (result_map_both contents_view (λ refused. refused) result)
         (settled_dictionary (reading_views readings.now)) }
 {
     let Context {

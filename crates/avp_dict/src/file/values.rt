@@ -7,13 +7,13 @@ ghost use Rattle.avp_lists.specs.Meets.{Meets, Unless};
 ghost use Rattle.avp_dict.specs.Letters.{is_value_name_octet, max_name};
 ghost use Rattle.avp_dict.specs.Values.{is_noted, is_of_other_number, is_tagged_integer, is_value_name, max_of, max_of_typing, reads_as_number, resolve, tagged_line, tagged_value, value_of, value_up_to, with_line, with_note, with_tagged, with_value};
 ghost use Rattle.avp_dict.specs.Dictionary.{typing_of_id};
-ghost use Rattle.avp_dict.specs.Outcomes.{is_memory, is_memory_kind};
 ghost use Rattle.avp_dict.specs.internal.Contents.{contents_view};
 ghost use Rattle.avp_dict.specs.internal.Meanings.{meaning_view, reading_view, reading_views};
+ghost use Rattle.avp_dict.specs.internal.Refused.{is_memory_refusal, is_memory_word};
 
 use crate::contents::Contents;
 use crate::entries::{Kind, Note, Typing, ValueLine};
-use crate::faults::{DictFault, DictKind};
+use crate::faults::{DictKind, RefusedLine, RefusedWord};
 use crate::file::attributes::is_name_octet;
 use crate::file::meanings::{Meaning, Reading};
 use crate::file::numbers::digits;
@@ -103,8 +103,8 @@ fn value_up_to(
     name: &[u8],
     number: u64,
     most: Option<u64>,
-) -> Result<Option<ValueLine>, DictKind>
-    ensures value { Meets is_memory_kind result (value_up_to values.now id name.now number most) }
+) -> Result<Option<ValueLine>, RefusedWord>
+    ensures value { Meets is_memory_word result (value_up_to values.now id name.now number most) }
     ensures short { IfOk result (λ value. IfSome value (λ v. length v.name ≤ max_name)) }
 {
     match most {
@@ -114,10 +114,10 @@ fn value_up_to(
                 return Ok(None);
             }
             if number > most {
-                return Err(DictKind::OutOfRange);
+                return Err(DictKind::OutOfRange.at_word(3));
             }
             if is_of_other_number(number, values.number_named(id, name)) {
-                return Err(DictKind::OtherValue);
+                return Err(DictKind::OtherValue.at_word(2));
             }
             let name = Octets::from_slice(alloc, name)?;
             Ok(Some(ValueLine { id, name, number }))
@@ -135,10 +135,10 @@ fn value_of(
     number: u64,
     id: Option<AttrId>,
     typing: Option<Typing>,
-) -> Result<Option<ValueLine>, DictKind>
+) -> Result<Option<ValueLine>, RefusedWord>
     requires { typing ≡ option_and_then
         (λ i. typing_of_id i (contents_view contents.now).attributes) id }
-    ensures value { Meets is_memory_kind result (value_of skipped.now
+    ensures value { Meets is_memory_word result (value_of skipped.now
         (contents_view contents.now) attribute.now name.now number id) }
     ensures short { IfOk result (λ value. IfSome value (λ v. length v.name ≤ max_name)) }
 {
@@ -151,7 +151,7 @@ fn value_of(
             if skipped.contains(alloc, attribute)? {
                 Ok(None)
             } else {
-                Err(DictKind::NoAttribute)
+                Err(DictKind::NoAttribute.at_word(1))
             }
         }
     }
@@ -268,12 +268,12 @@ impl Contents {
         alloc: Global,
         skipped: &NameSet<'_>,
         reading: Reading<'_>,
-    ) -> Result<(), DictFault>
+    ) -> Result<(), RefusedLine>
         ensures step { OnOk result (with_line skipped.now (contents_view self.old)
             (reading_view reading.entry) ≡ Ok (contents_view self.new)) }
-        ensures refused { IfErr result (λ fault.
-            Unless (is_memory fault) (with_line skipped.now (contents_view self.old)
-            (reading_view reading.entry) ≡ Err fault)) }
+        ensures refused { IfErr result (λ refused.
+            Unless (is_memory_refusal refused) (with_line skipped.now (contents_view self.old)
+            (reading_view reading.entry) ≡ Err refused)) }
     {
         if let Meaning::Value(attribute, name, number) = reading.meaning {
             let id = self.attributes.id_named(attribute);
@@ -284,7 +284,7 @@ impl Contents {
                     self.add_value(reading, value)?;
                     self.add_tagged(tagged)?;
                 }
-                Err(error) => return Err(error.at(reading.file, reading.line)),
+                Err(refused) => return Err(refused.at_line(reading.file, reading.line)),
             }
         } else if is_noted(&self.vendors, reading.meaning) {
             self.add_note(reading)?;
@@ -298,12 +298,12 @@ impl Contents {
         alloc: Global,
         skipped: &NameSet<'_>,
         readings: &[Reading<'_>],
-    ) -> Result<(), DictFault>
+    ) -> Result<(), RefusedLine>
         ensures ok { OnOk result (resolve skipped.now (contents_view self.old)
             (reading_views readings.now) ≡ Ok (contents_view self.new)) }
-        ensures refused { IfErr result (λ fault.
-            Unless (is_memory fault) (resolve skipped.now (contents_view self.old)
-            (reading_views readings.now) ≡ Err fault)) }
+        ensures refused { IfErr result (λ refused.
+            Unless (is_memory_refusal refused) (resolve skipped.now (contents_view self.old)
+            (reading_views readings.now) ≡ Err refused)) }
     {
         for reading in readings {
             self.add_line(alloc, skipped, *reading)?;

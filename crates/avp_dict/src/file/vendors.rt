@@ -4,17 +4,17 @@ ghost use Rattle.std.specs.Prelude.{◌≡◌, ◌≤◌, ℕ, Option, IfOk};
 ghost use Rattle.std.specs.List.{list_all, slice_split};
 ghost use Rattle.avp_lists.specs.Meets.{Meets};
 ghost use Rattle.avp_dict.specs.Letters.{is_comma, is_visible};
-ghost use Rattle.avp_dict.specs.Outcomes.{is_memory_kind};
-ghost use Rattle.avp_dict.specs.Vendors.{format_parts, format_word, is_other_vendor, is_vendor_name, two_parts, vendor, vendor_line, vendor_numbered};
+ghost use Rattle.avp_dict.specs.Vendors.{format_parts, format_word, is_other_vendor, is_vendor_name, two_parts, vendor, vendor_formatted, vendor_line, vendor_numbered};
 ghost use Rattle.avp_dict.specs.internal.Meanings.{read_view};
 ghost use Rattle.avp_dict.specs.internal.Numbers.{Reads};
+ghost use Rattle.avp_dict.specs.internal.Refused.{is_memory_word};
 ghost use Rattle.avp_dict.specs.internal.Views.{views};
 
 use crate::entries::VendorFormat;
-use crate::faults::DictKind;
+use crate::faults::{DictKind, RefusedWord, miscounted};
 use crate::file::keywords::FORMAT_KEY;
 use crate::file::meanings::Meaning;
-use crate::file::numbers::{MAX_NUMBER, Number, bounded, number_of};
+use crate::file::numbers::{MAX_NUMBER, Number, bounded, is_number, number_of};
 use crate::file::parts::parts_between;
 use crate::file::words::{MAX_NAME, same_name};
 use crate::tables::Vendors;
@@ -61,16 +61,35 @@ fn vendor_numbered<'a>(
     name: &'a [u8],
     format: VendorFormat,
     number: u64,
-) -> Result<Meaning<'a>, DictKind>
+) -> Result<Meaning<'a>, RefusedWord>
     requires { number ≤ MAX_NUMBER }
-    ensures { Meets is_memory_kind (read_view result)
+    ensures { Meets is_memory_word (read_view result)
         (vendor_numbered vendors.now name.now format number) }
 {
     let number = number as u32;
     if is_other_vendor(number, vendors.vendor_named(name)) {
-        return Err(DictKind::OtherNumber);
+        return Err(DictKind::OtherNumber.at_word(1));
     }
     Ok(Meaning::Vendor(name, number, format))
+}
+
+#[tactic(auto, unfolding(crate::specs::Vendors::vendor_formatted))]
+fn vendor_formatted<'a>(
+    vendors: &Vendors,
+    name: &'a [u8],
+    number: &[u8],
+    format: Option<VendorFormat>,
+) -> Result<Meaning<'a>, RefusedWord>
+    ensures { Meets is_memory_word (read_view result)
+        (vendor_formatted vendors.now name.now number.now format) }
+{
+    match format {
+        None => Err(DictKind::Unreadable.at_word(3)),
+        Some(format) => match bounded(MAX_NUMBER, number) {
+            Ok(number) => vendor_numbered(vendors, name, format, number),
+            Err(kind) => Err(kind.at_word(2)),
+        },
+    }
 }
 
 #[tactic(auto, unfolding(crate::specs::Vendors::vendor_line))]
@@ -79,20 +98,17 @@ fn vendor_line<'a>(
     name: &'a [u8],
     number: &[u8],
     format: Option<VendorFormat>,
-) -> Result<Meaning<'a>, DictKind>
-    ensures { Meets is_memory_kind (read_view result)
+) -> Result<Meaning<'a>, RefusedWord>
+    ensures { Meets is_memory_word (read_view result)
         (vendor_line vendors.now name.now number.now format) }
 {
-    match format {
-        None => Err(DictKind::Unreadable),
-        Some(format) => {
-            if !is_vendor_name(name) {
-                return Err(DictKind::Unreadable);
-            }
-            let number = bounded(MAX_NUMBER, number)?;
-            vendor_numbered(vendors, name, format, number)
-        }
+    if !is_vendor_name(name) {
+        return Err(DictKind::Unreadable.at_word(1));
     }
+    if !is_number(number) {
+        return Err(DictKind::Unreadable.at_word(2));
+    }
+    vendor_formatted(vendors, name, number, format)
 }
 
 fn two_parts(third: bool, t: Number, l: Number) -> Option<VendorFormat>
@@ -151,8 +167,8 @@ pub(crate) fn read_vendor<'a>(
     alloc: Global,
     vendors: &Vendors,
     words: &[&'a [u8]],
-) -> Result<Meaning<'a>, DictKind>
-    ensures { Meets is_memory_kind (read_view result) (vendor vendors.now (views words.now)) }
+) -> Result<Meaning<'a>, RefusedWord>
+    ensures { Meets is_memory_word (read_view result) (vendor vendors.now (views words.now)) }
 {
     match words {
         [name, number] => vendor_line(vendors, name, number, Some(STANDARD_FORMAT)),
@@ -160,6 +176,6 @@ pub(crate) fn read_vendor<'a>(
             let format = format_word(alloc, format)?;
             vendor_line(vendors, name, number, format)
         }
-        _ => Err(DictKind::Unreadable),
+        _ => Err(miscounted(3, words)),
     }
 }

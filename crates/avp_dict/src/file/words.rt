@@ -1,7 +1,7 @@
 //! Words of a line.
 
 ghost use Rattle.std.specs.Prelude.{◌≡◌, ◌<◌, ◌++◌, ◌∷◌, [], length, IfOk, OnOk, IfSome, IfNone};
-ghost use Rattle.std.specs.List.{before_first, position, filter, slice_split};
+ghost use Rattle.std.specs.List.{after_first, before_first, position, filter, slice_split};
 ghost use Rattle.avp_dict.specs.Words.{is_blank, is_hash, is_word, lower, same_name, words_of};
 ghost use Rattle.avp_dict.specs.internal.Views.{views};
 
@@ -50,6 +50,16 @@ pub fn first_part(text: &[u8]) -> Option<(&[u8], &[u8])>
 {
     let end = blank_at(text)?;
     Some((&text[..end], &text[end + 1..]))
+}
+
+/// What follows the first blank.
+pub(crate) fn after_blank(text: &[u8]) -> &[u8]
+    ensures { result.now ≡ after_first is_blank text.now }
+{
+    match blank_at(text) {
+        Some(end) => &text[end + 1..],
+        None => &text[text.len()..],
+    }
 }
 
 // Adds a part, if it is a word.

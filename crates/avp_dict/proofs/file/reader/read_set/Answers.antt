@@ -2,7 +2,7 @@ use Rattle.std.proofs.Common.{◌≡◌, [], ◌++◌, ◌∙◌, Err, sym, ap, 
 use Rattle.std.proofs.lemmas.Result.{err_from_is_err_and}
 use Rattle.avp_lists.specs.Meets.{Unless}
 use Rattle.avp_dict.specs.Lines.{lines_in}
-use Rattle.avp_dict.specs.Outcomes.{is_memory}
+use Rattle.avp_dict.specs.internal.Refused.{is_memory_refusal}
 use Rattle.avp_dict.specs.Readings.{read_lines}
 use Rattle.avp_dict.specs.internal.Meanings.{reading_views}
 use Rattle.avp_dict.proofs.Passes.{dictionary_resolved, open_fails, open_refuses, read_fails}
@@ -13,7 +13,7 @@ returns-in_err-read_file-clause-refused c =
     let p = err_from_is_err_and c.from_residual.result c.from_residual.ensures.1 in
     let files = c.args.files.now in
     let fault = c.in_err-read_file.field-0.0 in
-    let refused = subst (λ before. Unless (is_memory fault) (read_lines c.args.limit files before (lines_in files 9 0 ++ []) ≡ Err fault)) c.requires.read (c.in_err-read_file.ensures.refused []) in
+    let refused = subst (λ before. Unless (is_memory_refusal fault) (read_lines c.args.limit files before (lines_in files 9 0 ++ []) ≡ Err fault)) c.requires.read (c.in_err-read_file.ensures.refused []) in
     rw (p.1, p.2) (read_fails c.args.limit files fault refused)
 
 pub returns-in_err-refuse_open-clause-refused : goal.returns-in_err-refuse_open-clause-refused

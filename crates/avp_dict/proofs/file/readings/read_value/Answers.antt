@@ -7,4 +7,4 @@ use Rattle.avp_dict.proofs.file.readings.read_value.Goals.{in_default-via-then-w
 pub returns-in_default : goal.returns-in_default
 returns-in_default c =
     let three : length c.args.words.now ≢ 3 = elim c.in_default.branch [ in_default-via-then-words-lt3 w ↦ (λ e. grind (arith, nat_tests, w)) | in_default-via-else-words-lt3+else-words-lt4 w ↦ (λ e. grind (arith, nat_tests, w)) ] in
-    no_value c.args.words.now three
+    rw c.miscounted.ensures (no_value c.args.words.now three)

@@ -2,7 +2,7 @@ use Rattle.std.proofs.Common.{◌≡◌, ◌∙◌, ◌+◌, ◌-◌, ◌<◌, �
 use Rattle.std.proofs.lemmas.Result.{err_from_is_err_and}
 use Rattle.avp_lists.specs.Meets.{Unless}
 use Rattle.avp_dict.specs.Lines.{Line, expanded, file_included, file_named, included_by, lines_below, lines_in, texts_of}
-use Rattle.avp_dict.specs.Outcomes.{is_memory}
+use Rattle.avp_dict.specs.internal.Refused.{is_memory_refusal}
 use Rattle.avp_dict.specs.Readings.{read_lines}
 use Rattle.avp_dict.specs.internal.Meanings.{reading_views}
 use Rattle.avp_dict.specs.internal.Views.{views}
@@ -32,7 +32,7 @@ returns-in_err-read_next-clause-refused t c = λ ls.
     let more : 0 < length rest = search rules in
     let whole = begins (read_lines c.args.limit files (reading_views c.loop-rest.self.readings.items)) (λ xs. read_lines c.args.limit files (reading_views c.args.self.now.readings.items) (lines_in files c.args.levels c.args.place ++ xs))
     below c.args.place (9 - c.args.levels) c.loop-rest.number rest c.split_line.result.0.now c.split_line.result.1.now more c.split_line.ensures.line c.split_line.ensures.rest c.loop-rest.invariant.so_far ls in
-    rw (p.1, p.2) (subst (λ read. Unless (is_memory c.in_err-read_next.field-0.0) (read ≡ Err c.in_err-read_next.field-0.0)) whole (c.in_err-read_next.ensures.refused _))
+    rw (p.1, p.2) (subst (λ read. Unless (is_memory_refusal c.in_err-read_next.field-0.0) (read ≡ Err c.in_err-read_next.field-0.0)) whole (c.in_err-read_next.ensures.refused _))
 
 pub returns-in_err-read_file-clause-refused : goal.returns-in_err-read_file-clause-refused
 returns-in_err-read_file-clause-refused t c = λ ls.
@@ -49,7 +49,7 @@ returns-in_err-read_file-clause-refused t c = λ ls.
     let words = ap views c.deref.ensures.value ∙ c.in_ok-replace_words.ensures in
     let is : file_included files text ≡ Some c.in-Some.below = sym (c.place_included-included.ensures ∙ ap (λ ws. option_and_then (λ name. file_named name files) (included_by ws)) words) ∙ c.in-Some.is in
     let under = below_some files (c.args.levels - 1) text c.in-Some.below is in
-    rw (p.1, p.2) (subst (λ read. Unless (is_memory c.in_err-read_file.field-0.0) (read ≡ Err c.in_err-read_file.field-0.0)) (ap (λ xs. middle (xs ++ (following ++ ls))) (sym under) ∙ (sym (c.in_ok-read_next.ensures.step _) ∙ whole)) (c.in_err-read_file.ensures.refused (following ++ ls)))
+    rw (p.1, p.2) (subst (λ read. Unless (is_memory_refusal c.in_err-read_file.field-0.0) (read ≡ Err c.in_err-read_file.field-0.0)) (ap (λ xs. middle (xs ++ (following ++ ls))) (sym under) ∙ (sym (c.in_ok-read_next.ensures.step _) ∙ whole)) (c.in_err-read_file.ensures.refused (following ++ ls)))
 
 pub loop-rest-preserved : goal.loop-rest-preserved
 loop-rest-preserved t c =

@@ -2,10 +2,10 @@ use Rattle.std.proofs.Common.{◌≡◌, ◌∙◌, Err, sym, ap, subst}
 use Rattle.std.proofs.lemmas.List.{map_push}
 use Rattle.avp_lists.specs.Meets.{Unless}
 use Rattle.avp_dict.specs.Meanings.{context_of}
-use Rattle.avp_dict.specs.Outcomes.{is_memory_kind}
 use Rattle.avp_dict.specs.Readings.{read_line, read_lines, within}
 use Rattle.avp_dict.specs.internal.LineViews.{line_view}
 use Rattle.avp_dict.specs.internal.Meanings.{context_view, meaning_view, reading_view, reading_views}
+use Rattle.avp_dict.specs.internal.Refused.{is_memory_word}
 use Rattle.avp_dict.proofs.LinesRead.{context_after, read_lines_fails, read_lines_ok, read_within, refused_by}
 use Rattle.avp_dict.proofs.SoundLines.{short_read}
 use Rattle.avp_dict.proofs.file.reader.ReadLines.read_next.Goals as goal
@@ -35,5 +35,5 @@ returns-in-Err-clause-refused c = λ ls.
     let limit = c.args.limit in
     let before = reading_views c.args.self.now.readings.items in
     let line = line_view c.args.line in
-    let fails = subst (λ x. Unless (is_memory_kind c.in-Err.error) (within limit before (read_line files x line) ≡ Err c.in-Err.error)) c.requires.tracked c.in-Err.ensures in
-    read_lines_fails limit files before line ls c.at.result (refused_by line.file line.number c.in-Err.error (within limit before (read_line files (context_of before) line)) c.at.result c.at.ensures fails)
+    let fails = subst (λ x. Unless (is_memory_word c.in-Err.refused) (within limit before (read_line files x line) ≡ Err c.in-Err.refused)) c.requires.tracked c.in-Err.ensures in
+    read_lines_fails limit files before line ls c.at_line.result (refused_by line.file line.number c.in-Err.refused (within limit before (read_line files (context_of before) line)) c.at_line.result c.at_line.ensures fails)
