@@ -1,7 +1,7 @@
 -- One or more values with a step between any two: what is read so far of them, and what is left.
 use Rattle.std.proofs.Common.{◌≡◌, List, [], ◌∷◌, ◌++◌, refl, sym, ap, subst, ◌∙◌, append_assoc}
 use Rattle.std.proofs.lemmas.List.{append-nil}
-use Rattle.avp_unlang.specs.declared.faults.PolicyFault.{PolicyFault}
+use Rattle.avp_unlang.specs.declared.faults.Refusal.{Refusal}
 use Rattle.avp_unlang.specs.Forms.{Form, Step, Others, Chain, Refuses}
 use Rattle.avp_unlang.proofs.Determined.{IsOne, IsSure}
 
@@ -27,7 +27,7 @@ chain_first step form p [] r h = absurd h
 chain_first step form p (x ∷ xs) r h = (x, h.0, h.1)
 
 -- a refusal of the first value
-pub chain_stops : {S A : Type 0} (step : Step S) (form : Form S A) (p : S) (e : PolicyFault) → Refuses (form p) e → Refuses (Chain step form p) e
+pub chain_stops : {S A : Type 0} (step : Step S) (form : Form S A) (p : S) (e : Refusal) → Refuses (form p) e → Refuses (Chain step form p) e
 chain_stops step form p e refused = λ some xs r h. let w = chain_first step form p xs r h in refused some w.0 w.1 w.2
 
 -- from p the values front are spelled, and what follows them is at rest
@@ -75,7 +75,7 @@ wanted step form sure mid next e (x ∷ xs) r o = (x, o.2, subst (λ n. form n x
 
 -- a refusal of a value after a step
 pub front_stops : {S A : Type 0} (step : Step S) (form : Form S A) → IsSure step → (p : S) (front : List A) (mid next : S)
-    → IsFront step form p front mid → step mid next → (e : PolicyFault) → Refuses (form next) e → Refuses (Chain step form p) e
+    → IsFront step form p front mid → step mid next → (e : Refusal) → Refuses (form next) e → Refuses (Chain step form p) e
 front_stops step form sure p front mid next f e fault refused = λ some zs r w.
     let g = f.only zs r w in
     let h = wanted step form sure mid next e g.0 r g.2 in

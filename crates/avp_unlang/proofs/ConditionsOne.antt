@@ -8,7 +8,7 @@ use Rattle.avp_forms.specs.declared.profiles.Profile.TheVariants.{Wider}
 use Rattle.avp_forms.specs.declared.targets.Target.{Target}
 use Rattle.avp_forms.specs.declared.profiles.Profile.{Profile}
 use Rattle.avp_unlang.specs.declared.codes.Code.{Code}
-use Rattle.avp_unlang.specs.declared.faults.PolicyFault.{PolicyFault}
+use Rattle.avp_unlang.specs.declared.faults.Refusal.{Refusal}
 use Rattle.avp_unlang.specs.declared.text.references.Reference.{Reference}
 use Rattle.avp_unlang.specs.declared.text.tokens.Matcher.{Matcher}
 use Rattle.avp_unlang.specs.declared.text.tokens.Sign.TheVariants as sign
@@ -96,7 +96,7 @@ module _ (profile : Profile) (dictionary : Dictionary) where
   meant_one name p x y r s h g = meant_from_one name (next_token p).0 (next_token p).1 x y r s h g
 
   -- a refusal of the reference after an `&`
-  pub meant_refused : (name : Target) (p : Place) (q : Token × Place) (e : PolicyFault) → q ≡ next_token p → q.0 ≡ Operator sign.Reference
+  pub meant_refused : (name : Target) (p : Place) (q : Token × Place) (e : Refusal) → q ≡ next_token p → q.0 ≡ Operator sign.Reference
       → Refuses (AlikeIs Wider dictionary name.named.id q.1) e → Refuses (MeantIs dictionary name p) e
   meant_refused name p q e is first refused =
       let at : Refuses (MeantFrom dictionary name (Operator sign.Reference) q.1) e = λ some x rest h. refused some h.0 rest h.1 in
@@ -114,7 +114,7 @@ module _ (profile : Profile) (dictionary : Dictionary) where
   related_one false found relation p x y r s h g = compared_by_one found relation p x y r s h g
 
   -- a comparison of the one kind or the other
-  pub related_reads : (found : Reference) (relation : Relation) (p : Place) (b : Bool) → b ≡ is_by_meaning profile (type_of dictionary found.target.named.id) → (r : Result (Cond × Place) PolicyFault)
+  pub related_reads : (found : Reference) (relation : Relation) (p : Place) (b : Bool) → b ≡ is_by_meaning profile (type_of dictionary found.target.named.id) → (r : Result (Cond × Place) Refusal)
       → Reads (RelatedBy b profile dictionary found relation p) r → Reads (RelatedIs profile dictionary found relation p) r
   related_reads found relation p b by r reads = subst (λ k. Reads (RelatedBy k profile dictionary found relation p) r) by reads
 
@@ -132,13 +132,13 @@ module _ (profile : Profile) (dictionary : Dictionary) where
   compared_one found p x y r s h g = matched_or_one found (matcher_in profile (next_token p).0) p (next_token p) x y r s h g
 
   -- a comparison with a pattern
-  pub matched_reads : (found : Reference) (m : Matcher) (p : Place) (token : Token) (mid : Place) → Follows token p mid → matcher_in profile token ≡ Some m → (r : Result (Cond × Place) PolicyFault)
+  pub matched_reads : (found : Reference) (m : Matcher) (p : Place) (token : Token) (mid : Place) → Follows token p mid → matcher_in profile token ≡ Some m → (r : Result (Cond × Place) Refusal)
       → Reads (MatchedBy dictionary found m mid) r → Reads (ComparedIs profile dictionary found p) r
   matched_reads found m p token mid follows is r reads =
       subst (λ (k : Token × Place). Reads (MatchedOr profile dictionary found (matcher_in profile k.0) p k) r) (sym follows) (subst (λ o. Reads (MatchedOr profile dictionary found o p (token, mid)) r) (sym is) reads)
 
   -- what follows an operator that compares
-  pub compared_reads : (found : Reference) (relation : Relation) (p : Place) (token : Token) (mid : Place) → Follows token p mid → matcher_in profile token ≡ None → relation_of token ≡ Some relation → (r : Result (Cond × Place) PolicyFault)
+  pub compared_reads : (found : Reference) (relation : Relation) (p : Place) (token : Token) (mid : Place) → Follows token p mid → matcher_in profile token ≡ None → relation_of token ≡ Some relation → (r : Result (Cond × Place) Refusal)
       → Reads (RelatedIs profile dictionary found relation mid) r → Reads (ComparedIs profile dictionary found p) r
   compared_reads found relation p token mid follows none related r reads =
       subst (λ (k : Token × Place). Reads (MatchedOr profile dictionary found (matcher_in profile k.0) p k) r) (sym follows)
@@ -165,22 +165,22 @@ module _ (profile : Profile) (dictionary : Dictionary) where
   within_one (suc n) p x y r s h g = from_one (Within profile dictionary n) (within_one n) (next_token p).0 (next_token p).1 x y r s h g
 
   -- an operand is read by what stands behind its first token
-  pub operand_reads : (inner : Form Place Cond) (p : Place) (q : Token × Place) (token : Token) (r : Result (Cond × Place) PolicyFault) → q ≡ next_token p → q.0 ≡ token
+  pub operand_reads : (inner : Form Place Cond) (p : Place) (q : Token × Place) (token : Token) (r : Result (Cond × Place) Refusal) → q ≡ next_token p → q.0 ≡ token
       → Reads (OperandFrom profile dictionary inner token q.1) r → Reads (OperandIs profile dictionary inner p) r
   operand_reads inner p q token r is first reads =
       subst (λ (k : Token × Place). Reads (OperandFrom profile dictionary inner k.0 k.1) r) is (subst (λ k. Reads (OperandFrom profile dictionary inner k q.1) r) (sym first) reads)
 
   -- ---- refusals inside brackets and after `!`, where one sign fewer may be nested
 
-  pub negated_refused : (n m : ℕ) (p : Place) (e : PolicyFault) → m ≡ n → Refuses (Within profile dictionary m p) e → Refuses (Negated (Within profile dictionary n) p) e
+  pub negated_refused : (n m : ℕ) (p : Place) (e : Refusal) → m ≡ n → Refuses (Within profile dictionary m p) e → Refuses (Negated (Within profile dictionary n) p) e
   negated_refused n m p e same refused =
       then_stops (Within profile dictionary n) (λ c. Gives (Not c)) p e (subst (λ k. Refuses (Within profile dictionary k p) e) same refused)
 
-  pub closed_refused : (n m : ℕ) (p : Place) (e : PolicyFault) → m ≡ n → Refuses (Either (Within profile dictionary m) p) e → Refuses (Closed (Within profile dictionary n) p) e
+  pub closed_refused : (n m : ℕ) (p : Place) (e : Refusal) → m ≡ n → Refuses (Either (Within profile dictionary m) p) e → Refuses (Closed (Within profile dictionary n) p) e
   closed_refused n m p e same refused =
       then_stops (Either (Within profile dictionary n)) Closing p e (subst (λ k. Refuses (Either (Within profile dictionary k) p) e) same refused)
 
-  pub unclosed_refused : (n m : ℕ) (p : Place) (c : Cond) (end : Place) (e : PolicyFault) → m ≡ n → Either (Within profile dictionary m) p c end
+  pub unclosed_refused : (n m : ℕ) (p : Place) (c : Cond) (end : Place) (e : Refusal) → m ≡ n → Either (Within profile dictionary m) p c end
       → ((rest : Place) → Follows (Operator sign.Close) end rest → ⊥) → Refuses (Closed (Within profile dictionary n) p) e
   unclosed_refused n m p c end e same read open_end =
       then_on (Either (Within profile dictionary n)) Closing (either_one (Within profile dictionary n) (within_one n)) p c end (subst (λ k. Either (Within profile dictionary k) p c end) same read) e

@@ -12,7 +12,7 @@ use Rattle.avp_dict.specs.Sent.{is_container}
 use Rattle.avp_dict.specs.Spellings.{is_barred}
 use Rattle.avp_forms.specs.declared.targets.Target.{Target}
 use Rattle.avp_forms.specs.declared.profiles.Profile.{Profile}
-use Rattle.avp_unlang.specs.declared.faults.PolicyFault.{PolicyFault}
+use Rattle.avp_unlang.specs.declared.faults.Refusal.{Refusal}
 use Rattle.avp_unlang.specs.declared.faults.PolicyKind.TheVariants.{Memory}
 use Rattle.avp_unlang.specs.declared.text.references.Reference.{Reference}
 use Rattle.avp_unlang.specs.declared.text.tokens.Sign.TheVariants as sign
@@ -85,7 +85,7 @@ module _ (profile : Profile) (dictionary : Dictionary) where
   written_one name p x y r s h g = written_from_one name (next_token p).0 (next_token p).1 x y r s h g
 
   -- a refusal of the reference after an `&`
-  pub reference_refused : (name : Target) (p : Place) (q : Token × Place) (e : PolicyFault) → q ≡ next_token p → q.0 ≡ Operator sign.Reference
+  pub reference_refused : (name : Target) (p : Place) (q : Token × Place) (e : Refusal) → q ≡ next_token p → q.0 ≡ Operator sign.Reference
       → Refuses (AlikeIs profile dictionary name.named.id q.1) e → Refuses (WrittenIs profile dictionary name p) e
   reference_refused name p q e is first refused =
       let at : Refuses (WrittenFrom profile dictionary name (Operator sign.Reference) q.1) e = λ some x rest h. refused some h.0 rest h.1 in
@@ -100,17 +100,17 @@ module _ (profile : Profile) (dictionary : Dictionary) where
         (one g.0 x y (subst (λ (w : Written). makes w x) at.0 h.2) g.2, at.1)
 
     -- no value is written, or nothing is made of it
-    pub made_stops : (p : Place) (e : PolicyFault) → Refuses (WrittenIs profile dictionary name p) e → Refuses (WrittenAs profile dictionary name makes p) e
+    pub made_stops : (p : Place) (e : Refusal) → Refuses (WrittenIs profile dictionary name p) e → Refuses (WrittenAs profile dictionary name makes p) e
     made_stops p e refused = λ some x rest h. refused some h.0 rest h.1
 
-    pub made_refused : (p : Place) (w : Written) (mid : Place) (e : PolicyFault) → WrittenIs profile dictionary name p w mid → (e.kind ≢ Memory → (x : A) → makes w x → ⊥)
+    pub made_refused : (p : Place) (w : Written) (mid : Place) (e : Refusal) → WrittenIs profile dictionary name p w mid → (e.kind ≢ Memory → (x : A) → makes w x → ⊥)
         → Refuses (WrittenAs profile dictionary name makes p) e
     made_refused p w mid e read refused = λ some x rest h.
         let at = written_one name p h.0 w rest mid h.1 read in refused some x (subst (λ (k : Written). makes k x) at.0 h.2)
 
   -- ---- sources
 
-  pub filled_reads : (name : Target) (text : List ℕ) (parts : List Part) → is_barred name.named dictionary ≡ false → PartsAre profile dictionary text parts → (r : Result Source PolicyFault)
+  pub filled_reads : (name : Target) (text : List ℕ) (parts : List Part) → is_barred name.named dictionary ≡ false → PartsAre profile dictionary text parts → (r : Result Source Refusal)
       → IfOk r (λ source. filled_source profile dictionary name parts ≡ Some source) → IfErr r (λ fault. fault.kind ≢ Memory → filled_source profile dictionary name parts ≡ None)
       → ReadsAll (FilledIs profile dictionary name text) r
   filled_reads name text parts free are (Ok source) ok err = (free, parts, are, ok)
@@ -147,12 +147,12 @@ module _ (profile : Profile) (dictionary : Dictionary) where
   pub source_one : (operation : Op) (name : Target) → IsOne (SourceIs profile dictionary operation name)
   source_one operation name = source_by_one (is_removal operation) name
 
-  by_value : (name : Target) (p : Place) → is_container name.named.id ≡ false → (r : Result (Source × Place) PolicyFault) → Reads (ValueIs profile dictionary name p) r → Reads (SourceBy false profile dictionary name p) r
+  by_value : (name : Target) (p : Place) → is_container name.named.id ≡ false → (r : Result (Source × Place) Refusal) → Reads (ValueIs profile dictionary name p) r → Reads (SourceBy false profile dictionary name p) r
   by_value name p own (Ok x) reads = (own, reads)
   by_value name p own (Err e) reads = λ some x rest h. reads some x rest h.1
 
   -- a source that is looked at
-  pub value_reads : (operation : Op) (name : Target) (p : Place) (r : Result (Source × Place) PolicyFault) → is_removal operation ≡ false → is_container name.named.id ≡ false
+  pub value_reads : (operation : Op) (name : Target) (p : Place) (r : Result (Source × Place) Refusal) → is_removal operation ≡ false → is_container name.named.id ≡ false
       → Reads (ValueIs profile dictionary name p) r → Reads (SourceIs profile dictionary operation name p) r
   value_reads operation name p r looked own reads = subst (λ b. Reads (SourceBy b profile dictionary name p) r) (sym looked) (by_value name p own r reads)
 

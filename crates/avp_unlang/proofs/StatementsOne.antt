@@ -3,7 +3,7 @@ use Rattle.std.proofs.Common.{◌≡◌, ◌≢◌, ℕ, ◌<◌, zero, suc, Boo
 use Rattle.std.specs.Prelude.{codes}
 use Rattle.avp_dict.specs.Dictionary.{Dictionary}
 use Rattle.avp_forms.specs.declared.profiles.Profile.{Profile}
-use Rattle.avp_unlang.specs.declared.faults.PolicyFault.{PolicyFault}
+use Rattle.avp_unlang.specs.declared.faults.Refusal.{Refusal}
 use Rattle.avp_unlang.specs.declared.faults.PolicyKind.TheVariants.{Memory}
 use Rattle.avp_unlang.specs.declared.text.statements.Keyword.{Keyword}
 use Rattle.avp_unlang.specs.declared.text.statements.Keyword.TheVariants as keyword
@@ -63,21 +63,21 @@ pub block_one : {A : Type 0} (n : ℕ) (begins : Place → Bool) (inner : Form P
 block_one n begins inner one p x y r s h g = after_one (Follows start_sign) (Inside begins inner) (follows_sure start_sign) (inside_one begins inner one) p x y r s h.1 g.1
 
 -- what a block wants is wanted of all of it
-block_refused : {A : Type 0} (n : ℕ) (begins : Place → Bool) (inner : Form Place A) (p : Place) (e : PolicyFault)
+block_refused : {A : Type 0} (n : ℕ) (begins : Place → Bool) (inner : Form Place A) (p : Place) (e : Refusal)
     → Refuses (After (Follows start_sign) (Inside begins inner) p) e → Refuses (BlockIs n begins inner p) e
 block_refused n begins inner p e refused = λ some xs rest h. refused some xs rest h.1
 
-pub unopened : {A : Type 0} (n : ℕ) (begins : Place → Bool) (inner : Form Place A) (p : Place) (e : PolicyFault)
+pub unopened : {A : Type 0} (n : ℕ) (begins : Place → Bool) (inner : Form Place A) (p : Place) (e : Refusal)
     → ((rest : Place) → Follows start_sign p rest → ⊥) → Refuses (BlockIs n begins inner p) e
 unopened n begins inner p e none = block_refused n begins inner p e (after_stops (Follows start_sign) (Inside begins inner) p e none)
 
-pub inside_refused : {A : Type 0} (n : ℕ) (begins : Place → Bool) (inner : Form Place A) (p start : Place) (e : PolicyFault)
+pub inside_refused : {A : Type 0} (n : ℕ) (begins : Place → Bool) (inner : Form Place A) (p start : Place) (e : Refusal)
     → Follows start_sign p start → Refuses (While begins inner start) e → Refuses (BlockIs n begins inner p) e
 inside_refused n begins inner p start e opened refused =
     block_refused n begins inner p e (after_on (Follows start_sign) (Inside begins inner) (follows_sure start_sign) p start opened e
     (then_stops (While begins inner) Ended start e refused))
 
-pub unended : {A : Type 0} (n : ℕ) (begins : Place → Bool) (inner : Form Place A) → IsOne inner → (p start : Place) (xs : List A) (end : Place) (e : PolicyFault)
+pub unended : {A : Type 0} (n : ℕ) (begins : Place → Bool) (inner : Form Place A) → IsOne inner → (p start : Place) (xs : List A) (end : Place) (e : Refusal)
     → Follows start_sign p start → While begins inner start xs end → ((rest : Place) → Follows end_sign end rest → ⊥) → Refuses (BlockIs n begins inner p) e
 unended n begins inner one p start xs end e opened read none =
     block_refused n begins inner p e (after_on (Follows start_sign) (Inside begins inner) (follows_sure start_sign) p start opened e
@@ -128,7 +128,7 @@ module _ (profile : Profile) (dictionary : Dictionary) (n : ℕ) (inner : Form P
       (ap (λ (l : List Statement). Some l) at.0, at.1)
 
   -- a block that has to follow an `else`
-  pub otherwise_refused : (p next : Place) (e : PolicyFault) → Follows else_word p next → Refuses (BlockIs n begins_word inner next) e → Refuses (Otherwise n inner p) e
+  pub otherwise_refused : (p next : Place) (e : Refusal) → Follows else_word p next → Refuses (BlockIs n begins_word inner next) e → Refuses (Otherwise n inner p) e
   otherwise_refused p next e follows refused = λ some o rest h. none_of some o rest h where
     none_of : e.kind ≢ Memory → (o : Option (List Statement)) (rest : Place) → Otherwise n inner p o rest → ⊥
     none_of some None rest h = h.0 next follows
@@ -167,7 +167,7 @@ module _ (profile : Profile) (dictionary : Dictionary) where
   nested_one (suc n) p x y r s h g = statement_one profile dictionary n (Nested profile dictionary n) (nested_one n) p x y r s h g
 
   -- a statement is read by what stands behind its first word
-  pub statement_reads : (n : ℕ) (inner : Form Place Statement) (p : Place) (q : Token × Place) (k : Keyword) (r : Result (Statement × Place) PolicyFault)
+  pub statement_reads : (n : ℕ) (inner : Form Place Statement) (p : Place) (q : Token × Place) (k : Keyword) (r : Result (Statement × Place) Refusal)
       → q ≡ next_token p → keyword_in q.0 ≡ k → Reads (StatementFrom profile dictionary n inner k q.1) r → Reads (StatementIs profile dictionary n inner p) r
   statement_reads n inner p q k r is first reads =
       subst (λ (t : Token × Place). Reads (StatementFrom profile dictionary n inner (keyword_in t.0) t.1) r) is (subst (λ j. Reads (StatementFrom profile dictionary n inner j q.1) r) (sym first) reads)
@@ -200,7 +200,7 @@ module _ (dictionary : Dictionary) where
       let at = read_one text others statements h.0 end h.2 (as_read text profile by p statements end start read) in
       last (is ∙ ap (λ (t : Token × Place). t.0) (subst (λ k. next_token k ≡ (token.End, h.1)) at.1 h.3))
 
-  pub policy_refused : (text : List ℕ) (profile : Profile) → profile ≡ profile_of text → (p : Place) (e : PolicyFault) → p ≡ start_of text → Refuses (While begins_word (Nested profile dictionary 65) p) e
+  pub policy_refused : (text : List ℕ) (profile : Profile) → profile ≡ profile_of text → (p : Place) (e : Refusal) → p ≡ start_of text → Refuses (While begins_word (Nested profile dictionary 65) p) e
       → e.kind ≢ Memory → (statements : List Statement) → SpellsPolicy dictionary text statements → ⊥
   policy_refused text profile by p e start refused some statements h =
       refused some statements h.0 (subst (λ k. While begins_word (Nested profile dictionary 65) k statements h.0) (sym start) (subst (λ q. While begins_word (Nested q dictionary 65) (start_of text) statements h.0) (sym by) h.2))

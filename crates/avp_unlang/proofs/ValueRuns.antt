@@ -2,7 +2,7 @@
 use Rattle.std.proofs.Common.{◌≡◌, Bool, true, false, List, [], ◌∷◌, ◌++◌, Result, refl, sym, ap, subst, ◌∙◌, append_assoc}
 use Rattle.std.proofs.lemmas.List.{append-nil}
 use Rattle.std.specs.Prelude.{IsErrAnd}
-use Rattle.avp_unlang.specs.declared.faults.PolicyFault.{PolicyFault}
+use Rattle.avp_unlang.specs.declared.faults.Refusal.{Refusal}
 use Rattle.avp_unlang.specs.Forms.{Form, While, Refuses, ReadsAll}
 use Rattle.avp_unlang.proofs.Determined.{IsOne, exits_all}
 
@@ -52,11 +52,11 @@ run_fails begins form p front mid f e zs r o = let g = f.only zs r o in wanted b
 
 -- a refusal of that value is one of them all
 pub run_stops : {S A : Type 0} (begins : S → Bool) (form : Form S A) (p : S) (front : List A) (mid : S) → IsRun begins form p front mid → begins mid ≡ true
-    → (e : PolicyFault) → Refuses (form mid) e → Refuses (While begins form p) e
+    → (e : Refusal) → Refuses (form mid) e → Refuses (While begins form p) e
 run_stops begins form p front mid f e fault refused = λ some zs r o. let w = run_fails begins form p front mid f e zs r o in refused some w.0 w.1 w.2
 
 -- and one of a whole text of such values
-pub run_exits : {S A : Type 0} (begins : S → Bool) (form : Form S A) (p : S) (front : List A) (mid : S) (e : PolicyFault) (r : Result (List A) PolicyFault)
+pub run_exits : {S A : Type 0} (begins : S → Bool) (form : Form S A) (p : S) (front : List A) (mid : S) (e : Refusal) (r : Result (List A) Refusal)
     → IsErrAnd r (λ d. d ≡ e) → IsRun begins form p front mid → begins mid ≡ true → Refuses (form mid) e
     → ReadsAll (λ xs. (end : S) × While begins form p xs end) r
 run_exits begins form p front mid e r is f on fault =

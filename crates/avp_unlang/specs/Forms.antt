@@ -1,8 +1,7 @@
 -- How texts spell values: each case is chosen by what comes next, so a place spells at most one value of a form.
 use Rattle.std.specs.Prelude.{◌≡◌, ◌≢◌, Bool, true, false, List, [], ◌∷◌, Option, Some, Result, Ok, Err}
-use Rattle.avp_unlang.specs.declared.faults.PolicyFault.{PolicyFault}
-use Rattle.avp_unlang.specs.declared.faults.PolicyKind.{PolicyKind}
 use Rattle.avp_unlang.specs.declared.faults.PolicyKind.TheVariants.{Memory}
+use Rattle.avp_unlang.specs.declared.faults.Refusal.{Refusal}
 
 -- form p x rest: from the place p a value x is spelled, and reading goes on at rest
 abbrev pub Form : Type 0 → Type 0 → Type 1
@@ -56,20 +55,20 @@ Chain step form p (x ∷ xs) rest = (end : _) × form p x end × Others step for
 
 -- A refusal: nothing is spelled, unless memory was short. A form is a relation and no function, and so no definition
 -- that `Meets` takes.
-abbrev pub Refuses : {S A : Type 0} → (A → S → Type 0) → PolicyFault → Type 0
-Refuses spelled fault = fault.kind ≢ Memory → (x : _) (rest : _) → spelled x rest → ⊥
+abbrev pub Refuses : {S A : Type 0} → (A → S → Type 0) → Refusal → Type 0
+Refuses spelled refusal = refusal.kind ≢ Memory → (x : _) (rest : _) → spelled x rest → ⊥
 
 -- What a reader answers: what is spelled and where reading goes on, or a refusal.
-abbrev pub Reads : {S A : Type 0} → (A → S → Type 0) → Result (A × S) PolicyFault → Type 0
+abbrev pub Reads : {S A : Type 0} → (A → S → Type 0) → Result (A × S) Refusal → Type 0
 Reads spelled (Ok x) = spelled x.0 x.1
-Reads spelled (Err fault) = Refuses spelled fault
+Reads spelled (Err refusal) = Refuses spelled refusal
 
 -- The same of a step.
-abbrev pub Takes : {S : Type 0} → (S → Type 0) → Result S PolicyFault → Type 0
+abbrev pub Takes : {S : Type 0} → (S → Type 0) → Result S Refusal → Type 0
 Takes step (Ok rest) = step rest
-Takes step (Err fault) = (rest : _) → step rest → ⊥
+Takes step (Err refusal) = (rest : _) → step rest → ⊥
 
 -- The same of a whole text.
-abbrev pub ReadsAll : {A : Type 0} → (A → Type 0) → Result A PolicyFault → Type 0
+abbrev pub ReadsAll : {A : Type 0} → (A → Type 0) → Result A Refusal → Type 0
 ReadsAll spelled (Ok x) = spelled x
-ReadsAll spelled (Err fault) = fault.kind ≢ Memory → (x : _) → spelled x → ⊥
+ReadsAll spelled (Err refusal) = refusal.kind ≢ Memory → (x : _) → spelled x → ⊥

@@ -15,6 +15,12 @@ pub mod Places
 pub mod Policies
 pub mod PolicyPatterns
 pub mod References
+pub mod RefusedConditions
+pub mod RefusedForms
+pub mod RefusedLines
+pub mod RefusedPolicies
+pub mod RefusedStatements
+pub mod RefusedValues
 pub mod Resolutions
 pub mod Selecting
 pub mod Sizes

@@ -50,36 +50,20 @@ pub struct PolicyFault {
     pub kind: PolicyKind,
 }
 
-/// Where a token begins in a text: its line, from 1, and how many octets are before it.
-#[derive(Clone, Copy)]
-pub(crate) struct Position {
-    pub line: usize,
-    pub offset: usize,
+impl PolicyFault {
+    /// Want of memory, which has no place.
+    pub(crate) const OUT_OF_MEMORY: PolicyFault = PolicyFault {
+        line: 0,
+        offset: 0,
+        kind: PolicyKind::Memory,
+    };
 }
-
-/// The fault of this kind at the token that begins here.
-pub(crate) fn fault_at(position: Position, kind: PolicyKind) -> PolicyFault
-    ensures { result.kind ≡ kind }
-{
-    PolicyFault {
-        line: position.line,
-        offset: position.offset,
-        kind,
-    }
-}
-
-// Want of memory, which has no place.
-pub(crate) const OUT_OF_MEMORY: PolicyFault = PolicyFault {
-    line: 0,
-    offset: 0,
-    kind: PolicyKind::Memory,
-};
 
 impl From<AllocError> for PolicyFault {
     ghost from_gives = { λ _ fault. fault.kind ≡ Memory };
 
     fn from(_error: AllocError) -> PolicyFault {
-        OUT_OF_MEMORY
+        PolicyFault::OUT_OF_MEMORY
     }
 }
 
@@ -87,6 +71,55 @@ impl<T: Drop> From<AllocFailed<T>> for PolicyFault {
     ghost from_gives = { λ _ fault. fault.kind ≡ Memory };
 
     fn from(_error: AllocFailed<T>) -> PolicyFault {
-        OUT_OF_MEMORY
+        PolicyFault::OUT_OF_MEMORY
+    }
+}
+
+/// Where a token begins in a text: its line, from 1, and how many octets are left from there on.
+#[derive(Clone, Copy)]
+pub(crate) struct Position {
+    pub line: usize,
+    pub left: usize,
+}
+
+/// Why a text was refused, and how many of its octets are left from the refused token on.
+#[derive(Clone, Copy)]
+pub(crate) struct Refusal {
+    pub left: usize,
+    pub kind: PolicyKind,
+}
+
+/// The refusal of this kind at the token that begins here.
+pub(crate) fn refused_at(position: Position, kind: PolicyKind) -> Refusal
+    ensures kind { result.kind ≡ kind }
+    ensures place { result.left ≡ position.left }
+{
+    Refusal {
+        left: position.left,
+        kind,
+    }
+}
+
+impl Refusal {
+    /// Want of memory, which has no place.
+    pub(crate) const OUT_OF_MEMORY: Refusal = Refusal {
+        left: 0,
+        kind: PolicyKind::Memory,
+    };
+}
+
+impl From<AllocError> for Refusal {
+    ghost from_gives = { λ _ refusal. refusal.kind ≡ Memory };
+
+    fn from(_error: AllocError) -> Refusal {
+        Refusal::OUT_OF_MEMORY
+    }
+}
+
+impl<T: Drop> From<AllocFailed<T>> for Refusal {
+    ghost from_gives = { λ _ refusal. refusal.kind ≡ Memory };
+
+    fn from(_error: AllocFailed<T>) -> Refusal {
+        Refusal::OUT_OF_MEMORY
     }
 }

@@ -25,7 +25,7 @@ pub use meaning::reasons::Reason;
 pub use meaning::resolving::{Unresolved, resolve, resolve_by};
 pub use meaning::truth::holds;
 pub use text::policies::{
-    Policy, keeps_reply_clean, one_policy, plain_has_no_patterns, read_policy, size,
+    Policy, keeps_reply_clean, one_policy, plain_has_no_patterns, read_policy, refused_once, size,
 };
 pub use tree::{
     Block, Branch, Branches, Comparand, Comparison, Cond, Line, Lines, Matching, MeantComparand,

@@ -17,6 +17,8 @@ mod meanings;
 #[cfg(test)]
 mod patterns;
 #[cfg(test)]
+mod refused_places;
+#[cfg(test)]
 mod tags;
 #[cfg(test)]
 mod texts;

@@ -6,17 +6,17 @@ ghost use Rattle.avp_forms.specs.declared.profiles.Profile.TheVariants.{Plain, W
 ghost use Rattle.avp_patterns.specs.declared.faults.PatternFault.TheVariants as pattern;
 ghost use Rattle.avp_unlang.specs.declared.faults.PolicyKind.TheVariants as policy;
 ghost use Rattle.avp_unlang.specs.declared.text.tokens.Token.TheVariants.{End};
+ghost use Rattle.avp_unlang.specs.internal.LeftTokens.{LeavesToken};
 ghost use Rattle.avp_unlang.specs.PatternTruth.{pattern_in};
 ghost use Rattle.avp_unlang.specs.PolicyPatterns.{AreKept, HasPatterns, branch_patterns_pass, branches_pass, cond_patterns_pass, is_among, none_passes, policy_patterns_pass, statement_patterns_pass};
 
-use crate::faults::{OUT_OF_MEMORY, PolicyFault, PolicyKind, Position, fault_at};
+use crate::faults::{PolicyKind, Refusal};
 use crate::meaning::matchers::is_pattern;
 use crate::text::pattern_tokens::token_in;
 use crate::text::patterns::unslashed;
 use crate::text::positions::from_token;
 use crate::text::tokens::Token;
 use crate::tree::{Branch, Cond, Matching, Statement};
-use avp_dict::line_after;
 use avp_forms::Profile;
 use avp_patterns::{Pattern, PatternFault, PatternFlags};
 use std::alloc::{AllocError, Global};
@@ -112,30 +112,31 @@ impl Compiled {
         }
     }
 
-    // Where the first token of a wider text is whose pattern is not among these, or the end.
+    // How many octets of a wider text are left from the first token on whose pattern is not among these, or the end.
     fn first_other(&self, alloc: Global, text: &[u8]) -> Result<usize, AllocError>
-        ensures { IfOk result (λ offset. offset ≤ length text.now) }
+        ensures { IfOk result (λ left. LeavesToken Wider left text.now) }
     {
         let mut start = from_token(text);
         loop {
             let (token, rest) = token_in(Profile::Wider, start);
             if !self.passes(alloc, &token)? {
-                return Ok(text.len() - start.len());
+                return Ok(start.len());
             }
             start = from_token(rest);
         }
     }
 
-    // The fault of a wider text whose next pattern was not compiled.
-    fn fault_in(&self, alloc: Global, text: &[u8], fault: CompileFault) -> PolicyFault
-        ensures { result.kind ≢ policy.Memory → result.kind ≡ policy.Pattern pattern.TooLarge }
+    // The refusal of a wider text whose next pattern was not compiled.
+    fn refusal_in(&self, alloc: Global, text: &[u8], fault: CompileFault) -> Refusal
+        ensures large { result.kind ≢ policy.Memory
+            → result.kind ≡ policy.Pattern pattern.TooLarge }
+        ensures token { result.kind ≢ policy.Memory → LeavesToken Wider result.left text.now }
     {
-        let (CompileFault::TooLarge, Ok(offset)) = (fault, self.first_other(alloc, text)) else {
-            return OUT_OF_MEMORY;
+        let (CompileFault::TooLarge, Ok(left)) = (fault, self.first_other(alloc, text)) else {
+            return Refusal::OUT_OF_MEMORY;
         };
-        let line = line_after(&text[..offset]);
         let kind = PolicyKind::Pattern(PatternFault::TooLarge);
-        fault_at(Position { line, offset }, kind)
+        Refusal { left, kind }
     }
 }
 
@@ -262,19 +263,21 @@ pub(crate) fn patterns_of(
     profile: Profile,
     text: &[u8],
     statements: &[Statement],
-) -> Result<Vec<Pattern>, PolicyFault>
+) -> Result<Vec<Pattern>, Refusal>
     requires { profile ≡ Plain → IsTrue (policy_patterns_pass none_passes statements.now) }
     ensures pass { IfOk result (λ patterns. IsTrue (policy_patterns_pass (is_among patterns.items)
         statements.now)) }
-    ensures refused { IfErr result (λ fault. fault.kind ≢ policy.Memory
-        → (fault.kind ≡ policy.Pattern pattern.TooLarge) × HasPatterns statements.now) }
+    ensures refused { IfErr result (λ refusal. refusal.kind ≢ policy.Memory
+        → (refusal.kind ≡ policy.Pattern pattern.TooLarge) × HasPatterns statements.now) }
+    ensures token { IfErr result (λ refusal. refusal.kind ≢ policy.Memory
+        → LeavesToken profile refusal.left text.now) }
 {
     let mut compiled = Compiled::new(alloc);
     match profile {
         Profile::Plain => Ok(compiled.patterns),
         Profile::Wider => match compile_block(alloc, statements, &mut compiled) {
             Ok(()) => Ok(compiled.patterns),
-            Err(fault) => Err(compiled.fault_in(alloc, text, fault)),
+            Err(fault) => Err(compiled.refusal_in(alloc, text, fault)),
         },
     }
 }

@@ -5,13 +5,16 @@ ghost use Rattle.avp_unlang.specs.Conditions.{Both, Closed, ComparandOf, Compare
 ghost use Rattle.avp_unlang.specs.Forms.{Becomes, Reads, ReadsAll};
 ghost use Rattle.avp_unlang.specs.Parts.{group_in};
 ghost use Rattle.avp_unlang.specs.References.{type_of};
+ghost use Rattle.avp_unlang.specs.RefusedConditions.{BothFails, ClosedFails, ComparandFails, ComparedFails, EitherFails, ReferredFails, RelatedFails, WithinFails, WordFailsFrom, comparand_refusal, group_refusal};
+ghost use Rattle.avp_unlang.specs.RefusedForms.{DeepFails, RefusedIf, Tells};
+ghost use Rattle.avp_unlang.specs.RefusedValues.{IsValueRefused, expansion_kind, literal_refusal, plain_refusal};
 ghost use Rattle.avp_unlang.specs.Words.{code_named};
 ghost use Rattle.avp_unlang.specs.declared.faults.PolicyKind.TheVariants.{Memory};
 ghost use Rattle.avp_unlang.specs.declared.tree.Cond.TheVariants.{Captured};
 
 use crate::boxed::Boxed;
 use crate::codes::code_named;
-use crate::faults::{PolicyFault, PolicyKind, Position, fault_at};
+use crate::faults::{PolicyKind, Position, Refusal, refused_at};
 use crate::items::Items;
 use crate::text::cursors::{Cursor, Read};
 use crate::text::meanings::related_by_meaning;
@@ -58,16 +61,19 @@ pub(crate) fn has_expansion(text: &[u8]) -> bool
     false
 }
 
-/// The fault of an expansion in a condition; that the name is not writable comes first.
-pub(crate) fn expansion_fault(
+/// The refusal of an expansion in a condition; that the name is not writable comes first.
+pub(crate) fn expansion_refusal(
     dictionary: &Dictionary,
     target: Target,
     positions: ValuePositions,
-) -> PolicyFault {
+) -> Refusal
+    ensures { IsValueRefused (expansion_kind dictionary.now target) positions.name.left
+        positions.value.left result.left result.kind }
+{
     if dictionary.is_barred(target.named) {
-        fault_at(positions.name, PolicyKind::NotWritable)
+        refused_at(positions.name, PolicyKind::NotWritable)
     } else {
-        fault_at(positions.value, PolicyKind::Unreadable)
+        refused_at(positions.value, PolicyKind::Unreadable)
     }
 }
 
@@ -79,14 +85,17 @@ fn plain_literal(
     target: Target,
     text: &Excerpt,
     positions: ValuePositions,
-) -> Result<Value, PolicyFault>
+) -> Result<Value, Refusal>
     ensures ok { IfOk result (λ value. plain_literal profile dictionary.now target text.now
         ≡ Some value) }
-    ensures err { IfErr result (λ fault. fault.kind ≢ Memory
+    ensures err { IfErr result (λ refusal. refusal.kind ≢ Memory
         → plain_literal profile dictionary.now target text.now ≡ None) }
+    ensures refused { IfErr result (Tells (IsValueRefused
+        (plain_refusal (literal_refusal profile dictionary.now target) dictionary.now target
+        text.now) positions.name.left positions.value.left)) }
 {
     if has_expansion(text.as_slice()) {
-        return Err(expansion_fault(dictionary, target, positions));
+        return Err(expansion_refusal(dictionary, target, positions));
     }
     quoted_literal(
         alloc,
@@ -107,8 +116,11 @@ fn comparand_of(
     target: Target,
     written: Written,
     positions: ValuePositions,
-) -> Result<Comparand, PolicyFault>
-    ensures { ReadsAll (ComparandOf profile dictionary.now target written.entry) result }
+) -> Result<Comparand, Refusal>
+    ensures read { ReadsAll (ComparandOf profile dictionary.now target written.entry) result }
+    ensures refused { IfErr result (Tells (IsValueRefused
+        (comparand_refusal profile dictionary.now target written.entry) positions.name.left
+        positions.value.left)) }
 {
     match written {
         Written::Literal(value) => Ok(Comparand::Literal(value)),
@@ -120,7 +132,7 @@ fn comparand_of(
     }
 }
 
-// The comparison of a reference by the type of its values: what follows the operator.
+// The comparison of a reference, which begins here, by the type of its values: what follows the operator.
 #[inline(always)]
 fn related_by_type<'a>(
     alloc: Global,
@@ -128,14 +140,20 @@ fn related_by_type<'a>(
     dictionary: &Dictionary,
     found: Reference,
     relation: Relation,
-    positions: ValuePositions,
+    name: Position,
     at: &Cursor<'a>,
 ) -> Read<'a, Cond>
     ensures read { Reads (ComparedBy profile dictionary.now found relation at.now) result }
+    ensures refused { IfErr result (Tells
+        (ComparandFails profile dictionary.now found.target name.left at.now)) }
     ensures shorter { IfOk result (λ x. length x.1.text ≤ length at.now.text) }
 {
     let target = found.target;
-    let (written, rest) = written_value(alloc, profile, dictionary, target, positions, at)?;
+    let (written, rest) = written_value(alloc, profile, dictionary, target, name, at)?;
+    let positions = ValuePositions {
+        name,
+        value: at.position(),
+    };
     let comparand = comparand_of(alloc, profile, dictionary, target, written, positions)?;
     let comparison = Comparison {
         list: found.list,
@@ -158,7 +176,7 @@ fn is_by_meaning(profile: Profile, dictionary: &Dictionary, id: AttrId) -> bool
     }
 }
 
-// The comparison of a reference: what follows the operator.
+// The comparison of a reference, which begins here: what follows the operator.
 #[inline(always)]
 fn related<'a>(
     alloc: Global,
@@ -166,16 +184,18 @@ fn related<'a>(
     dictionary: &Dictionary,
     found: Reference,
     relation: Relation,
-    positions: ValuePositions,
+    name: Position,
     at: &Cursor<'a>,
 ) -> Read<'a, Cond>
     ensures read { Reads (RelatedIs profile dictionary.now found relation at.now) result }
+    ensures refused { IfErr result (Tells
+        (RelatedFails profile dictionary.now found.target name.left at.now)) }
     ensures shorter { IfOk result (λ x. length x.1.text ≤ length at.now.text) }
 {
     if is_by_meaning(profile, dictionary, found.target.named.id) {
-        related_by_meaning(alloc, dictionary, found, relation, positions, at)
+        related_by_meaning(alloc, dictionary, found, relation, name, at)
     } else {
-        related_by_type(alloc, profile, dictionary, found, relation, positions, at)
+        related_by_type(alloc, profile, dictionary, found, relation, name, at)
     }
 }
 
@@ -204,6 +224,8 @@ fn compared<'a>(
     at: Cursor<'a>,
 ) -> Read<'a, Cond>
     ensures read { Reads (ComparedIs profile dictionary.now found at.entry) result }
+    ensures refused { IfErr result (Tells
+        (ComparedFails profile dictionary.now found name.left at.entry)) }
     ensures shorter { IfOk result (λ x. length x.1.text ≤ length at.entry.text) }
 {
     if let Some(matcher) = matcher_in(profile, at.token()) {
@@ -220,13 +242,7 @@ fn compared<'a>(
         return Ok((present_of(dictionary, found), at));
     };
     let after = at.after();
-    let positions = ValuePositions {
-        name,
-        value: after.position(),
-    };
-    related(
-        alloc, profile, dictionary, found, relation, positions, &after,
-    )
+    related(alloc, profile, dictionary, found, relation, name, &after)
 }
 
 // The operand after an `&`.
@@ -237,51 +253,53 @@ fn referred_operand<'a>(
     at: &Cursor<'a>,
 ) -> Read<'a, Cond>
     ensures read { Reads (ReferredIs profile dictionary.now at.now) result }
+    ensures refused { IfErr result (Tells (ReferredFails profile dictionary.now at.now)) }
     ensures shorter { IfOk result (λ x. length x.1.text ≤ length at.now.text) }
 {
     let (found, mid) = referred(profile, dictionary, at)?;
-    let name = mid.before();
-    compared(alloc, profile, dictionary, found, name, mid)
+    compared(alloc, profile, dictionary, found, at.position(), mid)
 }
 
-// The operand of a word, which is the token before this place.
+// The operand of a word, which begins here and is the token before this place.
 fn worded_operand<'a>(
     alloc: Global,
     profile: Profile,
     dictionary: &Dictionary,
     word: &[u8],
+    name: Position,
     at: Cursor<'a>,
 ) -> Read<'a, Cond>
     ensures read { Reads (WordFrom profile dictionary.now (code_named word.now) word.now at.entry)
         result }
+    ensures refused { IfErr result (Tells (WordFailsFrom profile dictionary.now
+        (code_named word.now) word.now name.left at.entry)) }
     ensures shorter { IfOk result (λ x. length x.1.text ≤ length at.entry.text) }
 {
     if let Some(code) = code_named(word) {
         return Ok((Cond::Last(code), at));
     }
     match readable(profile, dictionary, word) {
-        Err(kind) => Err(at.fault(kind)),
-        Ok(found) => {
-            let name = at.before();
-            compared(alloc, profile, dictionary, found, name, at)
-        }
+        Err(kind) => Err(refused_at(name, kind)),
+        Ok(found) => compared(alloc, profile, dictionary, found, name, at),
     }
 }
 
-// The operand of a text between double quotes, which is the token at the first place and before the second one.
+// The operand of a text between double quotes, which begins here and is the token before this place.
 fn quoted_operand<'a>(
     profile: Profile,
     text: &Excerpt,
-    at: &Cursor<'a>,
+    begin: Position,
     after: Cursor<'a>,
 ) -> Read<'a, Cond>
     ensures read { Reads (Becomes (option_map Captured (group_in profile text.now)) after.entry)
         result }
+    ensures refused { IfErr result (Tells (RefusedIf begin.left
+        (group_refusal (group_in profile text.now)) after.entry)) }
     ensures shorter { IfOk result (λ x. length x.1.text ≤ length after.entry.text) }
 {
     match group_in(profile, text) {
         Some(group) => Ok((Cond::Captured(group), after)),
-        None => Err(at.misplaced()),
+        None => Err(refused_at(begin, PolicyKind::Misplaced)),
     }
 }
 
@@ -328,53 +346,65 @@ fn operand<'a>(
     at: Cursor<'a>,
 ) -> Read<'a, Cond>
     ensures read { Reads (Within profile dictionary.now (suc depth) at.entry) result }
+    ensures refused { IfErr result (Tells
+        (WithinFails profile dictionary.now (suc depth) at.entry)) }
     ensures shorter { IfOk result (λ x. length x.1.text ≤ length at.entry.text) }
 {
+    let begin = at.position();
     let (token, after) = at.next();
     match token {
-        Token::Operator(Sign::Not) => negated(alloc, profile, dictionary, depth, after),
-        Token::Operator(Sign::Open) => closed(alloc, profile, dictionary, depth, after),
+        Token::Operator(Sign::Not) => negated(alloc, profile, dictionary, depth, begin, after),
+        Token::Operator(Sign::Open) => closed(alloc, profile, dictionary, depth, begin, after),
         Token::Operator(Sign::Reference) => referred_operand(alloc, profile, dictionary, &after),
-        Token::Word(word) => worded_operand(alloc, profile, dictionary, word.as_slice(), after),
-        Token::Quoted(QuoteMark::Double, text) => quoted_operand(profile, &text, &at, after),
-        _ => Err(at.misplaced()),
+        Token::Word(word) => {
+            worded_operand(alloc, profile, dictionary, word.as_slice(), begin, after)
+        }
+        Token::Quoted(QuoteMark::Double, text) => quoted_operand(profile, &text, begin, after),
+        _ => Err(at.unfit()),
     }
 }
 
-// The operand after a `!`, which is the token before this place.
+// The operand after a `!`, which begins here and is the token before this place.
 #[cycle(conditions)]
 fn negated<'a>(
     alloc: Global,
     profile: Profile,
     dictionary: &Dictionary,
     depth: usize,
+    sign: Position,
     at: Cursor<'a>,
 ) -> Read<'a, Cond>
     ensures read { Reads (Negated (Within profile dictionary.now depth) at.entry) result }
+    ensures refused { IfErr result (Tells (DeepFails depth sign.left
+        (WithinFails profile dictionary.now depth) at.entry)) }
     ensures shorter { IfOk result (λ x. length x.1.text ≤ length at.entry.text) }
 {
     if depth == 0 {
-        return Err(at.fault(PolicyKind::TooDeep));
+        return Err(refused_at(sign, PolicyKind::TooDeep));
     }
     let (cond, rest) = operand(alloc, profile, dictionary, depth - 1, at)?;
     Ok((Cond::Not(Boxed::new(alloc, cond)?), rest))
 }
 
-/// The condition after a `(`, which is the token before this place, and the `)`. At most `depth` signs are nested, the
-/// `(` counted.
+/// The condition after a `(`, which begins here and is the token before this place, and the `)`. At most `depth` signs
+/// are nested, the `(` counted.
 #[cycle(conditions)]
 pub(crate) fn closed<'a>(
     alloc: Global,
     profile: Profile,
     dictionary: &Dictionary,
     depth: usize,
+    sign: Position,
     at: Cursor<'a>,
 ) -> Read<'a, Cond>
     ensures read { Reads (Closed (Within profile dictionary.now depth) at.entry) result }
+    ensures refused { IfErr result (Tells (ClosedFails depth sign.left
+        (Within profile dictionary.now depth) (WithinFails profile dictionary.now depth)
+        at.entry)) }
     ensures shorter { IfOk result (λ x. length x.1.text ≤ length at.entry.text) }
 {
     if depth == 0 {
-        return Err(at.fault(PolicyKind::TooDeep));
+        return Err(refused_at(sign, PolicyKind::TooDeep));
     }
     let (cond, end) = either(alloc, profile, dictionary, depth - 1, at)?;
     let rest = end.expect(Sign::Close)?;
@@ -391,6 +421,8 @@ fn both<'a>(
     at: Cursor<'a>,
 ) -> Read<'a, Cond>
     ensures read { Reads (Both (Within profile dictionary.now (suc depth)) at.entry) result }
+    ensures refused { IfErr result (Tells (BothFails (Within profile dictionary.now (suc depth))
+        (WithinFails profile dictionary.now (suc depth)) at.entry)) }
     ensures shorter { IfOk result (λ x. length x.1.text ≤ length at.entry.text) }
 {
     let (first, mut rest) = operand(alloc, profile, dictionary, depth, at)?;
@@ -414,6 +446,8 @@ fn either<'a>(
     at: Cursor<'a>,
 ) -> Read<'a, Cond>
     ensures read { Reads (Either (Within profile dictionary.now (suc depth)) at.entry) result }
+    ensures refused { IfErr result (Tells (EitherFails (Within profile dictionary.now (suc depth))
+        (WithinFails profile dictionary.now (suc depth)) at.entry)) }
     ensures shorter { IfOk result (λ x. length x.1.text ≤ length at.entry.text) }
 {
     let (first, mut rest) = both(alloc, profile, dictionary, depth, at)?;

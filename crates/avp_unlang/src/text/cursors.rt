@@ -1,13 +1,14 @@
 //! How far a policy text has been read.
 
-ghost use Rattle.std.specs.Prelude.{◌≡◌, ◌≢◌, ◌≤◌, ◌<◌, ◌+◌, ◌^◌, length, IfSome, IfNone, IfOk, false};
+ghost use Rattle.std.specs.Prelude.{◌≡◌, ◌≢◌, ◌≤◌, ◌<◌, ◌+◌, ◌^◌, length, IfSome, IfNone, IfErr, IfOk, false};
 ghost use Rattle.avp_unlang.specs.Forms.{Takes};
 ghost use Rattle.avp_unlang.specs.Tokens.{passed, skipped, next_token};
 ghost use Rattle.avp_unlang.specs.Places.{Place, start_of, counted};
+ghost use Rattle.avp_unlang.specs.RefusedForms.{Lacks, Misses, Tells, Unfit, left_at};
 ghost use Rattle.avp_unlang.specs.Between.{Counts, Follows};
 ghost use Rattle.avp_unlang.specs.declared.text.tokens.Token.TheVariants.{End, Operator, Word};
 
-use crate::faults::{PolicyFault, PolicyKind, Position, fault_at};
+use crate::faults::{PolicyKind, Position, Refusal, refused_at};
 use crate::text::pattern_tokens::token_in;
 use crate::text::tokens::{Sign, Token, front};
 use avp_forms::{Profile, profile_of};
@@ -18,11 +19,9 @@ use std::marker::Model;
 #[derive(Drop)]
 pub(crate) struct Cursor<'a> {
     text: &'a [u8],
-    // Where the token before begins, on whose line the place is.
-    before: Position,
+    // That of the token before.
+    line: usize,
     room: usize,
-    // How many octets the whole text has.
-    whole: usize,
     // That of the whole text.
     profile: Profile,
     // The next token, where it begins, and the text after it.
@@ -39,16 +38,17 @@ impl<'a> Model for Cursor<'a> {
 
     ghost view = { λ c. record {
       text = c.text.now;
-      line = c.before.line;
+      line = c.line;
       room = c.room;
       profile = c.profile;
     } };
 
-    ghost invariant = { λ c. IsAhead c.profile c.text.now c.before.line c.token c.position.line c.rest.now };
+    ghost invariant = { λ c.
+        IsAhead c.profile c.text.now c.line c.token c.position.line c.position.left c.rest.now };
 }
 
 /// What a reader answers: what it read, and the place after it.
-pub(crate) type Read<'a, T> = Result<(T, Cursor<'a>), PolicyFault>;
+pub(crate) type Read<'a, T> = Result<(T, Cursor<'a>), Refusal>;
 
 #[tactic(auto, unfolding(crate::specs::Tokens::passed))]
 fn passed(line: usize, comment: bool, octet: u8) -> Option<(usize, bool)>
@@ -92,33 +92,28 @@ pub(crate) fn skipped(line: usize, text: &[u8]) -> (usize, &[u8])
 pub(crate) const MAX_SIZE: usize = 65_535;
 
 impl<'a> Cursor<'a> {
-    // A place from its text on, in a text of so many octets.
-    fn at(
-        text: &'a [u8],
-        before: Position,
-        room: usize,
-        whole: usize,
-        profile: Profile,
-    ) -> Cursor<'a>
-        requires { before.line + length text.now < 2 ^ 64 }
+    // A place from its text on.
+    fn at(text: &'a [u8], line: usize, room: usize, profile: Profile) -> Cursor<'a>
+        requires { line + length text.now < 2 ^ 64 }
         ensures { result ≡ record {
           text = text.now;
-          line = before.line;
+          line = line;
           room = room;
           profile = profile;
         } }
     {
-        let (line, start) = skipped(before.line, text);
-        let offset = whole.saturating_sub(start.len());
+        let (token_line, start) = skipped(line, text);
         let (token, rest) = token_in(profile, start);
         Cursor {
             text,
-            before,
+            line,
             room,
-            whole,
             profile,
             token,
-            position: Position { line, offset },
+            position: Position {
+                line: token_line,
+                left: start.len(),
+            },
             rest,
         }
     }
@@ -127,8 +122,7 @@ impl<'a> Cursor<'a> {
     pub(crate) fn new(text: &'a [u8]) -> Cursor<'a>
         ensures { result ≡ start_of text.now }
     {
-        let start = Position { line: 1, offset: 0 };
-        Cursor::at(text, start, MAX_SIZE, text.len(), profile_of(text))
+        Cursor::at(text, 1, MAX_SIZE, profile_of(text))
     }
 
     /// How much may still be added to the size.
@@ -151,22 +145,23 @@ impl<'a> Cursor<'a> {
         Some(Cursor { room, ..self })
     }
 
-    /// The same place after so much is added to the size. A fault is at this token.
-    pub(crate) fn count(self, count: usize, token: Position) -> Result<Cursor<'a>, PolicyFault>
+    /// The same place after so much is added to the size. A refusal is at this token.
+    pub(crate) fn count(self, count: usize, token: Position) -> Result<Cursor<'a>, Refusal>
         ensures taken { Takes (Counts count self.entry) result }
+        ensures refused { IfErr result (Tells (Lacks count token.left self.entry)) }
         ensures same { IfOk result (λ start. start.text ≡ self.entry.text) }
     {
         match self.counted(count) {
             Some(start) => Ok(start),
-            None => Err(fault_at(token, PolicyKind::TooLarge)),
+            None => Err(refused_at(token, PolicyKind::TooLarge)),
         }
     }
 
-    /// Where the token before begins, on whose line the place is. After [`Cursor::next`] it is that token.
-    pub(crate) fn before(&self) -> Position
-        ensures { result.line ≡ self.now.line }
+    /// The line of the token before.
+    pub(crate) fn line(&self) -> usize
+        ensures { result ≡ self.now.line }
     {
-        self.before
+        self.line
     }
 
     /// The next token.
@@ -178,9 +173,10 @@ impl<'a> Cursor<'a> {
     }
 
     /// Where the next token begins.
-    #[tactic(auto, unfolding(crate::specs::Tokens::next_token))]
+    #[tactic(auto, unfolding(crate::specs::Tokens::next_token, crate::specs::RefusedForms::left_at))]
     pub(crate) fn position(&self) -> Position
-        ensures { result.line ≡ (next_token self.now).1.line }
+        ensures line { result.line ≡ (next_token self.now).1.line }
+        ensures place { result.left ≡ left_at self.now }
     {
         self.position
     }
@@ -193,13 +189,7 @@ impl<'a> Cursor<'a> {
         ensures shorter { (next_token self.now).0 ≢ End
             → length result.text < length self.now.text }
     {
-        Cursor::at(
-            self.rest,
-            self.position,
-            self.room,
-            self.whole,
-            self.profile,
-        )
+        Cursor::at(self.rest, self.position.line, self.room, self.profile)
     }
 
     /// The next token, and the place after it.
@@ -236,29 +226,33 @@ impl<'a> Cursor<'a> {
     }
 
     /// The place after this operator or bracket, which has to come next.
-    pub(crate) fn expect(self, sign: Sign) -> Result<Cursor<'a>, PolicyFault>
+    pub(crate) fn expect(self, sign: Sign) -> Result<Cursor<'a>, Refusal>
         ensures taken { Takes (Follows (Operator sign) self.entry) result }
+        ensures refused { IfErr result (Tells (Misses (Operator sign) self.entry)) }
         ensures shorter { IfOk result (λ rest. length rest.text < length self.entry.text) }
     {
         match self.after_sign(sign) {
             Some(rest) => Ok(rest),
-            None => Err(self.misplaced()),
+            None => Err(self.unfit()),
         }
     }
 
-    /// The fault of a next token that does not fit.
-    pub(crate) fn misplaced(&self) -> PolicyFault {
+    /// The refusal of a next token that does not fit.
+    pub(crate) fn unfit(&self) -> Refusal
+        ensures { Unfit self.now result.left result.kind }
+    {
         let kind = match self.token() {
             Token::Unreadable => PolicyKind::Unreadable,
             _ => PolicyKind::Misplaced,
         };
-        fault_at(self.position, kind)
+        refused_at(self.position(), kind)
     }
 
-    /// A fault at the token before.
-    pub(crate) fn fault(&self, kind: PolicyKind) -> PolicyFault
-        ensures { result.kind ≡ kind }
+    /// The refusal of the next token for this kind.
+    pub(crate) fn refused(&self, kind: PolicyKind) -> Refusal
+        ensures kind { result.kind ≡ kind }
+        ensures place { result.left ≡ left_at self.now }
     {
-        fault_at(self.before, kind)
+        refused_at(self.position(), kind)
     }
 }

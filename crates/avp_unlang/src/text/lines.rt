@@ -1,8 +1,11 @@
 //! The lines of an `update`.
 
-ghost use Rattle.std.specs.Prelude.{◌≡◌, ◌≤◌, ◌<◌, length, IfOk};
+ghost use Rattle.std.specs.Prelude.{◌≡◌, ◌≤◌, ◌<◌, length, IfErr, IfOk};
 ghost use Rattle.avp_unlang.specs.Forms.{Reads, While};
-ghost use Rattle.avp_unlang.specs.Lines.{LineIs, OpIs, TargetIs, after_reference, begins_line, op_of};
+ghost use Rattle.avp_unlang.specs.Lines.{LineIs, OpIs, after_reference, begins_line, op_of};
+ghost use Rattle.avp_unlang.specs.RefusedForms.{Tells, WhileFails};
+ghost use Rattle.avp_unlang.specs.RefusedLines.{LineFails, NamedFails, OpFails};
+ghost use Rattle.avp_unlang.specs.internal.Targets.{NamedIs};
 
 use crate::faults::PolicyKind;
 use crate::items::Items;
@@ -29,24 +32,24 @@ fn after_reference<'a>(at: Cursor<'a>) -> Cursor<'a>
     }
 }
 
-// The target of a line.
-fn target<'a>(
+// The target of a line, after its `&`.
+fn named_target<'a>(
     profile: Profile,
     dictionary: &Dictionary,
     own: List,
-    at: Cursor<'a>,
+    at: &Cursor<'a>,
 ) -> Read<'a, Reference>
-    ensures read { Reads (TargetIs profile dictionary.now own at.entry) result }
-    ensures shorter { IfOk result (λ x. length x.1.text < length at.entry.text) }
+    ensures read { Reads (NamedIs profile dictionary.now own at.now) result }
+    ensures refused { IfErr result (Tells (NamedFails profile dictionary.now own at.now)) }
+    ensures shorter { IfOk result (λ x. length x.1.text < length at.now.text) }
 {
-    let begin = after_reference(at);
-    let (token, after) = begin.next();
+    let (token, after) = at.next();
     match &token {
         Token::Word(word) => match reference_in(profile, dictionary, own, word.as_slice()) {
-            None => Err(after.fault(PolicyKind::Unknown)),
+            None => Err(at.refused(PolicyKind::Unknown)),
             Some(found) => Ok((found, after)),
         },
-        _ => Err(begin.misplaced()),
+        _ => Err(at.unfit()),
     }
 }
 
@@ -68,11 +71,12 @@ fn op_of(token: &Token) -> Option<Op>
 
 fn operator<'a>(at: &Cursor<'a>) -> Read<'a, Op>
     ensures read { Reads (OpIs at.now) result }
+    ensures refused { IfErr result (Tells (OpFails at.now)) }
     ensures shorter { IfOk result (λ x. length x.1.text ≤ length at.now.text) }
 {
     let (token, after) = at.next();
     match op_of(&token) {
-        None => Err(at.misplaced()),
+        None => Err(at.unfit()),
         Some(operation) => Ok((operation, after)),
     }
 }
@@ -86,13 +90,15 @@ fn line<'a>(
     at: Cursor<'a>,
 ) -> Read<'a, Line>
     ensures read { Reads (LineIs profile dictionary.now own at.entry) result }
+    ensures refused { IfErr result (Tells (LineFails profile dictionary.now own at.entry)) }
     ensures shorter { IfOk result (λ x. length x.1.text < length at.entry.text) }
 {
     let first = at.position();
     let start = at.count(1, first)?;
-    let (found, mid) = target(profile, dictionary, own, start)?;
+    let begin = after_reference(start);
+    let name = begin.position();
+    let (found, mid) = named_target(profile, dictionary, own, &begin)?;
     let (op, end) = operator(&mid)?;
-    let name = mid.before();
     let (source, rest) = source(alloc, profile, dictionary, op, found.target, name, &end)?;
     let line = Line {
         line: first.line,
@@ -123,6 +129,8 @@ pub(crate) fn lines<'a>(
     at: Cursor<'a>,
 ) -> Read<'a, Lines>
     ensures read { Reads (While begins_line (LineIs profile dictionary.now own) at.entry) result }
+    ensures refused { IfErr result (Tells (WhileFails begins_line
+        (LineIs profile dictionary.now own) (LineFails profile dictionary.now own) at.entry)) }
     ensures shorter { IfOk result (λ x. length x.1.text ≤ length at.entry.text) }
 {
     let mut lines = Vec::new(alloc);

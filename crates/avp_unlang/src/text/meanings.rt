@@ -4,12 +4,16 @@ ghost use Rattle.std.specs.Prelude.{◌≡◌, ◌≢◌, ◌≤◌, length, Som
 ghost use Rattle.std.specs.Option.{option_and_then};
 ghost use Rattle.avp_dict.specs.Quotes.{octets_between};
 ghost use Rattle.avp_unlang.specs.Conditions.{MeantBy, MeantIs, instance_compared, meant_form, meant_literal, other_literal, own_literal, plain_octets};
+ghost use Rattle.avp_forms.specs.declared.profiles.Profile.TheVariants.{Wider};
 ghost use Rattle.avp_unlang.specs.Forms.{Reads};
+ghost use Rattle.avp_unlang.specs.RefusedConditions.{MeantFails, meant_refusal, own_refusal};
+ghost use Rattle.avp_unlang.specs.RefusedForms.{Tells};
+ghost use Rattle.avp_unlang.specs.RefusedValues.{IsValueRefused, literal_refusal, plain_refusal};
 ghost use Rattle.avp_unlang.specs.declared.faults.PolicyKind.TheVariants.{Memory};
 
-use crate::faults::{PolicyFault, PolicyKind, fault_at};
+use crate::faults::{PolicyKind, Position, Refusal, refused_at};
 use crate::meaning::truth::octets_meant;
-use crate::text::conditions::{expansion_fault, has_expansion};
+use crate::text::conditions::{expansion_refusal, has_expansion};
 use crate::text::cursors::{Cursor, Read};
 use crate::text::references::{Reference, alike};
 use crate::text::selecting::selection_of;
@@ -36,15 +40,18 @@ fn own_literal(
     target: Target,
     text: &[u8],
     positions: ValuePositions,
-) -> Result<(Form, Octets), PolicyFault>
+) -> Result<(Form, Octets), Refusal>
     ensures ok { IfOk result (λ x. own_literal dictionary.now target text.now ≡ Some x) }
-    ensures err { IfErr result (λ fault. fault.kind ≢ Memory
+    ensures err { IfErr result (λ refusal. refusal.kind ≢ Memory
         → own_literal dictionary.now target text.now ≡ None) }
+    ensures refused { IfErr result (Tells (IsValueRefused
+        (own_refusal (literal_refusal Wider dictionary.now target text.now))
+        positions.name.left positions.value.left)) }
 {
     let value = literal(alloc, Profile::Wider, dictionary, target, text, positions)?;
     match octets_meant(meant_form(dictionary, target.named.id), &value) {
         Some((form, octets)) => Ok((form, Octets::from_slice(alloc, octets)?)),
-        None => Err(fault_at(positions.value, PolicyKind::NotValue)),
+        None => Err(refused_at(positions.value, PolicyKind::NotValue)),
     }
 }
 
@@ -64,29 +71,31 @@ fn other_literal(
     }
 }
 
-// What a text is compared as under a name. The fault is that of the attribute's own values.
-#[tactic(auto, unfolding(crate::specs::Conditions::meant_literal))]
+// What a text is compared as under a name.
+#[tactic(auto, unfolding(crate::specs::Conditions::meant_literal, crate::specs::RefusedConditions::meant_refusal))]
 fn meant_literal(
     alloc: Global,
     dictionary: &Dictionary,
     target: Target,
     text: &[u8],
     positions: ValuePositions,
-) -> Result<MeantComparand, PolicyFault>
+) -> Result<MeantComparand, Refusal>
     ensures ok { IfOk result (λ x. meant_literal dictionary.now target text.now ≡ Some x) }
-    ensures err { IfErr result (λ fault. fault.kind ≢ Memory
+    ensures err { IfErr result (λ refusal. refusal.kind ≢ Memory
         → meant_literal dictionary.now target text.now ≡ None) }
+    ensures refused { IfErr result (Tells (IsValueRefused
+        (meant_refusal dictionary.now target text.now) positions.name.left positions.value.left)) }
 {
-    let fault = match own_literal(alloc, dictionary, target, text, positions) {
+    let refusal = match own_literal(alloc, dictionary, target, text, positions) {
         Ok((form, octets)) => return Ok(MeantComparand::Literal(form, octets)),
-        Err(fault) => fault,
+        Err(refusal) => refusal,
     };
-    if fault.kind == PolicyKind::Memory {
-        return Err(fault);
+    if refusal.kind == PolicyKind::Memory {
+        return Err(refusal);
     }
     match other_literal(alloc, dictionary, target, text)? {
         Some((form, octets)) => Ok(MeantComparand::Literal(form, octets)),
-        None => Err(fault),
+        None => Err(refusal),
     }
 }
 
@@ -98,11 +107,14 @@ fn quoted_meant(
     mark: QuoteMark,
     text: &Excerpt,
     positions: ValuePositions,
-) -> Result<MeantComparand, PolicyFault>
+) -> Result<MeantComparand, Refusal>
     ensures ok { IfOk result (λ x. meant_literal dictionary.now target
         (octets_between mark text.now) ≡ Some x) }
-    ensures err { IfErr result (λ fault. fault.kind ≢ Memory
+    ensures err { IfErr result (λ refusal. refusal.kind ≢ Memory
         → meant_literal dictionary.now target (octets_between mark text.now) ≡ None) }
+    ensures refused { IfErr result (Tells (IsValueRefused
+        (meant_refusal dictionary.now target (octets_between mark text.now))
+        positions.name.left positions.value.left)) }
 {
     let octets = octets_between(alloc, mark, text.as_slice())?;
     meant_literal(alloc, dictionary, target, &octets, positions)
@@ -115,14 +127,17 @@ fn plain_meant(
     target: Target,
     text: &Excerpt,
     positions: ValuePositions,
-) -> Result<MeantComparand, PolicyFault>
+) -> Result<MeantComparand, Refusal>
     ensures ok { IfOk result (λ x. option_and_then (meant_literal dictionary.now target)
         (plain_octets text.now) ≡ Some x) }
-    ensures err { IfErr result (λ fault. fault.kind ≢ Memory
+    ensures err { IfErr result (λ refusal. refusal.kind ≢ Memory
         → option_and_then (meant_literal dictionary.now target) (plain_octets text.now) ≡ None) }
+    ensures refused { IfErr result (Tells (IsValueRefused
+        (plain_refusal (meant_refusal dictionary.now target) dictionary.now target text.now)
+        positions.name.left positions.value.left)) }
 {
     if has_expansion(text.as_slice()) {
-        return Err(expansion_fault(dictionary, target, positions));
+        return Err(expansion_refusal(dictionary, target, positions));
     }
     quoted_meant(
         alloc,
@@ -142,17 +157,22 @@ fn instance_compared(dictionary: &Dictionary, found: Reference) -> MeantComparan
     MeantComparand::Instance(found.list, id, selection, meant_form(dictionary, id))
 }
 
-// What an attribute is compared with.
+// What an attribute is compared with, whose name begins here.
 fn meant_comparand<'a>(
     alloc: Global,
     dictionary: &Dictionary,
     target: Target,
-    positions: ValuePositions,
+    name: Position,
     at: &Cursor<'a>,
 ) -> Read<'a, MeantComparand>
     ensures read { Reads (MeantIs dictionary.now target at.now) result }
+    ensures refused { IfErr result (Tells (MeantFails dictionary.now target name.left at.now)) }
     ensures shorter { IfOk result (λ x. length x.1.text ≤ length at.now.text) }
 {
+    let positions = ValuePositions {
+        name,
+        value: at.position(),
+    };
     let (token, after) = at.next();
     match token {
         Token::Word(text) => {
@@ -172,24 +192,26 @@ fn meant_comparand<'a>(
             let (found, rest) = alike(Profile::Wider, dictionary, target.named.id, &after)?;
             Ok((instance_compared(dictionary, found), rest))
         }
-        _ => Err(at.misplaced()),
+        _ => Err(at.unfit()),
     }
 }
 
-/// The comparison of a reference by what its values mean: what follows the operator.
+/// The comparison of a reference, which begins here, by what its values mean: what follows the operator.
 pub(crate) fn related_by_meaning<'a>(
     alloc: Global,
     dictionary: &Dictionary,
     found: Reference,
     relation: Relation,
-    positions: ValuePositions,
+    name: Position,
     at: &Cursor<'a>,
 ) -> Read<'a, Cond>
     ensures read { Reads (MeantBy dictionary.now found relation at.now) result }
+    ensures refused { IfErr result (Tells
+        (MeantFails dictionary.now found.target name.left at.now)) }
     ensures shorter { IfOk result (λ x. length x.1.text ≤ length at.now.text) }
 {
     let target = found.target;
-    let (comparand, rest) = meant_comparand(alloc, dictionary, target, positions, at)?;
+    let (comparand, rest) = meant_comparand(alloc, dictionary, target, name, at)?;
     let comparison = MeantComparison {
         list: found.list,
         id: target.named.id,

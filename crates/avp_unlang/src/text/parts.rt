@@ -1,11 +1,13 @@
 //! Texts between double quotes into which values are put.
 
-ghost use Rattle.std.specs.Prelude.{◌≡◌, ◌<◌, ℕ, List as TheList, length, IfOk, IfSome, IsTrue, OnErr, None, Some};
+ghost use Rattle.std.specs.Prelude.{◌≡◌, ◌<◌, ℕ, List as TheList, length, IfErr, IfOk, IfSome, IsTrue, OnErr, None, Some};
 ghost use Rattle.avp_unlang.specs.Forms.{Reads, ReadsAll, While};
+ghost use Rattle.avp_unlang.specs.RefusedForms.{Tells, WhileFails};
+ghost use Rattle.avp_unlang.specs.RefusedLines.{PartFails, expansion_refusal, part_refusal};
 ghost use Rattle.avp_unlang.specs.declared.tree.Part.{Part as ThePart};
 ghost use Rattle.avp_unlang.specs.Parts.{ExpansionIs, OctetIs, PartIs, PartsAre, after_opening, begins_octet, braced, group_in, group_named, is_left, octet_at, part_named, part_of};
 
-use crate::faults::{PolicyFault, PolicyKind, Position, fault_at};
+use crate::faults::{PolicyKind, Position, Refusal, refused_at};
 use crate::items::Items;
 use crate::text::references::{Reference, readable};
 use crate::text::selecting::selection_of;
@@ -117,6 +119,8 @@ fn part_of(profile: Profile, dictionary: &Dictionary, found: Reference) -> Part
 fn part_named(profile: Profile, dictionary: &Dictionary, word: &[u8]) -> Result<Part, PolicyKind>
     ensures ok { IfOk result (λ part. part_named profile dictionary.now word.now ≡ Some part) }
     ensures err { OnErr result (part_named profile dictionary.now word.now ≡ None) }
+    ensures refused { IfErr result (λ kind. part_refusal profile dictionary.now word.now
+        ≡ Some kind) }
 {
     if let Some(group) = group_named(profile, word) {
         return Ok(Part::Capture(group));
@@ -134,6 +138,8 @@ fn expansion<'a>(
     ensures ok { IfOk result (λ x. ExpansionIs profile dictionary.now text.now x.0 x.1) }
     ensures err { OnErr result ((part : ThePart) (rest : TheList ℕ)
         → ExpansionIs profile dictionary.now text.now part rest → ⊥) }
+    ensures refused { IfErr result (λ kind. expansion_refusal profile dictionary.now text.now
+        ≡ Some kind) }
     ensures shorter { IfOk result (λ x. length x.1 < length text.now) }
 {
     let Some(inner) = after_opening(text) else {
@@ -153,8 +159,10 @@ fn part<'a>(
     dictionary: &Dictionary,
     text: Excerpt<'a>,
     quoted: Position,
-) -> Result<(Part, Excerpt<'a>), PolicyFault>
+) -> Result<(Part, Excerpt<'a>), Refusal>
     ensures read { Reads (PartIs profile dictionary.now text.entry) result }
+    ensures refused { IfErr result (Tells
+        (PartFails profile dictionary.now quoted.left text.entry)) }
     ensures shorter { IfOk result (λ x. length x.1 < length text.entry) }
 {
     if begins_octet(&text) {
@@ -163,7 +171,7 @@ fn part<'a>(
     }
     match expansion(profile, dictionary, &text) {
         Ok((part, rest)) => Ok((part, rest)),
-        Err(kind) => Err(fault_at(quoted, kind)),
+        Err(kind) => Err(refused_at(quoted, kind)),
     }
 }
 
@@ -173,15 +181,17 @@ fn is_left(text: &Excerpt) -> bool
     !text.as_slice().is_empty()
 }
 
-/// The parts of a text between double quotes, which begins here. The first refused place of the text is reported.
+/// The parts of a text between double quotes, which begins here.
 pub(crate) fn parts(
     alloc: Global,
     profile: Profile,
     dictionary: &Dictionary,
     text: Excerpt,
     quoted: Position,
-) -> Result<Parts, PolicyFault>
-    ensures { ReadsAll (PartsAre profile dictionary.now text.entry) result }
+) -> Result<Parts, Refusal>
+    ensures read { ReadsAll (PartsAre profile dictionary.now text.entry) result }
+    ensures refused { IfErr result (Tells (WhileFails is_left (PartIs profile dictionary.now)
+        (PartFails profile dictionary.now quoted.left) text.entry)) }
 {
     let mut parts = Vec::new(alloc);
     let mut rest = text;

@@ -4,10 +4,12 @@ ghost use Rattle.std.specs.Prelude.{◌≡◌, ◌≢◌, ◌≤◌, ◌<◌, �
 ghost use Rattle.avp_patterns.specs.Patterns.{IsPattern};
 ghost use Rattle.avp_unlang.specs.Conditions.{MatchedBy, matcher_in, pattern_of, unslashed};
 ghost use Rattle.avp_unlang.specs.Forms.{Reads};
+ghost use Rattle.avp_unlang.specs.RefusedConditions.{IsPatternFault, MatchedFails};
+ghost use Rattle.avp_unlang.specs.RefusedForms.{Tells};
 ghost use Rattle.avp_patterns.specs.declared.faults.PatternFault.TheVariants as faults;
-ghost use Rattle.avp_unlang.specs.declared.faults.PolicyKind.TheVariants.{Memory};
+ghost use Rattle.avp_unlang.specs.declared.faults.PolicyKind.TheVariants.{Memory, Pattern};
 
-use crate::faults::{OUT_OF_MEMORY, PolicyFault, PolicyKind, Position, fault_at};
+use crate::faults::{PolicyKind, Position, Refusal, refused_at};
 use crate::text::cursors::{Cursor, Read};
 use crate::text::references::{Reference, type_of};
 use crate::text::selecting::selection_of;
@@ -45,12 +47,14 @@ pub(crate) fn unslashed(alloc: Global, text: &[u8]) -> Result<Vec<u8>, AllocErro
     Ok(octets)
 }
 
-fn pattern_fault(fault: PatternFault, position: Position) -> PolicyFault
-    ensures { fault ≡ faults.Memory → result.kind ≡ Memory }
+fn pattern_refusal(fault: PatternFault, position: Position) -> Refusal
+    ensures memory { fault ≡ faults.Memory → result.kind ≡ Memory }
+    ensures other { fault ≢ faults.Memory
+        → (result.left ≡ position.left) × (result.kind ≡ Pattern fault) }
 {
     match fault {
-        PatternFault::Memory => OUT_OF_MEMORY,
-        other => fault_at(position, PolicyKind::Pattern(other)),
+        PatternFault::Memory => Refusal::OUT_OF_MEMORY,
+        other => refused_at(position, PolicyKind::Pattern(other)),
     }
 }
 
@@ -63,21 +67,20 @@ pub(crate) fn matcher_in<'a>(profile: Profile, token: &Token<'a>) -> Option<Matc
     }
 }
 
-// The text of a pattern, if it is one under its flags. A fault is at the token that begins here.
-fn pattern_text(
-    alloc: Global,
-    matcher: &Matcher,
-    position: Position,
-) -> Result<Vec<u8>, PolicyFault>
+// The text of a pattern, if it is one under its flags. A refusal is at the token that begins here.
+fn pattern_text(alloc: Global, matcher: &Matcher, position: Position) -> Result<Vec<u8>, Refusal>
     ensures ok { IfOk result (λ text. IsPattern (pattern_of matcher.now)
         × (text.items ≡ unslashed matcher.now.pattern)) }
-    ensures err { IfErr result (λ fault. fault.kind ≢ Memory
+    ensures err { IfErr result (λ refusal. refusal.kind ≢ Memory
         → IsPattern (pattern_of matcher.now) → ⊥) }
+    ensures refused { IfErr result (λ refusal. refusal.kind ≢ Memory
+        → (refusal.left ≡ position.left)
+        × IsPatternFault (pattern_of matcher.now) refusal.kind) }
 {
     let text = unslashed(alloc, matcher.pattern.as_slice())?;
     match check_pattern(alloc, &text, matcher.flags) {
         Ok(()) => Ok(text),
-        Err(fault) => Err(pattern_fault(fault, position)),
+        Err(fault) => Err(pattern_refusal(fault, position)),
     }
 }
 
@@ -91,10 +94,12 @@ pub(crate) fn matched<'a>(
     after: Cursor<'a>,
 ) -> Read<'a, Cond>
     ensures read { Reads (MatchedBy dictionary.now found matcher.now after.entry) result }
+    ensures refused { IfErr result (Tells
+        (MatchedFails dictionary.now found matcher.now position.left after.entry)) }
     ensures shorter { IfOk result (λ x. length x.1.text ≤ length after.entry.text) }
 {
     if type_of(dictionary, found.target.named.id) != Kind::Text {
-        return Err(fault_at(position, PolicyKind::OtherType));
+        return Err(refused_at(position, PolicyKind::OtherType));
     }
     let text = pattern_text(alloc, matcher, position)?;
     let matching = Matching {

@@ -11,13 +11,15 @@ ghost use Rattle.avp_unlang.specs.declared.tree.Statement.{Statement as Tree};
 ghost use Rattle.avp_unlang.specs.CaptureUse.{uses_captures};
 ghost use Rattle.avp_unlang.specs.Cleanness.{KeepsReplyClean};
 ghost use Rattle.avp_unlang.specs.Faults.{BeginsToken};
-ghost use Rattle.avp_unlang.specs.Places.{max_size};
-ghost use Rattle.avp_unlang.specs.Policies.{ReadsPolicy, SpellsPolicy};
+ghost use Rattle.avp_unlang.specs.Places.{max_size, start_of};
+ghost use Rattle.avp_unlang.specs.Policies.{IsRefusedPolicy, ReadsPolicy, SpellsPolicy};
 ghost use Rattle.avp_unlang.specs.PolicyPatterns.{HasPatterns, is_among, policy_patterns_pass};
+ghost use Rattle.avp_unlang.specs.RefusedPolicies.{IsRefusedAt, IsRefusedOnce, StatementsFail};
 ghost use Rattle.avp_unlang.specs.Sizes.{size_of};
 ghost use Rattle.avp_unlang.specs.Suiting.{IsSpelled, policy_suits};
+ghost use Rattle.avp_unlang.specs.internal.LeftTokens.{LeavesToken};
 
-use crate::faults::{PolicyFault, PolicyKind};
+use crate::faults::{PolicyFault, Refusal};
 use crate::text::capture_uses::uses_captures;
 use crate::text::compiling::patterns_of;
 use crate::text::cursors::{Cursor, MAX_SIZE};
@@ -26,7 +28,7 @@ use crate::text::tokens::Token;
 use crate::tree::Block;
 use avp_dict::Dictionary;
 use avp_forms::profile_of;
-use avp_patterns::{Pattern, PatternFault};
+use avp_patterns::Pattern;
 use std::alloc::Global;
 use std::marker::Model;
 
@@ -104,32 +106,21 @@ pub fn size(policy: &Policy) -> usize
     policy.size
 }
 
-// The fault of a text that spells nothing. Nothing of it is compiled, so no pattern of it is too large.
-fn unspelled(fault: PolicyFault) -> PolicyFault
-    ensures small { result.kind ≢ PatternKind pattern.TooLarge }
-    ensures memory { fault.kind ≡ Memory → result.kind ≡ Memory }
-{
-    match fault.kind {
-        PolicyKind::Pattern(PatternFault::TooLarge) => PolicyFault {
-            kind: PolicyKind::Unreadable,
-            ..fault
-        },
-        _ => fault,
-    }
-}
-
-// The policy that a text spells. A fault has the place of the token that was refused.
-fn policy_of(alloc: Global, dictionary: &Dictionary, text: &[u8]) -> Result<Policy, PolicyFault>
-    ensures read { ReadsPolicy dictionary.now text.now result }
+// The policy that a text spells.
+fn policy_of(alloc: Global, dictionary: &Dictionary, text: &[u8]) -> Result<Policy, Refusal>
+    ensures ok { IfOk result (SpellsPolicy dictionary.now text.now) }
+    ensures err { IfErr result (λ refusal. IsRefusedPolicy dictionary.now text.now refusal.kind) }
+    ensures refused { IfErr result (λ refusal. refusal.kind ≢ Memory
+        → refusal.kind ≢ PatternKind pattern.TooLarge
+        → StatementsFail (profile_of text.now) dictionary.now (start_of text.now) refusal.left
+        refusal.kind) }
+    ensures token { IfErr result (λ refusal. refusal.kind ≢ Memory
+        → LeavesToken (profile_of text.now) refusal.left text.now) }
     ensures suits { IfOk result (λ policy. IsTrue (policy_suits dictionary.now policy)) }
 {
     dictionary.is_sound();
     let profile = profile_of(text);
-    let read = statements(alloc, profile, dictionary, MAX_NESTED, Cursor::new(text));
-    let (statements, end) = match read {
-        Ok(read) => read,
-        Err(fault) => return Err(unspelled(fault)),
-    };
+    let (statements, end) = statements(alloc, profile, dictionary, MAX_NESTED, Cursor::new(text))?;
     match end.token() {
         Token::End => {
             let patterns = patterns_of(alloc, profile, text, statements.as_slice())?;
@@ -141,14 +132,13 @@ fn policy_of(alloc: Global, dictionary: &Dictionary, text: &[u8]) -> Result<Poli
                 captures,
             })
         }
-        _ => Err(unspelled(end.misplaced())),
+        _ => Err(end.unfit()),
     }
 }
 
-/// The policy that a text spells, by a dictionary. The first refused place of the text is reported. A fault is at the
-/// token that was refused: at a name, or at a value, of which a text between quotes is one, whatever is in it. Where no
-/// value may be written under the name of an update line or a comparison, this is found at the operator or the source,
-/// but the fault is at the name.
+/// The policy that a text spells, by a dictionary. A fault is at the token that was refused: at a name, or at a value,
+/// of which a text between quotes is one, whatever is in it. Where no value may be written under the name of an update
+/// line or a comparison, this is found at the operator or the source, but the fault is at the name.
 ///
 /// The patterns of a wider policy are compiled, each once. One that takes more than 256 KiB, or with which all take more
 /// than 16 MiB, is refused as too large, at its comparison.
@@ -170,7 +160,12 @@ pub fn read_policy(
     // Its attributes are known, its literals fit, and what it compares is of one type.
     ensures suits { IfOk result (λ policy. IsTrue (policy_suits dictionary.now policy)) }
 
-    // A refusal has its place in the text, where a token begins.
+    // A refusal is the first in the order of reading, by what is before it and what is there.
+    ensures refused { IfErr result (λ fault. fault.kind ≢ Memory
+        → fault.kind ≢ PatternKind pattern.TooLarge
+        → IsRefusedAt dictionary.now text.now fault.offset fault.kind) }
+
+    // It has its place in the text, where a token begins.
     ensures within { IfErr result (λ fault. fault.offset ≤ length text.now) }
     ensures line { IfErr result (λ fault. fault.kind ≢ Memory
         → fault.line ≡ line_after (take fault.offset text.now)) }
@@ -179,7 +174,7 @@ pub fn read_policy(
 {
     match policy_of(alloc, dictionary, text) {
         Ok(policy) => Ok(policy),
-        Err(fault) => Err(fault.placed(text)),
+        Err(refusal) => Err(refusal.placed(text)),
     }
 }
 
@@ -187,6 +182,11 @@ pub fn read_policy(
 pub fn plain_has_no_patterns()
     ensures { (dictionary : Dictionary) (text : List ℕ) (policy : List Tree)
         → profile_of text ≡ Plain → SpellsPolicy dictionary text policy → HasPatterns policy → ⊥ }
+{}
+
+/// A text that is refused spells no policy, and it is refused at one place, for one kind.
+pub fn refused_once()
+    ensures { IsRefusedOnce }
 {}
 
 /// A text spells at most one policy by a dictionary.

@@ -1,7 +1,9 @@
 //! What words refer to.
 
-ghost use Rattle.std.specs.Prelude.{◌≡◌, ◌<◌, length, Some, None, IfOk, OnErr};
+ghost use Rattle.std.specs.Prelude.{◌≡◌, ◌<◌, length, Some, None, IfErr, IfOk, OnErr};
 ghost use Rattle.avp_unlang.specs.Forms.{Reads};
+ghost use Rattle.avp_unlang.specs.RefusedForms.{Tells};
+ghost use Rattle.avp_unlang.specs.RefusedValues.{AlikeFails, ReadableFails, reference_refusal};
 ghost use Rattle.avp_unlang.specs.References.{AlikeIs, ReadableIs, list_named, readable, reference_in, target_in, type_of};
 
 use crate::faults::PolicyKind;
@@ -65,7 +67,7 @@ pub(crate) fn reference_in(
 }
 
 /// What a word refers to, where its values may be looked at; a name alone is of the request.
-#[tactic(auto, unfolding(crate::specs::References::readable))]
+#[tactic(auto, unfolding(crate::specs::References::readable, crate::specs::RefusedValues::reference_refusal))]
 pub(crate) fn readable(
     profile: Profile,
     dictionary: &Dictionary,
@@ -73,6 +75,8 @@ pub(crate) fn readable(
 ) -> Result<Reference, PolicyKind>
     ensures ok { IfOk result (λ found. readable profile dictionary.now word.now ≡ Some found) }
     ensures err { OnErr result (readable profile dictionary.now word.now ≡ None) }
+    ensures refused { IfErr result (λ kind. reference_refusal profile dictionary.now word.now
+        ≡ Some kind) }
 {
     match reference_in(profile, dictionary, List::Request, word) {
         None => Err(PolicyKind::Unknown),
@@ -86,22 +90,23 @@ pub(crate) fn readable(
     }
 }
 
-/// The reference after an `&`. Its faults are at its word.
+/// The reference after an `&`.
 pub(crate) fn referred<'a>(
     profile: Profile,
     dictionary: &Dictionary,
     at: &Cursor<'a>,
 ) -> Read<'a, Reference>
     ensures read { Reads (ReadableIs profile dictionary.now at.now) result }
+    ensures refused { IfErr result (Tells (ReadableFails profile dictionary.now at.now)) }
     ensures shorter { IfOk result (λ x. length x.1.text < length at.now.text) }
 {
     let (token, after) = at.next();
     match &token {
         Token::Word(word) => match readable(profile, dictionary, word.as_slice()) {
             Ok(found) => Ok((found, after)),
-            Err(kind) => Err(after.fault(kind)),
+            Err(kind) => Err(at.refused(kind)),
         },
-        _ => Err(at.misplaced()),
+        _ => Err(at.unfit()),
     }
 }
 
@@ -115,7 +120,7 @@ pub(crate) fn type_of(dictionary: &Dictionary, id: AttrId) -> Kind
     }
 }
 
-/// The reference after an `&` to values of the same type as this attribute's. Its faults are at its word.
+/// The reference after an `&` to values of the same type as this attribute's.
 pub(crate) fn alike<'a>(
     profile: Profile,
     dictionary: &Dictionary,
@@ -123,11 +128,12 @@ pub(crate) fn alike<'a>(
     at: &Cursor<'a>,
 ) -> Read<'a, Reference>
     ensures read { Reads (AlikeIs profile dictionary.now id at.now) result }
+    ensures refused { IfErr result (Tells (AlikeFails profile dictionary.now id at.now)) }
     ensures shorter { IfOk result (λ x. length x.1.text < length at.now.text) }
 {
     let (found, after) = referred(profile, dictionary, at)?;
     if type_of(dictionary, id) != type_of(dictionary, found.target.named.id) {
-        return Err(after.fault(PolicyKind::OtherType));
+        return Err(at.refused(PolicyKind::OtherType));
     }
     Ok((found, after))
 }

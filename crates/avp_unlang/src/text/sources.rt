@@ -2,10 +2,13 @@
 
 ghost use Rattle.std.specs.Prelude.{◌≡◌, ◌≢◌, ◌≤◌, length, Some, None, IfOk, IfErr, option_map};
 ghost use Rattle.avp_unlang.specs.Forms.{Reads, ReadsAll, Takes};
+ghost use Rattle.avp_unlang.specs.RefusedForms.{Tells};
+ghost use Rattle.avp_unlang.specs.RefusedLines.{FilledFails, IgnoredFails, SourceFails, SourceFailsOf, whole_refusal};
+ghost use Rattle.avp_unlang.specs.RefusedValues.{IsValueRefused, literal_refusal};
 ghost use Rattle.avp_unlang.specs.Sources.{FilledIs, IgnoredIs, SourceIs, SourceOf, filled_source, instance_source, is_removal, shared_form, text_source, whole_text};
 ghost use Rattle.avp_unlang.specs.declared.faults.PolicyKind.TheVariants.{Memory};
 
-use crate::faults::{PolicyFault, PolicyKind, Position, fault_at};
+use crate::faults::{PolicyKind, Position, Refusal, refused_at};
 use crate::text::cursors::{Cursor, Read};
 use crate::text::parts::parts;
 use crate::text::references::Reference;
@@ -49,11 +52,14 @@ fn filled_source(
     target: Target,
     parts: Parts,
     positions: ValuePositions,
-) -> Result<Source, PolicyFault>
+) -> Result<Source, Refusal>
     ensures ok { IfOk result (λ source. filled_source profile dictionary.now target parts
         ≡ Some source) }
-    ensures err { IfErr result (λ fault. fault.kind ≢ Memory
+    ensures err { IfErr result (λ refusal. refusal.kind ≢ Memory
         → filled_source profile dictionary.now target parts ≡ None) }
+    ensures refused { IfErr result (Tells (IsValueRefused
+        (whole_refusal (literal_refusal profile dictionary.now target) (whole_text parts))
+        positions.name.left positions.value.left)) }
 {
     match whole_text(&parts) {
         None => Ok(text_source(profile, target, parts)),
@@ -72,11 +78,13 @@ fn filled_text(
     target: Target,
     text: Excerpt,
     positions: ValuePositions,
-) -> Result<Source, PolicyFault>
-    ensures { ReadsAll (FilledIs profile dictionary.now target text.entry) result }
+) -> Result<Source, Refusal>
+    ensures read { ReadsAll (FilledIs profile dictionary.now target text.entry) result }
+    ensures refused { IfErr result (Tells (FilledFails profile dictionary.now target
+        positions.name.left positions.value.left text.entry)) }
 {
     if dictionary.is_barred(target.named) {
-        return Err(fault_at(positions.name, PolicyKind::NotWritable));
+        return Err(refused_at(positions.name, PolicyKind::NotWritable));
     }
     let parts = parts(alloc, profile, dictionary, text, positions.value)?;
     filled_source(alloc, profile, dictionary, target, parts, positions)
@@ -125,8 +133,10 @@ fn source_of(
     target: Target,
     written: Written,
     positions: ValuePositions,
-) -> Result<Source, PolicyFault>
-    ensures { ReadsAll (SourceOf profile dictionary.now target written.entry) result }
+) -> Result<Source, Refusal>
+    ensures read { ReadsAll (SourceOf profile dictionary.now target written.entry) result }
+    ensures refused { IfErr result (Tells (SourceFailsOf profile dictionary.now target
+        positions.name.left positions.value.left written.entry)) }
 {
     match written {
         Written::Literal(value) => Ok(Source::Literal(value)),
@@ -136,8 +146,9 @@ fn source_of(
 }
 
 // The place after a source that is not looked at.
-fn ignored<'a>(at: &Cursor<'a>) -> Result<Cursor<'a>, PolicyFault>
+fn ignored<'a>(at: &Cursor<'a>) -> Result<Cursor<'a>, Refusal>
     ensures taken { Takes (IgnoredIs at.now) result }
+    ensures refused { IfErr result (Tells (IgnoredFails at.now)) }
     ensures shorter { IfOk result (λ rest. length rest.text ≤ length at.now.text) }
 {
     let (token, after) = at.next();
@@ -145,9 +156,9 @@ fn ignored<'a>(at: &Cursor<'a>) -> Result<Cursor<'a>, PolicyFault>
         Token::Word(_) | Token::Quoted(_, _) => Ok(after),
         Token::Operator(Sign::Reference) => match after.next() {
             (Token::Word(_), rest) => Ok(rest),
-            _ => Err(after.misplaced()),
+            _ => Err(after.unfit()),
         },
-        _ => Err(at.misplaced()),
+        _ => Err(at.unfit()),
     }
 }
 
@@ -168,6 +179,8 @@ pub(crate) fn source<'a>(
     at: &Cursor<'a>,
 ) -> Read<'a, Source>
     ensures read { Reads (SourceIs profile dictionary.now operation target at.now) result }
+    ensures refused { IfErr result (Tells
+        (SourceFails profile dictionary.now operation target name.left at.now)) }
     ensures shorter { IfOk result (λ x. length x.1.text ≤ length at.now.text) }
 {
     if is_removal(operation) {
@@ -175,13 +188,13 @@ pub(crate) fn source<'a>(
         return Ok((Source::Any, rest));
     }
     if is_container(target.named.id) {
-        return Err(fault_at(name, PolicyKind::NotWritable));
+        return Err(refused_at(name, PolicyKind::NotWritable));
     }
+    let (written, rest) = written_value(alloc, profile, dictionary, target, name, at)?;
     let positions = ValuePositions {
         name,
         value: at.position(),
     };
-    let (written, rest) = written_value(alloc, profile, dictionary, target, positions, at)?;
     let source = source_of(alloc, profile, dictionary, target, written, positions)?;
     Ok((source, rest))
 }

@@ -1,13 +1,15 @@
 //! Statements, read from a text.
 
-ghost use Rattle.std.specs.Prelude.{◌≡◌, ◌≤◌, ◌<◌, suc, length, IfOk};
+ghost use Rattle.std.specs.Prelude.{◌≡◌, ◌≤◌, ◌<◌, suc, length, IfErr, IfOk};
 ghost use Rattle.avp_unlang.specs.Forms.{Reads, While};
 ghost use Rattle.avp_unlang.specs.Lines.{LineIs, begins_line};
+ghost use Rattle.avp_unlang.specs.RefusedForms.{Lacks, Tells, WhileFails};
+ghost use Rattle.avp_unlang.specs.RefusedStatements.{BlockFails, BranchFails, BranchesFail, IfFails, NestedFails, OtherwiseFails, TransactionFails, UpdateFails, UpdateFailsOn};
 ghost use Rattle.avp_unlang.specs.Statements.{BlockIs, BranchIs, BranchesAre, IfIs, Nested, Otherwise, StatementFrom, TransactionOn, WordOn, begins_word, keyword_in, keyword_named, list_at};
 ghost use Rattle.avp_unlang.specs.declared.text.statements.Keyword.TheVariants as keyword;
 
 use crate::codes::{Code, code_named};
-use crate::faults::PolicyKind;
+use crate::faults::{PolicyKind, Position, refused_at};
 use crate::items::Items;
 use crate::text::conditions::closed;
 use crate::text::cursors::{Cursor, Read};
@@ -89,11 +91,14 @@ fn line_block<'a>(
 ) -> Read<'a, Lines>
     ensures read { Reads (BlockIs depth begins_line (LineIs profile dictionary.now own) at.entry)
         result }
+    ensures refused { IfErr result (Tells
+        (UpdateFailsOn profile dictionary.now depth own at.entry)) }
     ensures shorter { IfOk result (λ x. length x.1.text < length at.entry.text) }
 {
+    let sign = at.position();
     let start = at.expect(Sign::BlockStart)?;
     if depth == 0 {
-        return Err(start.fault(PolicyKind::TooDeep));
+        return Err(refused_at(sign, PolicyKind::TooDeep));
     }
     let (found, end) = lines(alloc, profile, dictionary, own, start)?;
     let rest = end.expect(Sign::BlockEnd)?;
@@ -110,22 +115,24 @@ fn update<'a>(
 ) -> Read<'a, Statement>
     ensures read { Reads (StatementFrom profile dictionary.now depth
         (Nested profile dictionary.now depth) keyword.Update at.entry) result }
+    ensures refused { IfErr result (Tells (UpdateFails profile dictionary.now depth at.entry)) }
     ensures shorter { IfOk result (λ x. length x.1.text < length at.entry.text) }
 {
-    let begin = at.before();
+    let line = at.line();
     let (own, start) = list_at(at);
     let (found, rest) = line_block(alloc, profile, dictionary, depth, own, start)?;
-    Ok((Statement::Update(begin.line, found), rest))
+    Ok((Statement::Update(line, found), rest))
 }
 
-// A code, which is the token before this place.
-fn word<'a>(code: Code, at: Cursor<'a>) -> Read<'a, Statement>
+// A code, which begins here and is the token before this place.
+fn word<'a>(code: Code, begin: Position, at: Cursor<'a>) -> Read<'a, Statement>
     ensures read { Reads (WordOn code at.entry.line at.entry) result }
+    ensures refused { IfErr result (Tells (Lacks 1 begin.left at.entry)) }
     ensures shorter { IfOk result (λ x. length x.1.text ≤ length at.entry.text) }
 {
-    let begin = at.before();
+    let line = at.line();
     let rest = at.count(1, begin)?;
-    Ok((Statement::Word(begin.line, code), rest))
+    Ok((Statement::Word(line, code), rest))
 }
 
 /// A statement. At most `depth` signs are nested in it.
@@ -138,98 +145,117 @@ fn statement<'a>(
     at: Cursor<'a>,
 ) -> Read<'a, Statement>
     ensures read { Reads (Nested profile dictionary.now (suc depth) at.entry) result }
+    ensures refused { IfErr result (Tells
+        (NestedFails profile dictionary.now (suc depth) at.entry)) }
     ensures shorter { IfOk result (λ x. length x.1.text < length at.entry.text) }
 {
+    let begin = at.position();
     let (token, after) = at.next();
     match keyword_in(&token) {
         Keyword::Update => update(alloc, profile, dictionary, depth, after),
-        Keyword::If => conditional(alloc, profile, dictionary, depth, after),
-        Keyword::Transaction => transaction(alloc, profile, dictionary, depth, after),
-        Keyword::Code(code) => word(code, after),
-        Keyword::Other => Err(at.misplaced()),
+        Keyword::If => conditional(alloc, profile, dictionary, depth, begin, after),
+        Keyword::Transaction => transaction(alloc, profile, dictionary, depth, begin, after),
+        Keyword::Code(code) => word(code, begin, after),
+        Keyword::Other => Err(at.unfit()),
     }
 }
 
-// What follows the word `transaction`, which is the token before this place.
+// What follows the word `transaction`, which begins here and is the token before this place.
 #[cycle(statements)]
 fn transaction<'a>(
     alloc: Global,
     profile: Profile,
     dictionary: &Dictionary,
     depth: usize,
+    begin: Position,
     at: Cursor<'a>,
 ) -> Read<'a, Statement>
     ensures read { Reads (TransactionOn depth (Nested profile dictionary.now depth) at.entry.line
         at.entry) result }
+    ensures refused { IfErr result (Tells (TransactionFails profile dictionary.now depth
+        (Nested profile dictionary.now depth) (NestedFails profile dictionary.now depth)
+        begin.left at.entry)) }
     ensures shorter { IfOk result (λ x. length x.1.text < length at.entry.text) }
 {
-    let begin = at.before();
+    let line = at.line();
     let start = at.count(2, begin)?;
     let (found, rest) = block(alloc, profile, dictionary, depth, start)?;
-    Ok((Statement::Transaction(begin.line, found), rest))
+    Ok((Statement::Transaction(line, found), rest))
 }
 
-// What follows the word `if`, which is the token before this place.
+// What follows the word `if`, which begins here and is the token before this place.
 #[cycle(statements)]
 fn conditional<'a>(
     alloc: Global,
     profile: Profile,
     dictionary: &Dictionary,
     depth: usize,
+    begin: Position,
     at: Cursor<'a>,
 ) -> Read<'a, Statement>
     ensures read { Reads (IfIs profile dictionary.now depth (Nested profile dictionary.now depth)
         at.entry) result }
+    ensures refused { IfErr result (Tells (IfFails profile dictionary.now depth
+        (Nested profile dictionary.now depth) (NestedFails profile dictionary.now depth)
+        begin.left at.entry)) }
     ensures shorter { IfOk result (λ x. length x.1.text < length at.entry.text) }
 {
-    let (branches, mid) = branches(alloc, profile, dictionary, depth, at)?;
+    let (branches, mid) = branches(alloc, profile, dictionary, depth, begin, at)?;
     let (otherwise, rest) = otherwise(alloc, profile, dictionary, depth, mid)?;
     Ok((Statement::If(branches, otherwise), rest))
 }
 
-// The branch of an `if`, and those of each `elsif` after it.
+// The branch of an `if`, which begins here, and those of each `elsif` after it.
 #[cycle(statements)]
 fn branches<'a>(
     alloc: Global,
     profile: Profile,
     dictionary: &Dictionary,
     depth: usize,
+    begin: Position,
     at: Cursor<'a>,
 ) -> Read<'a, Branches>
     ensures read { Reads (BranchesAre profile dictionary.now depth
         (Nested profile dictionary.now depth) at.entry) result }
+    ensures refused { IfErr result (Tells (BranchesFail profile dictionary.now depth
+        (Nested profile dictionary.now depth) (NestedFails profile dictionary.now depth)
+        begin.left at.entry)) }
     ensures shorter { IfOk result (λ x. length x.1.text < length at.entry.text) }
 {
-    let (first, mut rest) = branch(alloc, profile, dictionary, depth, at)?;
+    let (first, mut rest) = branch(alloc, profile, dictionary, depth, begin, at)?;
     let mut branches = Vec::new(alloc);
     branches.push(first)?;
     while let Some(next) = rest.after_word(b"elsif") {
-        let (branch, end) = branch(alloc, profile, dictionary, depth, next)?;
+        let (branch, end) = branch(alloc, profile, dictionary, depth, rest.position(), next)?;
         branches.push(branch)?;
         rest = end;
     }
     Ok((Items::from_vec(branches), rest))
 }
 
-// A condition in brackets and a block; the word before them is the token before this place.
+// A condition in brackets and a block; the word before them begins here and is the token before this place.
 #[cycle(statements)]
 fn branch<'a>(
     alloc: Global,
     profile: Profile,
     dictionary: &Dictionary,
     depth: usize,
+    begin: Position,
     at: Cursor<'a>,
 ) -> Read<'a, Branch>
     ensures read { Reads (BranchIs profile dictionary.now depth (Nested profile dictionary.now depth)
         at.entry) result }
+    ensures refused { IfErr result (Tells (BranchFails profile dictionary.now depth
+        (Nested profile dictionary.now depth) (NestedFails profile dictionary.now depth)
+        begin.left at.entry)) }
     ensures shorter { IfOk result (λ x. length x.1.text < length at.entry.text) }
 {
-    let begin = at.before();
+    let line = at.line();
     let start = at.count(1, begin)?;
+    let sign = start.position();
     let opened = start.expect(Sign::Open)?;
-    let (cond, next) = closed(alloc, profile, dictionary, depth, opened)?;
+    let (cond, next) = closed(alloc, profile, dictionary, depth, sign, opened)?;
     let (block, rest) = block(alloc, profile, dictionary, depth, next)?;
-    let line = begin.line;
     Ok((Branch { line, cond, block }, rest))
 }
 
@@ -243,6 +269,9 @@ fn otherwise<'a>(
     at: Cursor<'a>,
 ) -> Read<'a, Option<Block>>
     ensures read { Reads (Otherwise depth (Nested profile dictionary.now depth) at.entry) result }
+    ensures refused { IfErr result (Tells (OtherwiseFails profile dictionary.now depth
+        (Nested profile dictionary.now depth) (NestedFails profile dictionary.now depth)
+        at.entry)) }
     ensures shorter { IfOk result (λ x. length x.1.text ≤ length at.entry.text) }
 {
     match at.after_word(b"else") {
@@ -265,11 +294,15 @@ fn block<'a>(
 ) -> Read<'a, Block>
     ensures read { Reads (BlockIs depth begins_word (Nested profile dictionary.now depth) at.entry)
         result }
+    ensures refused { IfErr result (Tells (BlockFails depth begins_word
+        (Nested profile dictionary.now depth) (NestedFails profile dictionary.now depth)
+        at.entry)) }
     ensures shorter { IfOk result (λ x. length x.1.text < length at.entry.text) }
 {
+    let sign = at.position();
     let start = at.expect(Sign::BlockStart)?;
     if depth == 0 {
-        return Err(start.fault(PolicyKind::TooDeep));
+        return Err(refused_at(sign, PolicyKind::TooDeep));
     }
     let (found, end) = statements(alloc, profile, dictionary, depth - 1, start)?;
     let rest = end.expect(Sign::BlockEnd)?;
@@ -287,6 +320,9 @@ pub(crate) fn statements<'a>(
 ) -> Read<'a, Block>
     ensures read { Reads (While begins_word (Nested profile dictionary.now (suc depth)) at.entry)
         result }
+    ensures refused { IfErr result (Tells (WhileFails begins_word
+        (Nested profile dictionary.now (suc depth)) (NestedFails profile dictionary.now (suc depth))
+        at.entry)) }
     ensures shorter { IfOk result (λ x. length x.1.text ≤ length at.entry.text) }
 {
     let mut statements = Vec::new(alloc);

@@ -1,20 +1,21 @@
 //! Values as policy texts write them.
 
 ghost use Rattle.std.specs.Prelude.{◌≡◌, ◌≢◌, ◌≤◌, length, Some, None, IfOk, IfErr};
-ghost use Rattle.avp_dict.specs.declared.value.faults.ValueFault.TheVariants as value_faults;
 ghost use Rattle.avp_dict.specs.Quotes.{octets_between};
 ghost use Rattle.avp_unlang.specs.Forms.{Reads};
+ghost use Rattle.avp_unlang.specs.RefusedForms.{Tells};
+ghost use Rattle.avp_unlang.specs.RefusedValues.{IsValueRefused, WrittenFails, literal_refusal, value_kind, value_place};
 ghost use Rattle.avp_unlang.specs.Values.{WrittenIs, literal};
 ghost use Rattle.avp_unlang.specs.declared.faults.PolicyKind.TheVariants.{Memory};
 
-use crate::faults::{PolicyFault, PolicyKind, Position, fault_at};
+use crate::faults::{PolicyKind, Position, Refusal, refused_at};
 use crate::text::cursors::{Cursor, Read};
 use crate::text::references::{Reference, alike};
 use crate::text::tokens::{Excerpt, Sign, Token};
 use avp_dict::{Dictionary, QuoteMark, ValueFault, octets_between};
 use avp_forms::{Profile, Target, value_written};
 use avp_lists::{Pair, Value};
-use std::alloc::{AllocError, Global};
+use std::alloc::Global;
 
 /// A value as it is written for an attribute.
 #[derive(Drop)]
@@ -35,20 +36,22 @@ pub(crate) struct ValuePositions {
     pub value: Position,
 }
 
-// The fault of a value's text; want of memory belongs to no line.
-fn value_fault(fault: ValueFault, positions: ValuePositions) -> PolicyFault
-    ensures { fault ≡ value_faults.Memory → result.kind ≡ Memory }
+// The refusal of a value's text.
+fn value_refusal(fault: ValueFault, positions: ValuePositions) -> Refusal
+    ensures kind { result.kind ≡ value_kind fault }
+    ensures place { result.kind ≢ Memory
+        → result.left ≡ value_place positions.name.left positions.value.left result.kind }
 {
     match fault {
-        ValueFault::NotWritable => fault_at(positions.name, PolicyKind::NotWritable),
-        ValueFault::NotValue => fault_at(positions.value, PolicyKind::NotValue),
-        ValueFault::TooLong => fault_at(positions.value, PolicyKind::TooLong),
-        ValueFault::Memory => PolicyFault::from(AllocError),
+        ValueFault::NotWritable => refused_at(positions.name, PolicyKind::NotWritable),
+        ValueFault::NotValue => refused_at(positions.value, PolicyKind::NotValue),
+        ValueFault::TooLong => refused_at(positions.value, PolicyKind::TooLong),
+        ValueFault::Memory => Refusal::OUT_OF_MEMORY,
     }
 }
 
 /// The value that a text stands for under a name.
-#[tactic(auto, unfolding(crate::specs::Values::literal))]
+#[tactic(auto, unfolding(crate::specs::Values::literal, crate::specs::RefusedValues::literal_refusal))]
 pub(crate) fn literal(
     alloc: Global,
     profile: Profile,
@@ -56,11 +59,14 @@ pub(crate) fn literal(
     target: Target,
     text: &[u8],
     positions: ValuePositions,
-) -> Result<Value, PolicyFault>
+) -> Result<Value, Refusal>
     ensures ok { IfOk result (λ value. literal profile dictionary.now target text.now
         ≡ Some value) }
-    ensures err { IfErr result (λ fault. fault.kind ≢ Memory
+    ensures err { IfErr result (λ refusal. refusal.kind ≢ Memory
         → literal profile dictionary.now target text.now ≡ None) }
+    ensures refused { IfErr result (Tells (IsValueRefused
+        (literal_refusal profile dictionary.now target text.now) positions.name.left
+        positions.value.left)) }
 {
     match value_written(alloc, dictionary, profile, target, None, text) {
         Ok(value) => {
@@ -71,10 +77,10 @@ pub(crate) fn literal(
             if dictionary.fits(&pair) {
                 Ok(pair.value)
             } else {
-                Err(fault_at(positions.value, PolicyKind::NotValue))
+                Err(refused_at(positions.value, PolicyKind::NotValue))
             }
         }
-        Err(fault) => Err(value_fault(fault, positions)),
+        Err(fault) => Err(value_refusal(fault, positions)),
     }
 }
 
@@ -87,28 +93,37 @@ pub(crate) fn quoted_literal(
     mark: QuoteMark,
     text: &Excerpt,
     positions: ValuePositions,
-) -> Result<Value, PolicyFault>
+) -> Result<Value, Refusal>
     ensures ok { IfOk result (λ value. literal profile dictionary.now target
         (octets_between mark text.now) ≡ Some value) }
-    ensures err { IfErr result (λ fault. fault.kind ≢ Memory
+    ensures err { IfErr result (λ refusal. refusal.kind ≢ Memory
         → literal profile dictionary.now target (octets_between mark text.now) ≡ None) }
+    ensures refused { IfErr result (Tells (IsValueRefused
+        (literal_refusal profile dictionary.now target (octets_between mark text.now))
+        positions.name.left positions.value.left)) }
 {
     let octets = octets_between(alloc, mark, text.as_slice())?;
     literal(alloc, profile, dictionary, target, &octets, positions)
 }
 
-/// What is written for the attribute of a name.
+/// What is written for the attribute of a name, which begins here.
 pub(crate) fn written_value<'a>(
     alloc: Global,
     profile: Profile,
     dictionary: &Dictionary,
     target: Target,
-    positions: ValuePositions,
+    name: Position,
     at: &Cursor<'a>,
 ) -> Read<'a, Written<'a>>
     ensures read { Reads (WrittenIs profile dictionary.now target at.now) result }
+    ensures refused { IfErr result (Tells
+        (WrittenFails profile dictionary.now target name.left at.now)) }
     ensures shorter { IfOk result (λ x. length x.1.text ≤ length at.now.text) }
 {
+    let positions = ValuePositions {
+        name,
+        value: at.position(),
+    };
     let (token, after) = at.next();
     match token {
         Token::Word(text) => {
@@ -139,6 +154,6 @@ pub(crate) fn written_value<'a>(
             let (other, rest) = alike(profile, dictionary, target.named.id, &after)?;
             Ok((Written::Instance(other), rest))
         }
-        _ => Err(at.misplaced()),
+        _ => Err(at.unfit()),
     }
 }

@@ -3,7 +3,10 @@ use Rattle.avp_unlang.specs.declared.text.tokens.Sign.TheVariants.{And, Or}
 use Rattle.avp_unlang.specs.declared.text.tokens.Token.TheVariants.{Operator}
 use Rattle.avp_unlang.specs.Conditions.{Within, Both}
 use Rattle.avp_unlang.specs.Between.{Follows}
+use Rattle.avp_unlang.specs.RefusedConditions.{BothFails, EitherFails, WithinFails}
+use Rattle.avp_unlang.specs.RefusedForms.{OthersFails}
 use Rattle.avp_unlang.proofs.Chains.{IsFront}
+use Rattle.avp_unlang.proofs.RefusedReads.{IsCarried}
 use Rattle.avp_unlang.proofs.text.conditions.+conditions.Given as goal
 
 abbrev pub decreases-closed : goal.decreases-closed
@@ -25,6 +28,7 @@ abbrev pub invariant-both-loop-next : goal.invariant-both-loop-next
 invariant-both-loop-next l = record {
   front : IsFront (Follows (Operator And)) (Within l.profile l.dictionary (suc l.depth)) l.fn.at l.conds.items l.rest;
   within : length l.rest.text ≤ length l.fn.at.text;
+  refused : IsCarried (OthersFails (Follows (Operator And)) (Within l.profile l.dictionary (suc l.depth)) (λ before. (WithinFails l.profile l.dictionary (suc l.depth)))) l.rest (BothFails (Within l.profile l.dictionary (suc l.depth)) (WithinFails l.profile l.dictionary (suc l.depth))) l.fn.at;
 }
 
 abbrev pub decreases-both-loop-next : goal.decreases-both-loop-next
@@ -34,6 +38,7 @@ abbrev pub invariant-either-loop-next : goal.invariant-either-loop-next
 invariant-either-loop-next l = record {
   front : IsFront (Follows (Operator Or)) (Both (Within l.profile l.dictionary (suc l.depth))) l.fn.at l.conds.items l.rest;
   within : length l.rest.text ≤ length l.fn.at.text;
+  refused : IsCarried (OthersFails (Follows (Operator Or)) (Both (Within l.profile l.dictionary (suc l.depth))) (λ before. BothFails (Within l.profile l.dictionary (suc l.depth)) (WithinFails l.profile l.dictionary (suc l.depth)))) l.rest (EitherFails (Within l.profile l.dictionary (suc l.depth)) (WithinFails l.profile l.dictionary (suc l.depth))) l.fn.at;
 }
 
 abbrev pub decreases-either-loop-next : goal.decreases-either-loop-next

@@ -17,4 +17,4 @@ returns-in_err-comparand-clause-read c =
     exits (ComparedBy c.args.profile c.args.dictionary.now c.args.found c.args.relation c.args.at.now) _ _ c.from_residual-in_err-comparand.ensures.1
     (then_stops (ComparandIs c.args.profile c.args.dictionary.now target) (Compared c.args.profile c.args.dictionary.now c.args.found c.args.relation) c.args.at.now c.in_err-comparand.field-0.0
     (made_refused c.args.profile c.args.dictionary.now target (ComparandOf c.args.profile c.args.dictionary.now target) c.args.at.now c.in_ok-written.written c.in_ok-written.rest c.in_err-comparand.field-0.0
-    c.in_ok-written.ensures.read c.in_err-comparand.ensures))
+    c.in_ok-written.ensures.read c.in_err-comparand.ensures.read))

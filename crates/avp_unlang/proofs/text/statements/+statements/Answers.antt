@@ -1,10 +1,15 @@
-use Rattle.std.proofs.Common.{◌≡◌, suc, sym, ◌-◌, ◌∙◌, subst, arith}
+use Rattle.std.proofs.Common.{◌≡◌, suc, sym, ◌-◌, ◌∙◌, inl, inr, subst, arith}
 use Rattle.avp_unlang.specs.declared.text.statements.Keyword.TheVariants as keyword
 use Rattle.avp_unlang.specs.Conditions.{Closed, Within}
 use Rattle.avp_unlang.specs.Forms.{Chain, Gives, While, Refuses}
 use Rattle.avp_unlang.specs.Statements.{BlockIs, BranchIs, Nested, Otherwise, StatementFrom, begins_word, branch_of}
 use Rattle.avp_unlang.specs.Between.{Counts, Follows}
 use Rattle.avp_unlang.specs.declared.tree.Statement.TheVariants.{Transaction}
+use Rattle.avp_unlang.specs.RefusedConditions.{ClosedFails, WithinFails}
+use Rattle.avp_unlang.specs.RefusedForms.{OthersFails, Tells, WhileFails, left_at}
+use Rattle.avp_unlang.specs.RefusedStatements.{BlockFails, BranchFails, BranchesFail, IfFails, InsideFails, NestedFails}
+use Rattle.avp_unlang.proofs.RefusedReads.{deep_inside, tells}
+use Rattle.avp_unlang.proofs.RefusedTokens.{statement_tells}
 use Rattle.avp_unlang.proofs.Chains.{chain_stops, front_one, front_more, front_done, front_stops}
 use Rattle.avp_unlang.proofs.Determined.{exits, then_stops, then_on, after_stops, after_on}
 use Rattle.avp_unlang.proofs.LinesOne.{counts_sure, follows_sure}
@@ -70,6 +75,7 @@ branches-loop-next-init t c =
           front_one (Follows elsif_word) (BranchIs c.args.profile c.args.dictionary.now c.args.depth (Nested c.args.profile c.args.dictionary.now c.args.depth)) (branch_one c.args.profile c.args.dictionary.now c.args.depth (Nested c.args.profile c.args.dictionary.now c.args.depth) (nested_one c.args.profile c.args.dictionary.now c.args.depth)) c.args.at c.in_ok-first.first c.in_ok-first.rest
           c.in_ok-first.ensures.read c.new-branches.result.items c.push.new.self.items c.new-branches.ensures.items c.in_ok-push.ensures.items;
       within = c.in_ok-first.ensures.shorter;
+      refused = λ left kind h. inr (c.in_ok-first.first, c.in_ok-first.rest, c.in_ok-first.ensures.read, h);
     }
 
 pub branches-returns-in_err-branch-clause-read : goal.branches-returns-in_err-branch-clause-read
@@ -85,6 +91,7 @@ branches-loop-next-preserved t c =
           front_more (Follows elsif_word) (BranchIs c.args.profile c.args.dictionary.now c.args.depth (Nested c.args.profile c.args.dictionary.now c.args.depth)) (follows_sure elsif_word) (branch_one c.args.profile c.args.dictionary.now c.args.depth (Nested c.args.profile c.args.dictionary.now c.args.depth) (nested_one c.args.profile c.args.dictionary.now c.args.depth)) c.args.at c.loop-next.branches.items c.loop-next.rest
           c.in-Some.next c.in_ok-branch.branch c.in_ok-branch.end c.loop-next.invariant.front c.in-Some.ensures.found c.in_ok-branch.ensures.read c.push-in-Some.new.self.items c.in_ok-push-2.ensures.items;
       within = omega (arith, c.in-Some.ensures.shorter, c.in_ok-branch.ensures.shorter, c.loop-next.invariant.within);
+      refused = λ left kind h. c.loop-next.invariant.refused left kind (OthersFails.later c.in-Some.next c.in_ok-branch.branch c.in_ok-branch.end c.in-Some.ensures.found c.in_ok-branch.ensures.read h);
     }
 
 pub branches-returns-clause-read : goal.branches-returns-clause-read
@@ -142,9 +149,56 @@ statements-loop-alloc-preserved t c =
           run_more begins_word (Nested c.args.profile c.args.dictionary.now (suc c.args.depth)) (nested_one c.args.profile c.args.dictionary.now (suc c.args.depth)) c.args.at c.loop-alloc.statements.items c.loop-alloc.rest c.in_ok-found.found c.in_ok-found.end
           c.loop-alloc.invariant.run (sym c.loop-alloc-test.ensures) c.in_ok-found.ensures.read c.push.new.self.items c.in_ok-push.ensures.items;
       within = omega (arith, c.in_ok-found.ensures.shorter, c.loop-alloc.invariant.within);
+      refused = λ left kind h. c.loop-alloc.invariant.refused left kind (WhileFails.later c.in_ok-found.found c.in_ok-found.end (sym c.loop-alloc-test.ensures) c.in_ok-found.ensures.read h);
     }
 
 pub statements-returns-clause-read : goal.statements-returns-clause-read
 statements-returns-clause-read t c =
     subst (λ found. While begins_word (Nested c.args.profile c.args.dictionary.now (suc c.args.depth)) c.args.at found c.loop-alloc.rest) (sym c.from_vec.ensures)
     (run_done begins_word (Nested c.args.profile c.args.dictionary.now (suc c.args.depth)) c.args.at c.loop-alloc.statements.items c.loop-alloc.rest c.loop-alloc.invariant.run (sym c.loop-alloc-test.ensures))
+
+pub block-returns-in_err-found-clause-refused : goal.block-returns-in_err-found-clause-refused
+block-returns-in_err-found-clause-refused t c =
+    tells (Tells (BlockFails c.args.depth begins_word (Nested c.args.profile c.args.dictionary.now c.args.depth) (NestedFails c.args.profile c.args.dictionary.now c.args.depth) c.args.at)) _ _ c.from_residual-in_err-found.ensures.1 (λ some. inr (c.in_ok-start.start, c.in_ok-start.ensures.taken, deep_inside (λ k. InsideFails begins_word (Nested c.args.profile c.args.dictionary.now k) (NestedFails c.args.profile c.args.dictionary.now k)) (c.args.depth - 1) c.args.depth (left_at c.args.at) (omega (arith, c.if-depth-eq0.false)) c.in_ok-start.start c.in_err-found.field-0.0.left c.in_err-found.field-0.0.kind (inl (c.in_err-found.ensures.refused some))))
+
+pub block-returns-in_err-rest-clause-refused : goal.block-returns-in_err-rest-clause-refused
+block-returns-in_err-rest-clause-refused t c =
+    tells (Tells (BlockFails c.args.depth begins_word (Nested c.args.profile c.args.dictionary.now c.args.depth) (NestedFails c.args.profile c.args.dictionary.now c.args.depth) c.args.at)) _ _ c.from_residual-in_err-rest.ensures.1 (λ some. inr (c.in_ok-start.start, c.in_ok-start.ensures.taken, deep_inside (λ k. InsideFails begins_word (Nested c.args.profile c.args.dictionary.now k) (NestedFails c.args.profile c.args.dictionary.now k)) (c.args.depth - 1) c.args.depth (left_at c.args.at) (omega (arith, c.if-depth-eq0.false)) c.in_ok-start.start c.in_err-rest.field-0.0.left c.in_err-rest.field-0.0.kind (inr (c.in_ok-found.found, c.in_ok-found.end, c.in_ok-found.ensures.read, c.in_err-rest.ensures.refused some))))
+
+pub branch-returns-in_err-cond-clause-refused : goal.branch-returns-in_err-cond-clause-refused
+branch-returns-in_err-cond-clause-refused t c =
+    tells (Tells (BranchFails c.args.profile c.args.dictionary.now c.args.depth (Nested c.args.profile c.args.dictionary.now c.args.depth) (NestedFails c.args.profile c.args.dictionary.now c.args.depth) c.args.begin.left c.args.at)) _ _ c.from_residual-in_err-cond.ensures.1 (λ some. inr (c.in_ok-start.start, c.in_ok-start.ensures.taken, inr (c.in_ok-opened.opened, c.in_ok-opened.ensures.taken, inl (subst (λ k. ClosedFails c.args.depth k (Within c.args.profile c.args.dictionary.now c.args.depth) (WithinFails c.args.profile c.args.dictionary.now c.args.depth) c.in_ok-opened.opened c.in_err-cond.field-0.0.left c.in_err-cond.field-0.0.kind) c.position-sign.ensures.place (c.in_err-cond.ensures.refused some)))))
+
+pub branch-returns-in_err-block-clause-refused : goal.branch-returns-in_err-block-clause-refused
+branch-returns-in_err-block-clause-refused t c =
+    tells (Tells (BranchFails c.args.profile c.args.dictionary.now c.args.depth (Nested c.args.profile c.args.dictionary.now c.args.depth) (NestedFails c.args.profile c.args.dictionary.now c.args.depth) c.args.begin.left c.args.at)) _ _ c.from_residual-in_err-block.ensures.1 (λ some. inr (c.in_ok-start.start, c.in_ok-start.ensures.taken, inr (c.in_ok-opened.opened, c.in_ok-opened.ensures.taken, inr (c.in_ok-cond.cond, c.in_ok-cond.next, c.in_ok-cond.ensures.read, c.in_err-block.ensures.refused some))))
+
+pub branches-returns-in_err-first-clause-refused : goal.branches-returns-in_err-first-clause-refused
+branches-returns-in_err-first-clause-refused t c =
+    tells (Tells (BranchesFail c.args.profile c.args.dictionary.now c.args.depth (Nested c.args.profile c.args.dictionary.now c.args.depth) (NestedFails c.args.profile c.args.dictionary.now c.args.depth) c.args.begin.left c.args.at)) _ _ c.from_residual.ensures.1 (λ some. inl (c.in_err-first.ensures.refused some))
+
+pub branches-returns-in_err-branch-clause-refused : goal.branches-returns-in_err-branch-clause-refused
+branches-returns-in_err-branch-clause-refused t c =
+    tells (Tells (BranchesFail c.args.profile c.args.dictionary.now c.args.depth (Nested c.args.profile c.args.dictionary.now c.args.depth) (NestedFails c.args.profile c.args.dictionary.now c.args.depth) c.args.begin.left c.args.at)) _ _ c.from_residual-in_err-branch.ensures.1 (λ some. c.loop-next.invariant.refused c.in_err-branch.field-0.0.left c.in_err-branch.field-0.0.kind (OthersFails.here c.in-Some.next c.in-Some.ensures.found (subst (λ k. BranchFails c.args.profile c.args.dictionary.now c.args.depth (Nested c.args.profile c.args.dictionary.now c.args.depth) (NestedFails c.args.profile c.args.dictionary.now c.args.depth) k c.in-Some.next c.in_err-branch.field-0.0.left c.in_err-branch.field-0.0.kind) c.position.ensures.place (c.in_err-branch.ensures.refused some))))
+
+pub conditional-returns-in_err-branches-clause-refused : goal.conditional-returns-in_err-branches-clause-refused
+conditional-returns-in_err-branches-clause-refused t c =
+    tells (Tells (IfFails c.args.profile c.args.dictionary.now c.args.depth (Nested c.args.profile c.args.dictionary.now c.args.depth) (NestedFails c.args.profile c.args.dictionary.now c.args.depth) c.args.begin.left c.args.at)) _ _ c.from_residual.ensures.1 (λ some. inl (c.in_err-branches.ensures.refused some))
+
+pub conditional-returns-in_err-otherwise-clause-refused : goal.conditional-returns-in_err-otherwise-clause-refused
+conditional-returns-in_err-otherwise-clause-refused t c =
+    tells (Tells (IfFails c.args.profile c.args.dictionary.now c.args.depth (Nested c.args.profile c.args.dictionary.now c.args.depth) (NestedFails c.args.profile c.args.dictionary.now c.args.depth) c.args.begin.left c.args.at)) _ _ c.from_residual-in_err-otherwise.ensures.1 (λ some. inr (c.in_ok-branches.branches, c.in_ok-branches.mid, c.in_ok-branches.ensures.read, c.in_err-otherwise.ensures.refused some))
+
+pub statements-returns-in_err-found-clause-refused : goal.statements-returns-in_err-found-clause-refused
+statements-returns-in_err-found-clause-refused t c =
+    tells (Tells (WhileFails begins_word (Nested c.args.profile c.args.dictionary.now (suc c.args.depth)) (NestedFails c.args.profile c.args.dictionary.now (suc c.args.depth)) c.args.at)) _ _ c.from_residual.ensures.1 (λ some. c.loop-alloc.invariant.refused c.in_err-found.field-0.0.left c.in_err-found.field-0.0.kind (WhileFails.here (sym c.loop-alloc-test.ensures) (c.in_err-found.ensures.refused some)))
+
+pub statement-returns-in-Update-clause-refused : goal.statement-returns-in-Update-clause-refused
+statement-returns-in-Update-clause-refused t c =
+    statement_tells c.args.profile c.args.dictionary.now c.update.result c.args.depth (Nested c.args.profile c.args.dictionary.now c.args.depth) (NestedFails c.args.profile c.args.dictionary.now c.args.depth) c.args.at c.next-token.result
+    c.position-begin.result.left keyword.Update c.next-token.ensures.same (sym c.keyword_in.ensures ∙ c.in-Update.is) c.position-begin.ensures.place c.update.ensures.refused
+
+pub statement-returns-in-If-clause-refused : goal.statement-returns-in-If-clause-refused
+statement-returns-in-If-clause-refused t c =
+    statement_tells c.args.profile c.args.dictionary.now c.conditional.result c.args.depth (Nested c.args.profile c.args.dictionary.now c.args.depth) (NestedFails c.args.profile c.args.dictionary.now c.args.depth) c.args.at c.next-token.result
+    c.position-begin.result.left keyword.If c.next-token.ensures.same (sym c.keyword_in.ensures ∙ c.in-If.is) c.position-begin.ensures.place c.conditional.ensures.refused

@@ -1,7 +1,10 @@
 use Rattle.std.proofs.Common.{suc, length, ◌+◌, ◌*◌, ◌≤◌, ◌<◌}
 use Rattle.avp_unlang.specs.Statements.{BranchIs, Nested, begins_word}
 use Rattle.avp_unlang.specs.Between.{Follows}
+use Rattle.avp_unlang.specs.RefusedForms.{OthersFails, WhileFails, left_at}
+use Rattle.avp_unlang.specs.RefusedStatements.{BranchFails, BranchesFail, NestedFails}
 use Rattle.avp_unlang.proofs.Chains.{IsFront}
+use Rattle.avp_unlang.proofs.RefusedReads.{IsCarried}
 use Rattle.avp_unlang.proofs.ValueRuns.{IsRun}
 use Rattle.avp_unlang.proofs.StatementsOne.{elsif_word}
 use Rattle.avp_unlang.proofs.text.statements.+statements.Given as goal
@@ -34,6 +37,8 @@ abbrev pub invariant-statements-loop-alloc : goal.invariant-statements-loop-allo
 invariant-statements-loop-alloc l = record {
   run : IsRun begins_word (Nested l.profile l.dictionary (suc l.depth)) l.initial.rest l.statements.items l.rest;
   within : length l.rest.text ≤ length l.initial.rest.text;
+  refused : IsCarried (WhileFails begins_word (Nested l.profile l.dictionary (suc l.depth)) (NestedFails l.profile l.dictionary (suc l.depth))) l.rest
+      (WhileFails begins_word (Nested l.profile l.dictionary (suc l.depth)) (NestedFails l.profile l.dictionary (suc l.depth))) l.initial.rest;
 }
 
 abbrev pub decreases-statements-loop-alloc : goal.decreases-statements-loop-alloc
@@ -43,6 +48,8 @@ abbrev pub invariant-branches-loop-next : goal.invariant-branches-loop-next
 invariant-branches-loop-next l = record {
   front : IsFront (Follows elsif_word) (BranchIs l.profile l.dictionary l.depth (Nested l.profile l.dictionary l.depth)) l.fn.at l.branches.items l.rest;
   within : length l.rest.text < length l.fn.at.text;
+  refused : IsCarried (OthersFails (Follows elsif_word) (BranchIs l.profile l.dictionary l.depth (Nested l.profile l.dictionary l.depth)) (λ before. BranchFails l.profile l.dictionary l.depth (Nested l.profile l.dictionary l.depth) (NestedFails l.profile l.dictionary l.depth) (left_at before))) l.rest
+      (BranchesFail l.profile l.dictionary l.depth (Nested l.profile l.dictionary l.depth) (NestedFails l.profile l.dictionary l.depth) l.fn.begin.left) l.fn.at;
 }
 
 abbrev pub decreases-branches-loop-next : goal.decreases-branches-loop-next

@@ -1,0 +1,191 @@
+-- Where conditions are refused, and for what.
+use Rattle.std.specs.Prelude.{◌≡◌, ◌≢◌, ◌⊎◌, ℕ, zero, suc, Bool, true, false, List, Option, Some, None}
+use Rattle.std.specs.Option.{unwrap_or}
+use Rattle.avp_dict.specs.Dictionary.{Dictionary}
+use Rattle.avp_dict.specs.Quotes.{single_quoted_octets}
+use Rattle.avp_dict.specs.declared.entries.Kind.TheVariants as types
+use Rattle.avp_dict.specs.declared.value.quotes.QuoteMark.TheVariants as quote
+use Rattle.avp_forms.specs.declared.profiles.Profile.{Profile}
+use Rattle.avp_forms.specs.declared.profiles.Profile.TheVariants.{Wider}
+use Rattle.avp_forms.specs.declared.targets.Target.{Target}
+use Rattle.avp_patterns.specs.Patterns.{IsRefused, Written as Pattern}
+use Rattle.avp_patterns.specs.declared.faults.PatternFault.TheVariants as pattern
+use Rattle.avp_unlang.specs.Between.{Follows}
+use Rattle.avp_unlang.specs.Conditions.{Both, Either, Within, is_by_meaning, matcher_in, meant_literal, pattern_of, relation_of}
+use Rattle.avp_unlang.specs.Forms.{Form}
+use Rattle.avp_unlang.specs.Parts.{group_in}
+use Rattle.avp_unlang.specs.Places.{Place}
+use Rattle.avp_unlang.specs.References.{ReadableIs, readable, type_of}
+use Rattle.avp_unlang.specs.RefusedForms.{ChainFails, DeepFails, Failing, Misses, Refused, RefusedIf, ThenFails, left_at, unfit}
+use Rattle.avp_unlang.specs.RefusedValues.{AlikeFails, IsValueRefused, ReadableFails, WrittenFails, literal_refusal, plain_refusal, reference_refusal}
+use Rattle.avp_unlang.specs.Tokens.{next_token}
+use Rattle.avp_unlang.specs.Values.{WrittenIs}
+use Rattle.avp_unlang.specs.Words.{code_named}
+use Rattle.avp_unlang.specs.declared.codes.Code.{Code}
+use Rattle.avp_unlang.specs.declared.faults.PolicyKind.{PolicyKind}
+use Rattle.avp_unlang.specs.declared.faults.PolicyKind.TheVariants as kinds
+use Rattle.avp_unlang.specs.declared.text.references.Reference.{Reference}
+use Rattle.avp_unlang.specs.declared.text.tokens.Matcher.{Matcher}
+use Rattle.avp_unlang.specs.declared.text.tokens.Sign.TheVariants as sign
+use Rattle.avp_unlang.specs.declared.text.tokens.Token.{Token}
+use Rattle.avp_unlang.specs.declared.text.tokens.Token.TheVariants.{Operator, Quoted, Word}
+use Rattle.avp_unlang.specs.declared.text.values.Written.{Written}
+use Rattle.avp_unlang.specs.declared.text.values.Written.TheVariants as written
+use Rattle.avp_unlang.specs.declared.tree.Cond.{Cond}
+use Rattle.avp_unlang.specs.declared.tree.MeantComparand.{MeantComparand}
+use Rattle.avp_unlang.specs.declared.tree.Relation.{Relation}
+
+-- ---- comparisons
+
+abbrev pub comparand_refusal : Profile → Dictionary → Target → Written → Option PolicyKind
+comparand_refusal profile dictionary target (written.Double text) =
+    plain_refusal (literal_refusal profile dictionary target) dictionary target text
+comparand_refusal profile dictionary target _ = None
+
+-- what an attribute is compared with, whose name begins at name
+abbrev pub ComparandFails : Profile → Dictionary → Target → ℕ → Failing Place
+ComparandFails profile dictionary target name p =
+    ThenFails (WrittenIs profile dictionary target) (WrittenFails profile dictionary target name)
+    (λ written after. IsValueRefused (comparand_refusal profile dictionary target written) name
+    (left_at p)) p
+
+-- what a text is refused for as a value of the attribute itself; one whose value has no meaning is none
+abbrev pub own_refusal : Option PolicyKind → Option PolicyKind
+own_refusal refusal = Some (unwrap_or refusal kinds.NotValue)
+
+-- and no other text is compared with the attribute
+abbrev pub unfit_meaning : Option PolicyKind → Option MeantComparand → Option PolicyKind
+unfit_meaning refusal None = own_refusal refusal
+unfit_meaning refusal (Some x) = None
+
+unfoldable pub meant_refusal : Dictionary → Target → List ℕ → Option PolicyKind
+meant_refusal dictionary target text =
+    unfit_meaning (literal_refusal Wider dictionary target text)
+    (meant_literal dictionary target text)
+
+-- by its first token, which begins at value; the name begins at name
+abbrev pub MeantFailsFrom : Dictionary → Target → ℕ → ℕ → Token → Failing Place
+MeantFailsFrom dictionary target name value (Word text) after left kind =
+    IsValueRefused (meant_refusal dictionary target text) name value left kind
+MeantFailsFrom dictionary target name value (Quoted quote.Single text) after left kind =
+    IsValueRefused (meant_refusal dictionary target (single_quoted_octets text)) name value left
+    kind
+MeantFailsFrom dictionary target name value (Quoted quote.Double text) after left kind =
+    IsValueRefused (plain_refusal (meant_refusal dictionary target) dictionary target text) name
+    value left kind
+MeantFailsFrom dictionary target name value (Operator sign.Reference) after left kind =
+    AlikeFails Wider dictionary target.named.id after left kind
+MeantFailsFrom dictionary target name value token after left kind =
+    Refused value (unfit token) after left kind
+
+abbrev pub MeantFails : Dictionary → Target → ℕ → Failing Place
+MeantFails dictionary target name p =
+    MeantFailsFrom dictionary target name (left_at p) (next_token p).0 (next_token p).1
+
+abbrev pub RelatedFailsBy : Bool → Profile → Dictionary → Target → ℕ → Failing Place
+RelatedFailsBy true profile dictionary target name = MeantFails dictionary target name
+RelatedFailsBy false profile dictionary target name =
+    ComparandFails profile dictionary target name
+
+-- after an operator that compares
+abbrev pub RelatedFails : Profile → Dictionary → Target → ℕ → Failing Place
+RelatedFails profile dictionary target =
+    RelatedFailsBy (is_by_meaning profile (type_of dictionary target.named.id)) profile dictionary
+    target
+
+-- the fault of a pattern's text; when one that is read is too large is left open
+abbrev pub IsPatternFault : Pattern → PolicyKind → Type 0
+IsPatternFault text (kinds.Pattern fault) =
+    (fault ≢ pattern.TooLarge) × (fault ≢ pattern.Memory) × IsRefused text fault
+IsPatternFault text _ = ⊥
+
+-- strings alone are compared with a pattern; the token of the pattern begins at at
+abbrev pub MatchedFails : Dictionary → Reference → Matcher → ℕ → Failing Place
+MatchedFails dictionary found m at p left kind =
+    ((type_of dictionary found.target.named.id ≢ types.Text)
+    × Refused at kinds.OtherType p left kind)
+    ⊎ ((type_of dictionary found.target.named.id ≡ types.Text) × (left ≡ at)
+    × IsPatternFault (pattern_of m) kind)
+
+-- ---- references
+
+abbrev pub ComparedFailsFrom : Profile → Dictionary → Reference → ℕ → Option Relation
+    → Failing Place
+ComparedFailsFrom profile dictionary found name None after left kind = ⊥
+ComparedFailsFrom profile dictionary found name (Some relation) after left kind =
+    RelatedFails profile dictionary found.target name after left kind
+
+abbrev pub MatchedFailsOr : Profile → Dictionary → Reference → ℕ → ℕ → Option Matcher → Token
+    → Failing Place
+MatchedFailsOr profile dictionary found name at None token after left kind =
+    ComparedFailsFrom profile dictionary found name (relation_of token) after left kind
+MatchedFailsOr profile dictionary found name at (Some m) token after left kind =
+    MatchedFails dictionary found m at after left kind
+
+-- after a reference, whose word begins at name
+abbrev pub ComparedFails : Profile → Dictionary → Reference → ℕ → Failing Place
+ComparedFails profile dictionary found name p =
+    MatchedFailsOr profile dictionary found name (left_at p)
+    (matcher_in profile (next_token p).0) (next_token p).0 (next_token p).1
+
+-- after an `&`
+abbrev pub ReferredFails : Profile → Dictionary → Failing Place
+ReferredFails profile dictionary p =
+    ThenFails (ReadableIs profile dictionary) (ReadableFails profile dictionary)
+    (λ found. ComparedFails profile dictionary found (left_at p)) p
+
+-- after a word, which begins at name
+abbrev pub WordFailsFrom : Profile → Dictionary → Option Code → List ℕ → ℕ → Failing Place
+WordFailsFrom profile dictionary (Some code) word name p left kind = ⊥
+WordFailsFrom profile dictionary None word name p left kind =
+    RefusedIf name (reference_refusal profile dictionary word) p left kind
+    ⊎ ((found : Reference) × (readable profile dictionary word ≡ Some found)
+    × ComparedFails profile dictionary found name p left kind)
+
+-- ---- operands
+
+abbrev pub BothFails : Form Place Cond → Failing Place → Failing Place
+BothFails operand fails = ChainFails (Follows (Operator sign.And)) operand fails
+
+abbrev pub EitherFails : Form Place Cond → Failing Place → Failing Place
+EitherFails operand fails =
+    ChainFails (Follows (Operator sign.Or)) (Both operand) (BothFails operand fails)
+
+-- after a `(`, which begins there
+abbrev pub ClosedFails : ℕ → ℕ → Form Place Cond → Failing Place → Failing Place
+ClosedFails n begin inner fails =
+    DeepFails n begin
+    (ThenFails (Either inner) (EitherFails inner fails) (λ cond. Misses (Operator sign.Close)))
+
+-- a text between double quotes is no operand, unless it is one group
+abbrev pub group_refusal : Option ℕ → Option PolicyKind
+group_refusal None = Some kinds.Misplaced
+group_refusal (Some group) = None
+
+-- an operand by its first token, which begins at at; inside it fewer than n signs may be nested
+abbrev pub OperandFailsFrom : Profile → Dictionary → ℕ → Form Place Cond → Failing Place → ℕ
+    → Token → Failing Place
+OperandFailsFrom profile dictionary n inner fails at (Operator sign.Not) after left kind =
+    DeepFails n at fails after left kind
+OperandFailsFrom profile dictionary n inner fails at (Operator sign.Open) after left kind =
+    ClosedFails n at inner fails after left kind
+OperandFailsFrom profile dictionary n inner fails at (Operator sign.Reference) after left kind =
+    ReferredFails profile dictionary after left kind
+OperandFailsFrom profile dictionary n inner fails at (Word word) after left kind =
+    WordFailsFrom profile dictionary (code_named word) word at after left kind
+OperandFailsFrom profile dictionary n inner fails at (Quoted quote.Double text) after left kind =
+    RefusedIf at (group_refusal (group_in profile text)) after left kind
+OperandFailsFrom profile dictionary n inner fails at token after left kind =
+    Refused at (unfit token) after left kind
+
+abbrev pub OperandFails : Profile → Dictionary → ℕ → Form Place Cond → Failing Place
+    → Failing Place
+OperandFails profile dictionary n inner fails p =
+    OperandFailsFrom profile dictionary n inner fails (left_at p) (next_token p).0 (next_token p).1
+
+-- an operand inside which fewer than n signs `!` and `(` are open at once
+abbrev pub WithinFails : Profile → Dictionary → ℕ → Failing Place
+WithinFails profile dictionary zero p left kind = ⊥
+WithinFails profile dictionary (suc n) p left kind =
+    OperandFails profile dictionary n (Within profile dictionary n)
+    (WithinFails profile dictionary n) p left kind

@@ -1,0 +1,165 @@
+//! Texts with two faults each: the first in the order of reading is told, with its line and its octet.
+
+use avp_dict::Dictionary;
+use avp_unlang::{PolicyFault, PolicyKind, read_policy};
+use samples::test_dictionary;
+use std::alloc::Global;
+use std::process::Abort;
+use std::test::Fail;
+
+// A text, cut at the token that is refused first, and the line of that token.
+type Row = (&'static str, &'static str, usize);
+
+fn expect_places(
+    rt: &impl Abort,
+    alloc: Global,
+    kind: PolicyKind,
+    rows: &[Row],
+) -> Result<(), Fail> {
+    let dictionary = test_dictionary(alloc)?;
+    for (front, back, line) in rows {
+        expect_place(rt, alloc, &dictionary, kind, (front, back, *line))?;
+    }
+    Ok(())
+}
+
+fn expect_place(
+    rt: &impl Abort,
+    alloc: Global,
+    dictionary: &Dictionary,
+    kind: PolicyKind,
+    (front, back, line): (&str, &str, usize),
+) -> Result<(), Fail> {
+    let text = format!(in alloc; "{front}{back}")?;
+    let refused = read_policy(alloc, dictionary, text.as_bytes()).err();
+    let offset = front.len();
+    assert_eq!(rt; refused, Some(PolicyFault { line, offset, kind }), "{text}");
+    Ok(())
+}
+
+const UNREADABLE: [Row; 11] = [
+    ("ok ", "~ update { Nosuch := 1 }", 1),
+    ("update { Class ", "^ Nosuch", 1),
+    ("update { User-Name", "\" ~", 1),
+    (
+        "update reply {\n  User-Name := ",
+        "'a }\n  Nosuch := 1 }",
+        2,
+    ),
+    ("update { Reply-Message := ", "\"5%\", Nosuch", 1),
+    ("update { Reply-Message := ", "\"50% %{Nosuch}\" ~", 1),
+    ("if (&User-Name == ", "\"%{User-Name}\" && Nosuch) { }", 1),
+    ("if (ok) {\n  noop\n", "% # Nosuch\n}", 3),
+    ("transaction { } ", "\"x", 1),
+    ("update { NAS-Port := 1 ", ", Nosuch := 2 }", 1),
+    ("update { Attr-2 := ", "~ }", 1),
+];
+
+#[test]
+fn unreadable_tokens(rt: HostRuntime) -> Result<(), Fail> {
+    expect_places(&rt, rt.alloc(), PolicyKind::Unreadable, &UNREADABLE)
+}
+
+const MISPLACED: [Row; 12] = [
+    ("", "rejected ~", 1),
+    ("ok\n# ~\n", "{ update { Nosuch := 1 } }", 3),
+    ("update ", "replay { Nosuch := 1 }", 1),
+    ("update { NAS-Port := 1 ", "( Nosuch := 2 }", 1),
+    ("update { Class", "", 1),
+    ("update { Class ", "Nosuch }", 1),
+    ("update { Class :=\n", "} Nosuch", 2),
+    ("if ", "ok) { Nosuch }", 1),
+    ("if (ok ", "fail Nosuch) { }", 1),
+    ("if (ok && ", "|| Nosuch) { }", 1),
+    ("if (&NAS-Port == 1)\n\n", "ok }", 3),
+    ("transaction {\n  reject\n", "", 3),
+];
+
+#[test]
+fn tokens_that_do_not_fit(rt: HostRuntime) -> Result<(), Fail> {
+    expect_places(&rt, rt.alloc(), PolicyKind::Misplaced, &MISPLACED)
+}
+
+const UNKNOWN: [Row; 7] = [
+    ("update { ", "Nosuch ~ }", 1),
+    ("update {\n  & ", "Nosuch := 1\n  Other := 1 }", 2),
+    ("update { NAS-Port := &", "Nosuch ~", 1),
+    ("update { Reply-Message := ", "\"%{Nosuch} 5%\" ~", 1),
+    ("if (", "Nosuch ~", 1),
+    ("if (ok && &", "reply: ~", 1),
+    ("if (ok) { } elsif (&", "Nosuch) { Other }", 1),
+];
+
+#[test]
+fn unknown_names(rt: HostRuntime) -> Result<(), Fail> {
+    expect_places(&rt, rt.alloc(), PolicyKind::Unknown, &UNKNOWN)
+}
+
+const NOT_WRITABLE: [Row; 6] = [
+    ("update { ", "Vendor-Specific := ~ }", 1),
+    ("update {\n", "Attr-2 := 0x0 Nosuch", 2),
+    ("update { &", "Attr-2 := \"%{Nosuch\" }", 1),
+    ("if (", "Attr-26 ~", 1),
+    ("if (&", "Attr-2\n== \"%{\" ~", 1),
+    ("update { Class := &", "Vendor-Specific ~", 1),
+];
+
+#[test]
+fn names_that_are_not_writable(rt: HostRuntime) -> Result<(), Fail> {
+    expect_places(&rt, rt.alloc(), PolicyKind::NotWritable, &NOT_WRITABLE)
+}
+
+const NOT_VALUE: [Row; 6] = [
+    ("update { NAS-Port := ", "three ~ }", 1),
+    ("update {\n  NAS-Port :=\n  ", "'x'\n  Nosuch := 1 }", 3),
+    ("update { NAS-Port := ", "\"1 2\" Nosuch", 1),
+    ("if (&Service-Type == ", "Nosuch && ~", 1),
+    ("if (&NAS-Port < ", "\"x\" Nosuch", 1),
+    ("update { Class = ", "0x0 Class = 0x0 }", 1),
+];
+
+#[test]
+fn texts_that_are_no_values(rt: HostRuntime) -> Result<(), Fail> {
+    expect_places(&rt, rt.alloc(), PolicyKind::NotValue, &NOT_VALUE)
+}
+
+const TOO_LONG: [Row; 2] = [
+    ("update { User-Password := ", "\"a\\000\" Nosuch", 1),
+    ("if (User-Password == ", "\"\\000\" ~", 1),
+];
+
+#[test]
+fn values_that_are_too_long(rt: HostRuntime) -> Result<(), Fail> {
+    expect_places(&rt, rt.alloc(), PolicyKind::TooLong, &TOO_LONG)
+}
+
+const OTHER_TYPE: [Row; 5] = [
+    ("update { NAS-Port := &", "User-Name ~", 1),
+    ("update { NAS-Port := &\n", "User-Name\n  Nosuch := 1 }", 2),
+    ("if (&NAS-Port == &", "User-Name || Nosuch) { }", 1),
+    ("if (User-Name != &", "NAS-Port ~", 1),
+    (
+        "# profile: wider\nif (&NAS-Port ",
+        "=~ /a(/ || Nosuch) { }",
+        2,
+    ),
+];
+
+#[test]
+fn values_of_other_types(rt: HostRuntime) -> Result<(), Fail> {
+    expect_places(&rt, rt.alloc(), PolicyKind::OtherType, &OTHER_TYPE)
+}
+
+#[test]
+fn signs_that_are_nested_too_deep(rt: HostRuntime) -> Result<(), Fail> {
+    let alloc = rt.alloc();
+    let dictionary = test_dictionary(alloc)?;
+    let mut front = String::from_str(alloc, "if (")?;
+    for _ in 0..63 {
+        front.push_str("!")?;
+    }
+    let kind = PolicyKind::TooDeep;
+    expect_place(&rt, alloc, &dictionary, kind, (&front, "!Nosuch) { }", 1))?;
+    expect_place(&rt, alloc, &dictionary, kind, (&front, "( ~", 1))?;
+    Ok(())
+}
