@@ -1,10 +1,10 @@
 //! Help for faults of dictionary files.
 
-use crate::places::{first_line, line_start, push_place};
+use crate::places::{first_line, push_place};
 use crate::policy_tokens::text_of;
 use crate::sources::{Source, Sources};
 use crate::texts::push_all;
-use avp_dict::{DictFault, DictKind, last_component};
+use avp_dict::{DictFault, DictKind, is_blank, last_component};
 use std::alloc::{AllocError, Global};
 
 // What was found, and what to do.
@@ -56,16 +56,21 @@ pub(crate) fn folder_of(path: &str) -> &str {
     path.get(..length).unwrap_or("")
 }
 
-// The file that a line includes is missing.
-fn push_no_file(help: &mut Vec<u8>, path: &str, line: &str) -> Result<(), AllocError> {
-    let included = match line.trim().split_once(" ") {
-        Some((_, name)) => name.trim(),
-        None => match line.trim().split_once("\t") {
-            Some((_, name)) => name.trim(),
-            None => "",
-        },
-    };
-    let name = text_of(last_component(included.as_bytes()));
+// The word that begins after so many octets of a file.
+fn word_at(text: &[u8], offset: usize) -> &[u8] {
+    let line = first_line(text.get(offset..).unwrap_or(&[]));
+    match line
+        .iter()
+        .position(|octet| is_blank(*octet) || *octet == b'#')
+    {
+        Some(end) => line.get(..end).unwrap_or(line),
+        None => line,
+    }
+}
+
+// The file of this name, which a line includes, is missing.
+fn push_no_file(help: &mut Vec<u8>, path: &str, included: &[u8]) -> Result<(), AllocError> {
+    let name = text_of(last_component(included));
     push_all(
         help,
         &[
@@ -95,17 +100,9 @@ pub(crate) fn dictionary_help(
         return Ok(help);
     };
     let text = file.octets.as_slice();
-    let start = line_start(text, fault.line);
-    let line = first_line(text.get(start..).unwrap_or(&[]));
-    let blanks = line.len().saturating_sub(line.trim_ascii_start().len());
-    push_place(
-        alloc,
-        &mut help,
-        Source { path, text },
-        start.saturating_add(blanks),
-    )?;
+    push_place(alloc, &mut help, Source { path, text }, fault.offset)?;
     if fault.kind == DictKind::NoFile {
-        push_no_file(&mut help, path, text_of(line))?;
+        push_no_file(&mut help, path, word_at(text, fault.offset))?;
     } else {
         push_all(&mut help, &[sentences(fault.kind)])?;
     }
