@@ -1,5 +1,5 @@
 -- What a line, and then a text, is refused for, at the first refused place.
-use Rattle.std.proofs.Common.{◌≡◌, ◌≢◌, ◌∙◌, ℕ, ◌+◌, ◌-◌, ◌<◌, ◌≤◌, nat_lt, Bool, true, false, List, [], ◌∷◌, ◌++◌, Option, Some, length, refl, sym, ap, subst, arith, append_assoc, length-append, option_and_then, append-nil}
+use Rattle.std.proofs.Common.{◌≡◌, ◌≢◌, ◌∙◌, ℕ, ◌+◌, ◌-◌, ◌<◌, ◌≤◌, nat_lt, Bool, true, false, List, [], ◌∷◌, ◌++◌, Option, Some, None, length, refl, sym, ap, subst, arith, append_assoc, length-append, option_and_then, append-nil}
 use Rattle.std.specs.List.{after_first, before_first}
 use Rattle.std.proofs.lemmas.Grind.{common_steps}
 use Rattle.avp_lists.specs.Meets.{Unless}
@@ -88,37 +88,39 @@ module _ {T : Type 0} (target_of : List ℕ → Option T) (pair_of : T → List 
   }
 
   pub value_refused : (count : ℕ) (line text : List ℕ) (kind : LineKind) (left : ℕ) (name : List ℕ) (target : T) (value : Token) (tokens : List Token)
+      → Unless (is_memory_line kind) (option_and_then (pair_of target) (value_text value) ≡ None)
       → IsRefusedToken value (option_and_then (refusal_of target) (value_text value)) kind
       → target_of name ≡ Some target
       → tokens_at Value text ≡ value ∷ tokens
       → IsLexed Name line (Run name ∷ Sign ∷ []) Value text
       → left ≡ refused_from kind (length line) (length text)
       → Unless (is_memory_line kind) (IsRefusedPair target_of pair_of refusal_of count line kind left)
-  value_refused count line text kinds.NotWritable left name target value tokens refused known there lexed is =
+  value_refused count line text kinds.NotWritable left name target value tokens none refused known there lexed is =
       let named = lexed_whole Name line (Run name ∷ Sign ∷ []) Value text lexed ∙ ap (λ ts. Run name ∷ Sign ∷ ts) there in
-      refused_first count line kinds.NotWritable left (Run name ∷ Sign ∷ value ∷ tokens) is named (not_writable name value tokens (rw known refused))
-  value_refused count line text kinds.NotValue left name target value tokens refused known there lexed is =
-      refused_later count line text kinds.NotValue left (Run name ∷ Sign ∷ []) Value (value ∷ tokens) is lexed there (not_value name value tokens (rw known refused))
-  value_refused count line text kinds.TooLong left name target value tokens refused known there lexed is =
-      refused_later count line text kinds.TooLong left (Run name ∷ Sign ∷ []) Value (value ∷ tokens) is lexed there (too_long name value tokens (rw known refused))
-  value_refused count line text kinds.Unreadable left name target value tokens refused known there lexed is =
+      refused_first count line kinds.NotWritable left (Run name ∷ Sign ∷ value ∷ tokens) is named (not_writable name value tokens (rw known none) (rw known refused))
+  value_refused count line text kinds.NotValue left name target value tokens none refused known there lexed is =
+      refused_later count line text kinds.NotValue left (Run name ∷ Sign ∷ []) Value (value ∷ tokens) is lexed there (not_value name value tokens (rw known none) (rw known refused))
+  value_refused count line text kinds.TooLong left name target value tokens none refused known there lexed is =
+      refused_later count line text kinds.TooLong left (Run name ∷ Sign ∷ []) Value (value ∷ tokens) is lexed there (too_long name value tokens (rw known none) (rw known refused))
+  value_refused count line text kinds.Unreadable left name target value tokens none refused known there lexed is =
       refused_later count line text kinds.Unreadable left (Run name ∷ Sign ∷ []) Value (value ∷ tokens) is lexed there (no_value name target (value ∷ tokens) known refused)
-  value_refused count line text kinds.Memory left name target value tokens refused known there lexed is = tt
-  value_refused count line text kinds.Unknown left name target value tokens refused known there lexed is = absurd refused
-  value_refused count line text kinds.SecondPacket left name target value tokens refused known there lexed is = absurd refused
-  value_refused count line text kinds.TooMany left name target value tokens refused known there lexed is = absurd refused
+  value_refused count line text kinds.Memory left name target value tokens none refused known there lexed is = tt
+  value_refused count line text kinds.Unknown left name target value tokens none refused known there lexed is = absurd refused
+  value_refused count line text kinds.SecondPacket left name target value tokens none refused known there lexed is = absurd refused
+  value_refused count line text kinds.TooMany left name target value tokens none refused known there lexed is = absurd refused
 
   -- the same, whatever the number of pairs before
   pub values_refused : (line text : List ℕ) (kind : LineKind) (left : ℕ) (name : List ℕ) (target : T) (value : Token) (tokens : List Token)
+      → Unless (is_memory_line kind) (option_and_then (pair_of target) (value_text value) ≡ None)
       → IsRefusedToken value (option_and_then (refusal_of target) (value_text value)) kind
       → target_of name ≡ Some target
       → tokens_at Value text ≡ value ∷ tokens
       → IsLexed Name line (Run name ∷ Sign ∷ []) Value text
       → left ≡ refused_from kind (length line) (length text)
       → Unless (is_memory_line kind) ((count : ℕ) → IsRefusedPair target_of pair_of refusal_of count line kind left)
-  values_refused line text kind left name target value tokens refused known there lexed is =
+  values_refused line text kind left name target value tokens none refused known there lexed is =
       unless_all (is_memory_line kind) (λ count. IsRefusedPair target_of pair_of refusal_of count line kind left)
-      (λ count. value_refused count line text kind left name target value tokens refused known there lexed is)
+      (λ count. value_refused count line text kind left name target value tokens none refused known there lexed is)
 
   -- ---- lines
 

@@ -320,7 +320,7 @@ module _ {T : Type 0} (target_of : List ℕ → Option T) (pair_of : T → List 
         few = few.1;
       }
 
-  module _ (either : (target : T) (text : List ℕ) (fault : ValueFault) → refusal_of target text ≡ Some fault → pair_of target text ≡ None) (text : List ℕ) where
+  module _ (text : List ℕ) where
     abbrev IsFor : ℕ → LineKind → List Token → Side → List Token → Type 0
     IsFor = IsRefusedFor target_of pair_of refusal_of
 
@@ -359,7 +359,7 @@ module _ {T : Type 0} (target_of : List ℕ → Option T) (pair_of : T → List 
         let tokens : List Token = tokens_at side (line_from text place) in
         let earlier = earlier_of (without_front is_idle_line lines) before pairs read in
         let count : length earlier.lines + length earlier.here ≡ length pairs = omega (arith, ap length earlier.both_are, length-append earlier.lines earlier.here) in
-        let step = ap (λ n. first_step target_of pair_of refusal_of n (inner ++ tokens)) count ∙ step_refused target_of pair_of refusal_of either (length pairs) kind inner side tokens refused in
+        let step = ap (λ n. first_step target_of pair_of refusal_of n (inner ++ tokens)) count ∙ step_refused target_of pair_of refusal_of (length pairs) kind inner side tokens refused in
         let there = at.tokens ∙ append_assoc before inner tokens in
         let filled = not_idle at.line (λ none. none_refused target_of pair_of refusal_of (length earlier.lines + length earlier.here) earlier.here before (inner ++ tokens) (length inner, kind) earlier.groups (sym there ∙ none) step) in
         record {

@@ -118,27 +118,30 @@ module _ {T : Type 0} (target_of : List ℕ → Option T) (pair_of : T → List 
   no_comma_step Comma tokens h = absurd (cc)
   no_comma_step _ tokens h = refl
 
-  module _ (either : (target : T) (text : List ℕ) (fault : ValueFault) → refusal_of target text ≡ Some fault → pair_of target text ≡ None) where
-    refused_step : (count : ℕ) (name : List ℕ) (value : Token) (tokens : List Token) (fault : ValueFault) → of_pair target_of refusal_of name value ≡ Some fault → first_step count (Run name ∷ Sign ∷ value ∷ tokens) ≡ Err (value_kind (Some fault))
-    refused_step count name value tokens fault h =
-        let parts = pair_parts refusal_of name value fault (target_of name) (value_text value) refl refl h in
-        value_step count name value tokens parts.0 parts.1 parts.2 parts.3
-        ∙ ap (with_pair count (refusal_of parts.0 parts.1) tokens) (either parts.0 parts.1 fault parts.4)
-        ∙ ap (λ f. Err (value_kind f)) parts.4
+  no_pair : (name : List ℕ) (value : Token) (target : T) (text : List ℕ) → target_of name ≡ Some target → value_text value ≡ Some text → of_pair target_of pair_of name value ≡ None → pair_of target text ≡ None
+  no_pair name value target text known is h =
+      sym (ap (option_and_then (λ target. option_and_then (pair_of target) (value_text value))) known ∙ ap (option_and_then (pair_of target)) is) ∙ h
 
-    -- what tokens are refused for, and after how many
-    pub step_refused : (count : ℕ) (kind : LineKind) (inner : List Token) (side : Side) (tokens : List Token) → IsRefusedFor target_of pair_of refusal_of count kind inner side tokens → first_step count (inner ++ tokens) ≡ Err (length inner, kind)
-    step_refused count kind inner side tokens (unknown name others none) = ap (λ t. after_name count t others) none
-    step_refused count kind inner side tokens (not_writable name value others refused) = refused_step count name value others faults.NotWritable refused
-    step_refused count kind inner side tokens (not_value name value others refused) = refused_step count name value others faults.NotValue refused
-    step_refused count kind inner side tokens (too_long name value others refused) = refused_step count name value others faults.TooLong refused
-    step_refused count kind inner side tokens (too_many name value pair others read full) =
-        pair_step count name value others pair read ∙ ap (λ n. cond (nat_lt n max_pairs) (after_value others) (Err (0, kinds.TooMany))) full
-    step_refused count kind inner side tokens (no_name token others other) = other_step count token others other
-    step_refused count kind inner side tokens (no_sign name target others known none) = ap (λ t. after_name count t others) known ∙ sign_step count target others none
-    step_refused count kind inner side tokens (no_value name target others known none) = ap (λ t. after_name count t (Sign ∷ others)) known ∙ no_value_step count target others none
-    step_refused count kind inner side tokens (no_comma name value pair token others read room none) =
-        pair_step count name value (token ∷ others) pair read ∙ ap (λ b. cond b (after_value (token ∷ others)) (Err (0, kinds.TooMany))) room ∙ no_comma_step token others none
+  refused_step : (count : ℕ) (name : List ℕ) (value : Token) (tokens : List Token) (fault : ValueFault) → of_pair target_of pair_of name value ≡ None → of_pair target_of refusal_of name value ≡ Some fault → first_step count (Run name ∷ Sign ∷ value ∷ tokens) ≡ Err (value_kind (Some fault))
+  refused_step count name value tokens fault none h =
+      let parts = pair_parts refusal_of name value fault (target_of name) (value_text value) refl refl h in
+      value_step count name value tokens parts.0 parts.1 parts.2 parts.3
+      ∙ ap (with_pair count (refusal_of parts.0 parts.1) tokens) (no_pair name value parts.0 parts.1 parts.2 parts.3 none)
+      ∙ ap (λ f. Err (value_kind f)) parts.4
+
+  -- what tokens are refused for, and after how many
+  pub step_refused : (count : ℕ) (kind : LineKind) (inner : List Token) (side : Side) (tokens : List Token) → IsRefusedFor target_of pair_of refusal_of count kind inner side tokens → first_step count (inner ++ tokens) ≡ Err (length inner, kind)
+  step_refused count kind inner side tokens (unknown name others none) = ap (λ t. after_name count t others) none
+  step_refused count kind inner side tokens (not_writable name value others none refused) = refused_step count name value others faults.NotWritable none refused
+  step_refused count kind inner side tokens (not_value name value others none refused) = refused_step count name value others faults.NotValue none refused
+  step_refused count kind inner side tokens (too_long name value others none refused) = refused_step count name value others faults.TooLong none refused
+  step_refused count kind inner side tokens (too_many name value pair others read full) =
+      pair_step count name value others pair read ∙ ap (λ n. cond (nat_lt n max_pairs) (after_value others) (Err (0, kinds.TooMany))) full
+  step_refused count kind inner side tokens (no_name token others other) = other_step count token others other
+  step_refused count kind inner side tokens (no_sign name target others known none) = ap (λ t. after_name count t others) known ∙ sign_step count target others none
+  step_refused count kind inner side tokens (no_value name target others known none) = ap (λ t. after_name count t (Sign ∷ others)) known ∙ no_value_step count target others none
+  step_refused count kind inner side tokens (no_comma name value pair token others read room none) =
+      pair_step count name value (token ∷ others) pair read ∙ ap (λ b. cond b (after_value (token ∷ others)) (Err (0, kinds.TooMany))) room ∙ no_comma_step token others none
 
   -- ---- pairs that are read
 

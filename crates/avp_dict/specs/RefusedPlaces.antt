@@ -106,12 +106,15 @@ module _ {T : Type 0} (target_of : List ℕ → Option T) (pair_of : T → List 
         → target_of name ≡ None
         → IsRefusedFor count kinds.Unknown [] Name (Run name ∷ tokens)
     not_writable : (name : List ℕ) (value : Token) (tokens : List Token)
+        → of_pair target_of pair_of name value ≡ None
         → of_pair target_of refusal_of name value ≡ Some faults.NotWritable
         → IsRefusedFor count kinds.NotWritable [] Name (Run name ∷ Sign ∷ value ∷ tokens)
     not_value : (name : List ℕ) (value : Token) (tokens : List Token)
+        → of_pair target_of pair_of name value ≡ None
         → of_pair target_of refusal_of name value ≡ Some faults.NotValue
         → IsRefusedFor count kinds.NotValue (Run name ∷ Sign ∷ []) Value (value ∷ tokens)
     too_long : (name : List ℕ) (value : Token) (tokens : List Token)
+        → of_pair target_of pair_of name value ≡ None
         → of_pair target_of refusal_of name value ≡ Some faults.TooLong
         → IsRefusedFor count kinds.TooLong (Run name ∷ Sign ∷ []) Value (value ∷ tokens)
     too_many : (name : List ℕ) (value : Token) (pair : Pair) (tokens : List Token)

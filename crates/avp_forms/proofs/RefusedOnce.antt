@@ -1,30 +1,20 @@
 -- A text is refused at one place in a profile, for one thing.
-use Rattle.std.proofs.Common.{◌≡◌, ℕ, ℤ, List, Option, Some, None, Result, Ok, Err, option_map, refl}
-use Rattle.std.specs.Result.{result_err, result_ok}
+use Rattle.std.proofs.Common.{ℕ, ℤ, List, Option}
 use Rattle.avp_dict.specs.Dictionary.{Dictionary}
 use Rattle.avp_dict.specs.Names.{named}
-use Rattle.avp_dict.specs.Requests.{pair_named, pair_with, refusal_named}
-use Rattle.avp_dict.specs.Spellings.{value_spelled}
+use Rattle.avp_dict.specs.Requests.{pair_named, refusal_named}
 use Rattle.avp_dict.proofs.OneReading.{refused_once}
 use Rattle.avp_forms.specs.Requests.{IsRefusedOnce, pair_written, refusal_written}
 use Rattle.avp_forms.specs.Targets.{target_of}
-use Rattle.avp_forms.specs.Written.{value_written}
 use Rattle.avp_forms.specs.declared.profiles.Profile.{Profile}
 use Rattle.avp_forms.specs.declared.profiles.Profile.TheVariants.{Plain, Wider}
-
--- what is refused has no pair
-either : {A B E : Type 0} (of : A → B) (r : Result A E) (fault : E) → result_err r ≡ Some fault → option_map of (result_ok r) ≡ None
-either of (Ok x) fault h = absurd (cc)
-either of (Err e) fault h = refl
 
 pub refused_once_in : (profile : Profile) (time_zone : Option ℤ) (d : Dictionary) (text : List ℕ) → IsRefusedOnce profile time_zone d text
 refused_once_in Plain time_zone d text =
     λ kind other place also some some' first second.
     refused_once (λ name. named name d) (λ target value. pair_named d value target) (λ target value. refusal_named d value target)
-    (λ target value fault h. either (pair_with target) (value_spelled target value d) fault h)
     text place also first.within second.within first.filled second.filled kind other some some' first.refused second.refused
 refused_once_in Wider time_zone d text =
     λ kind other place also some some' first second.
     refused_once (target_of Wider d) (pair_written time_zone d) (refusal_written time_zone d)
-    (λ target value fault h. either (pair_with target.named) (value_written Wider target value time_zone d) fault h)
     text place also first.within second.within first.filled second.filled kind other some some' first.refused second.refused

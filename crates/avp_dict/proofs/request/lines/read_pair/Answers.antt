@@ -115,4 +115,4 @@ returns-in-Err-clause-place g c =
     let sign : IsLexed Name rest (Sign ∷ []) Value text = (rw c.in-Some-Sign-default.field-0-0-is at c.in-Some-Sign-default.ensures.lexed) refl in
     rw (c.at-in-Err.ensures.kind, c.at-in-Err.ensures.left, c.refused_from.ensures)
     (values_refused (g.R.PairReader.target_of c.args.reader.now) (g.R.PairReader.pair_of c.args.reader.now) (g.R.PairReader.refusal_of c.args.reader.now) line text c.in-Err.kind (refused_from c.in-Err.kind (length line) (length text))
-    name c.in-Some.target value tokens c.in-Err.ensures.refused known c.in-Some-next_token.ensures.token (lexed_then Name Name Value line rest text (Run name ∷ []) (Sign ∷ []) lexed sign) refl)
+    name c.in-Some.target value tokens c.in-Err.ensures.pair c.in-Err.ensures.refused known c.in-Some-next_token.ensures.token (lexed_then Name Name Value line rest text (Run name ∷ []) (Sign ∷ []) lexed sign) refl)
