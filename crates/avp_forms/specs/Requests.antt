@@ -45,7 +45,7 @@ IsRefusedIn Wider time_zone dictionary text kind place =
     IsRefusedAt (target_of Wider dictionary) (pair_written time_zone dictionary)
     (refusal_written time_zone dictionary) text kind place
 
--- the same after so many octets, where the text ends or no blank follows
+-- The first such place in the order of reading: the text ends there, or goes on with an octet that is no blank.
 pub record IsFirstRefused (profile : Profile) (time_zone : Option ℤ) (dictionary : Dictionary)
     (text : List ℕ) (kind : LineKind) (place : ℕ) : Type 0 where
   pub within : place ≤ length text

@@ -71,7 +71,7 @@ is_pattern_compiled r flags text same s config is_read =
 pub is_refused : (flags : PatternFlags) (text source : List ℕ) → source ≡ text → IsSource text → (fault : PatternFault) →
     IsNotCompiled (record { text = source; flags = flags }) fault → IsRefused (record { text = text; flags = flags }) fault
 is_refused flags text source same s (faults.NotRead at) h = subst (λ t. IsRefused (record { text = t; flags = flags }) (faults.NotRead at)) same
-    (subst IsUtf8 (sym same) s.utf8, subst (λ t. expansion_at t ≡ None) (sym same) s.plain, h.0, h.1)
+    (subst (λ t. t ≢ []) (sym same) s.filled, subst IsUtf8 (sym same) s.utf8, subst (λ t. expansion_at t ≡ None) (sym same) s.plain, h.0, h.1)
 is_refused flags text source same s faults.TooLarge h = subst (λ t. IsPattern (record { text = t; flags = flags })) same (is_pattern flags text source same s h)
 is_refused flags text source same s faults.Memory h = tt
 is_refused flags text source same s _ h = absurd h

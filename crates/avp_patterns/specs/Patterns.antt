@@ -63,6 +63,12 @@ IsRefused w fault.Empty = w.text ≡ []
 IsRefused w (fault.NotUtf8 at) = ¬ (IsUtf8 w.text) × (at ≡ utf8_valid_len w.text)
 IsRefused w (fault.Expansion at) = IsUtf8 w.text × (expansion_at w.text ≡ Some at)
 IsRefused w (fault.NotRead at) =
-    IsUtf8 w.text × (expansion_at w.text ≡ None) × (expression_of w ≡ None) × (at ≤ length w.text)
+    (w.text ≢ []) × IsUtf8 w.text × (expansion_at w.text ≡ None) × (expression_of w ≡ None)
+    × (at ≤ length w.text)
 IsRefused w fault.TooLarge = IsPattern w
 IsRefused w fault.Memory = Unit {0}
+
+-- a fault, but for the place of one of the grammar, which is left open
+abbrev pub without_place : PatternFault → PatternFault
+without_place (fault.NotRead at) = fault.NotRead 0
+without_place fault = fault

@@ -3,13 +3,13 @@
 use Rattle.std.proofs.Common.{◌≡◌, inl, inr, Bool, true, false, ℕ, List, [], ◌∷◌, subst}
 use Rattle.avp_unlang.specs.Forms.{Form, Step, After, Then, While, Others, Chain}
 use Rattle.avp_unlang.specs.RefusedForms.{Failing, AfterFails, ThenFails, WhileFails, OthersFails}
-use Rattle.avp_unlang.specs.RefusedPolicies.{without_fault}
+use Rattle.avp_unlang.specs.RefusedPolicies.{without_place}
 use Rattle.avp_unlang.specs.declared.faults.PolicyKind.{PolicyKind}
 use Rattle.avp_unlang.proofs.Determined.{IsOne, IsSure}
 
 -- one place, and one kind
 abbrev pub AreSame : ℕ → PolicyKind → ℕ → PolicyKind → Type 0
-AreSame left kind other more = (left ≡ other) × (without_fault kind ≡ without_fault more)
+AreSame left kind other more = (left ≡ other) × (without_place kind ≡ without_place more)
 
 pub record SettlesAt {S A : Type 0} (form : Form S A) (fails : Failing S) (p : S) : Type 0 where
   pub apart : (x : A) (rest : S) (left : ℕ) (kind : PolicyKind) → form p x rest → fails p left kind → ⊥

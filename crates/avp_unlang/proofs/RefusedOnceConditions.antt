@@ -1,5 +1,5 @@
 -- Conditions are refused at most once, and not where they are read.
-use Rattle.std.proofs.Common.{◌≡◌, inl, inr, ℕ, zero, suc, Bool, true, false, List, [], ◌∷◌, Option, Some, None, refl, sym, subst, ◌∙◌}
+use Rattle.std.proofs.Common.{◌≡◌, inl, inr, ℕ, zero, suc, Bool, true, false, List, [], ◌∷◌, Option, Some, None, refl, sym, ap, subst, ◌∙◌}
 use Rattle.std.specs.Option.{option_map}
 use Rattle.avp_dict.specs.Dictionary.{Dictionary}
 use Rattle.avp_dict.specs.Quotes.{double_quoted_octets, single_quoted_octets}
@@ -7,7 +7,7 @@ use Rattle.avp_dict.specs.declared.value.quotes.QuoteMark.TheVariants.{Double, S
 use Rattle.avp_forms.specs.declared.profiles.Profile.{Profile}
 use Rattle.avp_forms.specs.declared.profiles.Profile.TheVariants.{Wider}
 use Rattle.avp_forms.specs.declared.targets.Target.{Target}
-use Rattle.avp_patterns.proofs.Refusals.{refused_is_no_pattern}
+use Rattle.avp_patterns.proofs.Refusals.{pattern_refused_once, refused_is_no_pattern}
 use Rattle.avp_patterns.specs.Patterns.{IsPattern, Written as Pattern}
 use Rattle.avp_patterns.specs.declared.faults.PatternFault.TheVariants as pattern
 use Rattle.avp_unlang.specs.Between.{Follows}
@@ -18,7 +18,7 @@ use Rattle.avp_unlang.specs.Places.{Place}
 use Rattle.avp_unlang.specs.References.{ReadableIs, type_of}
 use Rattle.avp_unlang.specs.RefusedConditions.{BothFails, ClosedFails, ComparandFails, ComparedFails, ComparedFailsFrom, EitherFails, IsPatternFault, MatchedFails, MatchedFailsOr, MeantFails, MeantFailsFrom, OperandFailsFrom, ReferredFails, RelatedFailsBy, WithinFails, WordFailsFrom, comparand_refusal, group_refusal, meant_refusal, unfit_meaning}
 use Rattle.avp_unlang.specs.RefusedForms.{DeepFails, Failing, Misses, ThenFails, left_at, unfit}
-use Rattle.avp_unlang.specs.RefusedPolicies.{without_fault}
+use Rattle.avp_unlang.specs.RefusedPolicies.{without_place}
 use Rattle.avp_unlang.specs.RefusedValues.{IsValueRefused, ReadableFails, expansion_kind, literal_refusal, plain_refusal, reference_refusal}
 use Rattle.avp_unlang.specs.Tokens.{next_token}
 use Rattle.avp_unlang.specs.Values.{literal}
@@ -170,9 +170,10 @@ module _ (profile : Profile) (dictionary : Dictionary) where
   fault_apart w (kinds.Pattern fault) is f = refused_is_no_pattern w fault f.2 f.1 f.0 is
   fault_apart w _ is f = f
 
-  pattern_kind : (w : Pattern) (kind : PolicyKind) → IsPatternFault w kind → without_fault kind ≡ kinds.Pattern pattern.Empty
-  pattern_kind w (kinds.Pattern fault) f = refl
-  pattern_kind w _ f = absurd f
+  fault_once : (w : Pattern) (kind more : PolicyKind) → IsPatternFault w kind → IsPatternFault w more → without_place kind ≡ without_place more
+  fault_once w (kinds.Pattern fault) (kinds.Pattern other) f g = ap kinds.Pattern (pattern_refused_once w fault other f.2 f.1 f.0 g.2 g.1 g.0)
+  fault_once w (kinds.Pattern fault) _ f g = absurd g
+  fault_once w _ more f g = absurd f
 
   matched_settles : (found : Reference) (m : Matcher) (at : ℕ) (p : Place) → SettlesAt (MatchedBy dictionary found m) (MatchedFails dictionary found m at) p
   matched_settles found m at p = record { apart = apart; once = once } where
@@ -184,7 +185,7 @@ module _ (profile : Profile) (dictionary : Dictionary) where
     once left other kind more (inl f) (inl g) = at_once at kinds.OtherType left other kind more f.1 g.1
     once left other kind more (inl f) (inr g) = absurd (f.0 g.0)
     once left other kind more (inr f) (inl g) = absurd (g.0 f.0)
-    once left other kind more (inr f) (inr g) = (f.1 ∙ sym g.1, pattern_kind (pattern_of m) kind f.2 ∙ sym (pattern_kind (pattern_of m) more g.2))
+    once left other kind more (inr f) (inr g) = (f.1 ∙ sym g.1, fault_once (pattern_of m) kind more f.2 g.2)
 
   -- ---- references
 

@@ -21,7 +21,7 @@ use Rattle.avp_unlang.specs.Forms.{Form, Then}
 use Rattle.avp_unlang.specs.Places.{Place, counted}
 use Rattle.avp_unlang.specs.References.{AlikeIs, ReadableIs, readable, reference_in, type_of, unless_container}
 use Rattle.avp_unlang.specs.RefusedForms.{Lacks, Misses, ThenFails, left_at, unfit}
-use Rattle.avp_unlang.specs.RefusedPolicies.{without_fault}
+use Rattle.avp_unlang.specs.RefusedPolicies.{without_place}
 use Rattle.avp_unlang.specs.RefusedValues.{AlikeFails, IsValueRefused, ReadableFails, WrittenFails, WrittenFailsFrom, literal_refusal, reference_refusal, unfit_value, unreadable_target, value_place, word_refusal}
 use Rattle.avp_unlang.specs.Tokens.{next_token}
 use Rattle.avp_unlang.specs.Values.{WrittenAs, WrittenFrom, WrittenIs, fitting, literal}
@@ -43,15 +43,15 @@ some_none x o e f = cc
 -- ---- places and kinds
 
 pub at_once : (at : ℕ) (why : PolicyKind) (left other : ℕ) (kind more : PolicyKind) → (left ≡ at) × (kind ≡ why) → (other ≡ at) × (more ≡ why) → AreSame left kind other more
-at_once at why left other kind more h g = (h.0 ∙ sym g.0, ap without_fault (h.1 ∙ sym g.1))
+at_once at why left other kind more h g = (h.0 ∙ sym g.0, ap without_place (h.1 ∙ sym g.1))
 
 pub if_once : (at : ℕ) (why : Option PolicyKind) (left other : ℕ) (kind more : PolicyKind) → (left ≡ at) × (why ≡ Some kind) → (other ≡ at) × (why ≡ Some more) → AreSame left kind other more
-if_once at why left other kind more h g = (h.0 ∙ sym g.0, ap without_fault (some_is kind more (sym h.1 ∙ g.1)))
+if_once at why left other kind more h g = (h.0 ∙ sym g.0, ap without_place (some_is kind more (sym h.1 ∙ g.1)))
 
 pub value_once : (why : Option PolicyKind) (name value left other : ℕ) (kind more : PolicyKind) → IsValueRefused why name value left kind → IsValueRefused why name value other more → AreSame left kind other more
 value_once why name value left other kind more h g =
     let same = some_is kind more (sym h.0 ∙ g.0) in
-    (h.1 ∙ ap (value_place name value) same ∙ sym g.1, ap without_fault same)
+    (h.1 ∙ ap (value_place name value) same ∙ sym g.1, ap without_place same)
 
 -- ---- steps
 

@@ -3,7 +3,7 @@ use Rattle.std.specs.Prelude.{◌≡◌, ℕ, suc, ◌+◌, List, length}
 use Rattle.avp_dict.specs.Dictionary.{Dictionary}
 use Rattle.avp_forms.specs.Profiles.{profile_of}
 use Rattle.avp_forms.specs.declared.profiles.Profile.{Profile}
-use Rattle.avp_patterns.specs.declared.faults.PatternFault.TheVariants.{Empty}
+use Rattle.avp_patterns.specs.Patterns as patterns
 use Rattle.avp_unlang.specs.Forms.{While}
 use Rattle.avp_unlang.specs.Places.{start_of}
 use Rattle.avp_unlang.specs.Policies.{SpellsPolicy, max_nested}
@@ -32,10 +32,10 @@ pub record IsRefusedAt (dictionary : Dictionary) (text : List ℕ) (offset : ℕ
   pub fails : StatementsFail (profile_of text) dictionary (start_of text) left kind
   pub placed : offset + left ≡ length text
 
--- a kind, but for what is wrong with a pattern, which patterns say
-abbrev pub without_fault : PolicyKind → PolicyKind
-without_fault (kinds.Pattern fault) = kinds.Pattern Empty
-without_fault kind = kind
+-- a kind, but for the place in a pattern of what its grammar doesn't read, which is left open
+abbrev pub without_place : PolicyKind → PolicyKind
+without_place (kinds.Pattern fault) = kinds.Pattern (patterns.without_place fault)
+without_place kind = kind
 
 -- A text that is refused spells no policy, and it is refused at one place for one kind.
 pub record IsRefusedOnce : Type 0 where
@@ -45,4 +45,4 @@ pub record IsRefusedOnce : Type 0 where
   pub once : (dictionary : Dictionary) (text : List ℕ) (offset other : ℕ)
       (kind also : PolicyKind)
       → IsRefusedAt dictionary text offset kind → IsRefusedAt dictionary text other also
-      → (offset ≡ other) × (without_fault kind ≡ without_fault also)
+      → (offset ≡ other) × (without_place kind ≡ without_place also)

@@ -39,7 +39,7 @@ pub struct LineFault {
     /// The line's number, from 1 on.
     pub line: usize,
     /// How many octets of the text are before what was refused: a name, a value that is none or is too long, a token that
-    /// does not fit, or the end of a line, or the comment there, where one is lacking.
+    /// does not fit, or the end of a line, or the comment there, where a token is lacking.
     pub offset: usize,
     pub kind: LineKind,
 }
