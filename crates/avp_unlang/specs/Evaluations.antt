@@ -22,7 +22,7 @@ pub record Evaluated : Type 0 where
 abbrev pub Evaluation : Type 0
 Evaluation = State → Code → Captures → Evaluated
 
--- nothing was captured anew
+-- a truth, with what was captured before it
 abbrev pub decided : Bool → Captures → Evaluated
 decided truth captures = record { truth = truth; captures = captures }
 

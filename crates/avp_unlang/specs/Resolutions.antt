@@ -47,7 +47,7 @@ pair_put dictionary pair = value_put dictionary pair.id pair.value
 abbrev pub meaning_put : Dictionary → Pair → List ℕ
 meaning_put dictionary pair = text_put Wider pair.id pair.value dictionary
 
--- octets as they are, or the first instance; nothing is put in where there is none, and for what was captured
+-- octets as they are, or the first instance; nothing where there is none, and nothing for what was captured
 abbrev pub part_text : Dictionary → State → Part → List ℕ
 part_text dictionary s (part.Text os) = os
 part_text dictionary s (part.Instance list id) =

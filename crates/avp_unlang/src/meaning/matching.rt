@@ -122,8 +122,8 @@ fn all_hold_by<S: Store>(
 }
 
 /// Whether a condition is true of a store's present lists, `code` being the last code; as [`holds`](crate::holds), and
-/// also where it compares with patterns. `dictionary` is the one by which the condition was read. No condition is
-/// refused for memory.
+/// also where it compares with patterns. `dictionary` is the one by which the condition was read. What was captured
+/// counts as empty: a condition such as `"%{1}"` is false. No condition is refused for memory.
 #[cycle(matched)]
 #[tactic(auto, using(crate::proofs::Truths::truth_by_any, crate::proofs::Truths::truth_by_all, crate::proofs::Truths::truth_by_not, crate::proofs::Truths::truth_by_last, crate::proofs::Truths::truth_by_present, crate::proofs::Truths::truth_by_present_selected, crate::proofs::Truths::truth_by_compare, crate::proofs::Truths::truth_by_compare_meant, crate::proofs::Truths::truth_by_match, crate::proofs::Truths::truth_by_captured, crate::proofs::Truths::comparable_any, crate::proofs::Truths::comparable_all, crate::proofs::Truths::comparable_not, crate::proofs::Truths::comparable_compare, crate::proofs::Truths::comparable_match, crate::proofs::Truths::passes_any, crate::proofs::Truths::passes_all, crate::proofs::Truths::passes_not, crate::proofs::Truths::passes_match))]
 pub fn holds_by<S: Store>(
