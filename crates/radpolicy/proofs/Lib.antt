@@ -5,6 +5,7 @@ pub mod DistinctNames
 pub mod FittingLists
 pub mod JobRuns
 pub mod OneFault
+pub mod OnePolicyFault
 pub mod OneReport
 pub mod PlainCommands
 pub mod WordPlans

@@ -1,5 +1,5 @@
 -- A job is refused for one fault of its request's lines at most.
-use Rattle.std.proofs.Common.{◌≡◌, ◌∙◌, ℕ, ◌⊎◌, inl, inr, List, Option, None, Result, Ok, Err, ap, ap₂, subst, sym, take}
+use Rattle.std.proofs.Common.{◌≡◌, ◌∙◌, ℕ, inl, inr, List, Option, None, Result, Ok, Err, ap, ap₂, subst, sym, take}
 use Rattle.avp_dict.specs.Dictionary.{Dictionary}
 use Rattle.avp_dict.specs.LineNumbers.{line_after}
 use Rattle.avp_dict.specs.declared.request.faults.LineFault.{LineFault}
@@ -7,11 +7,10 @@ use Rattle.avp_dict.specs.declared.request.faults.LineKind.{LineKind}
 use Rattle.avp_forms.specs.Profiles.{profile_of}
 use Rattle.avp_forms.proofs.RefusedOnce.{refused_once_in}
 use Rattle.avp_packet.specs.declared.packets.Packet.{Packet}
-use Rattle.radpolicy.specs.JobReports.{IsOpenRefusal, IsOpened, IsPacketRefusal, IsReceived, IsRefused, IsRequestRefusal, IsRunRefusal, IsScript, IsStepRefusal, IsCheckRefusal, Opened, RefusalOf, decode_report, dictionary_for, encode_report, script_of}
+use Rattle.radpolicy.specs.JobReports.{IsOpenRefusal, IsOpened, IsPacketRefusal, IsRefused, IsRequestRefusal, IsRunRefusal, IsStepRefusal, IsCheckRefusal, Opened, RefusalOf, decode_report, dictionary_for, encode_report, script_of}
 use Rattle.radpolicy.specs.Received.{AreRefusedWith, BadLines, BadPacket, IsUnreadRequest, NotHex, Unread, request_for}
 use Rattle.radpolicy.specs.Reports.{Report}
 use Rattle.radpolicy.specs.Scripts.{IsUnknownWord, script_spelled}
-use Rattle.radpolicy.specs.declared.faults.Fault.{Fault}
 use Rattle.radpolicy.specs.declared.faults.Fault.TheVariants as fault
 use Rattle.radpolicy.specs.declared.jobs.Command.{Command}
 use Rattle.radpolicy.specs.declared.jobs.Command.TheVariants.{Check, Decode, Encode, Run, Step}

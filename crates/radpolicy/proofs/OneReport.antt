@@ -42,7 +42,7 @@ not_both_some a o h g = cc
 
 -- ---- a text that spells a policy is refused for a pattern that is too large alone
 
-is_too_large : (k : PolicyKind) → (k ≡ policy.Pattern pattern.TooLarge) ⊎ (k ≢ policy.Pattern pattern.TooLarge)
+pub is_too_large : (k : PolicyKind) → (k ≡ policy.Pattern pattern.TooLarge) ⊎ (k ≢ policy.Pattern pattern.TooLarge)
 is_too_large policy.NotValue = inr (λ e. cc)
 is_too_large policy.TooLong = inr (λ e. cc)
 is_too_large policy.Unknown = inr (λ e. cc)
@@ -77,7 +77,7 @@ of_kind d text k some refused statements spelled = elim (is_too_large k) [
 ]
 
 policy_not : (job : Job) (d : Dictionary) (statements : List Statement) (f : Fault) → IsPolicy job d statements → IsRefusedAsPolicy d (policy_of job) f → IsTooLargePattern job f
-policy_not job d statements (fault.Policy f) spelled refused = of_kind d (policy_of job) f.kind refused.0 refused.1 statements spelled
+policy_not job d statements (fault.Policy f) spelled refused = of_kind d (policy_of job) f.kind refused.some refused.refused statements spelled
 policy_not job d statements _ spelled refused = absurd refused
 
 module _ (job : Job) where

@@ -19,12 +19,13 @@ use Rattle.radpolicy.specs.declared.jobs.Command.TheVariants.{Check, Decode, Enc
 use Rattle.radpolicy.specs.declared.jobs.Form.{Form}
 use Rattle.radpolicy.specs.declared.jobs.Job.{Job}
 use Rattle.avp_unlang.specs.declared.tree.Statement.{Statement}
-use Rattle.avp_unlang.specs.Policies.{IsRefusedPolicy, SpellsPolicy}
+use Rattle.avp_unlang.specs.Policies.{SpellsPolicy}
 use Rattle.avp_unlang.specs.Meaning.{Outcome as End, meaning_of}
 use Rattle.avp_unlang.specs.declared.codes.Code.TheVariants as Code
 use Rattle.avp_step.specs.Walk.{Walk, entry, walk_from}
 use Rattle.avp_unlang.specs.Sizes.{size_of}
 use Rattle.radpolicy.specs.Received.{IsUnreadRequest, request_for}
+use Rattle.radpolicy.specs.RefusedPolicies.{IsRefusedWith}
 use Rattle.radpolicy.specs.Replies.{answer_of, request_packet}
 use Rattle.radpolicy.specs.Reports.{Report, answer_line, check_report, packet_line, packet_text, plain_report, run_report}
 use Rattle.radpolicy.specs.Scripts.{IsUnknownWord, after_script, script_spelled, script_text}
@@ -206,10 +207,9 @@ pub record IsSecretRefusal (job : Job) (f : Fault) : Type 0 where
 abbrev pub IsOpenRefusal : Job → Fault → Type 0
 IsOpenRefusal job f = IsDictionaryRefusal job f ⊎ IsSecretRefusal job f
 
--- A text is refused as a policy, want of memory aside. Which fault of it comes, and its line, is left open.
+-- a text is refused as a policy, want of memory aside
 abbrev pub IsRefusedAsPolicy : Dictionary → List ℕ → Fault → Type 0
-IsRefusedAsPolicy dictionary text (fault.Policy f) =
-    (f.kind ≢ policy.Memory) × IsRefusedPolicy dictionary text f.kind
+IsRefusedAsPolicy dictionary text (fault.Policy f) = IsRefusedWith dictionary text f
 IsRefusedAsPolicy dictionary text _ = ⊥
 
 -- the policy is refused

@@ -4,6 +4,7 @@ pub mod JobReports
 pub mod OutcomeReports
 pub mod Plans
 pub mod Received
+pub mod RefusedPolicies
 pub mod Replies
 pub mod ReplyMeaning
 pub mod Reports

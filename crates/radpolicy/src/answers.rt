@@ -16,6 +16,8 @@ ghost use Rattle.radpolicy.specs.Received.{IsUnreadRequest, request_for};
 ghost use Rattle.radpolicy.specs.Replies.{proxy_states};
 ghost use Rattle.avp_dict.specs.Sent.{is_clean};
 ghost use Rattle.avp_dict.specs.declared.request.faults.LineFault.{LineFault};
+ghost use Rattle.avp_unlang.specs.declared.faults.PolicyFault.{PolicyFault};
+ghost use Rattle.radpolicy.specs.RefusedPolicies.{AreOne};
 ghost use Rattle.radpolicy.specs.Writing.{AppendsFrontOf};
 ghost use Rattle.radpolicy.specs.declared.faults.Fault.TheVariants as fault;
 ghost use Rattle.radpolicy.specs.declared.faults.Fault.{Fault};
@@ -333,9 +335,12 @@ pub fn answer<O: Output>(alloc: Global, job: &Job, out: &mut O) -> Result<Outcom
     ensures one { (a b : Report) → IsReport job.now a → IsReport job.now b → a ≡ b }
     ensures either { (report : Report) (fault : Fault) → IsReport job.now report
         → IsRefused job.now fault → IsTooLargePattern job.now fault }
-    // Of its request's lines only one fault is such a fault, that of the first refused place.
+    // It is refused for one fault of its request's lines at most, that of the first refused place.
     ensures first { (a b : LineFault) → IsRefused job.now (fault.Request a)
         → IsRefused job.now (fault.Request b) → a ≡ b }
+    // Likewise of its policy, but for patterns that are too large, and for places in patterns.
+    ensures first_of_policy { (a b : PolicyFault) → IsRefused job.now (fault.Policy a)
+        → IsRefused job.now (fault.Policy b) → AreOne a b }
     // The report of a run is the text of what its start comes to, and the run is refused where that comes to nothing.
     ensures ran { job.now.command ≡ TheRun → (report : Report)
         → IsRunReport job.now report ↔ IsOutcomeReport job.now report }

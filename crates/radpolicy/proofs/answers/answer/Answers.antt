@@ -1,5 +1,6 @@
 use Rattle.std.proofs.Common.{inr, subst, sym}
 use Rattle.radpolicy.proofs.OneFault.{one_fault}
+use Rattle.radpolicy.proofs.OnePolicyFault.{one_policy_fault}
 use Rattle.radpolicy.proofs.OneReport.{not_both, one_report}
 use Rattle.radpolicy.specs.JobReports.{RefusalOf}
 use Rattle.radpolicy.specs.declared.jobs.Command.{Command}
@@ -62,3 +63,12 @@ returns-in-Ok-clause-first g c = one_fault c.args.job.now
 
 pub returns-clause-first : goal.returns-clause-first
 returns-clause-first g c = one_fault c.args.job.now
+
+pub returns-in_err-report-clause-first_of_policy : goal.returns-in_err-report-clause-first_of_policy
+returns-in_err-report-clause-first_of_policy g c = one_policy_fault c.args.job.now
+
+pub returns-in-Ok-clause-first_of_policy : goal.returns-in-Ok-clause-first_of_policy
+returns-in-Ok-clause-first_of_policy g c = one_policy_fault c.args.job.now
+
+pub returns-clause-first_of_policy : goal.returns-clause-first_of_policy
+returns-clause-first_of_policy g c = one_policy_fault c.args.job.now

@@ -1,4 +1,4 @@
-use Rattle.std.proofs.Common.{◌∙◌, ap, Bool, codes, false, sym, refl, List, Option, ℕ}
+use Rattle.std.proofs.Common.{◌∙◌, ap, Bool, codes, false, sym, List, Option, ℕ}
 use Rattle.std.specs.Option.{option_map, option_map_or}
 use Rattle.std.specs.Str.{bytes_eq}
 use Rattle.radpolicy.proofs.command_line.is_given.Goals as goal

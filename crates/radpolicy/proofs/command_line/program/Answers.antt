@@ -1,8 +1,7 @@
-use Rattle.std.proofs.Common.{◌≡◌, ◌∙◌, ap, ap₂, codes, true, false, rules, Bool}
+use Rattle.std.proofs.Common.{◌≡◌, ◌∙◌, ap, ap₂, codes, true, rules}
 use Rattle.std.proofs.lemmas.Result.{IfOk-weaker}
 use Rattle.clap.specs.Words.{App, Shape, app_of, new_app, with_subcommand}
 use Rattle.radpolicy.proofs.PlainCommands.{has_no_globals}
-use Rattle.radpolicy.specs.CommandLines.{run_command, step_command, encode_command, decode_command, check_command}
 use Rattle.radpolicy.proofs.command_line.program.Goals as goal
 
 abbrev named : App

@@ -1,4 +1,4 @@
-use Rattle.std.proofs.Common.{◌≡◌, ◌∙◌, ap, inl, inr, map, subst, sym, Some}
+use Rattle.std.proofs.Common.{◌∙◌, ap, inl, inr, map, subst, sym, Some}
 use Rattle.std.proofs.lemmas.Result.{IfErr-weaker, IfOk-weaker}
 use Rattle.clap.specs.Words.{App, HasKind, IsAmong, fault_of, found_of, is_simple, is_simple_and_free, rows_of, subcommand_of}
 use Rattle.radpolicy.specs.CommandLines.{program}

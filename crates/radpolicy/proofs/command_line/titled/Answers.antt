@@ -1,6 +1,4 @@
-use Rattle.std.proofs.Common.{◌≡◌, ◌∙◌, ap, refl}
 use Rattle.std.proofs.lemmas.Result.{IfOk-weaker}
-use Rattle.clap.specs.Words.{app_of}
 use Rattle.radpolicy.proofs.command_line.titled.Goals as goal
 
 pub returns : goal.returns
