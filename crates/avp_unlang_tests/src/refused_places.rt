@@ -1,6 +1,7 @@
 //! Texts with two faults each: the first in the order of reading is told, with its line and its octet.
 
 use avp_dict::Dictionary;
+use avp_patterns::PatternFault;
 use avp_unlang::{PolicyFault, PolicyKind, read_policy};
 use samples::test_dictionary;
 use std::alloc::Global;
@@ -37,7 +38,7 @@ fn expect_place(
     Ok(())
 }
 
-const UNREADABLE: [Row; 11] = [
+const UNREADABLE: [Row; 15] = [
     ("ok ", "~ update { Nosuch := 1 }", 1),
     ("update { Class ", "^ Nosuch", 1),
     ("update { User-Name", "\" ~", 1),
@@ -53,6 +54,10 @@ const UNREADABLE: [Row; 11] = [
     ("transaction { } ", "\"x", 1),
     ("update { NAS-Port := 1 ", ", Nosuch := 2 }", 1),
     ("update { Attr-2 := ", "~ }", 1),
+    ("update { Vendor-Specific ", "~ }", 1),
+    ("update { Vendor-Specific !* ", "\"x }", 1),
+    ("update { Reply-Message := ", "\"%\\{x}\" }", 1),
+    ("# profile: wider\nif (&NAS-Port ", "=~ /(x) { }", 2),
 ];
 
 #[test]
@@ -60,7 +65,7 @@ fn unreadable_tokens(rt: HostRuntime) -> Result<(), Fail> {
     expect_places(&rt, rt.alloc(), PolicyKind::Unreadable, &UNREADABLE)
 }
 
-const MISPLACED: [Row; 12] = [
+const MISPLACED: [Row; 15] = [
     ("", "rejected ~", 1),
     ("ok\n# ~\n", "{ update { Nosuch := 1 } }", 3),
     ("update ", "replay { Nosuch := 1 }", 1),
@@ -73,6 +78,9 @@ const MISPLACED: [Row; 12] = [
     ("if (ok && ", "|| Nosuch) { }", 1),
     ("if (&NAS-Port == 1)\n\n", "ok }", 3),
     ("transaction {\n  reject\n", "", 3),
+    ("if (ok) { } else ", "if (Nosuch) { }", 1),
+    ("if (ok) { } else { } ", "elsif (Nosuch) { }", 1),
+    ("update { Vendor-Specific !* & ", "} Nosuch", 1),
 ];
 
 #[test]
@@ -162,4 +170,59 @@ fn signs_that_are_nested_too_deep(rt: HostRuntime) -> Result<(), Fail> {
     expect_place(&rt, alloc, &dictionary, kind, (&front, "!Nosuch) { }", 1))?;
     expect_place(&rt, alloc, &dictionary, kind, (&front, "( ~", 1))?;
     Ok(())
+}
+
+const PATTERNS: [(&'static str, &'static str, PatternFault); 3] = [
+    ("//) { Nosuch }", "=", PatternFault::Empty),
+    ("/(/ || Nosuch) { }", "=", PatternFault::NotRead(0)),
+    ("/a%{Class}(/) { ~ }", "!", PatternFault::Expansion(1)),
+];
+
+#[test]
+fn patterns_at_the_sign_before_them(rt: HostRuntime) -> Result<(), Fail> {
+    let alloc = rt.alloc();
+    let dictionary = test_dictionary(alloc)?;
+    let front = "# profile: wider\nif (&User-Name ";
+    for (pattern, sign, fault) in &PATTERNS {
+        let back = format!(in alloc; "{sign}~ {pattern}")?;
+        let kind = PolicyKind::Pattern(*fault);
+        expect_place(&rt, alloc, &dictionary, kind, (front, &back, 2))?;
+    }
+    Ok(())
+}
+
+fn codes(alloc: Global, count: usize) -> Result<String, Fail> {
+    let mut codes = String::new(alloc);
+    for _ in 0..count {
+        codes.push_str("ok ")?;
+    }
+    Ok(codes)
+}
+
+fn expect_no_room(
+    rt: &impl Abort,
+    alloc: Global,
+    count: usize,
+    front: &str,
+    back: &str,
+) -> Result<(), Fail> {
+    let dictionary = test_dictionary(alloc)?;
+    let codes = codes(alloc, count)?;
+    let front = format!(in alloc; "{codes}{front}")?;
+    expect_place(
+        rt,
+        alloc,
+        &dictionary,
+        PolicyKind::TooLarge,
+        (&front, back, 1),
+    )
+}
+
+#[test]
+fn elements_without_room(rt: HostRuntime) -> Result<(), Fail> {
+    let alloc = rt.alloc();
+    expect_no_room(&rt, alloc, 65_535, "", "if ~")?;
+    expect_no_room(&rt, alloc, 65_535, "update { ", "& ~ }")?;
+    expect_no_room(&rt, alloc, 65_534, "", "transaction ~")?;
+    expect_no_room(&rt, alloc, 65_534, "if (ok) { } ", "elsif ~")
 }

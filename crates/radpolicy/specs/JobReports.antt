@@ -192,7 +192,7 @@ IsReport job report = ReportOf job.command job report
 
 -- ---- refusals, each where those before it don't apply
 
--- the refusal of the dictionary, with its file and line
+-- the refusal of the dictionary, with its file, line and offset
 abbrev pub IsDictionaryRefusal : Job → Fault → Type 0
 IsDictionaryRefusal job (fault.Dictionary f) = dictionary_for job ≡ Err f
 IsDictionaryRefusal job _ = ⊥
