@@ -9,8 +9,9 @@ use avp_forms::Profile;
 use avp_lists::{List, Store};
 use avp_unlang::{Code, PolicyFault, PolicyKind};
 use radpolicy::{
-    Command, Fault, Job, OwnedPolicy, PreparedPolicy, RequestHead, RequestKind, Secret, Start,
-    WriteOutput, answer, help_text, option_text, print_fault, read_input, read_words, status,
+    Command, Fault, Job, OwnedPolicy, PreparedPolicy, RequestHead, RequestKind, Runner, Secret,
+    Start, WriteOutput, answer, help_text, option_text, print_fault, read_input, read_words,
+    status,
 };
 use samples::{TEST_DICTIONARY, test_dictionary};
 use std::alloc::Global;
@@ -169,6 +170,29 @@ fn runs(rt: &impl Abort, alloc: Global, prepared: &PreparedPolicy<'_>) -> Result
     Ok(())
 }
 
+// Example: Runner::run
+fn runs_again(rt: &impl Abort, alloc: Global, prepared: &PreparedPolicy<'_>) -> Result<(), Fail> {
+    // The policy is `update reply { Session-Timeout := 600 }`.
+    let mut runner = Runner::new(alloc, prepared);
+    let (kind, id, authenticator) = (RequestKind::Access, 7, None);
+    let head = RequestHead {
+        kind,
+        id,
+        authenticator,
+    };
+    let start = Start::of_lines(
+        alloc,
+        prepared,
+        None,
+        head,
+        Profile::Plain,
+        None,
+        b"NAS-Port = 3",
+    )?;
+    assert_eq!(rt; runner.run(start)?.store().count(List::Reply), 1);
+    Ok(())
+}
+
 #[test]
 fn prepared_policies(rt: HostRuntime) -> Result<(), Fail> {
     takes_secrets(&rt)?;
@@ -176,7 +200,10 @@ fn prepared_policies(rt: HostRuntime) -> Result<(), Fail> {
     let dictionary = test_dictionary(alloc)?;
     prepares(&rt, alloc, &dictionary)?;
     let text = b"update reply { Session-Timeout := 600 }";
-    runs(&rt, alloc, &PreparedPolicy::read(alloc, &dictionary, text)?)?;
+    let prepared = PreparedPolicy::read(alloc, &dictionary, text)?;
+    runs(&rt, alloc, &prepared)?;
+    runs_again(&rt, alloc, &prepared)?;
+    drop(prepared);
     lends(
         &rt,
         alloc,

@@ -90,7 +90,7 @@ module _ (d : Dictionary) (ps : List Written) (kept : Kept) (h : History) (room 
 
     pub added_is : (s : State) → h1 ≡ continued s h → h.place + room ≤ h1.place + room1 → IsContinued s old (course_of d ps kept h1 room1 fs)
     added_is s e le = record {
-      alike = record { dictionary = refl; keeps = refl };
+      alike = record { dictionary = refl; patterns = refl; keeps = refl };
       captures = refl;
       history = e;
       reach = le;
@@ -106,7 +106,7 @@ module _ (d : Dictionary) (ps : List Written) (kept : Kept) (h : History) (room 
 
     pub edited_is : (line : Line) (r : Result (Option Reason) AllocError) → IfOk r (λ failed. IsLineDone d (filled kept.captures line) h h1 failed) → h.place + room ≤ h1.place + room1 → IfOk r (λ failed. IsEdited line old (course_of d ps kept h1 room1 fs) failed)
     edited_is line (Ok None) done le = (done.0, added_is (present h1) done.1 le)
-    edited_is line (Ok (Some why)) done le = (done.0, record { alike = record { dictionary = refl; keeps = refl }; captures = refl; history = done.1; reach = le }, refl)
+    edited_is line (Ok (Some why)) done le = (done.0, record { alike = record { dictionary = refl; patterns = refl; keeps = refl }; captures = refl; history = done.1; reach = le }, refl)
     edited_is line (Err e) done le = done
 
 -- ---- conditions

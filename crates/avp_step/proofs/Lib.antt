@@ -1,3 +1,4 @@
+pub mod Endings
 pub mod Equations
 pub mod Fitting
 pub mod HeldMoves

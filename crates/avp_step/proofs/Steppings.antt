@@ -31,7 +31,7 @@ made_from last mark s old mid new at_last alike history reach added h =
     let has : mid.history.place < length mid.history.states = subst (λ (h : History). h.place < length h.states) (sym history) (omega arith) in
     let p = added_present mid.history new.history s has added.history in
     record {
-      alike = record { dictionary = added.alike.dictionary ∙ alike.dictionary; keeps = added.alike.keeps ∙ alike.keeps };
+      alike = record { dictionary = added.alike.dictionary ∙ alike.dictionary; patterns = added.alike.patterns ∙ alike.patterns; keeps = added.alike.keeps ∙ alike.keeps };
       history = added.history ∙ ap (λ x. continued x mid.history) (sym p) ∙ ap (continued (present new.history)) history;
       reach = omega (arith, added.reach, reach);
       first =
@@ -57,13 +57,13 @@ module _ (m : Course) (last : Mark) where
   pub passed_by : (f : Frame) (fs : List Frame) (new : Course) → new ≡ record m { frames = fs } → coming (record m { frames = fs }) o ≡ coming (with_frame f m) o → IsPassed last (with_frame f m) new
   passed_by f fs new e h =
       subst (IsPassed last (with_frame f m)) (sym e)
-      (record { kept = record { alike = record { dictionary = refl; keeps = refl }; captures = refl; history = refl; reach = omega arith }; same = h })
+      (record { kept = record { alike = record { dictionary = refl; patterns = refl; keeps = refl }; captures = refl; history = refl; reach = omega arith }; same = h })
 
   -- other frames were put, and something may have been captured, and then a state like the present one was added
   pub made_over : (f : Frame) (fs : List Frame) (k : Captures) (mark : Mark) (mid new : Course) → mid ≡ record m { captures = k; frames = fs } → IsAtLast m → IsContinued (present mid.history) mid new
       → coming (with_frame f m) o ≡ step_of mark o.outcome.state k ∷ coming (record m { frames = fs }) (point_of mark o.outcome.state k) → IsMade last (with_frame f m) mark new
   made_over f fs k mark mid new e at_last added h =
-      made_from last mark o.outcome.state (with_frame f m) (record m { captures = k; frames = fs }) new at_last (record { dictionary = refl; keeps = refl }) refl (omega arith)
+      made_from last mark o.outcome.state (with_frame f m) (record m { captures = k; frames = fs }) new at_last (record { dictionary = refl; patterns = refl; keeps = refl }) refl (omega arith)
       (subst (λ (x : Course). IsContinued (present x.history) x new) e added) h
 
   -- ---- statements

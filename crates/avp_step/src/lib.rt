@@ -6,7 +6,9 @@ mod labels;
 mod lines;
 mod machines;
 mod marks;
+mod runs;
 mod steppers;
 
 pub use labels::{Label, Move, Moved};
+pub use runs::{Ended, run_with};
 pub use steppers::{Stepper, run};

@@ -1,6 +1,6 @@
 //! A store, and what is still to run over it.
 
-ghost use Rattle.std.specs.Prelude.{◌≡◌, ◌+◌, ◌-◌, ◌<◌, ◌≤◌, ◌∷◌, [], false, length, IfErr, IfNone, IfOk, IfSome, IsTrue, OnErr, Ok, None};
+ghost use Rattle.std.specs.Prelude.{◌≡◌, ◌+◌, ◌-◌, ◌<◌, ◌≤◌, ◌∷◌, [], false, length, IfErr, IfNone, IfOk, IfSome, IsTrue, OnErr, OnOk, Ok, None};
 ghost use Rattle.avp_lists.specs.History.{at_place, present, settled, state_at};
 ghost use Rattle.avp_unlang.specs.Meaning.{stops};
 ghost use Rattle.avp_unlang.specs.PolicyPatterns.{cond_patterns_pass, is_among, policy_patterns_pass};
@@ -10,7 +10,7 @@ ghost use Rattle.avp_unlang.specs.Captures.{no_captures};
 ghost use Rattle.avp_unlang.specs.Evaluations.{decided};
 ghost use Rattle.avp_unlang.specs.internal.Depth.{depth_of};
 ghost use Rattle.avp_step.specs.internal.Frames.{all_skips};
-ghost use Rattle.avp_step.specs.internal.Courses.{FitsOn, IsAtLast, IsContinued, IsEdited, IsKept, IsReady, IsStep, evaluating, with_frame};
+ghost use Rattle.avp_step.specs.internal.Courses.{FitsOn, IsAlike, IsAtLast, IsContinued, IsEdited, IsKept, IsReady, IsStep, ending, evaluating, standing, with_frame};
 
 use crate::frames::{Frame, MAX_FRAMES};
 use crate::labels::Label;
@@ -18,7 +18,6 @@ use crate::lines::{edit_by, reason_number};
 use crate::marks::Mark;
 use avp_dict::Dictionary;
 use avp_lists::Store;
-use avp_patterns::Pattern;
 use avp_unlang::{
     Block, Branch, Captured, Code, Cond, Line, Matchers, Reason, Statement, evaluate, holds_by,
 };
@@ -27,11 +26,11 @@ use std::marker::Model;
 
 /// A store, and what is still to run over it.
 #[derive(Drop)]
-pub struct Machine<'a, S: Store> {
+pub struct Machine<'a, 'p, S: Store> {
     alloc: Global,
     dictionary: &'a Dictionary,
     // Those of the patterns that conditions compare with.
-    matchers: Matchers<'a>,
+    matchers: Matchers<'p>,
     // What was captured last, kept if the policy looks at it.
     captured: Captured,
     store: S,
@@ -39,7 +38,7 @@ pub struct Machine<'a, S: Store> {
     frames: Vec<Frame<'a>>,
 }
 
-impl<'a, S: Store> Model for Machine<'a, S> {
+impl<'a, 'p, S: Store> Model for Machine<'a, 'p, S> {
     ghost use Rattle.std.specs.Prelude.{vec_capacity};
     ghost use Rattle.std.specs.Coded.{codes};
     ghost use Rattle.avp_unlang.specs.contracts.tree.Branch as branch;
@@ -77,25 +76,25 @@ fn captured_of(alloc: Global, keeps: bool) -> Result<Captured, AllocError>
     }
 }
 
-impl<'a, S: Store> Machine<'a, S> {
-    /// A machine that has these statements to run from the present lists of the store, with room for so many steps, what
-    /// searches for their patterns, and room for what these capture if it is kept. A refusal gives the store back.
+impl<'a, 'p, S: Store> Machine<'a, 'p, S> {
+    /// A machine that has these statements to run from the present lists of the store, with room for so many steps, and
+    /// for what their patterns capture if it is kept. A refusal gives the store back.
     pub fn new(
         alloc: Global,
         dictionary: &'a Dictionary,
         statements: &'a [Statement],
-        patterns: &'a [Pattern],
+        matchers: Matchers<'p>,
         keeps: bool,
         mut store: S,
         size: usize,
-    ) -> Result<Machine<'a, S>, (S, AllocError)>
+    ) -> Result<Machine<'a, 'p, S>, (S, AllocError)>
         requires deep { depth_of statements.now + 1 ≤ MAX_FRAMES }
         requires suits { IsTrue (policy_suits dictionary.now statements.now) }
-        requires passes { IsTrue (policy_patterns_pass (is_among patterns.now) statements.now) }
+        requires passes { IsTrue (policy_patterns_pass (is_among matchers) statements.now) }
         requires store { StateFits dictionary.now (present (S.history store)) }
         ensures start { IfOk result (λ m. m ≡ record {
           dictionary = dictionary.entry.now;
-          patterns = patterns.entry.now;
+          patterns = matchers.entry;
           keeps = keeps;
           captures = no_captures;
           history = settled (S.history store);
@@ -106,9 +105,6 @@ impl<'a, S: Store> Machine<'a, S> {
         ensures refused { IfErr result (λ e. S.history e.0 ≡ S.history store) }
     {
         let Ok(mut frames) = Vec::with_capacity(alloc, MAX_FRAMES) else {
-            return Err((store, AllocError));
-        };
-        let Ok(matchers) = Matchers::new(alloc, patterns) else {
             return Err((store, AllocError));
         };
         let Ok(captured) = captured_of(alloc, keeps) else {
@@ -153,6 +149,23 @@ impl<'a, S: Store> Machine<'a, S> {
             frames: _,
         } = self;
         store
+    }
+
+    /// The store, and what searched for the patterns.
+    pub fn into_parts(self) -> (S, Matchers<'p>)
+        ensures history { S.history result.0 ≡ self.entry.history }
+        ensures fits { StateFits self.entry.dictionary (present self.entry.history) }
+        ensures patterns { result.1 ≡ self.entry.patterns }
+    {
+        let Machine {
+            alloc: _,
+            dictionary: _,
+            matchers,
+            captured: _,
+            store,
+            frames: _,
+        } = self;
+        (store, matchers)
     }
 
     // The place of the store.
@@ -426,5 +439,18 @@ impl<'a, S: Store> Machine<'a, S> {
             }
         }
         Ok(None)
+    }
+
+    /// Each step to the end, after one that left this mark; the mark of the last one. No step can be gone back to.
+    pub fn run_to_end(&mut self, first: Mark) -> Result<Mark, AllocError>
+        requires ready { IsReady first self.old }
+        ensures end { IfOk result (λ last. (standing last self.new).outcome ≡ ending first self.old) }
+        ensures alike { OnOk result (IsAlike self.old self.new) }
+    {
+        let mut last = first;
+        while let Some(mark) = self.step(last)? {
+            last = mark;
+        }
+        Ok(last)
     }
 }

@@ -3,6 +3,7 @@
 ghost use Rattle.std.specs.Prelude.{◌≡◌, ◌+◌, ◌<◌, ◌≤◌, ◌↔◌, ◌⊎◌, ◌∷◌, ◌++◌, [], vec_len, vec_capacity, IfOk, IfErr, OnOk, OnErr, IsTrue};
 ghost use Rattle.avp_lists.specs.History.{present};
 ghost use Rattle.avp_unlang.specs.Meaning.{meaning_of};
+ghost use Rattle.avp_unlang.specs.PolicyPatterns.{is_among, policy_patterns_pass};
 ghost use Rattle.avp_unlang.specs.Suiting.{IsSpelled};
 ghost use Rattle.avp_unlang.specs.Resolutions.{StateFits};
 ghost use Rattle.avp_unlang.specs.Sizes.{size_of};
@@ -13,7 +14,7 @@ use crate::machines::Machine;
 use crate::marks::{Mark, START};
 use avp_dict::Dictionary;
 use avp_lists::Store;
-use avp_unlang::{Code, Policy, Statement, size};
+use avp_unlang::{Code, Matchers, Policy, Statement, size};
 use std::alloc::{AllocError, Global};
 use std::marker::Model;
 
@@ -23,7 +24,7 @@ use std::marker::Model;
 pub struct Stepper<'a, S: Store> {
     statements: &'a [Statement],
     // Its store has one state for each mark; it has to run what follows the last one.
-    machine: Machine<'a, S>,
+    machine: Machine<'a, 'a, S>,
     // The start's, and one for each step that was made so far.
     marks: Vec<Mark>,
     position: usize,
@@ -50,6 +51,14 @@ fn put_mark(marks: &mut Vec<Mark>, mark: Mark)
     ensures capacity { vec_capacity marks.old ≤ vec_capacity marks.new }
 {
     marks.push(mark).unwrap();
+}
+
+// What searches for the patterns of a policy.
+fn matchers_of(alloc: Global, policy: &Policy) -> Result<Matchers<'_>, AllocError>
+    ensures { IfOk result (λ matchers.
+        IsTrue (policy_patterns_pass (is_among matchers) policy.entry.now)) }
+{
+    Matchers::new(alloc, policy.patterns())
 }
 
 impl<'a, S: Store> Stepper<'a, S> {
@@ -89,9 +98,12 @@ impl<'a, S: Store> Stepper<'a, S> {
         let Ok(mut marks) = Vec::with_capacity(alloc, size + 1) else {
             return Err((store, AllocError));
         };
-        let patterns = policy.patterns();
+        let matchers = match matchers_of(alloc, policy) {
+            Ok(matchers) => matchers,
+            Err(refused) => return Err((store, refused)),
+        };
         let keeps = policy.uses_captures();
-        let machine = Machine::new(alloc, dictionary, statements, patterns, keeps, store, size)?;
+        let machine = Machine::new(alloc, dictionary, statements, matchers, keeps, store, size)?;
         put_mark(&mut marks, START);
         Ok(Stepper {
             statements,

@@ -1,6 +1,6 @@
 //! What a run begins with, and the run.
 
-ghost use Rattle.std.specs.Prelude.{◌≡◌, ◌<◌, ◌≤◌, true, length, IfErr, IfNone, IfOk, IfSome, None, Ok, OnOk, Some};
+ghost use Rattle.std.specs.Prelude.{◌≡◌, ◌<◌, ◌≤◌, true, length, IfErr, IfNone, IfOk, IfSome, IsTrue, None, Ok, OnOk, Some};
 ghost use Rattle.std.specs.Option.{option_copied, option_map};
 ghost use Rattle.avp_lists.specs.History.{present};
 ghost use Rattle.avp_lists.specs.States.{max_pairs};
@@ -12,6 +12,7 @@ ghost use Rattle.avp_packet.specs.Unchecked.{decoded_unchecked};
 ghost use Rattle.avp_step.specs.Walk.{last_outcome, walk_from};
 ghost use Rattle.avp_unlang.specs.Cleanness.{KeepsReplyClean};
 ghost use Rattle.avp_unlang.specs.Meaning.{Outcome as End};
+ghost use Rattle.avp_unlang.specs.PolicyPatterns.{is_among, policy_patterns_pass};
 ghost use Rattle.avp_unlang.specs.Resolutions.{StateFits};
 ghost use Rattle.radpolicy.specs.Faults.{IsPrintedAnywhere, MemoryOr};
 ghost use Rattle.radpolicy.specs.Replies.{proxy_states};
@@ -36,8 +37,8 @@ use avp_dict::{Dictionary, LineFault, LineKind};
 use avp_forms::Profile;
 use avp_lists::{MAX_PAIRS, Pair, Pairs, SlotStore, State, Store};
 use avp_packet::{Packet, decode, decode_unchecked};
-use avp_step::Stepper;
-use avp_unlang::{Code, Policy, keeps_reply_clean};
+use avp_step::{Ended, Stepper, run_with};
+use avp_unlang::{Matchers, Policy, keeps_reply_clean};
 use std::alloc::{AllocError, Global};
 use std::marker::Model;
 
@@ -131,14 +132,6 @@ fn fitting(dictionary: &Dictionary, pairs: Pairs) -> Result<Pairs, LineFault>
         Some(fault) => Err(fault),
         None => Ok(pairs),
     }
-}
-
-// What a run leaves.
-#[derive(Drop)]
-struct Ended {
-    store: SlotStore,
-    code: Code,
-    stopped: bool,
 }
 
 impl<'a> Start<'a> {
@@ -406,8 +399,14 @@ impl<'a> Start<'a> {
         }
     }
 
-    // Where the run ends.
-    fn end_of(self, alloc: Global) -> Result<Ended, AllocError>
+    // Where the run ends, searching with these.
+    fn end_of<'p>(
+        self,
+        alloc: Global,
+        matchers: Matchers<'p>,
+    ) -> Result<Ended<'p, SlotStore>, AllocError>
+        requires { IsTrue (policy_patterns_pass (is_among matchers)
+            self.entry.prepared.statements) }
         ensures end { IfOk result (λ ended. end_of self.entry ≡ record {
           state = present (⟦<SlotStore as Store>⟧.history ended.store);
           code = ended.code;
@@ -415,14 +414,15 @@ impl<'a> Start<'a> {
         }) }
         ensures fits { IfOk result (λ ended. StateFits self.entry.prepared.dictionary
             (present (⟦<SlotStore as Store>⟧.history ended.store))) }
+        ensures kept { IfOk result (λ ended. ended.matchers ≡ matchers.entry) }
     {
-        let mut stepper = self.stepper(alloc)?;
-        stepper.run_to_end()?;
-        Ok(Ended {
-            code: stepper.code(),
-            stopped: stepper.stopped(),
-            store: stepper.into_store(),
-        })
+        let lists = State {
+            request: self.request.list,
+            reply: self.reply,
+            control: self.control,
+        };
+        let store = entry_store(alloc, lists)?;
+        run_with(alloc, self.dictionary, self.policy, matchers, store)
     }
 
     // What is written of clean reply lists is read back as they are, also of those that the policy makes.
@@ -430,6 +430,40 @@ impl<'a> Start<'a> {
         ensures { KeepsReplyClean self.now.prepared.dictionary self.now.prepared.statements }
     {
         keeps_reply_clean(self.dictionary, self.policy);
+    }
+
+    /// Runs the policy to its end, as [`Start::run`] does, searching with these for its patterns.
+    pub(crate) fn run_with<'p>(
+        self,
+        alloc: Global,
+        matchers: Matchers<'p>,
+    ) -> Result<(RunOutcome<'a>, Matchers<'p>), Fault>
+        requires { IsTrue (policy_patterns_pass (is_among matchers)
+            self.entry.prepared.statements) }
+        ensures ok { IfOk result (λ r. outcome_of self.entry ≡ Some r.0) }
+        ensures refused { IfErr result (MemoryOr (λ f. (f ≡ fault.PacketTooLong)
+            × (outcome_of self.entry ≡ None))) }
+        ensures read { OnOk result
+            (is_clean self.entry.reply self.entry.prepared.dictionary ≡ true
+            → is_clean (proxy_states self.entry.request) self.entry.prepared.dictionary ≡ true
+            → OutcomeIsRead self.entry) }
+        ensures kept { IfOk result (λ r. r.1 ≡ matchers.entry) }
+        ensures printed { IfErr result IsPrintedAnywhere }
+    {
+        self.keeps_reply_clean();
+        let dictionary = self.dictionary();
+        let profile = self.profile();
+        let head = self.head(alloc)?;
+        let ended = self.end_of(alloc, matchers)?;
+        let reply = sent_by(alloc, dictionary, &head, ended.code, &ended.store)?;
+        let Ended {
+            store,
+            code,
+            stopped,
+            matchers,
+        } = ended;
+        let outcome = RunOutcome::new(dictionary, profile, store, code, stopped, reply);
+        Ok((outcome, matchers))
     }
 
     /// Runs the policy to its end. The run needs no memory that it does not give back with its outcome, and changes
@@ -472,17 +506,8 @@ impl<'a> Start<'a> {
             → OutcomeIsRead self.entry) }
         ensures printed { IfErr result IsPrintedAnywhere }
     {
-        self.keeps_reply_clean();
-        let dictionary = self.dictionary();
-        let profile = self.profile();
-        let head = self.head(alloc)?;
-        let ended = self.end_of(alloc)?;
-        let reply = sent_by(alloc, dictionary, &head, ended.code, &ended.store)?;
-        let Ended {
-            store,
-            code,
-            stopped,
-        } = ended;
-        Ok(RunOutcome::new(dictionary, profile, store, code, stopped, reply))
+        let matchers = Matchers::new(alloc, self.policy.patterns())?;
+        let (outcome, _) = self.run_with(alloc, matchers)?;
+        Ok(outcome)
     }
 }

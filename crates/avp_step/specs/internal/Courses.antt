@@ -8,12 +8,12 @@ use Rattle.avp_dict.specs.Dictionary.{Dictionary}
 use Rattle.avp_patterns.specs.Patterns.{Written}
 use Rattle.avp_unlang.specs.Captures.{Captures, Kept, filled}
 use Rattle.avp_unlang.specs.Evaluations.{decided, evaluated}
-use Rattle.avp_unlang.specs.Meaning.{Point, Edited, Failed, line_result}
+use Rattle.avp_unlang.specs.Meaning.{Outcome, Point, Edited, Failed, line_result}
 use Rattle.avp_unlang.specs.Resolutions.{StateFits}
 use Rattle.avp_unlang.specs.Truth.{truth_by}
 use Rattle.avp_unlang.specs.declared.meaning.reasons.Reason.{Reason}
 use Rattle.avp_unlang.specs.declared.tree.Line.{Line}
-use Rattle.avp_step.specs.Trace.{Entry, Evaluating, Step, Steps}
+use Rattle.avp_step.specs.Trace.{Entry, Evaluating, Step, Steps, end_of}
 use Rattle.avp_step.specs.Walk.{IsLineLabel}
 use Rattle.avp_step.specs.internal.Frames.{AllFit, Fits, rest}
 use Rattle.avp_step.specs.declared.frames.Frame.{Frame}
@@ -91,6 +91,10 @@ point_of m s captures = record {
 abbrev pub standing : Mark → Course → Point
 standing mark m = point_of mark (present m.history) m.captures
 
+-- where it is after the steps that are still to come
+abbrev pub ending : Mark → Course → Outcome
+ending mark m = (end_of (standing mark m) (coming m (standing mark m))).outcome
+
 -- the step that a mark and a state stand for
 abbrev pub entry_of : Mark → State → Entry
 entry_of m s =
@@ -108,9 +112,10 @@ pub record IsReady (last : Mark) (m : Course) : Type 0 where
   pub at_last : IsAtLast m
   pub room : m.history.place + length (coming m (standing last m)) ≤ m.reach
 
--- the dictionary, and whether what is captured is kept
+-- the dictionary, the patterns, and whether what is captured is kept
 pub record IsAlike (old new : Course) : Type 0 where
   pub dictionary : new.dictionary ≡ old.dictionary
+  pub patterns : new.patterns ≡ old.patterns
   pub keeps : new.keeps ≡ old.keeps
 
 -- as it was, but for the frames; there is no less room

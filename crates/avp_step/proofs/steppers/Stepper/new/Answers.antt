@@ -30,7 +30,7 @@ new-requires-clause-suits g c =
 
 pub new-requires-clause-passes : goal.new-requires-clause-passes
 new-requires-clause-passes g c =
-    ap (policy_patterns_pass (is_among c.patterns-patterns.result.now)) (c.as_slice-statements.ensures ∙ c.statements.ensures) ∙ c.patterns-patterns.ensures
+    ap (policy_patterns_pass (is_among c.in-Ok-matchers_of.matchers)) (c.as_slice-statements.ensures ∙ c.statements.ensures) ∙ c.in-Ok-matchers_of.ensures
 
 pub invariant_of-result : goal.invariant_of-result
 invariant_of-result g c =
