@@ -11,8 +11,8 @@ use std::alloc::Global;
 use std::process::Abort;
 use std::test::Fail;
 
-// The text of the first message of a reply.
-fn message_in(store: &SnapshotStore) -> &[u8] {
+/// The text of the first message of a reply.
+pub fn message_in(store: &SnapshotStore) -> &[u8] {
     match store.pair(List::Reply, 0) {
         Some(pair) => match &pair.value {
             Value::Text(octets) => octets.as_slice(),

@@ -4,6 +4,8 @@
 #[cfg(test)]
 mod captures;
 #[cfg(test)]
+mod kept_searches;
+#[cfg(test)]
 mod patterns;
 #[cfg(test)]
 mod runs;

@@ -4,6 +4,8 @@
 #[cfg(test)]
 mod refusals;
 #[cfg(test)]
+mod runners;
+#[cfg(test)]
 mod runs;
 #[cfg(test)]
 mod starts;

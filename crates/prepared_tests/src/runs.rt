@@ -13,8 +13,8 @@ use std::alloc::Global;
 use std::process::Abort;
 use std::test::Fail;
 
-// As in a server's `post-auth`: the lists are filled when the policy begins.
-const POST_AUTH: &[u8] = b"if (&reply:Class == 0x01 && &control:Tmp-Number > 6) {
+/// As in a server's `post-auth`: the lists are filled when the policy begins.
+pub const POST_AUTH: &[u8] = b"if (&reply:Class == 0x01 && &control:Tmp-Number > 6) {
 \tupdate reply { Session-Timeout := 60 }
 }
 transaction {
@@ -25,8 +25,8 @@ transaction {
 update control { Tmp-Number += 5 }
 ";
 
-// Requests, initial reply and control lists, policies, and the reports, each worked out by hand.
-const RUNS: [(&[u8], &[u8], &[u8], &[u8], &[u8]); 4] = [
+/// Requests, initial reply and control lists, policies, and the reports, each worked out by hand.
+pub const RUNS: [(&[u8], &[u8], &[u8], &[u8], &[u8]); 4] = [
     // Both lists are looked at, and the failed transaction gives them back as they were before it.
     (
         b"User-Name = u",

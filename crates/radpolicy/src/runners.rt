@@ -1,7 +1,8 @@
 //! Runs of one policy, one after another.
 
-ghost use Rattle.std.specs.Prelude.{◌≡◌, true, IfErr, IfOk, None, OnOk, Some};
+ghost use Rattle.std.specs.Prelude.{◌≡◌, true, IfErr, IfOk, IsTrue, None, OnOk, Some};
 ghost use Rattle.avp_dict.specs.Sent.{is_clean};
+ghost use Rattle.avp_unlang.specs.PolicyPatterns.{is_among, policy_patterns_pass};
 ghost use Rattle.radpolicy.specs.Faults.{IsPrintedAnywhere, MemoryOr};
 ghost use Rattle.radpolicy.specs.Replies.{proxy_states};
 ghost use Rattle.radpolicy.specs.RunOutcomes.{OutcomeIsRead, outcome_of};
@@ -97,13 +98,13 @@ impl<'p> Runner<'p> {
     /// ```
     pub fn run<'a>(&mut self, start: Start<'a>) -> Result<RunOutcome<'a>, Fault>
         requires policy { start.prepared.statements ≡ self.old.statements }
-        ensures ok { IfOk result (λ outcome. outcome_of start ≡ Some outcome) }
+        ensures ok { IfOk result (λ outcome. outcome_of start.entry ≡ Some outcome) }
         ensures refused { IfErr result (MemoryOr (λ f. (f ≡ fault.PacketTooLong)
-            × (outcome_of start ≡ None))) }
+            × (outcome_of start.entry ≡ None))) }
         ensures read { OnOk result
-            (is_clean start.reply start.prepared.dictionary ≡ true
-            → is_clean (proxy_states start.request) start.prepared.dictionary ≡ true
-            → OutcomeIsRead start) }
+            (is_clean start.entry.reply start.entry.prepared.dictionary ≡ true
+            → is_clean (proxy_states start.entry.request) start.entry.prepared.dictionary ≡ true
+            → OutcomeIsRead start.entry) }
         ensures printed { IfErr result IsPrintedAnywhere }
         ensures kept { self.new ≡ self.old }
     {

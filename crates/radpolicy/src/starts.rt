@@ -405,8 +405,7 @@ impl<'a> Start<'a> {
         alloc: Global,
         matchers: Matchers<'p>,
     ) -> Result<Ended<'p, SlotStore>, AllocError>
-        requires { IsTrue (policy_patterns_pass (is_among matchers)
-            self.entry.prepared.statements) }
+        requires { IsTrue (policy_patterns_pass (is_among matchers) self.prepared.statements) }
         ensures end { IfOk result (λ ended. end_of self.entry ≡ record {
           state = present (⟦<SlotStore as Store>⟧.history ended.store);
           code = ended.code;
@@ -438,8 +437,7 @@ impl<'a> Start<'a> {
         alloc: Global,
         matchers: Matchers<'p>,
     ) -> Result<(RunOutcome<'a>, Matchers<'p>), Fault>
-        requires { IsTrue (policy_patterns_pass (is_among matchers)
-            self.entry.prepared.statements) }
+        requires { IsTrue (policy_patterns_pass (is_among matchers) self.prepared.statements) }
         ensures ok { IfOk result (λ r. outcome_of self.entry ≡ Some r.0) }
         ensures refused { IfErr result (MemoryOr (λ f. (f ≡ fault.PacketTooLong)
             × (outcome_of self.entry ≡ None))) }

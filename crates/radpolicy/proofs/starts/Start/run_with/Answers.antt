@@ -8,7 +8,7 @@ use Rattle.radpolicy.specs.RunOutcomes.{end_of}
 use Rattle.radpolicy.specs.Starts.{entry_of}
 use Rattle.radpolicy.specs.internal.Fitting.{AllFit}
 use Rattle.radpolicy.proofs.Replying.{sent_read_by}
-use Rattle.radpolicy.proofs.starts.Start.run.Goals as goal
+use Rattle.radpolicy.proofs.starts.Start.run_with.Goals as goal
 
 pub returns-clause-read : goal.returns-clause-read
 returns-clause-read c = λ clean proxies.
