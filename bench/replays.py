@@ -10,7 +10,7 @@ from typing import Dict, Iterator, List, Optional, Sequence
 
 from dictionaries import Set
 from packets import PAP, ROUNDS, SECRET
-from runs import POLICY
+from runs import FILTERING, POLICY
 from timing import Command, Word, in_turn, used
 
 COUNT, PROCESSORS, SPREAD_ROUNDS = 1_000_000, 4, 3
@@ -19,8 +19,8 @@ FEW = COUNT // 20
 PYTHON = "/usr/bin/python3"
 
 
-def words_of(program: Path, dictionaries: Set, folder: Path) -> List[Word]:
-    return [program, "--policy", folder / "policy", "-S", folder / "secret", *dictionaries.files]
+def words_of(program: Path, dictionaries: Set, folder: Path, policy: str = "policy") -> List[Word]:
+    return [program, "--policy", folder / policy, "-S", folder / "secret", *dictionaries.files]
 
 
 def record(number: int) -> bytes:
@@ -31,6 +31,7 @@ def record(number: int) -> bytes:
 def write_files(folder: Path) -> None:
     (folder / "secret").write_bytes(SECRET.encode() + b"\n")
     (folder / "policy").write_bytes(POLICY.encode())
+    (folder / "filtering").write_bytes(FILTERING.encode())
     (folder / "packet").write_bytes(PAP)
     (folder / "records").write_bytes(b"".join(map(record, range(COUNT))))
 
@@ -44,8 +45,12 @@ def seconds_each(words: Sequence[Word], more: Sequence[Word], text: bytes, count
 def show_alone(program: Path, dictionaries: Set, folder: Path, peer: Optional[Path]) -> None:
     """One process, and the library beside it."""
     words = words_of(program, dictionaries, folder)
+    filtering = words_of(program, dictionaries, folder, "filtering")
     text = b"".join(map(record, range(FEW)))
-    works = {"ours": lambda: seconds_each(words, words, text, FEW)}
+    works = {
+        "ours": lambda: seconds_each(words, words, text, FEW),
+        "filtering": lambda: seconds_each(filtering, filtering, text, FEW),
+    }
     if peer:
         library = [peer, "both", dictionaries.folder, SECRET, folder / "packet"]
         works["libfreeradius"] = lambda: seconds_each([*library, "0"], [*library, str(FEW)], b"", FEW)
@@ -53,6 +58,7 @@ def show_alone(program: Path, dictionaries: Set, folder: Path, peer: Optional[Pa
     line = f"Records replayed by {dictionaries.name}: {1 / taken['ours']:,.0f} a second"
     if peer:
         line += f", {taken['libfreeradius'] / taken['ours']:.2f} times libfreeradius's decode and encode alone"
+    line += f"; {1 / taken['filtering']:,.0f} with filter_username in front"
     print(line, flush=True)
 
 

@@ -23,22 +23,39 @@ transaction {
 }
 """
 
+# The same after what each server's default configuration calls first, `filter_username` of FreeRADIUS 3.
+FILTERING = """# profile: wider
+if (&User-Name) {
+	if (&User-Name =~ / /) { reject }
+	if (&User-Name =~ /@[^@]*@/) { reject }
+	if (&User-Name =~ /\\.\\./) { reject }
+	if (&User-Name =~ /@/ && &User-Name !~ /@(.+)\\.(.+)$/) { reject }
+	if (&User-Name =~ /\\.$/) { reject }
+	if (&User-Name =~ /@\\./) { reject }
+}
+""" + POLICY
+
 
 def workers(program: Path, peer: Optional[Path], dictionaries: Set, folder: Path) -> Dict[str, Worker]:
-    files = [folder / name for name in ("packet", "secret", "policy", "reply", "control")]
-    found: Dict[str, Worker] = {"ours": lambda work, count: [program, str(count), *files, *dictionaries.files]}
+    def ours(policy: str) -> Worker:
+        files = [folder / name for name in ("packet", "secret", policy, "reply", "control")]
+        return lambda work, count: [program, str(count), *files, *dictionaries.files]
+
+    found = {"ours": ours("policy"), "filtering": ours("filtering")}
     if peer:
 
         def library(work: str, count: int) -> List[Word]:
-            return [peer, "both", dictionaries.folder, SECRET, files[0], str(count)]
+            return [peer, "both", dictionaries.folder, SECRET, folder / "packet", str(count)]
 
         found["libfreeradius"] = library
     return found
 
 
 def show_runs(program: Path, dictionaries: Set, folder: Path, peer: Optional[Path]) -> None:
-    """Runs a second: a packet is decoded, a policy of fourteen lines is run, and its reply is made."""
-    given = {"packet": PAP, "secret": SECRET.encode(), "policy": POLICY.encode(), "reply": b"", "control": b""}
+    """Runs a second: a packet is decoded, a policy of fourteen lines is run, and its reply is made; and the same with
+    comparisons with regular expressions before it."""
+    policies = {"policy": POLICY.encode(), "filtering": FILTERING.encode()}
+    given = {"packet": PAP, "secret": SECRET.encode(), **policies, "reply": b"", "control": b""}
     for name, octets in given.items():
         (folder / name).write_bytes(octets)
     works: Dict[str, Callable[[], float]] = {}
@@ -50,4 +67,5 @@ def show_runs(program: Path, dictionaries: Set, folder: Path, peer: Optional[Pat
     if peer:
         ratio = taken["libfreeradius"] / taken["ours"]
         line += f", {ratio:.2f} times libfreeradius's decode and encode alone"
+    line += f"; {1 / taken['filtering']:,.0f} with filter_username in front"
     print(line, flush=True)

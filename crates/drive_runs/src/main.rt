@@ -1,13 +1,13 @@
-//! Runs a prepared policy on a packet, as often as it is told, and prints how many runs were refused, by the numbers of
-//! their faults, and the report of the last. The tests run it with allocations refused, and the benchmark measures it.
-//! Its words: how often, the files of the packet's octets, of the secret, of the policy and of the lines of the initial
-//! reply and control lists, and the dictionary files.
+//! Runs a prepared policy on a packet, as often as it is told, by one runner, and prints how many runs were refused, by
+//! the numbers of their faults, and the report of the last. The tests run it with allocations refused, and the
+//! benchmark measures it. Its words: how often, the files of the packet's octets, of the secret, of the policy and of
+//! the lines of the initial reply and control lists, and the dictionary files.
 #![tactic(auto)]
 
 use avp_dict::{Dictionary, FileSet, NamedFile};
 use avp_forms::Profile;
 use avp_lists::Octets;
-use radpolicy::{Fault, PreparedPolicy, RunOutcome, Secret, Start};
+use radpolicy::{Fault, PreparedPolicy, RunOutcome, Runner, Secret, Start};
 use std::alloc::Global;
 use std::{env, fs, io};
 
@@ -33,16 +33,16 @@ struct Given<'a> {
 }
 
 // One run.
-fn run_once<'a>(
+fn run_once<'p: 'a, 'a>(
     alloc: Global,
-    prepared: &'a PreparedPolicy<'a>,
+    runner: &mut Runner<'p>,
     secret: &'a Secret<'a>,
     given: &Given<'_>,
 ) -> Result<RunOutcome<'a>, Fault> {
-    Start::of_packet(alloc, prepared, secret, given.packet)?
+    let start = Start::of_packet(alloc, runner.prepared(), secret, given.packet)?
         .with_reply_lines(alloc, Profile::Plain, None, given.reply)?
-        .with_control_lines(alloc, Profile::Plain, None, given.control)?
-        .run(alloc)
+        .with_control_lines(alloc, Profile::Plain, None, given.control)?;
+    runner.run(start)
 }
 
 // The runs, each by itself: a refused one does not end the others.
@@ -53,10 +53,11 @@ fn run_often<'a>(
     given: &Given<'_>,
     count: u32,
 ) -> io::Result<()> {
+    let mut runner = Runner::new(rt.alloc(), prepared);
     let mut refused: u32 = 0;
     let mut last = Vec::new(rt.alloc());
     for number in 0..count {
-        match run_once(rt.alloc(), prepared, secret, given) {
+        match run_once(rt.alloc(), &mut runner, secret, given) {
             Ok(outcome) if number + 1 == count => last = outcome.text(rt.alloc())?,
             Ok(_) => {}
             Err(fault) => {

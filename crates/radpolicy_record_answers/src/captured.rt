@@ -31,7 +31,7 @@ use avp_packet::{
     ACCESS_ACCEPT, ACCESS_CHALLENGE, ACCESS_REJECT, ACCOUNTING_REQUEST, ACCOUNTING_RESPONSE,
     Packet, decode_reply, decode_reply_unchecked,
 };
-use radpolicy::{Fault, PreparedPolicy, Reply, RunOutcome, Secret};
+use radpolicy::{Fault, Reply, RunOutcome, Runner, Secret};
 use radpolicy_common::SecretValues;
 use radpolicy_traffic_packets::TextFault;
 use std::alloc::{AllocError, Global};
@@ -347,21 +347,22 @@ fn beside_captured(
 
 // The replies to this request, by the secret if one is known.
 #[tactic(auto, using(crate::proofs::Replying::answered_has_head, crate::proofs::Answering::answered_is_over))]
-fn replies_of<'a>(
+fn replies_of<'p: 'a, 'a>(
     alloc: Global,
-    policy: &'a PreparedPolicy<'a>,
+    runner: &mut Runner<'p>,
     secret: Option<&'a Secret<'a>>,
     request: &RecordRequest,
     captured: &CapturedReply,
 ) -> Result<Replies, AllocError>
-    ensures replies { IfOk result (λ replies. replies ≡ replies_of policy.entry.now.dictionary
+    ensures replies { IfOk result (λ replies. replies ≡ replies_of runner.old.dictionary
         (option_copied secret.entry) request.now.octets captured.now
-        (answered_from policy.entry.now (option_copied secret.entry) request.now)) }
-    ensures fit { IfOk result (RepliesFit policy.entry.now.dictionary) }
+        (answered_from runner.old (option_copied secret.entry) request.now)) }
+    ensures fit { IfOk result (RepliesFit runner.old.dictionary) }
+    ensures kept { runner.new ≡ runner.old }
 {
-    match request.answer(alloc, policy, secret) {
+    match request.answer(alloc, runner, secret) {
         Ok(outcome) => {
-            let dictionary = policy.dictionary();
+            let dictionary = runner.prepared().dictionary();
             let octets = request.octets.as_slice();
             beside_captured(alloc, dictionary, secret, octets, &outcome, captured)
         }
@@ -370,20 +371,21 @@ fn replies_of<'a>(
     }
 }
 
-fn replies_with<'a>(
+fn replies_with<'p: 'a, 'a>(
     alloc: Global,
-    policy: &'a PreparedPolicy<'a>,
+    runner: &mut Runner<'p>,
     secret: &'a RecordSecret<'a>,
     request: &RecordRequest,
     captured: &CapturedReply,
 ) -> Result<Replies, AllocError>
-    ensures replies { IfOk result (λ replies. replies ≡ replies_with policy.entry.now
+    ensures replies { IfOk result (λ replies. replies ≡ replies_with runner.old
         secret.entry.now captured.now (Ok request.now)) }
-    ensures fit { IfOk result (RepliesFit policy.entry.now.dictionary) }
+    ensures fit { IfOk result (RepliesFit runner.old.dictionary) }
+    ensures kept { runner.new ≡ runner.old }
 {
     match secret {
-        RecordSecret::Known(secret) => replies_of(alloc, policy, Some(secret), request, captured),
-        RecordSecret::Unknown => replies_of(alloc, policy, None, request, captured),
+        RecordSecret::Known(secret) => replies_of(alloc, runner, Some(secret), request, captured),
+        RecordSecret::Unknown => replies_of(alloc, runner, None, request, captured),
         RecordSecret::Missing => Ok(Replies::Refused(RecordFault::NoClient)),
     }
 }
@@ -391,18 +393,19 @@ fn replies_with<'a>(
 /// The reply that was captured for what a record says, and the policy's own: both are read as [`decode_reply`] reads
 /// them, by the request's authenticator. Where no secret is known, the one that was captured is read as
 /// [`decode_reply_unchecked`] reads it, and the other is the policy's code and list. A record that is refused has none.
-pub fn entry_replies<'a>(
+pub fn entry_replies<'p: 'a, 'a>(
     alloc: Global,
-    policy: &'a PreparedPolicy<'a>,
+    runner: &mut Runner<'p>,
     secret: &'a RecordSecret<'a>,
     entry: &Entry,
 ) -> Result<Replies, AllocError>
-    ensures replies { IfOk result (λ replies. replies ≡ replies_with policy.entry.now
+    ensures replies { IfOk result (λ replies. replies ≡ replies_with runner.old
         secret.entry.now entry.now.reply entry.now.request) }
-    ensures fit { IfOk result (RepliesFit policy.entry.now.dictionary) }
+    ensures fit { IfOk result (RepliesFit runner.old.dictionary) }
+    ensures kept { runner.new ≡ runner.old }
 {
     match &entry.request {
-        Ok(request) => replies_with(alloc, policy, secret, request, &entry.reply),
+        Ok(request) => replies_with(alloc, runner, secret, request, &entry.reply),
         Err(fault) => Ok(Replies::Refused(*fault)),
     }
 }
@@ -410,18 +413,19 @@ pub fn entry_replies<'a>(
 /// The reply that was captured for the record of a line, and the policy's own: both are read as [`decode_reply`] reads
 /// them, by the request's authenticator. Where no secret is known, the one that was captured is read as
 /// [`decode_reply_unchecked`] reads it, and the other is the policy's code and list. A record that is refused has none.
-pub fn replies_to<'a>(
+pub fn replies_to<'p: 'a, 'a>(
     alloc: Global,
-    policy: &'a PreparedPolicy<'a>,
+    runner: &mut Runner<'p>,
     secret: &'a RecordSecret<'a>,
     line: &[u8],
 ) -> Result<Replies, AllocError>
-    ensures replies { IfOk result (λ replies. replies ≡ replies_by policy.entry.now
+    ensures replies { IfOk result (λ replies. replies ≡ replies_by runner.old
         secret.entry.now (reply_word line.now) (request_octets line.now)) }
-    ensures fit { IfOk result (RepliesFit policy.entry.now.dictionary) }
+    ensures fit { IfOk result (RepliesFit runner.old.dictionary) }
+    ensures kept { runner.new ≡ runner.old }
 {
     let entry = entry_of_line(alloc, line)?;
-    entry_replies(alloc, policy, secret, &entry)
+    entry_replies(alloc, runner, secret, &entry)
 }
 
 // ---- the same

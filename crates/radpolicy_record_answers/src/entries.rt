@@ -12,7 +12,7 @@ use crate::captured::{CapturedFault, CapturedReply};
 use crate::records::{line_identifier, octets_of_digits, reply_word, request_octets};
 use crate::requests::{RecordRequest, RecordSecret, answer_by};
 use avp_lists::Octets;
-use radpolicy::{Fault, PreparedPolicy, RunOutcome};
+use radpolicy::{Fault, RunOutcome, Runner};
 use std::alloc::{AllocError, Global};
 
 /// What a record says.
@@ -65,32 +65,34 @@ pub fn entry_of_line(alloc: Global, line: &[u8]) -> Result<Entry, AllocError>
 }
 
 /// What a policy answers to a record.
-pub fn entry_answer<'a>(
+pub fn entry_answer<'p: 'a, 'a>(
     alloc: Global,
-    policy: &'a PreparedPolicy<'a>,
+    runner: &mut Runner<'p>,
     secret: &'a RecordSecret<'a>,
     entry: &Entry,
 ) -> Result<Result<RunOutcome<'a>, RecordFault>, AllocError>
-    ensures { IfOk result (λ answer.
-        answer ≡ answer_by policy.entry.now secret.entry.now entry.now.request) }
+    ensures answer { IfOk result (λ answer.
+        answer ≡ answer_by runner.old secret.entry.now entry.now.request) }
+    ensures kept { runner.new ≡ runner.old }
 {
     match &entry.request {
-        Ok(request) => answer_by(alloc, policy, secret, request),
+        Ok(request) => answer_by(alloc, runner, secret, request),
         Err(fault) => Ok(Err(*fault)),
     }
 }
 
 /// The same, which is over the dictionary of its policy.
-pub fn answer_over<'a>(
+pub fn answer_over<'p: 'a, 'a>(
     alloc: Global,
-    policy: &'a PreparedPolicy<'a>,
+    runner: &mut Runner<'p>,
     secret: &'a RecordSecret<'a>,
     entry: &Entry,
 ) -> Result<Result<RunOutcome<'a>, RecordFault>, AllocError>
     ensures answer { IfOk result (λ answer.
-        answer ≡ answer_by policy.entry.now secret.entry.now entry.now.request) }
-    ensures over { IfOk result (IsOver policy.entry.now.dictionary) }
+        answer ≡ answer_by runner.old secret.entry.now entry.now.request) }
+    ensures over { IfOk result (IsOver runner.old.dictionary) }
+    ensures kept { runner.new ≡ runner.old }
 {
-    let answer = entry_answer(alloc, policy, secret, entry)?;
+    let answer = entry_answer(alloc, runner, secret, entry)?;
     Ok(answer)
 }

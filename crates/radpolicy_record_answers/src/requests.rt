@@ -11,7 +11,7 @@ ghost use Rattle.radpolicy_record_answers.specs.Requests.{answer_by, answered_fr
 
 use crate::answers::RecordFault;
 use avp_lists::{Octets, Pairs};
-use radpolicy::{Fault, PreparedPolicy, RunOutcome, Secret, Start};
+use radpolicy::{Fault, PreparedPolicy, RunOutcome, Runner, Secret, Start};
 use std::alloc::{AllocError, Global};
 
 /// By which secret the packets of a record are read.
@@ -91,6 +91,7 @@ impl RecordRequest {
             started policy.entry.now (option_copied secret.entry) self.now ≡ Ok start) }
         ensures refused { IfErr result (MemoryOr (λ f.
             started policy.entry.now (option_copied secret.entry) self.now ≡ Err f)) }
+        ensures own { IfOk result (λ start. start.prepared ≡ policy.entry.now) }
     {
         let start = packet_start(alloc, policy, secret, self.octets.as_slice())?;
         let reply = self.reply.clone()?;
@@ -101,33 +102,35 @@ impl RecordRequest {
     }
 
     /// What a policy answers to it: the outcome of its run, or why there is none.
-    pub(crate) fn answer<'a>(
+    pub(crate) fn answer<'p: 'a, 'a>(
         &self,
         alloc: Global,
-        policy: &'a PreparedPolicy<'a>,
+        runner: &mut Runner<'p>,
         secret: Option<&'a Secret<'a>>,
     ) -> Result<RunOutcome<'a>, Fault>
         ensures ok { IfOk result (λ outcome.
-            answered_from policy.entry.now (option_copied secret.entry) self.now ≡ Ok outcome) }
+            answered_from runner.old (option_copied secret.entry) self.now ≡ Ok outcome) }
         ensures refused { IfErr result (MemoryOr (λ f.
-            answered_from policy.entry.now (option_copied secret.entry) self.now ≡ Err f)) }
+            answered_from runner.old (option_copied secret.entry) self.now ≡ Err f)) }
+        ensures kept { runner.new ≡ runner.old }
     {
-        let start = self.start(alloc, policy, secret)?;
-        start.run(alloc)
+        let start = self.start(alloc, runner.prepared(), secret)?;
+        runner.run(start)
     }
 }
 
 // What a policy answers to a request by this secret, or without one.
-fn answered_record<'a>(
+fn answered_record<'p: 'a, 'a>(
     alloc: Global,
-    policy: &'a PreparedPolicy<'a>,
+    runner: &mut Runner<'p>,
     secret: Option<&'a Secret<'a>>,
     request: &RecordRequest,
 ) -> Result<Result<RunOutcome<'a>, RecordFault>, AllocError>
-    ensures { IfOk result (λ answer. answer ≡ answered_record
-        (answered_from policy.entry.now (option_copied secret.entry) request.now)) }
+    ensures answer { IfOk result (λ answer. answer ≡ answered_record
+        (answered_from runner.old (option_copied secret.entry) request.now)) }
+    ensures kept { runner.new ≡ runner.old }
 {
-    match request.answer(alloc, policy, secret) {
+    match request.answer(alloc, runner, secret) {
         Ok(outcome) => Ok(Ok(outcome)),
         Err(Fault::Memory) => Err(AllocError),
         Err(fault) => Ok(Err(RecordFault::Request(fault))),
@@ -135,18 +138,19 @@ fn answered_record<'a>(
 }
 
 /// What a policy answers to a request, by the secret if there is one.
-pub(crate) fn answer_by<'a>(
+pub(crate) fn answer_by<'p: 'a, 'a>(
     alloc: Global,
-    policy: &'a PreparedPolicy<'a>,
+    runner: &mut Runner<'p>,
     secret: &'a RecordSecret<'a>,
     request: &RecordRequest,
 ) -> Result<Result<RunOutcome<'a>, RecordFault>, AllocError>
-    ensures { IfOk result (λ answer.
-        answer ≡ answer_by policy.entry.now secret.entry.now (Ok request.now)) }
+    ensures answer { IfOk result (λ answer.
+        answer ≡ answer_by runner.old secret.entry.now (Ok request.now)) }
+    ensures kept { runner.new ≡ runner.old }
 {
     match secret {
-        RecordSecret::Known(secret) => answered_record(alloc, policy, Some(secret), request),
-        RecordSecret::Unknown => answered_record(alloc, policy, None, request),
+        RecordSecret::Known(secret) => answered_record(alloc, runner, Some(secret), request),
+        RecordSecret::Unknown => answered_record(alloc, runner, None, request),
         RecordSecret::Missing => Ok(Err(RecordFault::NoClient)),
     }
 }

@@ -2,12 +2,14 @@
 
 ghost use Rattle.std.specs.Prelude.{◌≡◌, ◌++◌, IfOk, None, OnOk, Some};
 ghost use Rattle.radpolicy_replay_records.specs.JsonEntries.{has_line, is_told, json_line, line_if, verdict_text};
+ghost use Rattle.radpolicy_replay_records.specs.internal.Running.{AreFor, AreOf};
 ghost use Rattle.radpolicy_replay_records.specs.Replays.{compared_members, compared_verdict, entry_json, entry_verdict, members_by, verdict_on};
 ghost use Rattle.radpolicy_record_answers.specs.declared.comparisons.Against.TheVariants.{Captured, Policy};
 
 use crate::json_members::{push_answer_members, push_answers_members, push_replies_members};
 use crate::layouts::without_last;
 use crate::replays::Replay;
+use crate::runners::Runners;
 use radpolicy::PreparedPolicy;
 use radpolicy_record_answers::{
     Against, Comparison, Entry, Printer, RecordSecret, Told, Verdict, answer_over, entry_answer,
@@ -71,15 +73,18 @@ impl<'a> Replay<'a> {
     fn push_members_alone<'b>(
         &'b self,
         text: &mut Vec<u8>,
+        runners: &mut Runners<'a>,
         secret: &'b RecordSecret<'b>,
         entry: &Entry,
     ) -> Result<Verdict, AllocError>
+        requires runners { runners.old.own ≡ self.now.policy.now }
         ensures text { OnOk result (text.new.items
             ≡ text.old.items ++ members_by self.now None secret.now entry.now) }
         ensures verdict { IfOk result (λ verdict.
             verdict ≡ verdict_on self.now None secret.now entry.now) }
+        ensures kept { runners.new ≡ runners.old }
     {
-        let answer = entry_answer(*text.allocator(), self.policy, secret, entry)?;
+        let answer = entry_answer(*text.allocator(), &mut runners.own, secret, entry)?;
         push_answer_members(text, self.policy.dictionary(), self.secrets, &answer)?;
         match answer {
             Ok(_) => Ok(Verdict::Answered),
@@ -90,19 +95,23 @@ impl<'a> Replay<'a> {
     fn push_members_beside_policy<'b>(
         &'b self,
         text: &mut Vec<u8>,
+        runners: &mut Runners<'a>,
         comparison: &'b Comparison<'b>,
         against: &'b PreparedPolicy<'b>,
         secret: &'b RecordSecret<'b>,
         entry: &Entry,
     ) -> Result<Verdict, AllocError>
+        requires runners { (runners.old.own ≡ self.now.policy.now)
+            × (runners.old.beside ≡ against.now) }
         ensures text { OnOk result (text.new.items ≡ text.old.items ++ compared_members self.now
             comparison.now (Policy against.entry) secret.now entry.now) }
         ensures verdict { IfOk result (λ verdict. verdict ≡ compared_verdict self.now
             comparison.now (Policy against.entry) secret.now entry.now) }
+        ensures kept { runners.new ≡ runners.old }
     {
         let alloc = *text.allocator();
-        let old = answer_over(alloc, against, secret, entry)?;
-        let new = answer_over(alloc, self.policy, secret, entry)?;
+        let old = answer_over(alloc, &mut runners.beside, secret, entry)?;
+        let new = answer_over(alloc, &mut runners.own, secret, entry)?;
         let printer = Printer {
             old: against.dictionary(),
             new: self.policy.dictionary(),
@@ -114,16 +123,19 @@ impl<'a> Replay<'a> {
     fn push_members_beside_captured<'b>(
         &'b self,
         text: &mut Vec<u8>,
+        runners: &mut Runners<'a>,
         comparison: &'b Comparison<'b>,
         secret: &'b RecordSecret<'b>,
         entry: &Entry,
     ) -> Result<Verdict, AllocError>
+        requires runners { runners.old.own ≡ self.now.policy.now }
         ensures text { OnOk result (text.new.items ≡ text.old.items
             ++ compared_members self.now comparison.now Captured secret.now entry.now) }
         ensures verdict { IfOk result (λ verdict. verdict
             ≡ compared_verdict self.now comparison.now Captured secret.now entry.now) }
+        ensures kept { runners.new ≡ runners.old }
     {
-        let replies = entry_replies(*text.allocator(), self.policy, secret, entry)?;
+        let replies = entry_replies(*text.allocator(), &mut runners.own, secret, entry)?;
         let dictionary = self.policy.dictionary();
         push_replies_members(comparison, text, dictionary, self.secrets, &replies)
     }
@@ -131,21 +143,24 @@ impl<'a> Replay<'a> {
     fn push_members_compared<'b>(
         &'b self,
         text: &mut Vec<u8>,
+        runners: &mut Runners<'a>,
         comparison: &'b Comparison<'b>,
         secret: &'b RecordSecret<'b>,
         entry: &Entry,
     ) -> Result<Verdict, AllocError>
+        requires runners { AreFor self.now (Some comparison.now) runners.old }
         ensures text { OnOk result (text.new.items ≡ text.old.items
             ++ members_by self.now (Some comparison.now) secret.now entry.now) }
         ensures verdict { IfOk result (λ verdict.
             verdict ≡ verdict_on self.now (Some comparison.now) secret.now entry.now) }
+        ensures kept { runners.new ≡ runners.old }
     {
         match &comparison.against {
             Against::Policy(against) => {
-                self.push_members_beside_policy(text, comparison, *against, secret, entry)
+                self.push_members_beside_policy(text, runners, comparison, *against, secret, entry)
             }
             Against::Captured => {
-                self.push_members_beside_captured(text, comparison, secret, entry)
+                self.push_members_beside_captured(text, runners, comparison, secret, entry)
             }
         }
     }
@@ -155,17 +170,22 @@ impl<'a> Replay<'a> {
     fn push_members<'b>(
         &'b self,
         text: &mut Vec<u8>,
+        runners: &mut Runners<'a>,
         secret: &'b RecordSecret<'b>,
         entry: &Entry,
     ) -> Result<Verdict, AllocError>
+        requires runners { AreOf self.now runners.old }
         ensures text { OnOk result (text.new.items
             ≡ text.old.items ++ members_by self.now self.now.comparison secret.now entry.now) }
         ensures verdict { IfOk result (λ verdict.
             verdict ≡ entry_verdict self.now secret.now entry.now) }
+        ensures kept { runners.new ≡ runners.old }
     {
         match &self.comparison {
-            None => self.push_members_alone(text, secret, entry),
-            Some(comparison) => self.push_members_compared(text, comparison, secret, entry),
+            None => self.push_members_alone(text, runners, secret, entry),
+            Some(comparison) => self.push_members_compared(
+                text, runners, comparison, secret, entry,
+            ),
         }
     }
 
@@ -173,19 +193,22 @@ impl<'a> Replay<'a> {
     pub(crate) fn push_json<'b>(
         &'b self,
         text: &mut Vec<u8>,
+        runners: &mut Runners<'a>,
         number: u64,
         secret: &'b RecordSecret<'b>,
         entry: &Entry,
     ) -> Result<Verdict, AllocError>
+        requires runners { AreOf self.now runners.old }
         ensures text { OnOk result (text.new.items
             ≡ text.old.items ++ entry_json self.now number secret.now entry.now) }
         ensures verdict { IfOk result (λ verdict.
             verdict ≡ entry_verdict self.now secret.now entry.now) }
+        ensures kept { runners.new ≡ runners.old }
     {
         let alloc = *text.allocator();
         let (mut name, mut members) = (Vec::new(alloc), Vec::new(alloc));
         push_name(&mut name, number, entry.identifier.as_slice())?;
-        let verdict = self.push_members(&mut members, secret, entry)?;
+        let verdict = self.push_members(&mut members, runners, secret, entry)?;
         if has_line(&self.comparison, verdict) {
             push_json_line(text, without_last(&name), verdict, &members)?;
         }

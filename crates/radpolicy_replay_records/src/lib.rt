@@ -9,6 +9,7 @@ mod layouts;
 mod line_counts;
 mod lines;
 mod replays;
+mod runners;
 mod summaries;
 
 pub use inputs::{RecordReader, Records};

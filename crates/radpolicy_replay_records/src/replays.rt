@@ -11,11 +11,13 @@ ghost use Rattle.radpolicy_record_answers.specs.TextEntries.{IsEntryOf};
 ghost use Rattle.radpolicy_replay_records.specs.TextReplays.{IsRecordsReason, IsReplayed, IsReplayedFront, text_secret};
 ghost use Rattle.radpolicy_record_answers.specs.declared.comparisons.Against.TheVariants.{Captured, Policy};
 ghost use Rattle.radpolicy_replay_records.specs.declared.replays.ReplayFault.TheVariants.{Input as NotRead, Memory as OutOfMemory, Output as NotWritten};
+ghost use Rattle.radpolicy_replay_records.specs.internal.Running.{AreFor, AreOf};
 ghost use Rattle.radpolicy_replay_records.specs.internal.Positions.{CountsWithin, HasNoEnd, IsEntryReason, IsLineReason, IsOctetsReason, Writes, WritesFront, line_counted, line_text};
 
 use crate::inputs::Records;
 use crate::layouts::{Layout, has_passed, without_last};
 use crate::lines::{first_line_end, is_record, keep};
+use crate::runners::Runners;
 use crate::summaries::Summary;
 use radpolicy::{PreparedPolicy, Secret};
 use radpolicy_changing_lines::PolicyLine;
@@ -194,16 +196,19 @@ impl<'a> Replay<'a> {
     fn push_answer<'b>(
         &'b self,
         text: &mut Vec<u8>,
+        runners: &mut Runners<'a>,
         secret: &'b RecordSecret<'b>,
         entry: &Entry,
     ) -> Result<Verdict, AllocError>
+        requires runners { runners.old.own ≡ self.now.policy.now }
         ensures text { OnOk result (text.new.items ≡ text.old.items
             ++ answer_shown self.now.policy.now.dictionary self.now.secrets
             (answer_by self.now.policy.now secret.now entry.now.request)) }
         ensures verdict { IfOk result (λ verdict. verdict
             ≡ verdict_by (answer_by self.now.policy.now secret.now entry.now.request)) }
+        ensures kept { runners.new ≡ runners.old }
     {
-        match entry_answer(*text.allocator(), self.policy, secret, entry)? {
+        match entry_answer(*text.allocator(), &mut runners.own, secret, entry)? {
             Ok(outcome) => {
                 push_outcome(text, self.policy.dictionary(), self.secrets, &outcome)?;
                 Ok(Verdict::Answered)
@@ -219,17 +224,20 @@ impl<'a> Replay<'a> {
     fn push_answered<'b>(
         &'b self,
         text: &mut Vec<u8>,
+        runners: &mut Runners<'a>,
         number: u64,
         secret: &'b RecordSecret<'b>,
         entry: &Entry,
     ) -> Result<Verdict, AllocError>
+        requires runners { runners.old.own ≡ self.now.policy.now }
         ensures text { OnOk result (text.new.items
             ≡ text.old.items ++ text_by self.now None number secret.now entry.now) }
         ensures verdict { IfOk result (λ verdict.
             verdict ≡ verdict_on self.now None secret.now entry.now) }
+        ensures kept { runners.new ≡ runners.old }
     {
         push_name(text, number, entry.identifier.as_slice())?;
-        let verdict = self.push_answer(text, secret, entry)?;
+        let verdict = self.push_answer(text, runners, secret, entry)?;
         text.extend_from_slice(b"\n")?;
         Ok(verdict)
     }
@@ -238,22 +246,26 @@ impl<'a> Replay<'a> {
     fn push_beside_policy<'b>(
         &'b self,
         text: &mut Vec<u8>,
+        runners: &mut Runners<'a>,
         comparison: &'b Comparison<'b>,
         against: &'b PreparedPolicy<'b>,
         number: u64,
         secret: &'b RecordSecret<'b>,
         entry: &Entry,
     ) -> Result<Verdict, AllocError>
+        requires runners { (runners.old.own ≡ self.now.policy.now)
+            × (runners.old.beside ≡ against.now) }
         ensures text { OnOk result (text.new.items ≡ text.old.items ++ compared_text self.now
             comparison.now (Policy against.entry) number secret.now entry.now) }
         ensures verdict { IfOk result (λ verdict. verdict ≡ compared_verdict self.now
             comparison.now (Policy against.entry) secret.now entry.now) }
+        ensures kept { runners.new ≡ runners.old }
     {
         let alloc = *text.allocator();
         let mut name = Vec::new(alloc);
         push_name(&mut name, number, entry.identifier.as_slice())?;
-        let old = answer_over(alloc, against, secret, entry)?;
-        let new = answer_over(alloc, self.policy, secret, entry)?;
+        let old = answer_over(alloc, &mut runners.beside, secret, entry)?;
+        let new = answer_over(alloc, &mut runners.own, secret, entry)?;
         let printer = Printer {
             old: against.dictionary(),
             new: self.policy.dictionary(),
@@ -266,20 +278,23 @@ impl<'a> Replay<'a> {
     fn push_beside_captured<'b>(
         &'b self,
         text: &mut Vec<u8>,
+        runners: &mut Runners<'a>,
         comparison: &'b Comparison<'b>,
         number: u64,
         secret: &'b RecordSecret<'b>,
         entry: &Entry,
     ) -> Result<Verdict, AllocError>
+        requires runners { runners.old.own ≡ self.now.policy.now }
         ensures text { OnOk result (text.new.items ≡ text.old.items
             ++ compared_text self.now comparison.now Captured number secret.now entry.now) }
         ensures verdict { IfOk result (λ verdict. verdict
             ≡ compared_verdict self.now comparison.now Captured secret.now entry.now) }
+        ensures kept { runners.new ≡ runners.old }
     {
         let alloc = *text.allocator();
         let mut name = Vec::new(alloc);
         push_name(&mut name, number, entry.identifier.as_slice())?;
-        let replies = entry_replies(alloc, self.policy, secret, entry)?;
+        let replies = entry_replies(alloc, &mut runners.own, secret, entry)?;
         let dictionary = self.policy.dictionary();
         comparison.push_replies(text, dictionary, self.secrets, &name, &replies)
     }
@@ -288,22 +303,25 @@ impl<'a> Replay<'a> {
     fn push_compared<'b>(
         &'b self,
         text: &mut Vec<u8>,
+        runners: &mut Runners<'a>,
         comparison: &'b Comparison<'b>,
         number: u64,
         secret: &'b RecordSecret<'b>,
         entry: &Entry,
     ) -> Result<Verdict, AllocError>
+        requires runners { AreFor self.now (Some comparison.now) runners.old }
         ensures text { OnOk result (text.new.items ≡ text.old.items
             ++ text_by self.now (Some comparison.now) number secret.now entry.now) }
         ensures verdict { IfOk result (λ verdict.
             verdict ≡ verdict_on self.now (Some comparison.now) secret.now entry.now) }
+        ensures kept { runners.new ≡ runners.old }
     {
         match &comparison.against {
             Against::Policy(against) => {
-                self.push_beside_policy(text, comparison, *against, number, secret, entry)
+                self.push_beside_policy(text, runners, comparison, *against, number, secret, entry)
             }
             Against::Captured => {
-                self.push_beside_captured(text, comparison, number, secret, entry)
+                self.push_beside_captured(text, runners, comparison, number, secret, entry)
             }
         }
     }
@@ -313,18 +331,23 @@ impl<'a> Replay<'a> {
     fn push_plain<'b>(
         &'b self,
         text: &mut Vec<u8>,
+        runners: &mut Runners<'a>,
         number: u64,
         secret: &'b RecordSecret<'b>,
         entry: &Entry,
     ) -> Result<Verdict, AllocError>
+        requires runners { AreOf self.now runners.old }
         ensures text { OnOk result (text.new.items
             ≡ text.old.items ++ text_by self.now self.now.comparison number secret.now entry.now) }
         ensures verdict { IfOk result (λ verdict.
             verdict ≡ entry_verdict self.now secret.now entry.now) }
+        ensures kept { runners.new ≡ runners.old }
     {
         match &self.comparison {
-            None => self.push_answered(text, number, secret, entry),
-            Some(comparison) => self.push_compared(text, comparison, number, secret, entry),
+            None => self.push_answered(text, runners, number, secret, entry),
+            Some(comparison) => self.push_compared(
+                text, runners, comparison, number, secret, entry,
+            ),
         }
     }
 
@@ -332,20 +355,23 @@ impl<'a> Replay<'a> {
     fn push_test<'b>(
         &'b self,
         text: &mut Vec<u8>,
+        runners: &mut Runners<'a>,
         strict: bool,
         number: u64,
         secret: &'b RecordSecret<'b>,
         entry: &Entry,
     ) -> Result<Verdict, AllocError>
+        requires runners { AreOf self.now runners.old }
         ensures text { OnOk result (text.new.items
             ≡ text.old.items ++ test_of self.now strict number secret.now entry.now) }
         ensures verdict { IfOk result (λ verdict.
             verdict ≡ entry_verdict self.now secret.now entry.now) }
+        ensures kept { runners.new ≡ runners.old }
     {
         let alloc = *text.allocator();
         let (mut name, mut told) = (Vec::new(alloc), Vec::new(alloc));
         push_name(&mut name, number, entry.identifier.as_slice())?;
-        let verdict = self.push_plain(&mut told, number, secret, entry)?;
+        let verdict = self.push_plain(&mut told, runners, number, secret, entry)?;
         push_test(
             text,
             has_passed(strict, verdict),
@@ -361,20 +387,23 @@ impl<'a> Replay<'a> {
     fn push_entry<'b>(
         &'b self,
         text: &mut Vec<u8>,
+        runners: &mut Runners<'a>,
         number: u64,
         secret: &'b RecordSecret<'b>,
         entry: &Entry,
     ) -> Result<Verdict, AllocError>
+        requires runners { AreOf self.now runners.old }
         ensures text { OnOk result (text.new.items
             ≡ text.old.items ++ entry_text self.now number secret.now entry.now) }
         ensures verdict { IfOk result (λ verdict.
             verdict ≡ entry_verdict self.now secret.now entry.now) }
+        ensures kept { runners.new ≡ runners.old }
     {
         match self.layout {
-            Layout::Plain => self.push_plain(text, number, secret, entry),
-            Layout::Tests => self.push_test(text, false, number, secret, entry),
-            Layout::StrictTests => self.push_test(text, true, number, secret, entry),
-            Layout::Json => self.push_json(text, number, secret, entry),
+            Layout::Plain => self.push_plain(text, runners, number, secret, entry),
+            Layout::Tests => self.push_test(text, runners, false, number, secret, entry),
+            Layout::StrictTests => self.push_test(text, runners, true, number, secret, entry),
+            Layout::Json => self.push_json(text, runners, number, secret, entry),
         }
     }
 
@@ -399,15 +428,18 @@ impl<'a> Replay<'a> {
     fn lines_beside_captured<'b>(
         &'b self,
         alloc: Global,
+        runners: &mut Runners<'a>,
         comparison: &'b Comparison<'b>,
         secret: &'b RecordSecret<'b>,
         entry: &Entry,
     ) -> Result<Vec<PolicyLine>, AllocError>
-        ensures { IfOk result (λ lines. lines.items
+        requires runners { runners.old.own ≡ self.now.policy.now }
+        ensures lines { IfOk result (λ lines. lines.items
             ≡ compared_lines self.now comparison.now Captured secret.now entry.now) }
+        ensures kept { runners.new ≡ runners.old }
     {
         let new = run_of(alloc, self.policy, secret, entry)?;
-        let replies = entry_replies(alloc, self.policy, secret, entry)?;
+        let replies = entry_replies(alloc, &mut runners.own, secret, entry)?;
         comparison.lines_alone(alloc, new, &replies)
     }
 
@@ -415,18 +447,23 @@ impl<'a> Replay<'a> {
     fn compared_lines<'b>(
         &'b self,
         alloc: Global,
+        runners: &mut Runners<'a>,
         comparison: &'b Comparison<'b>,
         secret: &'b RecordSecret<'b>,
         entry: &Entry,
     ) -> Result<Vec<PolicyLine>, AllocError>
-        ensures { IfOk result (λ lines. lines.items
+        requires runners { runners.old.own ≡ self.now.policy.now }
+        ensures lines { IfOk result (λ lines. lines.items
             ≡ lines_on self.now (Some comparison.now) secret.now entry.now) }
+        ensures kept { runners.new ≡ runners.old }
     {
         match &comparison.against {
             Against::Policy(against) => {
                 self.lines_beside_policy(alloc, comparison, *against, secret, entry)
             }
-            Against::Captured => self.lines_beside_captured(alloc, comparison, secret, entry),
+            Against::Captured => self.lines_beside_captured(
+                alloc, runners, comparison, secret, entry,
+            ),
         }
     }
 
@@ -434,16 +471,19 @@ impl<'a> Replay<'a> {
     fn entry_lines<'b>(
         &'b self,
         alloc: Global,
+        runners: &mut Runners<'a>,
         verdict: Verdict,
         secret: &'b RecordSecret<'b>,
         entry: &Entry,
     ) -> Result<Vec<PolicyLine>, AllocError>
-        ensures { IfOk result (λ lines. lines.items
+        requires runners { runners.old.own ≡ self.now.policy.now }
+        ensures lines { IfOk result (λ lines. lines.items
             ≡ lines_if verdict (lines_on self.now self.now.comparison secret.now entry.now)) }
+        ensures kept { runners.new ≡ runners.old }
     {
         match (verdict, &self.comparison) {
             (Verdict::Different, Some(comparison)) => {
-                self.compared_lines(alloc, comparison, secret, entry)
+                self.compared_lines(alloc, runners, comparison, secret, entry)
             }
             _ => Ok(Vec::new(alloc)),
         }
@@ -454,21 +494,24 @@ impl<'a> Replay<'a> {
     fn push_counted<'b>(
         &'b self,
         text: &mut Vec<u8>,
+        runners: &mut Runners<'a>,
         secret: &'b RecordSecret<'b>,
         entry: &Entry,
         number: u64,
         summary: Summary,
     ) -> Result<Summary, AllocError>
+        requires runners { AreOf self.now runners.old }
         requires room { summary.read + 1 < 2 ^ 64 }
         requires within { CountsWithin summary }
         ensures text { OnOk result (text.new.items
             ≡ text.old.items ++ entry_text self.now number secret.now entry.now) }
         ensures summary { IfOk result (λ after.
             after ≡ entry_counted self.now summary secret.now entry.now) }
+        ensures kept { runners.new ≡ runners.old }
     {
         let alloc = *text.allocator();
-        let verdict = self.push_entry(text, number, secret, entry)?;
-        let lines = self.entry_lines(alloc, verdict, secret, entry)?;
+        let verdict = self.push_entry(text, runners, number, secret, entry)?;
+        let lines = self.entry_lines(alloc, runners, verdict, secret, entry)?;
         summary.counted_with(verdict, &lines)
     }
 
@@ -476,12 +519,14 @@ impl<'a> Replay<'a> {
     fn tell_entry<'b, W: Write>(
         &'b self,
         alloc: Global,
+        runners: &mut Runners<'a>,
         secret: &'b RecordSecret<'b>,
         entry: &Entry,
         summary: Summary,
         out: &mut W,
     ) -> Result<Summary, ReplayFault>
-        requires { CountsWithin summary }
+        requires runners { AreOf self.now runners.old }
+        requires within { CountsWithin summary }
         ensures text { OnOk result (Appends (W.contents out.old) (W.contents out.new)
             (entry_text self.now (summary.read + 1) secret.now entry.now)) }
         ensures summary { IfOk result (λ after.
@@ -489,12 +534,13 @@ impl<'a> Replay<'a> {
         ensures front { OnErr result (AppendsFront (W.contents out.old) (W.contents out.new)
             (entry_text self.now (summary.read + 1) secret.now entry.now)) }
         ensures reason { IfErr result (IsEntryReason summary) }
+        ensures kept { runners.new ≡ runners.old }
     {
         let Some(number) = summary.read.checked_add(1) else {
             return Err(ReplayFault::TooManyRecords);
         };
         let mut text = Vec::new(alloc);
-        let after = self.push_counted(&mut text, secret, entry, number, summary)?;
+        let after = self.push_counted(&mut text, runners, secret, entry, number, summary)?;
         write_text(out, &text)?;
         Ok(after)
     }
@@ -504,11 +550,13 @@ impl<'a> Replay<'a> {
     fn tell<W: Write>(
         &self,
         alloc: Global,
+        runners: &mut Runners<'a>,
         line: &[u8],
         summary: Summary,
         out: &mut W,
     ) -> Result<Summary, ReplayFault>
-        requires { CountsWithin summary }
+        requires runners { AreOf self.now runners.old }
+        requires within { CountsWithin summary }
         ensures text { OnOk result (Appends (W.contents out.old) (W.contents out.new)
             (line_text self.now summary line.now)) }
         ensures summary { IfOk result (λ after.
@@ -516,23 +564,26 @@ impl<'a> Replay<'a> {
         ensures front { OnErr result (AppendsFront (W.contents out.old) (W.contents out.new)
             (line_text self.now summary line.now)) }
         ensures reason { IfErr result (IsLineReason summary line.now) }
+        ensures kept { runners.new ≡ runners.old }
     {
         if !is_record(line) {
             return Ok(summary);
         }
         let secret = self.shared.of_record(alloc, line)?;
         let entry = entry_of_line(alloc, line)?;
-        (&*self).tell_entry(alloc, &secret, &entry, summary, out)
+        (&*self).tell_entry(alloc, runners, &secret, &entry, summary, out)
     }
 
     // Writes what is to be said of each line that ends in the block, and keeps the line that does not.
     fn tell_block<W: Write>(
         &self,
+        runners: &mut Runners<'a>,
         line: &mut Vec<u8>,
         block: &[u8],
         summary: Summary,
         out: &mut W,
     ) -> Result<Summary, ReplayFault>
+        requires runners { AreOf self.now runners.old }
         requires no_end { HasNoEnd line.old.items }
         requires short { length line.old.items ≤ MAX_LINE_OCTETS + 1 }
         requires within { CountsWithin summary }
@@ -546,13 +597,14 @@ impl<'a> Replay<'a> {
             (W.contents out.old) (W.contents out.new)) }
         ensures reason { IfErr result
             (IsOctetsReason self.now summary (line.old.items ++ block.now)) }
+        ensures kept { runners.new ≡ runners.old }
     {
         let alloc = *line.allocator();
         let mut after = summary;
         let mut rest = block;
         while let Some((end, later)) = first_line_end(rest) {
             keep(line, end)?;
-            after = self.tell(alloc, line, after, out)?;
+            after = self.tell(alloc, runners, line, after, out)?;
             line.clear();
             rest = later;
         }
@@ -589,15 +641,16 @@ impl<'a> Replay<'a> {
     {
         let mut block = new_block(alloc)?;
         let mut line = Vec::new(alloc);
+        let mut runners = Runners::of(alloc, self);
         let mut summary = Summary::new(alloc);
         for _ in 0..u64::MAX {
             let count = read_block(input, &mut block)?;
             if count == 0 {
-                summary = self.tell(alloc, &line, summary, out)?;
+                summary = self.tell(alloc, &mut runners, &line, summary, out)?;
                 flush(out)?;
                 return Ok(summary);
             }
-            summary = self.tell_block(&mut line, &block[..count], summary, out)?;
+            summary = self.tell_block(&mut runners, &mut line, &block[..count], summary, out)?;
             flush(out)?;
         }
         Err(ReplayFault::Input)
@@ -623,6 +676,7 @@ impl<'a> Replay<'a> {
             IsRecordsReason self.now zone all (R.remaining records.new) (W.contents out.old)
             (W.contents out.new) fault)) }
     {
+        let mut runners = Runners::of(alloc, self);
         let mut summary = Summary::new(alloc);
         for _ in 0..u64::MAX {
             let Some(record) = records.next_record()? else {
@@ -632,7 +686,7 @@ impl<'a> Replay<'a> {
             let dictionary = self.policy.dictionary();
             let entry = entry_of_record(alloc, dictionary, zone, &secret, &record)?;
             let read_by = RecordSecret::or_missing(secret);
-            summary = (&*self).tell_entry(alloc, &read_by, &entry, summary, out)?;
+            summary = (&*self).tell_entry(alloc, &mut runners, &read_by, &entry, summary, out)?;
             flush(out)?;
         }
         Err(ReplayFault::Input)

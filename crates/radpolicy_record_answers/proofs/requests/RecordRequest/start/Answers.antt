@@ -1,6 +1,7 @@
-use Rattle.std.proofs.Common.{◌≡◌, inr, rules}
+use Rattle.std.proofs.Common.{◌≡◌, ◌∙◌, ap, inr, rules}
 use Rattle.std.specs.Option.{option_copied}
 use Rattle.std.proofs.lemmas.Result.{err_from_is_err_and}
+use Rattle.radpolicy.specs.Starts.{Start}
 use Rattle.radpolicy_record_answers.proofs.RequestStarts.{both_taken, control_refused, packet_read, packet_unread, reply_refused}
 use Rattle.radpolicy_record_answers.proofs.requests.RecordRequest.start.Goals as goal
 
@@ -33,3 +34,7 @@ returns-clause-ok c =
     both_taken c.args.policy.now (option_copied c.args.secret) c.args.self.now c.in_ok-start.start c.in_ok-replying.replying c.in_ok-begun.begun c.in_ok-reply.reply c.in_ok-control.control
     (packet_read c.args.policy.now (option_copied c.args.secret) c.args.self.now c.as_slice.result.now c.in_ok-start.start.request c.as_slice.ensures c.in_ok-start.ensures.read)
     c.in_ok-start.ensures.start copied copied_too c.in_ok-replying.ensures.fits c.in_ok-replying.ensures.start c.in_ok-begun.ensures.fits c.in_ok-begun.ensures.start
+
+pub returns-clause-own : goal.returns-clause-own
+returns-clause-own c =
+    ap (λ (s : Start). s.prepared) c.in_ok-begun.ensures.start ∙ ap (λ (s : Start). s.prepared) c.in_ok-replying.ensures.start ∙ ap (λ (s : Start). s.prepared) c.in_ok-start.ensures.start

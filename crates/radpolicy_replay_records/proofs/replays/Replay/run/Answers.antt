@@ -2,6 +2,7 @@ use Rattle.std.proofs.Common.{◌≡◌, ◌++◌, ℕ, List, [], sym, ap, subst
 use Rattle.std.specs.Io.KnownBytes.{Appends}
 use Rattle.std.proofs.lemmas.List.Elements.{All-nil}
 use Rattle.radpolicy_replay_records.specs.internal.Positions.{CountsWithin, HasNoEnd, IsLineReason, IsOctetsReason, Writes, WritesFront, line_counted, line_text}
+use Rattle.radpolicy_replay_records.specs.internal.Running.{AreOf}
 use Rattle.std.proofs.KnownBytes.{Keeps-refl}
 use Rattle.std.proofs.lemmas.Result.{err_from_is_err_and}
 use Rattle.radpolicy_replay_records.specs.Replays.{AppendsFront, replayed_text}
@@ -15,6 +16,7 @@ none_taken count octets none = ap (λ n. take n octets) none
 
 pub loop-init : goal.loop-init
 loop-init g c = record {
+  runners = c.of-runners.ensures;
   room = search rules;
   no_end = subst HasNoEnd (sym c.new-line.ensures.items) (All-nil NoEnd);
   short = rw c.new-line.ensures.items (omega arith);
@@ -53,6 +55,7 @@ loop-preserved g c =
     let told : Writes c.args.self.now c.loop.summary (c.loop.line.items ++ take c.in_ok-count.count c.read_block.new.block.items) c.in_ok-summary-2.summary c.tell_block.new.line.items (g.W.Write.contents c.loop.out) (g.W.Write.contents c.tell_block.new.out) =
     rw c.deref-in-loop.ensures.value at c.in_ok-summary-2.ensures.told in
     record {
+      runners = subst (AreOf c.args.self.now) (sym c.tell_block.ensures.kept) c.loop.invariant.runners;
       room = c.in_ok-count.ensures.room;
       no_end = c.in_ok-summary-2.ensures.no_end;
       short = c.in_ok-summary-2.ensures.short;

@@ -5,6 +5,7 @@ use Rattle.radpolicy_replay_records.specs.Replays.{AppendsFront, entry_counted, 
 use Rattle.radpolicy_record_answers.specs.TextEntries.{IsEntryOf}
 use Rattle.radpolicy_replay_records.specs.TextReplays.{Gives, lines_secret, text_secret}
 use Rattle.radpolicy_replay_records.specs.internal.Positions.{CountsWithin}
+use Rattle.radpolicy_replay_records.specs.internal.Running.{AreOf}
 use Rattle.radpolicy_replay_records.proofs.Progress.{counted_within}
 use Rattle.radpolicy_replay_records.proofs.Telling.{broken_front, entry_reason, told_front, told_further}
 use Rattle.radpolicy_replay_records.proofs.replays.Replay.run_records.Goals as goal
@@ -60,6 +61,7 @@ loop-preserved g c =
     let counts : c.in_ok-summary.summary ≡ entry_counted c.args.self.now c.loop.summary (lines_secret c.args.self.now.shared c.in-Some.record) c.in_ok-entry.entry =
     rw (c.or_missing-read_by.ensures, c.of_text-secret.ensures) at c.in_ok-summary.ensures.summary in
     record {
+      runners = subst (AreOf c.args.self.now) (sym c.tell_entry.ensures.kept) c.loop.invariant.runners;
       within = subst CountsWithin (sym counts) (counted_within c.loop.summary (entry_verdict c.args.self.now (lines_secret c.args.self.now.shared c.in-Some.record) c.in_ok-entry.entry)
           (entry_lines c.args.self.now (lines_secret c.args.self.now.shared c.in-Some.record) c.in_ok-entry.entry) c.loop.invariant.within);
       so_far = told_further c.args.self.now c.args.zone c.loop.summary c.in_ok-summary.summary c.in-Some.record c.in_ok-entry.entry

@@ -1,4 +1,4 @@
-use Rattle.std.proofs.Common.{◌≡◌, ◌++◌, ◌∷◌, [], sym, subst, arith, rules}
+use Rattle.std.proofs.Common.{◌≡◌, ◌∙◌, ◌++◌, ◌∷◌, [], sym, subst, arith, rules}
 use Rattle.std.specs.List.{slice_split}
 use Rattle.std.specs.Io.KnownBytes.{Appends}
 use Rattle.std.proofs.lemmas.List.Elements.{All-nil}
@@ -20,6 +20,7 @@ loop-end-preserved g c =
     let counts : c.in_ok-after.after ≡ line_counted c.args.self.now c.loop-end.after c.keep.new.line.items =
     rw c.deref.ensures.value at c.in_ok-after.ensures.summary in
     record {
+      runners = c.tell.ensures.kept ∙ c.loop-end.invariant.runners;
       no_end = subst HasNoEnd (sym c.clear.ensures.items) (All-nil NoEnd);
       short = rw c.clear.ensures.items (omega arith);
       within = subst CountsWithin (sym counts) (line_counted_within c.args.self.now c.loop-end.after c.keep.new.line.items c.loop-end.invariant.within);
