@@ -127,8 +127,8 @@ uint8_t radpolicy_dictionary_open(struct radpolicy_dictionary *dictionary, const
  * may be closed at once, or serve more policies. The policy is closed by radpolicy_close.
  *
  * RADPOLICY_DONE, RADPOLICY_REFUSED, RADPOLICY_NO_MEMORY, RADPOLICY_TOO_SHORT (it is refused, and the room is too short
- * for the line), RADPOLICY_IS_CLOSED (the dictionary's handle holds none), RADPOLICY_IS_OPEN (the policy's handle holds
- * a policy already, and keeps it). */
+ * for the line), RADPOLICY_IS_CLOSED (the dictionary's handle holds none, whatever the policy's handle holds),
+ * RADPOLICY_IS_OPEN (the policy's handle holds a policy already). A handle that holds a policy keeps it. */
 uint8_t radpolicy_policy_open(struct radpolicy_policy *policy, struct radpolicy_dictionary *dictionary,
                               const uint8_t *text, size_t text_length, uint8_t *room, size_t room_length,
                               size_t *line_length);
