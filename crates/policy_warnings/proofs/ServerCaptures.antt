@@ -1,4 +1,4 @@
--- Where a condition overlooks no absence, a server takes its branch where it is true, whatever was captured before it.
+-- Where a condition overlooks no absence, a server with the same captures takes its branch where it is true.
 use Rattle.std.proofs.Common.{◌≡◌, Bool, true, false, not, ◌&&◌, ◌||◌, List, [], ◌∷◌, ◌++◌, Some, None, refl, sym, ap, ◌∙◌, map, subst, append_assoc, append-nil, is_some, cond, length}
 use Rattle.std.specs.Prelude.{nat_lt}
 use Rattle.std.specs.Option.{option_map}

@@ -26,7 +26,7 @@ pub record Answered : Type 0 where
 abbrev pub Answering : Type 0
 Answering = State → Code → Captures → Answered
 
--- nothing was captured anew
+-- an answer, with what was captured before it
 abbrev pub answered : Answer → Captures → Answered
 answered answer captures = record { answer = answer; captures = captures }
 
@@ -78,7 +78,7 @@ server_evaluated dictionary = fold-Cond Answering (cond_answered dictionary)
 
 -- ---- where both come to the same
 
--- whatever was captured before it, a server takes the branch of the condition exactly where it is true
+-- by the same state, code and captures, a server takes the branch of the condition exactly where it is true
 abbrev pub TakesAlike : Cond → Type 0
 TakesAlike cond =
     (d : Dictionary) (s : State) (c : Code) (captures : Captures)

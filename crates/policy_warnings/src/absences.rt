@@ -244,8 +244,8 @@ fn is_overlooked(part: &Cond, whole: &Cond) -> bool
 }
 
 /// Whether a condition compares an attribute that may be absent where that matters: a server ends the whole condition
-/// there, as false. Without a warning a server takes the branch in the same states, after the same codes and whatever was
-/// captured before.
+/// there, as false. Without a warning a server takes the branch in the same states, after the same codes and with the
+/// same captures. Where a server ends the condition it may have captured less, of which this does not warn.
 pub fn warns_of_absence(cond: &Cond) -> bool
     ensures definition { result ≡ warns_of_absence cond.now }
     ensures agrees { result ≡ false
