@@ -28,6 +28,12 @@ class Ended:
     timed_out: bool = False
 
 
+def forget_wishes() -> None:
+    """Has the programs write no help, whatever the caller wishes."""
+    for name in ("RADPOLICY_HELP", "NO_COLOR"):
+        os.environ.pop(name, None)
+
+
 def in_memory(octets: bytes) -> int:
     """A descriptor of a file in memory with these octets, at its start."""
     file = os.memfd_create("tests")
