@@ -12,6 +12,7 @@ mod colours;
 mod command_lines;
 mod contexts;
 mod dictionaries;
+mod dictionary_lines;
 mod explanations;
 mod groupings;
 mod names;
