@@ -24,7 +24,7 @@ use avp_unlang::Items;
 use radpolicy::{Fault, status};
 use radpolicy_common::{read_dictionary_set, refuse, refuse_early};
 use radpolicy_help::{Sources, refuse_explained, refuse_unread_explained, refuse_words_of};
-use radpolicy_import_conditions::OtherAttribute;
+use radpolicy_import_conditions::{KnownCodes, OtherAttribute};
 use radpolicy_import_policies::{
     ImportFault, Imported, Module, Settings, Statement, Wanted, add_initial, import_statements,
     initial_template, keeps_names, origin_map, other_attributes, other_dictionary, policy_of,
@@ -62,6 +62,15 @@ fn place_of(configuration: &Configuration, plan: &Plan<'_>) -> Option<Option<usi
         None if plan.section.is_none() && plan.server.is_none() => Some(None),
         None => None,
     }
+}
+
+// What is known of the server's codes where the section begins: nothing of a named policy or a part of a section.
+fn first_codes(plan: &Plan<'_>, configuration: &Configuration) -> KnownCodes {
+    let wanted = wanted(plan);
+    if plan.policy.is_some() || section_of(configuration, wanted).is_none() {
+        return KnownCodes::unknown();
+    }
+    KnownCodes::of_section(wanted.section)
 }
 
 fn fault_of_import(fault: ImportFault) -> Fault
@@ -114,6 +123,7 @@ fn imported(
         profile: import.plan.profile,
         modules: import.modules,
         others,
+        codes: first_codes(import.plan, import.configuration),
         initial: import.initial,
     };
     match import_statements(alloc, configuration, dictionary, settings, statements) {

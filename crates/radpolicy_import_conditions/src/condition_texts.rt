@@ -5,11 +5,12 @@ ghost use Rattle.std.specs.Prelude.{◌≤◌, length};
 use crate::patterns::{WrittenPattern, flagged, match_sign, pattern_text};
 use crate::reasons::{Reason, Refusal};
 use crate::references::{Names, Reference, has_texts, is_number, kind_of, reference_of};
+use crate::server_codes::{KnownCodes, ServerCode};
 use crate::server_conditions::ServerCondition;
 use crate::texts::{has_expansion, sole_capture, sole_expansion, text_octets};
 use avp_dict::Kind;
 use avp_lists::{Octets, Selection};
-use avp_unlang::{Code, Comparand, Comparison, Matching, Relation};
+use avp_unlang::{Comparand, Comparison, Matching, Relation};
 use server_configuration::Quote;
 use std::alloc::Global;
 
@@ -39,8 +40,7 @@ const EMPTY: Operand<'static> = Operand {
 pub struct ConditionReader<'a> {
     pub alloc: Global,
     pub names: Names<'a>,
-    /// Whether the last code is known.
-    pub knows_code: bool,
+    pub codes: KnownCodes,
     /// Whether comparisons with regular expressions are taken, and what they capture.
     pub takes_patterns: bool,
 }
@@ -168,19 +168,6 @@ fn meets_empty(relation: Relation, text: &[u8]) -> bool {
         Relation::Differs | Relation::Less => !text.is_empty(),
         Relation::AtMost => true,
         Relation::Greater => false,
-    }
-}
-
-// The code of a word, unless policies do not have it.
-fn code_named(word: &[u8]) -> Result<Option<Code>, Reason> {
-    match word {
-        b"ok" => Ok(Some(Code::Ok)),
-        b"noop" => Ok(Some(Code::Noop)),
-        b"updated" => Ok(Some(Code::Updated)),
-        b"fail" => Ok(Some(Code::Fail)),
-        b"reject" => Ok(Some(Code::Reject)),
-        b"notfound" | b"invalid" | b"userlock" | b"handled" => Err(Reason::OtherCode),
-        _ => Ok(None),
     }
 }
 
@@ -453,14 +440,24 @@ impl<'a> ConditionReader<'a> {
         }))
     }
 
+    // The condition that asks for a code, if a word is one.
+    fn code(&self, word: &[u8]) -> Result<Option<ServerCondition>, Reason> {
+        let Some(code) = ServerCode::named(word) else {
+            return Ok(None);
+        };
+        match (self.codes.last(), code.own()) {
+            (Some(_), Some(own)) if self.codes.is_own() => Ok(Some(ServerCondition::Last(own))),
+            (Some(last), _) => Ok(Some(ServerCondition::Constant(last == code))),
+            (None, Some(_)) => Err(Reason::UnknownCode),
+            (None, None) => Err(Reason::OtherCode),
+        }
+    }
+
     // An operand by itself.
     fn existence(&self, operand: Operand<'_>) -> Result<ServerCondition, Refusal> {
         if operand.quote == Quote::Bare && !operand.octets.starts_with(b"%{") {
-            if let Some(code) = code_named(operand.octets)? {
-                if self.knows_code {
-                    return Ok(ServerCondition::Last(code));
-                }
-                return Err(Refusal::LeftOut(Reason::UnknownCode));
+            if let Some(condition) = self.code(operand.octets)? {
+                return Ok(condition);
             }
             if let Some(value) = constant(operand.octets) {
                 return Ok(ServerCondition::Constant(value));

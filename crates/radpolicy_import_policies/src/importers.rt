@@ -12,8 +12,8 @@ use avp_forms::Profile;
 use avp_lists::List;
 use avp_unlang::Code;
 use radpolicy_import_conditions::{
-    ChosenLine, PatternDifference, Reason, Refusal, ServerList, SwitchChain, UpdateLine, between,
-    list_name,
+    ChosenLine, KnownCodes, PatternDifference, Reason, Refusal, ServerList, SwitchChain,
+    UpdateLine, between, list_name,
 };
 use std::alloc::AllocError;
 
@@ -30,8 +30,7 @@ pub(crate) struct Importer<'a> {
     // The policies that lines are put in by.
     open: Vec<usize>,
     depth: usize,
-    // Whether the last code is that of the server.
-    knows_code: bool,
+    codes: KnownCodes,
     /// Whether a statement of the section may follow the one that is being imported.
     pub(crate) follows: bool,
     /// How often the mark of the section's end is set.
@@ -80,7 +79,7 @@ fn condition_of<'b>(chain: &SwitchChain, conditions: &'b [Vec<u8>], at: usize) -
 
 impl<'a> Importer<'a> {
     pub(crate) fn new(reader: ItemReader<'a>) -> Importer<'a> {
-        let alloc = reader.alloc;
+        let (alloc, codes) = (reader.alloc, reader.settings.codes);
         Importer {
             reader,
             drafts: Vec::new(alloc),
@@ -90,7 +89,7 @@ impl<'a> Importer<'a> {
             wider: None,
             open: Vec::new(alloc),
             depth: 0,
-            knows_code: false,
+            codes,
             follows: false,
             returns: 0,
             given: 0,
@@ -171,7 +170,7 @@ impl<'a> Importer<'a> {
             count,
             reason,
         })?;
-        self.knows_code = false;
+        self.codes = KnownCodes::unknown();
         Ok(())
     }
 
@@ -336,7 +335,10 @@ impl<'a> Importer<'a> {
         if is_open {
             self.close(place)?;
         }
-        self.knows_code = false;
+        self.codes = match self.reader.settings.meaning {
+            Meaning::Server => self.codes.after_update(),
+            Meaning::Plain => KnownCodes::unknown(),
+        };
         Ok(())
     }
 
@@ -397,7 +399,7 @@ impl<'a> Importer<'a> {
         for line in policy.split(|octet| *octet == b'\n') {
             self.push_text(place, line)?;
         }
-        self.knows_code = false;
+        self.codes = KnownCodes::unknown();
         Ok(())
     }
 
@@ -408,7 +410,7 @@ impl<'a> Importer<'a> {
             code => code,
         };
         self.push_text(place, code_name(code))?;
-        self.knows_code = true;
+        self.codes = self.codes.after_code(code);
         Ok(())
     }
 
@@ -418,7 +420,7 @@ impl<'a> Importer<'a> {
             Some(ModuleAnswer::Policy(policy)) => self.push_policy(place, policy),
             None => {
                 self.calls = self.calls.saturating_add(1);
-                self.knows_code = false;
+                self.codes = KnownCodes::unknown();
                 let shown = shown_item(self.reader.alloc, self.reader.configuration, place)?;
                 self.comment(place, b"module", &shown)
             }
@@ -500,27 +502,28 @@ impl<'a> Importer<'a> {
         branches: &[Statement],
         conditions: &[DraftCondition],
     ) -> Result<(), ImportFault> {
-        let (knows_code, before) = (self.knows_code, self.captured_else);
-        let mut after = before;
+        let (outer, before) = (self.codes, self.captured_else);
+        let (mut codes, mut after) = (outer, before);
         for (branch, condition) in branches.iter().zip(conditions) {
             self.captured_else = before;
             self.count_given(branch.place)?;
             self.push_branch(branch.place, branch.kind, condition)?;
-            self.indent();
-            self.knows_code = knows_code;
             self.captured_else = before && !condition.captures_anew;
+            self.codes = outer;
+            self.indent();
             self.block(branch.block.as_slice())?;
             self.close(branch.place)?;
+            codes = codes.either(self.codes);
             after = after || self.captured_else;
         }
-        self.knows_code = false;
+        self.codes = codes;
         self.captured_else = after;
         Ok(())
     }
 
     #[cycle(importing)]
     fn chain(&mut self, place: usize, branches: &[Statement]) -> Result<(), ImportFault> {
-        match self.reader.conditions(branches, self.knows_code) {
+        match self.reader.conditions(branches, self.codes) {
             Ok(conditions) => self.branches(branches, &conditions),
             Err(refusal) => self.leave_all(place, branches, 0, reason_of(refusal)?),
         }
@@ -528,19 +531,22 @@ impl<'a> Importer<'a> {
 
     // ---- switches
 
-    // The block of a case, after the line of its `if`, `elsif` or `else`.
+    // The block of a case, after the line of its `if`, `elsif` or `else`, by the codes where the switch begins.
     #[cycle(importing)]
     fn case_block(
         &mut self,
         case: &Statement,
         word: &[u8],
         condition: &[u8],
+        outer: KnownCodes,
     ) -> Result<(), ImportFault> {
         self.count_given(case.place)?;
         self.push_between(case.place, word, condition, b" {")?;
+        let otherwise = self.codes;
+        self.codes = outer;
         self.indent();
-        self.knows_code = false;
         self.block(case.block.as_slice())?;
+        self.codes = otherwise.either(self.codes);
         self.close(case.place)
     }
 
@@ -552,10 +558,11 @@ impl<'a> Importer<'a> {
         chain: &SwitchChain,
         conditions: &[Vec<u8>],
     ) -> Result<(), ImportFault> {
+        let outer = self.codes;
         let mut word: &[u8] = b"if ";
         for (at, case) in cases.iter().enumerate() {
             if let Some(condition) = condition_of(chain, conditions, at) {
-                self.case_block(case, word, condition)?;
+                self.case_block(case, word, condition, outer)?;
                 word = b"elsif ";
             } else if chain.otherwise != Some(at) {
                 self.leave_all(case.place, case.block.as_slice(), 1, Reason::OtherDefault)?;
@@ -570,13 +577,14 @@ impl<'a> Importer<'a> {
         &mut self,
         cases: &[Statement],
         chain: &SwitchChain,
+        outer: KnownCodes,
     ) -> Result<(), ImportFault> {
         for (at, case) in cases.iter().enumerate() {
             if chain.otherwise == Some(at) {
                 if chain.branches.is_empty() {
                     self.block(case.block.as_slice())?;
                 } else {
-                    self.case_block(case, b"else", b"")?;
+                    self.case_block(case, b"else", b"", outer)?;
                 }
             }
         }
@@ -587,11 +595,10 @@ impl<'a> Importer<'a> {
     fn switch(&mut self, place: usize, cases: &[Statement]) -> Result<(), ImportFault> {
         match self.reader.switch_chain(place, cases) {
             Ok((chain, conditions)) => {
+                let outer = self.codes;
                 self.count_given(place)?;
                 self.valued_cases(cases, &chain, &conditions)?;
-                self.default_case(cases, &chain)?;
-                self.knows_code = false;
-                Ok(())
+                self.default_case(cases, &chain, outer)
             }
             Err(refusal) => self.leave_all(place, cases, 1, reason_of(refusal)?),
         }
@@ -605,7 +612,9 @@ impl<'a> Importer<'a> {
         let [first, others @ ..] = members else {
             return Ok(());
         };
+        self.codes = self.inner_codes();
         self.statement(first)?;
+        self.codes = KnownCodes::unknown();
         match others {
             [] => Ok(()),
             others => self.leave_all(place, others, 0, Reason::OtherMember),
@@ -661,6 +670,8 @@ impl<'a> Importer<'a> {
     #[cycle(importing)]
     fn block(&mut self, statements: &[Statement]) -> Result<(), ImportFault> {
         let (follows, last) = (self.follows, self.reader.last_acting(statements));
+        let outer = self.codes;
+        self.codes = self.inner_codes();
         let mut rest = None;
         for (at, statement) in statements.iter().enumerate() {
             let is_followed = is_before(at, last);
@@ -672,6 +683,19 @@ impl<'a> Importer<'a> {
             }
         }
         self.follows = follows;
+        self.codes = match self.reader.settings.meaning {
+            Meaning::Server if statements.is_empty() => outer,
+            Meaning::Server => outer.after_block(self.codes),
+            Meaning::Plain => self.codes,
+        };
         self.end_rest(rest)
+    }
+
+    // What is known of the codes where a block begins.
+    fn inner_codes(&self) -> KnownCodes {
+        match self.reader.settings.meaning {
+            Meaning::Server => self.codes.inside(),
+            Meaning::Plain => self.codes,
+        }
     }
 }

@@ -9,10 +9,10 @@ use avp_forms::Profile;
 use avp_lists::List;
 use avp_unlang::{Comparison, Cond, Relation, read_policy};
 use radpolicy_import_conditions::{
-    Alternative, ChosenLine, ConditionPrinter, ConditionReader, LineReader, Names, Operand, Reason,
-    Refusal, ServerCondition, ServerList, SwitchChain, UpdateLine, add_differences, alternatives,
-    between, captures_anew, chain_of, expansions_in, has_choices, keeps_captures, list_name,
-    parts_of, push_matchings, rewritten, uses_captures,
+    Alternative, ChosenLine, ConditionPrinter, ConditionReader, KnownCodes, LineReader, Names,
+    Operand, Reason, Refusal, ServerCondition, ServerList, SwitchChain, UpdateLine,
+    add_differences, alternatives, between, captures_anew, chain_of, expansions_in, has_choices,
+    keeps_captures, list_name, parts_of, push_matchings, rewritten, uses_captures,
 };
 use server_configuration::{Configuration, Content, Operator, Quote, Text, has_reference};
 use std::alloc::Global;
@@ -60,11 +60,11 @@ impl<'a> ItemReader<'a> {
         }
     }
 
-    fn reader(&self, knows_code: bool) -> ConditionReader<'a> {
+    fn reader(&self, codes: KnownCodes) -> ConditionReader<'a> {
         ConditionReader {
             alloc: self.alloc,
             names: self.names(),
-            knows_code,
+            codes,
             takes_patterns: self.settings.profile == Profile::Wider,
         }
     }
@@ -107,12 +107,12 @@ impl<'a> ItemReader<'a> {
     }
 
     // The condition of the branch at a place.
-    fn condition(&self, place: usize, knows_code: bool) -> Result<DraftCondition, Refusal> {
+    fn condition(&self, place: usize, codes: KnownCodes) -> Result<DraftCondition, Refusal> {
         let text = match self.arguments(place) {
             [text, ..] => self.filled(place, &text.octets)?,
             [] => return Err(Refusal::LeftOut(Reason::Condition)),
         };
-        let condition = self.reader(knows_code).condition(&text)?;
+        let condition = self.reader(codes).condition(&text)?;
         let mut matchings = Vec::new(self.alloc);
         push_matchings(&mut matchings, &condition)?;
         let mut differences = Vec::new(self.alloc);
@@ -400,15 +400,12 @@ impl<'a> ItemReader<'a> {
     pub(crate) fn conditions(
         &self,
         branches: &[Statement],
-        knows_code: bool,
+        codes: KnownCodes,
     ) -> Result<Vec<DraftCondition>, Refusal> {
         let mut conditions = Vec::new(self.alloc);
         for branch in branches {
             let condition = match branch.kind {
-                StatementKind::If | StatementKind::Elsif => self.condition(
-                    branch.place,
-                    knows_code,
-                )?,
+                StatementKind::If | StatementKind::Elsif => self.condition(branch.place, codes)?,
                 _ => DraftCondition::none(self.alloc),
             };
             conditions.push(condition)?;
@@ -430,7 +427,7 @@ impl<'a> ItemReader<'a> {
             octets: octets.as_slice(),
         };
         let comparison = self
-            .reader(false)
+            .reader(KnownCodes::unknown())
             .comparison(compared, Relation::Equal, value)?;
         Ok(Some(comparison))
     }
@@ -444,7 +441,11 @@ impl<'a> ItemReader<'a> {
             quote: text.quote,
             octets: octets.as_slice(),
         };
-        if self.reader(false).attribute(compared, true)?.is_none() {
+        if self
+            .reader(KnownCodes::unknown())
+            .attribute(compared, true)?
+            .is_none()
+        {
             return Err(Refusal::LeftOut(Reason::Switch));
         }
         let mut comparisons = Vec::new(self.alloc);

@@ -2,7 +2,7 @@
 
 use avp_forms::Profile;
 use avp_unlang::Code;
-use radpolicy_import_conditions::OtherAttribute;
+use radpolicy_import_conditions::{KnownCodes, OtherAttribute};
 
 /// Whose meaning conditions and update lines keep.
 #[derive(Clone, Copy, Debug, PartialEq, Eq)]
@@ -47,6 +47,8 @@ pub struct Settings<'a> {
     pub modules: &'a [Module],
     /// The attributes of control in place of what policies do not have, where the dictionary defines them.
     pub others: &'a [OtherAttribute],
+    /// What is known of the server's codes where the statements begin.
+    pub codes: KnownCodes,
     /// How many of the configuration's last items are pairs of initial lists, as [`crate::add_initial`] adds them. They
     /// are updates in front of the policy.
     pub initial: usize,

@@ -4,6 +4,7 @@ use crate::memory_files::{MemoryFile, MemoryFiles};
 use avp_dict::Dictionary;
 use avp_forms::Profile;
 use avp_unlang::Items;
+use radpolicy_import_conditions::KnownCodes;
 use radpolicy_import_policies::{
     Imported, LineEnds, Meaning, Module, ModuleAnswer, Settings, Statement, Wanted,
     import_statements, origin_map, section_of, statements_of,
@@ -82,6 +83,7 @@ pub(crate) fn settings_of(profile: Profile) -> Settings<'static> {
         profile,
         modules: &[],
         others: &[],
+        codes: KnownCodes::unknown(),
         initial: 0,
     }
 }
@@ -237,6 +239,7 @@ fn an_answer_for_a_module(rt: HostRuntime) -> Result<(), Fail> {
         profile: Profile::Wider,
         modules: &modules,
         others: &[],
+        codes: KnownCodes::unknown(),
         initial: 0,
     };
     assert!(rt;
@@ -330,6 +333,7 @@ fn mapped(alloc: Global, text: &[u8]) -> Result<(Vec<u8>, Vec<u8>), Fail> {
         profile: Profile::Wider,
         modules: &[],
         others: &[],
+        codes: KnownCodes::unknown(),
         initial: 0,
     };
     let configuration = configuration(alloc, text)?;

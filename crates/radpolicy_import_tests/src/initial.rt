@@ -3,7 +3,7 @@
 use crate::imports::{authorize, configuration};
 use avp_dict::Dictionary;
 use avp_forms::Profile;
-use radpolicy_import_conditions::Reason;
+use radpolicy_import_conditions::{KnownCodes, Reason};
 use radpolicy_import_policies::{
     ImportFault, Imported, LineEnds, Meaning, Settings, add_initial, import_statements,
     initial_template,
@@ -34,6 +34,7 @@ fn with_initial(
         profile: Profile::Wider,
         modules: &[],
         others: &[],
+        codes: KnownCodes::unknown(),
         initial: count,
     };
     let made = import_statements(alloc, &read, dictionary, settings, statements.as_slice());

@@ -14,4 +14,6 @@ mod other_lists;
 #[cfg(test)]
 mod patterns;
 #[cfg(test)]
+mod server_codes;
+#[cfg(test)]
 mod stations;

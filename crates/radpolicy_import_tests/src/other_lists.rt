@@ -4,7 +4,7 @@ use crate::imports::{authorize, configuration, imported};
 use avp_dict::{Dictionary, FileSet, NamedFile};
 use avp_forms::Profile;
 use avp_lists::Octets;
-use radpolicy_import_conditions::OtherAttribute;
+use radpolicy_import_conditions::{KnownCodes, OtherAttribute};
 use radpolicy_import_policies::{
     Imported, LineEnds, Meaning, Settings, Stubs, keeps_names, other_attributes, other_dictionary,
     unset_attributes,
@@ -96,6 +96,7 @@ fn policy(alloc: Global, dictionary: &Dictionary) -> Result<(Imported, usize), F
         profile: Profile::Wider,
         modules: &[],
         others: &others,
+        codes: KnownCodes::unknown(),
         initial: 0,
     };
     let imported = imported(alloc, dictionary, settings, CONFIGURATION)?;
@@ -154,6 +155,7 @@ fn policy_of(alloc: Global, text: &[u8]) -> Result<(Vec<u8>, usize), Fail> {
         profile: Profile::Wider,
         modules: &[],
         others: &others,
+        codes: KnownCodes::unknown(),
         initial: 0,
     };
     let imported = imported(alloc, &dictionary, settings, text)?;
