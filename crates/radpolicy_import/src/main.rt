@@ -24,7 +24,7 @@ use avp_unlang::Items;
 use radpolicy::{Fault, status};
 use radpolicy_common::{read_dictionary_set, refuse, refuse_early};
 use radpolicy_help::{Sources, refuse_explained, refuse_unread_explained, refuse_words_of};
-use radpolicy_import_conditions::{KnownCodes, OtherAttribute};
+use radpolicy_import_conditions::{KnownCodes, OtherAttribute, OtherSource};
 use radpolicy_import_policies::{
     ImportFault, Imported, Module, Settings, Statement, Wanted, add_initial, import_statements,
     initial_template, keeps_names, origin_map, other_attributes, other_dictionary, policy_of,
@@ -230,7 +230,11 @@ fn show_with_others(
         return refuse_early(rt, &Fault::Write);
     }
     let status = show(rt, import, made);
-    let count = made.others.len();
+    let count = made
+        .others
+        .iter()
+        .filter(|other| !matches!(&other.source, OtherSource::Value(_)))
+        .count();
     if show_others(rt, import.plan.is_json, path, count, unset).is_err() {
         return refuse_early(rt, &Fault::Memory);
     }

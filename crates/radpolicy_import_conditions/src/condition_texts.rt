@@ -2,7 +2,7 @@
 
 ghost use Rattle.std.specs.Prelude.{◌≤◌, length};
 
-use crate::patterns::{WrittenPattern, flagged, match_sign, pattern_text};
+use crate::patterns::{WrittenPattern, flagged, match_sign, matches_empty, pattern_text};
 use crate::reasons::{Reason, Refusal};
 use crate::references::{Names, Reference, has_texts, is_number, kind_of, reference_of};
 use crate::server_codes::{KnownCodes, ServerCode};
@@ -270,14 +270,25 @@ impl<'a> ConditionReader<'a> {
             return Err(Refusal::LeftOut(Reason::ExpandedNumber));
         }
         let comparison = self.compared_with_text(asked, relation, operand)?;
-        let compare = Box::new(self.alloc, ServerCondition::Compare(comparison))?;
+        let compare = ServerCondition::Compare(comparison);
+        self.of_asked(asked, compare, meets_empty(relation, &text))
+    }
+
+    // A condition of what is in place of an expansion, where the empty text, which it is if absent, meets it or not.
+    fn of_asked(
+        &self,
+        asked: &Reference<'_>,
+        condition: ServerCondition,
+        meets_empty: bool,
+    ) -> Result<ServerCondition, Refusal> {
+        let condition = Box::new(self.alloc, condition)?;
         let present = ServerCondition::Present(asked.list, asked.named.id);
         let present = Box::new(self.alloc, present)?;
-        if meets_empty(relation, &text) {
+        if meets_empty {
             let absent = Box::new(self.alloc, ServerCondition::Not(present))?;
-            Ok(ServerCondition::Or(absent, compare))
+            Ok(ServerCondition::Or(absent, condition))
         } else {
-            Ok(ServerCondition::And(present, compare))
+            Ok(ServerCondition::And(present, condition))
         }
     }
 
@@ -420,24 +431,29 @@ impl<'a> ConditionReader<'a> {
         if !self.takes_patterns {
             return Err(Refusal::LeftOut(Reason::RegularExpression));
         }
-        let Some(found) = self
-            .attribute(left, true)?
-            .filter(|found| !found.is_asked())
-        else {
+        let Some(found) = self.attribute(left, true)? else {
             return Err(Refusal::LeftOut(Reason::MatchedText));
         };
         let named = found.named;
         if named.raw || kind_of(self.names.dictionary, named) != Kind::Text {
             return Err(Refusal::LeftOut(Reason::MatchedValue));
         }
-        Ok(ServerCondition::Match(Matching {
+        let text = pattern_text(self.alloc, pattern.octets)?;
+        let meets_empty = found.is_asked()
+            && matches_empty(self.alloc, &text, pattern.flags)? != negated;
+        let compare = ServerCondition::Match(Matching {
             list: found.list,
             id: named.id,
             selection: Selection::All,
             negated,
-            pattern: Octets::from_vec(pattern_text(self.alloc, pattern.octets)?),
+            pattern: Octets::from_vec(text),
             flags: pattern.flags,
-        }))
+        });
+        if found.is_asked() {
+            self.of_asked(&found, compare, meets_empty)
+        } else {
+            Ok(compare)
+        }
     }
 
     // The condition that asks for a code, if a word is one.

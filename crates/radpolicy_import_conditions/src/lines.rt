@@ -3,9 +3,12 @@
 use crate::other_lists::ServerList;
 use crate::reasons::{Reason, Refusal};
 use crate::references::{
-    Names, Reference, has_texts, list_name, parts_of, push_spelling, reference_in, reference_of,
+    Names, Reference, has_texts, kind_of, list_name, parts_of, push_spelling, reference_in,
+    reference_of,
 };
-use crate::texts::{has_expansion, push_double, push_octets, push_reference, single_octets};
+use crate::texts::{
+    has_expansion, push_double, push_expansion, push_octets, push_reference, single_octets,
+};
 use avp_dict::{Form, Kind};
 use avp_lists::{AttrId, List};
 use server_configuration::{Operator, Quote, Text};
@@ -133,15 +136,41 @@ impl<'a> LineReader<'a> {
         Ok(false)
     }
 
-    // `&` and the source's name, which the line needs.
-    fn source(&self, word: &[u8]) -> Result<Vec<u8>, Refusal> {
+    // Whether a server makes a text of a number or an address that is copied.
+    fn becomes_text(&self, target: &Reference<'_>, source: &Reference<'_>) -> bool {
+        let dictionary = self.names.dictionary;
+        let kind = kind_of(dictionary, source.named);
+        self.skips
+            && !source.named.raw
+            && !target.named.raw
+            && kind_of(dictionary, target.named) == Kind::Text
+            && !matches!(kind, Kind::Text | Kind::Bytes | Kind::Date)
+    }
+
+    // The line that copies an attribute, which needs it.
+    fn copy_of(
+        &self,
+        before: Vec<u8>,
+        target: &Reference<'_>,
+        word: &[u8],
+    ) -> Result<UpdateLine, Refusal> {
         let found = reference_of(&self.names, word)?;
-        if !has_texts(self.names.dictionary, found.named) {
+        let dictionary = self.names.dictionary;
+        if !has_texts(dictionary, found.named) {
             return Err(Refusal::LeftOut(Reason::OctetsHere));
         }
-        let mut text = Vec::new(self.alloc);
-        push_reference(&mut text, self.names.dictionary, &found)?;
-        Ok(text)
+        let mut text = before;
+        if self.becomes_text(target, &found) {
+            push_expansion(&mut text, dictionary, &found)?;
+        } else {
+            push_reference(&mut text, dictionary, &found)?;
+        }
+        let mut source = Vec::new(self.alloc);
+        push_reference(&mut source, dictionary, &found)?;
+        Ok(UpdateLine {
+            needs: self.skips.then_some(source),
+            ..plain_line(text)
+        })
     }
 
     fn target(&self, out: &mut Vec<u8>, target: &Reference<'_>) -> Result<(), AllocError> {
@@ -182,15 +211,7 @@ impl<'a> LineReader<'a> {
         if value.quote == Quote::Bare
             && let Some(word) = value.octets.strip_prefix(b"&")
         {
-            let source = self.source(word)?;
-            text.extend_from_slice(&source)?;
-            let needs = if self.skips { Some(source) } else { None };
-            return Ok(UpdateLine {
-                text,
-                needs,
-                is_wider: false,
-                captures: false,
-            });
+            return self.copy_of(text, &target, word);
         }
         let captures = self.push_value(&mut text, &target, value)?;
         Ok(UpdateLine {

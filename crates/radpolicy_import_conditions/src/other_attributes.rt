@@ -12,13 +12,16 @@ pub enum OtherSource {
     Asked(Vec<u8>),
     /// Whether the section has ended by `return`: it is set there, and what may follow asks for it.
     Returned,
+    /// Nothing new: the attribute has a value of this name, as `ldap` of `Auth-Type`, which a section or a module of the
+    /// server defines.
+    Value(Vec<u8>),
 }
 
 /// An attribute of `control` in place of something that policies do not have.
 #[derive(Debug, Drop)]
 pub struct OtherAttribute {
     pub source: OtherSource,
-    /// Its name, as `Outer-Request-User-Name` or `Import-Sql-1`.
+    /// Its name, as `Outer-Request-User-Name`, `Import-Sql-1` or `Auth-Type`.
     pub own: Vec<u8>,
     /// Whether the dictionary that it was found with has no such name.
     pub is_new: bool,

@@ -1,8 +1,8 @@
 //! Regular expressions, as a server has them.
 
-use crate::reasons::Reason;
+use crate::reasons::{Reason, Refusal};
 use crate::server_conditions::ServerCondition;
-use avp_patterns::PatternFlags;
+use avp_patterns::{Pattern, PatternFault, PatternFlags};
 use avp_unlang::Matching;
 use std::alloc::{AllocError, Global};
 use thiserror::Error;
@@ -91,6 +91,21 @@ pub(crate) fn pattern_text(alloc: Global, octets: &[u8]) -> Result<Vec<u8>, Allo
         is_escaped = *octet == b'\\' && !is_escaped;
     }
     Ok(text)
+}
+
+/// Whether a regular expression matches the empty text.
+pub(crate) fn matches_empty(
+    alloc: Global,
+    text: &[u8],
+    flags: PatternFlags,
+) -> Result<bool, Refusal> {
+    let pattern = match Pattern::read(alloc, text, flags) {
+        Ok(pattern) => pattern,
+        Err(PatternFault::Memory) => return Err(Refusal::Memory),
+        // The policy's own reading says why.
+        Err(_) => return Ok(false),
+    };
+    Ok(pattern.matcher(alloc)?.is_match(b""))
 }
 
 /// A regular expression and its flags, as policies write it.

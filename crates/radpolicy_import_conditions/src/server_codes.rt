@@ -120,7 +120,10 @@ impl KnownCodes {
     fn first(code: Option<ServerCode>) -> KnownCodes {
         KnownCodes {
             last: code,
-            block: code.map(BlockCode::of),
+            block: match code {
+                Some(code) => Some(BlockCode::of(code)),
+                None => None,
+            },
             is_own: false,
         }
     }

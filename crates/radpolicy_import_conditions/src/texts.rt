@@ -136,6 +136,17 @@ pub(crate) fn push_reference(
     push_name(out, dictionary, reference)
 }
 
+/// What an attribute expands to, between double quotes.
+pub(crate) fn push_expansion(
+    out: &mut Vec<u8>,
+    dictionary: &Dictionary,
+    reference: &Reference<'_>,
+) -> Result<(), AllocError> {
+    out.extend_from_slice(b"\"%{")?;
+    push_name(out, dictionary, reference)?;
+    out.extend_from_slice(b"}\"")
+}
+
 /// A source of an update between double quotes, of the octets of a text.
 pub(crate) fn push_octets(out: &mut Vec<u8>, octets: &[u8]) -> Result<(), AllocError> {
     out.push(b'"')?;

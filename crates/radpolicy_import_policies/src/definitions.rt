@@ -123,6 +123,19 @@ impl<'a> Lines<'a> {
         Ok(())
     }
 
+    // The names of values that the server's sections and modules define.
+    fn values(&mut self) -> Result<(), AllocError> {
+        let others = self.others;
+        for other in others {
+            if let OtherSource::Value(name) = &other.source {
+                let mut number = Vec::new(self.alloc);
+                push_number(&mut number, number_of(name))?;
+                self.value(&other.own, name, &number)?;
+            }
+        }
+        Ok(())
+    }
+
     // What a line of a dictionary says of an attribute, said of those that are it in other lists.
     fn said(&mut self, words: &[&[u8]]) -> Result<(), AllocError> {
         let others = self.others;
@@ -207,8 +220,8 @@ impl<'a> Lines<'a> {
 }
 
 /// A dictionary file that includes the main one of a set and defines these attributes: those in place of attributes of
-/// other lists with the type and the names of values that they have there, those in place of expansions as texts. Their
-/// numbers are from 1,000,000,000 on.
+/// other lists with the type and the names of values that they have there, those in place of expansions as texts; and
+/// names of values that sections and modules of the server define. All numbers are from 1,000,000,000 on.
 pub fn other_dictionary(
     alloc: Global,
     files: &FileSet,
@@ -231,6 +244,7 @@ pub fn other_dictionary(
         lines.text(files, main.octets.as_slice(), MOST_NESTED)?;
     }
     lines.asked()?;
+    lines.values()?;
     text.extend_from_slice(b"\n\n")?;
     text.extend_from_slice(&lines.attributes)?;
     text.push(b'\n')?;

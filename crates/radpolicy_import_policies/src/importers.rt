@@ -654,6 +654,10 @@ impl<'a> Importer<'a> {
             StatementKind::Module => self.module(place),
             StatementKind::Code(code) => self.push_code(place, code),
             StatementKind::Return => self.end(place),
+            StatementKind::Log => {
+                let shown = shown_item(self.reader.alloc, self.reader.configuration, place)?;
+                self.comment(place, b"for the log,", &shown)
+            }
             StatementKind::OwnSection => {
                 let shown = shown_item(self.reader.alloc, self.reader.configuration, place)?;
                 self.comment(place, b"a section of its own,", &shown)

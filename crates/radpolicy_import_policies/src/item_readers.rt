@@ -197,7 +197,7 @@ impl<'a> ItemReader<'a> {
     // Whether a statement becomes more than a comment.
     fn acts(&self, statement: &Statement) -> bool {
         match statement.kind {
-            StatementKind::OwnSection => false,
+            StatementKind::OwnSection | StatementKind::Log => false,
             StatementKind::Module => self.answer(statement.place).is_some(),
             _ => true,
         }

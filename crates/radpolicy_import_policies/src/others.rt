@@ -2,7 +2,7 @@
 //! expansions that ask something outside of the policy.
 
 use crate::statements::{Statement, StatementKind};
-use avp_dict::{Dictionary, Named, is_container, same_name};
+use avp_dict::{Dictionary, Named, ValueFault, is_container, same_name};
 use avp_lists::AttrId;
 use itoa::Buffer;
 use radpolicy_import_conditions::{
@@ -30,7 +30,7 @@ struct Finder<'a> {
     found: Vec<OtherAttribute>,
 }
 
-// The modules whose expansions ask something.
+// The modules whose expansions ask something. The name of an instance mostly ends in that of its module, as `cuisql`.
 const ASKING: [&[u8]; 14] = [
     b"sql",
     b"client",
@@ -62,7 +62,7 @@ fn called(word: &[u8]) -> Option<&[u8]> {
 }
 
 fn asks(name: &[u8]) -> bool {
-    ASKING.iter().any(|module| *module == name)
+    ASKING.iter().any(|module| name.ends_with(module))
 }
 
 // What the name of an attribute for an expansion begins with, as `Import-Sql-`.
@@ -102,6 +102,63 @@ fn are_alike(dictionary: &Dictionary, one: Named, other: Named) -> bool {
     }
 }
 
+// The attributes whose values are named by sections and modules of a server.
+const TYPES: [&[u8]; 9] = [
+    b"Auth-Type",
+    b"Autz-Type",
+    b"Acct-Type",
+    b"Session-Type",
+    b"Post-Auth-Type",
+    b"Pre-Proxy-Type",
+    b"Post-Proxy-Type",
+    b"Recv-CoA-Type",
+    b"Send-CoA-Type",
+];
+
+fn behind_first(text: &[u8]) -> &[u8] {
+    match text {
+        [_, rest @ ..] => rest,
+        [] => text,
+    }
+}
+
+// The attribute's name behind a list, without its `&`.
+fn name_behind_list(word: &[u8]) -> &[u8] {
+    match word.iter().rposition(|octet| matches!(*octet, b':' | b'&')) {
+        Some(place) => behind_first(word.split_at(place).1),
+        None => word,
+    }
+}
+
+// The word that a text ends in, before the sign of a comparison.
+fn last_word(text: &[u8]) -> &[u8] {
+    let text = text.trim_ascii_end();
+    let text = text.strip_suffix(b"!").unwrap_or(text).trim_ascii_end();
+    match text.iter().rposition(|octet| !is_word_octet(*octet)) {
+        Some(place) => behind_first(text.split_at(place).1),
+        None => text,
+    }
+}
+
+// The word that a text begins with, or the first between quotes.
+fn first_word(text: &[u8]) -> &[u8] {
+    let text = match text.trim_ascii_start() {
+        [b'"' | b'\'', rest @ ..] => rest,
+        text => text,
+    };
+    match text.iter().position(|octet| !is_name_octet(*octet)) {
+        Some(end) => text.split_at(end).0,
+        None => text,
+    }
+}
+
+// Whether a word may be the name of a value.
+fn is_value_name(word: &[u8]) -> bool {
+    !word.is_empty()
+        && word.iter().all(|octet| is_name_octet(*octet))
+        && !word.iter().all(|octet| octet.is_ascii_digit())
+}
+
 // The name of the attribute that is set by `return`.
 const RETURNED: &[u8] = b"Import-Returned";
 
@@ -137,14 +194,14 @@ impl<'a> Finder<'a> {
     fn has(&self, list: OtherList, id: AttrId) -> bool {
         self.found.iter().any(|other| match &other.source {
             OtherSource::Attribute(own, known, _) => *own == list && known.equals(id),
-            OtherSource::Asked(_) | OtherSource::Returned => false,
+            _ => false,
         })
     }
 
     fn has_asked(&self, word: &[u8]) -> bool {
         self.found.iter().any(|other| match &other.source {
-            OtherSource::Attribute(..) | OtherSource::Returned => false,
             OtherSource::Asked(text) => text.as_slice() == word,
+            _ => false,
         })
     }
 
@@ -157,8 +214,8 @@ impl<'a> Finder<'a> {
         self.found
             .iter()
             .filter(|other| match &other.source {
-                OtherSource::Attribute(..) | OtherSource::Returned => false,
                 OtherSource::Asked(text) => called(text) == Some(module),
+                _ => false,
             })
             .count()
     }
@@ -289,12 +346,59 @@ impl<'a> Finder<'a> {
 
     fn text_in(&mut self, section: Option<usize>, text: &Text) -> Result<(), AllocError> {
         let filled = self.filled(section, &text.octets)?;
+        self.compared(&filled)?;
         self.text(&filled)
     }
 
     fn texts(&mut self, section: Option<usize>, texts: &[Text]) -> Result<(), AllocError> {
         for text in texts {
             self.text_in(section, text)?;
+        }
+        Ok(())
+    }
+
+    fn has_value(&self, own: &[u8], word: &[u8]) -> bool {
+        self.found.iter().any(|other| match &other.source {
+            OtherSource::Value(name) => {
+                same_name(&other.own, own) && name.as_slice().eq_ignore_ascii_case(word)
+            }
+            _ => false,
+        })
+    }
+
+    // Adds the name of a value of an attribute whose values a server names, unless the dictionary has it.
+    fn value(&mut self, name: &[u8], word: &[u8]) -> Result<(), AllocError> {
+        let name = name_behind_list(name);
+        let Some(own) = TYPES.iter().find(|known| same_name(known, name)) else {
+            return Ok(());
+        };
+        let Some(named) = self.dictionary.by_name(name) else {
+            return Ok(());
+        };
+        if self.is_full() || !is_value_name(word) || self.has_value(own, word) {
+            return Ok(());
+        }
+        match self.dictionary.value_of_text(self.alloc, named, word) {
+            Err(ValueFault::NotValue) => {}
+            Err(ValueFault::Memory) => return Err(AllocError),
+            _ => return Ok(()),
+        }
+        self.found.push(OtherAttribute {
+            source: OtherSource::Value(Vec::from_slice(self.alloc, word)?),
+            own: Vec::from_slice(self.alloc, own)?,
+            is_new: true,
+        })?;
+        Ok(())
+    }
+
+    // The names of values that a condition compares with.
+    fn compared(&mut self, text: &[u8]) -> Result<(), AllocError> {
+        let mut name: &[u8] = b"";
+        for side in text.split(|octet| *octet == b'=') {
+            self.value(name, first_word(side))?;
+            if !side.is_empty() {
+                name = last_word(side);
+            }
         }
         Ok(())
     }
@@ -309,7 +413,10 @@ impl<'a> Finder<'a> {
             Content::Pair { name, value, .. } => {
                 self.text(&name.octets)?;
                 match value {
-                    Some(value) => self.text_in(item.section, value),
+                    Some(value) => {
+                        self.value(&name.octets, &value.octets)?;
+                        self.text_in(item.section, value)
+                    }
                     None => Ok(()),
                 }
             }

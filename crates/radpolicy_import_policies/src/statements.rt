@@ -40,6 +40,8 @@ pub enum StatementKind {
     /// The call of a module.
     Module,
     Code(Code),
+    /// An expansion that only writes to the server's log.
+    Log,
     /// `return`, which ends the section, also in a policy that is called.
     Return,
     /// `Auth-Type NAME` and the like: a section of its own, which other sections do not run.
@@ -191,6 +193,11 @@ fn is_other_word(word: &[u8]) -> bool {
         word,
         b"notfound" | b"invalid" | b"userlock" | b"handled" | b"break"
     )
+}
+
+// Whether a text by itself is an expansion that only writes to the server's log.
+fn is_log(text: &[u8]) -> bool {
+    text.starts_with(b"%{debug:") || text.starts_with(b"%{debug_attr:")
 }
 
 // What a section is by its name.
@@ -394,6 +401,9 @@ impl<'a> Builder<'a> {
     #[cycle(building)]
     fn word(&mut self, place: usize, name: &Text, depth: usize) -> Result<Statement, ImportFault> {
         self.spend()?;
+        if is_log(&name.octets) {
+            return Ok(self.leaf(place, StatementKind::Log));
+        }
         if name.quote != Quote::Bare || name.octets.first() == Some(&b'%') {
             return Ok(self.leaf(place, StatementKind::LeftOut(Reason::Expansion)));
         }

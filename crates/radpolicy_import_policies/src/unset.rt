@@ -64,8 +64,8 @@ pub fn unset_attributes<'a>(
 ) -> Result<Vec<&'a OtherAttribute>, AllocError> {
     let mut unset = Vec::new(alloc);
     for other in others {
-        // That no `return` is kept says nothing of what has to be given.
-        if let OtherSource::Returned = &other.source {
+        // That no `return` is kept says nothing of what has to be given, and names of values are not given.
+        if let OtherSource::Returned | OtherSource::Value(_) = &other.source {
             continue;
         }
         if let Some(named) = dictionary.by_name(&other.own)

@@ -423,3 +423,31 @@ fn a_return_without_a_mark(rt: HostRuntime) -> Result<(), Fail> {
     );
     Ok(())
 }
+
+#[test]
+fn an_expansion_for_the_log(rt: HostRuntime) -> Result<(), Fail> {
+    assert!(rt;
+        becomes(
+            rt.alloc(),
+            b"authorize {\n ok\n \"%{debug_attr:request:}\"\n if (ok) {\n reject\n }\n}",
+            b"ok  # main:2\n# for the log, \"%{debug_attr:request:}\"  # main:3\n\
+          if (ok) {  # main:4\n\treject  # main:5\n}  # main:4\n",
+            (4, 4, 0),
+        )?
+    );
+    Ok(())
+}
+
+#[test]
+fn a_number_that_becomes_a_text(rt: HostRuntime) -> Result<(), Fail> {
+    assert!(rt;
+        becomes(
+            rt.alloc(),
+            b"authorize {\n update reply {\n Reply-Message := &NAS-Port\n }\n}",
+            b"if (&NAS-Port) {  # main:3\n\tupdate reply {  # main:3\n\
+          \t\tReply-Message := \"%{NAS-Port}\"  # main:3\n\t}  # main:3\n}  # main:3\n",
+            (1, 1, 0),
+        )?
+    );
+    Ok(())
+}

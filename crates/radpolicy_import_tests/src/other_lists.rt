@@ -14,7 +14,8 @@ use std::alloc::Global;
 use std::test::Fail;
 
 const ATTRIBUTES: &[u8] = b"ATTRIBUTE User-Name 1 string\n\
-    ATTRIBUTE Tunnel-Type 64 integer has_tag\nVALUE Tunnel-Type VLAN 13\n";
+    ATTRIBUTE Tunnel-Type 64 integer has_tag\nVALUE Tunnel-Type VLAN 13\n\
+    ATTRIBUTE Auth-Type 1000 integer\nVALUE Auth-Type Accept 254\n";
 
 const CONFIGURATION: &[u8] =
     b"authorize {\n if (&outer.request:User-Name) {\n update outer.reply {\n \
@@ -179,5 +180,40 @@ fn compared_with_what_is_asked(rt: HostRuntime) -> Result<(), Fail> {
         (&control:Import-Sql-1 || &User-Name != \"\")) {\n\tok\n}\n";
     assert_eq!(rt; text.as_slice(), wanted.as_slice());
     assert_eq!(rt; unset, 1);
+    Ok(())
+}
+
+#[test]
+fn matched_what_is_asked(rt: HostRuntime) -> Result<(), Fail> {
+    let text =
+        b"authorize {\n if (\"%{sql:x}\" =~ /^b/) {\n ok\n }\n if (\"%{sql:x}\" !~ /^b/) {\n ok\n }\n}";
+    let (text, _) = policy_of(rt.alloc(), text)?;
+    let wanted =
+        b"# profile: wider\nif (&control:Import-Sql-1 && &control:Import-Sql-1 =~ /^b/) {\n\tok\n}\n\
+        if (!&control:Import-Sql-1 || &control:Import-Sql-1 !~ /^b/) {\n\tok\n}\n";
+    assert_eq!(rt; text.as_slice(), wanted.as_slice());
+    Ok(())
+}
+
+#[test]
+fn asked_of_an_instance(rt: HostRuntime) -> Result<(), Fail> {
+    let text = b"authorize {\n if (\"%{user_sql:x}\") {\n ok\n }\n}";
+    let (text, unset) = policy_of(rt.alloc(), text)?;
+    let wanted =
+        b"if (&control:Import-User-sql-1 && &control:Import-User-sql-1 != \"\") {\n\tok\n}\n";
+    assert_eq!(rt; text.as_slice(), wanted.as_slice());
+    assert_eq!(rt; unset, 1);
+    Ok(())
+}
+
+#[test]
+fn names_that_a_server_defines(rt: HostRuntime) -> Result<(), Fail> {
+    let text =
+        b"authorize {\n update control {\n Auth-Type := ldap\n }\n if (&control:Auth-Type != Step1) {\n ok\n }\n}";
+    let (text, unset) = policy_of(rt.alloc(), text)?;
+    let wanted = b"update control {\n\tAuth-Type := ldap\n}\n\
+        if (&control:Auth-Type != Step1) {\n\tok\n}\n";
+    assert_eq!(rt; text.as_slice(), wanted.as_slice());
+    assert_eq!(rt; unset, 0);
     Ok(())
 }
