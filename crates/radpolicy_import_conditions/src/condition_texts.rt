@@ -271,18 +271,18 @@ impl<'a> ConditionReader<'a> {
         }
         let comparison = self.compared_with_text(asked, relation, operand)?;
         let compare = ServerCondition::Compare(comparison);
-        self.of_asked(asked, compare, meets_empty(relation, &text))
+        self.of_text(asked, compare, meets_empty(relation, &text))
     }
 
-    // A condition of what is in place of an expansion, where the empty text, which it is if absent, meets it or not.
-    fn of_asked(
+    // A condition of the text of an attribute alone, which is the empty text where that is absent.
+    fn of_text(
         &self,
-        asked: &Reference<'_>,
+        found: &Reference<'_>,
         condition: ServerCondition,
         meets_empty: bool,
     ) -> Result<ServerCondition, Refusal> {
         let condition = Box::new(self.alloc, condition)?;
-        let present = ServerCondition::Present(asked.list, asked.named.id);
+        let present = ServerCondition::Present(found.list, found.named.id);
         let present = Box::new(self.alloc, present)?;
         if meets_empty {
             let absent = Box::new(self.alloc, ServerCondition::Not(present))?;
@@ -439,8 +439,9 @@ impl<'a> ConditionReader<'a> {
             return Err(Refusal::LeftOut(Reason::MatchedValue));
         }
         let text = pattern_text(self.alloc, pattern.octets)?;
-        let meets_empty = found.is_asked()
-            && matches_empty(self.alloc, &text, pattern.flags)? != negated;
+        // A text is searched also where the attribute is absent.
+        let is_text = left.quote == Quote::Double || left.octets.starts_with(b"%{");
+        let meets_empty = is_text && matches_empty(self.alloc, &text, pattern.flags)? != negated;
         let compare = ServerCondition::Match(Matching {
             list: found.list,
             id: named.id,
@@ -449,8 +450,8 @@ impl<'a> ConditionReader<'a> {
             pattern: Octets::from_vec(text),
             flags: pattern.flags,
         });
-        if found.is_asked() {
-            self.of_asked(&found, compare, meets_empty)
+        if is_text {
+            self.of_text(&found, compare, meets_empty)
         } else {
             Ok(compare)
         }

@@ -502,9 +502,11 @@ impl<'a> Importer<'a> {
         branches: &[Statement],
         conditions: &[DraftCondition],
     ) -> Result<(), ImportFault> {
-        let (outer, before) = (self.codes, self.captured_else);
+        let (outer, mut before) = (self.codes, self.captured_else);
         let (mut codes, mut after) = (outer, before);
         for (branch, condition) in branches.iter().zip(conditions) {
+            // Where the attribute of a text is absent, what was captured goes on a server alone.
+            before = before || condition.searches_text;
             self.captured_else = before;
             self.count_given(branch.place)?;
             self.push_branch(branch.place, branch.kind, condition)?;
@@ -514,7 +516,7 @@ impl<'a> Importer<'a> {
             self.block(branch.block.as_slice())?;
             self.close(branch.place)?;
             codes = codes.either(self.codes);
-            after = after || self.captured_else;
+            after = after || before || self.captured_else;
         }
         self.codes = codes;
         self.captured_else = after;

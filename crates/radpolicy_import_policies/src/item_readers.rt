@@ -25,6 +25,17 @@ pub(crate) enum PairLines {
     Chosen(Vec<ChosenLine>),
 }
 
+// Whether a condition compares a text with a regular expression: what is before `=~` or `!~` ends in quotes or a brace.
+fn searches_text(text: &[u8]) -> bool {
+    text.split(|octet| *octet == b'~').any(|before| {
+        let left = match before {
+            [left @ .., b'=' | b'!'] => left,
+            _ => b"",
+        };
+        matches!(left.trim_ascii_end(), [.., b'"' | b'}'])
+    })
+}
+
 /// Reads items of a configuration.
 #[derive(Clone, Copy)]
 pub(crate) struct ItemReader<'a> {
@@ -113,6 +124,7 @@ impl<'a> ItemReader<'a> {
             [] => return Err(Refusal::LeftOut(Reason::Condition)),
         };
         let condition = self.reader(codes).condition(&text)?;
+        let searches_text = searches_text(&text);
         let mut matchings = Vec::new(self.alloc);
         push_matchings(&mut matchings, &condition)?;
         let mut differences = Vec::new(self.alloc);
@@ -131,6 +143,7 @@ impl<'a> ItemReader<'a> {
             differences,
             uses_captures,
             captures_anew: captures_anew(&condition),
+            searches_text,
         })
     }
 

@@ -154,3 +154,12 @@ fn by_a_part_that_is_left_out(rt: HostRuntime) -> Result<(), Fail> {
     assert_eq!(rt; warnings(rt.alloc(), text)?, 1);
     Ok(())
 }
+
+#[test]
+fn by_a_text_that_is_searched(rt: HostRuntime) -> Result<(), Fail> {
+    let text =
+        b"authorize {\n if (&User-Name =~ /(a)/) {\n if (\"%{reply:User-Name}\" =~ /b/) {\n ok\n }\n \
+        update reply {\n Class := \"%{1}\"\n }\n }\n}";
+    assert_eq!(rt; warnings(rt.alloc(), text)?, 1);
+    Ok(())
+}
