@@ -1,5 +1,6 @@
 """Policies of a FreeRADIUS server on loopback beside what `radpolicy-import` makes of them: to ten requests each the
 replies have the same attributes, or a warning of the import says that a server may decide otherwise."""
+import hashlib
 import os
 import random
 import re
@@ -20,21 +21,36 @@ SEED = 20_261_127
 REQUESTS = 10
 # Debian's own policies.
 DEBIAN = ("filter_username", "deny_realms")
-# Debian's policies that look at what they capture, and the attribute that each rewrites.
-CAPTURING = {"rewrite_called_station_id": "Called-Station-Id", "rewrite_calling_station_id": "Calling-Station-Id"}
-# What they leave, in the reply.
-SHOWN = """{name}
-update reply {{
-{captures}
-Reply-Message += "now %{{{attribute}}}"
-Reply-Message += "network %{{Called-Station-SSID}}"
-}}
-"""
-SHOWING = "after_"
+
+
+class Shown(NamedTuple):
+    """A policy of Debian's that rewrites attributes, the section that calls it, and the attributes that are then shown in
+    the reply."""
+
+    policy: str
+    section: str
+    attributes: Tuple[str, ...]
+
+
+# Each is called by a policy that also shows what is captured.
+REWRITING = {
+    "after_called_station": Shown(
+        "rewrite_called_station_id", "authorize", ("Called-Station-Id", "Called-Station-SSID")),
+    "after_calling_station": Shown("rewrite_calling_station_id", "authorize", ("Calling-Station-Id",)),
+    "after_splitting": Shown("split_username_nai", "authorize", ("Stripped-User-Name", "Stripped-User-Domain")),
+    "after_password": Shown("filter_password", "authorize", ("User-Password", "Tmp-String-0")),
+    "after_operator": Shown("operator-name", "authorize", ("Operator-Name",)),
+    "after_identity": Shown("cui", "authorize", ("Chargeable-User-Identity",)),
+    "after_reply_identity": Shown("cui", "post-auth", ("reply:Chargeable-User-Identity", "reply:User-Name")),
+}
+SHOWING = "{policy}\nupdate reply {{\n{lines}\n}}\n"
+# What the server knows of the client.
+OF_CLIENT = {"Operator-Name": "1example.com", "add_cui": "yes"}
+KEY = "changeme"
 # Those whose warnings are of nothing that these requests have.
-SURE = ("captures", "captured_by_the_last", *(f"{SHOWING}{name}" for name in CAPTURING))
+SURE = ("captures", "captured_by_the_last", "texts_of_absent", *REWRITING)
 HARDWARE = re.compile("[^0-9a-f]?".join(6 * ["([0-9a-f]{2})"]), re.I)
-STUB = re.compile(r"&control:(\S+) for %\{toupper:")
+GIVEN = re.compile(r"set by no line of the policy: &control:(\S+) for %\{(\w+):(.*)\}$", re.M)
 # As operators write them.
 WRITTEN: Dict[str, str] = {
     "realm_in_any_case": 'if (&User-Name =~ /@example\\.com$/i) {\nupdate reply {\nReply-Message := "of %{User-Name}"\n}\n}\n'
@@ -77,6 +93,16 @@ WRITTEN: Dict[str, str] = {
     'update reply {\nReply-Message := "%{0} %{1} %{2}"\n}\nif (!(&User-Name =~ /(b)/) || &Service-Type == Login-User) {\nok\n}\n'
     'update reply {\nReply-Message += "%{0} %{1} %{2}"\n}\nif (&NAS-Port == 1 || (&User-Name !~ /(.)@/ && &NAS-Port == 2)) {\n'
     'ok\n}\nupdate reply {\nReply-Message += "%{0} %{1} %{2}"\n}\n',
+    "texts_of_absent": 'if ("%{Calling-Station-Id}" !~ /^00-11/) {\nupdate reply {\nReply-Message += "another"\n}\n}\n'
+    'if (!("%{Calling-Station-Id}" =~ /aa/)) {\nupdate reply {\nReply-Message += "no aa"\n}\n}\n'
+    'if ("%{Calling-Station-Id}" =~ /^(none)?$/) {\nupdate reply {\nReply-Message += "none"\n}\n}\n',
+    "code_of_an_update": 'if (noop) {\nupdate reply {\nReply-Message += "after an update"\n}\n}\n',
+    "code_of_a_block": 'ok\nnoop\nif (&NAS-Port) {\nif (ok) {\nupdate reply {\nReply-Message += "the highest"\n}\n}\n'
+    'else {\nreject\n}\n}\n',
+    "codes_of_branches": 'ok\nupdated\nif (!&Class) {\nnoop\n}\nelse {\nok\nnoop\n}\nnoop\nif (&Service-Type) {\n'
+    'if (updated) {\nupdate reply {\nReply-Message += "of the outer block"\n}\n}\nnoop\nif (noop) {\nupdate reply {\n'
+    'Reply-Message += "the last"\n}\n}\n}\n',
+    "numbers_as_texts": 'update reply {\nReply-Message += &NAS-Port\nReply-Message += &Service-Type\n}\n',
     "one_in_another": 'deny_realms\nif (&Service-Type == Login-User && &NAS-Port <= 2) {\nservice\n}\n',
 }
 CONFIGURATION = """prefix = /usr
@@ -92,6 +118,8 @@ security {{
 client here {{
 	ipaddr = 127.0.0.1
 	secret = {secret}
+	Operator-Name = {operator}
+	add_cui = {add_cui}
 }}
 modules {{
 	$INCLUDE {installed}/mods-available/always
@@ -100,6 +128,11 @@ modules {{
 policy {{
 	$INCLUDE {installed}/policy.d/filter
 	$INCLUDE {installed}/policy.d/canonicalization
+	$INCLUDE {installed}/policy.d/cui
+	$INCLUDE {installed}/policy.d/operator-name
+	cuisql {{
+		noop
+	}}
 {policies}}}
 {servers}"""
 SITE = """server {name} {{
@@ -112,7 +145,10 @@ SITE = """server {name} {{
 		update control {{
 			Auth-Type := Accept
 		}}
-		{name}
+		{authorize}
+	}}
+	post-auth {{
+		{post_auth}
 	}}
 }}
 """
@@ -123,6 +159,7 @@ NAMES = (
 )
 STATIONS = ("00-11-22-33-44-55", "00:11:22:aa:BB:cc", "001122334455", "none", "00-11-22")
 NETWORKS = ("", ":guests", "-A network", ":")
+PASSWORDS = ("hello", "hel\\000lo")
 REJECTED = re.compile(r"^result (reject|fail)\b", re.M)
 
 
@@ -156,34 +193,50 @@ def requests(name: str) -> List[str]:
     """Requests at random, the same for a policy in each run."""
     chance = random.Random(f"{SEED} {name}")
     made = []
-    for user in [NAMES[0], *chance.sample(NAMES[1:-2], REQUESTS - 3), *NAMES[-2:]]:
+    # A line feed at the end is told of a `$`, and so would hide what else may differ.
+    last = () if name in REWRITING else NAMES[-2:]
+    for user in [NAMES[0], *chance.sample(NAMES[1:-2], REQUESTS - 1 - len(last)), *last]:
         lines = [f'User-Name = "{user}"', 'User-Password = "hello"']
         optional = [
             f"NAS-Port = {chance.randrange(1, 4)}", f'Calling-Station-Id = "{chance.choice(STATIONS)}"',
             f"Service-Type = {chance.choice(('Framed-User', 'Login-User', 'Outbound-User'))}", "Class = 0x0a0b",
         ]
         lines += [line for line in optional if chance.random() < 0.75]
-        if name.startswith(SHOWING):
+        if name in REWRITING:
+            lines[1] = f'User-Password = "{chance.choice(PASSWORDS)}"'
             lines.append(f'Called-Station-Id = "{chance.choice(STATIONS)}{chance.choice(NETWORKS)}"')
+            identity = ["Chargeable-User-Identity = 0x00", 'Operator-Name = "1other.org"']
+            lines += [line for line in identity if chance.random() < 0.5]
         made.append("\n".join(lines) + "\n")
     return made
 
 
 def showing() -> Dict[str, str]:
     """Policies that put into the reply what others capture and rewrite."""
-    captures = "\n".join(f'Reply-Message += "{group} %{{{group}}}"' for group in range(10))
-    return {
-        SHOWING + name: SHOWN.format(name=name, captures=captures, attribute=attribute)
-        for name, attribute in CAPTURING.items()
-    }
+    captures = [f"{group} %{{{group}}}" for group in range(10)]
+    written = {}
+    for name, shown in REWRITING.items():
+        texts = captures + [f"{attribute} %{{{attribute}}}" for attribute in shown.attributes]
+        lines = "\n".join(f'Reply-Message += "{text}"' for text in texts)
+        written[name] = SHOWING.format(policy=shown.policy, lines=lines)
+    return written
+
+
+def section_of(name: str) -> str:
+    return REWRITING[name].section if name in REWRITING else "authorize"
 
 
 def configure(folder: Path, raddb: Path, ports: Dict[str, int]) -> None:
-    written = {**WRITTEN, **showing()}
+    # A policy is told by the section that calls it which of those of a name it calls.
+    written = {f"{name}.{section_of(name)}": text for name, text in {**WRITTEN, **showing()}.items()}
     policies = "".join(f"{name} {{\n{text}}}\n" for name, text in written.items())
-    servers = "".join(SITE.format(name=name, port=port) for name, port in ports.items())
+    servers = ""
+    for name, port in ports.items():
+        called = {"authorize": "", "post_auth": "", section_of(name).replace("-", "_"): name}
+        servers += SITE.format(name=name, port=port, **called)
     (folder / "radiusd.conf").write_text(CONFIGURATION.format(
-        folder=folder, secret=SECRET, installed=raddb, policies=policies, servers=servers))
+        folder=folder, secret=SECRET, installed=raddb, policies=policies, servers=servers,
+        operator=OF_CLIENT["Operator-Name"], add_cui=OF_CLIENT["add_cui"]))
 
 
 def of_server(port: int, request: str) -> Answer:
@@ -192,16 +245,31 @@ def of_server(port: int, request: str) -> Answer:
     return Answer(said.split(" ")[0], [line for line in lines if not line.startswith("Message-Authenticator")])
 
 
-def with_given(policy: str, stub: str, name: str, request: str) -> str:
-    """The policy, with what the function of a server is given."""
-    if not stub:
+def computed(name: str, function: str, text: str, request: str) -> str:
+    """What the server's function gives of its text in a policy, for a request."""
+    sent = dict(re.findall(r'^(\S+) = "(.*)"$', request, re.M))
+    if function == "client":
+        return OF_CLIENT[text]
+    if function == "string":
+        return sent["User-Password"].split("\\000")[0]
+    if function == "sha1":
+        user = sent["User-Name"].replace("\\n", "\n").replace("\\\\", "\\") + sent.get("Operator-Name", "")
+        return hashlib.sha1((KEY + user.lower()).encode()).hexdigest()
+    if function == "toupper":
+        found = HARDWARE.search(sent.get(REWRITING[name].attributes[0], ""))
+        return "-".join(found.groups()).upper() if found else ""
+    raise ValueError(f"what does %{{{function}:{text}}} give?")
+
+
+def with_given(policy: str, said: str, name: str, request: str) -> str:
+    """The policy, with what the functions of a server are given."""
+    found = GIVEN.findall(said)
+    lines = [f'{own} := "{computed(name, function, text, request)}"' for own, function, text in found]
+    if not lines:
         return policy
-    attribute = CAPTURING[name[len(SHOWING):]]
-    station = re.search(f'^{attribute} = "(.*)"$', request, re.M)
-    found = HARDWARE.search(station[1]) if station else None
-    given = "-".join(found.groups()).upper() if found else ""
-    profile, rest = policy.split("\n", 1)
-    return f'{profile}\nupdate control {{\n{stub} := "{given}"\n}}\n{rest}'
+    head = "# profile: wider\n"
+    given = "update control {\n" + "\n".join(lines) + "\n}\n"
+    return head + given + policy[len(head):] if policy.startswith(head) else given + policy
 
 
 def of_policy(subject: Subject, policy: str, dictionaries: List[str], request: str) -> Answer:
@@ -222,7 +290,8 @@ def imported(subject: Subject, folder: Path, dictionaries: Path, name: str) -> T
     """The report of the import of a policy, and the dictionaries that it is read with."""
     others = folder / f"{name}.dictionary"
     words = ["--server", name, "--dictionary", others, "-o", folder / f"{name}.policy"]
-    if name.startswith(SHOWING):
+    words += ["--section", section_of(name)]
+    if name in REWRITING:
         words.append("--stub-functions")
     named = dictionary_words(dictionaries)
     ended = run([subject.driver("radpolicy_import"), *words, *named, folder], folder)
@@ -230,11 +299,11 @@ def imported(subject: Subject, folder: Path, dictionaries: Path, name: str) -> T
 
 
 def differences(
-    subject: Subject, policy: str, stub: str, dictionaries: List[str], name: str, port: int,
+    subject: Subject, policy: str, said: str, dictionaries: List[str], name: str, port: int,
 ) -> List[Difference]:
     found = []
     for request in requests(name):
-        given = with_given(policy, stub, name, request)
+        given = with_given(policy, said, name, request)
         wanted, made = of_server(port, request), of_policy(subject, given, dictionaries, request)
         if wanted != made:
             found.append(Difference(request, wanted, made))
@@ -244,8 +313,8 @@ def differences(
 def compare(subject: Subject, report: Report, folder: Path, dictionaries: Path, ports: Dict[str, int]) -> None:
     def compared(name: str) -> Tuple[str, List[Difference]]:
         said, named = imported(subject, folder, dictionaries, name)
-        policy, stub = (folder / f"{name}.policy").read_text(), STUB.search(said)
-        return said, differences(subject, policy, stub[1] if stub else "", named, name, ports[name])
+        policy = (folder / f"{name}.policy").read_text()
+        return said, differences(subject, policy, said, named, name, ports[name])
 
     for name, (said, found) in zip(ports, on_all(compared, ports)):
         kept = re.match(r"(\d+) of (\d+) statements kept", said)
