@@ -91,7 +91,7 @@ def check_stopped(copy: Copy, report: Report) -> None:
         wrong += faults_of_calls(copy, [f"try {CRATE}", *left])
         report.check(f"make run: after {name}", wrong)
     os.utime(copy.root / "crates/radpolicy/src/lib.rt")
-    said = copy.make("run", RT_KILLED="build radpolicy").stdout
+    said = copy.make("run", RT_KILLED="build radpolicy", JOBS="4").stdout
     wrong = faults_of_both(said, printed, place_of(copy, "radpolicy"))
     wrong += [] if copy.calls().count("build radpolicy") == 2 else [f"the kit was asked for {copy.calls()}"]
     report.check("make run: with too little memory for several jobs", wrong)
