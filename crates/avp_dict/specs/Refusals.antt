@@ -20,7 +20,8 @@ abbrev pub word_read : {A : Type 0} → ℕ → Result A DictKind → Result A R
 word_read word (Ok x) = Ok x
 word_read word (Err kind) = Err (at_word word kind)
 
--- so many words at most may follow the keyword, and other ones do: the first too many, or where one is lacking
+-- so many words at most may follow the keyword, and another number of words does: the first too many, or where one is
+-- lacking
 abbrev pub miscounted : ℕ → List (List ℕ) → RefusedWord
 miscounted most words = at_word (min most (length words) + 1) Unreadable
 

@@ -20,7 +20,7 @@ pub enum DictKind {
     /// An earlier line, not skipped when it was read, gave the name to another vendor or attribute.
     #[error("name has another number")]
     OtherNumber,
-    /// BEGIN-VENDOR, outside skipped blocks and without a format, of a vendor without an earlier VENDOR line.
+    /// BEGIN-VENDOR, outside skipped blocks and with a name only, of a vendor without an earlier VENDOR line.
     #[error("unknown vendor")]
     UnknownVendor,
     /// An END line that doesn't end the last open block, or a block that is left open.

@@ -1,4 +1,4 @@
--- Where a policy text was refused.
+-- Where the tokens of a policy text begin.
 use Rattle.std.specs.Prelude.{◌≡◌, ℕ, zero, suc, ◌+◌, false, List, length}
 use Rattle.avp_forms.specs.Profiles.{profile_of}
 use Rattle.avp_forms.specs.declared.profiles.Profile.{Profile}

@@ -49,11 +49,11 @@ ComparandFails profile dictionary target name p =
     (λ written after. IsValueRefused (comparand_refusal profile dictionary target written) name
     (left_at p)) p
 
--- what a text is refused for as a value of the attribute itself; one whose value has no meaning is none
+-- what a text is refused for that is no octets either: as a value of the attribute itself
 abbrev pub own_refusal : Option PolicyKind → Option PolicyKind
 own_refusal refusal = Some (unwrap_or refusal kinds.NotValue)
 
--- and no other text is compared with the attribute
+-- a text is refused that the attribute is not compared with
 abbrev pub unfit_meaning : Option PolicyKind → Option MeantComparand → Option PolicyKind
 unfit_meaning refusal None = own_refusal refusal
 unfit_meaning refusal (Some x) = None
@@ -99,12 +99,12 @@ IsPatternFault text (kinds.Pattern fault) =
     (fault ≢ pattern.TooLarge) × (fault ≢ pattern.Memory) × IsRefused text fault
 IsPatternFault text _ = ⊥
 
--- strings alone are compared with a pattern; the token of the pattern begins at at
+-- strings alone are compared with a pattern, whose token begins here
 abbrev pub MatchedFails : Dictionary → Reference → Matcher → ℕ → Failing Place
-MatchedFails dictionary found m at p left kind =
+MatchedFails dictionary found m begin p left kind =
     ((type_of dictionary found.target.named.id ≢ types.Text)
-    × Refused at kinds.OtherType p left kind)
-    ⊎ ((type_of dictionary found.target.named.id ≡ types.Text) × (left ≡ at)
+    × Refused begin kinds.OtherType p left kind)
+    ⊎ ((type_of dictionary found.target.named.id ≡ types.Text) × (left ≡ begin)
     × IsPatternFault (pattern_of m) kind)
 
 -- ---- references
@@ -162,21 +162,21 @@ abbrev pub group_refusal : Option ℕ → Option PolicyKind
 group_refusal None = Some kinds.Misplaced
 group_refusal (Some group) = None
 
--- an operand by its first token, which begins at at; inside it fewer than n signs may be nested
+-- an operand by its first token, which begins here; inside it fewer than n signs may be nested
 abbrev pub OperandFailsFrom : Profile → Dictionary → ℕ → Form Place Cond → Failing Place → ℕ
     → Token → Failing Place
-OperandFailsFrom profile dictionary n inner fails at (Operator sign.Not) after left kind =
-    DeepFails n at fails after left kind
-OperandFailsFrom profile dictionary n inner fails at (Operator sign.Open) after left kind =
-    ClosedFails n at inner fails after left kind
-OperandFailsFrom profile dictionary n inner fails at (Operator sign.Reference) after left kind =
+OperandFailsFrom profile dictionary n inner fails begin (Operator sign.Not) after left kind =
+    DeepFails n begin fails after left kind
+OperandFailsFrom profile dictionary n inner fails begin (Operator sign.Open) after left kind =
+    ClosedFails n begin inner fails after left kind
+OperandFailsFrom profile dictionary n inner fails begin (Operator sign.Reference) after left kind =
     ReferredFails profile dictionary after left kind
-OperandFailsFrom profile dictionary n inner fails at (Word word) after left kind =
-    WordFailsFrom profile dictionary (code_named word) word at after left kind
-OperandFailsFrom profile dictionary n inner fails at (Quoted quote.Double text) after left kind =
-    RefusedIf at (group_refusal (group_in profile text)) after left kind
-OperandFailsFrom profile dictionary n inner fails at token after left kind =
-    Refused at (unfit token) after left kind
+OperandFailsFrom profile dictionary n inner fails begin (Word word) after left kind =
+    WordFailsFrom profile dictionary (code_named word) word begin after left kind
+OperandFailsFrom profile dictionary n inner fails begin (Quoted quote.Double text) after left kind =
+    RefusedIf begin (group_refusal (group_in profile text)) after left kind
+OperandFailsFrom profile dictionary n inner fails begin token after left kind =
+    Refused begin (unfit token) after left kind
 
 abbrev pub OperandFails : Profile → Dictionary → ℕ → Form Place Cond → Failing Place
     → Failing Place

@@ -45,7 +45,8 @@ pub data WhileFails {S A : Type 0} (begins : S → Bool) (form : Form S A) (fail
       → begins p ≡ true → form p x mid → WhileFails begins form fails mid left kind
       → WhileFails begins form fails p left kind
 
--- after a value, others with a step before each; the place before the step says where that began
+-- after a value, others with a step before each; fails is also told the place before the step, where the step's token
+-- begins
 pub data OthersFails {S A : Type 0} (step : Step S) (form : Form S A) (fails : S → Failing S)
     : S → ℕ → PolicyKind → Type 0 where
   here : {p : S} {left : ℕ} {kind : PolicyKind} (next : S)

@@ -91,13 +91,13 @@ ValueFails profile dictionary target name p =
 abbrev pub any_word : List ℕ → Option PolicyKind
 any_word word = None
 
--- a source by its tokens alone, the first of which begins at at
+-- a source by its tokens alone, the first of which begins here
 abbrev pub IgnoredFailsFrom : ℕ → Token → Failing Place
-IgnoredFailsFrom at (Word text) after left kind = ⊥
-IgnoredFailsFrom at (Quoted mark text) after left kind = ⊥
-IgnoredFailsFrom at (Operator sign.Reference) after left kind =
+IgnoredFailsFrom begin (Word text) after left kind = ⊥
+IgnoredFailsFrom begin (Quoted mark text) after left kind = ⊥
+IgnoredFailsFrom begin (Operator sign.Reference) after left kind =
     RefusedIf (left_at after) (word_refusal any_word (next_token after).0) after left kind
-IgnoredFailsFrom at token after left kind = Refused at (unfit token) after left kind
+IgnoredFailsFrom begin token after left kind = Refused begin (unfit token) after left kind
 
 abbrev pub IgnoredFails : Failing Place
 IgnoredFails p = IgnoredFailsFrom (left_at p) (next_token p).0 (next_token p).1

@@ -45,7 +45,7 @@ abbrev pub UpdateFails : Profile → Dictionary → ℕ → Failing Place
 UpdateFails profile dictionary n p =
     UpdateFailsOn profile dictionary n (list_at p).0 (list_at p).1
 
--- ---- other statements, of which inner are the statements inside, and fails their refusals; each begins with its word
+-- ---- other statements, each begun by its word; inner are those in their blocks, and fails is where these are refused
 module _ (profile : Profile) (dictionary : Dictionary) (n : ℕ) (inner : Form Place Statement)
     (fails : Failing Place) where
   -- a condition in brackets, and a block

@@ -97,6 +97,7 @@ abbrev pub value_place : ℕ → ℕ → PolicyKind → ℕ
 value_place name value kinds.NotWritable = name
 value_place name value _ = value
 
+-- a value, or the name before it, is refused for this, if for anything
 abbrev pub IsValueRefused : Option PolicyKind → ℕ → ℕ → ℕ → PolicyKind → Type 0
 IsValueRefused why name value left kind =
     (why ≡ Some kind) × (left ≡ value_place name value kind)
