@@ -1,5 +1,5 @@
 -- A packet of signed attributes: what is read of it again.
-use Rattle.std.proofs.Common.{◌≡◌, ◌∙◌, ℕ, ◌≤◌, ◌<◌, Bool, true, false, List, [], length, refl, sym, ap, arith}
+use Rattle.std.proofs.Common.{◌≡◌, ◌∙◌, ℕ, ◌+◌, ◌≤◌, ◌<◌, Bool, true, false, List, [], length, refl, sym, ap, arith}
 use Rattle.std.specs.List.{All, list_any}
 use Rattle.avp_lists.specs.declared.pairs.Pair.{Pair}
 use Rattle.avp_dict.specs.Dictionary.{Dictionary}
@@ -27,13 +27,14 @@ module _ (dictionary : Dictionary) (secret : List ℕ) (code id : ℕ) (authenti
 
   -- the attributes are too many for a packet, or not
   module _ (own : List ℕ) (long : length own ≡ 16) (division : Division) (divided : IsDivided content.kind content.pairs division) where
-    pub packet_too_long : 4076 < length (divided_octets dictionary secret (hiding_authenticator code authenticator) division content.proxy_states zeros) → max_packet_octets < length (packet code id own sent_attributes)
+    pub packet_too_long : max_packet_octets < 20 + length (divided_octets dictionary secret (hiding_authenticator code authenticator) division content.proxy_states zeros) → max_packet_octets < length (packet code id own sent_attributes)
     packet_too_long more = omega (arith, more, length-packet code id own sent_attributes long, length-signed dictionary secret code id authenticator content division divided)
 
-    pub packet_short : (attributes : List ℕ) → attributes ≡ divided_signed dictionary secret code id authenticator division content.proxy_states → length attributes ≤ 4076 → length (packet code id own sent_attributes) ≤ max_packet_octets
-    packet_short attributes made few =
-        let same = ap length (made ∙ sym (signed_octets dictionary secret code id authenticator content division divided)) in
-        omega (arith, few, length-packet code id own sent_attributes long, same)
+    pub packet_short : (octets : List ℕ) → length authenticator ≡ 16 → octets ≡ packet code id authenticator (divided_signed dictionary secret code id authenticator division content.proxy_states) → length octets ≤ max_packet_octets → length (packet code id own sent_attributes) ≤ max_packet_octets
+    packet_short octets other made few =
+        let laid : List ℕ = divided_signed dictionary secret code id authenticator division content.proxy_states in
+        let same = ap length (signed_octets dictionary secret code id authenticator content division divided) in
+        omega (arith, few, ap length made, length-packet code id authenticator laid other, length-packet code id own sent_attributes long, same)
 
   -- octets are a packet of the attributes, and no longer than a packet may be
   module _ (octets own : List ℕ) (made : octets ≡ packet code id own sent_attributes) (long : length own ≡ 16) (short : length (packet code id own sent_attributes) ≤ max_packet_octets) where

@@ -1,11 +1,10 @@
 //! The digests in authenticators (RFC 2865, section 3; RFC 2866, section 3).
 
-ghost use Rattle.std.specs.Prelude.{◌≡◌, ◌≤◌, ◌<◌, ◌+◌, ◌∷◌, ◌++◌, true, false, length, take, drop, IfSome, IfNone};
-ghost use Rattle.std.specs.Int.{to_be_bytes, w16};
+ghost use Rattle.std.specs.Prelude.{◌≡◌, ◌≤◌, ◌<◌, ◌++◌, true, false, length, take, drop, IfSome, IfNone};
 ghost use Rattle.std.specs.Str.{bytes_eq};
 ghost use Rattle.md5.specs.Md5.{md5};
 ghost use Rattle.avp_packet.specs.Decoded.{is_accounting_request};
-ghost use Rattle.avp_packet.specs.Packets.{authenticator_of, begins_packet, digest_over, is_packet_length, is_reply, length_of};
+ghost use Rattle.avp_packet.specs.Packets.{authenticator_of, begins_packet, is_packet_length, is_reply, length_of};
 
 use md5::{Digest, Md5};
 
@@ -20,6 +19,9 @@ pub(crate) const MAX_ATTRIBUTES_OCTETS: usize = MAX_PACKET_OCTETS - PACKET_HEAD_
 
 /// The octets of a digest, and of an authenticator.
 pub(crate) const DIGEST_OCTETS: usize = 16;
+
+/// Where Length begins.
+pub(crate) const LENGTH_PLACE: usize = 2;
 
 /// Where the authenticator begins.
 pub(crate) const AUTHENTICATOR_PLACE: usize = 4;
@@ -141,27 +143,12 @@ pub fn check_reply(reply: &[u8], request_authenticator: &[u8; 16], secret: &[u8]
     has_digest(reply, length, request_authenticator, secret)
 }
 
-/// Code, Identifier and Length of a packet with so many octets of attributes.
-pub(crate) fn code_id_length(code: u8, id: u8, attributes: usize) -> [u8; 4]
-    requires { attributes ≤ MAX_PACKET_OCTETS }
-    ensures { result ≡ code ∷ id ∷ to_be_bytes w16 (PACKET_HEAD_OCTETS + attributes) }
+/// The digest of a packet as it is, and of the secret.
+pub(crate) fn digest_under(octets: &[u8], secret: &[u8]) -> [u8; 16]
+    ensures { result ≡ md5 (octets.now ++ secret.now) }
 {
-    let length = ((PACKET_HEAD_OCTETS + attributes) as u16).to_be_bytes();
-    [code, id, length[0], length[1]]
-}
-
-/// The digest over a packet with these octets as its authenticator, and over the secret.
-#[tactic(auto, unfolding(crate::specs::Packets::digest_over, crate::specs::Packets::packet))]
-pub(crate) fn digest_over(
-    code: u8,
-    id: u8,
-    authenticator: &[u8; 16],
-    attributes: &[u8],
-    secret: &[u8],
-) -> [u8; 16]
-    requires { length attributes.now ≤ MAX_PACKET_OCTETS }
-    ensures { result ≡ digest_over code id authenticator.now attributes.now secret.now }
-{
-    let code_id_length = code_id_length(code, id, attributes.len());
-    digest_of_four(&code_id_length, authenticator, attributes, secret)
+    let mut hasher = Md5::new();
+    hasher.update(octets);
+    hasher.update(secret);
+    hasher.finalize()
 }

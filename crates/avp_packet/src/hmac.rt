@@ -21,8 +21,8 @@ const INNER_PAD: [u8; MD5_BLOCK_OCTETS] = [0x36; MD5_BLOCK_OCTETS];
 
 const OUTER_PAD: [u8; MD5_BLOCK_OCTETS] = [0x5c; MD5_BLOCK_OCTETS];
 
-/// The octets of a Message-Authenticator: Type, Length and 16 of Value.
-pub(crate) const SIGNATURE_OCTETS: usize = ATTRIBUTE_HEAD_OCTETS + DIGEST_OCTETS;
+// The octets of a Message-Authenticator: Type, Length and 16 of Value.
+const SIGNATURE_OCTETS: usize = ATTRIBUTE_HEAD_OCTETS + DIGEST_OCTETS;
 
 // The Type and Length of a Message-Authenticator.
 const SIGNATURE_HEAD: [u8; ATTRIBUTE_HEAD_OCTETS] = [MESSAGE_AUTHENTICATOR, SIGNATURE_OCTETS as u8];
@@ -48,6 +48,19 @@ fn keyed_hasher(pad: &[u8; MD5_BLOCK_OCTETS], key: &[u8; MD5_BLOCK_OCTETS]) -> M
     let mut hasher = Md5::new();
     hasher.update(&masked(pad, key));
     hasher
+}
+
+/// HMAC-MD5, the digest of a text under a key.
+#[tactic(auto, unfolding(crate::specs::Hmac::hmac))]
+pub(crate) fn hmac(key: &[u8], text: &[u8]) -> [u8; 16]
+    ensures { result ≡ hmac key.now text.now }
+{
+    let key = key_block(key);
+    let mut inner = keyed_hasher(&INNER_PAD, &key);
+    inner.update(text);
+    let mut outer = keyed_hasher(&OUTER_PAD, &key);
+    outer.update(&inner.finalize());
+    outer.finalize()
 }
 
 /// The octets that sign a packet. Its Message-Authenticator is between those before and those after, with zeros for its

@@ -1,5 +1,5 @@
 -- A list divided at its packet's Message-Authenticator, and where the octets that sign are filled in.
-use Rattle.std.specs.Prelude.{◌≡◌, ◌≤◌, ℕ, ◌+◌, Bool, true, false, if◌then◌else◌, List, [], ◌++◌, take, drop, Option, Some, None}
+use Rattle.std.specs.Prelude.{◌≡◌, ◌≤◌, ℕ, ◌+◌, Bool, true, false, if◌then◌else◌, List, [], ◌∷◌, ◌++◌, take, drop, Option, Some, None}
 use Rattle.std.specs.List.{All}
 use Rattle.avp_lists.specs.declared.pairs.Pair.{Pair}
 use Rattle.avp_dict.specs.AttributeNumbers.{message_authenticator}
@@ -57,6 +57,11 @@ module _ (dictionary : Dictionary) (secret : List ℕ) where
   divided_signed code id authenticator division proxy_states =
       let octets = divided_octets (hiding_authenticator code authenticator) division proxy_states in
       octets (hmac secret (packet code id authenticator (octets zeros)))
+
+-- a packet with zeros in the place of its Length
+abbrev pub without_length : ℕ → ℕ → List ℕ → List ℕ → List ℕ
+without_length code id authenticator attributes =
+    code ∷ id ∷ 0 ∷ 0 ∷ authenticator ++ attributes
 
 -- the octets of a Message-Authenticator: Type, Length and 16 of Value
 abbrev pub signature_octets : ℕ

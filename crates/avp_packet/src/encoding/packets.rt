@@ -1,6 +1,6 @@
 //! Packets written (RFC 2865, section 3; RFC 2866, section 3; RFC 3579, section 3.2).
 
-ghost use Rattle.std.specs.Prelude.{◌≡◌, ◌≤◌, ◌<◌, [], true, false, length, All, OnOk, IfOk, Ok, Err, Some};
+ghost use Rattle.std.specs.Prelude.{◌≡◌, ◌≤◌, ◌<◌, ◌+◌, ◌++◌, ℕ, List, [], true, false, length, take, drop, All, OnOk, IfOk, Ok, Err};
 ghost use Rattle.avp_lists.specs.declared.pairs.AttrId.TheVariants.{Plain};
 ghost use Rattle.avp_dict.specs.AttributeNumbers.{proxy_state};
 ghost use Rattle.avp_dict.specs.Limits.{fits};
@@ -12,77 +12,89 @@ ghost use Rattle.avp_packet.specs.Packets.{IsReplyCode, IsRequestCode, IsShort, 
 ghost use Rattle.avp_packet.specs.Sending.{is_to_sign};
 ghost use Rattle.avp_packet.specs.Signed.{is_signed};
 ghost use Rattle.avp_packet.specs.Splitting.{left};
-ghost use Rattle.avp_packet.specs.internal.Filling.{AreVendorsInRange, IsPlace, KeepsAll, divided_octets, divided_signed, filled};
+ghost use Rattle.avp_packet.specs.internal.Filling.{AreVendorsInRange, IsPlace, KeepsAll, divided_octets, divided_signed, filled, without_length};
 
 use crate::attribute::splitting::ATTRIBUTE_HEAD_OCTETS;
 use crate::authenticators::{
-    MAX_ATTRIBUTES_OCTETS, MAX_PACKET_OCTETS, PACKET_HEAD_OCTETS, ZEROS, code_id_length,
-    digest_over,
+    AUTHENTICATOR_PLACE, LENGTH_PLACE, MAX_PACKET_OCTETS, PACKET_HEAD_OCTETS, ZEROS, digest_under,
 };
+use crate::decoding::packets::copy_authenticator;
 use crate::encoding::dividing::{Division, divide_reply, divide_request};
 use crate::encoding::pairs::write_attributes;
 use crate::faults::EncodeFault;
-use crate::hmac::{SIGNATURE_OCTETS, signature_between};
+use crate::hmac::hmac;
 use crate::keys::{Keys, hiding_authenticator};
 use crate::packets::{ACCOUNTING_REQUEST, ACCOUNTING_RESPONSE};
 use avp_dict::Dictionary;
 use avp_lists::Pair;
 use std::alloc::{AllocError, Global};
 
-// The authenticator of a request with these attributes.
-fn request_authenticator(
-    code: u8,
-    id: u8,
-    authenticator: &[u8; 16],
-    attributes: &[u8],
-    secret: &[u8],
-) -> [u8; 16]
-    requires { length attributes.now ≤ MAX_ATTRIBUTES_OCTETS }
-    ensures { result ≡ request_authenticator code id authenticator.now attributes.now secret.now }
+// Puts octets in the place of as many others.
+fn fill_in(octets: &mut Vec<u8>, place: usize, filling: &[u8])
+    requires { place + length filling.now ≤ length octets.old.items }
+    ensures { octets.new.items ≡ take place octets.old.items ++ filling.now
+        ++ drop (place + length filling.now) octets.old.items }
 {
-    if code == ACCOUNTING_REQUEST {
-        digest_over(code, id, &ZEROS, attributes, secret)
-    } else {
-        *authenticator
-    }
+    octets[place..place + filling.len()].copy_from_slice(filling);
 }
 
-// Fills in the octets of a blank Message-Authenticator.
-fn fill_signature(octets: &mut Vec<u8>, place: usize, signature: &[u8; 16])
-    requires place { IsPlace (length octets.old.items) (Some place) }
-    requires blank { filled octets.old.items (Some place) zeros ≡ octets.old.items }
-    ensures { octets.new.items ≡ filled octets.old.items (Some place) signature.now }
-{
-    octets[place + ATTRIBUTE_HEAD_OCTETS..place + SIGNATURE_OCTETS].copy_from_slice(signature);
-}
-
-// Signs the packet of attributes, where there is a blank Message-Authenticator among them.
+// Fills in the Length of a packet whose attributes are written.
 #[tactic(auto, unfolding(crate::specs::Packets::packet))]
-fn sign(octets: &mut Vec<u8>, place: Option<usize>, keys: &Keys<'_>, code: u8, id: u8)
-    requires short { length octets.old.items ≤ MAX_ATTRIBUTES_OCTETS }
+fn fill_length(octets: &mut Vec<u8>)
+    requires head { PACKET_HEAD_OCTETS ≤ length octets.old.items }
+    requires short { length octets.old.items ≤ MAX_PACKET_OCTETS }
+    ensures { (code id : ℕ) (authenticator attributes : List ℕ) → length authenticator ≡ 16
+        → octets.old.items ≡ without_length code id authenticator attributes
+        → octets.new.items ≡ packet code id authenticator attributes }
+{
+    let length = (octets.len() as u16).to_be_bytes();
+    fill_in(octets, LENGTH_PLACE, &length);
+}
+
+// Fills in another authenticator.
+fn fill_authenticator(octets: &mut Vec<u8>, authenticator: &[u8; 16])
+    requires { PACKET_HEAD_OCTETS ≤ length octets.old.items }
+    ensures length { length octets.new.items ≡ length octets.old.items }
+    ensures packet { (code id : ℕ) (others attributes : List ℕ) → length others ≡ 16
+        → octets.old.items ≡ packet code id others attributes
+        → octets.new.items ≡ packet code id authenticator.now attributes }
+{
+    fill_in(octets, AUTHENTICATOR_PLACE, authenticator);
+}
+
+// Signs a packet under the authenticator in it, where it has a blank Message-Authenticator.
+fn sign(octets: &mut Vec<u8>, place: Option<usize>, secret: &[u8])
     requires place { IsPlace (length octets.old.items) place }
     requires blank { filled octets.old.items place zeros ≡ octets.old.items }
     ensures { octets.new.items ≡ filled octets.old.items place
-        (hmac keys.now.secret.now (packet code id keys.now.authenticator.now octets.old.items)) }
+        (hmac secret.now octets.old.items) }
 {
     let Some(place) = place else {
         return;
     };
-    let code_id_length = code_id_length(code, id, octets.len());
-    let before = &octets[..place];
-    let after = &octets[place + SIGNATURE_OCTETS..];
-    let signature = signature_between(
-        keys.secret,
-        &code_id_length,
-        keys.authenticator,
-        before,
-        after,
-    );
-    fill_signature(octets, place, &signature);
+    let signature = hmac(secret, octets);
+    fill_in(octets, place + ATTRIBUTE_HEAD_OCTETS, &signature);
 }
 
-// The attributes of a packet, signed, by keys that have the Request Authenticator.
-fn signed_attributes(
+// A packet's head with no Length yet, in a list with room for the whole packet.
+fn packet_head(
+    alloc: Global,
+    code: u8,
+    id: u8,
+    authenticator: &[u8; 16],
+) -> Result<Vec<u8>, AllocError>
+    ensures head { IfOk result (λ octets. octets.items
+        ≡ without_length code id authenticator.now []) }
+    ensures length { IfOk result (λ octets. length octets.items ≡ PACKET_HEAD_OCTETS) }
+{
+    let mut octets = Vec::with_capacity(alloc, MAX_PACKET_OCTETS)?;
+    octets.extend_from_slice(&[code, id, 0, 0])?;
+    octets.extend_from_slice(authenticator)?;
+    Ok(octets)
+}
+
+// A packet with the authenticator of its keys, the Request Authenticator, and signed under it.
+fn signed_packet(
     alloc: Global,
     keys: &Keys<'_>,
     code: u8,
@@ -93,12 +105,14 @@ fn signed_attributes(
     requires list_fits { KeepsAll (λ pair. fits pair keys.now.dictionary.now) division.now }
     requires proxies_fit { All (λ pair. fits pair keys.now.dictionary.now ≡ true) proxy_states.now }
     ensures octets { IfOk result (λ octets. octets.items
-        ≡ divided_signed keys.now.dictionary.now keys.now.secret.now code id
-        keys.now.authenticator.now division.now proxy_states.now) }
-    ensures short { IfOk result (λ octets. length octets.items ≤ MAX_ATTRIBUTES_OCTETS) }
+        ≡ packet code id keys.now.authenticator.now
+        (divided_signed keys.now.dictionary.now keys.now.secret.now code id
+        keys.now.authenticator.now division.now proxy_states.now)) }
+    ensures short { IfOk result (λ octets. length octets.items ≤ MAX_PACKET_OCTETS) }
     ensures ranged { OnOk result (AreVendorsInRange division.now proxy_states.now) }
-    ensures too_long { result ≡ Err EncodeFault.TooLong → MAX_ATTRIBUTES_OCTETS
-        < length (divided_octets keys.now.dictionary.now keys.now.secret.now
+    ensures too_long { result ≡ Err EncodeFault.TooLong → MAX_PACKET_OCTETS
+        < PACKET_HEAD_OCTETS
+        + length (divided_octets keys.now.dictionary.now keys.now.secret.now
         (hiding_authenticator code keys.now.authenticator.now)
         division.now proxy_states.now zeros) }
 {
@@ -106,35 +120,33 @@ fn signed_attributes(
         authenticator: &hiding_authenticator(code, keys.authenticator),
         ..*keys
     };
-    let written = write_attributes(alloc, &hiding, division, proxy_states)?;
-    let mut octets = written.octets;
-    sign(&mut octets, written.place, keys, code, id);
+    let mut octets = packet_head(alloc, code, id, keys.authenticator)?;
+    let place = write_attributes(&mut octets, &hiding, division, proxy_states)?;
+    fill_length(&mut octets);
+    sign(&mut octets, place, keys.secret);
     Ok(octets)
 }
 
-#[tactic(auto, unfolding(crate::specs::Packets::packet))]
-fn packet(
-    alloc: Global,
-    code: u8,
-    id: u8,
-    authenticator: &[u8; 16],
-    attributes: &[u8],
-) -> Result<Vec<u8>, AllocError>
-    requires { length attributes.now ≤ MAX_ATTRIBUTES_OCTETS }
-    ensures { IfOk result (λ octets. octets.items
-        ≡ packet code id authenticator.now attributes.now) }
+// Fills in the authenticator of a request, which has the one of an Access-Request.
+#[tactic(auto, unfolding(crate::specs::Packets::digest_over))]
+fn fill_request_authenticator(octets: &mut Vec<u8>, code: u8, secret: &[u8])
+    requires { PACKET_HEAD_OCTETS ≤ length octets.old.items }
+    ensures { (id : ℕ) (authenticator attributes : List ℕ) → length authenticator ≡ 16
+        → octets.old.items ≡ packet code id authenticator attributes
+        → octets.new.items ≡ packet code id
+        (request_authenticator code id authenticator attributes secret.now) attributes }
 {
-    let mut octets = Vec::with_capacity(alloc, PACKET_HEAD_OCTETS + attributes.len())?;
-    octets.extend_from_slice(&code_id_length(code, id, attributes.len()))?;
-    octets.extend_from_slice(authenticator)?;
-    octets.extend_from_slice(attributes)?;
-    Ok(octets)
+    if code == ACCOUNTING_REQUEST {
+        fill_authenticator(octets, &ZEROS);
+        let digest = digest_under(octets, secret);
+        fill_authenticator(octets, &digest);
+    }
 }
 
 /// An Access-Request or an Accounting-Request with the pairs of a list. The authenticator of an Accounting-Request is
 /// its digest, and the one given is not used. In an Access-Request the list's first Message-Authenticator, whatever its
 /// value, is sent in its place as one that signs the packet, and later ones are not sent; an Accounting-Request sends
-/// them as they are. [`EncodeFault::TooLong`] is found before the packet is put together.
+/// them as they are.
 ///
 /// ```rust
 /// let (secret, code) = (b"testing123", ACCESS_REQUEST);
@@ -178,14 +190,13 @@ pub fn encode_request(
         secret,
         authenticator,
     };
-    let attributes = signed_attributes(alloc, &keys, code, id, &division, &[])?;
-    let authenticator = request_authenticator(code, id, authenticator, &attributes, secret);
-    let octets = packet(alloc, code, id, &authenticator, &attributes)?;
+    let mut octets = signed_packet(alloc, &keys, code, id, &division, &[])?;
+    fill_request_authenticator(&mut octets, code, secret);
     Ok(octets)
 }
 
-/// The authenticator of the packet that [`encode_request`] would make of these arguments, without making it: for an
-/// Accounting-Request its digest, else the one given.
+/// The authenticator of the packet that [`encode_request`] makes of these arguments: for an Accounting-Request its
+/// digest, else the one given.
 pub fn encoded_authenticator(
     alloc: Global,
     dictionary: &Dictionary,
@@ -205,14 +216,8 @@ pub fn encoded_authenticator(
     ensures too_long { result ≡ Err EncodeFault.TooLong → IsTooLong
         (request dictionary.now secret.now code id authenticator.now list.now) }
 {
-    let division = divide_request(code, list);
-    let keys = Keys {
-        dictionary,
-        secret,
-        authenticator,
-    };
-    let attributes = signed_attributes(alloc, &keys, code, id, &division, &[])?;
-    Ok(request_authenticator(code, id, authenticator, &attributes, secret))
+    let octets = encode_request(alloc, dictionary, secret, code, id, authenticator, list)?;
+    Ok(copy_authenticator(&octets))
 }
 
 /// A reply with the pairs of a list, but for the list's Message-Authenticators, and then the Proxy-States of the
@@ -289,8 +294,8 @@ pub fn encode_reply(
         secret,
         authenticator: request_authenticator,
     };
-    let attributes = signed_attributes(alloc, &keys, code, id, &division, proxy_states)?;
-    let authenticator = digest_over(code, id, request_authenticator, &attributes, secret);
-    let octets = packet(alloc, code, id, &authenticator, &attributes)?;
+    let mut octets = signed_packet(alloc, &keys, code, id, &division, proxy_states)?;
+    let digest = digest_under(&octets, secret);
+    fill_authenticator(&mut octets, &digest);
     Ok(octets)
 }

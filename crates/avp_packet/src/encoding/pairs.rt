@@ -13,7 +13,7 @@ ghost use Rattle.avp_packet.specs.internal.Ranges.{IsVendorInRange};
 ghost use Rattle.avp_packet.specs.internal.Views.{under};
 
 use crate::attribute::numbers::MESSAGE_AUTHENTICATOR;
-use crate::authenticators::{MAX_ATTRIBUTES_OCTETS, ZEROS};
+use crate::authenticators::{MAX_PACKET_OCTETS, ZEROS};
 use crate::encoding::attributes::{push_attribute, push_holding};
 use crate::encoding::dividing::{Division, MESSAGE_AUTHENTICATOR_ID};
 use crate::faults::EncodeFault;
@@ -107,20 +107,20 @@ fn push_kept(
     all: bool,
 ) -> Result<(), EncodeFault>
     requires fits { fits pair.now keys.now.dictionary.now ≡ true }
-    requires short { length octets.old.items ≤ MAX_ATTRIBUTES_OCTETS }
+    requires short { length octets.old.items ≤ MAX_PACKET_OCTETS }
     ensures ok { OnOk result (octets.new.items ≡ octets.old.items
         ++ under keys.now attribute_octets (kept_pairs all (pair.now ∷ []))) }
     ensures ranged { OnOk result (IsVendorInRange pair.now.id) }
-    ensures short { OnOk result (length octets.new.items ≤ MAX_ATTRIBUTES_OCTETS) }
+    ensures short { OnOk result (length octets.new.items ≤ MAX_PACKET_OCTETS) }
     ensures too_long { result ≡ Err EncodeFault.TooLong
-        → MAX_ATTRIBUTES_OCTETS < length octets.old.items
+        → MAX_PACKET_OCTETS < length octets.old.items
         + length (under keys.now attribute_octets (kept_pairs all (pair.now ∷ []))) }
 {
     if !is_kept(pair, all) {
         return Ok(());
     }
     push_pair(octets, keys, pair)?;
-    if octets.len() > MAX_ATTRIBUTES_OCTETS {
+    if octets.len() > MAX_PACKET_OCTETS {
         return Err(EncodeFault::TooLong);
     }
     Ok(())
@@ -135,13 +135,13 @@ fn push_list(
     all: bool,
 ) -> Result<(), EncodeFault>
     requires fits { All (λ pair. fits pair keys.now.dictionary.now ≡ true) list.now }
-    requires short { length octets.old.items ≤ MAX_ATTRIBUTES_OCTETS }
+    requires short { length octets.old.items ≤ MAX_PACKET_OCTETS }
     ensures ok { OnOk result (octets.new.items ≡ octets.old.items
         ++ under keys.now attribute_octets (kept_pairs all list.now)) }
     ensures ranged { OnOk result (All (λ pair. IsVendorInRange pair.id) list.now) }
-    ensures short { OnOk result (length octets.new.items ≤ MAX_ATTRIBUTES_OCTETS) }
+    ensures short { OnOk result (length octets.new.items ≤ MAX_PACKET_OCTETS) }
     ensures too_long { result ≡ Err EncodeFault.TooLong
-        → MAX_ATTRIBUTES_OCTETS < length octets.old.items
+        → MAX_PACKET_OCTETS < length octets.old.items
         + length (under keys.now attribute_octets (kept_pairs all list.now)) }
 {
     for pair in list {
@@ -152,56 +152,53 @@ fn push_list(
 
 // Adds a blank Message-Authenticator where there is to be one, and says where it is.
 fn push_blank(octets: &mut Vec<u8>, signed: bool) -> Result<Option<usize>, EncodeFault>
-    requires short { length octets.old.items ≤ MAX_ATTRIBUTES_OCTETS }
+    requires short { length octets.old.items ≤ MAX_PACKET_OCTETS }
     ensures ok { OnOk result (octets.new.items ≡ octets.old.items ++ signature_if signed zeros) }
     ensures place { IfOk result (λ place. place ≡ place_if signed (length octets.old.items)) }
-    ensures short { OnOk result (length octets.new.items ≤ MAX_ATTRIBUTES_OCTETS) }
+    ensures short { OnOk result (length octets.new.items ≤ MAX_PACKET_OCTETS) }
     ensures too_long { result ≡ Err EncodeFault.TooLong
-        → MAX_ATTRIBUTES_OCTETS < length octets.old.items + length (signature_if signed zeros) }
+        → MAX_PACKET_OCTETS < length octets.old.items + length (signature_if signed zeros) }
 {
     if !signed {
         return Ok(None);
     }
     let place = octets.len();
     push_attribute(octets, MESSAGE_AUTHENTICATOR, &ZEROS)?;
-    if octets.len() > MAX_ATTRIBUTES_OCTETS {
+    if octets.len() > MAX_PACKET_OCTETS {
         return Err(EncodeFault::TooLong);
     }
     Ok(Some(place))
 }
 
-/// Attributes as they were written, and where a blank Message-Authenticator is among them.
-#[derive(Drop)]
-pub(crate) struct Written {
-    pub octets: Vec<u8>,
-    pub place: Option<usize>,
-}
-
-/// The attributes that a list is sent in and then its Proxy-States, with a blank Message-Authenticator, unless the octets
-/// become too many.
+/// Adds the attributes that a list is sent in and then its Proxy-States, with a blank Message-Authenticator, unless the
+/// octets become too many, and says where the Message-Authenticator is.
 pub(crate) fn write_attributes(
-    alloc: Global,
+    octets: &mut Vec<u8>,
     keys: &Keys<'_>,
     division: &Division<'_>,
     proxy_states: &[Pair],
-) -> Result<Written, EncodeFault>
+) -> Result<Option<usize>, EncodeFault>
     requires list_fits { KeepsAll (λ pair. fits pair keys.now.dictionary.now) division.now }
     requires proxies_fit { All (λ pair. fits pair keys.now.dictionary.now ≡ true) proxy_states.now }
-    ensures blank { IfOk result (λ w. w.octets.items
-        ≡ under keys.now divided_octets division.now proxy_states.now zeros) }
-    ensures filled { IfOk result (λ w. (signature : List ℕ)
-        → filled w.octets.items w.place signature
-        ≡ under keys.now divided_octets division.now proxy_states.now signature) }
-    ensures place { IfOk result (λ w. IsPlace (length w.octets.items) w.place) }
-    ensures short { IfOk result (λ w. length w.octets.items ≤ MAX_ATTRIBUTES_OCTETS) }
+    requires short { length octets.old.items ≤ MAX_PACKET_OCTETS }
+    ensures blank { OnOk result (octets.new.items ≡ octets.old.items
+        ++ under keys.now divided_octets division.now proxy_states.now zeros) }
+    // It is there after whatever as many octets.
+    ensures filled { IfOk result (λ place. (before signature : List ℕ)
+        → length before ≡ length octets.old.items
+        → filled (before ++ under keys.now divided_octets division.now proxy_states.now zeros)
+        place signature
+        ≡ before ++ under keys.now divided_octets division.now proxy_states.now signature) }
+    ensures place { IfOk result (λ place. IsPlace (length octets.new.items) place) }
+    ensures short { OnOk result (length octets.new.items ≤ MAX_PACKET_OCTETS) }
     ensures ranged { OnOk result (AreVendorsInRange division.now proxy_states.now) }
-    ensures too_long { result ≡ Err EncodeFault.TooLong → MAX_ATTRIBUTES_OCTETS
-        < length (under keys.now divided_octets division.now proxy_states.now zeros) }
+    ensures too_long { result ≡ Err EncodeFault.TooLong → MAX_PACKET_OCTETS
+        < length octets.old.items
+        + length (under keys.now divided_octets division.now proxy_states.now zeros) }
 {
-    let mut octets = Vec::with_capacity(alloc, MAX_ATTRIBUTES_OCTETS)?;
-    push_list(&mut octets, keys, division.before, true)?;
-    let place = push_blank(&mut octets, division.signed)?;
-    push_list(&mut octets, keys, division.after, false)?;
-    push_list(&mut octets, keys, proxy_states, true)?;
-    Ok(Written { octets, place })
+    push_list(octets, keys, division.before, true)?;
+    let place = push_blank(octets, division.signed)?;
+    push_list(octets, keys, division.after, false)?;
+    push_list(octets, keys, proxy_states, true)?;
+    Ok(place)
 }
