@@ -1,10 +1,10 @@
 //! A vendor's format and its own attributes (RFC 2865, section 5.26).
 
-ghost use Rattle.std.specs.Prelude.{◌≡◌, ◌≤◌, ◌+◌, ◌++◌, true, false, Some, None, length, drop, map, OnOk, IfSome, IfNone};
+ghost use Rattle.std.specs.Prelude.{◌≡◌, ◌≤◌, ◌+◌, ◌++◌, true, false, None, length, drop, map, OnOk, IfOk, IfSome, IfNone};
 ghost use Rattle.std.specs.Int.Digits.{number_from_digits};
 ghost use Rattle.avp_dict.specs.Vendors.{is_format};
 ghost use Rattle.avp_packet.specs.AttributeOctets.{part};
-ghost use Rattle.avp_packet.specs.Meanings.{are_subattributes_after, begins_subattribute, first_subattribute, subattribute_length, subattribute_pair, subattributes, vendor_pairs, vendor_subattributes};
+ghost use Rattle.avp_packet.specs.Meanings.{are_subattributes, begins_subattribute, first_subattribute, subattribute_length, subattribute_pair, subattributes, subattributes_by, vendor_of, vendor_pairs, vendor_subattributes};
 ghost use Rattle.avp_packet.specs.VendorFormats.{known_format};
 ghost use Rattle.avp_packet.specs.internal.Views.{subattribute_view, under};
 
@@ -89,62 +89,59 @@ fn first_subattribute(format: Format, octets: &[u8]) -> Option<Subattribute<'_>>
     })
 }
 
-// Whether the octets are whole attributes of the vendor, and none but these.
-fn are_whole(format: Format, octets: &[u8]) -> bool
-    requires { is_format format.t format.l ≡ true }
-    ensures { result ≡ are_subattributes_after format 0 octets.now }
-{
-    let mut rest = octets;
-    while let Some(subattribute) = first_subattribute(format, rest) {
-        rest = subattribute.rest;
-    }
-    rest.is_empty()
-}
-
-// Adds a pair for each of the vendor's attributes.
-fn push_subattributes(
-    pairs: &mut Vec<Pair>,
-    keys: &Keys<'_>,
+// A vendor whose format is known, and what is after its Vendor-Id.
+#[derive(Clone, Copy)]
+struct VendorOctets<'a> {
     vendor: u32,
     format: Format,
-    octets: &[u8],
-) -> Result<(), AllocError>
-    requires { is_format format.t format.l ≡ true }
-    ensures { OnOk result (pairs.new.items ≡ pairs.old.items
-        ++ map (under keys.now subattribute_pair vendor) (subattributes format octets.now)) }
-{
-    let mut rest = octets;
-    while let Some(subattribute) = first_subattribute(format, rest) {
-        push_read(
-            pairs,
-            keys,
-            AttrId::Vendor(vendor, subattribute.number),
-            subattribute.value,
-        )?;
-        rest = subattribute.rest;
-    }
-    Ok(())
+    octets: &'a [u8],
 }
 
-// The format of a vendor whose attributes are after the Vendor-Id.
 #[tactic(auto, unfolding(crate::specs::Meanings::vendor_subattributes))]
-fn format_after(dictionary: &Dictionary, value: &[u8]) -> Option<Format>
-    ensures known { IfSome result (λ f. vendor_subattributes dictionary.now value.now
-        ≡ Some (subattributes f (drop 4 value.now))) }
-    ensures format { IfSome result (λ f. is_format f.t f.l ≡ true) }
-    ensures long { IfSome result (λ f. 4 ≤ length value.now) }
+fn vendor_octets<'a>(dictionary: &Dictionary, value: &'a [u8]) -> Option<VendorOctets<'a>>
+    ensures vendor { IfSome result (λ found. found.vendor ≡ vendor_of value.now) }
+    ensures octets { IfSome result (λ found. found.octets.now ≡ drop 4 value.now) }
+    ensures format { IfSome result (λ found. is_format found.format.t found.format.l ≡ true) }
+    ensures known { IfSome result (λ found. vendor_subattributes dictionary.now value.now
+        ≡ subattributes_by value.now found.format) }
     ensures none { IfNone result (vendor_subattributes dictionary.now value.now ≡ None) }
 {
     if value.len() < VENDOR_ID_OCTETS {
         return None;
     }
-    let format = known_format(dictionary, number_in(&value[..VENDOR_ID_OCTETS]))?;
-    let octets = &value[VENDOR_ID_OCTETS..];
-    if !octets.is_empty() && are_whole(format, octets) {
-        Some(format)
-    } else {
-        None
+    let vendor = number_in(&value[..VENDOR_ID_OCTETS]);
+    Some(VendorOctets {
+        vendor,
+        format: known_format(dictionary, vendor)?,
+        octets: &value[VENDOR_ID_OCTETS..],
+    })
+}
+
+// Adds a pair for each of the vendor's attributes that its octets begin with, and says whether these are some, and all
+// of the octets.
+fn push_subattributes(
+    pairs: &mut Vec<Pair>,
+    keys: &Keys<'_>,
+    found: &VendorOctets<'_>,
+) -> Result<bool, AllocError>
+    requires { is_format found.now.format.t found.now.format.l ≡ true }
+    ensures pairs { OnOk result (pairs.new.items ≡ pairs.old.items
+        ++ map (under keys.now subattribute_pair found.now.vendor)
+        (subattributes found.now.format found.now.octets.now)) }
+    ensures whole { IfOk result (λ whole. whole
+        ≡ are_subattributes found.now.format found.now.octets.now) }
+{
+    let mut rest = found.octets;
+    while let Some(subattribute) = first_subattribute(found.format, rest) {
+        push_read(
+            pairs,
+            keys,
+            AttrId::Vendor(found.vendor, subattribute.number),
+            subattribute.value,
+        )?;
+        rest = subattribute.rest;
     }
+    Ok(rest.is_empty() && !found.octets.is_empty())
 }
 
 /// Adds a pair for each attribute of a vendor in a Vendor-Specific attribute, and the attribute as it is where it holds
@@ -158,14 +155,13 @@ pub(crate) fn push_vendor_pairs(
         ++ under keys.now vendor_pairs (part VENDOR_SPECIFIC value.now)
         (vendor_subattributes keys.now.dictionary.now value.now)) }
 {
-    match format_after(keys.dictionary, value) {
-        Some(format) => push_subattributes(
-            pairs,
-            keys,
-            number_in(&value[..VENDOR_ID_OCTETS]),
-            format,
-            &value[VENDOR_ID_OCTETS..],
-        ),
-        None => push_raw(pairs, VENDOR_SPECIFIC, value),
+    let Some(found) = vendor_octets(keys.dictionary, value) else {
+        return push_raw(pairs, VENDOR_SPECIFIC, value);
+    };
+    let count = pairs.len();
+    if push_subattributes(pairs, keys, &found)? {
+        return Ok(());
     }
+    pairs.truncate(count);
+    push_raw(pairs, VENDOR_SPECIFIC, value)
 }
