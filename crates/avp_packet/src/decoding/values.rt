@@ -2,16 +2,34 @@
 
 ghost use Rattle.std.specs.Prelude.{◌≡◌, ◌∷◌, ◌++◌, [], OnOk, IfOk};
 ghost use Rattle.avp_packet.specs.AttributeOctets.{part};
-ghost use Rattle.avp_packet.specs.Meanings.{extended_pair, pair_meant, raw_pair, value_meant};
+ghost use Rattle.avp_packet.specs.Hiding.{shown_by};
+ghost use Rattle.avp_packet.specs.Meanings.{extended_pair, pair_meant, raw_pair, value_meant, value_shown};
 ghost use Rattle.avp_packet.specs.internal.Views.{under};
 
 use crate::hiding::shown_by;
 use crate::keys::Keys;
+use avp_dict::Kind;
 use avp_lists::{AttrId, Octets, Pair, Value};
 use std::alloc::{AllocError, Global};
 
-/// The value of an attribute's octets, shown first where they are hidden and there is a secret.
-#[tactic(auto, unfolding(crate::specs::Meanings::value_meant))]
+// The value of hidden octets, shown first where there is a secret.
+fn value_shown(
+    alloc: Global,
+    keys: &Keys<'_>,
+    id: AttrId,
+    octets: &[u8],
+) -> Result<Value, AllocError>
+    ensures { IfOk result (λ value. value ≡ value_shown keys.now.dictionary.now id octets.now
+        (shown_by keys.now.secret.now keys.now.authenticator.now octets.now)) }
+{
+    match shown_by(alloc, keys.secret, keys.authenticator, octets)? {
+        Some(password) => Ok(keys.dictionary.value_of_vec(id, password)),
+        None => Ok(Value::Raw(Octets::from_slice(alloc, octets)?)),
+    }
+}
+
+// The value of an attribute's octets, shown first where they are hidden and there is a secret.
+#[tactic(auto, unfolding(crate::specs::Meanings::value_meant, avp_dict::specs::Octets::read_value, avp_dict::specs::Octets::value_of_octets))]
 fn value_meant(
     alloc: Global,
     keys: &Keys<'_>,
@@ -20,12 +38,17 @@ fn value_meant(
 ) -> Result<Value, AllocError>
     ensures { IfOk result (λ value. value ≡ under keys.now value_meant id octets.now) }
 {
-    if !keys.is_hidden(id) {
-        return keys.dictionary.value_of_bytes(alloc, id, octets);
+    let Some(entry) = keys.dictionary.by_id(id) else {
+        return Ok(Value::Raw(Octets::from_slice(alloc, octets)?));
+    };
+    if entry.hidden {
+        return value_shown(alloc, keys, id, octets);
     }
-    match shown_by(alloc, keys.secret, keys.authenticator, octets)? {
-        Some(password) => Ok(keys.dictionary.value_of_vec(id, password)),
-        None => Ok(Value::Raw(Octets::from_slice(alloc, octets)?)),
+    // Texts and octets are kept as they are, so the dictionary is not asked again.
+    match entry.kind {
+        Kind::Text => Ok(Value::Text(Octets::from_slice(alloc, octets)?)),
+        Kind::Bytes => Ok(Value::Bytes(Octets::from_slice(alloc, octets)?)),
+        _ => keys.dictionary.value_of_bytes(alloc, id, octets),
     }
 }
 

@@ -20,9 +20,7 @@ fn push_head(octets: &mut Vec<u8>, number: u8, length: usize) -> Result<(), Allo
     requires { length ≤ 253 }
     ensures { OnOk result (octets.new.items ≡ octets.old.items ++ number ∷ (2 + length) ∷ []) }
 {
-    octets.push(number)?;
-    octets.push((ATTRIBUTE_HEAD_OCTETS + length) as u8)?;
-    Ok(())
+    octets.extend_from_slice(&[number, (ATTRIBUTE_HEAD_OCTETS + length) as u8])
 }
 
 /// Adds an attribute.
