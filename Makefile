@@ -1,6 +1,7 @@
 # make run        shows examples/hello by the proved program; if that is still to be built, first without a proof
 # make test       the gate, then the examples, the documents and the tests of tests/ through the built programs
 # make trials     the tests of tests/ alone
+# make wrong-bodies  tries the wrong bodies of CRATES, those that the gate leaves out too
 # make bench      measures the program and packets, beside FreeRADIUS where it is installed (docs/SPEED.md)
 # make fuzz       changed cases through the built program, for so many SECONDS
 # make documents  the documents' links and commands, the examples in doc comments, the completions and the manual
@@ -15,7 +16,7 @@ PREFIX ?= /usr/local
 PROGRAM = crates/radpolicy_cli/out/radpolicy_cli
 EXAMPLE = examples/hello
 
-.PHONY: run build test trials bench fuzz documents install uninstall package
+.PHONY: run build test trials wrong-bodies bench fuzz documents install uninstall package
 
 run:
 	@RT="$(RT)" scripts/run $(EXAMPLE)
@@ -28,6 +29,11 @@ test:
 
 trials:
 	@tests/run $(PROGRAM)
+
+CRATES =
+
+wrong-bodies:
+	@RT="$(RT)" scripts/try-wrong-bodies $(CRATES)
 
 bench: build
 	@RT="$(RT)" scripts/build bench_packets drive_runs radpolicy_c
