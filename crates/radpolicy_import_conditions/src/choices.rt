@@ -106,6 +106,16 @@ fn first_choice(text: &[u8]) -> Result<Option<Choice<'_>>, Reason> {
     }
 }
 
+/// What a text that is `%{%{A}:-B}` alone is made of: A, as `reply:Class`, and B.
+pub(crate) fn sole_choice(text: &[u8]) -> Result<Option<(&[u8], &[u8])>, Reason> {
+    match first_choice(text)? {
+        Some(choice) if choice.before.is_empty() && choice.after.is_empty() => {
+            Ok(Some((choice.first, choice.other)))
+        }
+        _ => Ok(None),
+    }
+}
+
 /// Whether a text has an expansion that begins with another.
 pub fn has_choices(text: &[u8]) -> bool {
     !matches!(first_choice(text), Ok(None))

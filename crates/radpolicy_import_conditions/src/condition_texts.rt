@@ -2,12 +2,13 @@
 
 ghost use Rattle.std.specs.Prelude.{◌≤◌, length};
 
+use crate::choices::sole_choice;
 use crate::patterns::{WrittenPattern, flagged, match_sign, matches_empty, pattern_text};
 use crate::reasons::{Reason, Refusal};
 use crate::references::{Names, Reference, has_texts, is_number, kind_of, reference_of};
 use crate::server_codes::{KnownCodes, ServerCode};
 use crate::server_conditions::ServerCondition;
-use crate::texts::{has_expansion, sole_capture, sole_expansion, text_octets};
+use crate::texts::{expansion, has_expansion, sole_capture, sole_expansion, text_octets};
 use avp_dict::Kind;
 use avp_lists::{Octets, Selection};
 use avp_unlang::{Comparand, Comparison, Matching, Relation};
@@ -34,6 +35,13 @@ const EMPTY: Operand<'static> = Operand {
     quote: Quote::Single,
     octets: b"",
 };
+
+// A text that is `%{%{A}:-B}` alone: that of an attribute, or where it is empty another.
+#[derive(Clone, Copy)]
+struct ChosenText<'a> {
+    found: Reference<'a>,
+    other: Operand<'a>,
+}
 
 /// Reads conditions by the names of attributes.
 #[derive(Clone, Copy)]
@@ -367,6 +375,155 @@ impl<'a> ConditionReader<'a> {
         Ok(ServerCondition::And(first, next))
     }
 
+    // ---- `%{%{A}:-B}`
+
+    fn is_text(&self, found: &Reference<'_>) -> bool {
+        !found.named.raw && kind_of(self.names.dictionary, found.named) == Kind::Text
+    }
+
+    // The text of this form that an operand is, if it is one.
+    fn chosen_text<'b>(&self, operand: Operand<'b>) -> Result<Option<ChosenText<'b>>, Reason> {
+        if operand.quote != Quote::Double {
+            return Ok(None);
+        }
+        let Some((first, other)) = sole_choice(operand.octets)? else {
+            return Ok(None);
+        };
+        let found = expansion(&self.names, first)?;
+        if !self.is_text(&found) {
+            return Err(Reason::Expansion);
+        }
+        let other = Operand {
+            quote: Quote::Double,
+            octets: other,
+        };
+        Ok(Some(ChosenText { found, other }))
+    }
+
+    // That an attribute is there, and not the empty text.
+    fn filled(&self, found: &Reference<'_>) -> Result<ServerCondition, Refusal> {
+        let differs = self.compared_with_text(found, Relation::Differs, EMPTY)?;
+        let present = ServerCondition::Present(found.list, found.named.id);
+        Ok(ServerCondition::And(
+            Box::new(self.alloc, present)?,
+            Box::new(self.alloc, ServerCondition::Compare(differs))?,
+        ))
+    }
+
+    // A condition where an attribute is there and not the empty text, and else another. Each is asked once at most.
+    fn where_filled(
+        &self,
+        found: &Reference<'_>,
+        condition: ServerCondition,
+        otherwise: ServerCondition,
+    ) -> Result<ServerCondition, Refusal> {
+        let alloc = self.alloc;
+        let condition = Box::new(alloc, condition)?;
+        let is_filled = Box::new(alloc, self.filled(found)?)?;
+        if let ServerCondition::Constant(false) = otherwise {
+            return Ok(ServerCondition::And(is_filled, condition));
+        }
+        let is_blank = Box::new(alloc, ServerCondition::Not(is_filled))?;
+        let first = ServerCondition::Or(is_blank, condition);
+        if let ServerCondition::Constant(true) = otherwise {
+            return Ok(first);
+        }
+        let is_filled = Box::new(alloc, self.filled(found)?)?;
+        let next = ServerCondition::Or(is_filled, Box::new(alloc, otherwise)?);
+        let (first, next) = (Box::new(alloc, first)?, Box::new(alloc, next)?);
+        Ok(ServerCondition::And(first, next))
+    }
+
+    // Whether such a text is not empty.
+    fn is_chosen(&self, chosen: &ChosenText<'_>) -> Result<ServerCondition, Refusal> {
+        let is_filled = self.filled(&chosen.found)?;
+        match self.text_compared(chosen.other, Relation::Differs, EMPTY)? {
+            ServerCondition::Constant(false) => Ok(is_filled),
+            otherwise => Ok(ServerCondition::Or(
+                Box::new(self.alloc, is_filled)?,
+                Box::new(self.alloc, otherwise)?,
+            )),
+        }
+    }
+
+    // The comparison of a text, of an attribute or written out, with one that is written out.
+    fn text_compared(
+        &self,
+        left: Operand<'_>,
+        relation: Relation,
+        right: Operand<'_>,
+    ) -> Result<ServerCondition, Refusal> {
+        let Some(found) = self.attribute(left, false)? else {
+            return self.texts_compared(left, relation, right);
+        };
+        if !self.is_text(&found) {
+            return Err(Refusal::LeftOut(Reason::Expansion));
+        }
+        let text = text_octets(self.alloc, &self.names, right.quote, right.octets)?;
+        let comparison = self.compared_with_text(&found, relation, right)?;
+        let compare = ServerCondition::Compare(comparison);
+        self.of_text(&found, compare, meets_empty(relation, &text))
+    }
+
+    // The comparison of an attribute with a text of another, or one that is written out.
+    fn compared_with_other(
+        &self,
+        own: &Reference<'_>,
+        relation: Relation,
+        other: Operand<'_>,
+    ) -> Result<ServerCondition, Refusal> {
+        match self.attribute(other, false)? {
+            Some(found) if self.is_text(&found) => self.compared_with_asked(own, relation, &found),
+            Some(_) => Err(Refusal::LeftOut(Reason::Expansion)),
+            None => {
+                let comparison = self.compared_with_text(own, relation, other)?;
+                Ok(ServerCondition::Compare(comparison))
+            }
+        }
+    }
+
+    // The comparison of such a text with an attribute, or with a text that is written out and no number.
+    fn chosen_compared(
+        &self,
+        chosen: &ChosenText<'_>,
+        relation: Relation,
+        right: Operand<'_>,
+    ) -> Result<ServerCondition, Refusal> {
+        if !matches!(relation, Relation::Equal | Relation::Differs) {
+            return Err(Refusal::LeftOut(Reason::TwoTexts));
+        }
+        if let Some(own) = self.attribute(right, false)? {
+            let compared = self.compared_with_attribute(&own, relation, &chosen.found)?;
+            let otherwise = self.compared_with_other(&own, relation, chosen.other)?;
+            return self.where_filled(&chosen.found, ServerCondition::Compare(compared), otherwise);
+        }
+        if is_number(&text_octets(self.alloc, &self.names, right.quote, right.octets)?) {
+            return Err(Refusal::LeftOut(Reason::ExpandedNumber));
+        }
+        let compared = self.compared_with_text(&chosen.found, relation, right)?;
+        let otherwise = self.text_compared(chosen.other, relation, right)?;
+        self.where_filled(&chosen.found, ServerCondition::Compare(compared), otherwise)
+    }
+
+    // The comparison of such a text with a regular expression.
+    fn chosen_matched(
+        &self,
+        chosen: &ChosenText<'_>,
+        negated: bool,
+        pattern: WrittenPattern<'_>,
+    ) -> Result<ServerCondition, Refusal> {
+        let Some(other) = self.attribute(chosen.other, false)? else {
+            return Err(Refusal::LeftOut(Reason::MatchedText));
+        };
+        let matched = self.matching(&chosen.found, negated, pattern)?;
+        let otherwise = self.matching(&other, negated, pattern)?;
+        let meets_empty = self.meets_empty_text(negated, pattern)?;
+        let otherwise = self.of_text(&other, otherwise, meets_empty)?;
+        self.where_filled(&chosen.found, matched, otherwise)
+    }
+
+    // ---- comparisons
+
     // The condition that a comparison of two operands is.
     fn compared(
         &self,
@@ -374,6 +531,12 @@ impl<'a> ConditionReader<'a> {
         relation: Relation,
         right: Operand<'_>,
     ) -> Result<ServerCondition, Refusal> {
+        if let Some(chosen) = self.chosen_text(left)? {
+            return self.chosen_compared(&chosen, relation, right);
+        }
+        if let Some(chosen) = self.chosen_text(right)? {
+            return self.chosen_compared(&chosen, turned(relation), left);
+        }
         if let Some(group) = self.capture(left)? {
             return self.capture_compared(group, relation, right);
         }
@@ -421,6 +584,37 @@ impl<'a> ConditionReader<'a> {
         }
     }
 
+    // The search of an attribute for a regular expression.
+    fn matching(
+        &self,
+        found: &Reference<'_>,
+        negated: bool,
+        pattern: WrittenPattern<'_>,
+    ) -> Result<ServerCondition, Refusal> {
+        if !self.is_text(found) {
+            return Err(Refusal::LeftOut(Reason::MatchedValue));
+        }
+        let text = pattern_text(self.alloc, pattern.octets)?;
+        Ok(ServerCondition::Match(Matching {
+            list: found.list,
+            id: found.named.id,
+            selection: Selection::All,
+            negated,
+            pattern: Octets::from_vec(text),
+            flags: pattern.flags,
+        }))
+    }
+
+    // Whether the empty text is as the comparison wants it.
+    fn meets_empty_text(
+        &self,
+        negated: bool,
+        pattern: WrittenPattern<'_>,
+    ) -> Result<bool, Refusal> {
+        let text = pattern_text(self.alloc, pattern.octets)?;
+        Ok(matches_empty(self.alloc, &text, pattern.flags)? != negated)
+    }
+
     // The comparison of an attribute with a regular expression.
     fn matched(
         &self,
@@ -431,29 +625,19 @@ impl<'a> ConditionReader<'a> {
         if !self.takes_patterns {
             return Err(Refusal::LeftOut(Reason::RegularExpression));
         }
+        if let Some(chosen) = self.chosen_text(left)? {
+            return self.chosen_matched(&chosen, negated, pattern);
+        }
         let Some(found) = self.attribute(left, true)? else {
             return Err(Refusal::LeftOut(Reason::MatchedText));
         };
-        let named = found.named;
-        if named.raw || kind_of(self.names.dictionary, named) != Kind::Text {
-            return Err(Refusal::LeftOut(Reason::MatchedValue));
-        }
-        let text = pattern_text(self.alloc, pattern.octets)?;
+        let matching = self.matching(&found, negated, pattern)?;
         // A text is searched also where the attribute is absent.
-        let is_text = left.quote == Quote::Double || left.octets.starts_with(b"%{");
-        let meets_empty = is_text && matches_empty(self.alloc, &text, pattern.flags)? != negated;
-        let compare = ServerCondition::Match(Matching {
-            list: found.list,
-            id: named.id,
-            selection: Selection::All,
-            negated,
-            pattern: Octets::from_vec(text),
-            flags: pattern.flags,
-        });
-        if is_text {
-            self.of_text(&found, compare, meets_empty)
+        if left.quote == Quote::Double || left.octets.starts_with(b"%{") {
+            let meets_empty = self.meets_empty_text(negated, pattern)?;
+            self.of_text(&found, matching, meets_empty)
         } else {
-            Ok(compare)
+            Ok(matching)
         }
     }
 
@@ -485,6 +669,9 @@ impl<'a> ConditionReader<'a> {
         }
         if let Some(group) = self.capture(operand)? {
             return Ok(ServerCondition::Captured(group));
+        }
+        if let Some(chosen) = self.chosen_text(operand)? {
+            return self.is_chosen(&chosen);
         }
         if let Some(found) = self.attribute(operand, false)? {
             if found.is_asked() {

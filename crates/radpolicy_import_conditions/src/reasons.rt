@@ -56,6 +56,9 @@ pub enum Reason {
     TwoTexts,
     #[error("a code that policies do not have")]
     OtherCode,
+    /// In the block of a module's call, as `{ ok = return }`.
+    #[error("what is done after a module's code")]
+    Action,
     #[error("asks for a code that is not known here")]
     UnknownCode,
     #[error("a condition that cannot be read")]

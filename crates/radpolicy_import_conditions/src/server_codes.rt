@@ -18,7 +18,7 @@ pub enum ServerCode {
 
 impl ServerCode {
     /// The code that a word is.
-    pub(crate) fn named(word: &[u8]) -> Option<ServerCode> {
+    pub fn named(word: &[u8]) -> Option<ServerCode> {
         match word {
             b"ok" => Some(ServerCode::Ok),
             b"noop" => Some(ServerCode::Noop),
@@ -34,7 +34,7 @@ impl ServerCode {
     }
 
     /// The same code of a policy, unless policies do not have it.
-    pub(crate) fn own(self) -> Option<Code> {
+    pub fn own(self) -> Option<Code> {
         match self {
             ServerCode::Ok => Some(Code::Ok),
             ServerCode::Noop => Some(Code::Noop),
@@ -72,23 +72,57 @@ impl From<Code> for ServerCode {
     }
 }
 
-// The code of a block, and how high one has to be above it.
+// The code of a block, and between which numbers is how high it is.
 #[derive(Clone, Copy, Debug, PartialEq, Eq)]
 struct BlockCode {
     code: ServerCode,
-    rank: u8,
+    lowest: u8,
+    highest: u8,
 }
 
 impl BlockCode {
     fn of(code: ServerCode) -> BlockCode {
+        let rank = code.rank();
         BlockCode {
             code,
-            rank: code.rank(),
+            lowest: rank,
+            highest: rank,
         }
     }
 
-    fn higher(self, other: BlockCode) -> BlockCode {
-        if other.rank > self.rank { other } else { self }
+    // Where a block begins: any other code is higher.
+    fn first(code: ServerCode) -> BlockCode {
+        BlockCode {
+            code,
+            lowest: 0,
+            highest: 0,
+        }
+    }
+
+    // The higher of the two, the earlier one where they are as high as each other, if it is known.
+    fn higher(self, other: BlockCode) -> Option<BlockCode> {
+        if other.lowest > self.highest {
+            Some(other)
+        } else if other.highest <= self.lowest {
+            Some(self)
+        } else if self.code == other.code {
+            Some(BlockCode {
+                code: self.code,
+                lowest: self.lowest.max(other.lowest),
+                highest: self.highest.max(other.highest),
+            })
+        } else {
+            None
+        }
+    }
+
+    // That of one of two ways, if it is the same code.
+    fn either(self, other: BlockCode) -> Option<BlockCode> {
+        (self.code == other.code).then_some(BlockCode {
+            code: self.code,
+            lowest: self.lowest.min(other.lowest),
+            highest: self.highest.max(other.highest),
+        })
     }
 }
 
@@ -116,12 +150,12 @@ pub struct KnownCodes {
 }
 
 impl KnownCodes {
-    // Where no code was before this in the section, if it is known.
+    // Where no code was before this in the section, if it is known: any other is the block's.
     fn first(code: Option<ServerCode>) -> KnownCodes {
         KnownCodes {
             last: code,
             block: match code {
-                Some(code) => Some(BlockCode::of(code)),
+                Some(code) => Some(BlockCode::first(code)),
                 None => None,
             },
             is_own: false,
@@ -146,7 +180,7 @@ impl KnownCodes {
         KnownCodes {
             last: Some(made.code),
             block: match self.block {
-                Some(block) => Some(block.higher(made)),
+                Some(block) => block.higher(made),
                 None => None,
             },
             is_own,
@@ -156,6 +190,11 @@ impl KnownCodes {
     /// After a code that the policy has too.
     pub fn after_code(self, code: Code) -> KnownCodes {
         self.after(BlockCode::of(ServerCode::from(code)), true)
+    }
+
+    /// After a code of the server alone.
+    pub fn after_server_code(self, code: ServerCode) -> KnownCodes {
+        self.after(BlockCode::of(code), false)
     }
 
     pub fn after_update(self) -> KnownCodes {
@@ -177,7 +216,7 @@ impl KnownCodes {
         };
         KnownCodes {
             last: Some(code),
-            block: Some(BlockCode { code, rank: 0 }),
+            block: Some(BlockCode::first(code)),
             is_own: self.has_own_block(),
         }
     }
@@ -198,10 +237,9 @@ impl KnownCodes {
             } else {
                 None
             },
-            block: if self.block == other.block {
-                self.block
-            } else {
-                None
+            block: match (self.block, other.block) {
+                (Some(block), Some(other)) => block.either(other),
+                _ => None,
             },
             is_own: self.is_own && other.is_own,
         }
