@@ -1,5 +1,7 @@
 """Policies as operators have them: those of Debian's packages freeradius-config and freeradius, one by one, and how much
-of each `radpolicy-import` keeps."""
+of each `radpolicy-import` keeps: by itself, with attributes in place of other lists and of what expansions ask, and with
+attributes in place of functions too. `OTHER_IMPORTER` names a program whose figures are told beside: its words are those
+of `radpolicy-import` for the section, and the folder or the file, and its report begins as ours."""
 import gzip
 import json
 import os
@@ -27,6 +29,13 @@ QUOTED = re.compile(r"\"(?:[^\"\\]|\\.)*\"|'(?:[^'\\]|\\.)*'")
 # A site by itself may call the policies.
 SITE = "policy {{\n\t$INCLUDE {raddb}/policy.d/\n}}\n$INCLUDE {path}\n"
 PART = "authorize {{\n{text}}}\n"
+PASSES = {
+    "policies of Debian's packages": (),
+    "policies of Debian's packages with other lists": ("--dictionary",),
+    "policies of Debian's packages with other lists and functions": ("--dictionary", "--stub-functions"),
+}
+COUNTS = re.compile(r"^(\d+) of (\d+) statements kept", re.M)
+REASON = re.compile(r"^[^ :]+:\d+: (.*?)(?: \((\d+) statements\))?$", re.M)
 # What a document writes in place of statements.
 PLACEHOLDER = re.compile(r"^\s*\.\.\.|\[ statements|\(condition|<[a-z\- ]+>|if \(\.\.\.\)", re.M)
 
@@ -160,16 +169,23 @@ class Kept(NamedTuple):
         return self.kept == self.read and not self.faults
 
 
-def kept_of(subject: Subject, raddb: Path, dictionaries: Path, case: Case, with_others: bool) -> Kept:
+def source_of(case: Case, raddb: Path, folder: Path) -> Path:
+    """What the policy is read from: a file in a folder, or the server's."""
+    if not case.text:
+        return raddb
+    source = folder / "main"
+    source.write_text(case.text)
+    return source
+
+
+def kept_of(subject: Subject, raddb: Path, dictionaries: Path, case: Case, options: Sequence[str]) -> Kept:
     named = dictionary_words(dictionaries)
+    with_others = "--dictionary" in options
     with new_folder() as folder:
-        source = raddb
-        if case.text:
-            source = folder / "main"
-            source.write_text(case.text)
+        source = source_of(case, raddb, folder)
         words = ["--json", *case.words, "-o", folder / "policy", *named]
-        if with_others:
-            words += ["--dictionary", folder / "others"]
+        for option in options:
+            words += [option, folder / "others"] if option == "--dictionary" else [option]
         ended = run([subject.driver("radpolicy_import"), *words, source], folder)
         if ended.status:
             return Kept(0, 0, 0, [], [f"{case.name}: {ended.errors[-200:]!r}"])
@@ -179,6 +195,18 @@ def kept_of(subject: Subject, raddb: Path, dictionaries: Path, case: Case, with_
     faults = [f"{case.name}: {checked.errors!r}"] if checked.status else []
     reasons = [(one["reason"], one["statements"]) for one in told if "reason" in one]
     return Kept(told[0]["kept"], told[0]["read"], told[0]["given"], reasons, faults)
+
+
+def kept_by_other(importer: str, raddb: Path, case: Case) -> Kept:
+    """The same of another importer."""
+    with new_folder() as folder:
+        ended = run([importer, *case.words, source_of(case, raddb, folder)], folder)
+    said = ended.errors.decode(errors="replace")
+    counts = COUNTS.search(said)
+    if not counts:
+        return Kept(0, 0, 0, [], [f"{case.name}: {said[-200:]!r}"])
+    reasons = [(reason, int(count or 1)) for reason, count in REASON.findall(said)]
+    return Kept(int(counts[1]), int(counts[2]), 0, reasons, [])
 
 
 def share(part: int, whole: int) -> str:
@@ -214,8 +242,11 @@ def check(subject: Subject, report: Report) -> None:
         report.say(f"policies of Debian's packages: left out, {raddb}/radiusd.conf or {dictionaries} is not there")
         return
     given = cases(raddb)
-    for with_others in (False, True):
-        told = "policies of Debian's packages" + (" with other lists" if with_others else "")
-        found = on_all(lambda case: kept_of(subject, raddb, dictionaries, case, with_others), given)
+    for told, options in PASSES.items():
+        found = on_all(lambda case: kept_of(subject, raddb, dictionaries, case, options), given)
         report.check(f"{told} imported", [fault for one in found for fault in one.faults])
         tell(report, told, given, found)
+    other = os.environ.get("OTHER_IMPORTER")
+    if other:
+        found = on_all(lambda case: kept_by_other(other, raddb, case), given)
+        tell(report, f"the same by {other}", given, found)

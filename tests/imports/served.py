@@ -102,6 +102,22 @@ WRITTEN: Dict[str, str] = {
     "codes_of_branches": 'ok\nupdated\nif (!&Class) {\nnoop\n}\nelse {\nok\nnoop\n}\nnoop\nif (&Service-Type) {\n'
     'if (updated) {\nupdate reply {\nReply-Message += "of the outer block"\n}\n}\nnoop\nif (noop) {\nupdate reply {\n'
     'Reply-Message += "the last"\n}\n}\n}\n',
+    "codes_of_the_server_alone": 'noop\nnotfound\nif (notfound) {\nupdate reply {\nReply-Message += "the last"\n}\n}\n'
+    'if (&Service-Type) {\nif (noop) {\nupdate reply {\nReply-Message += "the highest"\n}\n}\n}\n'
+    'if (&NAS-Port == 2) {\ninvalid\n}\nif (!&NAS-Port) {\nuserlock\n}\n"%{expr:1 + 1}"\nupdate reply {\n'
+    'Reply-Message += "neither"\n}\n',
+    "codes_of_either_branch": 'if (&Class) {\nupdate reply {\nReply-Message += "a class"\n}\nok\n}\nelse {\nok\n}\nif (ok) {\n'
+    'update reply {\nReply-Message += "both"\n}\n}\nif (&NAS-Port) {\nif (ok) {\nupdate reply {\n'
+    'Reply-Message += "the highest"\n}\n}\n}\n',
+    "either_of_two_texts": 'if ("%{%{Calling-Station-Id}:-%{User-Name}}" == "bob") {\nupdate reply {\nReply-Message += "bob"\n}\n}\n'
+    'if ("%{%{Calling-Station-Id}:-none}" != "none") {\nupdate reply {\nReply-Message += "some"\n}\n}\n'
+    'if ("%{%{Calling-Station-Id}:-%{User-Name}}" =~ /^([^@-]*)/) {\nupdate reply {\nReply-Message += "is %{1}"\n}\n}\n'
+    'if (!("%{%{Calling-Station-Id}:-%{Connect-Info}}" !~ /n(.)/) || &NAS-Port == 2) {\nupdate reply {\n'
+    'Reply-Message += "has %{1}"\n}\n}\n'
+    'if (&User-Name == "%{%{Calling-Station-Id}:-bob}") {\nupdate reply {\nReply-Message += "the same"\n}\n}\n'
+    'if (!(&Connect-Info == "%{%{Calling-Station-Id}:-bob}")) {\nupdate reply {\nReply-Message += "not the same"\n}\n}\n'
+    'if (!"%{%{Calling-Station-Id}:-}") {\nupdate reply {\nReply-Message += "nothing"\n}\n}\n'
+    'if (!("%{%{Calling-Station-Id}:-%{Connect-Info}}" == "none")) {\nupdate reply {\nReply-Message += "not none"\n}\n}\n',
     "numbers_as_texts": 'update reply {\nReply-Message += &NAS-Port\nReply-Message += &Service-Type\n}\n',
     "one_in_another": 'deny_realms\nif (&Service-Type == Login-User && &NAS-Port <= 2) {\nservice\n}\n',
 }

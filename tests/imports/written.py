@@ -1,4 +1,5 @@
 """What `radpolicy-import` writes beside the policy, and what it makes of small configurations and of crafted ones."""
+import json
 from pathlib import Path
 from typing import Dict, List, Tuple
 
@@ -100,6 +101,22 @@ OPTIONS = ["--map", "map", "--initial-template", "template", "--dictionary", "di
 OUTPUTS = ("map", "template", "dictionary.others", "policy")
 
 
+WARNED = b"""authorize {
+	update reply {
+		Reply-Message += "a"
+		Reply-Message += "b"
+	}
+	update reply {
+		Reply-Message := "c"
+	}
+}
+"""
+FOUND = ":= of an attribute of which there may be several instances"
+OF_SERVER = "a server replaces the first and leaves the others, and here they are removed"
+WARNING = f"site:7: kept, with {FOUND} [several-instances]: {OF_SERVER}"
+AS_JSON = {"file": "site", "line": 7, "warning": OF_SERVER, "name": "several-instances", "text": FOUND}
+
+
 def imported(subject: Subject, folder: Path, words: List[str]) -> Ended:
     command = [subject.driver("radpolicy_import"), "--dict", subject.root / DICTIONARY, *OPTIONS, *words]
     return run(command, folder)
@@ -120,6 +137,17 @@ def check_files(subject: Subject, report: Report) -> None:
             found = (folder / name).read_bytes() if (folder / name).exists() else b""
             faults += [] if found == wanted else [f"{name}: {found!r}"]
         report.check("a policy, its map and its initial lists imported", faults)
+
+
+def check_warnings(subject: Subject, report: Report) -> None:
+    """What a server does otherwise with a line that is kept, with the line's origin."""
+    with new_folder() as folder:
+        (folder / "site").write_bytes(WARNED)
+        lines = imported(subject, folder, ["site"]).errors.decode().splitlines()
+        objects = imported(subject, folder, ["--json", "site"]).errors.splitlines()
+        faults = [] if WARNING in lines else [f"{lines}"]
+        faults += [] if AS_JSON in map(json.loads, objects) else [f"{objects}"]
+        report.check("what a server does otherwise told", faults)
 
 
 FAULTS: Dict[str, Tuple[bytes, bytes]] = {
@@ -220,6 +248,7 @@ def check_cuts(subject: Subject, report: Report) -> None:
 
 def check(subject: Subject, report: Report) -> None:
     check_files(subject, report)
+    check_warnings(subject, report)
     check_faults(subject, report)
 
 

@@ -1,5 +1,6 @@
 //! The report as JSON, an object a line.
 
+use crate::reports::ServerDifference;
 use itoa::Buffer;
 use radpolicy_common::{Escaping, push_json_string};
 use radpolicy_import_conditions::{OtherAttribute, OtherSource};
@@ -69,11 +70,27 @@ fn push_warning(
     out.extend_from_slice(b"}\n")
 }
 
+// What a server does otherwise with a line.
+fn push_difference(
+    out: &mut Vec<u8>,
+    configuration: &Configuration,
+    difference: &ServerDifference,
+) -> Result<(), AllocError> {
+    let (origin, advice) = (difference.origin, difference.advice);
+    push_text(out, b'{', "file", origin_path(configuration, origin))?;
+    push_number(out, b',', "line", origin.line)?;
+    push_text(out, b',', "warning", advice.server.as_bytes())?;
+    push_text(out, b',', "name", advice.name.as_bytes())?;
+    push_text(out, b',', "text", advice.found.as_bytes())?;
+    out.extend_from_slice(b"}\n")
+}
+
 /// How many statements are kept, each part that is left out, and each warning.
 pub fn json_report(
     alloc: Global,
     configuration: &Configuration,
     imported: &Imported,
+    differences: &[ServerDifference],
 ) -> Result<Vec<u8>, AllocError> {
     let mut out = Vec::new(alloc);
     push_counts(&mut out, imported)?;
@@ -82,6 +99,9 @@ pub fn json_report(
     }
     for warning in &imported.warnings {
         push_warning(alloc, &mut out, configuration, warning)?;
+    }
+    for difference in differences {
+        push_difference(&mut out, configuration, difference)?;
     }
     Ok(out)
 }

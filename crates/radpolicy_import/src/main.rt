@@ -26,9 +26,9 @@ use radpolicy_common::{read_dictionary_set, refuse, refuse_early};
 use radpolicy_help::{Sources, refuse_explained, refuse_unread_explained, refuse_words_of};
 use radpolicy_import_conditions::{KnownCodes, OtherAttribute, OtherSource};
 use radpolicy_import_policies::{
-    ImportFault, Imported, Module, Settings, Statement, Wanted, add_initial, import_statements,
-    initial_template, keeps_names, origin_map, other_attributes, other_dictionary, policy_of,
-    section_of, statements_of, unset_attributes,
+    ImportFault, Imported, Module, SectionKind, Settings, Statement, Wanted, add_initial,
+    import_statements, initial_template, keeps_names, origin_map, other_attributes,
+    other_dictionary, policy_of, section_of, statements_of, unset_attributes,
 };
 use server_configuration::{Configuration, ConfigurationFault, SystemFiles, read_configuration};
 use std::alloc::{AllocError, Global};
@@ -124,6 +124,7 @@ fn imported(
         modules: import.modules,
         others,
         codes: first_codes(import.plan, import.configuration),
+        section: SectionKind::named(wanted(import.plan).section),
         initial: import.initial,
     };
     match import_statements(alloc, configuration, dictionary, settings, statements) {
@@ -183,7 +184,8 @@ fn show(rt: &HostRuntime, import: &Import<'_, '_>, made: Made<'_>) -> u8 {
     if !plan.only_checks && write_made(rt, import, made).is_err() {
         return refuse_early(rt, &Fault::Write);
     }
-    if show_report(rt, plan.is_json, import.configuration, made.imported).is_err() {
+    let (configuration, dictionary) = (import.configuration, made.dictionary);
+    if show_report(rt, plan.is_json, configuration, dictionary, made.imported).is_err() {
         return refuse_early(rt, &Fault::Memory);
     }
     if plan.strict && !made.imported.left_out.is_empty() {

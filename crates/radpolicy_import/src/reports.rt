@@ -1,9 +1,11 @@
 //! What the program writes.
 
 use crate::json_reports::{json_others, json_report};
+use avp_dict::Dictionary;
 use radpolicy_common::{LineBreaks, visible_text};
+use radpolicy_help::{Advice, findings};
 use radpolicy_import_conditions::{OtherAttribute, OtherSource, Reason};
-use radpolicy_import_policies::{Imported, LeftOut, PatternWarning, push_origin};
+use radpolicy_import_policies::{Imported, LeftOut, Origin, PatternWarning, push_origin};
 use server_configuration::{Configuration, ConfigurationFault};
 use std::alloc::{AllocError, Global};
 use std::{fs, io};
@@ -42,11 +44,73 @@ fn push_warning(
     Ok(out.push(b'\n')?)
 }
 
+/// What a server does otherwise with a line that is kept, and where the line comes from.
+#[derive(Clone, Copy, Drop)]
+pub struct ServerDifference {
+    pub origin: Origin,
+    pub advice: Advice,
+}
+
+// Whether a server does otherwise where a policy has this warning.
+fn is_of_server(name: &str) -> bool {
+    matches!(
+        name,
+        "absent-comparison"
+            | "absent-source"
+            | "filter-in-update"
+            | "grouping"
+            | "obeyed-control"
+            | "printed-date"
+            | "several-instances"
+            | "virtual-attribute"
+    )
+}
+
+// What a server does otherwise with the policy that was made, as far as the policy is warned of it.
+fn server_differences(
+    alloc: Global,
+    dictionary: &Dictionary,
+    imported: &Imported,
+) -> Result<Vec<ServerDifference>, AllocError> {
+    let mut differences = Vec::new(alloc);
+    for finding in &findings(alloc, dictionary, &imported.policy, &imported.text)? {
+        let line = imported.lines.get(finding.line.saturating_sub(1));
+        if let Some(line) = line
+            && is_of_server(finding.advice.name)
+        {
+            differences.push(ServerDifference {
+                origin: line.origin,
+                advice: finding.advice,
+            })?;
+        }
+    }
+    Ok(differences)
+}
+
+// `FILE:LINE: kept, with what [name]: what a server does` of a line.
+fn push_difference(
+    alloc: Global,
+    out: &mut Vec<u8>,
+    configuration: &Configuration,
+    difference: &ServerDifference,
+) -> Result<(), AllocError> {
+    let Advice {
+        name,
+        found,
+        server,
+        ..
+    } = difference.advice;
+    push_origin(out, configuration, difference.origin)?;
+    let text = format!(in alloc; ": kept, with {found} [{name}]: {server}\n")?;
+    out.extend_from_slice(text.as_bytes())
+}
+
 // The report: how many statements are kept, each part that is left out, and each warning.
 fn report(
     alloc: Global,
     configuration: &Configuration,
     imported: &Imported,
+    differences: &[ServerDifference],
 ) -> Result<Vec<u8>, AllocError> {
     let (kept, read, calls) = (imported.kept, imported.read, imported.calls);
     let given = imported.given;
@@ -61,20 +125,25 @@ fn report(
     for warning in &imported.warnings {
         push_warning(alloc, &mut out, configuration, warning)?;
     }
+    for difference in differences {
+        push_difference(alloc, &mut out, configuration, difference)?;
+    }
     Ok(out)
 }
 
-/// Writes the report to standard error.
+/// Writes the report of an import by a dictionary to standard error.
 pub fn show_report(
     rt: &HostRuntime,
     is_json: bool,
     configuration: &Configuration,
+    dictionary: &Dictionary,
     imported: &Imported,
 ) -> Result<(), AllocError> {
+    let differences = server_differences(rt.alloc(), dictionary, imported)?;
     let text = if is_json {
-        json_report(rt.alloc(), configuration, imported)?
+        json_report(rt.alloc(), configuration, imported, &differences)?
     } else {
-        report(rt.alloc(), configuration, imported)?
+        report(rt.alloc(), configuration, imported, &differences)?
     };
     let _ = rt.stderr().write_all(&text);
     Ok(())

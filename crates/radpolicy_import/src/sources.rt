@@ -3,14 +3,20 @@
 use crate::command_line::Plan;
 use avp_dict::{FileSet, NamedFile};
 use avp_lists::Octets;
-use avp_unlang::Code;
 use radpolicy_common::{Unread, read_file};
+use radpolicy_import_conditions::ServerCode;
 use radpolicy_import_policies::{Module, ModuleAnswer};
 use server_configuration::{Files, SystemFiles, Unread as UnreadFile};
 use std::alloc::{AllocError, Global};
 
 /// Where Debian's packages have a server's dictionaries.
-const DICTIONARIES: &[u8] = b"/usr/share/freeradius/";
+const OF_SERVER: &[u8] = b"/usr/share/freeradius/";
+
+/// Where the dictionaries are that are installed with the programs.
+const OF_INSTALLATION: &[u8] = b"/usr/local/share/radpolicy/dictionaries/";
+
+/// The same, installed by a package.
+const OF_PACKAGE: &[u8] = b"/usr/share/radpolicy/dictionaries/";
 
 /// The system's files, and a first one that includes those that were named.
 #[derive(Clone, Copy)]
@@ -70,9 +76,13 @@ pub fn first_file(alloc: Global, plan: &Plan<'_>) -> Result<Vec<u8>, AllocError>
     Ok(text)
 }
 
-// The path of a dictionary of the system.
-fn dictionary_path(alloc: Global, name: &[u8]) -> Result<Option<String>, AllocError> {
-    let mut path = Vec::from_slice(alloc, DICTIONARIES)?;
+// The path of a dictionary in a folder.
+fn dictionary_path(
+    alloc: Global,
+    folder: &[u8],
+    name: &[u8],
+) -> Result<Option<String>, AllocError> {
+    let mut path = Vec::from_slice(alloc, folder)?;
     path.extend_from_slice(name)?;
     match str::from_utf8(&path) {
         Ok(path) => Ok(Some(String::from_str(alloc, path)?)),
@@ -80,18 +90,22 @@ fn dictionary_path(alloc: Global, name: &[u8]) -> Result<Option<String>, AllocEr
     }
 }
 
-/// The dictionaries of the system, the main one first; none where they are not there.
-pub fn system_dictionaries<F: Files>(alloc: Global, files: &F) -> Result<Vec<String>, AllocError> {
+// The dictionaries of a folder, the main one first; none where it is not there.
+fn dictionaries_in<F: Files>(
+    alloc: Global,
+    files: &F,
+    folder: &[u8],
+) -> Result<Vec<String>, AllocError> {
     let mut paths = Vec::new(alloc);
-    let Ok(names) = files.names(alloc, DICTIONARIES) else {
+    let Ok(names) = files.names(alloc, folder) else {
         return Ok(paths);
     };
-    if let Some(path) = dictionary_path(alloc, b"dictionary")? {
+    if let Some(path) = dictionary_path(alloc, folder, b"dictionary")? {
         paths.push(path)?;
     }
     for name in &names {
         if name.starts_with(b"dictionary.")
-            && let Some(path) = dictionary_path(alloc, name)?
+            && let Some(path) = dictionary_path(alloc, folder, name)?
         {
             paths.push(path)?;
         }
@@ -99,20 +113,21 @@ pub fn system_dictionaries<F: Files>(alloc: Global, files: &F) -> Result<Vec<Str
     Ok(paths)
 }
 
-fn code_named(word: &str) -> Option<Code> {
-    match word {
-        "ok" => Some(Code::Ok),
-        "noop" => Some(Code::Noop),
-        "updated" => Some(Code::Updated),
-        "fail" => Some(Code::Fail),
-        "reject" => Some(Code::Reject),
-        _ => None,
+/// The dictionaries of the system, the main one first: those of a server, or else those that are installed with the
+/// programs.
+pub fn system_dictionaries<F: Files>(alloc: Global, files: &F) -> Result<Vec<String>, AllocError> {
+    for folder in [OF_SERVER, OF_INSTALLATION] {
+        let paths = dictionaries_in(alloc, files, folder)?;
+        if !paths.is_empty() {
+            return Ok(paths);
+        }
     }
+    dictionaries_in(alloc, files, OF_PACKAGE)
 }
 
 // What stands for the calls of a module.
 fn read_answer<'a>(rt: &HostRuntime, word: &'a str) -> Result<ModuleAnswer, Unread<'a>> {
-    match code_named(word) {
+    match ServerCode::named(word.as_bytes()) {
         Some(code) => Ok(ModuleAnswer::Code(code)),
         None => {
             let octets = read_file(rt, word)?;

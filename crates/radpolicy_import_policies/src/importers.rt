@@ -6,14 +6,14 @@ use crate::drafts::{
 use crate::faults::ImportFault;
 use crate::item_readers::{ItemReader, PairLines};
 use crate::origins::origin_of;
-use crate::settings::{Meaning, ModuleAnswer};
+use crate::settings::{Meaning, ModuleAnswer, SectionKind};
 use crate::statements::{Statement, StatementKind, counted};
 use avp_forms::Profile;
 use avp_lists::List;
 use avp_unlang::Code;
 use radpolicy_import_conditions::{
-    ChosenLine, KnownCodes, PatternDifference, Reason, Refusal, ServerList, SwitchChain,
-    UpdateLine, between, list_name,
+    ChosenLine, KnownCodes, PatternDifference, Reason, Refusal, ServerCode, ServerList,
+    SwitchChain, UpdateLine, between, list_name,
 };
 use std::alloc::AllocError;
 
@@ -64,6 +64,14 @@ fn reason_of(refusal: Refusal) -> Result<Reason, ImportFault> {
     match refusal {
         Refusal::Memory => Err(ImportFault::Memory),
         Refusal::LeftOut(reason) => Ok(reason),
+    }
+}
+
+// What is known of the codes after one of several ways.
+fn one_of(others: Option<KnownCodes>, codes: KnownCodes) -> KnownCodes {
+    match others {
+        Some(others) => others.either(codes),
+        None => codes,
     }
 }
 
@@ -403,20 +411,68 @@ impl<'a> Importer<'a> {
         Ok(())
     }
 
-    fn push_code(&mut self, place: usize, code: Code) -> Result<(), ImportFault> {
-        // A server's reply after `fail` is that after `reject`.
-        let code = match code {
-            Code::Fail if self.reader.settings.meaning == Meaning::Server => Code::Reject,
-            code => code,
-        };
-        self.push_text(place, code_name(code))?;
-        self.codes = self.codes.after_code(code);
-        Ok(())
+    // The code of the policy that a server's is.
+    fn own_code(&self, code: ServerCode) -> Option<Code> {
+        let settings = self.reader.settings;
+        if settings.meaning == Meaning::Plain {
+            return code.own();
+        }
+        // A server's reply after these is that after `reject`.
+        match (settings.section, code) {
+            (_, ServerCode::Fail | ServerCode::Invalid | ServerCode::UserLock)
+            | (SectionKind::Accounting, ServerCode::NotFound)
+            | (SectionKind::Access | SectionKind::Accounting, ServerCode::Handled) => {
+                Some(Code::Reject)
+            }
+            _ => code.own(),
+        }
+    }
+
+    // Whether the end of `post-auth` by `handled` is where it ends anyway.
+    fn ends_post_auth(&self) -> bool {
+        let settings = self.reader.settings;
+        settings.meaning == Meaning::Server
+            && settings.section == SectionKind::PostAuth
+            && !self.follows
+    }
+
+    // A code, which is so many statements.
+    fn push_code(
+        &mut self,
+        place: usize,
+        count: usize,
+        code: ServerCode,
+    ) -> Result<(), ImportFault> {
+        if let Some(own) = self.own_code(code) {
+            self.push_text(place, code_name(own))?;
+            self.codes = self.codes.after_code(own);
+            return Ok(());
+        }
+        match code {
+            ServerCode::NotFound => {
+                self.codes = self.codes.after_server_code(code);
+                self.comment(place, b"notfound,", b"a code of the server alone")
+            }
+            ServerCode::Handled if self.ends_post_auth() => {
+                self.comment(place, b"handled,", b"and nothing follows")
+            }
+            _ => self.leave(place, count, Reason::OtherCode),
+        }
+    }
+
+    // The code that a module gives, and what its call says is done after it.
+    fn push_answer(&mut self, place: usize, code: ServerCode) -> Result<(), ImportFault> {
+        match self.reader.action(place, code) {
+            None => self.push_code(place, 0, code),
+            Some(b"reject") => self.push_code(place, 0, ServerCode::Reject),
+            Some(b"return") if !self.follows => self.push_code(place, 0, code),
+            Some(_) => self.leave(place, 0, Reason::Action),
+        }
     }
 
     fn module(&mut self, place: usize) -> Result<(), ImportFault> {
         match self.reader.answer(place) {
-            Some(ModuleAnswer::Code(code)) => self.push_code(place, *code),
+            Some(ModuleAnswer::Code(code)) => self.push_answer(place, *code),
             Some(ModuleAnswer::Policy(policy)) => self.push_policy(place, policy),
             None => {
                 self.calls = self.calls.saturating_add(1);
@@ -503,7 +559,7 @@ impl<'a> Importer<'a> {
         conditions: &[DraftCondition],
     ) -> Result<(), ImportFault> {
         let (outer, mut before) = (self.codes, self.captured_else);
-        let (mut codes, mut after) = (outer, before);
+        let (mut codes, mut after) = (None, before);
         for (branch, condition) in branches.iter().zip(conditions) {
             // Where the attribute of a text is absent, what was captured goes on a server alone.
             before = before || condition.searches_text;
@@ -515,10 +571,13 @@ impl<'a> Importer<'a> {
             self.indent();
             self.block(branch.block.as_slice())?;
             self.close(branch.place)?;
-            codes = codes.either(self.codes);
+            codes = Some(one_of(codes, self.codes));
             after = after || before || self.captured_else;
         }
-        self.codes = codes;
+        self.codes = match branches.last() {
+            Some(last) if last.kind == StatementKind::Else => codes.unwrap_or(outer),
+            _ => one_of(codes, outer),
+        };
         self.captured_else = after;
         Ok(())
     }
@@ -654,11 +713,11 @@ impl<'a> Importer<'a> {
             StatementKind::FirstOf => self.first_of(place, block),
             StatementKind::Policy(policy) => self.policy(place, policy, block),
             StatementKind::Module => self.module(place),
-            StatementKind::Code(code) => self.push_code(place, code),
+            StatementKind::Code(code) => self.push_code(place, 1, code),
             StatementKind::Return => self.end(place),
-            StatementKind::Log => {
+            StatementKind::Expansion => {
                 let shown = shown_item(self.reader.alloc, self.reader.configuration, place)?;
-                self.comment(place, b"for the log,", &shown)
+                self.comment(place, b"an expansion by itself,", &shown)
             }
             StatementKind::OwnSection => {
                 let shown = shown_item(self.reader.alloc, self.reader.configuration, place)?;

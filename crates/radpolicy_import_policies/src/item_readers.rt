@@ -10,7 +10,7 @@ use avp_lists::List;
 use avp_unlang::{Comparison, Cond, Relation, read_policy};
 use radpolicy_import_conditions::{
     Alternative, ChosenLine, ConditionPrinter, ConditionReader, KnownCodes, LineReader, Names,
-    Operand, Reason, Refusal, ServerCondition, ServerList, SwitchChain, UpdateLine,
+    Operand, Reason, Refusal, ServerCode, ServerCondition, ServerList, SwitchChain, UpdateLine,
     add_differences, alternatives, between, captures_anew, chain_of, expansions_in, has_choices,
     keeps_captures, list_name, parts_of, push_matchings, rewritten, uses_captures,
 };
@@ -207,10 +207,31 @@ impl<'a> ItemReader<'a> {
         None
     }
 
+    /// What the call of a module at a place says is done after a code, if it does.
+    pub(crate) fn action(&self, place: usize, code: ServerCode) -> Option<&'a [u8]> {
+        let configuration = self.configuration;
+        let items = configuration.items.as_slice();
+        for item in items.get(place.saturating_add(1)..)? {
+            if item.section != Some(place) {
+                return None;
+            }
+            if let Content::Pair {
+                name,
+                value: Some(value),
+                ..
+            } = &item.content
+                && ServerCode::named(&name.octets) == Some(code)
+            {
+                return Some(value.octets.as_slice());
+            }
+        }
+        None
+    }
+
     // Whether a statement becomes more than a comment.
     fn acts(&self, statement: &Statement) -> bool {
         match statement.kind {
-            StatementKind::OwnSection | StatementKind::Log => false,
+            StatementKind::OwnSection | StatementKind::Expansion => false,
             StatementKind::Module => self.answer(statement.place).is_some(),
             _ => true,
         }

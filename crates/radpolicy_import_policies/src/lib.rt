@@ -31,7 +31,7 @@ pub use origin_texts::{origin_map, origin_path, push_origin};
 pub use origins::{LineOrigin, Origin, origin_of};
 pub use others::{Stubs, other_attributes};
 pub use sections::{Wanted, policy_of, section_of};
-pub use settings::{LineEnds, Meaning, Module, ModuleAnswer, Settings};
+pub use settings::{LineEnds, Meaning, Module, ModuleAnswer, SectionKind, Settings};
 pub use statements::{
     MAX_NESTED_SECTIONS, MAX_STATEMENTS, Statement, StatementKind, count_of, statements_of,
 };

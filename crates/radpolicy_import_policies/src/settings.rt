@@ -1,8 +1,7 @@
 //! How statements are imported.
 
 use avp_forms::Profile;
-use avp_unlang::Code;
-use radpolicy_import_conditions::{KnownCodes, OtherAttribute};
+use radpolicy_import_conditions::{KnownCodes, OtherAttribute, ServerCode};
 
 /// Whose meaning conditions and update lines keep.
 #[derive(Clone, Copy, Debug, PartialEq, Eq)]
@@ -16,7 +15,7 @@ pub enum Meaning {
 /// What stands for the call of a module.
 #[derive(Debug, Drop)]
 pub enum ModuleAnswer {
-    Code(Code),
+    Code(ServerCode),
     /// A policy.
     Policy(Vec<u8>),
 }
@@ -37,6 +36,30 @@ pub enum LineEnds {
     Nothing,
 }
 
+/// Which section of a server statements are of, as far as codes end it in another way.
+#[derive(Clone, Copy, Debug, PartialEq, Eq)]
+pub enum SectionKind {
+    /// `authorize` and `authenticate`: `handled` ends them with an Access-Reject.
+    Access,
+    /// `preacct` and `accounting`: `notfound` and `handled` end them without a reply.
+    Accounting,
+    /// `post-auth`: `handled` ends it as `return` does.
+    PostAuth,
+    Other,
+}
+
+impl SectionKind {
+    /// That of a section of this name.
+    pub fn named(name: &[u8]) -> SectionKind {
+        match name {
+            b"authorize" | b"authenticate" => SectionKind::Access,
+            b"preacct" | b"accounting" => SectionKind::Accounting,
+            b"post-auth" => SectionKind::PostAuth,
+            _ => SectionKind::Other,
+        }
+    }
+}
+
 /// How statements are imported.
 #[derive(Clone, Copy)]
 pub struct Settings<'a> {
@@ -49,6 +72,8 @@ pub struct Settings<'a> {
     pub others: &'a [OtherAttribute],
     /// What is known of the server's codes where the statements begin.
     pub codes: KnownCodes,
+    /// Which section the statements are of.
+    pub section: SectionKind,
     /// How many of the configuration's last items are pairs of initial lists, as [`crate::add_initial`] adds them. They
     /// are updates in front of the policy.
     pub initial: usize,

@@ -4,8 +4,8 @@ ghost use Rattle.std.specs.Prelude.{◌≡◌, IfOk, IfSome};
 ghost use Rattle.radpolicy_import_policies.specs.Statements.{count, count_of, weight};
 
 use crate::faults::ImportFault;
-use avp_unlang::{Code, Items};
-use radpolicy_import_conditions::Reason;
+use avp_unlang::Items;
+use radpolicy_import_conditions::{Reason, ServerCode};
 use server_configuration::{Configuration, Content, Item, Quote, Text};
 use std::alloc::{AllocError, Global};
 use std::mem;
@@ -39,9 +39,9 @@ pub enum StatementKind {
     Policy(usize),
     /// The call of a module.
     Module,
-    Code(Code),
-    /// An expansion that only writes to the server's log.
-    Log,
+    Code(ServerCode),
+    /// An expansion by itself, whose result nothing asks for: it writes to the server's log or does something elsewhere.
+    Expansion,
     /// `return`, which ends the section, also in a policy that is called.
     Return,
     /// `Auth-Type NAME` and the like: a section of its own, which other sections do not run.
@@ -175,29 +175,18 @@ impl Gathered {
     }
 }
 
-// The code of a word that policies have too.
-fn code_named(word: &[u8]) -> Option<Code> {
-    match word {
-        b"ok" => Some(Code::Ok),
-        b"noop" => Some(Code::Noop),
-        b"updated" => Some(Code::Updated),
-        b"fail" => Some(Code::Fail),
-        b"reject" => Some(Code::Reject),
-        _ => None,
-    }
+// Whether a text calls what changes attributes itself.
+fn changes_attributes(text: &[u8]) -> bool {
+    text.windows(8).any(|part| part == b"explode:".as_slice())
+        || text.windows(5).any(|part| part == b"rest:".as_slice())
 }
 
-// Codes and other words of the server that call nothing.
-fn is_other_word(word: &[u8]) -> bool {
-    matches!(
-        word,
-        b"notfound" | b"invalid" | b"userlock" | b"handled" | b"break"
-    )
-}
-
-// Whether a text by itself is an expansion that only writes to the server's log.
-fn is_log(text: &[u8]) -> bool {
-    text.starts_with(b"%{debug:") || text.starts_with(b"%{debug_attr:")
+// Whether a text by itself is an expansion that does nothing to attributes.
+fn is_expansion(text: &Text) -> bool {
+    matches!(text.quote, Quote::Bare | Quote::Double)
+        && text.octets.starts_with(b"%{")
+        && text.octets.ends_with(b"}")
+        && !changes_attributes(&text.octets)
 }
 
 // What a section is by its name.
@@ -401,20 +390,20 @@ impl<'a> Builder<'a> {
     #[cycle(building)]
     fn word(&mut self, place: usize, name: &Text, depth: usize) -> Result<Statement, ImportFault> {
         self.spend()?;
-        if is_log(&name.octets) {
-            return Ok(self.leaf(place, StatementKind::Log));
+        if is_expansion(name) {
+            return Ok(self.leaf(place, StatementKind::Expansion));
         }
         if name.quote != Quote::Bare || name.octets.first() == Some(&b'%') {
             return Ok(self.leaf(place, StatementKind::LeftOut(Reason::Expansion)));
         }
         let word = name.octets.strip_prefix(b"-").unwrap_or(&name.octets);
-        if let Some(code) = code_named(word) {
+        if let Some(code) = ServerCode::named(word) {
             return Ok(self.leaf(place, StatementKind::Code(code)));
         }
         if word == b"return".as_slice() {
             return Ok(self.leaf(place, StatementKind::Return));
         }
-        if is_other_word(word) {
+        if word == b"break".as_slice() {
             return Ok(self.leaf(place, StatementKind::LeftOut(Reason::OtherCode)));
         }
         match self.policy_named(word)? {

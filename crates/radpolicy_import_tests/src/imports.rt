@@ -6,7 +6,7 @@ use avp_forms::Profile;
 use avp_unlang::Items;
 use radpolicy_import_conditions::KnownCodes;
 use radpolicy_import_policies::{
-    Imported, LineEnds, Meaning, Module, ModuleAnswer, Settings, Statement, Wanted,
+    Imported, LineEnds, Meaning, Module, ModuleAnswer, SectionKind, Settings, Statement, Wanted,
     import_statements, origin_map, section_of, statements_of,
 };
 use samples::{one_file, test_dictionary};
@@ -84,6 +84,7 @@ pub(crate) fn settings_of(profile: Profile) -> Settings<'static> {
         modules: &[],
         others: &[],
         codes: KnownCodes::unknown(),
+        section: SectionKind::Access,
         initial: 0,
     }
 }
@@ -230,7 +231,7 @@ fn an_answer_for_a_module(rt: HostRuntime) -> Result<(), Fail> {
     let modules = vec![in rt.alloc();
         Module {
             name: Vec::from_slice(rt.alloc(), b"ldap")?,
-            answer: ModuleAnswer::Code(avp_unlang::Code::Updated),
+            answer: ModuleAnswer::Code(radpolicy_import_conditions::ServerCode::Updated),
         },
     ]?;
     let settings = Settings {
@@ -240,6 +241,7 @@ fn an_answer_for_a_module(rt: HostRuntime) -> Result<(), Fail> {
         modules: &modules,
         others: &[],
         codes: KnownCodes::unknown(),
+        section: SectionKind::Access,
         initial: 0,
     };
     assert!(rt;
@@ -334,6 +336,7 @@ fn mapped(alloc: Global, text: &[u8]) -> Result<(Vec<u8>, Vec<u8>), Fail> {
         modules: &[],
         others: &[],
         codes: KnownCodes::unknown(),
+        section: SectionKind::Access,
         initial: 0,
     };
     let configuration = configuration(alloc, text)?;
@@ -425,14 +428,29 @@ fn a_return_without_a_mark(rt: HostRuntime) -> Result<(), Fail> {
 }
 
 #[test]
-fn an_expansion_for_the_log(rt: HostRuntime) -> Result<(), Fail> {
+fn an_expansion_changes_no_code(rt: HostRuntime) -> Result<(), Fail> {
     assert!(rt;
         becomes(
             rt.alloc(),
             b"authorize {\n ok\n \"%{debug_attr:request:}\"\n if (ok) {\n reject\n }\n}",
-            b"ok  # main:2\n# for the log, \"%{debug_attr:request:}\"  # main:3\n\
+            b"ok  # main:2\n# an expansion by itself, \"%{debug_attr:request:}\"  # main:3\n\
           if (ok) {  # main:4\n\treject  # main:5\n}  # main:4\n",
             (4, 4, 0),
+        )?
+    );
+    Ok(())
+}
+
+#[test]
+fn an_expansion_by_itself(rt: HostRuntime) -> Result<(), Fail> {
+    assert!(rt;
+        becomes(
+            rt.alloc(),
+            b"authorize {\n %{db_online:fail}\n \"%{explode:&Class |}\"\n reject\n}",
+            b"# an expansion by itself, %{db_online:fail}  # main:2\n\
+          # left out, an expansion that policies do not have: \"%{explode:&Class |}\"  # main:3\n\
+          reject  # main:4\n",
+            (2, 3, 0),
         )?
     );
     Ok(())

@@ -5,8 +5,8 @@ use avp_dict::Dictionary;
 use avp_forms::Profile;
 use radpolicy_import_conditions::{KnownCodes, Reason};
 use radpolicy_import_policies::{
-    ImportFault, Imported, LineEnds, Meaning, Settings, add_initial, import_statements,
-    initial_template,
+    ImportFault, Imported, LineEnds, Meaning, SectionKind, Settings, add_initial,
+    import_statements, initial_template,
 };
 use samples::test_dictionary;
 use server_configuration::Configuration;
@@ -35,6 +35,7 @@ fn with_initial(
         modules: &[],
         others: &[],
         codes: KnownCodes::unknown(),
+        section: SectionKind::Access,
         initial: count,
     };
     let made = import_statements(alloc, &read, dictionary, settings, statements.as_slice());

@@ -4,6 +4,8 @@
 #[cfg(test)]
 mod captures;
 #[cfg(test)]
+mod chosen_texts;
+#[cfg(test)]
 mod imports;
 #[cfg(test)]
 mod initial;

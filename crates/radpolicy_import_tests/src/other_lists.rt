@@ -6,8 +6,8 @@ use avp_forms::Profile;
 use avp_lists::Octets;
 use radpolicy_import_conditions::{KnownCodes, OtherAttribute};
 use radpolicy_import_policies::{
-    Imported, LineEnds, Meaning, Settings, Stubs, keeps_names, other_attributes, other_dictionary,
-    unset_attributes,
+    Imported, LineEnds, Meaning, SectionKind, Settings, Stubs, keeps_names, other_attributes,
+    other_dictionary, unset_attributes,
 };
 use samples::one_file;
 use std::alloc::Global;
@@ -98,6 +98,7 @@ fn policy(alloc: Global, dictionary: &Dictionary) -> Result<(Imported, usize), F
         modules: &[],
         others: &others,
         codes: KnownCodes::unknown(),
+        section: SectionKind::Access,
         initial: 0,
     };
     let imported = imported(alloc, dictionary, settings, CONFIGURATION)?;
@@ -157,6 +158,7 @@ fn policy_of(alloc: Global, text: &[u8]) -> Result<(Vec<u8>, usize), Fail> {
         modules: &[],
         others: &others,
         codes: KnownCodes::unknown(),
+        section: SectionKind::Access,
         initial: 0,
     };
     let imported = imported(alloc, &dictionary, settings, text)?;
