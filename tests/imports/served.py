@@ -48,7 +48,7 @@ SHOWING = "{policy}\nupdate reply {{\n{lines}\n}}\n"
 OF_CLIENT = {"Operator-Name": "1example.com", "add_cui": "yes"}
 KEY = "changeme"
 # Those whose warnings are of nothing that these requests have.
-SURE = ("captures", "captured_by_the_last", "texts_of_absent", *REWRITING)
+SURE = ("captures", "captured_by_the_last", "texts_of_absent", "either_of_two_texts", *REWRITING)
 HARDWARE = re.compile("[^0-9a-f]?".join(6 * ["([0-9a-f]{2})"]), re.I)
 GIVEN = re.compile(r"set by no line of the policy: &control:(\S+) for %\{(\w+):(.*)\}$", re.M)
 # As operators write them.
