@@ -215,9 +215,15 @@ def share(part: int, whole: int) -> str:
 
 def figures(title: str, found: Sequence[Kept]) -> str:
     kept, read = sum(one.kept for one in found), sum(one.read for one in found)
+    hanging = sum(count - 1 for one in found for _, count in one.reasons if count)
+    given = sum(one.given for one in found)
     whole = sum(one.is_whole for one in found)
     alone = sum(one.is_whole and not one.given for one in found)
-    return f"    {title}: {share(kept, read)} statements, {share(whole, len(found))} policies whole, {alone} of them with no value that is given"
+    return (
+        f"    {title}: {share(kept, read)} statements, {share(kept + hanging, read)} with those that only hang on one"
+        f" that is left out, {given} with a value that is given; {share(whole, len(found))} policies whole, {alone} of them"
+        " with no value that is given"
+    )
 
 
 def tell(report: Report, told: str, given: Sequence[Case], found: Sequence[Kept]) -> None:
