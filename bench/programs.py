@@ -3,10 +3,11 @@ from pathlib import Path
 from typing import Callable, Dict, Optional
 
 from dictionaries import Set
-from timing import Command, Refused, in_turn, used
+from timing import Command, Refused, in_turn, peak, used
 
 ROUNDS = 9
 FEW, MANY = 1_000, 11_000
+COMMENTS = 200_000
 REQUEST = b"User-Name = bob\nNAS-Port = 7\n"
 POLICY = 'update reply {\n\tService-Type := Login-User\n\tReply-Message := "hi %{User-Name}"\n}\n'
 
@@ -29,6 +30,20 @@ def placed(folder: Path, name: str, text: str) -> Path:
     return path
 
 
+def held(command: Command) -> str:
+    """The memory that a command has at most."""
+    octets = peak(command)
+    return "" if octets is None else f"{octets / 1e6:10.1f} MB at most"
+
+
+def show_comments(program: Path, folder: Path) -> None:
+    """A dictionary of as many lines as are read, all of them comments."""
+    comments = placed(folder, "dictionary.comments", "# a comment\n" * COMMENTS)
+    command = Command([program, "check", comments])
+    taken = in_turn({"check": lambda: used(command).whole}, ROUNDS)
+    print(f"A check of {COMMENTS:,} lines of comments{1e3 * taken['check']:10.2f} ms{held(command)}")
+
+
 def show_load(program: Path, dictionaries: Set, folder: Path, client: Optional[str], peer: Optional[Path]) -> None:
     """Whole calls of the program by a set, beside a start of radclient, which reads the server's set and fails on its
     input, and beside the library."""
@@ -46,7 +61,7 @@ def show_load(program: Path, dictionaries: Set, folder: Path, client: Optional[s
     taken = in_turn(works, ROUNDS)
     print(f"{dictionaries.name}, {len(dictionaries.files)} files")
     for name, seconds in taken.items():
-        print(f"  {name:24}{1e3 * seconds:10.2f} ms")
+        print(f"  {name:24}{1e3 * seconds:10.2f} ms{held(commands[name])}")
     for name in commands:
         if name not in ("check", "run"):
             print(f"  a run is {taken['run'] / taken[name]:.2f} times {name}")

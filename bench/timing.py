@@ -1,10 +1,12 @@
 """Runs commands and takes the time of a processor that they use. The clock would count what else the machine does."""
 import resource
+import shutil
 import statistics
 import subprocess
+import tempfile
 from dataclasses import dataclass
 from pathlib import Path
-from typing import Callable, Dict, List, Sequence, TypeVar, Union
+from typing import Callable, Dict, List, Optional, Sequence, TypeVar, Union
 
 Word = Union[str, Path]
 Key = TypeVar("Key")
@@ -40,6 +42,21 @@ def used(command: Command) -> Used:
         raise Refused(ended.stderr.decode(errors="replace").strip() or f"status {ended.returncode}")
     user = after.ru_utime - before.ru_utime
     return Used(user, user + after.ru_stime - before.ru_stime)
+
+
+def peak(command: Command) -> Optional[int]:
+    """How many octets a command has at most, where GNU time is installed: that is small itself, while a child of this
+    program would be taken to have what this one has."""
+    time = shutil.which("time")
+    if not time:
+        return None
+    with tempfile.NamedTemporaryFile("r") as told:
+        words = [time, "--quiet", "--format=%M", f"--output={told.name}", *command.words]
+        nothing = subprocess.DEVNULL
+        ended = subprocess.run(words, input=command.stdin, stdout=nothing, stderr=nothing)
+        if ended.returncode != command.status:
+            raise Refused(f"status {ended.returncode}")
+        return 1024 * int(told.read())
 
 
 def in_turn(works: Dict[Key, Callable[[], float]], rounds: int) -> Dict[Key, float]:
