@@ -17,9 +17,11 @@ pub mod LexedLines
 pub mod Lexing
 pub mod LineEnds
 pub mod LineTables
+pub mod LineWords
 pub mod LinesRead
 pub mod Misspellings
 pub mod NameLengths
+pub mod NameOctets
 pub mod NumberOctets
 pub mod Numbered
 pub mod Numerals

@@ -4,6 +4,7 @@ pub mod Entries
 pub mod LineEnds
 pub mod LineReading
 pub mod LineViews
+pub mod LineWords
 pub mod Meanings
 pub mod Numbers
 pub mod Ranges

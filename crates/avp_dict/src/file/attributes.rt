@@ -181,10 +181,16 @@ pub(crate) fn is_name_octet(octet: u8) -> bool
     matches!(octet, b'a'..=b'z' | b'A'..=b'Z' | b'0'..=b'9' | b'-' | b'_' | b'.' | b'/')
 }
 
+// Each octet is looked at, since a loop with one way out looks at many at a time.
+#[tactic(auto, using(crate::proofs::NameOctets::one_more))]
 fn are_octets_of_name(name: &[u8]) -> bool
     ensures { result ≡ list_all is_name_octet name.now }
 {
-    name.iter().all(|octet| is_name_octet(*octet))
+    let mut all = true;
+    for octet in name {
+        all = all & is_name_octet(*octet);
+    }
+    all
 }
 
 /// Whether a name begins with `Attr-` and a digit.

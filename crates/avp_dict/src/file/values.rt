@@ -33,10 +33,16 @@ fn is_value_name_octet(octet: u8) -> bool
     is_name_octet(octet) || octet == b':' || octet == b'@'
 }
 
+// Each octet is looked at, since a loop with one way out looks at many at a time.
+#[tactic(auto, using(crate::proofs::NameOctets::one_more))]
 fn are_octets_of_value_name(name: &[u8]) -> bool
     ensures { result ≡ list_all is_value_name_octet name.now }
 {
-    name.iter().all(|octet| is_value_name_octet(*octet))
+    let mut all = true;
+    for octet in name {
+        all = all & is_value_name_octet(*octet);
+    }
+    all
 }
 
 fn reads_as_number(word: &[u8]) -> bool

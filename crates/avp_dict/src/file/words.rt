@@ -1,8 +1,9 @@
 //! Words of a line.
 
-ghost use Rattle.std.specs.Prelude.{◌≡◌, ◌<◌, ◌++◌, ◌∷◌, [], length, IfOk, OnOk, IfSome, IfNone};
+ghost use Rattle.std.specs.Prelude.{◌≡◌, ◌<◌, ◌≤◌, ◌+◌, ◌++◌, ◌∷◌, [], length, IfOk, OnOk, IfSome, IfNone, IsTrue};
 ghost use Rattle.std.specs.List.{after_first, before_first, position, filter, slice_split};
 ghost use Rattle.avp_dict.specs.Words.{is_blank, is_hash, is_word, lower, same_name, words_of};
+ghost use Rattle.avp_dict.specs.internal.LineWords.{after_word, is_in_word, word_size};
 ghost use Rattle.avp_dict.specs.internal.Views.{views};
 
 use memchr::memchr;
@@ -96,12 +97,89 @@ pub fn words_between_blanks(alloc: Global, plain: &[u8]) -> Result<Vec<&[u8]>, A
     Ok(words)
 }
 
+fn is_hash(octet: u8) -> bool
+    ensures { result ≡ is_hash octet }
+{
+    octet == b'#'
+}
+
+// Whether a word goes on at an octet. Most octets of a line are greater than blanks and `#`.
+fn is_in_word(octet: u8) -> bool
+    ensures { result ≡ is_in_word octet }
+{
+    octet > b'#' || !(is_blank(octet) || is_hash(octet))
+}
+
+// Whether four octets are greater than blanks and `#`, by one question.
+fn are_in_word(a: u8, b: u8, c: u8, d: u8) -> bool
+    ensures { IsTrue result → (IsTrue (is_in_word a) × (IsTrue (is_in_word b)
+        × (IsTrue (is_in_word c) × IsTrue (is_in_word d)))) }
+{
+    (a > b'#') & (b > b'#') & (c > b'#') & (d > b'#')
+}
+
+// What is left after octets of a word, four at a time.
+#[tactic(auto, using(crate::proofs::LineWords::four_more))]
+fn past_fours(text: &[u8]) -> &[u8]
+    ensures size { length text.now + word_size result.now ≡ length result.now + word_size text.now }
+    ensures within { length result.now ≤ length text.now }
+{
+    let mut rest = text;
+    while let [a, b, c, d, after @ ..] = rest {
+        if !are_in_word(*a, *b, *c, *d) {
+            return rest;
+        }
+        rest = after;
+    }
+    rest
+}
+
+// How many octets the word at the front has.
+fn word_size(text: &[u8]) -> usize
+    ensures size { result ≡ word_size text.now }
+    ensures within { result ≤ length text.now }
+{
+    let front = past_fours(text);
+    let mut rest = front;
+    while let [octet, after @ ..] = rest {
+        if !is_in_word(*octet) {
+            break;
+        }
+        rest = after;
+    }
+    text.len() - rest.len()
+}
+
+// What follows the end of a word: nothing where a comment is there.
+fn after_word(text: &[u8]) -> &[u8]
+    ensures { result.now ≡ after_word text.now }
+{
+    match text {
+        [octet, after @ ..] if !is_hash(*octet) => after,
+        _ => &[],
+    }
+}
+
+// Adds the words of a line.
+#[tactic(auto, using(crate::proofs::LineWords::words_step, crate::proofs::LineWords::after_shorter))]
+fn push_words_of<'a>(words: &mut Vec<&'a [u8]>, text: &'a [u8]) -> Result<(), AllocError>
+    ensures { OnOk result (views words.new.items ≡ views words.old.items ++ words_of text.now) }
+{
+    let mut rest = text;
+    while !rest.is_empty() {
+        let (word, after) = rest.split_at(word_size(rest));
+        push_part(words, word)?;
+        rest = after_word(after);
+    }
+    Ok(())
+}
+
 /// Puts the words of a line in place of those of the line before it, in the same room.
 pub(crate) fn replace_words<'a>(words: &mut Vec<&'a [u8]>, text: &'a [u8]) -> Result<(), AllocError>
     ensures { OnOk result (views words.new.items ≡ words_of text.now) }
 {
     words.clear();
-    push_words(words, without_comment(text))
+    push_words_of(words, text)
 }
 
 pub(crate) fn lower(octet: u8) -> u8
