@@ -11,4 +11,5 @@ pub mod Ranges
 pub mod Refused
 pub mod RequestTokens
 pub mod Tables
+pub mod Targets
 pub mod Views

@@ -68,6 +68,15 @@ fn unless_three(format: VendorFormat) -> Option<Format>
     }
 }
 
+// How many octets the files have.
+fn octets_in(files: &[NamedFile]) -> usize {
+    let mut octets: usize = 0;
+    for file in files {
+        octets = octets.saturating_add(file.octets.as_slice().len());
+    }
+    octets
+}
+
 /// What the files define, where they have at most `limit` lines.
 pub(crate) fn read_up_to(
     alloc: Global,
@@ -78,7 +87,7 @@ pub(crate) fn read_up_to(
     ensures { Meets is_memory_refusal (result_map_both contents_view (λ refused. refused) result)
         (read_dictionary limit files.now) }
 {
-    let mut read = ReadLines::new(alloc);
+    let mut read = ReadLines::for_octets(alloc, octets_in(files))?;
     read_set(alloc, files, limit, &mut read)?;
     let ReadLines { readings, context } = read;
     settle(alloc, &readings, context)

@@ -1,7 +1,8 @@
 //! What a dictionary has, and what is found in it.
 
 use crate::forms::Form;
-use avp_lists::{AttrId, Octets};
+use crate::spelling::Name;
+use avp_lists::AttrId;
 
 /// The type of an attribute's values.
 #[derive(Clone, Copy, Debug, PartialEq, Eq)]
@@ -56,7 +57,7 @@ pub struct Typing {
 /// What a used ATTRIBUTE line says.
 #[derive(Drop)]
 pub struct AttributeLine {
-    pub name: Octets,
+    pub name: Name,
     pub id: AttrId,
     pub typing: Typing,
 }
@@ -65,14 +66,14 @@ pub struct AttributeLine {
 #[derive(Drop)]
 pub struct ValueLine {
     pub id: AttrId,
-    pub name: Octets,
+    pub name: Name,
     pub number: u64,
 }
 
 /// What a VENDOR line says.
 #[derive(Drop)]
 pub struct VendorLine {
-    pub name: Octets,
+    pub name: Name,
     pub number: u32,
     pub format: VendorFormat,
 }

@@ -17,6 +17,7 @@ mod laws;
 mod line_numbers;
 mod names;
 mod request;
+mod spelling;
 mod tables;
 mod value;
 

@@ -1,5 +1,5 @@
 -- What the code's readings stand for.
-use Rattle.std.specs.Prelude.{◌≤◌, ℕ, List, [], ◌∷◌, map, length, Option, Some, None, Result, if◌then◌else◌}
+use Rattle.std.specs.Prelude.{◌≤◌, ℕ, Bool, true, false, List, [], ◌∷◌, map, length, Option, Some, None, Result, if◌then◌else◌}
 use Rattle.std.specs.Result.{result_map_both}
 use Rattle.avp_dict.specs.declared.entries.VendorLine.{VendorLine}
 use Rattle.avp_dict.specs.Letters.{max_name}
@@ -48,6 +48,10 @@ abbrev pub IsShort : CodeMeaning → Type 0
 IsShort (code.Vendor name number format) = length name.now ≤ max_name
 IsShort (code.Attribute name id typing) = length name.now ≤ max_name
 IsShort _ = Unit {0}
+
+abbrev pub is_value_line : CodeMeaning → Bool
+is_value_line (code.Value attribute name number) = true
+is_value_line _ = false
 
 abbrev pub name_if : Option (List ℕ) → List (List ℕ)
 name_if None = []

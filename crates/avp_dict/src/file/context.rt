@@ -1,6 +1,6 @@
 //! What the lines before a line leave for it.
 
-ghost use Rattle.std.specs.Prelude.{◌≡◌, OnOk};
+ghost use Rattle.std.specs.Prelude.{◌≡◌, IfOk, OnOk};
 ghost use Rattle.std.specs.Option.{option_map};
 ghost use Rattle.avp_dict.specs.Blocks.{block_vendor, innermost, is_skipping, opened_vendor, opens_skipped};
 ghost use Rattle.avp_dict.specs.Meanings.{after_reading, no_context};
@@ -8,8 +8,8 @@ ghost use Rattle.avp_dict.specs.internal.Meanings.{IsShort, context_view, readin
 
 use crate::entries::{AttributeLine, VendorLine};
 use crate::file::meanings::{Meaning, Reading};
+use crate::spelling::Name;
 use crate::tables::{Attributes, Vendors};
-use avp_lists::Octets;
 use std::alloc::{AllocError, Global};
 
 /// The attributes and vendors that lines define, and the lines that opened the blocks that are open after them.
@@ -21,14 +21,16 @@ pub struct Context<'a> {
 }
 
 impl<'a> Context<'a> {
-    pub(crate) fn new(alloc: Global) -> Context<'a>
-        ensures { context_view result ≡ no_context }
+    /// What no line leaves, with room for so many attributes.
+    pub(crate) fn with_capacity(alloc: Global, attributes: usize) -> Result<Context<'a>, AllocError>
+        ensures { IfOk result (λ context. context_view context ≡ no_context) }
     {
-        Context {
-            attributes: Attributes::new(alloc),
+        let attributes = Attributes::with_capacity(alloc, attributes)?;
+        Ok(Context {
+            attributes,
             vendors: Vendors::new(alloc),
             opened: Vec::new(alloc),
-        }
+        })
     }
 
     /// One line more.
@@ -39,11 +41,11 @@ impl<'a> Context<'a> {
     {
         match reading.meaning {
             Meaning::Attribute(name, id, typing) => {
-                let name = Octets::from_slice(alloc, name)?;
+                let name = Name::from_slice(alloc, name)?;
                 self.attributes.push(AttributeLine { name, id, typing })?;
             }
             Meaning::Vendor(name, number, format) => {
-                let name = Octets::from_slice(alloc, name)?;
+                let name = Name::from_slice(alloc, name)?;
                 self.vendors.push(VendorLine {
                     name,
                     number,

@@ -1,6 +1,6 @@
 //! The lines of a file set, read one after the other.
 
-ghost use Rattle.std.specs.Prelude.{◌≡◌, ◌∷◌, ◌++◌, ◌+◌, ◌<◌, ◌≤◌, ◌^◌, [], Err, None, List, OnOk, IfErr, length};
+ghost use Rattle.std.specs.Prelude.{◌≡◌, ◌∷◌, ◌++◌, ◌+◌, ◌<◌, ◌≤◌, ◌^◌, [], Err, None, List, OnOk, IfOk, IfErr, length};
 ghost use Rattle.avp_lists.specs.Meets.{Meets, Unless};
 ghost use Rattle.avp_dict.specs.Blocks.{innermost};
 ghost use Rattle.avp_dict.specs.DictionaryReading.{read_dictionary, settled_dictionary, unless_open};
@@ -20,7 +20,17 @@ use crate::file::lines::{Line, MAX_LEVELS, octets_at, place_included, split_line
 use crate::file::meanings::{Meaning, Reading};
 use crate::file::readings::read_words;
 use crate::file::words::replace_words;
-use std::alloc::Global;
+use std::alloc::{AllocError, Global};
+
+// Lines and ATTRIBUTE lines for which there is room from the first on: as many as FreeRADIUS's own dictionaries have by
+// their octets, but no more than those have in all.
+const OCTETS_A_LINE: usize = 48;
+
+const OCTETS_AN_ATTRIBUTE: usize = 128;
+
+const MOST_LINES: usize = 32_768;
+
+const MOST_ATTRIBUTES: usize = 8_192;
 
 /// Lines as they were read, and what they leave for the next one.
 #[derive(Drop)]
@@ -30,14 +40,16 @@ pub struct ReadLines<'a> {
 }
 
 impl<'a> ReadLines<'a> {
-    pub(crate) fn new(alloc: Global) -> ReadLines<'a>
-        ensures read { reading_views result.readings.items ≡ [] }
-        ensures tracked { context_view result.context ≡ context_of [] }
+    /// No line yet, and room for those that so many octets mostly are.
+    pub(crate) fn for_octets(alloc: Global, octets: usize) -> Result<ReadLines<'a>, AllocError>
+        ensures read { IfOk result (λ read. reading_views read.readings.items ≡ []) }
+        ensures tracked { IfOk result (λ read. context_view read.context ≡ context_of []) }
     {
-        ReadLines {
-            readings: Vec::new(alloc),
-            context: Context::new(alloc),
-        }
+        let attributes = (octets / OCTETS_AN_ATTRIBUTE).min(MOST_ATTRIBUTES);
+        let context = Context::with_capacity(alloc, attributes)?;
+        let lines = (octets / OCTETS_A_LINE).min(MOST_LINES);
+        let readings = Vec::with_capacity(alloc, lines)?;
+        Ok(ReadLines { readings, context })
     }
 
     // What one line more is read as, whose words these are; so many lines are read.

@@ -1,7 +1,7 @@
 //! What is settled after the last line: which ATTRIBUTE lines are used, by the vendors' last formats, and the
 //! dictionary.
 
-ghost use Rattle.std.specs.Prelude.{◌≡◌, ◌≤◌, [], Err, Ok, IfErr, IfOk, OnOk, IsTrue};
+ghost use Rattle.std.specs.Prelude.{◌≡◌, ◌≤◌, [], Err, Ok, count_by, IfErr, IfOk, OnOk, IsTrue};
 ghost use Rattle.std.specs.List.{list_all};
 ghost use Rattle.std.specs.Option.{option_copied};
 ghost use Rattle.std.specs.Result.{result_map_both};
@@ -11,7 +11,7 @@ ghost use Rattle.avp_dict.specs.Meanings.{context_of};
 ghost use Rattle.avp_dict.specs.Settled.{holds, is_in_format, is_kept, skipped_names, used};
 ghost use Rattle.avp_dict.specs.Values.{resolve};
 ghost use Rattle.avp_dict.specs.internal.Contents.{contents_view};
-ghost use Rattle.avp_dict.specs.internal.Meanings.{context_view, meaning_view, name_if, reading_views, skipped_name_of};
+ghost use Rattle.avp_dict.specs.internal.Meanings.{context_view, is_value_line, meaning_view, name_if, reading_views, skipped_name_of};
 ghost use Rattle.avp_dict.specs.internal.Refused.{is_memory_refusal};
 
 use crate::contents::Contents;
@@ -117,6 +117,12 @@ fn skipped_name<'a>(vendors: &Vendors, meaning: Meaning<'a>) -> Option<&'a [u8]>
     }
 }
 
+fn is_value_line(meaning: Meaning<'_>) -> bool
+    ensures { result ≡ is_value_line meaning.entry }
+{
+    matches!(meaning, Meaning::Value(_, _, _))
+}
+
 // The names on the skipped ATTRIBUTE lines.
 #[tactic(auto, unfolding(crate::specs::Settled::skipped_names))]
 fn add_skipped<'a>(
@@ -134,6 +140,16 @@ fn add_skipped<'a>(
         }
     }
     Ok(())
+}
+
+// How many of the lines are VALUE lines.
+fn value_lines(readings: &[Reading<'_>]) -> usize
+    ensures { result ≡ count_by (λ reading. is_value_line reading.meaning) readings.now }
+{
+    readings
+        .iter()
+        .filter(|reading| is_value_line(reading.meaning))
+        .count()
 }
 
 fn add_all(
@@ -171,9 +187,10 @@ pub(crate) fn settle(
         opened: _,
     } = context;
     let attributes = used(alloc, &vendors, attributes)?;
+    let values = Values::with_capacity(alloc, value_lines(readings))?;
     let mut contents = Contents {
         attributes,
-        values: Values::new(alloc),
+        values,
         tagged_values: Values::new(alloc),
         vendors,
         notes: Vec::new(alloc),

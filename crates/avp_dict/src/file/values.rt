@@ -5,11 +5,13 @@ ghost use Rattle.std.specs.Option.{option_and_then};
 ghost use Rattle.std.specs.List.{list_all};
 ghost use Rattle.avp_lists.specs.Meets.{Meets, Unless};
 ghost use Rattle.avp_dict.specs.Letters.{is_value_name_octet, max_name};
+ghost use Rattle.avp_dict.specs.Meanings.{Value};
 ghost use Rattle.avp_dict.specs.Values.{is_noted, is_of_other_number, is_tagged_integer, is_value_name, max_of, max_of_typing, reads_as_number, resolve, tagged_line, tagged_value, value_of, value_up_to, with_line, with_note, with_tagged, with_value};
 ghost use Rattle.avp_dict.specs.Dictionary.{typing_of_id};
 ghost use Rattle.avp_dict.specs.internal.Contents.{contents_view};
 ghost use Rattle.avp_dict.specs.internal.Meanings.{meaning_view, reading_view, reading_views};
 ghost use Rattle.avp_dict.specs.internal.Refused.{is_memory_refusal, is_memory_word};
+ghost use Rattle.avp_dict.specs.internal.Targets.{IsTarget};
 
 use crate::contents::Contents;
 use crate::entries::{Kind, Note, Typing, ValueLine};
@@ -20,8 +22,9 @@ use crate::file::numbers::digits;
 use crate::file::settling::is_kept;
 use crate::file::words::MAX_NAME;
 use crate::forms::Form;
+use crate::spelling::Name;
 use crate::tables::{Attributes, NameSet, Values, Vendors};
-use avp_lists::{AttrId, Octets};
+use avp_lists::AttrId;
 use std::alloc::{AllocError, Global};
 
 // The greatest number beside a tag, of three octets (RFC 2868, section 3.1).
@@ -92,6 +95,41 @@ fn typing_for(attributes: &Attributes, id: Option<AttrId>) -> Option<Typing>
     attributes.typing_of_id(id?)
 }
 
+// The attribute that a VALUE line names, and how its values are read.
+#[derive(Clone, Copy)]
+pub struct Target<'a> {
+    pub name: &'a [u8],
+    pub id: Option<AttrId>,
+    pub typing: Option<Typing>,
+}
+
+impl<'a> Target<'a> {
+    fn named(attributes: &Attributes, name: &'a [u8]) -> Target<'a>
+        ensures name { result.name.now ≡ name.now }
+        ensures found { IsTarget attributes.now result }
+    {
+        let id = attributes.id_named(name);
+        Target {
+            name,
+            id,
+            typing: typing_for(attributes, id),
+        }
+    }
+
+    // The attribute of the next VALUE line: most have that of the line before.
+    fn next(self, attributes: &Attributes, name: &'a [u8]) -> Target<'a>
+        requires { IsTarget attributes.now self }
+        ensures name { result.name.now ≡ name.now }
+        ensures found { IsTarget attributes.now result }
+    {
+        if self.name == name {
+            self
+        } else {
+            Target::named(attributes, name)
+        }
+    }
+}
+
 fn is_of_other_number(number: u64, found: Option<u64>) -> bool
     ensures { result ≡ is_of_other_number number found }
 {
@@ -125,7 +163,7 @@ fn value_up_to(
             if is_of_other_number(number, values.number_named(id, name)) {
                 return Err(DictKind::OtherValue.at_word(2));
             }
-            let name = Octets::from_slice(alloc, name)?;
+            let name = Name::from_slice(alloc, name)?;
             Ok(Some(ValueLine { id, name, number }))
         }
     }
@@ -184,7 +222,7 @@ fn tagged_line(
             if is_tagged_integer(typing.form)
                 && is_value_name(name)
                 && number <= MAX_TAGGED_NUMBER => {
-            let name = Octets::from_slice(alloc, name)?;
+            let name = Name::from_slice(alloc, name)?;
             Ok(Some(ValueLine { id, name, number }))
         }
         _ => Ok(None),
@@ -230,8 +268,9 @@ fn is_noted(vendors: &Vendors, meaning: Meaning<'_>) -> bool
 impl Contents {
     // A note of this line.
     fn add_note(&mut self, reading: Reading<'_>) -> Result<(), AllocError>
-        ensures { OnOk result (contents_view self.new
+        ensures note { OnOk result (contents_view self.new
             ≡ with_note (contents_view self.old) (reading_view reading.entry)) }
+        ensures kept { self.new.attributes ≡ self.old.attributes }
     {
         self.notes.push(Note {
             file: reading.file,
@@ -247,8 +286,9 @@ impl Contents {
         value: Option<ValueLine>,
     ) -> Result<(), AllocError>
         requires { IfSome value (λ v. length v.name ≤ max_name) }
-        ensures { OnOk result (contents_view self.new
+        ensures value { OnOk result (contents_view self.new
             ≡ with_value (contents_view self.old) (reading_view reading.entry) value) }
+        ensures kept { self.new.attributes ≡ self.old.attributes }
     {
         match value {
             Some(value) => self.values.push(value),
@@ -258,8 +298,9 @@ impl Contents {
 
     fn add_tagged(&mut self, value: Option<ValueLine>) -> Result<(), AllocError>
         requires { IfSome value (λ v. length v.name ≤ max_name) }
-        ensures { OnOk result (contents_view self.new
+        ensures tagged { OnOk result (contents_view self.new
             ≡ with_tagged (contents_view self.old) value) }
+        ensures kept { self.new.attributes ≡ self.old.attributes }
     {
         match value {
             Some(value) => self.tagged_values.push(value),
@@ -267,14 +308,54 @@ impl Contents {
         }
     }
 
-    // What a line adds.
+    // What a VALUE line adds, by its attribute.
     #[tactic(auto, unfolding(crate::specs::Values::with_line))]
-    fn add_line(
+    fn add_number(
         &mut self,
         alloc: Global,
         skipped: &NameSet<'_>,
         reading: Reading<'_>,
+        target: Target<'_>,
+        name: &[u8],
+        number: u64,
     ) -> Result<(), RefusedLine>
+        requires target { IsTarget self.old.attributes target }
+        requires reading { meaning_view reading.meaning
+            ≡ Value target.name.now name.now number }
+        ensures step { OnOk result (with_line skipped.now (contents_view self.old)
+            (reading_view reading.entry) ≡ Ok (contents_view self.new)) }
+        ensures refused { IfErr result (λ refused.
+            Unless (is_memory_refusal refused) (with_line skipped.now (contents_view self.old)
+            (reading_view reading.entry) ≡ Err refused)) }
+        ensures kept { self.new.attributes ≡ self.old.attributes }
+    {
+        let Target {
+            name: attribute,
+            id,
+            typing,
+        } = target;
+        match value_of(alloc, skipped, self, attribute, name, number, id, typing) {
+            Ok(value) => {
+                let tagged = tagged_value(alloc, self, name, number, id, typing)?;
+                self.add_value(reading, value)?;
+                self.add_tagged(tagged)?;
+                Ok(())
+            }
+            Err(refused) => Err(refused.at_line(reading.file, reading.line)),
+        }
+    }
+
+    // What a line adds, and the attribute of the last VALUE line after it.
+    #[tactic(auto, unfolding(crate::specs::Values::with_line))]
+    fn add_line<'a>(
+        &mut self,
+        alloc: Global,
+        skipped: &NameSet<'_>,
+        target: Target<'a>,
+        reading: Reading<'a>,
+    ) -> Result<Target<'a>, RefusedLine>
+        requires { IsTarget self.old.attributes target }
+        ensures target { IfOk result (IsTarget self.new.attributes) }
         ensures step { OnOk result (with_line skipped.now (contents_view self.old)
             (reading_view reading.entry) ≡ Ok (contents_view self.new)) }
         ensures refused { IfErr result (λ refused.
@@ -282,20 +363,14 @@ impl Contents {
             (reading_view reading.entry) ≡ Err refused)) }
     {
         if let Meaning::Value(attribute, name, number) = reading.meaning {
-            let id = self.attributes.id_named(attribute);
-            let typing = typing_for(&self.attributes, id);
-            match value_of(alloc, skipped, self, attribute, name, number, id, typing) {
-                Ok(value) => {
-                    let tagged = tagged_value(alloc, self, name, number, id, typing)?;
-                    self.add_value(reading, value)?;
-                    self.add_tagged(tagged)?;
-                }
-                Err(refused) => return Err(refused.at_line(reading.file, reading.line)),
-            }
-        } else if is_noted(&self.vendors, reading.meaning) {
+            let target = target.next(&self.attributes, attribute);
+            self.add_number(alloc, skipped, reading, target, name, number)?;
+            return Ok(target);
+        }
+        if is_noted(&self.vendors, reading.meaning) {
             self.add_note(reading)?;
         }
-        Ok(())
+        Ok(target)
     }
 
     /// What the lines add, one after the other.
@@ -311,8 +386,9 @@ impl Contents {
             Unless (is_memory_refusal refused) (resolve skipped.now (contents_view self.old)
             (reading_views readings.now) ≡ Err refused)) }
     {
+        let mut target = Target::named(&self.attributes, b"");
         for reading in readings {
-            self.add_line(alloc, skipped, *reading)?;
+            target = self.add_line(alloc, skipped, target, *reading)?;
         }
         Ok(())
     }

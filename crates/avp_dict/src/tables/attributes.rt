@@ -1,4 +1,4 @@
-ghost use Rattle.std.specs.Prelude.{◌≡◌, ◌≤◌, ◌++◌, ◌∷◌, [], false, length, map, slice_get, All, OnOk};
+ghost use Rattle.std.specs.Prelude.{◌≡◌, ◌≤◌, ◌++◌, ◌∷◌, [], false, length, map, slice_get, All, IfOk, OnOk};
 ghost use Rattle.std.specs.List.{list_any};
 ghost use Rattle.std.specs.Option.{option_copied, option_map, option_map_or};
 ghost use Rattle.std.specs.Set.{distinct_count};
@@ -8,16 +8,17 @@ ghost use Rattle.avp_dict.specs.Letters.{max_name};
 ghost use Rattle.avp_dict.specs.internal.AttributeRows.{line_of, lines_of, marked_by};
 
 use crate::entries::{AttributeLine, Typing};
+use crate::spelling::Name;
 use crate::tables::keyed::{Keyed, KeyedLines};
 use crate::tables::keys::{FoldedName, IdKey, id_key};
-use avp_lists::{AttrId, Octets};
+use avp_lists::AttrId;
 use std::alloc::{AllocError, Global};
 use std::marker::Model;
 
 /// A line as the table keeps it.
 #[derive(Drop)]
 pub struct AttributeRow {
-    pub name: Octets,
+    pub name: Name,
     pub id: AttrId,
     pub typing: Typing,
     /// Whether this line or an earlier one with its id is marked as secret.
@@ -78,6 +79,14 @@ impl Attributes {
         Attributes {
             rows: KeyedLines::new(alloc),
         }
+    }
+
+    /// No lines, and room for so many.
+    pub fn with_capacity(alloc: Global, lines: usize) -> Result<Attributes, AllocError>
+        ensures { IfOk result (λ attributes. attributes ≡ []) }
+    {
+        let rows = KeyedLines::with_capacity(alloc, lines)?;
+        Ok(Attributes { rows })
     }
 
     /// The lines in their order.

@@ -1,6 +1,6 @@
 //! Lines in their order, with a table of their names and one of their numbers.
 
-ghost use Rattle.std.specs.Prelude.{◌≡◌, ◌++◌, ◌∷◌, ◌≤◌, [], Bool, false, length, map, slice_get, All, IfErr, MatchOption, OnOk};
+ghost use Rattle.std.specs.Prelude.{◌≡◌, ◌++◌, ◌∷◌, ◌≤◌, [], Bool, false, length, map, slice_get, All, IfErr, IfOk, MatchOption, OnOk};
 ghost use Rattle.std.specs.Option.{option_copied};
 ghost use Rattle.std.specs.Set.{distinct_count};
 ghost use Rattle.avp_dict.specs.Dictionary.{first_keys, last_where};
@@ -99,6 +99,20 @@ impl<L: Keyed> KeyedLines<L> {
             names: Places::new(alloc),
             numbers: Places::new(alloc),
         }
+    }
+
+    /// No lines, and room for so many.
+    pub fn with_capacity(alloc: Global, lines: usize) -> Result<KeyedLines<L>, AllocError>
+        ensures { IfOk result (λ table. table ≡ []) }
+    {
+        let names = Places::with_capacity(alloc, lines)?;
+        let numbers = Places::with_capacity(alloc, lines)?;
+        let lines = Vec::with_capacity(alloc, lines)?;
+        Ok(KeyedLines {
+            lines,
+            names,
+            numbers,
+        })
     }
 
     /// The lines in their order.

@@ -1,4 +1,4 @@
-ghost use Rattle.std.specs.Prelude.{◌≡◌, ◌++◌, ◌∷◌, [], ℕ, Bool, List, map, length, slice_get, OnOk};
+ghost use Rattle.std.specs.Prelude.{◌≡◌, ◌++◌, ◌∷◌, [], ℕ, Bool, List, map, length, slice_get, IfOk, OnOk};
 ghost use Rattle.std.specs.List.{list_any};
 ghost use Rattle.std.specs.Map.{keys_of};
 ghost use Rattle.std.specs.Option.{option_and_then, option_copied};
@@ -45,6 +45,14 @@ impl<K: Eq + Hash> Places<K> {
         Places {
             table: IndexMap::new(alloc),
         }
+    }
+
+    /// No key, and room for so many.
+    pub fn with_capacity(alloc: Global, keys: usize) -> Result<Places<K>, AllocError>
+        ensures { IfOk result (λ places. IsTable K.eq places []) }
+    {
+        let table = IndexMap::with_capacity(alloc, keys)?;
+        Ok(Places { table })
     }
 
     /// No key is left.
