@@ -1,10 +1,9 @@
 //! The octets of pairs and lists as they are sent.
 
-ghost use Rattle.std.specs.Prelude.{◌≡◌, ◌≤◌, ◌<◌, ◌+◌, ◌∷◌, ◌++◌, ℕ, List, [], true, false, length, Option, All, OnOk, IfOk, IfSome, IsTrue, Err};
+ghost use Rattle.std.specs.Prelude.{◌≡◌, ◌≤◌, ◌<◌, ◌+◌, ◌∷◌, ◌++◌, ℕ, List, [], true, false, length, All, OnOk, IfOk, IfSome, IsTrue, Err};
 ghost use Rattle.avp_dict.specs.Limits.{fits};
 ghost use Rattle.std.specs.Cow.{cow_slice_items};
-ghost use Rattle.avp_dict.specs.declared.entries.Kind.{Kind};
-ghost use Rattle.avp_dict.specs.Octets.{octets_of};
+ghost use Rattle.avp_dict.specs.Octets.{is_hidden, kind_of, number_octets, octets_of};
 ghost use Rattle.avp_dict.specs.Sent.{is_internal};
 ghost use Rattle.avp_packet.specs.AttributeOctets.{attribute_octets, sent_octets};
 ghost use Rattle.avp_packet.specs.Packets.{zeros};
@@ -19,6 +18,7 @@ use crate::encoding::dividing::{Division, MESSAGE_AUTHENTICATOR_ID};
 use crate::faults::EncodeFault;
 use crate::hiding::hidden;
 use crate::keys::Keys;
+use avp_dict::{Dictionary, Kind};
 use avp_lists::{AttrId, Pair, Value};
 use std::alloc::{AllocError, Global};
 use std::borrow::CowSlice;
@@ -35,40 +35,76 @@ fn is_internal(id: AttrId) -> bool
     }
 }
 
-// The octets that a value keeps: all but numbers and addresses do.
-fn kept_octets(value: &Value) -> Option<&[u8]>
-    ensures { IfSome result (λ octets. (kind : Option Kind)
-        → octets_of kind value.now ≡ octets.now) }
+// The type of an id's values, and whether they are hidden.
+#[derive(Clone, Copy)]
+struct ValueTyping {
+    kind: Option<Kind>,
+    hidden: bool,
+}
+
+fn value_typing(dictionary: &Dictionary, id: AttrId) -> ValueTyping
+    ensures kind { result.kind ≡ kind_of id dictionary.now }
+    ensures hidden { result.hidden ≡ is_hidden id dictionary.now }
+{
+    match dictionary.by_id(id) {
+        Some(entry) => ValueTyping {
+            kind: Some(entry.kind),
+            hidden: entry.hidden,
+        },
+        None => ValueTyping {
+            kind: None,
+            hidden: false,
+        },
+    }
+}
+
+// A number's octets, the highest first: those of 64 bits without the first ones.
+fn number_octets(kind: Option<Kind>, number: u64, buffer: &mut [u8; 8]) -> &[u8]
+    ensures { result.now ≡ number_octets kind number }
+{
+    *buffer = number.to_be_bytes();
+    match kind {
+        Some(Kind::Byte) => &buffer[7..],
+        Some(Kind::Short) => &buffer[6..],
+        Some(Kind::Integer64) => &buffer[..],
+        _ => &buffer[4..],
+    }
+}
+
+// A value's octets: its own, or those of its number, which are put into the buffer.
+fn octets_of<'a>(kind: Option<Kind>, value: &'a Value, buffer: &'a mut [u8; 8]) -> &'a [u8]
+    ensures { result.now ≡ octets_of kind value.now }
 {
     match value {
-        Value::Text(octets) => Some(octets.as_slice()),
-        Value::Bytes(octets) => Some(octets.as_slice()),
-        Value::Raw(octets) => Some(octets.as_slice()),
-        _ => None,
+        Value::Text(octets) => octets.as_slice(),
+        Value::Bytes(octets) => octets.as_slice(),
+        Value::Int(number) => number_octets(kind, *number, buffer),
+        Value::Signed(number) => number_octets(None, u64::from(number.cast_unsigned()), buffer),
+        Value::Addr(address) => address,
+        Value::Ether(address) => address,
+        Value::Raw(octets) => octets.as_slice(),
     }
 }
 
 // The octets of a pair's value: hidden where the attribute is, but for raw ones.
-#[tactic(auto, unfolding(crate::specs::AttributeOctets::sent_octets), using(crate::proofs::AttributeRoom::hidden_short))]
+#[tactic(auto, unfolding(crate::specs::AttributeOctets::sent_octets, avp_dict::specs::Octets::octets), using(crate::proofs::AttributeRoom::hidden_short))]
 fn sent_octets<'a>(
     alloc: Global,
     keys: &Keys<'_>,
     pair: &'a Pair,
+    buffer: &'a mut [u8; 8],
 ) -> Result<CowSlice<'a, u8>, AllocError>
     requires { fits pair.now keys.now.dictionary.now ≡ true }
     ensures { IfOk result (λ octets. cow_slice_items octets
         ≡ under keys.now sent_octets pair.now) }
 {
-    if keys.is_hidden(pair.id) && !matches!(pair.value, Value::Raw(_)) {
-        let plain = keys.dictionary.bytes_of_value(alloc, pair.id, &pair.value)?;
-        let hidden = hidden(alloc, keys.secret, keys.authenticator, &plain)?;
+    let typing = value_typing(keys.dictionary, pair.id);
+    let plain = octets_of(typing.kind, &pair.value, buffer);
+    if typing.hidden && !matches!(pair.value, Value::Raw(_)) {
+        let hidden = hidden(alloc, keys.secret, keys.authenticator, plain)?;
         return Ok(CowSlice::Owned(hidden));
     }
-    if let Some(octets) = kept_octets(&pair.value) {
-        return Ok(CowSlice::Borrowed(octets));
-    }
-    let plain = keys.dictionary.bytes_of_value(alloc, pair.id, &pair.value)?;
-    Ok(CowSlice::Owned(plain))
+    Ok(CowSlice::Borrowed(plain))
 }
 
 // Adds the attributes that a pair is sent in.
@@ -81,7 +117,8 @@ fn push_pair(octets: &mut Vec<u8>, keys: &Keys<'_>, pair: &Pair) -> Result<(), A
     if is_internal(pair.id) {
         return Ok(());
     }
-    let value = sent_octets(*octets.allocator(), keys, pair)?;
+    let mut buffer = [0; 8];
+    let value = sent_octets(*octets.allocator(), keys, pair, &mut buffer)?;
     let value = value.as_slice();
     if value.is_empty() {
         return Ok(());
