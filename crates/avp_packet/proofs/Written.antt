@@ -43,12 +43,14 @@ regrouped : (o a b c d e f : List ℕ) → o ++ a ++ b ++ c ++ d ++ e ++ f ≡ o
 regrouped o a b c d e f = simp append_assoc
 
 pub vendor_written : (old os : List ℕ) (f : Format) (vendor number n : ℕ) → n ≡ f.t + f.l + length os
-    → (old ++ vendor_specific ∷ [] ++ (6 + n) ∷ [] ++ bytes_high_first 4 vendor ++ bytes_high_first f.t number ++ bytes_high_first f.l n) ++ os ≡ old ++ flat_map part_octets (vendor_part vendor number os f)
+    → (old ++ vendor_specific ∷ (6 + n) ∷ [] ++ bytes_high_first 4 vendor ++ bytes_high_first f.t number ++ bytes_high_first f.l n) ++ os ≡ old ++ flat_map part_octets (vendor_part vendor number os f)
 vendor_written old os f vendor number n e =
     let long : 6 + (f.t + f.l + length os) ≡ 2 + length (vendor_value vendor number os f) = omega (arith, length-vendor_value vendor number os f) in
     let v : List ℕ = vendor_value vendor number os f in
+    let after : List ℕ → List ℕ = λ xs. xs ++ bytes_high_first 4 vendor ++ bytes_high_first f.t number ++ bytes_high_first f.l (f.t + f.l + length os) ++ os in
     rw (e, long)
-    (regrouped old (vendor_specific ∷ []) ((2 + length v) ∷ []) (bytes_high_first 4 vendor) (bytes_high_first f.t number) (bytes_high_first f.l (f.t + f.l + length os)) os
+    (ap after (sym (append_assoc old (vendor_specific ∷ []) ((2 + length v) ∷ [])))
+    ∙ regrouped old (vendor_specific ∷ []) ((2 + length v) ∷ []) (bytes_high_first 4 vendor) (bytes_high_first f.t number) (bytes_high_first f.l (f.t + f.l + length os)) os
     ∙ ap (λ (xs : List ℕ). old ++ xs) (sym (append-nil (vendor_specific ∷ (2 + length v) ∷ v))))
 
 -- ---- pieces

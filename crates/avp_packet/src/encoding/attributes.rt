@@ -82,21 +82,53 @@ fn push_number(octets: &mut Vec<u8>, count: u8, number: u32) -> Result<(), Alloc
     }
 }
 
-// Adds what comes in an attribute before the value of a vendor's own.
+// Adds what comes before the value of a vendor's attribute, where its own type and length have an octet each.
+fn push_standard_head(
+    octets: &mut Vec<u8>,
+    vendor: u32,
+    number: u32,
+    length: usize,
+) -> Result<(), AllocError>
+    requires { length ≤ 249 }
+    ensures { OnOk result (octets.new.items ≡ octets.old.items
+        ++ VENDOR_SPECIFIC ∷ (6 + length) ∷ [] ++ bytes_high_first 4 vendor
+        ++ bytes_high_first 1 number ++ bytes_high_first 1 length) }
+{
+    let vendor = vendor.to_be_bytes();
+    let head = [
+        VENDOR_SPECIFIC,
+        (ATTRIBUTE_HEAD_OCTETS + VENDOR_ID_OCTETS + length) as u8,
+        vendor[0],
+        vendor[1],
+        vendor[2],
+        vendor[3],
+        number.to_be_bytes()[3],
+        length as u8,
+    ];
+    octets.extend_from_slice(&head)
+}
+
+// Adds what comes before the value of a vendor's attribute.
 fn push_vendor_head(
     octets: &mut Vec<u8>,
     format: Format,
     vendor: u32,
     number: u32,
-    length: u8,
+    length: usize,
 ) -> Result<(), AllocError>
-    requires { is_format format.t format.l ≡ true }
-    ensures { OnOk result (octets.new.items ≡ octets.old.items ++ bytes_high_first 4 vendor
+    requires format { is_format format.t format.l ≡ true }
+    requires short { length ≤ 249 }
+    ensures { OnOk result (octets.new.items ≡ octets.old.items
+        ++ VENDOR_SPECIFIC ∷ (6 + length) ∷ [] ++ bytes_high_first 4 vendor
         ++ bytes_high_first format.t number ++ bytes_high_first format.l length) }
 {
+    if format.t == 1 && format.l == 1 {
+        return push_standard_head(octets, vendor, number, length);
+    }
+    push_head(octets, VENDOR_SPECIFIC, VENDOR_ID_OCTETS + length)?;
     octets.extend_from_slice(&vendor.to_be_bytes())?;
     push_number(octets, format.t, number)?;
-    push_number(octets, format.l, u32::from(length))
+    push_number(octets, format.l, length as u32)
 }
 
 // Adds an attribute of a vendor.
@@ -113,9 +145,7 @@ fn push_vendor(
         ++ flat_map part_octets (vendor_part vendor number value.now format)) }
 {
     let length = usize::from(format.t) + usize::from(format.l) + value.len();
-    octets.push(VENDOR_SPECIFIC)?;
-    octets.push((ATTRIBUTE_HEAD_OCTETS + VENDOR_ID_OCTETS + length) as u8)?;
-    push_vendor_head(octets, format, vendor, number, length as u8)?;
+    push_vendor_head(octets, format, vendor, number, length)?;
     octets.extend_from_slice(value)?;
     Ok(())
 }

@@ -7,8 +7,6 @@ returns c =
     let f = c.args.format in
     let os = c.args.value.now in
     cc (
-      c.in_ok-push.ensures.items,
-      c.in_ok-push-2.ensures.items,
       c.in_ok-push_vendor_head.ensures,
       c.in_ok-extend_from_slice.ensures.items,
       c.from.ensures,
