@@ -11,6 +11,7 @@ use Rattle.avp_lists.specs.declared.pairs.Pair.{Pair}
 use Rattle.avp_lists.specs.declared.pairs.Value.{Value}
 use Rattle.avp_lists.specs.declared.pairs.Value.TheVariants.{Raw}
 use Rattle.avp_dict.specs.Dictionary.{Dictionary}
+use Rattle.avp_dict.specs.declared.entries.Format.{Format}
 use Rattle.avp_dict.specs.declared.entries.VendorFormat.{VendorFormat}
 use Rattle.avp_dict.specs.Attributes.{is_held}
 use Rattle.avp_dict.specs.Dictionary.{format_of}
@@ -140,6 +141,28 @@ module _ (dictionary : Dictionary) where
       let typed : is_raw p.value ≡ false = not-true (is_raw p.value) (and_parts _ _ e).1 in
       rw e (can_hold p.id (hidden secret authenticator os) (fits_known p h) sent (inl (length-hidden secret authenticator os (within_hideable p.id p.value hides typed (fits_within p h))))))
       (λ e. rw e (can_hold p.id os (fits_known p h) sent (inr (within_most p.id p.value (fits_within p h)))))
+
+  most_octets : (id : AttrId) → max_octets id dictionary ≤ 4096
+  unfolding max_octets
+  most_octets (Plain n) = by_test (max_octets (Plain n) dictionary ≤ 4096) (nat_le n 255) (λ e. rw e (omega arith)) (λ e. rw e (omega arith))
+  most_octets (Vendor v n) = go (vendor_format v dictionary)
+    where
+      go : (o : Option Format) → option_map_or vendor_room o 0 ≤ 4096
+      go None = omega arith
+      go (Some f) = omega arith
+  most_octets (Extended t n) = grind (arith, common_steps)
+
+  -- however many octets an attribute's value is sent in, they are few
+  pub sent_short : (secret authenticator : List ℕ) (p : Pair) → fits p dictionary ≡ true → length (sent_octets dictionary secret authenticator p) ≤ 4096
+  unfolding sent_octets
+  sent_short secret authenticator p h =
+      let os : List ℕ = octets p.id p.value dictionary in
+      by_test (length (cond (is_hidden p.id dictionary && not (is_raw p.value)) (hidden secret authenticator os) os) ≤ 4096) (is_hidden p.id dictionary && not (is_raw p.value))
+      (λ e. let hides : is_hidden p.id dictionary ≡ true = (and_parts (is_hidden p.id dictionary) (not (is_raw p.value)) e).0 in
+      let typed : is_raw p.value ≡ false = not-true (is_raw p.value) (and_parts (is_hidden p.id dictionary) (not (is_raw p.value)) e).1 in
+      let few : length (hidden secret authenticator os) ≤ max_hidden_octets = length-hidden secret authenticator os (within_hideable p.id p.value hides typed (fits_within p h)) in
+      rw e (omega (arith, few)))
+      (λ e. rw e (omega (arith, within_most p.id p.value (fits_within p h), most_octets p.id)))
 
   -- ---- a pair that is sent, and one that is not
 

@@ -5,6 +5,7 @@ pub mod Divided
 pub mod Filled
 pub mod FittingLists
 pub mod FittingPairs
+pub mod Lengths
 pub mod Masks
 pub mod Means
 pub mod Nuls

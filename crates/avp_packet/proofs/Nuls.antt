@@ -55,7 +55,7 @@ without_one_nul (x ∷ xs) = rw (all_with_nul xs, without_one_nul xs)
 
 -- ---- hidden and shown
 
-length-padded : (password : List ℕ) → length (padded password) ≡ 16 * block_count (length password)
+pub length-padded : (password : List ℕ) → length (padded password) ≡ 16 * block_count (length password)
 length-padded password =
     let room : ℕ = 16 * block_count (length password) - length password in
     let most : length password + room ≡ 16 * block_count (length password) = omega arith in

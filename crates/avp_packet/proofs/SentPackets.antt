@@ -30,6 +30,9 @@ module _ (dictionary : Dictionary) (secret : List ℕ) (code id : ℕ) (authenti
     pub packet_too_long : max_packet_octets < 20 + length (divided_octets dictionary secret (hiding_authenticator code authenticator) division content.proxy_states zeros) → max_packet_octets < length (packet code id own sent_attributes)
     packet_too_long more = omega (arith, more, length-packet code id own sent_attributes long, length-signed dictionary secret code id authenticator content division divided)
 
+    pub packet_fits : 20 + length (divided_octets dictionary secret (hiding_authenticator code authenticator) division content.proxy_states zeros) ≤ max_packet_octets → length (packet code id own sent_attributes) ≤ max_packet_octets
+    packet_fits few = omega (arith, few, length-packet code id own sent_attributes long, length-signed dictionary secret code id authenticator content division divided)
+
     pub packet_short : (octets : List ℕ) → length authenticator ≡ 16 → octets ≡ packet code id authenticator (divided_signed dictionary secret code id authenticator division content.proxy_states) → length octets ≤ max_packet_octets → length (packet code id own sent_attributes) ≤ max_packet_octets
     packet_short octets other made few =
         let laid : List ℕ = divided_signed dictionary secret code id authenticator division content.proxy_states in

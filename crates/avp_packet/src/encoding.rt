@@ -2,5 +2,6 @@
 
 pub mod attributes;
 pub mod dividing;
+pub mod lengths;
 pub mod packets;
 pub mod pairs;

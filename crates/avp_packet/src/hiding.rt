@@ -1,6 +1,6 @@
 //! Hiding of passwords (RFC 2865, section 5.2).
 
-ghost use Rattle.std.specs.Prelude.{◌≡◌, ◌++◌, ◌/◌, ◌<◌, ◌≤◌, ◌↔◌, true, false, length, IfOk, OnOk, Some, Err};
+ghost use Rattle.std.specs.Prelude.{◌≡◌, ◌++◌, ◌*◌, ◌/◌, ◌<◌, ◌≤◌, ◌↔◌, true, false, length, IfOk, OnOk, Some, Err};
 ghost use Rattle.std.specs.Option.{option_map};
 ghost use Rattle.md5.specs.Md5.{md5};
 ghost use Rattle.avp_dict.specs.Octets.{is_hideable};
@@ -40,6 +40,14 @@ fn block_count(length: usize) -> usize
     ensures { result ≡ block_count length }
 {
     1 + length.saturating_sub(1) / BLOCK_OCTETS
+}
+
+/// How many octets a password of so many is hidden in.
+pub(crate) fn hidden_length(length: usize) -> usize
+    requires { length ≤ MAX_HIDDEN_OCTETS }
+    ensures { result ≡ 16 * block_count length }
+{
+    BLOCK_OCTETS * block_count(length)
 }
 
 // The password, with NULs up to whole blocks.

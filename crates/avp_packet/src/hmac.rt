@@ -21,8 +21,8 @@ const INNER_PAD: [u8; MD5_BLOCK_OCTETS] = [0x36; MD5_BLOCK_OCTETS];
 
 const OUTER_PAD: [u8; MD5_BLOCK_OCTETS] = [0x5c; MD5_BLOCK_OCTETS];
 
-// The octets of a Message-Authenticator: Type, Length and 16 of Value.
-const SIGNATURE_OCTETS: usize = ATTRIBUTE_HEAD_OCTETS + DIGEST_OCTETS;
+/// The octets of a Message-Authenticator: Type, Length and 16 of Value.
+pub(crate) const SIGNATURE_OCTETS: usize = ATTRIBUTE_HEAD_OCTETS + DIGEST_OCTETS;
 
 // The Type and Length of a Message-Authenticator.
 const SIGNATURE_HEAD: [u8; ATTRIBUTE_HEAD_OCTETS] = [MESSAGE_AUTHENTICATOR, SIGNATURE_OCTETS as u8];

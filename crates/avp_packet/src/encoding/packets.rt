@@ -20,6 +20,7 @@ use crate::authenticators::{
 };
 use crate::decoding::packets::copy_authenticator;
 use crate::encoding::dividing::{Division, divide_reply, divide_request};
+use crate::encoding::lengths::is_too_long;
 use crate::encoding::pairs::write_attributes;
 use crate::faults::EncodeFault;
 use crate::hmac::hmac;
@@ -93,8 +94,9 @@ fn packet_head(
     Ok(octets)
 }
 
-// A packet with the authenticator of its keys, the Request Authenticator, and signed under it.
-fn signed_packet(
+// A packet with the authenticator of its keys, the Request Authenticator, and signed under it. Memory may run out before
+// it is seen that the packet is too long.
+fn write_packet(
     alloc: Global,
     keys: &Keys<'_>,
     code: u8,
@@ -125,6 +127,80 @@ fn signed_packet(
     fill_length(&mut octets);
     sign(&mut octets, place, keys.secret);
     Ok(octets)
+}
+
+// Why a packet is not written: memory that ran out is no reason where the packet is too long.
+fn exact_fault(
+    fault: EncodeFault,
+    keys: &Keys<'_>,
+    code: u8,
+    division: &Division<'_>,
+    proxy_states: &[Pair],
+) -> EncodeFault
+    requires list_fits { KeepsAll (λ pair. fits pair keys.now.dictionary.now) division.now }
+    requires proxies_fit { All (λ pair. fits pair keys.now.dictionary.now ≡ true) proxy_states.now }
+    requires too_long { fault ≡ EncodeFault.TooLong → MAX_PACKET_OCTETS
+        < PACKET_HEAD_OCTETS
+        + length (divided_octets keys.now.dictionary.now keys.now.secret.now
+        (hiding_authenticator code keys.now.authenticator.now)
+        division.now proxy_states.now zeros) }
+    ensures too_long { result ≡ EncodeFault.TooLong → MAX_PACKET_OCTETS
+        < PACKET_HEAD_OCTETS
+        + length (divided_octets keys.now.dictionary.now keys.now.secret.now
+        (hiding_authenticator code keys.now.authenticator.now)
+        division.now proxy_states.now zeros) }
+    ensures memory { result ≡ EncodeFault.Memory
+        → PACKET_HEAD_OCTETS
+        + length (divided_octets keys.now.dictionary.now keys.now.secret.now
+        (hiding_authenticator code keys.now.authenticator.now)
+        division.now proxy_states.now zeros)
+        ≤ MAX_PACKET_OCTETS }
+{
+    match fault {
+        EncodeFault::TooLong => EncodeFault::TooLong,
+        EncodeFault::Memory => {
+            if is_too_long(keys, code, division, proxy_states) {
+                EncodeFault::TooLong
+            } else {
+                EncodeFault::Memory
+            }
+        }
+    }
+}
+
+// The same, and memory runs out only where the packet is not too long.
+fn signed_packet(
+    alloc: Global,
+    keys: &Keys<'_>,
+    code: u8,
+    id: u8,
+    division: &Division<'_>,
+    proxy_states: &[Pair],
+) -> Result<Vec<u8>, EncodeFault>
+    requires list_fits { KeepsAll (λ pair. fits pair keys.now.dictionary.now) division.now }
+    requires proxies_fit { All (λ pair. fits pair keys.now.dictionary.now ≡ true) proxy_states.now }
+    ensures octets { IfOk result (λ octets. octets.items
+        ≡ packet code id keys.now.authenticator.now
+        (divided_signed keys.now.dictionary.now keys.now.secret.now code id
+        keys.now.authenticator.now division.now proxy_states.now)) }
+    ensures short { IfOk result (λ octets. length octets.items ≤ MAX_PACKET_OCTETS) }
+    ensures ranged { OnOk result (AreVendorsInRange division.now proxy_states.now) }
+    ensures too_long { result ≡ Err EncodeFault.TooLong → MAX_PACKET_OCTETS
+        < PACKET_HEAD_OCTETS
+        + length (divided_octets keys.now.dictionary.now keys.now.secret.now
+        (hiding_authenticator code keys.now.authenticator.now)
+        division.now proxy_states.now zeros) }
+    ensures memory { result ≡ Err EncodeFault.Memory
+        → PACKET_HEAD_OCTETS
+        + length (divided_octets keys.now.dictionary.now keys.now.secret.now
+        (hiding_authenticator code keys.now.authenticator.now)
+        division.now proxy_states.now zeros)
+        ≤ MAX_PACKET_OCTETS }
+{
+    match write_packet(alloc, keys, code, id, division, proxy_states) {
+        Ok(octets) => Ok(octets),
+        Err(fault) => Err(exact_fault(fault, keys, code, division, proxy_states)),
+    }
 }
 
 // Fills in the authenticator of a request, which has the one of an Access-Request.
@@ -182,6 +258,8 @@ pub fn encode_request(
         → is_signed octets.items authenticator.now secret.now ≡ true) }
     ensures too_long { result ≡ Err EncodeFault.TooLong → IsTooLong
         (request dictionary.now secret.now code id authenticator.now list.now) }
+    ensures memory { result ≡ Err EncodeFault.Memory → IsShort
+        (request dictionary.now secret.now code id authenticator.now list.now) }
 {
     dictionary.is_sound();
     let division = divide_request(code, list);
@@ -214,6 +292,8 @@ pub fn encoded_authenticator(
     ensures short { OnOk result (IsShort
         (request dictionary.now secret.now code id authenticator.now list.now)) }
     ensures too_long { result ≡ Err EncodeFault.TooLong → IsTooLong
+        (request dictionary.now secret.now code id authenticator.now list.now) }
+    ensures memory { result ≡ Err EncodeFault.Memory → IsShort
         (request dictionary.now secret.now code id authenticator.now list.now) }
 {
     let octets = encode_request(alloc, dictionary, secret, code, id, authenticator, list)?;
@@ -284,6 +364,9 @@ pub fn encode_reply(
         ≡ Ok (packet_meant dictionary.now secret.now code id request_authenticator.now
         (reply_content signed list.now proxy_states.now) octets.items)) }
     ensures too_long { result ≡ Err EncodeFault.TooLong → IsTooLong
+        (reply dictionary.now secret.now code id
+        request_authenticator.now signed list.now proxy_states.now) }
+    ensures memory { result ≡ Err EncodeFault.Memory → IsShort
         (reply dictionary.now secret.now code id
         request_authenticator.now signed list.now proxy_states.now) }
 {

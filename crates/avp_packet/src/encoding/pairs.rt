@@ -23,8 +23,8 @@ use avp_lists::{AttrId, Pair, Value};
 use std::alloc::{AllocError, Global};
 use std::borrow::CowSlice;
 
-// Whether an attribute is never sent.
-fn is_internal(id: AttrId) -> bool
+/// Whether an attribute is never sent.
+pub(crate) fn is_internal(id: AttrId) -> bool
     ensures test { result ≡ is_internal id }
     ensures ranged { IsVendorInRange id }
 {
@@ -35,14 +35,14 @@ fn is_internal(id: AttrId) -> bool
     }
 }
 
-// The type of an id's values, and whether they are hidden.
+/// The type of an id's values, and whether they are hidden.
 #[derive(Clone, Copy)]
-struct ValueTyping {
-    kind: Option<Kind>,
-    hidden: bool,
+pub(crate) struct ValueTyping {
+    pub kind: Option<Kind>,
+    pub hidden: bool,
 }
 
-fn value_typing(dictionary: &Dictionary, id: AttrId) -> ValueTyping
+pub(crate) fn value_typing(dictionary: &Dictionary, id: AttrId) -> ValueTyping
     ensures kind { result.kind ≡ kind_of id dictionary.now }
     ensures hidden { result.hidden ≡ is_hidden id dictionary.now }
 {
@@ -71,8 +71,12 @@ fn number_octets(kind: Option<Kind>, number: u64, buffer: &mut [u8; 8]) -> &[u8]
     }
 }
 
-// A value's octets: its own, or those of its number, which are put into the buffer.
-fn octets_of<'a>(kind: Option<Kind>, value: &'a Value, buffer: &'a mut [u8; 8]) -> &'a [u8]
+/// A value's octets: its own, or those of its number, which are put into the buffer.
+pub(crate) fn octets_of<'a>(
+    kind: Option<Kind>,
+    value: &'a Value,
+    buffer: &'a mut [u8; 8],
+) -> &'a [u8]
     ensures { result.now ≡ octets_of kind value.now }
 {
     match value {
@@ -127,8 +131,8 @@ fn push_pair(octets: &mut Vec<u8>, keys: &Keys<'_>, pair: &Pair) -> Result<(), A
     Ok(())
 }
 
-// Whether a pair is sent: a Message-Authenticator only where all are.
-fn is_kept(pair: &Pair, all: bool) -> bool
+/// Whether a pair is sent: a Message-Authenticator only where all are.
+pub(crate) fn is_kept(pair: &Pair, all: bool) -> bool
     ensures kept { IsTrue result → kept_pairs all (pair.now ∷ []) ≡ pair.now ∷ [] }
     ensures left { result ≡ false → kept_pairs all (pair.now ∷ []) ≡ [] }
     ensures ranged { result ≡ false → IsVendorInRange pair.now.id }

@@ -2,7 +2,7 @@ use Rattle.std.proofs.Common.{rules, ◌≡◌, ◌∙◌, ◌++◌, List, ℕ, 
 use Rattle.md5.specs.Md5.{md5}
 use Rattle.avp_lists.specs.declared.pairs.Pair.{Pair}
 use Rattle.avp_dict.specs.Limits.{fits}
-use Rattle.avp_packet.specs.declared.faults.EncodeFault.TheVariants.{TooLong}
+use Rattle.avp_packet.specs.declared.faults.EncodeFault.TheVariants.{Memory, TooLong}
 use Rattle.avp_packet.specs.PacketMeaning.{OctetsMean}
 use Rattle.avp_packet.specs.Packets.{IsReplyCode, attributes_signed, code_of, digest_over, id_of, packet, pairs_meant, reply, reply_content}
 use Rattle.avp_packet.specs.Sending.{Content}
@@ -10,7 +10,7 @@ use Rattle.avp_packet.specs.internal.Filling.{divided_signed}
 use Rattle.avp_packet.proofs.Assembled.{is_reply-packet, length-digest_over, length-packet}
 use Rattle.avp_packet.proofs.RepliesReadBack.{read_again, rightly_signed}
 use Rattle.avp_packet.proofs.SentLists.{proxies_unsigned, signed_octets}
-use Rattle.avp_packet.proofs.SentPackets.{packet_means, packet_short, packet_signed, packet_too_long, packet_unsigned, packet_whole}
+use Rattle.avp_packet.proofs.SentPackets.{packet_fits, packet_means, packet_short, packet_signed, packet_too_long, packet_unsigned, packet_whole}
 use Rattle.avp_packet.proofs.encoding.packets.encode_reply.Goals as goal
 
 pub signed_packet-requires-clause-list_fits : goal.signed_packet-requires-clause-list_fits
@@ -22,6 +22,13 @@ returns-in_err-octets-clause-too_long c = λ err.
     let refused : c.signed_packet.result ≡ Err TooLong = search rules in
     packet_too_long c.args.dictionary.now c.args.secret.now c.args.code c.args.id c.args.request_authenticator.now (reply_content c.args.signed c.args.list.now c.args.proxy_states.now) _ (length-digest_over _ _ _ _ _)
     c.divide_reply-division.result c.divide_reply-division.ensures.divided (c.in_err-octets.ensures.too_long (sym c.in_err-octets.was ∙ refused))
+
+pub returns-in_err-octets-clause-memory : goal.returns-in_err-octets-clause-memory
+unfolding reply
+returns-in_err-octets-clause-memory c = λ err.
+    let refused : c.signed_packet.result ≡ Err Memory = search rules in
+    packet_fits c.args.dictionary.now c.args.secret.now c.args.code c.args.id c.args.request_authenticator.now (reply_content c.args.signed c.args.list.now c.args.proxy_states.now) _ (length-digest_over _ _ _ _ _)
+    c.divide_reply-division.result c.divide_reply-division.ensures.divided (c.in_err-octets.ensures.memory (sym c.in_err-octets.was ∙ refused))
 
 pub fill_authenticator-requires : goal.fill_authenticator-requires
 fill_authenticator-requires c =

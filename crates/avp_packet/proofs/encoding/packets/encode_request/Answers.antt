@@ -3,13 +3,13 @@ use Rattle.std.specs.List.{All}
 use Rattle.avp_lists.specs.declared.pairs.Pair.{Pair}
 use Rattle.avp_dict.specs.Limits.{fits}
 use Rattle.avp_dict.specs.Sent.{is_clean}
-use Rattle.avp_packet.specs.declared.faults.EncodeFault.TheVariants.{TooLong}
+use Rattle.avp_packet.specs.declared.faults.EncodeFault.TheVariants.{Memory, TooLong}
 use Rattle.avp_packet.specs.Packets.{attributes_signed, packet, request, request_content}
 use Rattle.avp_packet.specs.Sending.{Content}
 use Rattle.avp_packet.specs.internal.Filling.{divided_signed}
 use Rattle.avp_packet.proofs.Assembled.{length-packet, length-request_authenticator}
 use Rattle.avp_packet.proofs.SentLists.{signed_octets}
-use Rattle.avp_packet.proofs.SentPackets.{packet_means, packet_short, packet_signed, packet_too_long, packet_whole}
+use Rattle.avp_packet.proofs.SentPackets.{packet_fits, packet_means, packet_short, packet_signed, packet_too_long, packet_whole}
 use Rattle.avp_packet.proofs.encoding.packets.encode_request.Goals as goal
 
 pub signed_packet-requires-clause-list_fits : goal.signed_packet-requires-clause-list_fits
@@ -21,6 +21,13 @@ returns-in_err-octets-clause-too_long c = λ err.
     let refused : c.signed_packet.result ≡ Err TooLong = search rules in
     packet_too_long c.args.dictionary.now c.args.secret.now c.args.code c.args.id c.args.authenticator.now (request_content c.args.code c.args.list.now) _ (length-request_authenticator _ _ _ _ _ c.told-authenticator)
     c.divide_request-division.result c.divide_request-division.ensures.divided (c.in_err-octets.ensures.too_long (sym c.in_err-octets.was ∙ refused))
+
+pub returns-in_err-octets-clause-memory : goal.returns-in_err-octets-clause-memory
+unfolding request
+returns-in_err-octets-clause-memory c = λ err.
+    let refused : c.signed_packet.result ≡ Err Memory = search rules in
+    packet_fits c.args.dictionary.now c.args.secret.now c.args.code c.args.id c.args.authenticator.now (request_content c.args.code c.args.list.now) _ (length-request_authenticator _ _ _ _ _ c.told-authenticator)
+    c.divide_request-division.result c.divide_request-division.ensures.divided (c.in_err-octets.ensures.memory (sym c.in_err-octets.was ∙ refused))
 
 pub fill_request_authenticator-requires : goal.fill_request_authenticator-requires
 fill_request_authenticator-requires c =

@@ -1,6 +1,4 @@
-use Rattle.std.proofs.Common.{◌≡◌, ◌∙◌, ◌+◌, ◌≤◌, ◌++◌, ℕ, List, true, false, ◌==◌, length, refl, sym, ap, arith}
-use Rattle.md5.specs.Md5.{md5}
-use Rattle.avp_packet.specs.Packets.{accounting_request, digest_over, packet, request_authenticator, zeros}
+use Rattle.std.proofs.Common.{arith}
 use Rattle.avp_packet.proofs.encoding.packets.fill_request_authenticator.Goals as goal
 
 pub fill_authenticator-requires-then-code-eq-ACCOUNTING_REQUEST : goal.fill_authenticator-requires-then-code-eq-ACCOUNTING_REQUEST

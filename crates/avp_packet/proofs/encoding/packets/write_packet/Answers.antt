@@ -6,7 +6,7 @@ use Rattle.avp_packet.specs.Packets.{max_packet_octets, packet, zeros}
 use Rattle.avp_packet.specs.internal.Filling.{divided_octets, filled}
 use Rattle.avp_packet.proofs.Assembled.{length-packet}
 use Rattle.avp_packet.proofs.Filled.{filled_packet, length-filled, length-hmac, place_within, written_whole}
-use Rattle.avp_packet.proofs.encoding.packets.signed_packet.Goals as goal
+use Rattle.avp_packet.proofs.encoding.packets.write_packet.Goals as goal
 
 pub write_attributes-requires-clause-short : goal.write_attributes-requires-clause-short
 write_attributes-requires-clause-short c = omega (arith, c.in_ok-octets.ensures.length)
