@@ -25,7 +25,6 @@ use std::alloc::{AllocError, Global};
 ///
 /// Each pair that enters a list stays in a pool, and a slot says whether it is shown. A step has the places of those
 /// slots that it turned, so an edit copies no list: it costs a walk over the pairs shown, and what it changes.
-#[derive(Drop)]
 pub struct SlotStore {
     alloc: Global,
     pool: Vec<Pair>,
@@ -44,6 +43,19 @@ pub struct SlotStore {
     ghost housed: { AllHoused slots.all.items steps.items },
     ghost standing: { slots_at slots.all.items steps.items place ≡ slots.all.items },
     ghost limited: { StatesLimited pool.items slots.all.items steps.items },
+}
+
+impl Drop for SlotStore {
+    fn drop(self) {
+        let SlotStore {
+            alloc: _,
+            pool: _,
+            slots: _,
+            steps: _,
+            nexts: _,
+            place: _,
+        } = self;
+    }
 }
 
 // The parts of a store.

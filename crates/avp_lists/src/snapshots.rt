@@ -21,7 +21,6 @@ enum Snapshot {
 }
 
 /// A store that keeps whole states. A state that was gone back to is kept by the place of the earlier one.
-#[derive(Drop)]
 pub struct SnapshotStore {
     alloc: Global,
     snapshots: Vec<Snapshot>,
@@ -29,6 +28,16 @@ pub struct SnapshotStore {
     ghost placed: { place < length snapshots.items },
     ghost earlier: { PlacesEarlier snapshots.items },
     ghost limited: { AllLimited snapshots.items },
+}
+
+impl Drop for SnapshotStore {
+    fn drop(self) {
+        let SnapshotStore {
+            alloc: _,
+            snapshots: _,
+            place: _,
+        } = self;
+    }
 }
 
 // Cuts the snapshots to `end`, and adds one. What needs memory comes first.

@@ -14,10 +14,18 @@ pub const MAX_GROUPS: usize = 10;
 
 /// What searches for a pattern, seen by contracts as the pattern. It keeps what its searches found out about the
 /// pattern, for which it may ask for memory; without, they take longer, and none is refused.
-#[derive(Drop)]
 pub struct PatternMatcher<'p> {
     pattern: &'p Pattern,
     matcher: Matcher<'p>,
+}
+
+impl Drop for PatternMatcher<'_> {
+    fn drop(self) {
+        let PatternMatcher {
+            pattern: _,
+            matcher: _,
+        } = self;
+    }
 }
 
 impl<'p> Model for PatternMatcher<'p> {

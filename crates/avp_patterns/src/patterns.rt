@@ -25,12 +25,21 @@ const MIN_COMPILED: usize = 1 << 10;
 const MAX_COMPILED: usize = 256 << 10;
 
 /// A pattern that was read and compiled, seen by contracts as it is written.
-#[derive(Drop)]
 pub struct Pattern {
     regex: Regex,
     flags: PatternFlags,
     // What is compiled of it takes no more octets.
     size: usize,
+}
+
+impl Drop for Pattern {
+    fn drop(self) {
+        let Pattern {
+            regex: _,
+            flags: _,
+            size: _,
+        } = self;
+    }
 }
 
 impl Model for Pattern {

@@ -25,7 +25,6 @@ use std::alloc::{AllocError, Global};
 use std::marker::Model;
 
 /// A store, and what is still to run over it.
-#[derive(Drop)]
 pub struct Machine<'a, 'p, S: Store> {
     alloc: Global,
     dictionary: &'a Dictionary,
@@ -36,6 +35,19 @@ pub struct Machine<'a, 'p, S: Store> {
     store: S,
     // The innermost part of what is still to run is the last.
     frames: Vec<Frame<'a>>,
+}
+
+impl<'a, 'p, S: Store> Drop for Machine<'a, 'p, S> {
+    fn drop(self) {
+        let Machine {
+            alloc: _,
+            dictionary: _,
+            matchers: _,
+            captured: _,
+            store: _,
+            frames: _,
+        } = self;
+    }
 }
 
 impl<'a, 'p, S: Store> Model for Machine<'a, 'p, S> {

@@ -20,7 +20,6 @@ use std::marker::Model;
 
 /// A run of a policy over a store, at one of its positions. Contracts see it as a walk: a trace that is fixed when the
 /// stepper is made, and the position.
-#[derive(Drop)]
 pub struct Stepper<'a, S: Store> {
     statements: &'a [Statement],
     // Its store has one state for each mark; it has to run what follows the last one.
@@ -28,6 +27,17 @@ pub struct Stepper<'a, S: Store> {
     // The start's, and one for each step that was made so far.
     marks: Vec<Mark>,
     position: usize,
+}
+
+impl<'a, S: Store> Drop for Stepper<'a, S> {
+    fn drop(self) {
+        let Stepper {
+            statements: _,
+            machine: _,
+            marks: _,
+            position: _,
+        } = self;
+    }
 }
 
 impl<'a, S: Store> Model for Stepper<'a, S> {

@@ -133,11 +133,20 @@ impl<'a> PreparedPolicy<'a> {
 }
 
 /// A policy that owns its dictionary, alone or with others: for those who can't lend it one.
-#[derive(Drop)]
 pub struct OwnedPolicy {
     dictionary: Arc<Dictionary>,
     profile: Profile,
     policy: Policy,
+}
+
+impl Drop for OwnedPolicy {
+    fn drop(self) {
+        let OwnedPolicy {
+            dictionary: _,
+            profile: _,
+            policy: _,
+        } = self;
+    }
 }
 
 impl Model for OwnedPolicy {

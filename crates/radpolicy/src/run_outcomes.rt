@@ -25,7 +25,6 @@ pub enum Reply {
 }
 
 /// What a run came to: its three lists, its last code, whether it was stopped, and what it sends.
-#[derive(Drop)]
 pub struct RunOutcome<'a> {
     dictionary: &'a Dictionary,
     profile: Profile,
@@ -33,6 +32,19 @@ pub struct RunOutcome<'a> {
     code: Code,
     stopped: bool,
     reply: Reply,
+}
+
+impl Drop for RunOutcome<'_> {
+    fn drop(self) {
+        let RunOutcome {
+            dictionary: _,
+            profile: _,
+            store: _,
+            code: _,
+            stopped: _,
+            reply: _,
+        } = self;
+    }
 }
 
 impl<'a> Model for RunOutcome<'a> {

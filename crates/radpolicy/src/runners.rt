@@ -18,12 +18,21 @@ use std::marker::Model;
 
 /// Runs a prepared policy on one request after another, and keeps what searches for its patterns from run to run: to make
 /// that is dear beside a run.
-#[derive(Drop)]
 pub struct Runner<'p> {
     alloc: Global,
     prepared: &'p PreparedPolicy<'p>,
     // None before the first run, and after one that was refused.
     matchers: Option<Matchers<'p>>,
+}
+
+impl Drop for Runner<'_> {
+    fn drop(self) {
+        let Runner {
+            alloc: _,
+            prepared: _,
+            matchers: _,
+        } = self;
+    }
 }
 
 impl<'p> Model for Runner<'p> {

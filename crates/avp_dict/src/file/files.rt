@@ -26,9 +26,15 @@ impl NamedFile {
 }
 
 /// Dictionary files, the main file first, seen by contracts as their list.
-#[derive(Debug, Drop)]
+#[derive(Debug)]
 pub struct FileSet {
     files: Vec<NamedFile>,
+}
+
+impl Drop for FileSet {
+    fn drop(self) {
+        let FileSet { files: _ } = self;
+    }
 }
 
 impl Model for FileSet {

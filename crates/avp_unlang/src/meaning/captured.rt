@@ -15,13 +15,22 @@ const MAX_MATCHED: usize = 2 + 2 * MAX_OCTETS;
 
 /// What the last comparison with a pattern captured in a run, seen by contracts as the octets of each group. Where it is
 /// made to keep what comparisons capture, it has the memory for any of them from the first on.
-#[derive(Drop)]
 pub struct Captured {
     keeps: bool,
     // What was compared with the pattern.
     octets: Vec<u8>,
     // Where the groups begin and end in it.
     groups: [Option<(usize, usize)>; MAX_GROUPS],
+}
+
+impl Drop for Captured {
+    fn drop(self) {
+        let Captured {
+            keeps: _,
+            octets: _,
+            groups: _,
+        } = self;
+    }
 }
 
 impl Model for Captured {

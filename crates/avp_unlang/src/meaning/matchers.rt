@@ -9,11 +9,19 @@ use std::alloc::{AllocError, Global};
 use std::marker::Model;
 
 /// What searches for the patterns of a policy, seen by contracts as these patterns.
-#[derive(Drop)]
 pub struct Matchers<'p> {
     patterns: &'p [Pattern],
     // One for each of them.
     matchers: Vec<PatternMatcher<'p>>,
+}
+
+impl Drop for Matchers<'_> {
+    fn drop(self) {
+        let Matchers {
+            patterns: _,
+            matchers: _,
+        } = self;
+    }
 }
 
 impl<'p> Model for Matchers<'p> {

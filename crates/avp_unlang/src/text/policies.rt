@@ -36,13 +36,23 @@ use std::marker::Model;
 const MAX_NESTED: usize = 64;
 
 /// A policy that was read, seen by contracts as its statements.
-#[derive(Drop)]
 pub struct Policy {
     statements: Block,
     size: usize,
     // Each once.
     patterns: Vec<Pattern>,
     captures: bool,
+}
+
+impl Drop for Policy {
+    fn drop(self) {
+        let Policy {
+            statements: _,
+            size: _,
+            patterns: _,
+            captures: _,
+        } = self;
+    }
 }
 
 impl Model for Policy {
