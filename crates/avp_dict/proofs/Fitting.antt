@@ -171,18 +171,18 @@ module _ (d : Dictionary) where
   number_typed id most o f =
       mapped_holds (λ v. is_typed id v d ≡ true) values.Int (up_to most o) (weaker (λ n. nat_le n most ≡ true) (λ n. is_typed id (values.Int n) d ≡ true) f (up_to most o) (up_to_holds most o))
 
-  typed_as : (kind : Kind) (by_text : Bool) (id : AttrId) (text : List ℕ) → kind_of id d ≡ Some kind → IfSome (spelled_as kind by_text id text d) (λ v. is_typed id v d ≡ true)
+  typed_as : (kind : Kind) (takes_text : Bool) (id : AttrId) (text : List ℕ) → kind_of id d ≡ Some kind → IfSome (spelled_as kind takes_text id text d) (λ v. is_typed id v d ≡ true)
   unfolding number_spelled
-  typed_as kinds.Text by_text id text k = rw k
-  typed_as kinds.Bytes by_text id text k = mapped_holds (λ v. is_typed id v d ≡ true) values.Bytes (bytes_spelled by_text text) (always (λ os. is_typed id (values.Bytes os) d ≡ true) (λ os. rw k) (bytes_spelled by_text text))
-  typed_as kinds.Addr by_text id text k = mapped_holds (λ v. is_typed id v d ≡ true) values.Addr (address_spelled text) (always (λ os. is_typed id (values.Addr os) d ≡ true) (λ os. rw k) (address_spelled text))
-  typed_as kinds.Ether by_text id text k = mapped_holds (λ v. is_typed id v d ≡ true) values.Ether (ether_spelled text) (always (λ os. is_typed id (values.Ether os) d ≡ true) (λ os. rw k) (ether_spelled text))
-  typed_as kinds.Byte by_text id text k = number_typed id 255 (option_or (number_of text) (number_named id text d.values)) (λ n h. rw (k, h))
-  typed_as kinds.Short by_text id text k = number_typed id 65535 (option_or (number_of text) (number_named id text d.values)) (λ n h. rw (k, h))
-  typed_as kinds.Integer by_text id text k = number_typed id greatest_number (option_or (number_of text) (number_named id text d.values)) (λ n h. rw (k, h))
-  typed_as kinds.Integer64 by_text id text k = number_typed id greatest_value (option_or (number_of text) (number_named id text d.values)) (λ n h. rw (k, h))
-  typed_as kinds.Date by_text id text k = number_typed id greatest_number (number_of text) (λ n h. rw (k, h))
-  typed_as kinds.Signed by_text id text k = mapped_holds (λ v. is_typed id v d ≡ true) values.Signed (signed_spelled text) (always (λ z. is_typed id (values.Signed z) d ≡ true) (λ z. rw k) (signed_spelled text))
+  typed_as kinds.Text takes_text id text k = rw k
+  typed_as kinds.Bytes takes_text id text k = mapped_holds (λ v. is_typed id v d ≡ true) values.Bytes (bytes_spelled takes_text text) (always (λ os. is_typed id (values.Bytes os) d ≡ true) (λ os. rw k) (bytes_spelled takes_text text))
+  typed_as kinds.Addr takes_text id text k = mapped_holds (λ v. is_typed id v d ≡ true) values.Addr (address_spelled text) (always (λ os. is_typed id (values.Addr os) d ≡ true) (λ os. rw k) (address_spelled text))
+  typed_as kinds.Ether takes_text id text k = mapped_holds (λ v. is_typed id v d ≡ true) values.Ether (ether_spelled text) (always (λ os. is_typed id (values.Ether os) d ≡ true) (λ os. rw k) (ether_spelled text))
+  typed_as kinds.Byte takes_text id text k = number_typed id 255 (option_or (number_of text) (number_named id text d.values)) (λ n h. rw (k, h))
+  typed_as kinds.Short takes_text id text k = number_typed id 65535 (option_or (number_of text) (number_named id text d.values)) (λ n h. rw (k, h))
+  typed_as kinds.Integer takes_text id text k = number_typed id greatest_number (option_or (number_of text) (number_named id text d.values)) (λ n h. rw (k, h))
+  typed_as kinds.Integer64 takes_text id text k = number_typed id greatest_value (option_or (number_of text) (number_named id text d.values)) (λ n h. rw (k, h))
+  typed_as kinds.Date takes_text id text k = number_typed id greatest_number (number_of text) (λ n h. rw (k, h))
+  typed_as kinds.Signed takes_text id text k = mapped_holds (λ v. is_typed id v d ≡ true) values.Signed (signed_spelled text) (always (λ z. is_typed id (values.Signed z) d ≡ true) (λ z. rw k) (signed_spelled text))
 
   -- ---- octets
 
@@ -235,7 +235,7 @@ module _ (d : Dictionary) where
 
   named_typed : (id : AttrId) (text : List ℕ) (typing : Option Typing) → typing_of_id id d.attributes ≡ typing → IfSome (option_and_then (spelled_by id text d) typing) (λ v. is_typed id v d ≡ true)
   named_typed id text None e = tt
-  named_typed id text (Some typing) e = typed_as typing.kind typing.by_text id text (kind_of_typing id ∙ rw e)
+  named_typed id text (Some typing) e = typed_as typing.kind typing.takes_text id text (kind_of_typing id ∙ rw e)
 
   spelled_typed : (n : Named) (text : List ℕ) → IfSome (spelled n text d) (λ v. is_typed n.id v d ≡ true)
   unfolding spelled

@@ -19,7 +19,7 @@ use Rattle.avp_dict.specs.Dictionary.{Dictionary}
 use Rattle.avp_dict.specs.Limits.{fits, is_known, is_of_kind, is_typed, is_within}
 use Rattle.avp_dict.specs.Names.{Described, described}
 use Rattle.avp_dict.specs.Octets.{is_hidden, is_hideable, kind_of, octets, octets_of, of_length, read_by, read_value, value_of_octets, value_read}
-use Rattle.avp_dict.specs.Sent.{is_canonical, is_raw, is_shown}
+use Rattle.avp_dict.specs.Sent.{is_canonical, is_raw, survives_hiding}
 use Rattle.avp_dict.proofs.NumberOctets.{eight_octets, of_length-same}
 
 -- an address has the octets of its type, and a signed number 32 bits
@@ -106,7 +106,7 @@ module _ (dictionary : Dictionary) (id : AttrId) where
 
   -- ---- canonical pairs
 
-  not_raw_shown : (v : Value) → is_raw v ≡ false → is_shown v ≡ true
+  not_raw_shown : (v : Value) → is_raw v ≡ false → survives_hiding v ≡ true
   not_raw_shown (Raw os) r = absurd (cc)
   not_raw_shown _ r = refl
 
@@ -127,7 +127,7 @@ module _ (dictionary : Dictionary) (id : AttrId) where
       let own = own_value d.kind v raw sized (typed_by v d raw e t) in
       rw (e, shows, own)
 
-  canonical_by : (v : Value) → fits (record { id = id; value = v }) dictionary ≡ true → is_shown v ≡ true → (is_hidden id dictionary ≡ false → value_of_octets id (octets id v dictionary) dictionary ≡ v) → is_canonical (record { id = id; value = v }) dictionary ≡ true
+  canonical_by : (v : Value) → fits (record { id = id; value = v }) dictionary ≡ true → survives_hiding v ≡ true → (is_hidden id dictionary ≡ false → value_of_octets id (octets id v dictionary) dictionary ≡ v) → is_canonical (record { id = id; value = v }) dictionary ≡ true
   unfolding is_canonical
   canonical_by v fit s own =
       rw fit (cond_both (is_hidden id dictionary) _ _ (λ b. b ≡ true) (λ hidden. s) (λ plain. ap (value_eq v) (own plain) ∙ value_eq-same v))

@@ -29,9 +29,9 @@ pub octets_back : (os : List ℕ) → ((i : ℕ) → get_or os i 0 < 256) → oc
 unfolding octets_spelled
 octets_back os h = ap result_ok (decode_of-encode_lower os h)
 
-pub bytes_back : (by_text : Bool) (os : List ℕ) → ((i : ℕ) → get_or os i 0 < 256) → bytes_spelled by_text (hexadecimal os) ≡ Some os
+pub bytes_back : (takes_text : Bool) (os : List ℕ) → ((i : ℕ) → get_or os i 0 < 256) → bytes_spelled takes_text (hexadecimal os) ≡ Some os
 unfolding bytes_spelled
-bytes_back by_text os h = rw (and-false by_text) (octets_back os h)
+bytes_back takes_text os h = rw (and-false takes_text) (octets_back os h)
 
 -- ---- parts with an octet between
 

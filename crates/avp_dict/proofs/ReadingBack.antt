@@ -26,7 +26,7 @@ use Rattle.avp_dict.specs.Names.{Described, described, named}
 use Rattle.avp_dict.specs.Octets.{is_hidden, octets, of_length, read_value, value_of_octets, value_read}
 use Rattle.avp_dict.specs.Printing.{attr_name, hexadecimal, printed_name, printed_text, typed_text}
 use Rattle.avp_dict.specs.Laws.{ReadsBack, is_writable, unquoted}
-use Rattle.avp_dict.specs.Sent.{is_canonical, is_container, is_internal, is_raw, is_shown}
+use Rattle.avp_dict.specs.Sent.{is_canonical, is_container, is_internal, is_raw, survives_hiding}
 use Rattle.avp_dict.specs.Settled.{is_in_format}
 use Rattle.avp_dict.specs.Soundness.{IsSound}
 use Rattle.avp_dict.specs.Spellings.{is_negative, number_spelled, octets_spelled, octets_value, signed_spelled, spelled, spelled_as, spelled_by, up_to, value_spelled}
@@ -72,10 +72,10 @@ IsWhole (Addr os) = length os ≡ 4
 IsWhole (Ether os) = length os ≡ 6
 IsWhole _ = Unit {0}
 
-module _ (dictionary : Dictionary) (sound : IsSound dictionary) (id : AttrId) (by_text : Bool) where
-  typed_back : (kind : Kind) (value : Value) → IsValueInRange value → IsWhole value → is_raw value ≡ false → is_of_kind value kind ≡ true → spelled_as kind by_text id (unquoted value (typed_text kind id value dictionary)) dictionary ≡ Some value
+module _ (dictionary : Dictionary) (sound : IsSound dictionary) (id : AttrId) (takes_text : Bool) where
+  typed_back : (kind : Kind) (value : Value) → IsValueInRange value → IsWhole value → is_raw value ≡ false → is_of_kind value kind ≡ true → spelled_as kind takes_text id (unquoted value (typed_text kind id value dictionary)) dictionary ≡ Some value
   typed_back kinds.Text (values.Text os) h whole raw is = ap (λ (xs : List ℕ). Some (values.Text xs)) (quoted_back os h)
-  typed_back kinds.Bytes (values.Bytes os) h whole raw is = ap (option_map (λ (xs : List ℕ). values.Bytes xs)) (bytes_back by_text os h)
+  typed_back kinds.Bytes (values.Bytes os) h whole raw is = ap (option_map (λ (xs : List ℕ). values.Bytes xs)) (bytes_back takes_text os h)
   typed_back kinds.Addr (Addr os) h whole raw is = ap (option_map (λ (xs : List ℕ). Addr xs)) (address_back os whole h)
   typed_back kinds.Ether (Ether os) h whole raw is = ap (option_map (λ (xs : List ℕ). Ether xs)) (ether_back os whole h)
   typed_back kinds.Signed (Signed z) h whole raw is = ap (option_map (λ (x : ℤ). Signed x)) (signed_back z h)
@@ -99,7 +99,7 @@ module _ (dictionary : Dictionary) (sound : IsSound dictionary) (id : AttrId) (d
       false_from_ne_true d.hidden (λ h. cc (subst (λ (k : Kind). is_text_kind (Some k) ≡ true) is.kind (is.keeps.hides (is.hidden ∙ h)), other))
 
   -- a canonical value that is not hidden is what its octets stand for
-  shown_value : (value : Value) → d.hidden ≡ false → cond (is_hidden id dictionary) (is_shown value) (value_eq value (value_of_octets id (octets id value dictionary) dictionary)) ≡ true → value ≡ value_of_octets id (octets id value dictionary) dictionary
+  shown_value : (value : Value) → d.hidden ≡ false → cond (is_hidden id dictionary) (survives_hiding value) (value_eq value (value_of_octets id (octets id value dictionary) dictionary)) ≡ true → value ≡ value_of_octets id (octets id value dictionary) dictionary
   shown_value value plain h =
       let hidden : is_hidden id dictionary ≡ false = rw e plain in
       same_value value (value_of_octets id (octets id value dictionary) dictionary) (rw hidden at h)
@@ -108,21 +108,21 @@ module _ (dictionary : Dictionary) (sound : IsSound dictionary) (id : AttrId) (d
   unfolding read_value value_of_octets
   reads_kind kind k os plain = rw (e, plain, k)
 
-  address_whole : (kind : Kind) → d.kind ≡ kind → (os : List ℕ) → is_of_kind (Addr os) kind ≡ true → cond (is_hidden id dictionary) (is_shown (Addr os)) (value_eq (Addr os) (value_of_octets id (octets id (Addr os) dictionary) dictionary)) ≡ true → length os ≡ 4
+  address_whole : (kind : Kind) → d.kind ≡ kind → (os : List ℕ) → is_of_kind (Addr os) kind ≡ true → cond (is_hidden id dictionary) (survives_hiding (Addr os)) (value_eq (Addr os) (value_of_octets id (octets id (Addr os) dictionary) dictionary)) ≡ true → length os ≡ 4
   unfolding octets
   address_whole kinds.Addr k os is h =
       let plain = shows (ap (λ (x : Kind). is_text_kind (Some x)) k) in
       whole_if 4 (λ (xs : List ℕ). Addr xs) os (λ other. cc) (shown_value (Addr os) plain h ∙ reads_kind kinds.Addr k os plain)
   address_whole _ k os is h = absurd (cc)
 
-  ether_whole : (kind : Kind) → d.kind ≡ kind → (os : List ℕ) → is_of_kind (Ether os) kind ≡ true → cond (is_hidden id dictionary) (is_shown (Ether os)) (value_eq (Ether os) (value_of_octets id (octets id (Ether os) dictionary) dictionary)) ≡ true → length os ≡ 6
+  ether_whole : (kind : Kind) → d.kind ≡ kind → (os : List ℕ) → is_of_kind (Ether os) kind ≡ true → cond (is_hidden id dictionary) (survives_hiding (Ether os)) (value_eq (Ether os) (value_of_octets id (octets id (Ether os) dictionary) dictionary)) ≡ true → length os ≡ 6
   unfolding octets
   ether_whole kinds.Ether k os is h =
       let plain = shows (ap (λ (x : Kind). is_text_kind (Some x)) k) in
       whole_if 6 (λ (xs : List ℕ). Ether xs) os (λ other. cc) (shown_value (Ether os) plain h ∙ reads_kind kinds.Ether k os plain)
   ether_whole _ k os is h = absurd (cc)
 
-  is_whole : (value : Value) → is_of_kind value d.kind ≡ true → cond (is_hidden id dictionary) (is_shown value) (value_eq value (value_of_octets id (octets id value dictionary) dictionary)) ≡ true → IsWhole value
+  is_whole : (value : Value) → is_of_kind value d.kind ≡ true → cond (is_hidden id dictionary) (survives_hiding value) (value_eq value (value_of_octets id (octets id value dictionary) dictionary)) ≡ true → IsWhole value
   is_whole (Addr os) is h = address_whole d.kind refl os is h
   is_whole (Ether os) is h = ether_whole d.kind refl os is h
   is_whole _ is h = tt
@@ -137,19 +137,19 @@ module _ (dictionary : Dictionary) (sound : IsSound dictionary) (id : AttrId) (d
   unfolding printed_text
   text_by_name value held raw = rw (held, raw, e)
 
-  spelled_by_name : (text : List ℕ) (value : Value) → is_container id ≡ false → is_within id value dictionary ≡ true → ((by_text : Bool) → spelled_as d.kind by_text id text dictionary ≡ Some value) → value_spelled (record { id = id; raw = false }) text dictionary ≡ Ok value
+  spelled_by_name : (text : List ℕ) (value : Value) → is_container id ≡ false → is_within id value dictionary ≡ true → ((takes_text : Bool) → spelled_as d.kind takes_text id text dictionary ≡ Some value) → value_spelled (record { id = id; raw = false }) text dictionary ≡ Ok value
   unfolding spelled value_spelled
   spelled_by_name text value held within back =
       let is = is_described dictionary sound id d e in
-      let there : option_and_then (spelled_by id text dictionary) (typing_of_id id dictionary.attributes) ≡ Some value = rw (is.typed, is.kind) (back is.typing.by_text) in
+      let there : option_and_then (spelled_by id text dictionary) (typing_of_id id dictionary.attributes) ≡ Some value = rw (is.typed, is.kind) (back is.typing.takes_text) in
       rw (held, there, within)
 
-  back_by_name : (value : Value) → IsValueInRange value → is_container id ≡ false → is_raw value ≡ false → is_of_kind value d.kind ≡ true → is_within id value dictionary ≡ true → cond (is_hidden id dictionary) (is_shown value) (value_eq value (value_of_octets id (octets id value dictionary) dictionary)) ≡ true → ReadsBack (record { id = id; value = value }) dictionary
+  back_by_name : (value : Value) → IsValueInRange value → is_container id ≡ false → is_raw value ≡ false → is_of_kind value d.kind ≡ true → is_within id value dictionary ≡ true → cond (is_hidden id dictionary) (survives_hiding value) (value_eq value (value_of_octets id (octets id value dictionary) dictionary)) ≡ true → ReadsBack (record { id = id; value = value }) dictionary
   back_by_name value range held raw is within canonical = record {
     name = record { id = id; raw = false };
     named = rw (printed_by_name value held raw) (named_back dictionary sound id d e);
     same = refl;
-    spelled = rw (text_by_name value held raw) (spelled_by_name _ value held within (λ by_text. typed_back dictionary sound id by_text d.kind value range (is_whole value is canonical) raw is));
+    spelled = rw (text_by_name value held raw) (spelled_by_name _ value held within (λ takes_text. typed_back dictionary sound id takes_text d.kind value range (is_whole value is canonical) raw is));
   }
 
 -- ---- names by number
@@ -234,7 +234,7 @@ record IsWritable (id : AttrId) (value : Value) (dictionary : Dictionary) : Type
   known : is_known id dictionary ≡ true
   typed : is_typed id value dictionary ≡ true
   within : is_within id value dictionary ≡ true
-  canonical : cond (is_hidden id dictionary) (is_shown value) (value_eq value (value_of_octets id (octets id value dictionary) dictionary)) ≡ true
+  canonical : cond (is_hidden id dictionary) (survives_hiding value) (value_eq value (value_of_octets id (octets id value dictionary) dictionary)) ≡ true
   held : is_container id ≡ false
   apart : not (is_raw value && (is_internal id || is_hidden id dictionary)) ≡ true
 
@@ -242,7 +242,7 @@ writable_parts : (id : AttrId) (value : Value) (dictionary : Dictionary) → is_
 unfolding fits is_canonical is_writable
 writable_parts id value dictionary h =
     let fit : Bool = is_known id dictionary && is_typed id value dictionary && is_within id value dictionary in
-    let shown : Bool = cond (is_hidden id dictionary) (is_shown value) (value_eq value (value_of_octets id (octets id value dictionary) dictionary)) in
+    let shown : Bool = cond (is_hidden id dictionary) (survives_hiding value) (value_eq value (value_of_octets id (octets id value dictionary) dictionary)) in
     let a = and_parts (fit && shown && not (is_container id)) (not (is_raw value && (is_internal id || is_hidden id dictionary))) h in
     let b = and_parts (fit && shown) (not (is_container id)) a.0 in
     let c = and_parts fit shown b.0 in

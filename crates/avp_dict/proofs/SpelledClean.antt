@@ -71,24 +71,24 @@ number_whole : (o : Option ℕ) → IfSome (option_map values.Int o) IsWhole
 number_whole o = mapped_holds IsWhole values.Int o (always (λ n. IsWhole (values.Int n)) (λ n. (refl, tt)) o)
 
 module _ (d : Dictionary) where
-  whole_as : (kind : Kind) (by_text : Bool) (id : AttrId) (text : List ℕ) → IfSome (spelled_as kind by_text id text d) IsWhole
-  whole_as kinds.Text by_text id text = (refl, tt)
-  whole_as kinds.Bytes by_text id text = mapped_holds IsWhole values.Bytes (bytes_spelled by_text text) (always (λ os. IsWhole (values.Bytes os)) (λ os. (refl, tt)) (bytes_spelled by_text text))
-  whole_as kinds.Addr by_text id text =
+  whole_as : (kind : Kind) (takes_text : Bool) (id : AttrId) (text : List ℕ) → IfSome (spelled_as kind takes_text id text d) IsWhole
+  whole_as kinds.Text takes_text id text = (refl, tt)
+  whole_as kinds.Bytes takes_text id text = mapped_holds IsWhole values.Bytes (bytes_spelled takes_text text) (always (λ os. IsWhole (values.Bytes os)) (λ os. (refl, tt)) (bytes_spelled takes_text text))
+  whole_as kinds.Addr takes_text id text =
       mapped_holds IsWhole values.Addr (address_spelled text) (weaker (λ os. length os ≡ 4) (λ os. IsWhole (values.Addr os)) (λ os h. (refl, h)) (address_spelled text) (in_parts-length 4 decimal_octet (slice_split is_dot text)))
-  whole_as kinds.Ether by_text id text =
+  whole_as kinds.Ether takes_text id text =
       mapped_holds IsWhole values.Ether (ether_spelled text) (weaker (λ os. length os ≡ 6) (λ os. IsWhole (values.Ether os)) (λ os h. (refl, h)) (ether_spelled text) (in_parts-length 6 digit_pair (slice_split is_colon text)))
-  whole_as kinds.Byte by_text id text = number_whole (number_spelled 255 id text d)
-  whole_as kinds.Short by_text id text = number_whole (number_spelled 65535 id text d)
-  whole_as kinds.Integer by_text id text = number_whole (number_spelled greatest_number id text d)
-  whole_as kinds.Integer64 by_text id text = number_whole (number_spelled greatest_value id text d)
-  whole_as kinds.Date by_text id text = number_whole (up_to greatest_number (number_of text))
-  whole_as kinds.Signed by_text id text =
+  whole_as kinds.Byte takes_text id text = number_whole (number_spelled 255 id text d)
+  whole_as kinds.Short takes_text id text = number_whole (number_spelled 65535 id text d)
+  whole_as kinds.Integer takes_text id text = number_whole (number_spelled greatest_number id text d)
+  whole_as kinds.Integer64 takes_text id text = number_whole (number_spelled greatest_value id text d)
+  whole_as kinds.Date takes_text id text = number_whole (up_to greatest_number (number_of text))
+  whole_as kinds.Signed takes_text id text =
       mapped_holds IsWhole values.Signed (signed_spelled text) (weaker (λ z. FitsSigned w32 z) (λ z. IsWhole (values.Signed z)) (λ z h. (refl, h)) (signed_spelled text) (signed_ranged d text))
 
   named_whole : (id : AttrId) (text : List ℕ) (typing : Option Typing) → IfSome (option_and_then (spelled_by id text d) typing) IsWhole
   named_whole id text None = tt
-  named_whole id text (Some typing) = whole_as typing.kind typing.by_text id text
+  named_whole id text (Some typing) = whole_as typing.kind typing.takes_text id text
 
   -- ---- their pairs
 

@@ -22,8 +22,8 @@ include_line required (Some place) depth =
     if nat_lt depth max_depth then Ok Nothing else Err (at_word 0 TooDeep)
 
 unfoldable pub include : Option ℕ → ℕ → List ℕ → List (List ℕ) → Result Meaning RefusedWord
-include found depth head (path ∷ []) = include_line (same_name head (codes "$include")) found depth
-include found depth head words = Err (miscounted 1 words)
+include included depth head (path ∷ []) = include_line (same_name head (codes "$include")) included depth
+include included depth head words = Err (miscounted 1 words)
 
 -- ---- VALUE lines, whose names are resolved after the last line
 
@@ -54,8 +54,8 @@ plain_line before block head rest =
 -- includes
 unfoldable pub read_head : Context → Option ℕ → ℕ → List ℕ → List (List ℕ)
     → Result Meaning RefusedWord
-read_head before found depth head rest =
-    if is_include head then include found depth head rest
+read_head before included depth head rest =
+    if is_include head then include included depth head rest
     else if same_name head (codes "begin-vendor")
     then begin_vendor before.vendors before.opened rest
     else if same_name head (codes "end-vendor") then end_vendor before.opened rest
@@ -65,8 +65,8 @@ read_head before found depth head rest =
     else plain_line before (block_vendor before.opened) head rest
 
 unfoldable pub read_words : Context → Option ℕ → ℕ → List (List ℕ) → Result Meaning RefusedWord
-read_words before found depth [] = Ok Nothing
-read_words before found depth (head ∷ rest) = read_head before found depth head rest
+read_words before included depth [] = Ok Nothing
+read_words before included depth (head ∷ rest) = read_head before included depth head rest
 
 -- a line, by what the lines before it leave
 unfoldable pub read_line : List NamedFile → Context → Line → Result Meaning RefusedWord

@@ -32,14 +32,14 @@ is_block_length n = (n % 16 == 0) && nat_le 16 n && nat_le n max_hidden_octets
 
 -- whether a value is itself again once it was written under a hidden attribute and read:
 -- raw octets of a block length would be taken for hidden ones
-abbrev pub is_shown : Value → Bool
-is_shown (Raw os) = not (is_block_length (length os))
-is_shown _ = true
+abbrev pub survives_hiding : Value → Bool
+survives_hiding (Raw os) = not (is_block_length (length os))
+survives_hiding _ = true
 
 -- a pair that its own octets stand for
 unfoldable pub is_canonical : Pair → Dictionary → Bool
 is_canonical pair dictionary = fits pair dictionary
-    && (if is_hidden pair.id dictionary then is_shown pair.value
+    && (if is_hidden pair.id dictionary then survives_hiding pair.value
     else value_eq pair.value
     (value_of_octets pair.id (octets pair.id pair.value dictionary) dictionary))
 

@@ -32,8 +32,8 @@ octets_spelled text = if is_hexadecimal text then result_ok (decode_of (drop 2 t
 
 -- a text that does not begin with 0x stands for its own octets, where the type word allows it
 unfoldable pub bytes_spelled : Bool → List ℕ → Option (List ℕ)
-bytes_spelled by_text text =
-    if by_text && not (is_hexadecimal text) then Some text else octets_spelled text
+bytes_spelled takes_text text =
+    if takes_text && not (is_hexadecimal text) then Some text else octets_spelled text
 
 -- ---- numbers
 
@@ -98,22 +98,22 @@ ether_spelled text = in_parts 6 digit_pair (slice_split is_colon text)
 abbrev pub number_up_to : AttrId → List ℕ → Dictionary → ℕ → Option Value
 number_up_to id text dictionary most = option_map Int (number_spelled most id text dictionary)
 
--- a text under a name of an ATTRIBUTE line, by the type; by_text says whether a text without `0x` is taken as its own
+-- a text under a name of an ATTRIBUTE line, by the type; takes_text says whether a text without `0x` is taken as its own
 -- octets, where the type is octets
 abbrev pub spelled_as : Kind → Bool → AttrId → List ℕ → Dictionary → Option Value
-spelled_as kinds.Text by_text id text dictionary = Some (values.Text text)
-spelled_as kinds.Bytes by_text id text dictionary =
-    option_map values.Bytes (bytes_spelled by_text text)
-spelled_as kinds.Addr by_text id text dictionary = option_map Addr (address_spelled text)
-spelled_as kinds.Ether by_text id text dictionary = option_map Ether (ether_spelled text)
-spelled_as kinds.Date by_text id text dictionary =
+spelled_as kinds.Text takes_text id text dictionary = Some (values.Text text)
+spelled_as kinds.Bytes takes_text id text dictionary =
+    option_map values.Bytes (bytes_spelled takes_text text)
+spelled_as kinds.Addr takes_text id text dictionary = option_map Addr (address_spelled text)
+spelled_as kinds.Ether takes_text id text dictionary = option_map Ether (ether_spelled text)
+spelled_as kinds.Date takes_text id text dictionary =
     option_map Int (up_to greatest_number (number_of text))
-spelled_as kinds.Signed by_text id text dictionary = option_map Signed (signed_spelled text)
-spelled_as kind by_text id text dictionary =
+spelled_as kinds.Signed takes_text id text dictionary = option_map Signed (signed_spelled text)
+spelled_as kind takes_text id text dictionary =
     option_and_then (number_up_to id text dictionary) (max_of kind)
 
 abbrev pub spelled_by : AttrId → List ℕ → Dictionary → Typing → Option Value
-spelled_by id text dictionary typing = spelled_as typing.kind typing.by_text id text dictionary
+spelled_by id text dictionary typing = spelled_as typing.kind typing.takes_text id text dictionary
 
 -- under a name by number the octets alone are written, and read by the type of the id
 abbrev pub octets_value : AttrId → Dictionary → List ℕ → Value

@@ -118,7 +118,7 @@ typing_by own opaque hiding form secret = record {
       if opaque || (hiding && not (is_text_kind own)) then kinds.Bytes
       else unwrap_or own kinds.Bytes;
   hidden = hiding && is_text_kind own;
-  by_text = is_text_kind own;
+  takes_text = is_text_kind own;
   form = form;
   secret = secret;
 }
@@ -128,7 +128,7 @@ abbrev pub fixed_typing : Bool → Typing
 fixed_typing secret = record {
   kind = kinds.Bytes;
   hidden = false;
-  by_text = true;
+  takes_text = true;
   form = forms.AsTyped;
   secret = secret;
 }

@@ -78,7 +78,7 @@ fn octets_in(files: &[NamedFile]) -> usize {
 }
 
 /// What the files define, where they have at most `limit` lines.
-pub(crate) fn read_up_to(
+pub(crate) fn contents_of(
     alloc: Global,
     files: &[NamedFile],
     limit: usize,
@@ -139,7 +139,7 @@ impl Dictionary {
         ensures noted { IfOk result (λ dictionary.
             All (λ note. note.file < length files.now) dictionary.notes) }
     {
-        match read_up_to(alloc, files.as_slice(), MAX_LINES) {
+        match contents_of(alloc, files.as_slice(), MAX_LINES) {
             Ok(contents) => Ok(Dictionary { contents }),
             Err(refused) => Err(fault_for(files.as_slice(), refused)),
         }

@@ -48,7 +48,7 @@ pub struct Typing {
     pub hidden: bool,
     /// Whether a text without `0x` is taken as its own octets: the line's type word is string or octets, or the
     /// attribute is 26, 33, 80 or 241 to 246.
-    pub by_text: bool,
+    pub takes_text: bool,
     pub form: Form,
     /// Whether the line has `encrypt=1`, `encrypt=2`, `encrypt=3` or `secret`.
     pub secret: bool,

@@ -8,7 +8,7 @@ ghost use Rattle.avp_dict.specs.internal.Numbers.{Reads};
 
 use crate::attribute_numbers::{MAX_PLAIN, VENDOR_SPECIFIC};
 use crate::file::attributes::extended_id;
-use crate::file::numbers::{MAX_NUMBER, Number, digits};
+use crate::file::numbers::{GREATEST_NUMBER, Number, digits};
 use crate::file::parts::first_between;
 use crate::file::settling::is_in_format;
 use crate::tables::Vendors;
@@ -47,7 +47,7 @@ fn id_of_vendor(vendors: &Vendors, v: u64, n: Number) -> Option<AttrId>
     match n {
         Number::Unreadable | Number::TooGreat => None,
         Number::Is(n) => {
-            if v <= MAX_NUMBER && is_in_format(vendors, v as u32, n) {
+            if v <= GREATEST_NUMBER && is_in_format(vendors, v as u32, n) {
                 Some(AttrId::Vendor(v as u32, n as u32))
             } else {
                 None

@@ -16,7 +16,7 @@ use Rattle.avp_dict.specs.Dictionary.{Dictionary}
 use Rattle.avp_dict.specs.Limits.{is_known, max_octets}
 use Rattle.avp_dict.specs.Names.{Described, described}
 use Rattle.avp_dict.specs.Octets.{is_hidden, is_hideable, octets, read_by, read_value, value_of_octets, value_read}
-use Rattle.avp_dict.specs.Sent.{is_block_length, is_canonical, is_container, is_shown}
+use Rattle.avp_dict.specs.Sent.{is_block_length, is_canonical, is_container, survives_hiding}
 use Rattle.avp_dict.specs.Soundness.{IsSound}
 use Rattle.avp_dict.specs.Types.{is_text_kind}
 use Rattle.avp_packet.specs.Hiding.{shown, shown_by}
@@ -31,7 +31,7 @@ use Rattle.avp_packet.proofs.ValuesReadBack.{hides_text}
 use Rattle.avp_packet.proofs.Tests.{by_test}
 
 -- the value of a type of text or octets is not raw
-text_shown : (kind : Kind) (os : List ℕ) → is_text_kind (Some kind) ≡ true → is_shown (unwrap_or (value_read kind os) (Raw os)) ≡ true
+text_shown : (kind : Kind) (os : List ℕ) → is_text_kind (Some kind) ≡ true → survives_hiding (unwrap_or (value_read kind os) (Raw os)) ≡ true
 text_shown kinds.Text os t = refl
 text_shown kinds.Bytes os t = refl
 text_shown _ os t = absurd (false≢true t)
@@ -61,7 +61,7 @@ module _ (dictionary : Dictionary) where
       ∙ value_eq-same (value_of_octets id os dictionary)
 
 module _ (dictionary : Dictionary) (sound : IsSound dictionary) where
-  password_shown : (id : AttrId) (os : List ℕ) → is_hideable os ≡ true → (o : Option Described) → described id dictionary ≡ o → is_hidden id dictionary ≡ true → is_shown (unwrap_or (option_and_then (read_by os) o) (Raw os)) ≡ true
+  password_shown : (id : AttrId) (os : List ℕ) → is_hideable os ≡ true → (o : Option Described) → described id dictionary ≡ o → is_hidden id dictionary ≡ true → survives_hiding (unwrap_or (option_and_then (read_by os) o) (Raw os)) ≡ true
   password_shown id os good None e h = absurd (false≢true (rw e at h))
   password_shown id os good (Some d) e h =
       let hides : d.hidden ≡ true = rw e at h in
@@ -75,16 +75,16 @@ module _ (dictionary : Dictionary) (sound : IsSound dictionary) where
     none_shown : (os : List ℕ) → shown_by secret authenticator os ≡ None → is_block_length (length os) ≡ false
     none_shown os e = at_none os (sym (shown-with_secret secret authenticator os keyed) ∙ e)
 
-    shown_own : (id : AttrId) (os : List ℕ) → is_hidden id dictionary ≡ true → (o : Option (List ℕ)) → shown_by secret authenticator os ≡ o → IfSome o (IsShown os) → is_shown (value_shown dictionary id os o) ≡ true
+    shown_own : (id : AttrId) (os : List ℕ) → is_hidden id dictionary ≡ true → (o : Option (List ℕ)) → shown_by secret authenticator os ≡ o → IfSome o (IsShown os) → survives_hiding (value_shown dictionary id os o) ≡ true
     unfolding value_of_octets read_value
     shown_own id os h None e is = rw (none_shown os e)
     shown_own id os h (Some password) e is = password_shown id password is.hideable (described id dictionary) refl h
 
-    value_own : (id : AttrId) (os : List ℕ) → AreBytes os → let v = value_meant dictionary secret authenticator id os in cond (is_hidden id dictionary) (is_shown v) (value_eq v (value_of_octets id (octets id v dictionary) dictionary)) ≡ true
+    value_own : (id : AttrId) (os : List ℕ) → AreBytes os → let v = value_meant dictionary secret authenticator id os in cond (is_hidden id dictionary) (survives_hiding v) (value_eq v (value_of_octets id (octets id v dictionary) dictionary)) ≡ true
     unfolding value_meant
     value_own id os bytes =
         let v : Value = cond (is_hidden id dictionary) (value_shown dictionary id os (shown_by secret authenticator os)) (value_of_octets id os dictionary) in
-        by_test (cond (is_hidden id dictionary) (is_shown v) (value_eq v (value_of_octets id (octets id v dictionary) dictionary)) ≡ true) (is_hidden id dictionary)
+        by_test (cond (is_hidden id dictionary) (survives_hiding v) (value_eq v (value_of_octets id (octets id v dictionary) dictionary)) ≡ true) (is_hidden id dictionary)
         (λ h. rw h (shown_own id os h (shown_by secret authenticator os) refl (shown_by_holds secret authenticator os bytes)))
         (λ h. rw h (plain_own dictionary id os bytes))
 

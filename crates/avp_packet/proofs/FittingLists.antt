@@ -22,7 +22,7 @@ use Rattle.avp_dict.specs.Sent.{is_container}
 use Rattle.avp_dict.specs.Settled.{holds, is_in_format}
 use Rattle.avp_dict.specs.Vendors.{is_format}
 use Rattle.avp_dict.specs.AttributeNumbers.{vendor_specific}
-use Rattle.avp_packet.specs.Meanings.{Piece, Run, Subattribute, are_subattributes, begins_subattribute, extended_pair, extended_type, first_pairs, first_run, first_subattribute, joined, long_pair, attribute_pairs, meaning_after, others, pair_meant, piece_in, piece_of, raw_pair, run, run_with, subattribute_length, subattribute_pair, subattributes, subattributes_after, subattributes_by, vendor_of, vendor_pairs, vendor_subattributes}
+use Rattle.avp_packet.specs.Meanings.{Piece, Run, Subattribute, are_subattributes, begins_subattribute, extended_pair, extended_type, first_pairs, first_run, first_subattribute, joined, long_pair, attribute_pairs, meaning_after, continued, pair_meant, piece_in, piece_of, raw_pair, run, run_with, subattribute_length, subattribute_pair, subattributes, subattributes_after, subattributes_by, vendor_of, vendor_pairs, vendor_subattributes}
 use Rattle.avp_packet.specs.Splitting.{Part, is_whole_attribute, parts, parts_after}
 use Rattle.avp_packet.specs.VendorFormats.{known_format, usable_format}
 use Rattle.avp_packet.specs.ExtendedTypes.{extended_type_1, extended_type_4, long_extended_type_1, long_extended_type_2, piece_octets, more_flag, holds_one, holds_long}
@@ -318,7 +318,7 @@ module _ (dictionary : Dictionary) (secret authenticator : List ℕ) (P : Pair �
   meaning_holds k [] good few = tt
   meaning_holds (suc k) (p ∷ ps) good few = meaning_holds k ps good.1 (omega arith)
   meaning_holds zero (p ∷ ps) good few =
-      holds-append (first_pairs dictionary secret authenticator p ps) (meaning_after dictionary secret authenticator (others p ps) ps) (first_good_pairs p ps good few) (meaning_holds (others p ps) ps good.1 (omega arith))
+      holds-append (first_pairs dictionary secret authenticator p ps) (meaning_after dictionary secret authenticator (continued p ps) ps) (first_good_pairs p ps good few) (meaning_holds (continued p ps) ps good.1 (omega arith))
 
   -- it holds of the pairs of a packet's attributes
   pub octets_hold : (os : List ℕ) → AreBytes os → length os ≤ 4076 → All P (attribute_pairs dictionary secret authenticator (parts os))

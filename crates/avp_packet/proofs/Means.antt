@@ -2,7 +2,7 @@
 use Rattle.std.proofs.Common.{◌≡◌, ◌∙◌, ℕ, zero, suc, List, [], ◌∷◌, ◌++◌, drop, refl, ap, append_assoc}
 use Rattle.avp_lists.specs.declared.pairs.Pair.{Pair}
 use Rattle.avp_dict.specs.Dictionary.{Dictionary}
-use Rattle.avp_packet.specs.Meanings.{first_pairs, attribute_pairs, meaning_after, others}
+use Rattle.avp_packet.specs.Meanings.{first_pairs, attribute_pairs, meaning_after, continued}
 use Rattle.avp_packet.specs.Splitting.{Part, parts, part_octets}
 use Rattle.avp_packet.proofs.Splits.{parts-none, parts-octets}
 use Rattle.avp_packet.specs.Splitting.{begins_whole}
@@ -19,16 +19,16 @@ module _ (dictionary : Dictionary) (secret authenticator : List ℕ) where
   meaning_after-drop (suc k) (p ∷ ps) = meaning_after-drop k ps
 
   -- the first attribute's pairs, and those of what is after it and what its value goes on in
-  pub attribute_pairs-cons : (p : Part) (ps : List Part) → means (p ∷ ps) ≡ first_pairs dictionary secret authenticator p ps ++ means (drop (others p ps) ps)
+  pub attribute_pairs-cons : (p : Part) (ps : List Part) → means (p ∷ ps) ≡ first_pairs dictionary secret authenticator p ps ++ means (drop (continued p ps) ps)
   unfolding meaning_after
-  attribute_pairs-cons p ps = ap (λ (pairs : List Pair). first_pairs dictionary secret authenticator p ps ++ pairs) (meaning_after-drop (others p ps) ps)
+  attribute_pairs-cons p ps = ap (λ (pairs : List Pair). first_pairs dictionary secret authenticator p ps ++ pairs) (meaning_after-drop (continued p ps) ps)
 
   pub attribute_pairs-nil : means [] ≡ []
   unfolding meaning_after
   attribute_pairs-nil = refl
 
   -- one group more is read
-  pub one_read : (old new : List Pair) (octets after rest : List ℕ) (p : Part) → octets ≡ part_octets p ++ after → new ≡ old ++ first_pairs dictionary secret authenticator p (parts after) → parts rest ≡ drop (others p (parts after)) (parts after)
+  pub one_read : (old new : List Pair) (octets after rest : List ℕ) (p : Part) → octets ≡ part_octets p ++ after → new ≡ old ++ first_pairs dictionary secret authenticator p (parts after) → parts rest ≡ drop (continued p (parts after)) (parts after)
       → new ++ means (parts rest) ≡ old ++ means (parts octets)
   one_read old new octets after rest p e n r =
       let split = ap parts e ∙ parts-octets p after in

@@ -9,7 +9,7 @@ use Rattle.avp_lists.specs.declared.pairs.Pair.{Pair}
 use Rattle.avp_dict.specs.declared.entries.Format.{Format}
 use Rattle.avp_dict.specs.Dictionary.{Dictionary}
 use Rattle.avp_dict.specs.AttributeNumbers.{vendor_specific}
-use Rattle.avp_packet.specs.Meanings.{Subattribute, are_subattributes, begins_subattribute, extended_pair, first_pairs, first_run, first_subattribute, long_pair, attribute_pairs, meaning_after, others, pair_meant, subattribute_length, subattribute_pair, subattributes, subattributes_after, subattributes_by, vendor_of, vendor_pairs, vendor_subattributes}
+use Rattle.avp_packet.specs.Meanings.{Subattribute, are_subattributes, begins_subattribute, extended_pair, first_pairs, first_run, first_subattribute, long_pair, attribute_pairs, meaning_after, continued, pair_meant, subattribute_length, subattribute_pair, subattributes, subattributes_after, subattributes_by, vendor_of, vendor_pairs, vendor_subattributes}
 use Rattle.avp_packet.specs.Splitting.{Part, left, part_octets, parts}
 use Rattle.avp_packet.specs.VendorFormats.{known_format}
 use Rattle.avp_packet.specs.ExtendedTypes.{holds_one, holds_long}
@@ -72,8 +72,8 @@ module _ (dictionary : Dictionary) (secret authenticator : List ℕ) where
       omega (arith, rest, all)
   meaning_short zero (part ∷ ps) =
       let first = first_short part ps in
-      let rest = meaning_short (others part ps) ps in
-      let here = length-append (first_pairs dictionary secret authenticator part ps) (meaning_after dictionary secret authenticator (others part ps) ps) in
+      let rest = meaning_short (continued part ps) ps in
+      let here = length-append (first_pairs dictionary secret authenticator part ps) (meaning_after dictionary secret authenticator (continued part ps) ps) in
       let all = length-append (part_octets part) (flat_map part_octets ps) in
       omega (arith, first, rest, here, all)
 

@@ -25,7 +25,7 @@ use Rattle.avp_dict.specs.Soundness.{HasKnownFormats, IsSound}
 use Rattle.avp_dict.specs.Vendors.{is_format}
 use Rattle.avp_dict.specs.AttributeNumbers.{vendor_specific}
 use Rattle.avp_packet.specs.AttributeOctets.{attribute_octets, fragments, is_long, part, parts_holding, parts_of, parts_of_pair, sent_octets, vendor_value}
-use Rattle.avp_packet.specs.Meanings.{Run, are_subattributes, are_subattributes_after, begins_subattribute, extended_type, first_run, first_subattribute, attribute_pairs, others, pair_meant, piece_of, run, subattribute_length, subattributes, subattributes_after, vendor_of, vendor_subattributes}
+use Rattle.avp_packet.specs.Meanings.{Run, are_subattributes, are_subattributes_after, begins_subattribute, extended_type, first_run, first_subattribute, attribute_pairs, pair_meant, piece_of, run, subattribute_length, subattributes, subattributes_after, vendor_of, vendor_subattributes}
 use Rattle.avp_packet.specs.Splitting.{Part, left, part_octets, parts}
 use Rattle.avp_packet.specs.VendorFormats.{known_format, usable_format}
 use Rattle.avp_packet.specs.internal.Holding.{CanHold, FitsFormat}

@@ -13,7 +13,7 @@ use Rattle.avp_dict.specs.Dictionary.{Dictionary}
 use Rattle.avp_dict.specs.Limits.{fits, is_of_kind, is_typed}
 use Rattle.avp_dict.specs.Names.{Described, described}
 use Rattle.avp_dict.specs.Octets.{is_hidden, is_hideable, octets, read_value, value_of_octets, value_read}
-use Rattle.avp_dict.specs.Sent.{is_block_length, is_canonical, is_raw, is_shown}
+use Rattle.avp_dict.specs.Sent.{is_block_length, is_canonical, is_raw, survives_hiding}
 use Rattle.avp_dict.specs.Soundness.{IsSound}
 use Rattle.avp_dict.specs.Types.{is_text_kind}
 use Rattle.avp_dict.proofs.PrintedNames.{is_described}
@@ -67,7 +67,7 @@ module _ (dictionary : Dictionary) (sound : IsSound dictionary) where
 
   -- the value of a canonical pair is read back
   module _ (secret authenticator : List ℕ) (keyed : 0 < length secret) where
-    raw_back : (id : AttrId) (os : List ℕ) → is_hidden id dictionary ≡ true → is_shown (Raw os) ≡ true → value_meant dictionary secret authenticator id (sent_octets dictionary secret authenticator (record { id = id; value = Raw os })) ≡ Raw os
+    raw_back : (id : AttrId) (os : List ℕ) → is_hidden id dictionary ≡ true → survives_hiding (Raw os) ≡ true → value_meant dictionary secret authenticator id (sent_octets dictionary secret authenticator (record { id = id; value = Raw os })) ≡ Raw os
     unfolding value_meant sent_octets octets
     raw_back id os h s = rw (h, shown-with_secret secret authenticator os keyed, shown_none secret authenticator os (not-true (is_block_length (length os)) s))
 
@@ -79,7 +79,7 @@ module _ (dictionary : Dictionary) (sound : IsSound dictionary) where
         let good : is_hideable os ≡ true = within_hideable dictionary id v h r (fits_within dictionary p f) in
         rw (h, r, shown-with_secret secret authenticator (hidden secret authenticator os) keyed, shown-hidden secret authenticator os good) (text_by id v (described id dictionary) refl h r (fits_typed dictionary p f) good)
 
-    hidden_back : (id : AttrId) (v : Value) → fits (record { id = id; value = v }) dictionary ≡ true → is_hidden id dictionary ≡ true → is_shown v ≡ true → value_meant dictionary secret authenticator id (sent_octets dictionary secret authenticator (record { id = id; value = v })) ≡ v
+    hidden_back : (id : AttrId) (v : Value) → fits (record { id = id; value = v }) dictionary ≡ true → is_hidden id dictionary ≡ true → survives_hiding v ≡ true → value_meant dictionary secret authenticator id (sent_octets dictionary secret authenticator (record { id = id; value = v })) ≡ v
     hidden_back id (Raw os) f h s = raw_back id os h s
     hidden_back id v f h s = typed_back id v f h refl
 
@@ -91,7 +91,7 @@ module _ (dictionary : Dictionary) (sound : IsSound dictionary) where
     unfolding is_canonical
     value_back p h =
         let own : Bool = value_eq p.value (value_of_octets p.id (octets p.id p.value dictionary) dictionary) in
-        let both : (fits p dictionary ≡ true) × (cond (is_hidden p.id dictionary) (is_shown p.value) own ≡ true) = and_parts _ _ h in
+        let both : (fits p dictionary ≡ true) × (cond (is_hidden p.id dictionary) (survives_hiding p.value) own ≡ true) = and_parts _ _ h in
         by_test (value_meant dictionary secret authenticator p.id (sent_octets dictionary secret authenticator p) ≡ p.value) (is_hidden p.id dictionary)
         (λ e. hidden_back p.id p.value both.0 e (rw e at both.1))
         (λ e. plain_back p e (rw e at both.1))

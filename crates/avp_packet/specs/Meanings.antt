@@ -117,12 +117,12 @@ abbrev pub first_run : Part → List Part → Option Run
 first_run part parts = run part.number (extended_type part) (part ∷ parts)
 
 -- how many of the attributes after the first its value goes on in
-abbrev pub others_in : List Part → Option Run → ℕ
-others_in parts (Some run) = length parts - length run.rest
-others_in parts None = 0
+abbrev pub continued_in : List Part → Option Run → ℕ
+continued_in parts (Some run) = length parts - length run.rest
+continued_in parts None = 0
 
-abbrev pub others : Part → List Part → ℕ
-others part parts = if holds_long part.number then others_in parts (first_run part parts) else 0
+abbrev pub continued : Part → List Part → ℕ
+continued part parts = if holds_long part.number then continued_in parts (first_run part parts) else 0
 
 -- ---- pairs
 
@@ -190,7 +190,7 @@ module _ (dictionary : Dictionary) where
     meaning_after k [] = []
     meaning_after (suc k) (part ∷ parts) = meaning_after k parts
     meaning_after zero (part ∷ parts) =
-        first_pairs part parts ++ meaning_after (others part parts) parts
+        first_pairs part parts ++ meaning_after (continued part parts) parts
 
     -- the pairs that attributes mean
     abbrev pub attribute_pairs : List Part → List Pair

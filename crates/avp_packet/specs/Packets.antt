@@ -11,7 +11,7 @@ use Rattle.avp_dict.specs.Dictionary.{Dictionary}
 use Rattle.avp_packet.specs.AttributeOctets.{part, parts_of_pair}
 use Rattle.avp_packet.specs.Hmac.{hmac}
 use Rattle.avp_packet.specs.Meanings.{pair_meant, raw_pair}
-use Rattle.avp_packet.specs.Sending.{Content, Kind, Access, Accounting, Reply, message_authenticator_id, pairs_sent}
+use Rattle.avp_packet.specs.Sending.{Content, PacketKind, Access, Accounting, Reply, message_authenticator_id, pairs_sent}
 use Rattle.avp_packet.specs.Splitting.{part_octets}
 
 -- ---- codes (RFC 2865, section 3; RFC 2866, section 3)
@@ -93,7 +93,7 @@ attributes_with dictionary secret code authenticator content signature =
     octets_sent dictionary secret (hiding_authenticator code authenticator)
     (pairs_sent dictionary content (raw_pair (part message_authenticator signature)))
 
-abbrev pub request_kind : ℕ → Kind
+abbrev pub request_kind : ℕ → PacketKind
 request_kind code = if code == accounting_request then Accounting else Access
 
 abbrev pub request_content : ℕ → List Pair → Content

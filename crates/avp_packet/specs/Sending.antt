@@ -17,27 +17,27 @@ abbrev pub without_signatures : List Pair → List Pair
 without_signatures pairs = filter (is_other message_authenticator_id) pairs
 
 -- what a list is sent in: an Access-Request, an Accounting-Request, or a reply, signed or not
-pub data Kind : Type 0 where
-  Access : Kind
-  Accounting : Kind
-  Reply : Bool → Kind
+pub data PacketKind : Type 0 where
+  Access : PacketKind
+  Accounting : PacketKind
+  Reply : Bool → PacketKind
 
 -- an Access-Request is signed where its list has a Message-Authenticator, an Accounting-Request never, a reply where it
 -- is asked for
-abbrev pub is_to_sign : Kind → List Pair → Bool
+abbrev pub is_to_sign : PacketKind → List Pair → Bool
 is_to_sign Access pairs = has_instance message_authenticator_id pairs
 is_to_sign Accounting pairs = false
 is_to_sign (Reply signed) pairs = signed
 
 -- the list's pairs before the packet's Message-Authenticator, which is where an Access-Request's list has its first,
 -- and first in a reply; all pairs of an Accounting-Request, and of a request with none
-abbrev pub before_signature : Kind → List Pair → List Pair
+abbrev pub before_signature : PacketKind → List Pair → List Pair
 before_signature Access pairs = before_first (has_id message_authenticator_id) pairs
 before_signature Accounting pairs = pairs
 before_signature (Reply signed) pairs = []
 
 -- those after it, among which no other one is sent
-abbrev pub after_signature : Kind → List Pair → List Pair
+abbrev pub after_signature : PacketKind → List Pair → List Pair
 after_signature Access pairs =
     without_signatures (after_first (has_id message_authenticator_id) pairs)
 after_signature Accounting pairs = []
@@ -45,7 +45,7 @@ after_signature (Reply signed) pairs = without_signatures pairs
 
 -- a list, what it is sent in, and the Proxy-States after it
 pub record Content : Type 0 where
-  pub kind : Kind
+  pub kind : PacketKind
   pub pairs : List Pair
   pub proxy_states : List Pair
 

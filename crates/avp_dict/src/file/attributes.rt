@@ -18,7 +18,7 @@ use crate::entries::VendorFormat;
 use crate::faults::{DictKind, RefusedWord, miscounted};
 use crate::file::context::Context;
 use crate::file::meanings::Meaning;
-use crate::file::numbers::{MAX_NUMBER, Number, is_number, number_of};
+use crate::file::numbers::{GREATEST_NUMBER, Number, is_number, number_of};
 use crate::file::parts::{first_between, parts_between};
 use crate::file::types::{are_flags, typing_of};
 use crate::file::words::{MAX_NAME, same_name};
@@ -28,19 +28,19 @@ use std::alloc::Global;
 
 fn max_in(octets: u8) -> u64
     ensures most { result ≡ max_in octets }
-    ensures within { result ≤ MAX_NUMBER }
+    ensures within { result ≤ GREATEST_NUMBER }
 {
     match octets {
         1 => 255,
         2 => u16::MAX as u64,
-        _ => MAX_NUMBER,
+        _ => GREATEST_NUMBER,
     }
 }
 
 /// Whether the octets of a vendor's numbers hold this one.
 pub(crate) fn is_held(number: u64, format: VendorFormat) -> bool
     ensures test { result ≡ is_held number format }
-    ensures within { IsTrue result → number ≤ MAX_NUMBER }
+    ensures within { IsTrue result → number ≤ GREATEST_NUMBER }
 {
     number <= max_in(format.t)
 }
@@ -83,7 +83,7 @@ fn id_of_number(
         Number::Unreadable => Err(DictKind::Unreadable),
         Number::TooGreat => Err(DictKind::OutOfRange),
         Number::Is(number) => {
-            if number <= MAX_NUMBER {
+            if number <= GREATEST_NUMBER {
                 Ok(number_id(vendors, block, number as u32))
             } else {
                 Err(DictKind::OutOfRange)

@@ -36,7 +36,7 @@ fn opens_tlv_named(reading: Reading<'_>, name: &[u8]) -> bool
     }
 }
 
-fn is_in_vendor(opened: &[Reading<'_>], name: &[u8]) -> bool
+fn is_innermost_vendor(opened: &[Reading<'_>], name: &[u8]) -> bool
     ensures { result ≡ option_map_or (opens_vendor_named name.now)
         (innermost (reading_views opened.now)) false }
 {
@@ -75,7 +75,7 @@ pub(crate) fn end_vendor<'a>(
         (end_vendor (reading_views opened.now) (views words.now)) }
 {
     match words {
-        [name] => ended(is_in_vendor(opened, name), opened),
+        [name] => ended(is_innermost_vendor(opened, name), opened),
         _ => Err(miscounted(1, words)),
     }
 }
@@ -150,12 +150,12 @@ pub(crate) fn begin_vendor<'a>(
 
 fn include_line<'a>(
     required: bool,
-    found: Option<usize>,
+    included: Option<usize>,
     depth: usize,
 ) -> Result<Meaning<'a>, RefusedWord>
-    ensures { Meets is_memory_word (read_view result) (include_line required found depth) }
+    ensures { Meets is_memory_word (read_view result) (include_line required included depth) }
 {
-    match found {
+    match included {
         None => {
             if required {
                 Err(DictKind::NoFile.at_word(1))
@@ -175,16 +175,16 @@ fn include_line<'a>(
 
 #[tactic(auto, unfolding(crate::specs::Readings::include))]
 pub(crate) fn include<'a>(
-    found: Option<usize>,
+    included: Option<usize>,
     depth: usize,
     head: &[u8],
     words: &[&'a [u8]],
 ) -> Result<Meaning<'a>, RefusedWord>
     ensures { Meets is_memory_word (read_view result)
-        (include found depth head.now (views words.now)) }
+        (include included depth head.now (views words.now)) }
 {
     match words {
-        [_] => include_line(same_name(head, DOLLAR_INCLUDE), found, depth),
+        [_] => include_line(same_name(head, DOLLAR_INCLUDE), included, depth),
         _ => Err(miscounted(1, words)),
     }
 }

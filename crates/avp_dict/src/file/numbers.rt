@@ -11,9 +11,9 @@ ghost use Rattle.avp_dict.specs.internal.Numbers.{Holds, Reads};
 use crate::faults::DictKind;
 
 /// The greatest number of an attribute and of a vendor.
-pub const MAX_NUMBER: u64 = u32::MAX as u64;
+pub const GREATEST_NUMBER: u64 = u32::MAX as u64;
 /// The greatest number of a VALUE line.
-pub const MAX_VALUE: u64 = u64::MAX;
+pub const GREATEST_VALUE: u64 = u64::MAX;
 
 /// What a word is, read as a number.
 #[derive(Clone, Copy)]

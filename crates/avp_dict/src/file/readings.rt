@@ -16,7 +16,7 @@ use crate::file::keywords::{
 };
 use crate::file::lines::is_include;
 use crate::file::meanings::Meaning;
-use crate::file::numbers::{MAX_VALUE, bounded};
+use crate::file::numbers::{GREATEST_VALUE, bounded};
 use crate::file::vendors::read_vendor;
 use crate::file::words::same_name;
 use std::alloc::Global;
@@ -29,7 +29,7 @@ fn value_words<'a>(
     ensures { Meets is_memory_word (read_view result)
         (value_words attribute.now name.now number.now) }
 {
-    match bounded(MAX_VALUE, number) {
+    match bounded(GREATEST_VALUE, number) {
         Ok(number) => Ok(Meaning::Value(attribute, name, number)),
         Err(kind) => Err(kind.at_word(3)),
     }
@@ -87,18 +87,18 @@ fn plain_line<'a>(
 fn read_head<'a>(
     alloc: Global,
     before: &Context<'_>,
-    found: Option<usize>,
+    included: Option<usize>,
     depth: usize,
     head: &[u8],
     words: &[&'a [u8]],
 ) -> Result<Meaning<'a>, RefusedWord>
     ensures { Meets is_memory_word (read_view result)
-        (read_head (context_view before.now) found depth head.now
+        (read_head (context_view before.now) included depth head.now
         (views words.now)) }
 {
     let opened = before.opened.as_slice();
     if is_include(head) {
-        include(found, depth, head, words)
+        include(included, depth, head, words)
     } else if same_name(head, BEGIN_VENDOR) {
         begin_vendor(&before.vendors, opened, words)
     } else if same_name(head, END_VENDOR) {
@@ -119,15 +119,15 @@ fn read_head<'a>(
 pub(crate) fn read_words<'a>(
     alloc: Global,
     before: &Context<'_>,
-    found: Option<usize>,
+    included: Option<usize>,
     depth: usize,
     words: &[&'a [u8]],
 ) -> Result<Meaning<'a>, RefusedWord>
     ensures { Meets is_memory_word (read_view result)
-        (read_words (context_view before.now) found depth (views words.now)) }
+        (read_words (context_view before.now) included depth (views words.now)) }
 {
     match words {
         [] => Ok(Meaning::Nothing),
-        [head, rest @ ..] => read_head(alloc, before, found, depth, head, rest),
+        [head, rest @ ..] => read_head(alloc, before, included, depth, head, rest),
     }
 }

@@ -20,14 +20,14 @@ use crate::faults::RefusedLine;
 use crate::file::attributes::is_held;
 use crate::file::context::Context;
 use crate::file::meanings::{Meaning, Reading};
-use crate::file::numbers::MAX_NUMBER;
+use crate::file::numbers::GREATEST_NUMBER;
 use crate::tables::{AttributeRow, Attributes, NameSet, Values, Vendors};
 use avp_lists::AttrId;
 use std::alloc::{AllocError, Global};
 
 fn holds(number: u64, format: Option<VendorFormat>) -> bool
     ensures test { result ≡ holds number format }
-    ensures within { IsTrue result → number ≤ MAX_NUMBER }
+    ensures within { IsTrue result → number ≤ GREATEST_NUMBER }
 {
     match format {
         None => false,
@@ -39,7 +39,7 @@ fn holds(number: u64, format: Option<VendorFormat>) -> bool
 #[tactic(auto, unfolding(crate::specs::Settled::is_in_format))]
 pub(crate) fn is_in_format(vendors: &Vendors, vendor: u32, number: u64) -> bool
     ensures test { result ≡ is_in_format vendor number vendors.now }
-    ensures within { IsTrue result → number ≤ MAX_NUMBER }
+    ensures within { IsTrue result → number ≤ GREATEST_NUMBER }
 {
     holds(number, vendors.format_of(vendor))
 }

@@ -232,16 +232,16 @@ fn form_by(word: &[u8], flags: &[&[u8]]) -> Form
 fn typing_by(own: Option<Kind>, opaque: bool, hiding: bool, form: Form, secret: bool) -> Typing
     ensures { result ≡ typing_by own opaque hiding form secret }
 {
-    let by_text = is_text_kind(own);
-    let kind = if opaque || (hiding && !by_text) {
+    let takes_text = is_text_kind(own);
+    let kind = if opaque || (hiding && !takes_text) {
         Kind::Bytes
     } else {
         own.unwrap_or(Kind::Bytes)
     };
     Typing {
         kind,
-        hidden: hiding && by_text,
-        by_text,
+        hidden: hiding && takes_text,
+        takes_text,
         form,
         secret,
     }
@@ -253,7 +253,7 @@ fn fixed_typing(secret: bool) -> Typing
     Typing {
         kind: Kind::Bytes,
         hidden: false,
-        by_text: true,
+        takes_text: true,
         form: Form::AsTyped,
         secret,
     }

@@ -14,7 +14,7 @@ use crate::entries::VendorFormat;
 use crate::faults::{DictKind, RefusedWord, miscounted};
 use crate::file::keywords::FORMAT_KEY;
 use crate::file::meanings::Meaning;
-use crate::file::numbers::{MAX_NUMBER, Number, bounded, is_number, number_of};
+use crate::file::numbers::{GREATEST_NUMBER, Number, bounded, is_number, number_of};
 use crate::file::parts::parts_between;
 use crate::file::words::{MAX_NAME, same_name};
 use crate::tables::Vendors;
@@ -62,7 +62,7 @@ fn vendor_numbered<'a>(
     format: VendorFormat,
     number: u64,
 ) -> Result<Meaning<'a>, RefusedWord>
-    requires { number ≤ MAX_NUMBER }
+    requires { number ≤ GREATEST_NUMBER }
     ensures { Meets is_memory_word (read_view result)
         (vendor_numbered vendors.now name.now format number) }
 {
@@ -85,7 +85,7 @@ fn vendor_formatted<'a>(
 {
     match format {
         None => Err(DictKind::Unreadable.at_word(3)),
-        Some(format) => match bounded(MAX_NUMBER, number) {
+        Some(format) => match bounded(GREATEST_NUMBER, number) {
             Ok(number) => vendor_numbered(vendors, name, format, number),
             Err(kind) => Err(kind.at_word(2)),
         },

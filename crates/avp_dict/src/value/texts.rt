@@ -39,13 +39,13 @@ fn octets_spelled(alloc: Global, text: &[u8]) -> Result<Option<Octets>, AllocErr
 
 // The octets of a text, and those of `0x` and hexadecimal digits.
 #[tactic(auto, unfolding(crate::specs::Spellings::bytes_spelled))]
-fn bytes_spelled(alloc: Global, by_text: bool, text: &[u8]) -> Result<Option<Octets>, AllocError>
-    ensures { IfOk result (λ octets. octets ≡ bytes_spelled by_text text.now) }
+fn bytes_spelled(alloc: Global, takes_text: bool, text: &[u8]) -> Result<Option<Octets>, AllocError>
+    ensures { IfOk result (λ octets. octets ≡ bytes_spelled takes_text text.now) }
 {
     match text {
         [b'0', b'x', ..] => octets_spelled(alloc, text),
         _ => {
-            if by_text {
+            if takes_text {
                 Ok(Some(Octets::from_slice(alloc, text)?))
             } else {
                 octets_spelled(alloc, text)
@@ -209,7 +209,7 @@ impl Dictionary {
     {
         match typing.kind {
             Kind::Text => Ok(Some(Value::Text(Octets::from_slice(alloc, text)?))),
-            Kind::Bytes => Ok(bytes_spelled(alloc, typing.by_text, text)?.map(Value::Bytes)),
+            Kind::Bytes => Ok(bytes_spelled(alloc, typing.takes_text, text)?.map(Value::Bytes)),
             Kind::Addr => Ok(address_spelled(text).map(Value::Addr)),
             Kind::Ether => Ok(ether_spelled(text).map(Value::Ether)),
             kind @ (Kind::Byte | Kind::Short | Kind::Integer | Kind::Integer64) => {

@@ -8,7 +8,7 @@ use Rattle.avp_packet.specs.declared.encoding.dividing.Division.{Division}
 use Rattle.avp_packet.specs.AttributeOctets.{attribute_octets, part}
 use Rattle.avp_packet.specs.Hmac.{hmac}
 use Rattle.avp_packet.specs.Packets.{hiding_authenticator, packet, zeros}
-use Rattle.avp_packet.specs.Sending.{Kind, before_signature, after_signature, is_to_sign, without_signatures}
+use Rattle.avp_packet.specs.Sending.{PacketKind, before_signature, after_signature, is_to_sign, without_signatures}
 use Rattle.avp_packet.specs.Splitting.{part_octets}
 use Rattle.avp_packet.specs.internal.Ranges.{IsVendorInRange}
 
@@ -18,7 +18,7 @@ kept_pairs true pairs = pairs
 kept_pairs false pairs = without_signatures pairs
 
 -- what is before and after the Message-Authenticator, if there is one
-pub record IsDivided (kind : Kind) (pairs : List Pair) (division : Division) : Type 0 where
+pub record IsDivided (kind : PacketKind) (pairs : List Pair) (division : Division) : Type 0 where
   pub before : division.before.now ≡ before_signature kind pairs
   pub signed : division.signed ≡ is_to_sign kind pairs
   pub after : without_signatures division.after.now ≡ after_signature kind pairs

@@ -2,7 +2,7 @@
 
 ghost use Rattle.std.specs.Prelude.{◌≡◌, ◌<◌, ◌≤◌, ◌∷◌, ◌++◌, [], true, length, drop, slice_index, All, IfOk, OnOk};
 ghost use Rattle.avp_dict.specs.Limits.{fits};
-ghost use Rattle.avp_packet.specs.Meanings.{first_pairs, first_run, long_pair, attribute_pairs, others, others_in};
+ghost use Rattle.avp_packet.specs.Meanings.{first_pairs, first_run, long_pair, attribute_pairs, continued, continued_in};
 ghost use Rattle.avp_packet.specs.CanonicalOrContainer.{IsCanonicalOrContainer};
 ghost use Rattle.avp_packet.specs.Splitting.{part_octets, parts};
 ghost use Rattle.avp_packet.specs.internal.Views.{part_view, under};
@@ -42,7 +42,7 @@ fn push_long<'a>(
         ++ under keys.now long_pair (part_view front.entry)
         (first_run (part_view front.entry) (parts front.entry.rest.now)) ∷ []) }
     ensures rest { IfOk result (λ rest. parts rest.now
-        ≡ drop (others_in (parts front.entry.rest.now)
+        ≡ drop (continued_in (parts front.entry.rest.now)
         (first_run (part_view front.entry) (parts front.entry.rest.now)))
         (parts front.entry.rest.now)) }
     ensures shorter { IfOk result (λ rest. length rest.now < length octets.now) }
@@ -72,7 +72,7 @@ fn push_first<'a>(
     ensures pairs { OnOk result (pairs.new.items ≡ pairs.old.items
         ++ under keys.now first_pairs (part_view front.entry) (parts front.entry.rest.now)) }
     ensures rest { IfOk result (λ rest. parts rest.now
-        ≡ drop (others (part_view front.entry) (parts front.entry.rest.now))
+        ≡ drop (continued (part_view front.entry) (parts front.entry.rest.now))
         (parts front.entry.rest.now)) }
     ensures shorter { IfOk result (λ rest. length rest.now < length octets.now) }
 {
