@@ -1,10 +1,11 @@
-ghost use Rattle.std.specs.Prelude.{◌≡◌, ◌<◌, ◌^◌, if◌then◌else◌, length, slice_get, All, IfOk, IfErr};
+ghost use Rattle.std.specs.Prelude.{◌≡◌, ◌≤◌, ◌<◌, ◌^◌, if◌then◌else◌, length, slice_get, All, IfOk, IfErr};
 ghost use Rattle.std.specs.Option.{option_map, option_copied};
 ghost use Rattle.std.specs.Result.{result_map_both};
 ghost use Rattle.avp_lists.specs.Meets.{Meets, Unless};
 ghost use Rattle.avp_dict.specs.Counts.{counts_of};
 ghost use Rattle.avp_dict.specs.Dictionary.{first_names, name_numbered, number_named, tagged_name_numbered, typing_of_id};
 ghost use Rattle.avp_dict.specs.DictionaryReading.{dictionary_of, fault_of, max_lines, read_dictionary};
+ghost use Rattle.avp_dict.specs.Letters.{max_name};
 ghost use Rattle.avp_dict.specs.Lines.{HasDistinctNames, octets_at};
 ghost use Rattle.avp_dict.specs.Names.{described, form_of, is_marked_secret, named, unless_three, vendor_format};
 ghost use Rattle.avp_dict.specs.Outcomes.{is_memory, want_of_memory};
@@ -150,6 +151,15 @@ impl Dictionary {
         ensures { IsSound self.now }
     {
         let _contents = &self.contents;
+    }
+
+    // No VALUE line has a name that is too long.
+    pub(crate) fn short_names(&self)
+        ensures values { All (λ line. length line.name ≤ max_name) self.now.values }
+        ensures tagged { All (λ line. length line.name ≤ max_name) self.now.tagged_values }
+    {
+        self.contents.values.as_slice();
+        self.contents.tagged_values.as_slice();
     }
 
     /// What a name stands for, its letters in either case.

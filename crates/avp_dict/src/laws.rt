@@ -1,7 +1,8 @@
 //! Laws of every dictionary, as calls that do nothing: their contracts are what they are for.
 
-ghost use Rattle.std.specs.Prelude.{IsTrue};
+ghost use Rattle.std.specs.Prelude.{◌≤◌, All, IsTrue, length};
 ghost use Rattle.avp_dict.specs.Laws.{IsRefusedOnce, ReadsBack, SpelledPairsFit, SpelledValuesClean, is_writable};
+ghost use Rattle.avp_dict.specs.Letters.{max_name};
 ghost use Rattle.avp_dict.specs.Soundness.{HasKnownFormats, IsSound, NamesKnown};
 ghost use Rattle.avp_dict.specs.internal.Ranges.{AreOctets, IsIdInRange, IsValueInRange};
 
@@ -63,6 +64,14 @@ impl Dictionary {
         self.sound();
         id_in_range(pair.id);
         value_in_range(&pair.value);
+    }
+
+    /// No VALUE line has a name of more than the 128 octets that a name may have.
+    pub fn names_are_short(&self)
+        ensures values { All (λ line. length line.name ≤ max_name) self.now.values }
+        ensures tagged { All (λ line. length line.name ≤ max_name) self.now.tagged_values }
+    {
+        self.short_names();
     }
 
     /// A value that a text stands for is read back from its own octets.

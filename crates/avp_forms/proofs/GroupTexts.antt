@@ -1,10 +1,11 @@
 -- Printed interface ids are read back.
-use Rattle.std.proofs.Common.{◌≡◌, ◌∙◌, ℕ, suc, ◌+◌, ◌*◌, ◌/◌, ◌%◌, ◌<◌, ◌≤◌, true, false, ltb, leb, ◌==◌, List, [], ◌∷◌, ◌++◌, length, map, Some, option_map, refl, sym, ap, subst, arith, ne_eqb, eq-eqb, inl, inr}
+use Rattle.std.proofs.Common.{◌≡◌, ◌∙◌, ℕ, suc, ◌+◌, ◌*◌, ◌/◌, ◌%◌, ◌<◌, ◌≤◌, true, false, ltb, leb, ◌==◌, List, [], ◌∷◌, ◌++◌, length, map, Some, option_map, refl, sym, ap, subst, arith, ne_eqb, eq-eqb, le-leb, inl, inr}
 use Rattle.std.specs.List.{All, flat_map, join_by, slice_split}
-use Rattle.std.specs.Char.{digit_value}
+use Rattle.std.specs.Char.{digit_char, digit_value}
 use Rattle.std.specs.Fmt.{digit_glyph, digits as printed_digits, digits_onto}
 use Rattle.std.specs.Net.Addr.{octets_of, segments_of}
-use Rattle.std.proofs.lemmas.Bool.{cases_lt}
+use Rattle.std.specs.Net.Text.{hex}
+use Rattle.std.proofs.lemmas.Bool.{cases_lt, lt-leb}
 use Rattle.std.proofs.lemmas.Bool.Decides.{nat_tests}
 use Rattle.std.proofs.lemmas.Fmt.{hex_one_digit, hex_two_digits}
 use Rattle.std.proofs.lemmas.List.{append-nil, length-map}
@@ -91,6 +92,29 @@ four n low high =
     let c = digit_glyph false (n / 16 % 16) ∷ d in
     let b = digit_glyph false (n / 16 / 16 % 16) ∷ c in
     step 63 n [] (omega arith) ∙ step 62 (n / 16) d (omega arith) ∙ step 61 (n / 16 / 16) c (omega arith) ∙ last 60 (n / 16 / 16 / 16) b (omega arith)
+
+-- the text that a server prints for a group of an address
+pub hex_is_group : (n : ℕ) → n < 65536 → hex n ≡ group_text n
+unfolding hex
+hex_is_group n h = elim (cases_lt n 16) [
+  | inl one ↦
+      let same : n % 16 ≡ n = omega arith in
+      rw (lt-leb 0x1000 n (omega arith), lt-leb 0x100 n (omega arith), lt-leb 0x10 n one) ((λ i. digit_char (same i) ∷ []) ∙ sym (hex_one_digit false n one))
+  | inr more₁ ↦ elim (cases_lt n 256) [
+    | inl two ↦
+        let high : n / 0x10 % 16 ≡ n / 16 = omega arith in
+        rw (lt-leb 0x1000 n (omega arith), lt-leb 0x100 n two, le-leb 0x10 n more₁) ((λ i. digit_char (high i) ∷ digit_char (n % 16) ∷ []) ∙ sym (hex_two_digits false n more₁ two))
+    | inr more₂ ↦ elim (cases_lt n 4096) [
+      | inl low ↦
+          let high : n / 0x100 % 16 ≡ n / 16 / 16 = omega arith in
+          rw (lt-leb 0x1000 n low, le-leb 0x100 n more₂) ((λ i. digit_char (high i) ∷ digit_char (n / 0x10 % 16) ∷ digit_char (n % 16) ∷ []) ∙ sym (three n more₂ low))
+      | inr more₃ ↦
+          let high : n / 0x1000 ≡ n / 16 / 16 / 16 = omega arith in
+          let next : n / 0x100 % 16 ≡ n / 16 / 16 % 16 = omega arith in
+          rw (le-leb 0x1000 n more₃) ((λ i. digit_char (high i) ∷ digit_char (next i) ∷ digit_char (n / 0x10 % 16) ∷ digit_char (n % 16) ∷ []) ∙ sym (four n more₃ h))
+    ]
+  ]
+]
 
 -- the same text of the same number
 moved : (m n : ℕ) (text shown : List ℕ) → IsHex m text → m ≡ n → shown ≡ text → IsHex n shown

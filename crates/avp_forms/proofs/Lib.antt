@@ -3,6 +3,7 @@ pub mod AddressTexts
 pub mod Calendar
 pub mod DateOctets
 pub mod DateTexts
+pub mod ExpandedValues
 pub mod GreatNumbers
 pub mod GroupTexts
 pub mod HeldForms
@@ -13,6 +14,7 @@ pub mod PrefixTexts
 pub mod PrintedPairs
 pub mod RefusedOnce
 pub mod Segments
+pub mod ShortNames
 pub mod SpelledForms
 pub mod TaggedNames
 pub mod TaggedTargets

@@ -1,6 +1,7 @@
 pub mod AddressLaws
 pub mod Comparisons
 pub mod Dates
+pub mod Expansions
 pub mod InterfaceIds
 pub mod Ipv6Addresses
 pub mod Laws

@@ -1,12 +1,13 @@
 //! Dates: their texts, and the texts that stand for them.
 
-ghost use Rattle.std.specs.Prelude.{◌≡◌, ◌≤◌, ◌<◌, ◌++◌, ◌≤ℤ◌, ◌+ℤ◌, ◌-ℤ◌, ◌*ℤ◌, pos, neg_ℤ, IfOk, IfSome, OnOk, length};
+ghost use Rattle.std.specs.Prelude.{◌≡◌, ◌≤◌, ◌<◌, ◌++◌, ◌≤ℤ◌, ◌+ℤ◌, ◌-ℤ◌, ◌*ℤ◌, pos, neg_ℤ, IfSome, length};
 ghost use Rattle.std.specs.List.{list_all};
 ghost use Rattle.avp_forms.specs.Dates.{after_month, clock_spelled, clock_text, date_of_moment, date_spelled, date_text, day_spelled, day_text, four_digits, has_day, in_32_bits, internet_date_spelled, is_zone_name, is_zone_octet, month_name, month_spelled, moment_text, numeral, offset_spelled, server_date_spelled, server_moment, signed_offset, two_digits, zone_spelled};
 
 use crate::numerals::{number_up_to, number_within};
+use crate::short_texts::{ShortText, push_all};
+use arrayvec::ArrayVec;
 use jiff_core::civil::Date;
-use std::alloc::{AllocError, Global};
 
 const SECONDS_OF_DAY: u32 = 86400;
 
@@ -321,38 +322,33 @@ fn year_text(year: u32) -> [u8; 4]
 }
 
 // A day, and the seconds of it in UTC.
-fn moment_text(
-    alloc: Global,
-    year: u32,
-    month: u8,
-    day: u8,
-    seconds: u32,
-) -> Result<Vec<u8>, AllocError>
+fn moment_text(year: u32, month: u8, day: u8, seconds: u32) -> ShortText
     requires year { year < 10000 }
     requires first { 1 ≤ month }
     requires month { month ≤ 12 }
     requires day { day < 100 }
     requires seconds { seconds < 86400 }
-    ensures { IfOk result (λ text. text.items
-        ≡ moment_text (record { year = year; month = month; day = day }) seconds) }
+    ensures { result.items
+        ≡ moment_text (record { year = year; month = month; day = day }) seconds }
 {
-    let mut text = Vec::from_slice(alloc, &month_name(month))?;
-    text.push(b' ')?;
-    text.extend_from_slice(&day_text(day))?;
-    text.push(b' ')?;
-    text.extend_from_slice(&year_text(year))?;
-    text.push(b' ')?;
-    text.extend_from_slice(&clock_text(seconds))?;
-    text.extend_from_slice(b" UTC")?;
-    Ok(text)
+    let mut text = ArrayVec::new();
+    push_all(&mut text, &month_name(month));
+    push_all(&mut text, b" ");
+    push_all(&mut text, &day_text(day));
+    push_all(&mut text, b" ");
+    push_all(&mut text, &year_text(year));
+    push_all(&mut text, b" ");
+    push_all(&mut text, &clock_text(seconds));
+    push_all(&mut text, b" UTC");
+    text
 }
 
 /// The text that a server prints in UTC.
 #[tactic(auto, unfolding(crate::specs::Dates::date_text))]
-pub fn date_text(alloc: Global, seconds: u32) -> Result<Vec<u8>, AllocError>
-    ensures { IfOk result (λ text. text.items ≡ date_text seconds) }
+pub fn date_text(seconds: u32) -> ShortText
+    ensures { result.items ≡ date_text seconds }
 {
     let date = Date::from_days_since_min(seconds / SECONDS_OF_DAY + DAYS_BEFORE_1970);
     let year = u32::from(date.year.unsigned_abs());
-    moment_text(alloc, year, date.month, date.day, seconds % SECONDS_OF_DAY)
+    moment_text(year, date.month, date.day, seconds % SECONDS_OF_DAY)
 }

@@ -1,13 +1,16 @@
 //! Interface ids.
 
-ghost use Rattle.std.specs.Prelude.{◌≡◌, ◌+◌, ◌*◌, ◌∷◌, ◌++◌, [], codes, IfOk, OnOk};
+ghost use Rattle.std.specs.Prelude.{◌≡◌, ◌+◌, ◌*◌, ◌≤◌, ◌∷◌, ◌++◌, [], codes};
 ghost use Rattle.std.specs.Net.Addr.{octets_of};
+ghost use Rattle.arrayvec.specs.ArrayVec.{array_vec_len};
 ghost use Rattle.avp_dict.specs.Spellings.{each_number};
 ghost use Rattle.avp_forms.specs.InterfaceIds.{group, group_text, interface_id_spelled, interface_id_text};
 
+use crate::ipv6_addresses::push_group;
 use crate::numerals::short_number;
 use crate::parts::first_between;
-use std::alloc::{AllocError, Global};
+use crate::short_texts::{MAX_SHORT, ShortText, push_all};
+use arrayvec::ArrayVec;
 
 fn group(part: &[u8]) -> Option<u16>
     ensures { result ≡ group part.now }
@@ -48,33 +51,34 @@ pub fn interface_id_spelled(text: &[u8]) -> Option<[u8; 8]>
     }
 }
 
-fn push_group(text: &mut Vec<u8>, high: u8, low: u8) -> Result<(), AllocError>
-    ensures { OnOk result (text.new.items ≡ text.old.items ++ group_text (high * 256 + low)) }
+fn push_group_of(text: &mut ShortText, high: u8, low: u8)
+    requires { array_vec_len text.old + 4 ≤ MAX_SHORT }
+    ensures items { text.new.items ≡ text.old.items ++ group_text (high * 256 + low) }
+    ensures length { array_vec_len text.new ≤ array_vec_len text.old + 4 }
 {
-    let group = u16::from_be_bytes([high, low]);
-    let digits = format!(in *text.allocator(); "{group:x}")?;
-    text.extend_from_slice(digits.as_bytes())
+    push_group(text, u16::from(high) * 256 + u16::from(low));
 }
 
 // A colon and a group after it.
-fn push_after_colon(text: &mut Vec<u8>, high: u8, low: u8) -> Result<(), AllocError>
-    ensures { OnOk result (text.new.items
-        ≡ text.old.items ++ (codes ":" ++ group_text (high * 256 + low))) }
+fn push_after_colon(text: &mut ShortText, high: u8, low: u8)
+    requires { array_vec_len text.old + 5 ≤ MAX_SHORT }
+    ensures items { text.new.items
+        ≡ text.old.items ++ (codes ":" ++ group_text (high * 256 + low)) }
+    ensures length { array_vec_len text.new ≤ array_vec_len text.old + 5 }
 {
-    text.push(b':')?;
-    push_group(text, high, low)
+    push_all(text, b":");
+    push_group_of(text, high, low);
 }
 
 /// The text of an interface id.
-#[tactic(auto, unfolding(crate::specs::InterfaceIds::interface_id_text))]
-pub fn interface_id_text(alloc: Global, octets: [u8; 8]) -> Result<Vec<u8>, AllocError>
-    ensures { IfOk result (λ text. text.items ≡ interface_id_text octets) }
+pub fn interface_id_text(octets: [u8; 8]) -> ShortText
+    ensures { result.items ≡ interface_id_text octets }
 {
     let [a, b, c, d, e, f, g, h] = octets;
-    let mut text = Vec::new(alloc);
-    push_group(&mut text, a, b)?;
-    push_after_colon(&mut text, c, d)?;
-    push_after_colon(&mut text, e, f)?;
-    push_after_colon(&mut text, g, h)?;
-    Ok(text)
+    let mut text = ArrayVec::new();
+    push_group_of(&mut text, a, b);
+    push_after_colon(&mut text, c, d);
+    push_after_colon(&mut text, e, f);
+    push_after_colon(&mut text, g, h);
+    text
 }

@@ -1,15 +1,15 @@
 //! Prefixes of addresses.
 
-ghost use Rattle.std.specs.Prelude.{◌≡◌, ◌≤◌, ◌++◌, IfOk, IfSome, OnOk};
-ghost use Rattle.std.specs.Net.Text.{ipv4_text};
+ghost use Rattle.std.specs.Prelude.{◌≡◌, ◌+◌, ◌≤◌, ◌++◌, IfSome};
+ghost use Rattle.arrayvec.specs.ArrayVec.{array_vec_len};
 ghost use Rattle.avp_forms.specs.Comparisons.{holds_prefix, prefix_order};
 ghost use Rattle.avp_forms.specs.Prefixes.{first_bits, ipv4_prefix_spelled, ipv4_prefix_text, ipv4_spelled, ipv6_prefix_spelled, ipv6_prefix_text, length_text, masked};
 
-use crate::ipv6_addresses::{ipv6_address_text, ipv6_spelled};
+use crate::ipv6_addresses::{ipv6_spelled, push_ipv6};
 use crate::numerals::short_number;
 use crate::parts::first_between;
-use itoa::Buffer;
-use std::alloc::{AllocError, Global};
+use crate::short_texts::{MAX_SHORT, ShortText, push_all, push_ipv4, push_number};
+use arrayvec::ArrayVec;
 use std::cmp::Ordering;
 use std::net::Ipv4Addr;
 
@@ -110,39 +110,34 @@ pub fn ipv4_prefix_spelled(text: &[u8]) -> Option<([u8; 4], u8)>
     }
 }
 
-fn push_length(text: &mut Vec<u8>, length: u8) -> Result<(), AllocError>
-    ensures { OnOk result (text.new.items ≡ text.old.items ++ length_text length) }
+fn push_length(text: &mut ShortText, length: u8)
+    requires { array_vec_len text.old + 4 ≤ MAX_SHORT }
+    ensures { text.new.items ≡ text.old.items ++ length_text length }
 {
-    let mut buffer = Buffer::new();
-    text.push(b'/')?;
-    text.extend_from_slice(buffer.format(u64::from(length)).as_bytes())
-}
-
-fn ipv4_text(alloc: Global, octets: [u8; 4]) -> Result<Vec<u8>, AllocError>
-    ensures { IfOk result (λ text. text.items ≡ ipv4_text octets) }
-{
-    let text = Ipv4Addr::from_octets(octets).to_string(alloc)?;
-    Vec::from_slice(alloc, text.as_bytes())
+    push_all(text, b"/");
+    push_number(text, length);
 }
 
 /// The text of a prefix of an IPv6 address.
 #[tactic(auto, unfolding(crate::specs::Prefixes::ipv6_prefix_text))]
-pub fn ipv6_prefix_text(alloc: Global, octets: [u8; 16], length: u8) -> Result<Vec<u8>, AllocError>
-    ensures { IfOk result (λ text. text.items ≡ ipv6_prefix_text octets length) }
+pub fn ipv6_prefix_text(octets: [u8; 16], length: u8) -> ShortText
+    ensures { result.items ≡ ipv6_prefix_text octets length }
 {
-    let mut text = ipv6_address_text(alloc, octets)?;
-    push_length(&mut text, length)?;
-    Ok(text)
+    let mut text = ArrayVec::new();
+    push_ipv6(&mut text, octets);
+    push_length(&mut text, length);
+    text
 }
 
 /// The text of a prefix of an IPv4 address.
 #[tactic(auto, unfolding(crate::specs::Prefixes::ipv4_prefix_text))]
-pub fn ipv4_prefix_text(alloc: Global, octets: [u8; 4], length: u8) -> Result<Vec<u8>, AllocError>
-    ensures { IfOk result (λ text. text.items ≡ ipv4_prefix_text octets length) }
+pub fn ipv4_prefix_text(octets: [u8; 4], length: u8) -> ShortText
+    ensures { result.items ≡ ipv4_prefix_text octets length }
 {
-    let mut text = ipv4_text(alloc, octets)?;
-    push_length(&mut text, length)?;
-    Ok(text)
+    let mut text = ArrayVec::new();
+    push_ipv4(&mut text, octets);
+    push_length(&mut text, length);
+    text
 }
 
 fn holds_16(octets: [u8; 16], length: u8, other: [u8; 16], longer: u8) -> bool

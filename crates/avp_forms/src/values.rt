@@ -20,6 +20,7 @@ use crate::prefixes::{
     ipv4_prefix_spelled, ipv4_prefix_text, ipv6_prefix_spelled, ipv6_prefix_text, masked_4,
     masked_16, order_4, order_16,
 };
+use crate::short_texts::ShortText;
 use avp_dict::{Dictionary, Form, ValueFault, quote};
 use avp_lists::{AttrId, Octets, Value};
 use itoa::Buffer;
@@ -241,6 +242,13 @@ fn tagged_number_value(dictionary: &Dictionary, id: AttrId, text: &[u8]) -> Opti
     Some(FormValue::TaggedNumber(0, number))
 }
 
+// A short text in memory of its own.
+fn kept(alloc: Global, text: ShortText) -> Result<Vec<u8>, AllocError>
+    ensures { IfOk result (λ octets. octets.items ≡ text.items) }
+{
+    Vec::from_slice(alloc, text.as_slice())
+}
+
 // A number by its last name, or in decimal digits.
 fn tagged_number_text(
     alloc: Global,
@@ -452,11 +460,15 @@ impl FormValue {
         ensures { IfOk result (λ text. text.items ≡ text_of id self.now dictionary.now) }
     {
         match self {
-            FormValue::Ipv6Address(address) => ipv6_address_text(alloc, *address),
-            FormValue::Ipv6Prefix(address, length) => ipv6_prefix_text(alloc, *address, *length),
-            FormValue::Ipv4Prefix(address, length) => ipv4_prefix_text(alloc, *address, *length),
-            FormValue::InterfaceId(octets) => interface_id_text(alloc, *octets),
-            FormValue::Date(seconds) => date_text(alloc, *seconds),
+            FormValue::Ipv6Address(address) => kept(alloc, ipv6_address_text(*address)),
+            FormValue::Ipv6Prefix(address, length) => {
+                kept(alloc, ipv6_prefix_text(*address, *length))
+            }
+            FormValue::Ipv4Prefix(address, length) => {
+                kept(alloc, ipv4_prefix_text(*address, *length))
+            }
+            FormValue::InterfaceId(octets) => kept(alloc, interface_id_text(*octets)),
+            FormValue::Date(seconds) => kept(alloc, date_text(*seconds)),
             FormValue::TaggedNumber(_, number) => tagged_number_text(
                 alloc, dictionary, id, *number,
             ),

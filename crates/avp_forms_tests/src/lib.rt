@@ -4,6 +4,8 @@
 #[cfg(test)]
 mod comparisons;
 #[cfg(test)]
+mod expansions;
+#[cfg(test)]
 mod octets;
 #[cfg(test)]
 mod profiles;

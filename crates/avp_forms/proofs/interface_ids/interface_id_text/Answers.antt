@@ -11,5 +11,5 @@ unfolding interface_id_text
 returns c =
     let os = c.args.octets in
     let g : ℕ → ℕ → List ℕ = λ i j. group_text (get_or os i 0 * 256 + get_or os j 0) in
-    rw (c.in_ok-push_after_colon-3.ensures, c.in_ok-push_after_colon-2.ensures, c.in_ok-push_after_colon.ensures, c.in_ok-push_group.ensures, c.new-text.ensures.items)
+    rw (c.push_after_colon-3.ensures.items, c.push_after_colon-2.ensures.items, c.push_after_colon.ensures.items, c.push_group_of.ensures.items, c.new-text.ensures)
     (joined (g 0 1) (58 ∷ g 2 3) (58 ∷ g 4 5) (58 ∷ g 6 7) ∙ sym (ap interface_id_text (eight_items c.args.octets (search rules))))
