@@ -8,6 +8,8 @@ mod kept_searches;
 #[cfg(test)]
 mod patterns;
 #[cfg(test)]
+mod printed_values;
+#[cfg(test)]
 mod runs;
 #[cfg(test)]
 mod tunnels;

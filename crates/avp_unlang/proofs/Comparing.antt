@@ -1,6 +1,6 @@
 -- A condition that fits the dictionary can be tested in each state that does.
-use Rattle.std.proofs.Common.{◌≡◌, ◌≤◌, ℕ, nat_le, length, arith, Bool, true, false, ◌&&◌, ◌||◌, cond, List, [], ◌∷◌, Option, Some, None, filter, refl, sym, ap, ◌∙◌, map, subst}
-use Rattle.std.specs.Prelude.{IfSome, All as Each}
+use Rattle.std.proofs.Common.{◌≡◌, ◌≤◌, ℕ, nat_le, length, arith, Bool, true, false, not, min, ◌&&◌, ◌||◌, cond, List, [], ◌∷◌, Option, Some, None, filter, refl, sym, ap, ◌∙◌, map, subst}
+use Rattle.std.specs.Prelude.{IfSome, All as Each, is_some}
 use Rattle.std.specs.List.{list_all}
 use Rattle.std.specs.Option.{option_map, option_map_or, unwrap_or}
 use Rattle.avp_lists.specs.Instances.{first_instance, front, has_id}
@@ -12,15 +12,17 @@ use Rattle.avp_lists.specs.declared.pairs.Value.TheVariants as values
 use Rattle.avp_lists.specs.declared.lists.List.{List as Name}
 use Rattle.avp_lists.specs.declared.lists.State.{State}
 use Rattle.avp_dict.specs.Limits.{fits, is_known, is_of_kind, is_typed, is_within}
-use Rattle.avp_dict.specs.Octets.{kind_of}
+use Rattle.avp_dict.specs.Octets.{ends_in_nul, is_hidden, kind_of, max_hidden_octets, octets}
+use Rattle.avp_dict.specs.Sent.{is_container}
+use Rattle.avp_forms.specs.Expansions.{has_few_digits, is_printed_by_type, is_short_enough}
 use Rattle.avp_dict.specs.declared.entries.Kind.{Kind}
 use Rattle.avp_dict.specs.declared.entries.Kind.TheVariants as kinds
 use Rattle.avp_dict.specs.Dictionary.{Dictionary}
 use Rattle.avp_unlang.specs.Suiting.{cond_suits, cond_layer_suits, comparand_suits, comparison_suits, itself, same_kind}
 use Rattle.avp_unlang.specs.References.{type_of}
 use Rattle.avp_unlang.specs.Resolutions.{StateFits, pair_of}
-use Rattle.avp_unlang.specs.Truth.{comparable, compared_with, cond_comparable, first_value, is_alike, is_comparable, value_in}
-use Rattle.avp_dict.specs.Limits.{extended_room, max_octets, vendor_room}
+use Rattle.avp_unlang.specs.Truth.{comparable_by, compared_with, cond_comparable_by, first_value, is_alike, is_comparable, value_in}
+use Rattle.avp_dict.specs.Limits.{extended_room, greatest_length, max_octets, vendor_room}
 use Rattle.avp_dict.specs.AttributeNumbers.{max_plain}
 use Rattle.avp_dict.specs.Names.{vendor_format}
 use Rattle.avp_dict.specs.declared.entries.Format.{Format}
@@ -28,8 +30,9 @@ use Rattle.avp_lists.specs.Tags.{is_selected}
 use Rattle.avp_lists.specs.declared.pairs.AttrId.TheVariants as ids
 use Rattle.avp_lists.specs.declared.tags.Selection.{Selection}
 use Rattle.avp_lists.specs.declared.tags.Selection.TheVariants as selections
-use Rattle.avp_unlang.specs.PatternTruth.{instance_in, is_matchable}
+use Rattle.avp_unlang.specs.PatternTruth.{instance_in, is_matchable_by}
 use Rattle.avp_unlang.specs.declared.tree.Matching.{Matching}
+use Rattle.std.proofs.lemmas.Bool.{not-true}
 use Rattle.std.proofs.lemmas.Bool.Decides.{nat_tests}
 use Rattle.avp_unlang.specs.declared.tree.Comparand.{Comparand}
 use Rattle.avp_unlang.specs.declared.tree.Comparand.TheVariants.{Literal, Instance}
@@ -135,20 +138,55 @@ module _ (dictionary : Dictionary) where
   raw_short : (id : AttrId) (os : List ℕ) → nat_le (length os) (max_octets id dictionary) ≡ true → nat_le (length os) 4012 ≡ true
   raw_short id os h = let most = room_most id in grind (arith, nat_tests)
 
-  matchable_value : (id : AttrId) (v : Value) → is_alike kinds.Text v ≡ true → is_within id v dictionary ≡ true → is_matchable (pair_of id v) ≡ true
-  matchable_value id (values.Text os) alike within = refl
-  matchable_value id (values.Raw os) alike within = raw_short id os within
-  matchable_value id (values.Bytes os) alike within = cc
-  matchable_value id (values.Int n) alike within = cc
-  matchable_value id (values.Signed z) alike within = cc
-  matchable_value id (values.Addr os) alike within = cc
-  matchable_value id (values.Ether os) alike within = cc
+  -- a value that fits has no more octets than its attribute may have
+  within_most : (id : AttrId) → greatest_length id dictionary ≤ 4012
+  unfolding greatest_length
+  within_most id =
+      elim (is_hidden id dictionary) as (λ b. cond b (min max_hidden_octets (max_octets id dictionary)) (max_octets id dictionary) ≤ 4012) [
+        | true ↦ omega (arith, room_most id)
+        | false ↦ room_most id
+      ]
 
-  matchable_fits : (p : Pair) → kinds.Text ≡ type_of dictionary p.id → fits p dictionary ≡ true → is_matchable p ≡ true
+  typed_short : (id : AttrId) (os : List ℕ) (b : Bool) → (nat_le (length os) (greatest_length id dictionary) && b) ≡ true → nat_le (length os) 4012 ≡ true
+  typed_short id os b h =
+      let short = and_left (nat_le (length os) (greatest_length id dictionary)) b h in
+      let most = within_most id in
+      grind (arith, nat_tests)
+
+  pub value_short : (id : AttrId) (v : Value) → is_within id v dictionary ≡ true → is_short_enough v ≡ true
+  unfolding octets
+  value_short id (values.Raw os) within = raw_short id os within
+  value_short id (values.Text os) within = typed_short id os (not (is_hidden id dictionary && ends_in_nul os)) within
+  value_short id (values.Bytes os) within = typed_short id os (not (is_hidden id dictionary && ends_in_nul os)) within
+  value_short id _ within = refl
+
+  few_short : (v : Value) → is_short_enough v ≡ true → has_few_digits v ≡ true
+  few_short (values.Raw os) h = h
+  few_short (values.Bytes os) h = h
+  few_short _ h = refl
+
+  has_kind : (v : Value) (o : Option Kind) → option_map_or (is_of_kind v) o false ≡ true → is_some o ≡ true
+  has_kind v None h = cc
+  has_kind v (Some k) h = refl
+
+  has_values : (id : AttrId) (v : Value) → is_container id ≡ false → option_map_or (is_of_kind v) (kind_of id dictionary) false ≡ true → (false || (not (is_container id) && is_some (kind_of id dictionary))) ≡ true
+  has_values id v values h = rw (values, has_kind v (kind_of id dictionary) h) refl
+
+  pub value_printed : (id : AttrId) (v : Value) → is_container id ≡ false → is_typed id v dictionary ≡ true → is_printed_by_type id v dictionary ≡ true
+  value_printed id (values.Text os) plain typed = refl
+  value_printed id (values.Bytes os) plain typed = refl
+  value_printed id (values.Raw os) plain typed = refl
+  value_printed id (values.Int n) plain typed = has_values id (values.Int n) plain typed
+  value_printed id (values.Signed z) plain typed = has_values id (values.Signed z) plain typed
+  value_printed id (values.Addr os) plain typed = has_values id (values.Addr os) plain typed
+  value_printed id (values.Ether os) plain typed = has_values id (values.Ether os) plain typed
+
+  matchable_fits : (p : Pair) → is_container p.id ≡ false → fits p dictionary ≡ true → is_matchable_by dictionary p ≡ true
   unfolding fits
-  matchable_fits p text h =
-      matchable_value p.id p.value (ap (λ k. is_alike k p.value) text ∙ alike_fits p.id p.value h)
-      (and_right (is_known p.id dictionary && is_typed p.id p.value dictionary) (is_within p.id p.value dictionary) h)
+  matchable_fits p values h =
+      let known_typed = and_left (is_known p.id dictionary && is_typed p.id p.value dictionary) (is_within p.id p.value dictionary) h in
+      let within = and_right (is_known p.id dictionary && is_typed p.id p.value dictionary) (is_within p.id p.value dictionary) h in
+      rw (few_short p.value (value_short p.id p.value within), value_printed p.id p.value values (and_right (is_known p.id dictionary) (is_typed p.id p.value dictionary) known_typed)) refl
 
   selected_id : (selection : Selection) (id : AttrId) (p : Pair) → is_selected selection id p ≡ true → has_id id p ≡ true
   selected_id selections.All id p h = h
@@ -164,20 +202,20 @@ module _ (dictionary : Dictionary) where
   first_passes f (p ∷ ps) h =
       passes_by f p ps (f p) refl (All-head (λ q. fits q dictionary ≡ true) p ps h) (first_passes f ps (All-tail (λ q. fits q dictionary ≡ true) p ps h))
 
-  matchable_of : (m : Matching) (o : Option Pair) → kinds.Text ≡ type_of dictionary m.id → IfSome o (λ p. (fits p dictionary ≡ true) × (is_selected m.selection m.id p ≡ true)) → option_map_or is_matchable o true ≡ true
-  matchable_of m None text h = refl
-  matchable_of m (Some p) text h =
+  matchable_of : (m : Matching) (o : Option Pair) → is_container m.id ≡ false → IfSome o (λ p. (fits p dictionary ≡ true) × (is_selected m.selection m.id p ≡ true)) → option_map_or (is_matchable_by dictionary) o true ≡ true
+  matchable_of m None values h = refl
+  matchable_of m (Some p) values h =
       let same : p.id ≡ m.id = same_id p.id m.id (selected_id m.selection m.id p h.1) in
-      matchable_fits p (text ∙ ap (type_of dictionary) (sym same)) h.0
+      matchable_fits p (ap (λ id. is_container id) same ∙ values) h.0
 
-  matchable_first : (s : State) (m : Matching) → StateFits dictionary s → kinds.Text ≡ type_of dictionary m.id → option_map_or is_matchable (instance_in m s) true ≡ true
-  matchable_first s m fit text = matchable_of m (instance_in m s) text (first_passes (is_selected m.selection m.id) (list_of m.list s) (fit m.list))
+  matchable_first : (s : State) (m : Matching) → StateFits dictionary s → is_container m.id ≡ false → option_map_or (is_matchable_by dictionary) (instance_in m s) true ≡ true
+  matchable_first s m fit values = matchable_of m (instance_in m s) values (first_passes (is_selected m.selection m.id) (list_of m.list s) (fit m.list))
 
   -- ---- conditions
 
   module _ (s : State) (fit : StateFits dictionary s) where
     abbrev IsTestable : Cond → Type 0
-    IsTestable c = cond_suits dictionary c ≡ true → comparable c s ≡ true
+    IsTestable c = cond_suits dictionary c ≡ true → comparable_by dictionary c s ≡ true
 
     abbrev Such : Type 0
     Such = (c : Cond) × IsTestable c
@@ -188,13 +226,13 @@ module _ (dictionary : Dictionary) where
     abbrev layer : Cond-F Such → Cond-F Cond
     layer = map-Cond Such Cond (λ e. e.0)
 
-    all_testable : (es : List Such) → list_all itself (map (cond_suits dictionary) (the_conds es)) ≡ true → list_all (λ (test : State → Bool). test s) (map comparable (the_conds es)) ≡ true
+    all_testable : (es : List Such) → list_all itself (map (cond_suits dictionary) (the_conds es)) ≡ true → list_all (λ (test : State → Bool). test s) (map (comparable_by dictionary) (the_conds es)) ≡ true
     all_testable [] h = refl
     all_testable (e ∷ es) h =
         let rest = list_all itself (map (cond_suits dictionary) (the_conds es)) in
         rw (e.1 (and_left (cond_suits dictionary e.0) rest h)) (all_testable es (and_right (cond_suits dictionary e.0) rest h))
 
-    layer_testable : (y : Cond-F Such) → cond_layer_suits dictionary (map-Cond Cond Bool (cond_suits dictionary) (layer y)) ≡ true → cond_comparable (map-Cond Cond (State → Bool) comparable (layer y)) s ≡ true
+    layer_testable : (y : Cond-F Such) → cond_layer_suits dictionary (map-Cond Cond Bool (cond_suits dictionary) (layer y)) ≡ true → cond_comparable_by dictionary (map-Cond Cond (State → Bool) (comparable_by dictionary) (layer y)) s ≡ true
     layer_testable (Any parts) h = all_testable parts h
     layer_testable (All parts) h = all_testable parts h
     layer_testable (Not part) h = part.1 h
@@ -202,16 +240,16 @@ module _ (dictionary : Dictionary) where
     layer_testable (Present list id) h = refl
     layer_testable (PresentSelected list id selection) h = refl
     layer_testable (CompareMeant c) h = refl
-    layer_testable (Match m) h = matchable_first s m fit (same_kinds kinds.Text (type_of dictionary m.id) h)
+    layer_testable (Match m) h = matchable_first s m fit (not-true (is_container m.id) h)
     layer_testable (Compare c) h = comparison_comparable s c fit h
     layer_testable (Captured group) h = refl
 
-    rolled : (x : Cond-F Cond) → (cond_layer_suits dictionary (map-Cond Cond Bool (cond_suits dictionary) x) ≡ true → cond_comparable (map-Cond Cond (State → Bool) comparable x) s ≡ true) → IsTestable (roll-Cond x)
-    unfolding cond_suits comparable
+    rolled : (x : Cond-F Cond) → (cond_layer_suits dictionary (map-Cond Cond Bool (cond_suits dictionary) x) ≡ true → cond_comparable_by dictionary (map-Cond Cond (State → Bool) (comparable_by dictionary) x) s ≡ true) → IsTestable (roll-Cond x)
+    unfolding cond_suits comparable_by
     rolled x h fitting =
-        ap (λ (t : State → Bool). t s) (fold-roll-Cond (State → Bool) cond_comparable x)
+        ap (λ (t : State → Bool). t s) (fold-roll-Cond (State → Bool) (cond_comparable_by dictionary) x)
         ∙ h (sym (fold-roll-Cond Bool (cond_layer_suits dictionary) x) ∙ fitting)
 
     -- each condition that fits can be tested
-    pub testable : (c : Cond) → cond_suits dictionary c ≡ true → comparable c s ≡ true
+    pub testable : (c : Cond) → cond_suits dictionary c ≡ true → comparable_by dictionary c s ≡ true
     testable = ind-Cond IsTestable (λ x y is. subst (λ z. IsTestable (roll-Cond z)) is (rolled (layer y) (layer_testable y)))

@@ -126,7 +126,7 @@ module _ (profile : Profile) (dictionary : Dictionary) where
   matched_or_one : (found : Reference) (o : Option Matcher) (p : Place) (next : Token × Place) (x y : Cond) (r s : Place)
       → MatchedOr profile dictionary found o p next x r → MatchedOr profile dictionary found o p next y s → (x ≡ y) × (r ≡ s)
   matched_or_one found None p next x y r s h g = compared_from_one found (relation_of next.0) p next.1 x y r s h g
-  matched_or_one found (Some m) p next x y r s h g = gives_one (Match (matching_of dictionary found m)) next.1 x y r s h.2 g.2
+  matched_or_one found (Some m) p next x y r s h g = gives_one (Match (matching_of dictionary found m)) next.1 x y r s h.1 g.1
 
   pub compared_one : (found : Reference) → IsOne (ComparedIs profile dictionary found)
   compared_one found p x y r s h g = matched_or_one found (matcher_in profile (next_token p).0) p (next_token p) x y r s h g

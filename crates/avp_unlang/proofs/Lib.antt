@@ -17,7 +17,6 @@ pub mod LinesOne
 pub mod MatchedGroups
 pub mod PartsOne
 pub mod PatternFree
-pub mod PatternTexts
 pub mod PlainPatterns
 pub mod PolicyPasses
 pub mod PolicyRoom
@@ -36,6 +35,7 @@ pub mod SmallKinds
 pub mod SpelledParts
 pub mod SpelledSuits
 pub mod StatementDepths
+pub mod StillComparable
 pub mod StatementsOne
 pub mod TokenLengths
 pub mod Truths

@@ -188,7 +188,7 @@ module _ (profile : Profile) (dictionary : Dictionary) where
 
   matched_or_keeps : (found : Reference) (o : Option Matcher) (p : Place) (next : Token × Place) → next.1.room ≡ p.room → (c : Cond) (rest : Place) → MatchedOr profile dictionary found o p next c rest → rest.room ≡ p.room
   matched_or_keeps found None p next same c rest h = compared_from_keeps found (relation_of next.0) p next.1 same c rest h
-  matched_or_keeps found (Some m) p next same c rest h = ap (λ (q : Place). q.room) h.2.1 ∙ same
+  matched_or_keeps found (Some m) p next same c rest h = ap (λ (q : Place). q.room) h.1.1 ∙ same
 
   compared_keeps : (found : Reference) → Keeps (ComparedIs profile dictionary found)
   compared_keeps found p c rest h = matched_or_keeps found (matcher_in profile (next_token p).0) p (next_token p) (next_room p) c rest h

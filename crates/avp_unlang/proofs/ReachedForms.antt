@@ -144,7 +144,7 @@ module _ (profile : Profile) (text : List ℕ) (own : Profile) (dictionary : Dic
 
   matched_or_kept : (found : Reference) (o : Option Matcher) (p : Place) (next : Token × Place) (c : Cond) (rest : Place) → MatchedOr own dictionary found o p next c rest → IsReached profile text p → IsReached profile text next.1 → IsReached profile text rest
   matched_or_kept found None p next c rest h reached after = compared_from_kept found (relation_of next.0) p next.1 c rest h reached after
-  matched_or_kept found (Some m) p next c rest h reached after = gives_kept profile text (Match (matching_of dictionary found m)) next.1 c rest h.2 after
+  matched_or_kept found (Some m) p next c rest h reached after = gives_kept profile text (Match (matching_of dictionary found m)) next.1 c rest h.1 after
 
   compared_kept : (found : Reference) → IsKept profile text (ComparedIs own dictionary found)
   compared_kept found p c rest h reached = matched_or_kept found (matcher_in own (next_token p).0) p (next_token p) c rest h reached (next_reached profile text p reached)
@@ -154,14 +154,13 @@ module _ (profile : Profile) (text : List ℕ) (own : Profile) (dictionary : Dic
   compared_from_placed found name (Some relation) p reached of_name left kind h =
       related_placed (is_by_meaning own (type_of dictionary found.target.named.id)) found.target name p reached of_name left kind h
 
-  matched_placed : (found : Reference) (m : Matcher) (at : ℕ) (p : Place) → LeavesToken profile at text → IsPlaced profile text (MatchedFails dictionary found m at) p
-  matched_placed found m at p of_at left kind (inl h) = told_at profile text at kinds.OtherType left kind other_type_small of_at h.1
-  matched_placed found m at p of_at left kind (inr h) = ((of_at.0, h.1 ∙ of_at.1), fault_small (pattern_of m) kind h.2)
+  matched_placed : (m : Matcher) (at : ℕ) (p : Place) → LeavesToken profile at text → IsPlaced profile text (MatchedFails m at) p
+  matched_placed m at p of_at left kind h = ((of_at.0, h.0 ∙ of_at.1), fault_small (pattern_of m) kind h.1)
 
   matched_or_placed : (found : Reference) (name at : ℕ) (o : Option Matcher) (token : Token) (p : Place) → IsReached profile text p → LeavesToken profile name text → LeavesToken profile at text
       → IsPlaced profile text (MatchedFailsOr own dictionary found name at o token) p
   matched_or_placed found name at None token p reached of_name of_at left kind h = compared_from_placed found name (relation_of token) p reached of_name left kind h
-  matched_or_placed found name at (Some m) token p reached of_name of_at left kind h = matched_placed found m at p of_at left kind h
+  matched_or_placed found name at (Some m) token p reached of_name of_at left kind h = matched_placed m at p of_at left kind h
 
   compared_placed : (found : Reference) (name : ℕ) (p : Place) → IsReached profile text p → LeavesToken profile name text → IsPlaced profile text (ComparedFails own dictionary found name) p
   compared_placed found name p reached of_name =

@@ -175,17 +175,13 @@ module _ (profile : Profile) (dictionary : Dictionary) where
   fault_once w (kinds.Pattern fault) _ f g = absurd g
   fault_once w _ more f g = absurd f
 
-  matched_settles : (found : Reference) (m : Matcher) (at : ℕ) (p : Place) → SettlesAt (MatchedBy dictionary found m) (MatchedFails dictionary found m at) p
+  matched_settles : (found : Reference) (m : Matcher) (at : ℕ) (p : Place) → SettlesAt (MatchedBy dictionary found m) (MatchedFails m at) p
   matched_settles found m at p = record { apart = apart; once = once } where
-    apart : (c : Cond) (rest : Place) (left : ℕ) (kind : PolicyKind) → MatchedBy dictionary found m p c rest → MatchedFails dictionary found m at p left kind → ⊥
-    apart c rest left kind h (inl f) = f.0 h.0
-    apart c rest left kind h (inr f) = fault_apart (pattern_of m) kind h.1 f.2
+    apart : (c : Cond) (rest : Place) (left : ℕ) (kind : PolicyKind) → MatchedBy dictionary found m p c rest → MatchedFails m at p left kind → ⊥
+    apart c rest left kind h f = fault_apart (pattern_of m) kind h.0 f.1
 
-    once : (left other : ℕ) (kind more : PolicyKind) → MatchedFails dictionary found m at p left kind → MatchedFails dictionary found m at p other more → AreSame left kind other more
-    once left other kind more (inl f) (inl g) = at_once at kinds.OtherType left other kind more f.1 g.1
-    once left other kind more (inl f) (inr g) = absurd (f.0 g.0)
-    once left other kind more (inr f) (inl g) = absurd (g.0 f.0)
-    once left other kind more (inr f) (inr g) = (f.1 ∙ sym g.1, fault_once (pattern_of m) kind more f.2 g.2)
+    once : (left other : ℕ) (kind more : PolicyKind) → MatchedFails m at p left kind → MatchedFails m at p other more → AreSame left kind other more
+    once left other kind more f g = (f.0 ∙ sym g.0, fault_once (pattern_of m) kind more f.1 g.1)
 
   -- ---- references
 

@@ -53,7 +53,7 @@ module _ (profile : Profile) (dictionary : Dictionary) {X : Type 0} (r : Result 
         (subst (λ l. IfErr r (Tells (MatchedFailsOr profile dictionary found name l o token mid))) place h))
 
     -- a comparison with a pattern
-    pub matched_tells : (m : Matcher) (at : ℕ) → at ≡ left_at p → matcher_in profile token ≡ Some m → IfErr r (Tells (MatchedFails dictionary found m at mid)) → IfErr r (Tells (ComparedFails profile dictionary found name p))
+    pub matched_tells : (m : Matcher) (at : ℕ) → at ≡ left_at p → matcher_in profile token ≡ Some m → IfErr r (Tells (MatchedFails m at mid)) → IfErr r (Tells (ComparedFails profile dictionary found name p))
     matched_tells m at place is h = or_tells (Some m) at place is h
 
     -- what follows an operator that compares

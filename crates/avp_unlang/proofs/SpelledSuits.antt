@@ -1,10 +1,11 @@
 -- A policy that was read suits the dictionary, if names stand for known ids.
-use Rattle.std.proofs.Common.{◌≡◌, ℕ, zero, suc, Bool, true, false, ◌&&◌, List, [], ◌∷◌, map, Option, Some, None, refl, sym, ap, ap₂, subst, ◌∙◌}
+use Rattle.std.proofs.Common.{◌≡◌, ℕ, zero, suc, Bool, true, false, not, if◌then◌else◌, ◌&&◌, List, [], ◌∷◌, map, Option, Some, None, refl, sym, ap, ap₂, subst, ◌∙◌}
 use Rattle.std.proofs.lemmas.Bool.{and_parts}
 use Rattle.std.specs.Option.{option_and_then, option_map}
 use Rattle.std.specs.Prelude.{IfSome, codes}
 use Rattle.avp_lists.specs.declared.pairs.AttrId.{AttrId}
 use Rattle.avp_lists.specs.declared.lists.List.{List as Name}
+use Rattle.avp_lists.specs.declared.lists.List.TheVariants as lists
 use Rattle.avp_dict.specs.Dictionary.{Dictionary}
 use Rattle.avp_dict.specs.Soundness.{IsSound}
 use Rattle.avp_lists.specs.declared.tags.Selection.{Selection}
@@ -42,10 +43,11 @@ use Rattle.avp_unlang.specs.declared.tree.Statement.TheFolds.{fold-roll-Statemen
 use Rattle.avp_unlang.specs.declared.tree.Statement.TheOpen as layer
 use Rattle.avp_unlang.specs.declared.tree.Statement.TheVariants.{Update, If, Transaction, Word, rolls-Update, rolls-If, rolls-Transaction, rolls-Word}
 use Rattle.avp_unlang.specs.Conditions.{relation_of, plain_octets, ComparandIs, ComparandOf, comparison_of, ComparedFrom, ComparedIs, MatchedOr, RelatedBy, WordFrom, is_by_meaning, matcher_in, matching_of, meant_comparison, present_of, any_of, all_of, Both, Either, Closed, OperandFrom, Within}
-use Rattle.avp_unlang.specs.References.{reference_in, reference_to, target_in, type_of}
+use Rattle.avp_unlang.specs.References.{readable, reference_in, reference_to, target_in, type_of, unless_container}
 use Rattle.avp_unlang.specs.Resolutions.{line_suits, literal_fits}
 use Rattle.avp_unlang.specs.Suiting.{branch_layer_suits, branches_suit, else_suits, branch_suits, comparand_suits, comparison_suits, cond_layer_suits, cond_suits, itself, policy_suits, same_kind, statement_layer_suits, statement_suits}
 use Rattle.avp_dict.specs.Limits.{is_known}
+use Rattle.avp_dict.specs.Sent.{is_container}
 use Rattle.avp_dict.specs.declared.entries.Kind.{Kind}
 use Rattle.avp_dict.specs.declared.entries.Kind.TheVariants as kinds
 use Rattle.std.specs.List.{list_all}
@@ -196,7 +198,7 @@ module _ (profile : Profile) (dictionary : Dictionary) (sound : IsSound dictiona
   fits_PresentSelected list id selection =
       ap (cond_suits dictionary) (sym (rolls-PresentSelected list id selection)) ∙ fold-roll-Cond Bool (cond_layer_suits dictionary) (open_cond.PresentSelected list id selection)
 
-  fits_Match : (x : Matching) → cond_suits dictionary (Match x) ≡ same_kind kinds.Text (type_of dictionary x.id)
+  fits_Match : (x : Matching) → cond_suits dictionary (Match x) ≡ not (is_container x.id)
   unfolding cond_suits
   fits_Match x = ap (cond_suits dictionary) (sym (rolls-Match x)) ∙ fold-roll-Cond Bool (cond_layer_suits dictionary) (open_cond.Match x)
 
@@ -260,16 +262,29 @@ module _ (profile : Profile) (dictionary : Dictionary) (sound : IsSound dictiona
   compared_from_fits found (Some relation) p after c rest h =
       related_fits (is_by_meaning profile (type_of dictionary found.target.named.id)) found relation after c rest h
 
-  matched_or_fits : (found : Reference) (o : Option Matcher) (p : Place) (next : Token × Place) (c : Cond) (rest : Place) → MatchedOr profile dictionary found o p next c rest → cond_suits dictionary c ≡ true
-  matched_or_fits found None p next c rest h = compared_from_fits found (relation_of next.0) p next.1 c rest h
-  matched_or_fits found (Some m) p next c rest h = ap (cond_suits dictionary) h.2.0 ∙ fits_Match (matching_of dictionary found m) ∙ ap (same_kind kinds.Text) h.0
+  -- a word that refers to values names no container
+  unless_holds : (r : Reference) (b : Bool) → is_container r.target.named.id ≡ b → (found : Reference) → (if b then None else Some r) ≡ Some found → is_container found.target.named.id ≡ false
+  unless_holds r true is found e = absurd cc
+  unless_holds r false is found e = subst (λ (x : Reference). is_container x.target.named.id ≡ false) (some_is r found e) is
 
-  compared_fits : (found : Reference) → Suits (cond_suits dictionary) (ComparedIs profile dictionary found)
-  compared_fits found p c rest h = matched_or_fits found (matcher_in profile (next_token p).0) p (next_token p) c rest h
+  no_container : (o : Option Reference) (found : Reference) → option_and_then unless_container o ≡ Some found → is_container found.target.named.id ≡ false
+  no_container None found e = absurd cc
+  no_container (Some r) found e = unless_holds r (is_container r.target.named.id) refl found e
+
+  readable_values : (word : List ℕ) (found : Reference) → readable profile dictionary word ≡ Some found → is_container found.target.named.id ≡ false
+  unfolding readable
+  readable_values word found e = no_container (reference_in profile dictionary lists.Request word) found e
+
+  matched_or_fits : (found : Reference) → is_container found.target.named.id ≡ false → (o : Option Matcher) (p : Place) (next : Token × Place) (c : Cond) (rest : Place) → MatchedOr profile dictionary found o p next c rest → cond_suits dictionary c ≡ true
+  matched_or_fits found values None p next c rest h = compared_from_fits found (relation_of next.0) p next.1 c rest h
+  matched_or_fits found values (Some m) p next c rest h = ap (cond_suits dictionary) h.1.0 ∙ fits_Match (matching_of dictionary found m) ∙ ap not values
+
+  compared_fits : (found : Reference) → is_container found.target.named.id ≡ false → Suits (cond_suits dictionary) (ComparedIs profile dictionary found)
+  compared_fits found values p c rest h = matched_or_fits found values (matcher_in profile (next_token p).0) p (next_token p) c rest h
 
   word_fits : (o : Option Code) (word : List ℕ) → Suits (cond_suits dictionary) (WordFrom profile dictionary o word)
   word_fits (Some code) word p c rest h = ap (cond_suits dictionary) h.0 ∙ fits_Last code
-  word_fits None word p c rest h = compared_fits h.0 p c rest h.2
+  word_fits None word p c rest h = compared_fits h.0 (readable_values word h.0 h.1) p c rest h.2
 
   both_fit : (form : Form Place Cond) → Suits (cond_suits dictionary) form → Suits (cond_suits dictionary) (Both form)
   both_fit form each p c rest h =
@@ -285,7 +300,7 @@ module _ (profile : Profile) (dictionary : Dictionary) (sound : IsSound dictiona
   operand_fits : (inner : Form Place Cond) → Suits (cond_suits dictionary) inner → (t : Token) → Suits (cond_suits dictionary) (OperandFrom profile dictionary inner t)
   operand_fits inner each (token.Operator sign.Not) p c rest h = ap (cond_suits dictionary) h.3.0 ∙ fits_Not h.0 ∙ each p h.0 h.1 h.2
   operand_fits inner each (token.Operator sign.Open) p c rest h = closed_fits inner each p c rest h
-  operand_fits inner each (token.Operator sign.Reference) p c rest h = compared_fits h.0 h.1 c rest h.3
+  operand_fits inner each (token.Operator sign.Reference) p c rest h = compared_fits h.0 (readable_values h.2.0 h.0 h.2.2) h.1 c rest h.3
   operand_fits inner each (token.Word word) p c rest h = word_fits (code_named word) word p c rest h
   operand_fits inner each (token.Quoted quote.Double text) p c rest h =
       let group = mapped Captured (group_in profile text) c h.0 in

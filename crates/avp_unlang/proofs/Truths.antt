@@ -9,11 +9,11 @@ use Rattle.avp_lists.specs.declared.pairs.AttrId.{AttrId}
 use Rattle.avp_lists.specs.declared.pairs.Pair.{Pair}
 use Rattle.avp_lists.specs.declared.lists.List.{List as Name}
 use Rattle.avp_lists.specs.declared.lists.State.{State}
-use Rattle.avp_unlang.specs.Truth.{Test, cond_comparable, cond_truth_with, comparable, never_matched, truth_by, is_comparable, is_met, is_met_by_meaning, same_code, truth}
+use Rattle.avp_unlang.specs.Truth.{Test, cond_comparable, cond_comparable_by, cond_truth_with, comparable, comparable_by, never_matched, truth_by, is_comparable, is_met, is_met_by_meaning, same_code, truth}
 use Rattle.std.specs.Option.{option_map_or}
 use Rattle.avp_dict.specs.Dictionary.{Dictionary}
 use Rattle.avp_patterns.specs.Patterns.{Written}
-use Rattle.avp_unlang.specs.PatternTruth.{instance_in, is_matchable, is_matched, pattern_in}
+use Rattle.avp_unlang.specs.PatternTruth.{instance_in, is_matchable_by, is_matched, pattern_in}
 use Rattle.avp_unlang.specs.PolicyPatterns.{cond_layer_passes, cond_patterns_pass, passes}
 use Rattle.avp_unlang.specs.declared.codes.Code.{Code}
 use Rattle.avp_unlang.specs.declared.tree.Comparison.{Comparison}
@@ -185,9 +185,34 @@ pub comparable_compare : (k : Comparison) (s : State) → comparable (Compare k)
 unfolding comparable
 comparable_compare k s = ap (λ x. comparable x s) (sym (rolls-Compare k)) ∙ ap (λ (t : State → Bool). t s) (fold-roll-Cond (State → Bool) cond_comparable (layer.Compare k))
 
-pub comparable_match : (m : Matching) (s : State) → comparable (Match m) s ≡ option_map_or is_matchable (instance_in m s) true
-unfolding comparable
-comparable_match m s = ap (λ x. comparable x s) (sym (rolls-Match m)) ∙ ap (λ (t : State → Bool). t s) (fold-roll-Cond (State → Bool) cond_comparable (layer.Match m))
+-- the same by a dictionary
+module _ (dictionary : Dictionary) where
+  pub comparable_by_any : (cs : List Cond) (s : State) → comparable_by dictionary (Any cs) s ≡ list_all (λ cond. comparable_by dictionary cond s) cs
+  unfolding comparable_by
+  comparable_by_any cs s =
+      ap (λ k. comparable_by dictionary k s) (sym (rolls-Any cs)) ∙ ap (λ (t : State → Bool). t s) (fold-roll-Cond (State → Bool) (cond_comparable_by dictionary) (layer.Any cs))
+      ∙ all_mapped (comparable_by dictionary) (λ (t : State → Bool). t s) cs
+
+  pub comparable_by_all : (cs : List Cond) (s : State) → comparable_by dictionary (All cs) s ≡ list_all (λ cond. comparable_by dictionary cond s) cs
+  unfolding comparable_by
+  comparable_by_all cs s =
+      ap (λ k. comparable_by dictionary k s) (sym (rolls-All cs)) ∙ ap (λ (t : State → Bool). t s) (fold-roll-Cond (State → Bool) (cond_comparable_by dictionary) (layer.All cs))
+      ∙ all_mapped (comparable_by dictionary) (λ (t : State → Bool). t s) cs
+
+  pub comparable_by_not : (d : Cond) (s : State) → comparable_by dictionary (Not d) s ≡ comparable_by dictionary d s
+  unfolding comparable_by
+  comparable_by_not d s =
+      ap (λ k. comparable_by dictionary k s) (sym (rolls-Not d)) ∙ ap (λ (t : State → Bool). t s) (fold-roll-Cond (State → Bool) (cond_comparable_by dictionary) (layer.Not d))
+
+  pub comparable_by_compare : (k : Comparison) (s : State) → comparable_by dictionary (Compare k) s ≡ is_comparable k s
+  unfolding comparable_by
+  comparable_by_compare k s =
+      ap (λ x. comparable_by dictionary x s) (sym (rolls-Compare k)) ∙ ap (λ (t : State → Bool). t s) (fold-roll-Cond (State → Bool) (cond_comparable_by dictionary) (layer.Compare k))
+
+  pub comparable_by_match : (m : Matching) (s : State) → comparable_by dictionary (Match m) s ≡ option_map_or (is_matchable_by dictionary) (instance_in m s) true
+  unfolding comparable_by
+  comparable_by_match m s =
+      ap (λ x. comparable_by dictionary x s) (sym (rolls-Match m)) ∙ ap (λ (t : State → Bool). t s) (fold-roll-Cond (State → Bool) (cond_comparable_by dictionary) (layer.Match m))
 
 -- ---- the patterns of each kind
 

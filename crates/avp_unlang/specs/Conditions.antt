@@ -214,11 +214,10 @@ matching_of dictionary found m = record {
   flags = m.flags;
 }
 
--- a reference to strings may be compared with what is a pattern
+-- values of any type may be compared with what is a pattern
 abbrev pub MatchedBy : Dictionary → Reference → Matcher → Form Place Cond
 MatchedBy dictionary found m p c rest =
-    (type_of dictionary found.target.named.id ≡ kinds.Text) × IsPattern (pattern_of m)
-    × Gives (Match (matching_of dictionary found m)) p c rest
+    IsPattern (pattern_of m) × Gives (Match (matching_of dictionary found m)) p c rest
 
 -- ---- references
 

@@ -3,7 +3,6 @@ use Rattle.std.specs.Prelude.{◌≡◌, ◌≢◌, ◌⊎◌, ℕ, zero, suc, B
 use Rattle.std.specs.Option.{unwrap_or}
 use Rattle.avp_dict.specs.Dictionary.{Dictionary}
 use Rattle.avp_dict.specs.Quotes.{single_quoted_octets}
-use Rattle.avp_dict.specs.declared.entries.Kind.TheVariants as types
 use Rattle.avp_dict.specs.declared.value.quotes.QuoteMark.TheVariants as quote
 use Rattle.avp_forms.specs.declared.profiles.Profile.{Profile}
 use Rattle.avp_forms.specs.declared.profiles.Profile.TheVariants.{Wider}
@@ -99,13 +98,9 @@ IsPatternFault text (kinds.Pattern fault) =
     (fault ≢ pattern.TooLarge) × (fault ≢ pattern.Memory) × IsRefused text fault
 IsPatternFault text _ = ⊥
 
--- strings alone are compared with a pattern, whose token begins here
-abbrev pub MatchedFails : Dictionary → Reference → Matcher → ℕ → Failing Place
-MatchedFails dictionary found m begin p left kind =
-    ((type_of dictionary found.target.named.id ≢ types.Text)
-    × Refused begin kinds.OtherType p left kind)
-    ⊎ ((type_of dictionary found.target.named.id ≡ types.Text) × (left ≡ begin)
-    × IsPatternFault (pattern_of m) kind)
+-- what is no pattern is refused at its token, which begins here
+abbrev pub MatchedFails : Matcher → ℕ → Failing Place
+MatchedFails m begin p left kind = (left ≡ begin) × IsPatternFault (pattern_of m) kind
 
 -- ---- references
 
@@ -120,7 +115,7 @@ abbrev pub MatchedFailsOr : Profile → Dictionary → Reference → ℕ → ℕ
 MatchedFailsOr profile dictionary found name at None token after left kind =
     ComparedFailsFrom profile dictionary found name (relation_of token) after left kind
 MatchedFailsOr profile dictionary found name at (Some m) token after left kind =
-    MatchedFails dictionary found m at after left kind
+    MatchedFails m at after left kind
 
 -- after a reference, whose word begins at name
 abbrev pub ComparedFails : Profile → Dictionary → Reference → ℕ → Failing Place

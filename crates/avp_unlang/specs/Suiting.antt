@@ -1,7 +1,8 @@
 -- When a policy suits a dictionary: its attributes are known, its literals fit, and what it compares is of one type.
-use Rattle.std.specs.Prelude.{ℕ, Bool, true, false, ◌&&◌, List, Option, Some, None}
+use Rattle.std.specs.Prelude.{ℕ, Bool, true, false, not, ◌&&◌, List, Option, Some, None}
 use Rattle.std.specs.List.{list_all}
 use Rattle.avp_dict.specs.Limits.{fits}
+use Rattle.avp_dict.specs.Sent.{is_container}
 use Rattle.avp_dict.specs.declared.entries.Kind.{Kind}
 use Rattle.avp_dict.specs.declared.entries.Kind.TheVariants as kinds
 use Rattle.avp_dict.specs.Dictionary.{Dictionary}
@@ -56,8 +57,7 @@ cond_layer_suits dictionary (Present list id) = true
 cond_layer_suits dictionary (PresentSelected list id selection) = true
 cond_layer_suits dictionary (Compare comparison) = comparison_suits dictionary comparison
 cond_layer_suits dictionary (CompareMeant comparison) = true
-cond_layer_suits dictionary (Match matching) =
-    same_kind kinds.Text (type_of dictionary matching.id)
+cond_layer_suits dictionary (Match matching) = not (is_container matching.id)
 cond_layer_suits dictionary (Captured group) = true
 
 unfoldable pub cond_suits : Dictionary → Cond → Bool

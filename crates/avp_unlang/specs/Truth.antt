@@ -24,7 +24,7 @@ use Rattle.avp_dict.specs.declared.forms.Form.{Form}
 use Rattle.avp_dict.specs.declared.forms.Form.TheVariants.{AsTyped}
 use Rattle.avp_forms.specs.Orders.{order_by_meaning}
 use Rattle.avp_dict.specs.Dictionary.{Dictionary}
-use Rattle.avp_unlang.specs.PatternTruth.{instance_in, is_matchable, is_matched}
+use Rattle.avp_unlang.specs.PatternTruth.{instance_in, is_matchable, is_matchable_by, is_matched}
 use Rattle.avp_unlang.specs.declared.codes.Code.{Code}
 use Rattle.avp_unlang.specs.declared.codes.Code.TheVariants as code
 use Rattle.avp_unlang.specs.declared.tree.Comparand.{Comparand}
@@ -210,3 +210,12 @@ cond_comparable (Captured group) s = true
 -- what a condition compares in a state is raw, or of the type that the condition keeps for it
 unfoldable pub comparable : Cond → State → Bool
 comparable = fold-Cond (State → Bool) cond_comparable
+
+abbrev pub cond_comparable_by : Dictionary → Cond-F (State → Bool) → State → Bool
+cond_comparable_by dictionary (Match matching) s =
+    option_map_or (is_matchable_by dictionary) (instance_in matching s) true
+cond_comparable_by dictionary layer s = cond_comparable layer s
+
+-- the same, where values of any type may be compared with a pattern, as the dictionary prints them
+unfoldable pub comparable_by : Dictionary → Cond → State → Bool
+comparable_by dictionary = fold-Cond (State → Bool) (cond_comparable_by dictionary)

@@ -29,7 +29,7 @@ pub enum PolicyKind {
     /// A size above 65535.
     #[error("policy too large")]
     TooLarge,
-    /// The attributes on both sides have values of different types, or a pattern is for an attribute that is no string.
+    /// The attributes on both sides have values of different types.
     #[error("types differ")]
     OtherType,
     /// What is written as a pattern is none, or is too large; the places are those in the text of the pattern.

@@ -29,7 +29,7 @@ fn matching_in(policy: &Policy) -> Option<&Matching> {
 }
 
 // A condition, the pattern that it compares with, and whether the comparison is `!~`.
-const READ: [(&str, &str, bool); 8] = [
+const READ: [(&str, &str, bool); 10] = [
     ("&User-Name =~ /^bob/", "^bob", false),
     ("User-Name !~ /^bob/", "^bob", true),
     ("&reply:Reply-Message =~ \t/a b#\"}/", "a b#\"}", false),
@@ -38,6 +38,8 @@ const READ: [(&str, &str, bool); 8] = [
     ("&User-Name=~/%/", "%", false),
     ("&User-Name =~ /^[0-9]{2,}$/", "^[0-9]{2,}$", false),
     ("&User-Name =~ /caf\u{e9}/", "caf\u{e9}", false),
+    ("&NAS-Port =~ /^1/", "^1", false),
+    ("&Class !~ /^0x/", "^0x", true),
 ];
 
 fn expect_matching(
@@ -92,7 +94,7 @@ fn flags(rt: HostRuntime) -> Result<(), Fail> {
 
 // A condition, the fault for which it is refused, and how many octets of the condition are before its place.
 const REFUSED: [(&str, PolicyKind, usize); 18] = [
-    ("&NAS-Port =~ /a/", PolicyKind::OtherType, 10),
+    ("&Vendor-Specific =~ /a/", PolicyKind::NotWritable, 1),
     ("&User-Name =~ /a", PolicyKind::Unreadable, 11),
     ("&User-Name =~ a", PolicyKind::Unreadable, 11),
     ("&User-Name =~ \"a\"", PolicyKind::Unreadable, 11),

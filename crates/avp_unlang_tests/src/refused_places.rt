@@ -141,16 +141,11 @@ fn values_that_are_too_long(rt: HostRuntime) -> Result<(), Fail> {
     expect_places(&rt, rt.alloc(), PolicyKind::TooLong, &TOO_LONG)
 }
 
-const OTHER_TYPE: [Row; 5] = [
+const OTHER_TYPE: [Row; 4] = [
     ("update { NAS-Port := &", "User-Name ~", 1),
     ("update { NAS-Port := &\n", "User-Name\n  Nosuch := 1 }", 2),
     ("if (&NAS-Port == &", "User-Name || Nosuch) { }", 1),
     ("if (User-Name != &", "NAS-Port ~", 1),
-    (
-        "# profile: wider\nif (&NAS-Port ",
-        "=~ /a(/ || Nosuch) { }",
-        2,
-    ),
 ];
 
 #[test]

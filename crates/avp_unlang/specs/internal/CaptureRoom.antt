@@ -1,17 +1,10 @@
 -- How many octets are compared with a pattern.
-use Rattle.std.specs.Prelude.{ℕ, ◌+◌, ◌*◌, Bool, false, nat_le, length}
+use Rattle.std.specs.Prelude.{Bool, ◌&&◌}
 use Rattle.avp_lists.specs.declared.pairs.Pair.{Pair}
-use Rattle.avp_lists.specs.declared.pairs.Value.TheVariants.{Raw, Text}
-use Rattle.avp_dict.specs.Limits.{max_long_octets}
+use Rattle.avp_dict.specs.Dictionary.{Dictionary}
+use Rattle.avp_forms.specs.Expansions.{is_printed_by_type, is_short_enough}
 
--- `0x` and two digits for each octet of the longest value
-abbrev pub max_matched : ℕ
-max_matched = 2 + 2 * max_long_octets
-
--- a string or raw octets, of which there are no more than an attribute may have
-abbrev pub is_keepable : Pair → Bool
-is_keepable pair = elim pair.value [
-  | Text os ↦ nat_le (length os) max_long_octets
-  | Raw os ↦ nat_le (length os) max_long_octets
-  | _ ↦ false
-]
+-- what is put in for an instance is of its type, and has no more octets than there is room for
+abbrev pub is_keepable : Dictionary → Pair → Bool
+is_keepable dictionary pair =
+    is_short_enough pair.value && is_printed_by_type pair.id pair.value dictionary

@@ -1,17 +1,17 @@
 //! What comparisons with patterns capture in a run.
 
 ghost use Rattle.std.specs.Prelude.{◌≡◌, ◌≤◌, All, IfOk, IsTrue, false, length, true, vec_capacity};
+ghost use Rattle.avp_forms.specs.Expansions.{max_expansion};
 ghost use Rattle.avp_patterns.specs.Matching.{IsWithin};
 ghost use Rattle.avp_unlang.specs.Captures.{captured, no_captures, texts_at};
-ghost use Rattle.avp_unlang.specs.internal.CaptureRoom.{max_matched};
 
 use crate::meaning::matching::MAX_OCTETS;
 use avp_patterns::MAX_GROUPS;
 use std::alloc::{AllocError, Global};
 use std::marker::Model;
 
-// The most octets that are compared with a pattern: `0x` and two digits for each octet of the longest value.
-const MAX_MATCHED: usize = 2 + 2 * MAX_OCTETS;
+// The most octets that are put in for a value: `0x` and two digits for each octet of the longest one.
+const MAX_EXPANSION: usize = 2 + 2 * MAX_OCTETS;
 
 /// What the last comparison with a pattern captured in a run, seen by contracts as the octets of each group. Where it is
 /// made to keep what comparisons capture, it has the memory for any of them from the first on.
@@ -37,14 +37,14 @@ impl Model for Captured {
     ghost use Rattle.std.specs.Prelude.{◌≤◌, All, IsTrue, vec_capacity};
     ghost use Rattle.avp_patterns.specs.Matching.{IsWithin};
     ghost use Rattle.avp_unlang.specs.Captures.{Kept, texts_at};
-    ghost use Rattle.avp_unlang.specs.internal.CaptureRoom.{max_matched};
+    ghost use Rattle.avp_forms.specs.Expansions.{max_expansion};
 
     ghost Value = { Kept };
 
     ghost view = { λ c. record { keeps = c.keeps; captures = texts_at c.octets.items c.groups } };
 
     ghost invariant = { λ c. All (IsWithin c.octets.items) c.groups
-        × (IsTrue c.keeps → max_matched ≤ vec_capacity c.octets) };
+        × (IsTrue c.keeps → max_expansion ≤ vec_capacity c.octets) };
 }
 
 // These octets in place of those that were there.
@@ -64,7 +64,7 @@ impl Captured {
     {
         Ok(Captured {
             keeps: true,
-            octets: Vec::with_capacity(alloc, MAX_MATCHED)?,
+            octets: Vec::with_capacity(alloc, MAX_EXPANSION)?,
             groups: [None; MAX_GROUPS],
         })
     }
@@ -111,7 +111,7 @@ impl Captured {
     pub(crate) fn keep(&mut self, octets: &[u8], groups: [Option<(usize, usize)>; MAX_GROUPS])
         requires keeps { IsTrue self.old.keeps }
         requires within { All (IsWithin octets.now) groups }
-        requires length { length octets.now ≤ max_matched }
+        requires length { length octets.now ≤ max_expansion }
         ensures { self.new ≡ record self.old { captures = texts_at octets.now groups } }
     {
         refill(&mut self.octets, octets);

@@ -4,17 +4,17 @@ ghost use Rattle.std.specs.Prelude.{◌≡◌, ◌≤◌, IsTrue, length, map, t
 ghost use Rattle.std.specs.List.{list_all};
 ghost use Rattle.std.specs.Option.{option_map_or};
 ghost use Rattle.avp_lists.specs.History.{present};
-ghost use Rattle.avp_dict.specs.Dictionary.{Dictionary as TheDictionary};
 ghost use Rattle.avp_dict.specs.Limits.{max_long_octets};
 ghost use Rattle.avp_dict.specs.Printing.{hexadecimal};
+ghost use Rattle.avp_forms.specs.Expansions.{HasShortNames, max_expansion};
 ghost use Rattle.avp_patterns.specs.Matching.{matches};
 ghost use Rattle.avp_unlang.specs.Captures.{captures_after, captures_in};
 ghost use Rattle.avp_unlang.specs.Evaluations.{all_evaluated, any_evaluated, decided, evaluated};
 ghost use Rattle.avp_unlang.specs.PatternTruth.{instance_in, is_matched, pattern_in};
 ghost use Rattle.avp_unlang.specs.PolicyPatterns.{cond_patterns_pass, is_among};
 ghost use Rattle.avp_unlang.specs.Resolutions.{StateFits, meaning_put};
-ghost use Rattle.avp_unlang.specs.Truth.{comparable};
-ghost use Rattle.avp_unlang.specs.internal.CaptureRoom.{is_keepable, max_matched};
+ghost use Rattle.avp_unlang.specs.Truth.{comparable_by};
+ghost use Rattle.avp_unlang.specs.internal.CaptureRoom.{is_keepable};
 
 use crate::codes::Code;
 use crate::meaning::captured::Captured;
@@ -23,7 +23,8 @@ use crate::meaning::matching::MAX_OCTETS;
 use crate::meaning::truth::{is_met, is_met_by_meaning, same_code};
 use crate::tree::{Cond, Matching};
 use avp_dict::Dictionary;
-use avp_lists::{Pair, Store, Value};
+use avp_forms::{Expansion, expansion_of};
+use avp_lists::{Pair, Store};
 
 // Whether a pattern matches some octets, and what it captures in them.
 #[tactic(auto, unfolding(crate::specs::Captures::captures_in))]
@@ -35,7 +36,7 @@ fn capture(
 ) -> bool
     requires among { IsTrue (is_among matchers.old (pattern_in matching.now)) }
     requires keeps { IsTrue captured.old.keeps }
-    requires length { length octets.now ≤ max_matched }
+    requires length { length octets.now ≤ max_expansion }
     ensures found { result ≡ matches (pattern_in matching.now) octets.now }
     ensures captures { captured.new.captures ≡ captures_in (pattern_in matching.now) octets.now }
     ensures kept { captured.new.keeps ≡ captured.old.keeps }
@@ -77,8 +78,16 @@ fn capture_digits(
     capture(matchers, matching, &digits[..end], captured)
 }
 
+// No name that is printed for a number is longer than a name may be.
+fn names_are_short(dictionary: &Dictionary)
+    ensures { HasShortNames dictionary.now }
+{
+    dictionary.names_are_short();
+}
+
 // The same of what an expansion puts in for an instance.
 fn capture_instance(
+    dictionary: &Dictionary,
     matchers: &mut Matchers<'_>,
     matching: &Matching,
     pair: &Pair,
@@ -86,24 +95,26 @@ fn capture_instance(
 ) -> bool
     requires among { IsTrue (is_among matchers.old (pattern_in matching.now)) }
     requires keeps { IsTrue captured.old.keeps }
-    requires keepable { IsTrue (is_keepable pair.now) }
-    ensures found { (dictionary : TheDictionary)
-        → result ≡ matches (pattern_in matching.now) (meaning_put dictionary pair.now) }
-    ensures captures { (dictionary : TheDictionary) → captured.new.captures
-        ≡ captures_in (pattern_in matching.now) (meaning_put dictionary pair.now) }
+    requires keepable { IsTrue (is_keepable dictionary.now pair.now) }
+    ensures found { result
+        ≡ matches (pattern_in matching.now) (meaning_put dictionary.now pair.now) }
+    ensures captures { captured.new.captures
+        ≡ captures_in (pattern_in matching.now) (meaning_put dictionary.now pair.now) }
     ensures kept { captured.new.keeps ≡ captured.old.keeps }
     ensures same { matchers.new ≡ matchers.old }
 {
-    match &pair.value {
-        Value::Text(octets) => capture(matchers, matching, octets.as_slice(), captured),
-        Value::Raw(octets) => capture_digits(matchers, matching, octets.as_slice(), captured),
-        _ => unreachable!(),
+    names_are_short(dictionary);
+    match expansion_of(dictionary, pair.id, &pair.value) {
+        Expansion::Octets(octets) => capture(matchers, matching, octets, captured),
+        Expansion::Digits(octets) => capture_digits(matchers, matching, octets, captured),
+        Expansion::Short(text) => capture(matchers, matching, text.as_slice(), captured),
     }
 }
 
 // Whether a comparison with a pattern is met, and what was captured after it.
 #[tactic(auto, unfolding(crate::specs::Captures::captures_after))]
 fn evaluate_match<S: Store>(
+    dictionary: &Dictionary,
     matchers: &mut Matchers<'_>,
     matching: &Matching,
     store: &S,
@@ -111,18 +122,21 @@ fn evaluate_match<S: Store>(
 ) -> bool
     requires among { IsTrue (is_among matchers.old (pattern_in matching.now)) }
     requires keeps { IsTrue captured.old.keeps }
-    requires keepable { IsTrue (option_map_or is_keepable
+    requires keepable { IsTrue (option_map_or (is_keepable dictionary.now)
         (instance_in matching.now (present (S.history store.now))) true) }
-    ensures found { (dictionary : TheDictionary)
-        → result ≡ is_matched dictionary matching.now (present (S.history store.now)) }
-    ensures captures { (dictionary : TheDictionary) → captured.new.captures ≡ captures_after
-        dictionary matching.now (present (S.history store.now)) captured.old.captures }
+    ensures found { result
+        ≡ is_matched dictionary.now matching.now (present (S.history store.now)) }
+    ensures captures { captured.new.captures ≡ captures_after dictionary.now matching.now
+        (present (S.history store.now)) captured.old.captures }
     ensures kept { captured.new.keeps ≡ captured.old.keeps }
     ensures same { matchers.new ≡ matchers.old }
 {
     match store.first_selected(matching.list, matching.id, matching.selection) {
         None => false,
-        Some(pair) => capture_instance(matchers, matching, pair, captured) != matching.negated,
+        Some(pair) => {
+            let matches = capture_instance(dictionary, matchers, matching, pair, captured);
+            matches != matching.negated
+        }
     }
 }
 
@@ -135,8 +149,8 @@ fn any_evaluated<S: Store>(
     matchers: &mut Matchers<'_>,
     captured: &mut Captured,
 ) -> bool
-    requires comparable { IsTrue (list_all (λ cond. comparable cond (present (S.history store.now)))
-        conds.now) }
+    requires comparable { IsTrue (list_all (λ cond. comparable_by dictionary.now cond
+        (present (S.history store.now))) conds.now) }
     requires patterns { IsTrue (list_all (cond_patterns_pass (is_among matchers.old)) conds.now) }
     requires keeps { IsTrue captured.old.keeps }
     requires store { StateFits dictionary.now (present (S.history store.now)) }
@@ -163,8 +177,8 @@ fn all_evaluated<S: Store>(
     matchers: &mut Matchers<'_>,
     captured: &mut Captured,
 ) -> bool
-    requires comparable { IsTrue (list_all (λ cond. comparable cond (present (S.history store.now)))
-        conds.now) }
+    requires comparable { IsTrue (list_all (λ cond. comparable_by dictionary.now cond
+        (present (S.history store.now))) conds.now) }
     requires patterns { IsTrue (list_all (cond_patterns_pass (is_among matchers.old)) conds.now) }
     requires keeps { IsTrue captured.old.keeps }
     requires store { StateFits dictionary.now (present (S.history store.now)) }
@@ -186,7 +200,7 @@ fn all_evaluated<S: Store>(
 /// its parts are evaluated from left to right, up to the one that decides. `dictionary` is the one by which the
 /// condition was read. No condition is refused for memory.
 #[cycle(evaluations)]
-#[tactic(auto, using(crate::proofs::EvaluatedConds::evaluated_any, crate::proofs::EvaluatedConds::evaluated_all, crate::proofs::EvaluatedConds::evaluated_not, crate::proofs::EvaluatedConds::evaluated_last, crate::proofs::EvaluatedConds::evaluated_present, crate::proofs::EvaluatedConds::evaluated_present_selected, crate::proofs::EvaluatedConds::evaluated_compare, crate::proofs::EvaluatedConds::evaluated_compare_meant, crate::proofs::EvaluatedConds::evaluated_captured, crate::proofs::Truths::comparable_any, crate::proofs::Truths::comparable_all, crate::proofs::Truths::comparable_not, crate::proofs::Truths::comparable_compare, crate::proofs::Truths::comparable_match, crate::proofs::Truths::passes_any, crate::proofs::Truths::passes_all, crate::proofs::Truths::passes_not, crate::proofs::Truths::passes_match))]
+#[tactic(auto, using(crate::proofs::EvaluatedConds::evaluated_any, crate::proofs::EvaluatedConds::evaluated_all, crate::proofs::EvaluatedConds::evaluated_not, crate::proofs::EvaluatedConds::evaluated_last, crate::proofs::EvaluatedConds::evaluated_present, crate::proofs::EvaluatedConds::evaluated_present_selected, crate::proofs::EvaluatedConds::evaluated_compare, crate::proofs::EvaluatedConds::evaluated_compare_meant, crate::proofs::EvaluatedConds::evaluated_captured, crate::proofs::Truths::comparable_by_any, crate::proofs::Truths::comparable_by_all, crate::proofs::Truths::comparable_by_not, crate::proofs::Truths::comparable_by_compare, crate::proofs::Truths::comparable_by_match, crate::proofs::Truths::passes_any, crate::proofs::Truths::passes_all, crate::proofs::Truths::passes_not, crate::proofs::Truths::passes_match))]
 pub fn evaluate<S: Store>(
     dictionary: &Dictionary,
     cond: &Cond,
@@ -195,7 +209,8 @@ pub fn evaluate<S: Store>(
     matchers: &mut Matchers<'_>,
     captured: &mut Captured,
 ) -> bool
-    requires comparable { IsTrue (comparable cond.now (present (S.history store.now))) }
+    requires comparable { IsTrue (comparable_by dictionary.now cond.now
+        (present (S.history store.now))) }
     requires patterns { IsTrue (cond_patterns_pass (is_among matchers.old) cond.now) }
     requires keeps { IsTrue captured.old.keeps }
     requires store { StateFits dictionary.now (present (S.history store.now)) }
@@ -233,7 +248,7 @@ pub fn evaluate<S: Store>(
         }
         Cond::Compare(comparison) => is_met(comparison, store),
         Cond::CompareMeant(comparison) => is_met_by_meaning(comparison, store),
-        Cond::Match(matching) => evaluate_match(matchers, matching, store, captured),
+        Cond::Match(matching) => evaluate_match(dictionary, matchers, matching, store, captured),
         Cond::Captured(group) => 0 < captured.group(*group).len(),
     }
 }

@@ -4,21 +4,21 @@ ghost use Rattle.std.specs.Prelude.{◌≡◌, ◌≤◌, IsTrue, length, true};
 ghost use Rattle.std.specs.List.{list_all, list_any};
 ghost use Rattle.std.specs.Option.{option_map_or};
 ghost use Rattle.avp_lists.specs.History.{present};
-ghost use Rattle.avp_dict.specs.Dictionary.{Dictionary as TheDictionary};
 ghost use Rattle.avp_dict.specs.Limits.{max_long_octets};
 ghost use Rattle.avp_dict.specs.Printing.{hexadecimal};
 ghost use Rattle.avp_patterns.specs.Matching.{matches};
-ghost use Rattle.avp_unlang.specs.PatternTruth.{instance_in, is_matchable, is_matched, pattern_in};
+ghost use Rattle.avp_unlang.specs.PatternTruth.{instance_in, is_matchable_by, is_matched, pattern_in};
 ghost use Rattle.avp_unlang.specs.PolicyPatterns.{cond_patterns_pass, is_among};
 ghost use Rattle.avp_unlang.specs.Resolutions.{meaning_put};
-ghost use Rattle.avp_unlang.specs.Truth.{comparable, truth_by};
+ghost use Rattle.avp_unlang.specs.Truth.{comparable_by, truth_by};
 
 use crate::codes::Code;
 use crate::meaning::matchers::Matchers;
 use crate::meaning::truth::{is_met, is_met_by_meaning, same_code};
 use crate::tree::{Cond, Matching};
 use avp_dict::Dictionary;
-use avp_lists::{Pair, Store, Value};
+use avp_forms::{Expansion, expansion_of};
+use avp_lists::{Pair, Store};
 use avp_patterns::PatternFlags;
 
 /// The most octets of an attribute.
@@ -46,32 +46,42 @@ fn matches_digits(
 }
 
 // Whether a pattern matches what an expansion puts in for an instance.
-fn matches_instance(matchers: &mut Matchers<'_>, matching: &Matching, pair: &Pair) -> bool
+fn matches_instance(
+    dictionary: &Dictionary,
+    matchers: &mut Matchers<'_>,
+    matching: &Matching,
+    pair: &Pair,
+) -> bool
     requires among { IsTrue (is_among matchers.old (pattern_in matching.now)) }
-    requires matchable { IsTrue (is_matchable pair.now) }
-    ensures found { (dictionary : TheDictionary)
-        → result ≡ matches (pattern_in matching.now) (meaning_put dictionary pair.now) }
+    requires matchable { IsTrue (is_matchable_by dictionary.now pair.now) }
+    ensures found { result
+        ≡ matches (pattern_in matching.now) (meaning_put dictionary.now pair.now) }
     ensures same { matchers.new ≡ matchers.old }
 {
     let text = matching.pattern.as_slice();
-    match &pair.value {
-        Value::Text(octets) => matchers.is_match(text, matching.flags, octets.as_slice()),
-        Value::Raw(octets) => matches_digits(matchers, text, matching.flags, octets.as_slice()),
-        _ => unreachable!(),
+    match expansion_of(dictionary, pair.id, &pair.value) {
+        Expansion::Octets(octets) => matchers.is_match(text, matching.flags, octets),
+        Expansion::Digits(octets) => matches_digits(matchers, text, matching.flags, octets),
+        Expansion::Short(short) => matchers.is_match(text, matching.flags, short.as_slice()),
     }
 }
 
-fn is_matched<S: Store>(matchers: &mut Matchers<'_>, matching: &Matching, store: &S) -> bool
+fn is_matched<S: Store>(
+    dictionary: &Dictionary,
+    matchers: &mut Matchers<'_>,
+    matching: &Matching,
+    store: &S,
+) -> bool
     requires among { IsTrue (is_among matchers.old (pattern_in matching.now)) }
-    requires matchable { IsTrue (option_map_or is_matchable
+    requires matchable { IsTrue (option_map_or (is_matchable_by dictionary.now)
         (instance_in matching.now (present (S.history store.now))) true) }
-    ensures found { (dictionary : TheDictionary)
-        → result ≡ is_matched dictionary matching.now (present (S.history store.now)) }
+    ensures found { result
+        ≡ is_matched dictionary.now matching.now (present (S.history store.now)) }
     ensures same { matchers.new ≡ matchers.old }
 {
     match store.first_selected(matching.list, matching.id, matching.selection) {
         None => false,
-        Some(pair) => matches_instance(matchers, matching, pair) != matching.negated,
+        Some(pair) => matches_instance(dictionary, matchers, matching, pair) != matching.negated,
     }
 }
 
@@ -83,8 +93,8 @@ fn any_holds_by<S: Store>(
     code: Code,
     matchers: &mut Matchers<'_>,
 ) -> bool
-    requires comparable { IsTrue (list_all (λ cond. comparable cond (present (S.history store.now)))
-        conds.now) }
+    requires comparable { IsTrue (list_all (λ cond. comparable_by dictionary.now cond
+        (present (S.history store.now))) conds.now) }
     requires patterns { IsTrue (list_all (cond_patterns_pass (is_among matchers.old)) conds.now) }
     ensures truth { result ≡ list_any (λ cond. truth_by dictionary.now cond
         (present (S.history store.now)) code) conds.now }
@@ -106,8 +116,8 @@ fn all_hold_by<S: Store>(
     code: Code,
     matchers: &mut Matchers<'_>,
 ) -> bool
-    requires comparable { IsTrue (list_all (λ cond. comparable cond (present (S.history store.now)))
-        conds.now) }
+    requires comparable { IsTrue (list_all (λ cond. comparable_by dictionary.now cond
+        (present (S.history store.now))) conds.now) }
     requires patterns { IsTrue (list_all (cond_patterns_pass (is_among matchers.old)) conds.now) }
     ensures truth { result ≡ list_all (λ cond. truth_by dictionary.now cond
         (present (S.history store.now)) code) conds.now }
@@ -125,7 +135,7 @@ fn all_hold_by<S: Store>(
 /// also where it compares with patterns. `dictionary` is the one by which the condition was read. What was captured
 /// counts as empty: a condition such as `"%{1}"` is false. No condition is refused for memory.
 #[cycle(matched)]
-#[tactic(auto, using(crate::proofs::Truths::truth_by_any, crate::proofs::Truths::truth_by_all, crate::proofs::Truths::truth_by_not, crate::proofs::Truths::truth_by_last, crate::proofs::Truths::truth_by_present, crate::proofs::Truths::truth_by_present_selected, crate::proofs::Truths::truth_by_compare, crate::proofs::Truths::truth_by_compare_meant, crate::proofs::Truths::truth_by_match, crate::proofs::Truths::truth_by_captured, crate::proofs::Truths::comparable_any, crate::proofs::Truths::comparable_all, crate::proofs::Truths::comparable_not, crate::proofs::Truths::comparable_compare, crate::proofs::Truths::comparable_match, crate::proofs::Truths::passes_any, crate::proofs::Truths::passes_all, crate::proofs::Truths::passes_not, crate::proofs::Truths::passes_match))]
+#[tactic(auto, using(crate::proofs::Truths::truth_by_any, crate::proofs::Truths::truth_by_all, crate::proofs::Truths::truth_by_not, crate::proofs::Truths::truth_by_last, crate::proofs::Truths::truth_by_present, crate::proofs::Truths::truth_by_present_selected, crate::proofs::Truths::truth_by_compare, crate::proofs::Truths::truth_by_compare_meant, crate::proofs::Truths::truth_by_match, crate::proofs::Truths::truth_by_captured, crate::proofs::Truths::comparable_by_any, crate::proofs::Truths::comparable_by_all, crate::proofs::Truths::comparable_by_not, crate::proofs::Truths::comparable_by_compare, crate::proofs::Truths::comparable_by_match, crate::proofs::Truths::passes_any, crate::proofs::Truths::passes_all, crate::proofs::Truths::passes_not, crate::proofs::Truths::passes_match))]
 pub fn holds_by<S: Store>(
     dictionary: &Dictionary,
     cond: &Cond,
@@ -133,7 +143,8 @@ pub fn holds_by<S: Store>(
     code: Code,
     matchers: &mut Matchers<'_>,
 ) -> bool
-    requires comparable { IsTrue (comparable cond.now (present (S.history store.now))) }
+    requires comparable { IsTrue (comparable_by dictionary.now cond.now
+        (present (S.history store.now))) }
     requires patterns { IsTrue (cond_patterns_pass (is_among matchers.old) cond.now) }
     ensures truth { result ≡ truth_by dictionary.now cond.now
         (present (S.history store.now)) code }
@@ -150,7 +161,7 @@ pub fn holds_by<S: Store>(
         }
         Cond::Compare(comparison) => is_met(comparison, store),
         Cond::CompareMeant(comparison) => is_met_by_meaning(comparison, store),
-        Cond::Match(matching) => is_matched(matchers, matching, store),
+        Cond::Match(matching) => is_matched(dictionary, matchers, matching, store),
         Cond::Captured(_) => false,
     }
 }

@@ -11,11 +11,11 @@ ghost use Rattle.avp_unlang.specs.declared.faults.PolicyKind.TheVariants.{Memory
 
 use crate::faults::{PolicyKind, Position, Refusal, refused_at};
 use crate::text::cursors::{Cursor, Read};
-use crate::text::references::{Reference, type_of};
+use crate::text::references::Reference;
 use crate::text::selecting::selection_of;
 use crate::text::tokens::{Matcher, Token};
 use crate::tree::{Cond, Matching};
-use avp_dict::{Dictionary, Kind};
+use avp_dict::Dictionary;
 use avp_forms::Profile;
 use avp_lists::Octets;
 use avp_patterns::{PatternFault, check_pattern};
@@ -95,12 +95,9 @@ pub(crate) fn matched<'a>(
 ) -> Read<'a, Cond>
     ensures read { Reads (MatchedBy dictionary.now found matcher.now after.entry) result }
     ensures refused { IfErr result (Tells
-        (MatchedFails dictionary.now found matcher.now position.left after.entry)) }
+        (MatchedFails matcher.now position.left after.entry)) }
     ensures shorter { IfOk result (λ x. length x.1.text ≤ length after.entry.text) }
 {
-    if type_of(dictionary, found.target.named.id) != Kind::Text {
-        return Err(refused_at(position, PolicyKind::OtherType));
-    }
     let text = pattern_text(alloc, matcher, position)?;
     let matching = Matching {
         list: found.list,

@@ -1,24 +1,24 @@
 use Rattle.std.proofs.Common.{rules, arith, ap, ap₂, sym, ◌∙◌, map}
 use Rattle.avp_lists.specs.History.{present}
 use Rattle.avp_unlang.specs.Evaluations.{all_evaluated, any_evaluated, decided, evaluated, negated}
-use Rattle.avp_unlang.specs.Truth.{comparable}
+use Rattle.avp_unlang.specs.Truth.{comparable_by}
 use Rattle.avp_unlang.specs.declared.tree.Cond.TheViews.{the_lemmas}
 use Rattle.avp_unlang.proofs.EvaluatedConds.{evaluated_all, evaluated_any, evaluated_match, evaluated_not}
 use Rattle.avp_unlang.proofs.KeptTexts.{first_keepable}
-use Rattle.avp_unlang.proofs.Truths.{comparable_all, comparable_any, comparable_match, comparable_not, passes_all, passes_any, passes_not}
+use Rattle.avp_unlang.proofs.Truths.{comparable_by_all, comparable_by_any, comparable_by_match, comparable_by_not, passes_all, passes_any, passes_not}
 use Rattle.avp_unlang.proofs.meaning.evaluating.+evaluations.Goals as goal
 
 pub evaluate-any_evaluated-requires : goal.evaluate-any_evaluated-requires
 evaluate-any_evaluated-requires g t c κs within =
-    (search (rules, the_lemmas), (search rules, (grind (arith, comparable_any), (grind (arith, passes_any), (search rules, search rules)))))
+    (search (rules, the_lemmas), (search rules, (grind (arith, comparable_by_any), (grind (arith, passes_any), (search rules, search rules)))))
 
 pub evaluate-all_evaluated-requires : goal.evaluate-all_evaluated-requires
 evaluate-all_evaluated-requires g t c κs within =
-    (search (rules, the_lemmas), (search rules, (grind (arith, comparable_all), (grind (arith, passes_all), (search rules, search rules)))))
+    (search (rules, the_lemmas), (search rules, (grind (arith, comparable_by_all), (grind (arith, passes_all), (search rules, search rules)))))
 
 pub evaluate-evaluate-requires : goal.evaluate-evaluate-requires
 evaluate-evaluate-requires g t c κs within =
-    (search (rules, the_lemmas), (search rules, (grind (arith, comparable_not), (grind (arith, passes_not), (search rules, search rules)))))
+    (search (rules, the_lemmas), (search rules, (grind (arith, comparable_by_not), (grind (arith, passes_not), (search rules, search rules)))))
 
 pub evaluate-returns-in-Any-clause-evaluated : goal.evaluate-returns-in-Any-clause-evaluated
 evaluate-returns-in-Any-clause-evaluated g t c =
@@ -50,12 +50,12 @@ pub evaluate-evaluate_match-requires-clause-keepable : goal.evaluate-evaluate_ma
 evaluate-evaluate_match-requires-clause-keepable g t c =
     let state = present (g.S.Store.history c.args.store.now) in
     first_keepable c.args.dictionary.now state c.in-Match.matching c.requires.store
-    (sym (comparable_match c.in-Match.matching state) ∙ sym (ap (λ x. comparable x state) c.in-Match.is) ∙ c.requires.comparable)
+    (sym (comparable_by_match c.args.dictionary.now c.in-Match.matching state) ∙ sym (ap (λ x. comparable_by c.args.dictionary.now x state) c.in-Match.is) ∙ c.requires.comparable)
 
 pub evaluate-returns-in-Match-clause-evaluated : goal.evaluate-returns-in-Match-clause-evaluated
 evaluate-returns-in-Match-clause-evaluated g t c =
     let state = present (g.S.Store.history c.args.store.now) in
     let d = c.args.dictionary.now in
     let captures = c.args.captured.now.captures in
-    ap₂ decided (c.evaluate_match.ensures.found d) (c.evaluate_match.ensures.captures d)
+    ap₂ decided c.evaluate_match.ensures.found c.evaluate_match.ensures.captures
     ∙ sym (ap (λ x. evaluated d x state c.args.code captures) c.in-Match.is ∙ evaluated_match d c.in-Match.matching state c.args.code captures)
