@@ -452,7 +452,6 @@ fn push_sentences(
         PolicyKind::NotWritable => push_not_writable(help, name_in(found)),
         PolicyKind::TooDeep => push_all(help, &["64 signs { ( and ! are open here already\n"]),
         PolicyKind::TooLarge => push_all(help, &["a policy has at most 65535 lines and words\n"]),
-        PolicyKind::OtherType if is_match(found) => push_no_text(help, name_in(context.name)),
         PolicyKind::OtherType => push_other_type(help, name_in(context.name), found),
         PolicyKind::Pattern(fault) => push_pattern_fault(help, fault),
         PolicyKind::Memory => Ok(()),
@@ -477,17 +476,6 @@ fn push_not_writable(help: &mut Vec<u8>, name: &str) -> Result<(), AllocError> {
             name,
             " is not written under this name\nwrite the name of what is in it, as \
             Cisco-AVPair for Vendor-Specific, or User-Password for Attr-2\n",
-        ],
-    )
-}
-
-fn push_no_text(help: &mut Vec<u8>, name: &str) -> Result<(), AllocError> {
-    push_all(
-        help,
-        &[
-            "a regular expression is for texts, and ",
-            name,
-            " is none\ncompare it with ==, < or >\n",
         ],
     )
 }

@@ -95,14 +95,6 @@ fn what_is_missing(rt: HostRuntime) -> Result<(), Fail> {
             "may be i, m or both"
         )?
     );
-    assert!(rt;
-        says(
-            rt.alloc(),
-            b"(&NAS-Port =~ /1/)",
-            "rate:2:15\n",
-            "and NAS-Port is none\n"
-        )?
-    );
     Ok(())
 }
 
