@@ -48,7 +48,12 @@ SHOWING = "{policy}\nupdate reply {{\n{lines}\n}}\n"
 OF_CLIENT = {"Operator-Name": "1example.com", "add_cui": "yes"}
 KEY = "changeme"
 # Those whose warnings are of nothing that these requests have.
-SURE = ("captures", "captured_by_the_last", "texts_of_absent", "either_of_two_texts", *REWRITING)
+SURE = (
+    "captures", "captured_by_the_last", "texts_of_absent", "either_of_two_texts", "long_texts", "in_octets", *REWRITING)
+# Those that the plain profile has, with octets in place of what they mean.
+PLAIN = ("in_octets", "texts_in_octets")
+# Those that are called where the reply is made.
+AFTER = ("handled_early",)
 HARDWARE = re.compile("[^0-9a-f]?".join(6 * ["([0-9a-f]{2})"]), re.I)
 GIVEN = re.compile(r"set by no line of the policy: &control:(\S+) for %\{(\w+):(.*)\}$", re.M)
 # As operators write them.
@@ -96,6 +101,9 @@ WRITTEN: Dict[str, str] = {
     "texts_of_absent": 'if ("%{Calling-Station-Id}" !~ /^00-11/) {\nupdate reply {\nReply-Message += "another"\n}\n}\n'
     'if (!("%{Calling-Station-Id}" =~ /aa/)) {\nupdate reply {\nReply-Message += "no aa"\n}\n}\n'
     'if ("%{Calling-Station-Id}" =~ /^(none)?$/) {\nupdate reply {\nReply-Message += "none"\n}\n}\n',
+    "values_of_any_type": 'if (!(&Class =~ /^0x0b/) && &NAS-Port =~ /^[12]$/m) {\nupdate reply {\n'
+    'Reply-Message += "port %{0}"\n}\n}\nif ("%{Service-Type}" =~ /^(Login|)/) {\nupdate reply {\nReply-Message += "to %{1}"\n'
+    '}\n}\nif (&Class !~ /^0x[0-9a-f]{2}$/m) {\nupdate reply {\nReply-Message += "a long class"\n}\n}\n',
     "code_of_an_update": 'if (noop) {\nupdate reply {\nReply-Message += "after an update"\n}\n}\n',
     "code_of_a_block": 'ok\nnoop\nif (&NAS-Port) {\nif (ok) {\nupdate reply {\nReply-Message += "the highest"\n}\n}\n'
     'else {\nreject\n}\n}\n',
@@ -119,6 +127,20 @@ WRITTEN: Dict[str, str] = {
     'if (!"%{%{Calling-Station-Id}:-}") {\nupdate reply {\nReply-Message += "nothing"\n}\n}\n'
     'if (!("%{%{Calling-Station-Id}:-%{Connect-Info}}" == "none")) {\nupdate reply {\nReply-Message += "not none"\n}\n}\n',
     "numbers_as_texts": 'update reply {\nReply-Message += &NAS-Port\nReply-Message += &Service-Type\n}\n',
+    "long_texts": 'update reply {\nReply-Message := "' + 260 * "a" + '"\nReply-Message += "' + 255 * "b"
+    + '%{User-Name}"\nClass := "' + 254 * "c" + '"\n}\n',
+    "a_line_that_fails": 'update reply {\nReply-Message := "before"\nClass := "0x0a%{Calling-Station-Id}"\n'
+    'Reply-Message += "behind"\n}\nupdate reply {\nReply-Message += "after"\n}\n',
+    "in_octets": 'update reply {\nTunnel-Type:1 := VLAN\nTunnel-Medium-Type:1 = IEEE-802\n'
+    'Tunnel-Private-Group-Id:1 := "13"\nTunnel-Type:2 += L2TP\nFramed-IPv6-Prefix := 2001:db8:1:2::/48\n'
+    'Login-IPv6-Host := 2001:db8::1\nFramed-Interface-Id := 1:2:3:4\n'
+    'Event-Timestamp := "Nov 24 2026 10:00:00 UTC"\n}\n',
+    "texts_in_octets": 'update reply {\nTunnel-Private-Group-Id := "v%{User-Name}"\n}\n',
+    "texts_with_tags": 'update reply {\nTunnel-Private-Group-Id:1 := "v%{User-Name}"\n'
+    'Tunnel-Private-Group-Id:2 := "p%{NAS-Port}"\nLogin-IPv6-Host := 2001:db8::1\n'
+    'Reply-Message := "%{reply:Login-IPv6-Host}"\n}\n',
+    "handled_early": 'update reply {\nReply-Message := "before"\n}\nif (&NAS-Port == 2) {\nhandled\n}\nupdate reply {\n'
+    'Reply-Message += "after"\n}\n',
     "one_in_another": 'deny_realms\nif (&Service-Type == Login-User && &NAS-Port <= 2) {\nservice\n}\n',
 }
 CONFIGURATION = """prefix = /usr
@@ -239,6 +261,8 @@ def showing() -> Dict[str, str]:
 
 
 def section_of(name: str) -> str:
+    if name in AFTER:
+        return "post-auth"
     return REWRITING[name].section if name in REWRITING else "authorize"
 
 
@@ -309,6 +333,8 @@ def imported(subject: Subject, folder: Path, dictionaries: Path, name: str) -> T
     words += ["--section", section_of(name)]
     if name in REWRITING:
         words.append("--stub-functions")
+    if name in PLAIN:
+        words.append("--papers")
     named = dictionary_words(dictionaries)
     ended = run([subject.driver("radpolicy_import"), *words, *named, folder], folder)
     return ended.errors.decode(), [str(others), *(word.split("=", 1)[1] for word in named)]
@@ -320,6 +346,9 @@ def differences(
     found = []
     for request in requests(name):
         given = with_given(policy, said, name, request)
+        if name in PLAIN:
+            # So that the reply is printed as a client prints it.
+            given = f"# profile: wider\n{given}"
         wanted, made = of_server(port, request), of_policy(subject, given, dictionaries, request)
         if wanted != made:
             found.append(Difference(request, wanted, made))

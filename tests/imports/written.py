@@ -115,6 +115,11 @@ FOUND = ":= of an attribute of which there may be several instances"
 OF_SERVER = "a server replaces the first and leaves the others, and here they are removed"
 WARNING = f"site:7: kept, with {FOUND} [several-instances]: {OF_SERVER}"
 AS_JSON = {"file": "site", "line": 7, "warning": OF_SERVER, "name": "several-instances", "text": FOUND}
+LONG = b'authorize {\n\tupdate reply {\n\t\tReply-Message := "' + 254 * b"a" + b'"\n\t}\n}\n'
+CUT = "on a server the text is whole until the reply is sent"
+BEGINNING = 'Reply-Message := "' + 42 * "a" + ".."
+LONG_WARNING = f"site:3: kept, but {CUT} [long-text]: {BEGINNING}"
+LONG_AS_JSON = {"file": "site", "line": 3, "warning": CUT, "name": "long-text", "text": BEGINNING}
 
 
 def imported(subject: Subject, folder: Path, words: List[str]) -> Ended:
@@ -141,13 +146,15 @@ def check_files(subject: Subject, report: Report) -> None:
 
 def check_warnings(subject: Subject, report: Report) -> None:
     """What a server does otherwise with a line that is kept, with the line's origin."""
-    with new_folder() as folder:
-        (folder / "site").write_bytes(WARNED)
-        lines = imported(subject, folder, ["site"]).errors.decode().splitlines()
-        objects = imported(subject, folder, ["--json", "site"]).errors.splitlines()
-        faults = [] if WARNING in lines else [f"{lines}"]
-        faults += [] if AS_JSON in map(json.loads, objects) else [f"{objects}"]
-        report.check("what a server does otherwise told", faults)
+    told = {"a policy": (WARNED, WARNING, AS_JSON), "a long text": (LONG, LONG_WARNING, LONG_AS_JSON)}
+    for name, (site, line, wanted) in told.items():
+        with new_folder() as folder:
+            (folder / "site").write_bytes(site)
+            lines = imported(subject, folder, ["site"]).errors.decode().splitlines()
+            objects = imported(subject, folder, ["--json", "site"]).errors.splitlines()
+            faults = [] if line in lines else [f"{lines}"]
+            faults += [] if wanted in map(json.loads, objects) else [f"{objects}"]
+            report.check(f"what a server does otherwise with {name} told", faults)
 
 
 FAULTS: Dict[str, Tuple[bytes, bytes]] = {
@@ -195,6 +202,7 @@ def hostile_cases() -> Dict[str, Dict[str, bytes]]:
         "returns after each other": section(b"if (&User-Name) {\nreturn\n}\n" * 10_000),
         "returns in one another": section(deep),
         "a condition of 4 MB": section(b"if (" + b"&User-Name && " * 280_000 + b"&User-Name) {\nok\n}\n"),
+        "long texts": section(b"update reply {\n" + (b'Reply-Message += "' + 400 * b"a" + b'"\n') * 9_000 + b"}\n"),
         "60,000 lines": section(b"update reply {\n" + b"Reply-Message += \"%{%{User-Name}:-x}\"\n" * 60_000 + b"}\n"),
     }
 

@@ -205,7 +205,7 @@ fn program<'a>(alloc: Global) -> Result<clap::Command<'a>, AllocError> {
         .arg(flag(
             alloc,
             PAPERS,
-            "Leaves out what needs the wider profile, as tags, IPv6 addresses and regular expressions",
+            "Writes tags, IPv6 addresses and dates as octets and numbers, and leaves out what else needs the wider profile",
         ))?
         .arg(flag(alloc, CHECK, "Writes the report alone"))?
         .arg(flag(alloc, STRICT, "Ends with status 1 where a part is left out"))?

@@ -4,7 +4,7 @@ use crate::reports::ServerDifference;
 use itoa::Buffer;
 use radpolicy_common::{Escaping, push_json_string};
 use radpolicy_import_conditions::{OtherAttribute, OtherSource};
-use radpolicy_import_policies::{Imported, LeftOut, PatternWarning, origin_path};
+use radpolicy_import_policies::{Imported, LeftOut, Warning, origin_path};
 use server_configuration::Configuration;
 use std::alloc::{AllocError, Global};
 
@@ -53,19 +53,22 @@ fn push_part(
     out.extend_from_slice(b"}\n")
 }
 
-// A condition that a server may decide otherwise.
+// What a server does otherwise with a condition or a line.
 fn push_warning(
     alloc: Global,
     out: &mut Vec<u8>,
     configuration: &Configuration,
-    warning: &PatternWarning,
+    warning: &Warning,
 ) -> Result<(), AllocError> {
     let difference = warning.difference;
-    let difference = format!(in alloc; "{difference}")?;
+    let text = format!(in alloc; "{difference}")?;
     let file = origin_path(configuration, warning.origin);
     push_text(out, b'{', "file", file)?;
     push_number(out, b',', "line", warning.origin.line)?;
-    push_text(out, b',', "warning", difference.as_bytes())?;
+    push_text(out, b',', "warning", text.as_bytes())?;
+    if let Some(name) = difference.name() {
+        push_text(out, b',', "name", name.as_bytes())?;
+    }
     push_text(out, b',', "text", &warning.shown)?;
     out.extend_from_slice(b"}\n")
 }

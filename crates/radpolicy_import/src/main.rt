@@ -253,8 +253,14 @@ fn import_others(
 ) -> Result<u8, ImportFault> {
     let alloc = rt.alloc();
     let (configuration, statements) = (import.configuration, import.statements);
-    let stubs = import.plan.stubs;
-    let others = other_attributes(alloc, configuration, dictionary, stubs, statements)?;
+    let others = other_attributes(
+        alloc,
+        configuration,
+        dictionary,
+        import.plan.stubs,
+        SectionKind::named(wanted(import.plan).section),
+        statements,
+    )?;
     let text = other_dictionary(alloc, files, dictionary, &others)?;
     let all = with_main(alloc, path, &text, files)?;
     if all.is_empty() || !all.has_distinct_names() {

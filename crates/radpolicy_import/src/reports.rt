@@ -5,7 +5,7 @@ use avp_dict::Dictionary;
 use radpolicy_common::{LineBreaks, visible_text};
 use radpolicy_help::{Advice, findings};
 use radpolicy_import_conditions::{OtherAttribute, OtherSource, Reason};
-use radpolicy_import_policies::{Imported, LeftOut, Origin, PatternWarning, push_origin};
+use radpolicy_import_policies::{Imported, LeftOut, Origin, Warning, push_origin};
 use server_configuration::{Configuration, ConfigurationFault};
 use std::alloc::{AllocError, Global};
 use std::{fs, io};
@@ -29,16 +29,19 @@ fn push_part(
     Ok(out.push(b'\n')?)
 }
 
-// `FILE:LINE: kept, but why: text` of a condition that a server may decide otherwise.
+// `FILE:LINE: kept, but why [name]: text` of what a server does otherwise.
 fn push_warning(
     alloc: Global,
     out: &mut Vec<u8>,
     configuration: &Configuration,
-    warning: &PatternWarning,
+    warning: &Warning,
 ) -> Result<(), AllocError> {
     let difference = warning.difference;
     push_origin(out, configuration, warning.origin)?;
-    let text = format!(in alloc; ": kept, but {difference}: ")?;
+    let text = match difference.name() {
+        Some(name) => format!(in alloc; ": kept, but {difference} [{name}]: ")?,
+        None => format!(in alloc; ": kept, but {difference}: ")?,
+    };
     out.extend_from_slice(text.as_bytes())?;
     out.extend_from_slice(&warning.shown)?;
     Ok(out.push(b'\n')?)

@@ -591,8 +591,8 @@ impl<'a> ConditionReader<'a> {
         negated: bool,
         pattern: WrittenPattern<'_>,
     ) -> Result<ServerCondition, Refusal> {
-        if !self.is_text(found) {
-            return Err(Refusal::LeftOut(Reason::MatchedValue));
+        if found.named.raw {
+            return Err(Refusal::LeftOut(Reason::MatchedRaw));
         }
         let text = pattern_text(self.alloc, pattern.octets)?;
         Ok(ServerCondition::Match(Matching {

@@ -7,6 +7,7 @@
 mod capturing;
 mod choices;
 mod condition_texts;
+mod differences;
 mod expansions;
 mod lines;
 mod other_attributes;
@@ -24,8 +25,9 @@ mod texts;
 pub use capturing::{captures_anew, has_pattern, keeps_captures, uses_captures};
 pub use choices::{Alternative, ChosenLine, alternatives, has_choices};
 pub use condition_texts::{ConditionReader, Operand};
+pub use differences::Difference;
 pub use expansions::{Expansion, expansions_in};
-pub use lines::{LineReader, UpdateLine};
+pub use lines::{LineReader, TaggedLine, UpdateLine};
 pub use other_attributes::{OtherAttribute, OtherSource};
 pub use other_lists::{OtherList, ServerList};
 pub use patterns::{PatternDifference, add_differences, push_matchings};

@@ -1,5 +1,6 @@
 //! Lines of updates.
 
+use crate::differences::Difference;
 use crate::other_lists::ServerList;
 use crate::reasons::{Reason, Refusal};
 use crate::references::{
@@ -7,12 +8,24 @@ use crate::references::{
     reference_of,
 };
 use crate::texts::{
-    has_expansion, push_double, push_expansion, push_octets, push_reference, single_octets,
+    PutIn, between, has_expansion, octets_before_expansions, push_double, push_expansion,
+    push_octets, push_reference, single_octets,
 };
 use avp_dict::{Form, Kind};
-use avp_lists::{AttrId, List};
+use avp_lists::{AttrId, List, Selection, Value};
+use avp_unlang::{Line, Policy, Source, Statement, read_policy};
 use server_configuration::{Operator, Quote, Text};
 use std::alloc::{AllocError, Global};
+
+/// What a line in octets is of, where the attribute's values have tags.
+#[derive(Clone, Copy)]
+pub struct TaggedLine {
+    pub list: List,
+    pub id: AttrId,
+    pub tag: u8,
+    /// Whether it does something else where there are instances with another tag.
+    pub minds_others: bool,
+}
 
 /// A line of an update in a policy.
 #[derive(Drop)]
@@ -24,6 +37,12 @@ pub struct UpdateLine {
     pub is_wider: bool,
     /// Whether something captured is put into it.
     pub captures: bool,
+    /// Whether what is put into it may be no value of the attribute, by which the update fails.
+    pub may_fail: bool,
+    /// Its tag, where that is in octets.
+    pub tagged: Option<TaggedLine>,
+    /// What a server does otherwise with it.
+    pub difference: Option<Difference>,
 }
 
 // A line that needs nothing, of the plain profile.
@@ -33,6 +52,9 @@ fn plain_line(text: Vec<u8>) -> UpdateLine {
         needs: None,
         is_wider: false,
         captures: false,
+        may_fail: false,
+        tagged: None,
+        difference: None,
     }
 }
 
@@ -45,8 +67,8 @@ pub struct LineReader<'a> {
     pub own: ServerList,
     /// Whether a line with an absent source is skipped, as a server does.
     pub skips: bool,
-    /// Whether what regular expressions capture is taken.
-    pub takes_captures: bool,
+    /// Whether lines of the wider profile are taken.
+    pub takes_wider: bool,
 }
 
 // The operator of an update, as it is written.
@@ -60,6 +82,23 @@ fn sign(operator: Operator) -> Option<&'static [u8]> {
         Operator::IsEqual => Some(b"=="),
         Operator::IsAbsent => Some(b"!*"),
         _ => None,
+    }
+}
+
+// `0x`, and two hexadecimal digits for each octet.
+fn hexadecimal(alloc: Global, octets: &[u8]) -> Result<Vec<u8>, AllocError> {
+    let mut text = Vec::from_slice(alloc, b"0x")?;
+    for octet in octets {
+        text.extend_from_slice(&[digit(*octet / 16), digit(*octet % 16)])?;
+    }
+    Ok(text)
+}
+
+fn digit(number: u8) -> u8 {
+    match number {
+        0..=9 => b'0' + number,
+        10..=15 => b'a' + (number - 10),
+        _ => b'0',
     }
 }
 
@@ -100,30 +139,35 @@ impl<'a> LineReader<'a> {
         }
     }
 
-    // Whether something captured is put into it.
     fn push_text(
         &self,
         out: &mut Vec<u8>,
         target: &Reference<'_>,
         text: &[u8],
-    ) -> Result<bool, Refusal> {
+    ) -> Result<PutIn, Refusal> {
         let put_in = push_double(out, &self.names, text)?;
-        if put_in.captures && !self.takes_captures {
+        if put_in.captures && !self.takes_wider {
             return Err(Refusal::LeftOut(Reason::Capture));
         }
-        if (put_in.attributes || put_in.captures) && !self.takes_expansions(target) {
+        if put_in.meanings && !self.takes_wider {
+            return Err(Refusal::LeftOut(Reason::OctetsHere));
+        }
+        if put_in.is_some() && !self.takes_expansions(target) {
             return Err(Refusal::LeftOut(Reason::ExpandedValue));
         }
-        Ok(put_in.captures)
+        // No expansion makes it shorter.
+        if put_in.octets > self.names.dictionary.greatest_length(target.named.id) {
+            return Err(Refusal::LeftOut(Reason::TooLong));
+        }
+        Ok(put_in)
     }
 
-    // Whether something captured is put into it.
     fn push_value(
         &self,
         out: &mut Vec<u8>,
         target: &Reference<'_>,
         value: &Text,
-    ) -> Result<bool, Refusal> {
+    ) -> Result<PutIn, Refusal> {
         let octets = value.octets.as_slice();
         match value.quote {
             Quote::Double => return self.push_text(out, target, octets),
@@ -133,7 +177,16 @@ impl<'a> LineReader<'a> {
             Quote::Bare if is_word(octets) => out.extend_from_slice(octets)?,
             Quote::Bare => push_octets(out, octets)?,
         }
-        Ok(false)
+        Ok(PutIn::nothing())
+    }
+
+    // Whether what is put into a text may make it one that the attribute's type does not read: octets are read from
+    // what begins with `0x`.
+    fn may_fail(&self, target: &Reference<'_>, value: &Text, put_in: PutIn) -> bool {
+        self.skips
+            && put_in.is_some()
+            && kind_of(self.names.dictionary, target.named) == Kind::Bytes
+            && matches!(value.octets.as_slice(), [b'%' | b'0', ..])
     }
 
     // Whether a server makes a text of a number or an address that is copied.
@@ -213,13 +266,52 @@ impl<'a> LineReader<'a> {
         {
             return self.copy_of(text, &target, word);
         }
-        let captures = self.push_value(&mut text, &target, value)?;
+        let put_in = self.push_value(&mut text, &target, value)?;
         Ok(UpdateLine {
-            text,
-            needs: None,
-            is_wider: captures,
-            captures,
+            is_wider: put_in.captures || put_in.meanings,
+            captures: put_in.captures,
+            may_fail: self.may_fail(&target, value, put_in),
+            ..plain_line(text)
         })
+    }
+
+    /// The line in a reply with as much of a text as is sent; none where that is not known, or where the line compares.
+    pub fn cut_line(
+        &self,
+        name: &[u8],
+        operator: Operator,
+        value: Option<&Text>,
+    ) -> Result<Option<UpdateLine>, Refusal> {
+        let adds = matches!(
+            operator,
+            Operator::Equals | Operator::Set | Operator::Add | Operator::Prepend
+        );
+        let (Some(sign), Some(value), true) = (sign(operator), value, adds) else {
+            return Ok(None);
+        };
+        let target = reference_in(
+            &self.names,
+            self.own,
+            name.strip_prefix(b"&").unwrap_or(name),
+        )?;
+        if target.list != List::Reply || !self.takes_expansions(&target) {
+            return Ok(None);
+        }
+        let octets = octets_before_expansions(self.alloc, &self.names, value)?;
+        let most = self.names.dictionary.greatest_length(target.named.id);
+        let Some(sent) = octets.get(..most) else {
+            return Ok(None);
+        };
+        let mut text = Vec::new(self.alloc);
+        self.target(&mut text, &target)?;
+        text.push(b' ')?;
+        text.extend_from_slice(sign)?;
+        text.push(b' ')?;
+        push_octets(&mut text, sent)?;
+        Ok(Some(UpdateLine {
+            difference: Some(Difference::LongText),
+            ..plain_line(text)
+        }))
     }
 
     // The name of a line's attribute, which may have a tag. False where it is of another list and not known.
@@ -286,15 +378,62 @@ impl<'a> LineReader<'a> {
         let mut text = before;
         text.extend_from_slice(&source)?;
         Ok(UpdateLine {
-            text,
             needs: self.skips.then_some(source),
             is_wider: true,
-            captures: false,
+            ..plain_line(text)
         })
     }
 
-    /// The line in the wider profile of a name, which may have a tag, an operator and a value that is written out, or an
-    /// attribute of the same form; none where it is not of this form.
+    // The form of the values of the attribute of a name, which may have a tag.
+    fn form(&self, name: &[u8]) -> Option<Form> {
+        let named = self.names.dictionary.by_name(parts_of(self.own, name).1)?;
+        self.names.dictionary.form(named.id)
+    }
+
+    // What a line begins with, up to its value. False where its attribute is not known, or it is no line.
+    fn push_begin(
+        &self,
+        out: &mut Vec<u8>,
+        name: &[u8],
+        operator: Operator,
+    ) -> Result<bool, AllocError> {
+        let Some(sign) = sign(operator) else {
+            return Ok(false);
+        };
+        if !is_word(name) || !self.push_target(out, name)? {
+            return Ok(false);
+        }
+        out.push(b' ')?;
+        out.extend_from_slice(sign)?;
+        out.push(b' ')?;
+        Ok(true)
+    }
+
+    // The value of a line behind what it begins with, if it is a text with expansions for an attribute whose texts have
+    // tags.
+    fn filled_line(
+        &self,
+        before: &[u8],
+        name: &[u8],
+        value: &Text,
+    ) -> Result<Option<UpdateLine>, Refusal> {
+        if !has_expansion(&value.octets)
+            || !matches!(value.quote, Quote::Double | Quote::Bare)
+            || self.form(name) != Some(Form::TaggedString)
+        {
+            return Ok(None);
+        }
+        let mut text = Vec::from_slice(self.alloc, before)?;
+        let put_in = push_double(&mut text, &self.names, &value.octets)?;
+        Ok(Some(UpdateLine {
+            is_wider: put_in.captures || put_in.meanings,
+            captures: put_in.captures,
+            ..plain_line(text)
+        }))
+    }
+
+    /// The line in the wider profile of a name, which may have a tag, an operator and a value that is written out, an
+    /// attribute of the same form, or a text for an attribute whose texts have tags; none where it is none of them.
     pub fn wider_line(
         &self,
         name: &[u8],
@@ -302,16 +441,19 @@ impl<'a> LineReader<'a> {
         value: Option<&Text>,
     ) -> Result<Option<UpdateLine>, Refusal> {
         let name = name.strip_prefix(b"&").unwrap_or(name);
-        let (Some(sign), Some(value), true) = (sign(operator), value, is_word(name)) else {
+        let mut text = Vec::new(self.alloc);
+        let Some(value) = value else {
             return Ok(None);
         };
-        let mut text = Vec::new(self.alloc);
-        if !self.push_target(&mut text, name)? {
+        if !self.push_begin(&mut text, name, operator)? {
             return Ok(None);
         }
-        text.push(b' ')?;
-        text.extend_from_slice(sign)?;
-        text.push(b' ')?;
+        if let Some(line) = self.filled_line(&text, name, value)? {
+            return Ok(Some(UpdateLine {
+                is_wider: true,
+                ..line
+            }));
+        }
         if let Some(source) = self.copied(name, value)? {
             let line = self.copying_line(text, source)?;
             return Ok(Some(line));
@@ -319,11 +461,155 @@ impl<'a> LineReader<'a> {
         if !self.push_written(&mut text, value)? {
             return Ok(None);
         }
+        let is_date = self.form(name) == Some(Form::Date);
+        Ok(Some(UpdateLine {
+            is_wider: true,
+            difference: is_date.then_some(Difference::DateZone),
+            ..plain_line(text)
+        }))
+    }
+
+    // What a line of the wider profile is, read by itself.
+    fn policy_of(&self, text: &[u8]) -> Result<Policy, Refusal> {
+        let own = list_name(self.own.list());
+        let mut whole = between(self.alloc, b"# profile: wider\nupdate ", own, b" { ")?;
+        whole.extend_from_slice(text)?;
+        whole.extend_from_slice(b" }")?;
+        Ok(read_policy(self.alloc, self.names.dictionary, &whole)?)
+    }
+
+    // What a line in octets is of, if the attribute's values have tags.
+    fn tagged(
+        &self,
+        list: List,
+        id: AttrId,
+        tag: Option<u8>,
+        operator: Operator,
+    ) -> Option<TaggedLine> {
+        let form = self.names.dictionary.form(id)?;
+        if !matches!(form, Form::TaggedInteger | Form::TaggedString) {
+            return None;
+        }
+        let minds_others = match operator {
+            Operator::Set | Operator::Equals => tag.is_some(),
+            Operator::Subtract => tag.is_none(),
+            Operator::IsEqual => true,
+            _ => false,
+        };
+        Some(TaggedLine {
+            list,
+            id,
+            tag: tag.unwrap_or(0),
+            minds_others,
+        })
+    }
+
+    // What is written out in the wider profile, as the plain one has it: octets, or a number of seconds.
+    fn plain_value(&self, source: &Source) -> Result<Option<Vec<u8>>, AllocError> {
+        match source {
+            Source::Literal(Value::Bytes(octets)) => {
+                Ok(Some(hexadecimal(self.alloc, octets.as_slice())?))
+            }
+            Source::Literal(Value::Int(seconds)) => {
+                let digits = format!(in self.alloc; "{seconds}")?;
+                Ok(Some(Vec::from_slice(self.alloc, digits.as_bytes())?))
+            }
+            _ => Ok(None),
+        }
+    }
+
+    // The line that sets the same octets, or the same number of seconds, behind what it begins with.
+    fn written_line(
+        &self,
+        before: Vec<u8>,
+        wider: UpdateLine,
+        line: &Line,
+        operator: Operator,
+    ) -> Result<Option<UpdateLine>, Refusal> {
+        // What is copied so are the octets.
+        if let Source::Tagged(_, _, Selection::All, Form::AsTyped, _) = &line.source {
+            return Ok(Some(UpdateLine {
+                is_wider: false,
+                ..wider
+            }));
+        }
+        let Some(value) = self.plain_value(&line.source)? else {
+            return Ok(None);
+        };
+        let tag = match line.selection {
+            Selection::Tag(_, tag) => Some(tag),
+            _ => None,
+        };
+        let mut text = before;
+        text.extend_from_slice(&value)?;
         Ok(Some(UpdateLine {
             text,
-            needs: None,
-            is_wider: true,
-            captures: false,
+            is_wider: false,
+            tagged: self.tagged(line.list, line.id, tag, operator),
+            ..wider
         }))
+    }
+
+    // The line in octets of one of the wider profile, which is read for it.
+    fn line_in_octets(
+        &self,
+        before: Vec<u8>,
+        wider: UpdateLine,
+        operator: Operator,
+    ) -> Result<Option<UpdateLine>, Refusal> {
+        let policy = self.policy_of(&wider.text)?;
+        let [Statement::Update(_, lines)] = policy.statements().as_slice() else {
+            return Ok(None);
+        };
+        let [line] = lines.as_slice() else {
+            return Ok(None);
+        };
+        self.written_line(before, wider, line, operator)
+    }
+
+    // The line of a text with the tag 0 into which something is put, as the plain profile reads it.
+    fn untagged_line(
+        &self,
+        name: &[u8],
+        operator: Operator,
+        filled: UpdateLine,
+    ) -> Option<UpdateLine> {
+        let (list, attribute, tag) = parts_of(self.own, name);
+        if filled.is_wider || !tag.is_empty() {
+            return None;
+        }
+        let named = self.names.dictionary.by_name(attribute)?;
+        Some(UpdateLine {
+            tagged: self.tagged(list.list(), named.id, None, operator),
+            ..filled
+        })
+    }
+
+    /// The line in the plain profile that does what such a line does, with octets in place of what they mean, if there is
+    /// one.
+    pub fn octets_line(
+        &self,
+        name: &[u8],
+        operator: Operator,
+        value: Option<&Text>,
+    ) -> Result<Option<UpdateLine>, Refusal> {
+        let Some(text) = value else {
+            return Ok(None);
+        };
+        let name = name.strip_prefix(b"&").unwrap_or(name);
+        let bare = name
+            .strip_suffix(parts_of(self.own, name).2)
+            .unwrap_or(name);
+        let mut before = Vec::new(self.alloc);
+        if !self.push_begin(&mut before, bare, operator)? {
+            return Ok(None);
+        }
+        if let Some(filled) = self.filled_line(&before, bare, text)? {
+            return Ok(self.untagged_line(name, operator, filled));
+        }
+        match self.wider_line(name, operator, value)? {
+            Some(wider) => self.line_in_octets(before, wider, operator),
+            None => Ok(None),
+        }
     }
 }

@@ -32,6 +32,9 @@ pub enum Reason {
     Operator,
     #[error("an expansion that policies do not have")]
     Expansion,
+    /// By itself, as `%{explode:..}`.
+    #[error("an expansion that changes attributes")]
+    ChangedList,
     #[error("an expansion into a value that is no text")]
     ExpandedValue,
     /// A server compares such texts as numbers.
@@ -41,8 +44,8 @@ pub enum Reason {
     Command,
     #[error("a regular expression")]
     RegularExpression,
-    #[error("a regular expression for a value that is no text")]
-    MatchedValue,
+    #[error("a regular expression for an attribute by its number")]
+    MatchedRaw,
     #[error("a regular expression for a text with an expansion")]
     MatchedText,
     #[error("what a regular expression captures")]

@@ -4,13 +4,16 @@ ghost use Rattle.std.specs.Prelude.{◌≤◌, ◌<◌, length, IfOk, IfSome};
 
 use crate::expansions::closing_brace;
 use crate::reasons::{Reason, Refusal};
-use crate::references::{Names, Reference, Spelling, list_name, push_spelling, reference_of};
+use crate::references::{
+    Names, Reference, Spelling, has_texts, list_name, push_spelling, reference_of,
+};
 use avp_dict::Dictionary;
 use avp_lists::List;
 use server_configuration::{Quote, Text};
 use std::alloc::{AllocError, Global};
 
 // A part of a text between double quotes.
+#[derive(Clone, Copy)]
 enum Part<'a> {
     Octet(u8),
     Expansion(Reference<'a>),
@@ -23,6 +26,26 @@ enum Part<'a> {
 pub(crate) struct PutIn {
     pub(crate) attributes: bool,
     pub(crate) captures: bool,
+    /// Whether the plain profile puts in octets where a server, and the wider one, has what they mean.
+    pub(crate) meanings: bool,
+    /// How many octets of it are written out.
+    pub(crate) octets: usize,
+}
+
+impl PutIn {
+    pub(crate) fn nothing() -> PutIn {
+        PutIn {
+            attributes: false,
+            captures: false,
+            meanings: false,
+            octets: 0,
+        }
+    }
+
+    /// Whether anything is put in.
+    pub(crate) fn is_some(self) -> bool {
+        self.attributes || self.captures
+    }
 }
 
 // What follows a `\`. One that escapes nothing stays.
@@ -167,36 +190,80 @@ fn push_capture(out: &mut Vec<u8>, group: u8) -> Result<(), AllocError> {
     out.extend_from_slice(&[b'%', b'{', b'0' + group % 10, b'}'])
 }
 
+// A part of a text, as policies write it, and what is put in so far.
+fn push_part(
+    out: &mut Vec<u8>,
+    names: &Names<'_>,
+    part: Part<'_>,
+    put_in: PutIn,
+) -> Result<PutIn, AllocError> {
+    match part {
+        Part::Octet(octet) => {
+            push_octet(out, octet)?;
+            Ok(PutIn {
+                octets: put_in.octets.saturating_add(1),
+                ..put_in
+            })
+        }
+        Part::Expansion(reference) => {
+            out.extend_from_slice(b"%{")?;
+            push_name(out, names.dictionary, &reference)?;
+            out.push(b'}')?;
+            Ok(PutIn {
+                attributes: true,
+                meanings: put_in.meanings || !has_texts(names.dictionary, reference.named),
+                ..put_in
+            })
+        }
+        Part::Capture(group) => {
+            push_capture(out, group)?;
+            Ok(PutIn {
+                captures: true,
+                ..put_in
+            })
+        }
+    }
+}
+
 /// A source of an update between double quotes, of what a server reads between them; and what is put into it.
 pub(crate) fn push_double(
     out: &mut Vec<u8>,
     names: &Names<'_>,
     text: &[u8],
 ) -> Result<PutIn, Refusal> {
-    let (mut attributes, mut captures) = (false, false);
+    let mut put_in = PutIn::nothing();
     let mut rest = text;
     out.push(b'"')?;
     while let Some((part, after)) = next_part(names, rest)? {
-        match part {
-            Part::Octet(octet) => push_octet(out, octet)?,
-            Part::Expansion(reference) => {
-                attributes = true;
-                out.extend_from_slice(b"%{")?;
-                push_name(out, names.dictionary, &reference)?;
-                out.push(b'}')?;
-            }
-            Part::Capture(group) => {
-                captures = true;
-                push_capture(out, group)?;
-            }
-        }
+        put_in = push_part(out, names, part, put_in)?;
         rest = after;
     }
     out.push(b'"')?;
-    Ok(PutIn {
-        attributes,
-        captures,
-    })
+    Ok(put_in)
+}
+
+// The octets of a text between double quotes up to its first expansion.
+fn double_octets_before(alloc: Global, names: &Names<'_>, text: &[u8]) -> Result<Vec<u8>, Refusal> {
+    let mut octets = Vec::new(alloc);
+    let mut rest = text;
+    while let Some((Part::Octet(octet), after)) = next_part(names, rest)? {
+        octets.push(octet)?;
+        rest = after;
+    }
+    Ok(octets)
+}
+
+/// The octets of a text up to its first expansion; none of what is neither between quotes nor has an expansion.
+pub(crate) fn octets_before_expansions(
+    alloc: Global,
+    names: &Names<'_>,
+    text: &Text,
+) -> Result<Vec<u8>, Refusal> {
+    match text.quote {
+        Quote::Double => double_octets_before(alloc, names, &text.octets),
+        Quote::Single => Ok(single_octets(alloc, &text.octets)?),
+        _ => Ok(Vec::new(alloc)),
+    }
 }
 
 // The octets of a text between double quotes without expansions.

@@ -6,7 +6,7 @@ use Rattle.server_configuration.specs.declared.sources.SourceFile.{SourceFile}
 use Rattle.radpolicy_import_policies.specs.Origins.{AreLines, line_origins, origin_in}
 use Rattle.radpolicy_import_policies.specs.Imports.{part_origins, warning_origins}
 use Rattle.radpolicy_import_policies.specs.declared.imports.LeftOut.{LeftOut}
-use Rattle.radpolicy_import_policies.specs.declared.imports.PatternWarning.{PatternWarning}
+use Rattle.radpolicy_import_policies.specs.declared.imports.Warning.{Warning}
 use Rattle.radpolicy_import_policies.specs.declared.origins.LineOrigin.{LineOrigin}
 use Rattle.radpolicy_import_policies.specs.declared.origins.Origin.{Origin}
 
@@ -47,15 +47,15 @@ parts_after files items place part old new e found read h =
     subst (λ (made : List LeftOut). AreLines files (part_origins made)) (sym e)
     (parts_with_one files old part (line_of_origin files items place part.origin read found) h)
 
-warnings_with_one : (files : List SourceFile) (warnings : List PatternWarning) (warning : PatternWarning)
+warnings_with_one : (files : List SourceFile) (warnings : List Warning) (warning : Warning)
     → HasLine files warning.origin.file warning.origin.line → AreLines files (warning_origins warnings)
     → AreLines files (warning_origins (warnings ++ warning ∷ []))
 warnings_with_one files [] warning line h = (line, tt)
 warnings_with_one files (other ∷ warnings) warning line h = (h.0, warnings_with_one files warnings warning line h.1)
 
-pub warnings_after : (files : List SourceFile) (items : List Item) (place : ℕ) (warning : PatternWarning) (old new : List PatternWarning)
+pub warnings_after : (files : List SourceFile) (items : List Item) (place : ℕ) (warning : Warning) (old new : List Warning)
     → new ≡ old ++ warning ∷ [] → option_map origin_in (slice_get items place) ≡ Some warning.origin → AreOnLines files items
     → AreLines files (warning_origins old) → AreLines files (warning_origins new)
 warnings_after files items place warning old new e found read h =
-    subst (λ (made : List PatternWarning). AreLines files (warning_origins made)) (sym e)
+    subst (λ (made : List Warning). AreLines files (warning_origins made)) (sym e)
     (warnings_with_one files old warning (line_of_origin files items place warning.origin read found) h)

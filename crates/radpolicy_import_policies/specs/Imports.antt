@@ -1,7 +1,7 @@
 -- What is left out.
 use Rattle.std.specs.Prelude.{ℕ, ◌+◌, List, [], ◌∷◌, map}
 use Rattle.radpolicy_import_policies.specs.declared.imports.LeftOut.{LeftOut}
-use Rattle.radpolicy_import_policies.specs.declared.imports.PatternWarning.{PatternWarning}
+use Rattle.radpolicy_import_policies.specs.declared.imports.Warning.{Warning}
 use Rattle.radpolicy_import_policies.specs.declared.origins.Origin.{Origin}
 
 -- how many statements the parts are
@@ -15,8 +15,8 @@ origin_of_part part = part.origin
 abbrev pub part_origins : List LeftOut → List Origin
 part_origins parts = map origin_of_part parts
 
-abbrev pub origin_of_warning : PatternWarning → Origin
+abbrev pub origin_of_warning : Warning → Origin
 origin_of_warning warning = warning.origin
 
-abbrev pub warning_origins : List PatternWarning → List Origin
+abbrev pub warning_origins : List Warning → List Origin
 warning_origins warnings = map origin_of_warning warnings

@@ -7,7 +7,7 @@ ghost use Rattle.radpolicy_import_policies.specs.OriginTexts.{content_name, visi
 use crate::origins::{Origin, origin_of};
 use avp_dict::Dictionary;
 use avp_forms::Profile;
-use radpolicy_import_conditions::{PatternDifference, Reason};
+use radpolicy_import_conditions::{Difference, PatternDifference, Reason};
 use server_configuration::{Configuration, Content, Operator, Quote, Text};
 use std::alloc::{AllocError, Global};
 
@@ -61,11 +61,11 @@ pub(crate) struct DraftPart {
     pub(crate) reason: Reason,
 }
 
-/// A comparison with a regular expression that a server may decide otherwise, or what it captures.
+/// What a server does otherwise with an item that is kept.
 #[derive(Drop)]
 pub(crate) struct DraftWarning {
     pub(crate) place: usize,
-    pub(crate) difference: PatternDifference,
+    pub(crate) difference: Difference,
 }
 
 // An octet that a comment can have.

@@ -2,7 +2,7 @@
 
 use crate::origins::Origin;
 use avp_unlang::{PolicyFault, PolicyKind};
-use radpolicy_import_conditions::Reason;
+use radpolicy_import_conditions::{Reason, Refusal};
 use std::alloc::{AllocError, AllocFailed};
 use thiserror::Error;
 
@@ -42,5 +42,13 @@ impl From<PolicyFault> for ImportFault {
             PolicyKind::Memory => ImportFault::Memory,
             _ => ImportFault::Policy(fault),
         }
+    }
+}
+
+/// The reason, or the want of memory for which the import ends.
+pub(crate) fn reason_of(refusal: Refusal) -> Result<Reason, ImportFault> {
+    match refusal {
+        Refusal::Memory => Err(ImportFault::Memory),
+        Refusal::LeftOut(reason) => Ok(reason),
     }
 }

@@ -3,16 +3,17 @@
 use crate::drafts::{
     Draft, DraftCondition, DraftPart, DraftWarning, push_visible, section_name, shown_item,
 };
-use crate::faults::ImportFault;
+use crate::faults::{ImportFault, reason_of};
 use crate::item_readers::{ItemReader, PairLines};
 use crate::origins::origin_of;
 use crate::settings::{Meaning, ModuleAnswer, SectionKind};
 use crate::statements::{Statement, StatementKind, counted};
+use crate::tagged_lines::TaggedLines;
 use avp_forms::Profile;
 use avp_lists::List;
 use avp_unlang::Code;
 use radpolicy_import_conditions::{
-    ChosenLine, KnownCodes, PatternDifference, Reason, Refusal, ServerCode, ServerList,
+    ChosenLine, Difference, KnownCodes, PatternDifference, Reason, ServerCode, ServerList,
     SwitchChain, UpdateLine, between, list_name,
 };
 use std::alloc::AllocError;
@@ -39,6 +40,8 @@ pub(crate) struct Importer<'a> {
     pub(crate) given: usize,
     /// Whether a server may have captured something else: before the section, or in a part that is left out.
     pub(crate) captured_else: bool,
+    // What was set so far of attributes whose values have tags, in octets.
+    tagged: TaggedLines,
 }
 
 /// Whether a place is before another, if there is another.
@@ -56,14 +59,6 @@ fn code_name(code: Code) -> &'static [u8] {
         Code::Updated => b"updated",
         Code::Fail => b"fail",
         Code::Reject => b"reject",
-    }
-}
-
-// The reason, or the want of memory for which the import ends.
-fn reason_of(refusal: Refusal) -> Result<Reason, ImportFault> {
-    match refusal {
-        Refusal::Memory => Err(ImportFault::Memory),
-        Refusal::LeftOut(reason) => Ok(reason),
     }
 }
 
@@ -102,6 +97,7 @@ impl<'a> Importer<'a> {
             returns: 0,
             given: 0,
             captured_else: true,
+            tagged: TaggedLines::new(alloc),
         }
     }
 
@@ -109,6 +105,9 @@ impl<'a> Importer<'a> {
     fn count_given(&mut self, place: usize) -> Result<(), ImportFault> {
         if self.reader.is_given(place)? {
             self.given = self.given.saturating_add(1);
+            if self.reader.changes_attributes(place) {
+                self.warn(place, Difference::ChangedList)?;
+            }
         }
         Ok(())
     }
@@ -195,7 +194,7 @@ impl<'a> Importer<'a> {
         Ok(())
     }
 
-    fn warn(&mut self, place: usize, difference: PatternDifference) -> Result<(), ImportFault> {
+    fn warn(&mut self, place: usize, difference: Difference) -> Result<(), ImportFault> {
         let is_told = match self.warnings.last() {
             Some(last) => last.place == place && last.difference == difference,
             None => false,
@@ -230,6 +229,20 @@ impl<'a> Importer<'a> {
         self.close(place)
     }
 
+    // A line whose update fails where what is put in is no value: a server keeps what was done before it, and rejects.
+    fn push_failing(&mut self, place: usize, own: List, text: Vec<u8>) -> Result<(), ImportFault> {
+        self.push_text(place, b"transaction {")?;
+        self.indent();
+        self.open_update(place, own)?;
+        self.push(place, text)?;
+        self.close(place)?;
+        self.close(place)?;
+        self.push_text(place, b"if (fail) {")?;
+        self.indent();
+        self.push_text(place, b"reject")?;
+        self.close(place)
+    }
+
     fn push_ready(
         &mut self,
         update: usize,
@@ -243,18 +256,31 @@ impl<'a> Importer<'a> {
             needs,
             is_wider,
             captures,
+            may_fail,
+            tagged,
+            difference,
         } = line;
         if is_wider && self.wider.is_none() {
             self.wider = Some(place);
         }
         if captures && self.captured_else {
-            self.warn(place, PatternDifference::Earlier)?;
+            self.warn(place, Difference::Pattern(PatternDifference::Earlier))?;
+        }
+        if let Some(difference) = difference {
+            self.warn(place, difference)?;
+        }
+        if let Some(tagged) = tagged {
+            self.tagged.add(tagged)?;
+        }
+        if is_open && (needs.is_some() || may_fail) {
+            self.close(update)?;
         }
         if let Some(needs) = needs {
-            if is_open {
-                self.close(update)?;
-            }
             self.push_needing(place, own, &needs, text)?;
+            return Ok(false);
+        }
+        if may_fail {
+            self.push_failing(place, own, text)?;
             return Ok(false);
         }
         if !is_open {
@@ -307,6 +333,10 @@ impl<'a> Importer<'a> {
         is_open: bool,
     ) -> Result<bool, ImportFault> {
         match self.reader.lines(place, own) {
+            Ok(lines) if self.tagged.are_hit_by(&lines) => {
+                self.leave(place, 1, Reason::Tag)?;
+                Ok(is_open)
+            }
             Ok(PairLines::One(line)) => {
                 self.count_given(place)?;
                 self.push_ready(update, place, own.list(), is_open, line)
@@ -428,12 +458,10 @@ impl<'a> Importer<'a> {
         }
     }
 
-    // Whether the end of `post-auth` by `handled` is where it ends anyway.
-    fn ends_post_auth(&self) -> bool {
+    // Whether `handled` ends the section as `return` does.
+    fn is_post_auth(&self) -> bool {
         let settings = self.reader.settings;
-        settings.meaning == Meaning::Server
-            && settings.section == SectionKind::PostAuth
-            && !self.follows
+        settings.meaning == Meaning::Server && settings.section == SectionKind::PostAuth
     }
 
     // A code, which is so many statements.
@@ -453,9 +481,7 @@ impl<'a> Importer<'a> {
                 self.codes = self.codes.after_server_code(code);
                 self.comment(place, b"notfound,", b"a code of the server alone")
             }
-            ServerCode::Handled if self.ends_post_auth() => {
-                self.comment(place, b"handled,", b"and nothing follows")
-            }
+            ServerCode::Handled if self.is_post_auth() => self.end(place, count, b"handled,"),
             _ => self.leave(place, count, Reason::OtherCode),
         }
     }
@@ -485,13 +511,14 @@ impl<'a> Importer<'a> {
 
     // ---- the end of the section
 
-    // `return`: nothing where no statement follows, else a mark under whose contrary what follows is.
-    fn end(&mut self, place: usize) -> Result<(), ImportFault> {
+    // A word that ends it, which is so many statements: nothing where no statement follows, else a mark under whose
+    // contrary what follows is.
+    fn end(&mut self, place: usize, count: usize, word: &[u8]) -> Result<(), ImportFault> {
         if !self.follows {
-            return self.comment(place, b"return,", b"and nothing follows");
+            return self.comment(place, word, b"and nothing follows");
         }
         let Some(name) = self.reader.names().returned() else {
-            return self.leave(place, 1, Reason::OtherCode);
+            return self.leave(place, count, Reason::OtherCode);
         };
         self.open_update(place, List::Control)?;
         self.push_between(place, b"", name, b" := \"yes\"")?;
@@ -544,10 +571,10 @@ impl<'a> Importer<'a> {
             self.wider = Some(place);
         }
         for difference in &condition.differences {
-            self.warn(place, *difference)?;
+            self.warn(place, Difference::Pattern(*difference))?;
         }
         if condition.uses_captures && self.captured_else {
-            self.warn(place, PatternDifference::Earlier)?;
+            self.warn(place, Difference::Pattern(PatternDifference::Earlier))?;
         }
         self.push_between(place, Self::keyword(kind), &condition.text, b" {")
     }
@@ -714,7 +741,7 @@ impl<'a> Importer<'a> {
             StatementKind::Policy(policy) => self.policy(place, policy, block),
             StatementKind::Module => self.module(place),
             StatementKind::Code(code) => self.push_code(place, 1, code),
-            StatementKind::Return => self.end(place),
+            StatementKind::Return => self.end(place, 1, b"return,"),
             StatementKind::Expansion => {
                 let shown = shown_item(self.reader.alloc, self.reader.configuration, place)?;
                 self.comment(place, b"an expansion by itself,", &shown)

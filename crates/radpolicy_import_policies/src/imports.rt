@@ -17,7 +17,7 @@ use crate::settings::{LineEnds, PROFILE_LINE, Settings};
 use crate::statements::{Statement, counted};
 use avp_dict::Dictionary;
 use avp_unlang::{Policy, PolicyKind, read_policy};
-use radpolicy_import_conditions::{PatternDifference, Reason};
+use radpolicy_import_conditions::{Difference, Reason};
 use server_configuration::Configuration;
 use std::alloc::{AllocError, Global};
 
@@ -32,12 +32,11 @@ pub struct LeftOut {
     pub shown: Vec<u8>,
 }
 
-/// A condition with a regular expression that a server may decide otherwise, or something that looks at what such a one
-/// captured, which may be something else there.
+/// What a server does otherwise with a condition or a line that is kept, or may do.
 #[derive(Debug, Drop)]
-pub struct PatternWarning {
+pub struct Warning {
     pub origin: Origin,
-    pub difference: PatternDifference,
+    pub difference: Difference,
     /// What the condition or the line says, or the beginning of it.
     pub shown: Vec<u8>,
 }
@@ -52,7 +51,7 @@ pub struct Imported {
     /// Where each line comes from.
     pub lines: Vec<LineOrigin>,
     pub left_out: Vec<LeftOut>,
-    pub warnings: Vec<PatternWarning>,
+    pub warnings: Vec<Warning>,
     /// How many statements were read.
     pub read: usize,
     /// How many of them are in the policy.
@@ -203,7 +202,7 @@ fn left_out(
 // Adds a warning, with its place.
 #[tactic(auto, using(crate::proofs::FoundLines::warnings_after))]
 fn add_warning(
-    made: &mut Vec<PatternWarning>,
+    made: &mut Vec<Warning>,
     alloc: Global,
     configuration: &Configuration,
     warning: &DraftWarning,
@@ -216,7 +215,7 @@ fn add_warning(
         return Ok(());
     };
     let shown = shown_item(alloc, configuration, warning.place)?;
-    made.push(PatternWarning {
+    made.push(Warning {
         origin,
         difference: warning.difference,
         shown,
@@ -229,7 +228,7 @@ fn warnings_of(
     alloc: Global,
     configuration: &Configuration,
     warnings: &[DraftWarning],
-) -> Result<Vec<PatternWarning>, AllocError>
+) -> Result<Vec<Warning>, AllocError>
     ensures { AreOnLines configuration.now.files.items configuration.now.items.items
         → IfOk result (λ made. AreLines configuration.now.files.items (warning_origins made.items)) }
 {

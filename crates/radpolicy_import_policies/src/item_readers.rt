@@ -3,11 +3,11 @@
 use crate::drafts::DraftCondition;
 use crate::faults::ImportFault;
 use crate::settings::{Meaning, ModuleAnswer, PROFILE_LINE, Settings};
-use crate::statements::{Statement, StatementKind};
+use crate::statements::{Statement, StatementKind, changes_attributes};
 use avp_dict::Dictionary;
 use avp_forms::Profile;
 use avp_lists::List;
-use avp_unlang::{Comparison, Cond, Relation, read_policy};
+use avp_unlang::{Comparison, Cond, PolicyKind, Relation, read_policy};
 use radpolicy_import_conditions::{
     Alternative, ChosenLine, ConditionPrinter, ConditionReader, KnownCodes, LineReader, Names,
     Operand, Reason, Refusal, ServerCode, ServerCondition, ServerList, SwitchChain, UpdateLine,
@@ -250,7 +250,7 @@ impl<'a> ItemReader<'a> {
             names: self.names(),
             own,
             skips: self.settings.meaning == Meaning::Server,
-            takes_captures: self.settings.profile == Profile::Wider,
+            takes_wider: self.settings.profile == Profile::Wider,
         }
     }
 
@@ -263,17 +263,47 @@ impl<'a> ItemReader<'a> {
         value: Option<&Text>,
     ) -> Result<UpdateLine, Refusal> {
         let reader = self.line_reader(own);
-        let reason = match reader.line(name, operator, value) {
-            Ok(line) => return self.checked(own.list(), line),
-            Err(Refusal::LeftOut(reason)) => reason,
-            Err(Refusal::Memory) => return Err(Refusal::Memory),
+        let refusal = match reader.line(name, operator, value) {
+            Ok(line) => match self.checked(own.list(), line) {
+                Err(refusal) => refusal,
+                checked => return checked,
+            },
+            Err(refusal) => refusal,
         };
-        let may_be_wider = matches!(reason, Reason::OctetsHere | Reason::Tag)
-            && self.settings.profile == Profile::Wider;
-        if may_be_wider && let Some(line) = reader.wider_line(name, operator, value)? {
-            return self.checked(own.list(), line);
+        let Refusal::LeftOut(reason) = refusal else {
+            return Err(refusal);
+        };
+        match self.other_line(&reader, name, operator, value, reason)? {
+            Some(line) => self.checked(own.list(), line),
+            None => Err(refusal),
         }
-        Err(Refusal::LeftOut(reason))
+    }
+
+    // The line in another form, where it is refused in its own for a reason.
+    fn other_line(
+        &self,
+        reader: &LineReader<'_>,
+        name: &[u8],
+        operator: Operator,
+        value: Option<&Text>,
+        reason: Reason,
+    ) -> Result<Option<UpdateLine>, Refusal> {
+        match (reason, self.settings.profile) {
+            (Reason::TooLong | Reason::Refused(PolicyKind::TooLong), _)
+                if self.settings.meaning == Meaning::Server => {
+                reader.cut_line(name, operator, value)
+            }
+            // Of a date the plain profile reads the number of seconds alone.
+            (
+                Reason::OctetsHere | Reason::Tag | Reason::Refused(PolicyKind::NotValue),
+                Profile::Wider,
+            ) => reader.wider_line(name, operator, value),
+            (
+                Reason::OctetsHere | Reason::Tag | Reason::Refused(PolicyKind::NotValue),
+                Profile::Plain,
+            ) => reader.octets_line(name, operator, value),
+            _ => Ok(None),
+        }
     }
 
     // The line of an alternative. That its attribute is there is its condition.
@@ -367,6 +397,24 @@ impl<'a> ItemReader<'a> {
                 _ => Ok(false),
             },
             None => Ok(false),
+        }
+    }
+
+    /// Whether a text of the item at a place calls what changes attributes itself.
+    pub(crate) fn changes_attributes(&self, place: usize) -> bool {
+        let configuration = self.configuration;
+        match configuration.items.get(place) {
+            Some(item) => match &item.content {
+                Content::Pair {
+                    value: Some(value),
+                    ..
+                } => changes_attributes(&value.octets),
+                Content::Section { arguments, .. } => arguments
+                    .iter()
+                    .any(|argument| changes_attributes(&argument.octets)),
+                _ => false,
+            },
+            None => false,
         }
     }
 

@@ -18,13 +18,14 @@ mod others;
 mod sections;
 mod settings;
 mod statements;
+mod tagged_lines;
 mod templates;
 mod unset;
 mod wanted;
 
 pub use definitions::other_dictionary;
 pub use faults::ImportFault;
-pub use imports::{Imported, LeftOut, PatternWarning, import_statements};
+pub use imports::{Imported, LeftOut, Warning, import_statements};
 pub use initial::add_initial;
 pub use kept::keeps_names;
 pub use origin_texts::{origin_map, origin_path, push_origin};

@@ -1,12 +1,13 @@
 //! What policies do not have, and the attributes of `control` that it is in a policy: attributes of other lists, and
 //! expansions that ask something outside of the policy.
 
+use crate::settings::SectionKind;
 use crate::statements::{Statement, StatementKind};
 use avp_dict::{Dictionary, Named, ValueFault, is_container, same_name};
 use avp_lists::AttrId;
 use itoa::Buffer;
 use radpolicy_import_conditions::{
-    OtherAttribute, OtherList, OtherSource, ServerList, expansions_in, is_name_octet,
+    OtherAttribute, OtherList, OtherSource, ServerCode, ServerList, expansions_in, is_name_octet,
 };
 use server_configuration::{Configuration, Content, Text, has_reference};
 use std::alloc::{AllocError, Global};
@@ -27,6 +28,7 @@ struct Finder<'a> {
     configuration: &'a Configuration,
     dictionary: &'a Dictionary,
     stubs: Stubs,
+    section: SectionKind,
     found: Vec<OtherAttribute>,
 }
 
@@ -159,7 +161,7 @@ fn is_value_name(word: &[u8]) -> bool {
         && !word.iter().all(|octet| octet.is_ascii_digit())
 }
 
-// The name of the attribute that is set by `return`.
+// The name of the attribute that is set where a section ends by `return`.
 const RETURNED: &[u8] = b"Import-Returned";
 
 // How many names are tried where others have them.
@@ -473,7 +475,16 @@ impl<'a> Finder<'a> {
             .any(|other| matches!(&other.source, OtherSource::Returned))
     }
 
-    // Adds the attribute that is set by `return`, once.
+    // Whether a statement ends the section, and nothing else.
+    fn ends(&self, kind: StatementKind) -> bool {
+        match kind {
+            StatementKind::Return => true,
+            StatementKind::Code(ServerCode::Handled) => self.section == SectionKind::PostAuth,
+            _ => false,
+        }
+    }
+
+    // Adds the attribute that is set where the section ends, once.
     fn returned(&mut self) -> Result<(), AllocError> {
         if self.has_returned() || self.is_full() {
             return Ok(());
@@ -495,7 +506,7 @@ impl<'a> Finder<'a> {
     #[cycle(finding)]
     fn statement(&mut self, statement: &Statement) -> Result<(), AllocError> {
         self.item(statement.place)?;
-        if statement.kind == StatementKind::Return {
+        if self.ends(statement.kind) {
             self.returned()?;
         }
         let block = statement.block.as_slice();
@@ -521,6 +532,7 @@ pub fn other_attributes(
     configuration: &Configuration,
     dictionary: &Dictionary,
     stubs: Stubs,
+    section: SectionKind,
     statements: &[Statement],
 ) -> Result<Vec<OtherAttribute>, AllocError> {
     let mut finder = Finder {
@@ -528,6 +540,7 @@ pub fn other_attributes(
         configuration,
         dictionary,
         stubs,
+        section,
         found: Vec::new(alloc),
     };
     finder.block(statements)?;

@@ -175,10 +175,13 @@ impl Gathered {
     }
 }
 
-// Whether a text calls what changes attributes itself.
-fn changes_attributes(text: &[u8]) -> bool {
+/// Whether a text calls what changes attributes itself.
+pub(crate) fn changes_attributes(text: &[u8]) -> bool {
     text.windows(8).any(|part| part == b"explode:".as_slice())
         || text.windows(5).any(|part| part == b"rest:".as_slice())
+        || text
+            .windows(13)
+            .any(|part| part == b"dhcp_options:".as_slice())
 }
 
 // Whether a text by itself is an expansion that does nothing to attributes.
@@ -394,7 +397,12 @@ impl<'a> Builder<'a> {
             return Ok(self.leaf(place, StatementKind::Expansion));
         }
         if name.quote != Quote::Bare || name.octets.first() == Some(&b'%') {
-            return Ok(self.leaf(place, StatementKind::LeftOut(Reason::Expansion)));
+            let reason = if changes_attributes(&name.octets) {
+                Reason::ChangedList
+            } else {
+                Reason::Expansion
+            };
+            return Ok(self.leaf(place, StatementKind::LeftOut(reason)));
         }
         let word = name.octets.strip_prefix(b"-").unwrap_or(&name.octets);
         if let Some(code) = ServerCode::named(word) {

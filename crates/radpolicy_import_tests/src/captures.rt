@@ -2,7 +2,7 @@
 
 use crate::imports::{becomes, imported, settings_of};
 use avp_forms::Profile;
-use radpolicy_import_conditions::PatternDifference;
+use radpolicy_import_conditions::{Difference, PatternDifference};
 use samples::test_dictionary;
 use std::alloc::Global;
 use std::test::Fail;
@@ -42,10 +42,10 @@ fn where_there_is_something_else(rt: HostRuntime) -> Result<(), Fail> {
     assert!(rt;
         becomes(
             rt.alloc(),
-            b"authorize {\n update reply {\n Class := \"%{%{1}:-none}\"\n }\n}",
+            b"authorize {\n update reply {\n Reply-Message := \"%{%{1}:-none}\"\n }\n}",
             b"# profile: wider\nif (\"%{1}\") {  # main:3\n\tupdate reply {  # main:3\n\
-          \t\tClass := \"%{1}\"  # main:3\n\t}  # main:3\n}  # main:3\n\
-          else {  # main:3\n\tupdate reply {  # main:3\n\t\tClass := \"none\"  # main:3\n\
+          \t\tReply-Message := \"%{1}\"  # main:3\n\t}  # main:3\n}  # main:3\n\
+          else {  # main:3\n\tupdate reply {  # main:3\n\t\tReply-Message := \"none\"  # main:3\n\
           \t}  # main:3\n}  # main:3\n",
             (1, 1, 0),
         )?
@@ -133,7 +133,7 @@ fn warnings(alloc: Global, text: &[u8]) -> Result<usize, Fail> {
         imported
             .warnings
             .iter()
-            .filter(|warning| warning.difference == PatternDifference::Earlier)
+            .filter(|warning| warning.difference == Difference::Pattern(PatternDifference::Earlier))
             .count(),
     )
 }

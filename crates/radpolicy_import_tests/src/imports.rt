@@ -315,7 +315,9 @@ fn lines_of_the_wider_profile(rt: HostRuntime) -> Result<(), Fail> {
 #[test]
 fn without_the_wider_profile(rt: HostRuntime) -> Result<(), Fail> {
     let (text, kept) = vlan(rt.alloc(), Profile::Plain)?;
-    assert!(rt; text.starts_with(b"# left out, ") && kept == 0);
+    let wanted = b"update reply {  # main:2\n\tTunnel-Type := 0x0000000d  # main:3\n\
+        \tTunnel-Private-Group-Id := 0x013230  # main:4\n}  # main:2\n";
+    assert!(rt; text.as_slice() == wanted.as_slice() && kept == 2);
     Ok(())
 }
 
@@ -448,7 +450,7 @@ fn an_expansion_by_itself(rt: HostRuntime) -> Result<(), Fail> {
             rt.alloc(),
             b"authorize {\n %{db_online:fail}\n \"%{explode:&Class |}\"\n reject\n}",
             b"# an expansion by itself, %{db_online:fail}  # main:2\n\
-          # left out, an expansion that policies do not have: \"%{explode:&Class |}\"  # main:3\n\
+          # left out, an expansion that changes attributes: \"%{explode:&Class |}\"  # main:3\n\
           reject  # main:4\n",
             (2, 3, 0),
         )?

@@ -6,11 +6,17 @@ mod captures;
 #[cfg(test)]
 mod chosen_texts;
 #[cfg(test)]
+mod failing_updates;
+#[cfg(test)]
 mod imports;
 #[cfg(test)]
 mod initial;
 #[cfg(test)]
+mod long_texts;
+#[cfg(test)]
 mod memory_files;
+#[cfg(test)]
+mod octets;
 #[cfg(test)]
 mod other_lists;
 #[cfg(test)]

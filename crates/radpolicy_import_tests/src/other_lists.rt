@@ -61,8 +61,16 @@ fn others_of(
 ) -> Result<Vec<OtherAttribute>, Fail> {
     let configuration = configuration(alloc, text)?;
     let statements = authorize(alloc, &configuration)?;
-    let (stubs, statements) = (Stubs::Asking, statements.as_slice());
-    Ok(other_attributes(alloc, &configuration, dictionary, stubs, statements)?)
+    let (stubs, section) = (Stubs::Asking, SectionKind::PostAuth);
+    let statements = statements.as_slice();
+    Ok(other_attributes(
+        alloc,
+        &configuration,
+        dictionary,
+        stubs,
+        section,
+        statements,
+    )?)
 }
 
 // The attributes of other lists that the configuration names.
@@ -158,7 +166,7 @@ fn policy_of(alloc: Global, text: &[u8]) -> Result<(Vec<u8>, usize), Fail> {
         modules: &[],
         others: &others,
         codes: KnownCodes::unknown(),
-        section: SectionKind::Access,
+        section: SectionKind::PostAuth,
         initial: 0,
     };
     let imported = imported(alloc, &dictionary, settings, text)?;
@@ -170,6 +178,17 @@ fn policy_of(alloc: Global, text: &[u8]) -> Result<(Vec<u8>, usize), Fail> {
 fn what_follows_a_return(rt: HostRuntime) -> Result<(), Fail> {
     let (text, unset) = policy_of(rt.alloc(), RETURNS)?;
     assert_eq!(rt; text.as_slice(), ENDED);
+    assert_eq!(rt; unset, 0);
+    Ok(())
+}
+
+#[test]
+fn what_follows_where_a_request_is_handled(rt: HostRuntime) -> Result<(), Fail> {
+    let text = b"authorize {\n if (&User-Name) {\n handled\n }\n reject\n handled\n}";
+    let (text, unset) = policy_of(rt.alloc(), text)?;
+    let wanted = b"if (&User-Name) {\n\tupdate control {\n\t\tImport-Returned := \"yes\"\n\t}\n}\n\
+        if (!&control:Import-Returned) {\n\treject\n\t# handled, and nothing follows\n}\n";
+    assert_eq!(rt; text.as_slice(), wanted.as_slice());
     assert_eq!(rt; unset, 0);
     Ok(())
 }

@@ -2,7 +2,7 @@
 
 use crate::imports::{becomes, imported, settings_of};
 use avp_forms::Profile;
-use radpolicy_import_conditions::PatternDifference;
+use radpolicy_import_conditions::{Difference, PatternDifference};
 use samples::test_dictionary;
 use std::alloc::Global;
 use std::test::Fail;
@@ -109,12 +109,26 @@ fn left_out(rt: HostRuntime) -> Result<(), Fail> {
 }
 
 #[test]
-fn of_others_than_texts(rt: HostRuntime) -> Result<(), Fail> {
+fn of_values_of_other_types(rt: HostRuntime) -> Result<(), Fail> {
+    assert!(rt;
+        becomes(
+            rt.alloc(),
+            b"authorize {\n if (&NAS-IP-Address =~ /^192/ && !(\"%{NAS-Port}\" =~ /1/)) {\n ok\n }\n}",
+            b"# profile: wider\nif (&NAS-IP-Address =~ /^192/ && (!&NAS-Port || (&NAS-Port && !(&NAS-Port =~ /1/)))) {  # main:2\n\
+          \tok  # main:3\n}  # main:2\n",
+            (2, 2, 0),
+        )?
+    );
+    Ok(())
+}
+
+#[test]
+fn by_numbers_and_of_texts(rt: HostRuntime) -> Result<(), Fail> {
     assert!(rt;
         is_left_out(
             rt.alloc(),
-            b"(&NAS-Port =~ /1/)",
-            b"a regular expression for a value that is no text"
+            b"(&Attr-5 =~ /1/)",
+            b"a regular expression for an attribute by its number"
         )?
     );
     assert!(rt;
@@ -152,7 +166,7 @@ fn is_warned(
         imported.kept == 2
             && match imported.warnings.as_slice() {
                 [] => difference.is_none(),
-                [warning] => Some(warning.difference) == difference,
+                [warning] => Some(warning.difference) == difference.map(Difference::Pattern),
                 _ => false,
             },
     )

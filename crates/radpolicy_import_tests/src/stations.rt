@@ -4,8 +4,9 @@ use crate::imports::{authorize, configuration, imported, settings_of};
 use crate::other_lists::{dictionary_of, named};
 use avp_dict::FileSet;
 use avp_forms::Profile;
+use radpolicy_import_conditions::Difference;
 use radpolicy_import_policies::{
-    Imported, LineEnds, Settings, Stubs, other_attributes, other_dictionary,
+    Imported, LineEnds, SectionKind, Settings, Stubs, other_attributes, other_dictionary,
 };
 use samples::one_file;
 use std::alloc::Global;
@@ -35,7 +36,8 @@ fn with_functions(alloc: Global, text: &[u8]) -> Result<Imported, Fail> {
     let read = configuration(alloc, text)?;
     let statements = authorize(alloc, &read)?;
     let statements = statements.as_slice();
-    let others = other_attributes(alloc, &read, &plain, Stubs::Functions, statements)?;
+    let (stubs, section) = (Stubs::Functions, SectionKind::Access);
+    let others = other_attributes(alloc, &read, &plain, stubs, section, statements)?;
     let defined = other_dictionary(alloc, &files, &plain, &others)?;
     let both = vec![in alloc;
         named(alloc, b"others", &defined)?,
@@ -55,5 +57,20 @@ fn a_called_station(rt: HostRuntime) -> Result<(), Fail> {
     let imported = with_functions(rt.alloc(), CONFIGURATION)?;
     assert_eq!(rt; imported.text.as_slice(), POLICY);
     assert!(rt; (imported.kept, imported.read, imported.given) == (8, 8, 1));
+    Ok(())
+}
+
+#[test]
+fn a_function_that_changes_attributes(rt: HostRuntime) -> Result<(), Fail> {
+    let text = b"authorize {\n update request {\n \
+        Called-Station-SSID := \"%{explode:&Called-Station-Id -}\"\n }\n \
+        \"%{explode:&Called-Station-Id -}\"\n}";
+    let imported = with_functions(rt.alloc(), text)?;
+    let is_warned = match imported.warnings.as_slice() {
+        [warning] => warning.difference == Difference::ChangedList,
+        _ => false,
+    };
+    assert!(rt; is_warned);
+    assert!(rt; (imported.kept, imported.read, imported.given) == (1, 2, 1));
     Ok(())
 }

@@ -1,0 +1,37 @@
+//! What a server does otherwise with what is kept.
+
+use crate::patterns::PatternDifference;
+use thiserror::Error;
+
+/// What a server does otherwise with a line or a condition that is kept.
+#[derive(Clone, Copy, Debug, PartialEq, Eq, Error)]
+pub enum Difference {
+    #[error("{0}")]
+    Pattern(PatternDifference),
+    /// The policy has what is sent of it.
+    #[error("on a server the text is whole until the reply is sent")]
+    LongText,
+    #[error("on a server a date is one of its own zone")]
+    DateZone,
+    /// As `%{explode:..}` does.
+    #[error("on a server the expansion changes attributes")]
+    ChangedList,
+}
+
+impl Difference {
+    /// Its name, and that of the row of docs/SERVER.md; none of those with regular expressions.
+    pub fn name(self) -> Option<&'static str> {
+        match self {
+            Difference::Pattern(_) => None,
+            Difference::LongText => Some("long-text"),
+            Difference::DateZone => Some("date-zone"),
+            Difference::ChangedList => Some("changed-list"),
+        }
+    }
+}
+
+impl From<PatternDifference> for Difference {
+    fn from(difference: PatternDifference) -> Difference {
+        Difference::Pattern(difference)
+    }
+}
