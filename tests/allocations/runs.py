@@ -32,10 +32,17 @@ control
   Session-Timeout = 5
 result reject
 """
-# Its first run makes what searches for the expressions, and the others take it over.
+# Its first run makes what searches for the expressions, and the others take it over. Numbers and octets are searched as
+# they are printed.
 SEARCHING = b"""# profile: wider
 if (&User-Name =~ /^b(o*)/) {
 	update reply { Reply-Message := "%{1}" }
+}
+if (&control:Session-Timeout =~ /^(.)$/ && "%{1}") {
+	update reply { Filter-Id := "%{1}" }
+}
+if (&Proxy-State =~ /^0x(7a)+$/) {
+	update reply { Callback-Id := "%{0}" }
 }
 if (&User-Name =~ / / || &User-Name !~ /b$/) { reject }
 """
@@ -45,6 +52,8 @@ SEARCHED = b"""request
 reply
   Class = 0x01
   Reply-Message = "o"
+  Filter-Id = "7"
+  Callback-Id = "0x7a7a"
 control
   Session-Timeout = 7
 result ok

@@ -24,7 +24,9 @@ REQUESTS = {
     "no text": 'User-Name = "b\\351b", Filter-Id = "\\377\\001", NAS-Identifier = "\\303\\251"',
     "signs": 'User-Name = "a+b<c>[d]&&e~~f#g\'h", Filter-Id = "{2,3}", NAS-Identifier = "$1.50|^"',
     "long": f'User-Name = "{"ab" * 126}", Filter-Id = "{"a" * 253}"',
-    "absent": 'NAS-Port = 7, NAS-IP-Address = 192.168.1.16',
+    "absent": 'NAS-Port = 7, NAS-IP-Address = 192.168.1.16, Service-Type = Framed-User, Class = 0x0a1b'
+    ', Framed-IPv6-Prefix = 2001:db8::/32, NAS-IPv6-Address = 2001:db8::1, Framed-Interface-Id = 1:2:3:4'
+    ', Tunnel-Type:1 = VLAN',
 }
 # What the two agree on, of each of the requests.
 SAME = r"""
@@ -111,6 +113,21 @@ User-Name =~ /bob/
 &Filter-Id && (&Filter-Id =~ /gold/)
 &Filter-Id && !(&Filter-Id =~ /gold/)
 &User-Name && (!(&User-Name =~ /bob/) || (&User-Name =~ /eve/))
+&NAS-Port =~ /7/
+&NAS-Port =~ /^7$/
+&NAS-Port !~ /8/
+&NAS-IP-Address =~ /^192/
+&NAS-IP-Address !~ /^10\./
+&Service-Type =~ /^Framed-User$/
+&Service-Type =~ /2/
+&Class =~ /^0x0a1b$/
+&Class !~ /A/
+&Framed-IPv6-Prefix =~ /^2001:db8::\/32$/
+&NAS-IPv6-Address =~ /::1$/
+&Framed-Interface-Id =~ /^1:2:3:4$/
+&Tunnel-Type =~ /^VLAN$/
+&Tunnel-Type:1 =~ /VLAN/
+&Tunnel-Type:2 =~ /VLAN/
 """
 
 
@@ -155,8 +172,6 @@ TAKEN = {
     r"&User-Name =~ /[[d]/": "E59",
     r"&User-Name =~ /b(?R)?o/": "E59",
     r"&User-Name =~ /%{NAS-Port}/": "E58",
-    r"&NAS-Port =~ /7/": "E55",
-    r"&NAS-IP-Address =~ /^192/": "E55",
     r"&User-Name[*] =~ /bob/": "E50",
     r'"%{User-Name}x" =~ /bobx/': "E51",
     r'"%{User-Name}" =~ /bob/': "E51",
