@@ -14,6 +14,9 @@ pub enum ClientFault {
     Memory,
     #[error("file not readable")]
     Unreadable,
+    /// Whoever runs the program has no permission to read the file.
+    #[error("{}", FaultKind::Forbidden)]
+    Forbidden,
     /// The file, or one that it includes, is no configuration.
     #[error("{0}")]
     Configuration(FaultKind),
@@ -66,4 +69,6 @@ pub struct ClientsFault {
     pub path: Vec<u8>,
     pub line: usize,
     pub fault: ClientFault,
+    /// The path of what the line includes, where that is not read.
+    pub unread: Option<Vec<u8>>,
 }

@@ -40,11 +40,17 @@ impl<F: Files> Files for Begun<'_, F> {
 // The path and the place of what is not read.
 fn fault_at(alloc: Global, path: &[u8], line: usize, fault: ClientFault) -> ClientsFault {
     match Vec::from_slice(alloc, path) {
-        Ok(path) => ClientsFault { path, line, fault },
+        Ok(path) => ClientsFault {
+            path,
+            line,
+            fault,
+            unread: None,
+        },
         Err(_) => ClientsFault {
             path: Vec::new(alloc),
             line,
             fault: ClientFault::Memory,
+            unread: None,
         },
     }
 }
@@ -53,6 +59,7 @@ fn unread_fault(unread: Unread) -> ClientFault {
     match unread {
         Unread::Memory => ClientFault::Memory,
         Unread::Missing | Unread::Unreadable => ClientFault::Unreadable,
+        Unread::Forbidden => ClientFault::Forbidden,
         Unread::TooLong => ClientFault::Configuration(FaultKind::TooLong),
     }
 }
@@ -63,9 +70,15 @@ fn configuration_fault(refused: ConfigurationFault) -> ClientsFault {
         kind => ClientFault::Configuration(kind),
     };
     let line = refused.line;
+    let unread = refused.unread;
     let file = refused.file;
     let path = file.path;
-    ClientsFault { path, line, fault }
+    ClientsFault {
+        path,
+        line,
+        fault,
+        unread,
+    }
 }
 
 // The place of an item that is no client.

@@ -17,6 +17,7 @@ impl Files for TwoFiles<'_> {
         let octets = match path {
             b"c/first" => self.first,
             b"c/second" => self.second,
+            b"c/secret" => return Err(Unread::Forbidden),
             _ => return Err(Unread::Missing),
         };
         match Vec::from_slice(alloc, octets) {
@@ -136,6 +137,35 @@ fn clients_are_refused_with_their_places(rt: HostRuntime) {
             ClientFault::NotAddress
         )
     );
+}
+
+// Whether the first file, which includes what is not read, is refused with the path of that.
+fn names_unread(alloc: Global, first: &[u8], kind: FaultKind, unread: &[u8]) -> bool {
+    let files = TwoFiles {
+        first,
+        second: SECOND,
+    };
+    match read_clients(alloc, &files, b"c/first") {
+        Ok(_) => false,
+        Err(refused) => {
+            refused.fault == ClientFault::Configuration(kind)
+                && matches!(&refused.unread, Some(path) if path.as_slice() == unread)
+        }
+    }
+}
+
+#[test]
+fn what_could_not_be_read_has_its_path(rt: HostRuntime) {
+    let (missing, forbidden) = (FaultKind::Unreadable, FaultKind::Forbidden);
+    assert!(rt; names_unread(rt.alloc(), b"$INCLUDE third", missing, b"c/third"));
+    assert!(rt; names_unread(rt.alloc(), b"$INCLUDE secret", forbidden, b"c/secret"));
+}
+
+#[test]
+fn a_first_file_that_may_not_be_read_is_told(rt: HostRuntime) {
+    let (first, second) = (b"".as_slice(), b"".as_slice());
+    let read = read_clients(rt.alloc(), &TwoFiles { first, second }, b"c/secret");
+    assert!(rt; matches!(&read, Err(refused) if refused.fault == ClientFault::Forbidden));
 }
 
 fn line_fault(alloc: Global, text: &[u8]) -> Option<LineFault> {

@@ -12,6 +12,7 @@ use radpolicy_common::{Unread, read_file, refuse_early};
 use radpolicy_help::{refuse_unread_explained, tell_help};
 use radpolicy_replay_records::SharedSecrets;
 use server_configuration::SystemFiles;
+use std::alloc::{AllocError, Global};
 
 /// What the secret's file holds; nothing where there is none.
 pub fn read_secret<'a>(rt: &HostRuntime, plan: SecretPlan<'a>) -> Result<Octets, Unread<'a>> {
@@ -23,15 +24,32 @@ pub fn read_secret<'a>(rt: &HostRuntime, plan: SecretPlan<'a>) -> Result<Octets,
     }
 }
 
+// Where clients are not read, and what their line includes, if that is not read.
+fn clients_place(alloc: Global, refused: &ClientsFault) -> Result<String, AllocError> {
+    let file = String::from_utf8_lossy(alloc, &refused.path)?;
+    let line = refused.line;
+    match &refused.unread {
+        Some(unread) => {
+            let unread = String::from_utf8_lossy(alloc, unread)?;
+            format!(in alloc; "{file}:{line}: {unread}")
+        }
+        None => format!(in alloc; "{file}:{line}"),
+    }
+}
+
 // Why the clients are not read, and where. No secret is said.
 fn refuse_clients<'a>(rt: &HostRuntime, path: &'a str, refused: &ClientsFault) -> u8 {
     match refused.fault {
         ClientFault::Memory => refuse_early(rt, &Fault::Memory),
         ClientFault::Unreadable => refuse_unread_explained(rt, Unread::File(path)),
+        ClientFault::Forbidden => {
+            let fault = refused.fault;
+            let _ = eprintln!(rt; "radpolicy: E04 {path}: {fault}");
+            status(&Fault::FileNotReadable)
+        }
         fault => {
-            let line = refused.line;
-            let _ = match String::from_utf8_lossy(rt.alloc(), &refused.path) {
-                Ok(file) => eprintln!(rt; "radpolicy: E02 {file}:{line}: {fault}"),
+            let _ = match clients_place(rt.alloc(), refused) {
+                Ok(place) => eprintln!(rt; "radpolicy: E02 {place}: {fault}"),
                 Err(_) => eprintln!(rt; "radpolicy: E02 {path}: {fault}"),
             };
             tell_help(rt, client_help(rt.alloc(), fault));

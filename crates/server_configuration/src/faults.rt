@@ -38,8 +38,11 @@ pub enum FaultKind {
     #[error("too many octets")]
     TooLong,
     /// What this line includes is missing, or cannot be read.
-    #[error("include not readable")]
+    #[error("not there, or not readable")]
     Unreadable,
+    /// Whoever runs the program has no permission to read what this line includes.
+    #[error("no permission to read it: run this with sudo, or as a member of the group that owns it")]
+    Forbidden,
     /// More than [`MAX_FILES`](crate::MAX_FILES), or more includes than so many files need.
     #[error("too many files")]
     TooManyFiles,
@@ -90,18 +93,27 @@ pub struct ConfigurationFault {
     /// The line's number, from 1 on.
     pub line: usize,
     pub kind: FaultKind,
+    /// The path of the file or the folder that is not read: of what the line includes, or of the first file.
+    pub unread: Option<Vec<u8>>,
     ghost first: { 1 ≤ line },
     ghost last: { line ≤ 1 + line_feeds file.octets.items },
 }
 
 /// Why a configuration is not read, and at which of the files that were read.
-#[derive(Clone, Copy, Debug)]
+#[derive(Debug, Drop)]
 pub(crate) enum Refusal {
     Memory,
     At {
         file: usize,
         line: usize,
         kind: FaultKind,
+    },
+    /// What a line includes is not read.
+    Unread {
+        file: usize,
+        line: usize,
+        kind: FaultKind,
+        path: Vec<u8>,
     },
 }
 

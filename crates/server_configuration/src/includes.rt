@@ -84,6 +84,22 @@ impl Include {
             },
         }
     }
+
+    // What it leads to is not read.
+    fn unread(&self, alloc: Global, unread: Unread) -> Refusal
+        ensures { (files : List Source) → HasLine files self.now.file self.now.line
+            → IsPlaced files result }
+    {
+        match Vec::from_slice(alloc, &self.path) {
+            Ok(path) if unread != Unread::Memory => Refusal::Unread {
+                file: self.file,
+                line: self.line,
+                kind: kind_of(unread),
+                path,
+            },
+            _ => Refusal::Memory,
+        }
+    }
 }
 
 impl Task {
@@ -107,6 +123,7 @@ fn kind_of(unread: Unread) -> FaultKind {
     match unread {
         Unread::Memory => FaultKind::Memory,
         Unread::Missing | Unread::Unreadable => FaultKind::Unreadable,
+        Unread::Forbidden => FaultKind::Forbidden,
         Unread::TooLong => FaultKind::TooLong,
     }
 }
@@ -232,8 +249,8 @@ impl Reading {
         let limit = octets_left(&self.files).min(MAX_OCTETS);
         match source.octets(alloc, &include.path, limit) {
             Err(Unread::Missing) if include.optional => Ok(()),
-            Err(unread) => Err(include.refused(kind_of(unread))),
-            Ok(octets) if octets.len() > limit => Err(include.refused(FaultKind::TooLong)),
+            Err(unread) => Err(include.unread(alloc, unread)),
+            Ok(octets) if octets.len() > limit => Err(include.unread(alloc, Unread::TooLong)),
             Ok(octets) => {
                 let Include {
                     path,
@@ -268,7 +285,7 @@ impl Reading {
     {
         match source.names(alloc, &include.path) {
             Err(Unread::Missing) if include.optional => Ok(()),
-            Err(unread) => Err(include.refused(kind_of(unread))),
+            Err(unread) => Err(include.unread(alloc, unread)),
             Ok(names) => self.open_names(alloc, source, include, names),
         }
     }
@@ -526,20 +543,34 @@ impl Reading {
     }
 }
 
-// The fault of the first file, which is not read.
-fn unopened(alloc: Global, path: &[u8], kind: FaultKind) -> ConfigurationFault {
-    let path = match Vec::from_slice(alloc, path) {
-        Ok(path) => path,
-        Err(_) => Vec::new(alloc),
-    };
+// The fault of no file.
+fn no_memory(alloc: Global) -> ConfigurationFault {
     ConfigurationFault {
         file: SourceFile {
-            path,
+            path: Vec::new(alloc),
             octets: Vec::new(alloc),
             depth: 0,
         },
         line: 1,
-        kind,
+        kind: FaultKind::Memory,
+        unread: None,
+    }
+}
+
+// The fault of the first file, which is not read.
+fn unopened(alloc: Global, path: &[u8], kind: FaultKind) -> ConfigurationFault {
+    match (Vec::from_slice(alloc, path), Vec::from_slice(alloc, path)) {
+        (Ok(path), Ok(unread)) if kind != FaultKind::Memory => ConfigurationFault {
+            file: SourceFile {
+                path,
+                octets: Vec::new(alloc),
+                depth: 0,
+            },
+            line: 1,
+            kind,
+            unread: Some(unread),
+        },
+        _ => no_memory(alloc),
     }
 }
 
@@ -549,11 +580,23 @@ fn fault_of(alloc: Global, files: Vec<SourceFile>, refusal: Refusal) -> Configur
 {
     let mut files = files;
     match refusal {
-        Refusal::Memory => unopened(alloc, &[], FaultKind::Memory),
+        Refusal::Memory => no_memory(alloc),
         Refusal::At { file, line, kind } => ConfigurationFault {
             file: files.swap_remove(file),
             line,
             kind,
+            unread: None,
+        },
+        Refusal::Unread {
+            file,
+            line,
+            kind,
+            path,
+        } => ConfigurationFault {
+            file: files.swap_remove(file),
+            line,
+            kind,
+            unread: Some(path),
         },
     }
 }

@@ -20,7 +20,9 @@ pub enum Unread {
     Memory,
     /// It is not there.
     Missing,
-    /// It is there, and cannot be read.
+    /// Whoever runs the program has no permission to read it, or to look into a folder on the way to it.
+    Forbidden,
+    /// It cannot be read for another reason.
     Unreadable,
     /// It has more octets than were asked for.
     TooLong,
@@ -60,6 +62,7 @@ fn unread_of(error: &io::Error) -> Unread {
     match error.kind() {
         ErrorKind::OutOfMemory => Unread::Memory,
         ErrorKind::NotFound | ErrorKind::NotADirectory => Unread::Missing,
+        ErrorKind::PermissionDenied => Unread::Forbidden,
         _ => Unread::Unreadable,
     }
 }

@@ -106,6 +106,57 @@ fn includes_that_cannot_be_read_are_told_with_their_place(rt: HostRuntime) {
     assert!(rt; is_refused(rt.alloc(), &files, b"r/main", 2, FaultKind::TooDeep));
 }
 
+// The path of what could not be read, from a place of the first file.
+fn names_unread<'a>(
+    alloc: Global,
+    files: &'a [MemoryFile<'a>],
+    first: &[u8],
+    kind: FaultKind,
+    unread: &[u8],
+) -> bool {
+    match read_configuration(alloc, &MemoryFiles { files }, first) {
+        Ok(_) => false,
+        Err(fault) => {
+            fault.file.path.as_slice() == first
+                && fault.kind == kind
+                && matches!(&fault.unread, Some(path) if path.as_slice() == unread)
+        }
+    }
+}
+
+#[test]
+fn what_could_not_be_read_has_its_path(rt: HostRuntime) {
+    let files = [
+        file(b"r/main", b"a = 1\n$INCLUDE b"),
+        file(b"r/file", b"$-INCLUDE s/secret"),
+        file(b"r/folder", b"$INCLUDE secret/"),
+    ];
+    let (missing, forbidden) = (FaultKind::Unreadable, FaultKind::Forbidden);
+    assert!(rt; names_unread(rt.alloc(), &files, b"r/main", missing, b"r/b"));
+    assert!(rt; names_unread(rt.alloc(), &files, b"r/file", forbidden, b"r/s/secret"));
+    assert!(rt; names_unread(rt.alloc(), &files, b"r/folder", forbidden, b"r/secret/"));
+    assert!(rt; names_unread(rt.alloc(), &files, b"r/none", missing, b"r/none"));
+    assert!(rt; names_unread(rt.alloc(), &files, b"secret", forbidden, b"secret"));
+}
+
+#[test]
+fn a_file_in_a_folder_that_may_not_be_read_has_its_path(rt: HostRuntime) {
+    let files = [
+        file(b"r/main", b"$INCLUDE s/"),
+        file(b"r/s/a", b"a"),
+        file(b"r/s/secret", b"b"),
+    ];
+    let forbidden = FaultKind::Forbidden;
+    assert!(rt; names_unread(rt.alloc(), &files, b"r/main", forbidden, b"r/s/secret"));
+}
+
+#[test]
+fn other_faults_name_no_path(rt: HostRuntime) {
+    let files = [file(b"r/main", b"}")];
+    let read = read_configuration(rt.alloc(), &MemoryFiles { files: &files }, b"r/main");
+    assert!(rt; matches!(&read, Err(fault) if fault.unread.is_none()));
+}
+
 #[test]
 fn a_fault_has_the_place_in_its_file(rt: HostRuntime) {
     let files = [file(b"r/main", b"a {\n$INCLUDE b\n}"), file(b"r/b", b"\n}")];

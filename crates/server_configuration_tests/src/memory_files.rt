@@ -9,6 +9,11 @@ pub(crate) struct MemoryFile<'a> {
     pub(crate) octets: &'a [u8],
 }
 
+// Whether no one may read what has this path.
+fn is_forbidden(path: &[u8]) -> bool {
+    path.ends_with(b"secret") || path.ends_with(b"secret/")
+}
+
 /// A folder for each path up to a `/`.
 #[derive(Clone, Copy)]
 pub(crate) struct MemoryFiles<'a> {
@@ -24,6 +29,9 @@ fn copied(alloc: Global, octets: &[u8]) -> Result<Vec<u8>, Unread> {
 
 impl Files for MemoryFiles<'_> {
     fn octets(&self, alloc: Global, path: &[u8], limit: usize) -> Result<Vec<u8>, Unread> {
+        if is_forbidden(path) {
+            return Err(Unread::Forbidden);
+        }
         for file in self.files {
             if file.path == path {
                 if file.octets.len() > limit {
@@ -36,6 +44,9 @@ impl Files for MemoryFiles<'_> {
     }
 
     fn names(&self, alloc: Global, folder: &[u8]) -> Result<Vec<Vec<u8>>, Unread> {
+        if is_forbidden(folder) {
+            return Err(Unread::Forbidden);
+        }
         let mut names = Vec::new(alloc);
         for file in self.files {
             if let Some(name) = file.path.strip_prefix(folder) {
