@@ -1,4 +1,5 @@
 pub mod Cases
 pub mod KeptCaptures
+pub mod Opening
 pub mod Repeated
 pub mod Truths

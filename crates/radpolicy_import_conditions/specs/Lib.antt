@@ -1,4 +1,5 @@
 pub mod Capturing
 pub mod Conditions
+pub mod Opened
 pub mod Switches
 pub mod internal

@@ -2,15 +2,18 @@
 
 ghost use Rattle.std.specs.Prelude.{◌≤◌, length};
 
+use crate::addresses::octal_address;
 use crate::choices::sole_choice;
 use crate::patterns::{WrittenPattern, flagged, match_sign, matches_empty, pattern_text};
 use crate::reasons::{Reason, Refusal};
-use crate::references::{Names, Reference, has_texts, is_number, kind_of, reference_of};
+use crate::references::{
+    Names, Reference, has_texts, is_address, is_number, kind_of, reference_of,
+};
 use crate::server_codes::{KnownCodes, ServerCode};
 use crate::server_conditions::ServerCondition;
 use crate::texts::{expansion, has_expansion, sole_capture, sole_expansion, text_octets};
-use avp_dict::Kind;
-use avp_lists::{Octets, Selection};
+use avp_dict::{Kind, Named};
+use avp_lists::{Octets, Selection, Value};
 use avp_unlang::{Comparand, Comparison, Matching, Relation};
 use server_configuration::Quote;
 use std::alloc::Global;
@@ -51,6 +54,8 @@ pub struct ConditionReader<'a> {
     pub codes: KnownCodes,
     /// Whether comparisons with regular expressions are taken, and what they capture.
     pub takes_patterns: bool,
+    /// Whether a part of an address that begins with `0` is octal, as a server reads it.
+    pub reads_octal: bool,
 }
 
 // How deep a part of a condition is, and how many parts may follow.
@@ -221,6 +226,18 @@ impl<'a> ConditionReader<'a> {
         }
     }
 
+    // The value that a text is.
+    fn value_of_text(&self, named: Named, text: &[u8]) -> Result<Value, Refusal> {
+        let dictionary = self.names.dictionary;
+        if self.reads_octal
+            && is_address(dictionary, named)
+            && let Some(address) = octal_address(text)?
+        {
+            return Ok(Value::Addr(address));
+        }
+        Ok(dictionary.value_of_text(self.alloc, named, text)?)
+    }
+
     /// The comparison of an attribute with what a text stands for.
     pub(crate) fn compared_with_text(
         &self,
@@ -232,10 +249,7 @@ impl<'a> ConditionReader<'a> {
             return Err(Refusal::LeftOut(Reason::OctetsHere));
         }
         let octets = text_octets(self.alloc, &self.names, operand.quote, operand.octets)?;
-        let value = self
-            .names
-            .dictionary
-            .value_of_text(self.alloc, reference.named, &octets)?;
+        let value = self.value_of_text(reference.named, &octets)?;
         Ok(Comparison {
             list: reference.list,
             id: reference.named.id,

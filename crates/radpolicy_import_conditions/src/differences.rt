@@ -11,6 +11,12 @@ pub enum Difference {
     /// The policy has what is sent of it.
     #[error("on a server the text is whole until the reply is sent")]
     LongText,
+    /// What is sent has room for no more than an attribute of the dictionary.
+    #[error("on a server the text is cut when it is sent if it becomes too long, and here the update fails")]
+    LongExpansion,
+    /// A server takes the value as a text.
+    #[error("on a server the value is a text even if it begins with 0x; here it is octets, or the update fails")]
+    TaggedOctets,
     #[error("on a server a date is one of its own zone")]
     DateZone,
     /// As `%{explode:..}` does.
@@ -24,6 +30,8 @@ impl Difference {
         match self {
             Difference::Pattern(_) => None,
             Difference::LongText => Some("long-text"),
+            Difference::LongExpansion => Some("long-expansion"),
+            Difference::TaggedOctets => Some("tagged-octets"),
             Difference::DateZone => Some("date-zone"),
             Difference::ChangedList => Some("changed-list"),
         }

@@ -4,12 +4,15 @@
 //! branch, and [`ConditionPrinter`] writes it; [`LineReader`] does all of that with a line of an update.
 #![tactic(auto)]
 
+mod addresses;
 mod capturing;
 mod choices;
 mod condition_texts;
 mod differences;
 mod expansions;
+mod lengths;
 mod lines;
+mod opened;
 mod other_attributes;
 mod other_lists;
 mod patterns;
@@ -28,6 +31,7 @@ pub use condition_texts::{ConditionReader, Operand};
 pub use differences::Difference;
 pub use expansions::{Expansion, expansions_in};
 pub use lines::{LineReader, TaggedLine, UpdateLine};
+pub use opened::{opened_alike, says};
 pub use other_attributes::{OtherAttribute, OtherSource};
 pub use other_lists::{OtherList, ServerList};
 pub use patterns::{PatternDifference, add_differences, push_matchings};

@@ -1,23 +1,24 @@
 //! Lines of updates.
 
+use crate::addresses::octal_address;
 use crate::differences::Difference;
 use crate::other_lists::ServerList;
 use crate::reasons::{Reason, Refusal};
 use crate::references::{
-    Names, Reference, has_texts, kind_of, list_name, parts_of, push_spelling, reference_in,
-    reference_of,
+    Names, Reference, has_texts, is_address, kind_of, list_name, parts_of, push_spelling,
+    reads_digits, reference_in, reference_of, tag_of,
 };
 use crate::texts::{
-    PutIn, between, has_expansion, octets_before_expansions, push_double, push_expansion,
-    push_octets, push_reference, single_octets,
+    Beginning, PutIn, between, has_expansion, octets_before_expansions, push_double,
+    push_expansion, push_octets, push_reference, single_octets, text_octets,
 };
-use avp_dict::{Form, Kind};
-use avp_lists::{AttrId, List, Selection, Value};
+use avp_dict::{Form, Kind, Named};
+use avp_lists::{AttrId, List, Pair, Selection, Value};
 use avp_unlang::{Line, Policy, Source, Statement, read_policy};
 use server_configuration::{Operator, Quote, Text};
 use std::alloc::{AllocError, Global};
 
-/// What a line in octets is of, where the attribute's values have tags.
+/// What a line is of, where the attribute's values have tags.
 #[derive(Clone, Copy)]
 pub struct TaggedLine {
     pub list: List,
@@ -39,7 +40,7 @@ pub struct UpdateLine {
     pub captures: bool,
     /// Whether what is put into it may be no value of the attribute, by which the update fails.
     pub may_fail: bool,
-    /// Its tag, where that is in octets.
+    /// What it is of, where the attribute's values have tags.
     pub tagged: Option<TaggedLine>,
     /// What a server does otherwise with it.
     pub difference: Option<Difference>,
@@ -85,21 +86,18 @@ fn sign(operator: Operator) -> Option<&'static [u8]> {
     }
 }
 
-// `0x`, and two hexadecimal digits for each octet.
-fn hexadecimal(alloc: Global, octets: &[u8]) -> Result<Vec<u8>, AllocError> {
-    let mut text = Vec::from_slice(alloc, b"0x")?;
-    for octet in octets {
-        text.extend_from_slice(&[digit(*octet / 16), digit(*octet % 16)])?;
-    }
-    Ok(text)
+// Whether an update adds the value to those of its list, or sets it.
+fn adds(operator: Operator) -> bool {
+    matches!(
+        operator,
+        Operator::Equals | Operator::Set | Operator::Add | Operator::Prepend
+    )
 }
 
-fn digit(number: u8) -> u8 {
-    match number {
-        0..=9 => b'0' + number,
-        10..=15 => b'a' + (number - 10),
-        _ => b'0',
-    }
+// `0x`, and two hexadecimal digits for each octet.
+fn hexadecimal(alloc: Global, octets: &[u8]) -> Result<Vec<u8>, AllocError> {
+    let digits = hex::encode(alloc, octets)?;
+    between(alloc, b"0x", digits.as_bytes(), b"")
 }
 
 // Whether octets are one word of a policy.
@@ -155,11 +153,38 @@ impl<'a> LineReader<'a> {
         if put_in.is_some() && !self.takes_expansions(target) {
             return Err(Refusal::LeftOut(Reason::ExpandedValue));
         }
-        // No expansion makes it shorter.
-        if put_in.octets > self.names.dictionary.greatest_length(target.named.id) {
+        // No expansion makes it shorter. What is written out alone is read with the policy.
+        let may_be_digits = put_in.beginning != Beginning::Other;
+        if put_in.is_some() && put_in.octets > self.room(target.named, may_be_digits) {
             return Err(Refusal::LeftOut(Reason::TooLong));
         }
         Ok(put_in)
+    }
+
+    // How long a text may be for an attribute. Of octets it may be the digits, two for each behind `0x`.
+    fn room(&self, named: Named, is_digits: bool) -> usize {
+        let most = self.names.dictionary.greatest_length(named.id);
+        if is_digits && reads_digits(self.names.dictionary, named) {
+            most.saturating_mul(2).saturating_add(2)
+        } else {
+            most
+        }
+    }
+
+    // What a server does otherwise with a text for an attribute in a reply, where it becomes too long.
+    fn cut_when_sent(
+        &self,
+        list: List,
+        named: Named,
+        operator: Operator,
+        put_in: PutIn,
+    ) -> Option<Difference> {
+        let is_digits = matches!(put_in.beginning, Beginning::Digits | Beginning::Octets);
+        let may_be_cut = list == List::Reply
+            && adds(operator)
+            && put_in.is_some()
+            && put_in.most > self.room(named, is_digits);
+        may_be_cut.then_some(Difference::LongExpansion)
     }
 
     fn push_value(
@@ -168,6 +193,10 @@ impl<'a> LineReader<'a> {
         target: &Reference<'_>,
         value: &Text,
     ) -> Result<PutIn, Refusal> {
+        if let Some(address) = self.octal_address(target, value)? {
+            self.push_address(out, target, address)?;
+            return Ok(PutIn::nothing());
+        }
         let octets = value.octets.as_slice();
         match value.quote {
             Quote::Double => return self.push_text(out, target, octets),
@@ -182,11 +211,48 @@ impl<'a> LineReader<'a> {
 
     // Whether what is put into a text may make it one that the attribute's type does not read: octets are read from
     // what begins with `0x`.
-    fn may_fail(&self, target: &Reference<'_>, value: &Text, put_in: PutIn) -> bool {
+    fn may_fail(&self, target: &Reference<'_>, put_in: PutIn) -> bool {
         self.skips
             && put_in.is_some()
-            && kind_of(self.names.dictionary, target.named) == Kind::Bytes
-            && matches!(value.octets.as_slice(), [b'%' | b'0', ..])
+            && reads_digits(self.names.dictionary, target.named)
+            && put_in.beginning != Beginning::Other
+    }
+
+    // The address that a text is to a server, if policies read another.
+    fn octal_address(
+        &self,
+        target: &Reference<'_>,
+        value: &Text,
+    ) -> Result<Option<[u8; 4]>, Refusal> {
+        if !self.skips
+            || !is_address(self.names.dictionary, target.named)
+            || has_expansion(&value.octets)
+            || value.quote == Quote::Back
+        {
+            return Ok(None);
+        }
+        let octets = text_octets(self.alloc, &self.names, value.quote, &value.octets)?;
+        Ok(octal_address(&octets)?)
+    }
+
+    fn push_address(
+        &self,
+        out: &mut Vec<u8>,
+        target: &Reference<'_>,
+        address: [u8; 4],
+    ) -> Result<(), Refusal> {
+        let pair = Pair {
+            id: target.named.id,
+            value: Value::Addr(address),
+        };
+        if !self.names.dictionary.fits(&pair) {
+            return Err(Refusal::LeftOut(Reason::NotValue));
+        }
+        let text = self
+            .names
+            .dictionary
+            .text_of_value(self.alloc, pair.id, &pair.value)?;
+        Ok(out.extend_from_slice(&text)?)
     }
 
     // Whether a server makes a text of a number or an address that is copied.
@@ -270,7 +336,8 @@ impl<'a> LineReader<'a> {
         Ok(UpdateLine {
             is_wider: put_in.captures || put_in.meanings,
             captures: put_in.captures,
-            may_fail: self.may_fail(&target, value, put_in),
+            may_fail: self.may_fail(&target, put_in),
+            difference: self.cut_when_sent(target.list, target.named, operator, put_in),
             ..plain_line(text)
         })
     }
@@ -282,11 +349,7 @@ impl<'a> LineReader<'a> {
         operator: Operator,
         value: Option<&Text>,
     ) -> Result<Option<UpdateLine>, Refusal> {
-        let adds = matches!(
-            operator,
-            Operator::Equals | Operator::Set | Operator::Add | Operator::Prepend
-        );
-        let (Some(sign), Some(value), true) = (sign(operator), value, adds) else {
+        let (Some(sign), Some(value), true) = (sign(operator), value, adds(operator)) else {
             return Ok(None);
         };
         let target = reference_in(
@@ -298,6 +361,9 @@ impl<'a> LineReader<'a> {
             return Ok(None);
         }
         let octets = octets_before_expansions(self.alloc, &self.names, value)?;
+        if octets.starts_with(b"0x") && reads_digits(self.names.dictionary, target.named) {
+            return Ok(None);
+        }
         let most = self.names.dictionary.greatest_length(target.named.id);
         let Some(sent) = octets.get(..most) else {
             return Ok(None);
@@ -384,9 +450,23 @@ impl<'a> LineReader<'a> {
         })
     }
 
-    // The form of the values of the attribute of a name, which may have a tag.
+    // The attribute of a name, which may have a tag.
+    fn attribute(&self, name: &[u8]) -> Option<Named> {
+        let dictionary = self.names.dictionary;
+        match parts_of(self.own, name) {
+            (ServerList::Own(_), name, _) => dictionary.by_name(name),
+            (ServerList::Other(list), name, _) => {
+                dictionary.by_name(self.names.own_name(list, name)?)
+            }
+        }
+    }
+
+    // The form of its values, where it is not given by its number.
     fn form(&self, name: &[u8]) -> Option<Form> {
-        let named = self.names.dictionary.by_name(parts_of(self.own, name).1)?;
+        let named = self.attribute(name)?;
+        if named.raw {
+            return None;
+        }
         self.names.dictionary.form(named.id)
     }
 
@@ -415,6 +495,7 @@ impl<'a> LineReader<'a> {
         &self,
         before: &[u8],
         name: &[u8],
+        operator: Operator,
         value: &Text,
     ) -> Result<Option<UpdateLine>, Refusal> {
         if !has_expansion(&value.octets)
@@ -425,9 +506,87 @@ impl<'a> LineReader<'a> {
         }
         let mut text = Vec::from_slice(self.alloc, before)?;
         let put_in = push_double(&mut text, &self.names, &value.octets)?;
+        // A server takes it as a text, and policies read octets.
+        if put_in.beginning == Beginning::Digits {
+            return Ok(None);
+        }
         Ok(Some(UpdateLine {
             is_wider: put_in.captures || put_in.meanings,
             captures: put_in.captures,
+            difference: self.filled_difference(name, operator, put_in),
+            ..plain_line(text)
+        }))
+    }
+
+    // What a server does otherwise with a text with something put in, whose attribute's texts have tags.
+    fn filled_difference(
+        &self,
+        name: &[u8],
+        operator: Operator,
+        put_in: PutIn,
+    ) -> Option<Difference> {
+        if put_in.beginning != Beginning::Other {
+            return Some(Difference::TaggedOctets);
+        }
+        let (list, _, tag) = parts_of(self.own, name);
+        let put_in = PutIn {
+            most: put_in
+                .most
+                .saturating_add(usize::from(matches!(tag_of(tag), Some(1..)))),
+            ..put_in
+        };
+        self.cut_when_sent(list.list(), self.attribute(name)?, operator, put_in)
+    }
+
+    // The octets of the text that a value is to a server, if it begins with `0x` and its attribute's texts have tags:
+    // of such a text policies read the digits.
+    fn lettered_octets(&self, name: &[u8], value: &Text) -> Result<Option<Vec<u8>>, Refusal> {
+        let octets = value.octets.as_slice();
+        if !self.skips
+            || self.form(name) != Some(Form::TaggedString)
+            || has_expansion(octets)
+            || value.quote == Quote::Back
+        {
+            return Ok(None);
+        }
+        let letters = text_octets(self.alloc, &self.names, value.quote, octets)?;
+        let Some(tag) = tag_of(parts_of(self.own, name).2) else {
+            return Ok(None);
+        };
+        if !letters.starts_with(b"0x") {
+            return Ok(None);
+        }
+        let mut sent = Vec::new(self.alloc);
+        if tag != 0 {
+            sent.push(tag)?;
+        }
+        sent.extend_from_slice(&letters)?;
+        Ok(Some(sent))
+    }
+
+    // The line of such a value, with its octets in place of it.
+    fn lettered_line(
+        &self,
+        name: &[u8],
+        operator: Operator,
+        value: &Text,
+    ) -> Result<Option<UpdateLine>, Refusal> {
+        let Some(octets) = self.lettered_octets(name, value)? else {
+            return Ok(None);
+        };
+        let Some(named) = self.attribute(name) else {
+            return Ok(None);
+        };
+        let (list, _, tag) = parts_of(self.own, name);
+        let bare = name.strip_suffix(tag).unwrap_or(name);
+        let mut text = Vec::new(self.alloc);
+        if !self.push_begin(&mut text, bare, operator)? {
+            return Ok(None);
+        }
+        text.extend_from_slice(&hexadecimal(self.alloc, &octets)?)?;
+        let tag = tag_of(tag).filter(|_| !tag.is_empty());
+        Ok(Some(UpdateLine {
+            tagged: self.tagged(list.list(), named.id, tag, operator),
             ..plain_line(text)
         }))
     }
@@ -445,12 +604,16 @@ impl<'a> LineReader<'a> {
         let Some(value) = value else {
             return Ok(None);
         };
+        if let Some(line) = self.lettered_line(name, operator, value)? {
+            return Ok(Some(line));
+        }
         if !self.push_begin(&mut text, name, operator)? {
             return Ok(None);
         }
-        if let Some(line) = self.filled_line(&text, name, value)? {
+        if let Some(line) = self.filled_line(&text, name, operator, value)? {
             return Ok(Some(UpdateLine {
                 is_wider: true,
+                tagged: self.tagged_by_name(name),
                 ..line
             }));
         }
@@ -464,9 +627,17 @@ impl<'a> LineReader<'a> {
         let is_date = self.form(name) == Some(Form::Date);
         Ok(Some(UpdateLine {
             is_wider: true,
+            tagged: self.tagged_by_name(name),
             difference: is_date.then_some(Difference::DateZone),
             ..plain_line(text)
         }))
+    }
+
+    // What a line of the wider profile is of, which minds no other tags.
+    fn tagged_by_name(&self, name: &[u8]) -> Option<TaggedLine> {
+        let (list, _, tag) = parts_of(self.own, name);
+        let id = self.attribute(name)?.id;
+        self.tagged(list.list(), id, tag_of(tag), Operator::Add)
     }
 
     // What a line of the wider profile is, read by itself.
@@ -574,13 +745,13 @@ impl<'a> LineReader<'a> {
         operator: Operator,
         filled: UpdateLine,
     ) -> Option<UpdateLine> {
-        let (list, attribute, tag) = parts_of(self.own, name);
+        let (list, _, tag) = parts_of(self.own, name);
         if filled.is_wider || !tag.is_empty() {
             return None;
         }
-        let named = self.names.dictionary.by_name(attribute)?;
+        let id = self.attribute(name)?.id;
         Some(UpdateLine {
-            tagged: self.tagged(list.list(), named.id, None, operator),
+            tagged: self.tagged(list.list(), id, None, operator),
             ..filled
         })
     }
@@ -600,11 +771,14 @@ impl<'a> LineReader<'a> {
         let bare = name
             .strip_suffix(parts_of(self.own, name).2)
             .unwrap_or(name);
+        if let Some(line) = self.lettered_line(name, operator, text)? {
+            return Ok(Some(line));
+        }
         let mut before = Vec::new(self.alloc);
         if !self.push_begin(&mut before, bare, operator)? {
             return Ok(None);
         }
-        if let Some(filled) = self.filled_line(&before, bare, text)? {
+        if let Some(filled) = self.filled_line(&before, bare, operator, text)? {
             return Ok(self.untagged_line(name, operator, filled));
         }
         match self.wider_line(name, operator, value)? {

@@ -17,7 +17,7 @@ pub struct ConditionPrinter<'a> {
 }
 
 #[derive(Clone, Copy)]
-enum Join {
+pub(crate) enum Join {
     And,
     Or,
 }

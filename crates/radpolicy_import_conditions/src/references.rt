@@ -171,6 +171,17 @@ pub fn parts_of(own: ServerList, word: &[u8]) -> (ServerList, &[u8], &[u8]) {
     (list, name, tag)
 }
 
+/// The tag that is behind a name, with its colon: 0 where none is. None for one that is no tag.
+pub(crate) fn tag_of(tag: &[u8]) -> Option<u8> {
+    match tag {
+        [] => Some(0),
+        [b':', one @ b'0'..=b'9'] => Some(*one - b'0'),
+        [b':', ten @ b'1'..=b'2', one @ b'0'..=b'9'] => Some((*ten - b'0') * 10 + (*one - b'0')),
+        [b':', b'3', one @ b'0'..=b'1'] => Some(30 + (*one - b'0')),
+        _ => None,
+    }
+}
+
 /// What a word without `&` refers to in a text or a condition: a name alone is of the request.
 pub(crate) fn reference_of<'a>(names: &Names<'_>, word: &'a [u8]) -> Result<Reference<'a>, Reason> {
     reference_in(names, ServerList::Own(List::Request), word)
@@ -205,4 +216,14 @@ pub(crate) fn kind_of(dictionary: &Dictionary, named: Named) -> Kind {
         Some(entry) => entry.kind,
         None => Kind::Bytes,
     }
+}
+
+/// Whether an attribute's values are IPv4 addresses.
+pub(crate) fn is_address(dictionary: &Dictionary, named: Named) -> bool {
+    !named.raw && kind_of(dictionary, named) == Kind::Addr
+}
+
+/// Whether an attribute's values are octets, which are read from what begins with `0x`.
+pub(crate) fn reads_digits(dictionary: &Dictionary, named: Named) -> bool {
+    named.raw || kind_of(dictionary, named) == Kind::Bytes
 }

@@ -1,11 +1,12 @@
 //! Quoted texts, as a server reads them.
 
-ghost use Rattle.std.specs.Prelude.{◌≤◌, ◌<◌, length, IfOk, IfSome};
+ghost use Rattle.std.specs.Prelude.{◌≡◌, ◌≤◌, ◌<◌, ◌++◌, length, IfOk, IfSome};
 
 use crate::expansions::closing_brace;
+use crate::lengths::{LONGEST_TEXT, longest_text};
 use crate::reasons::{Reason, Refusal};
 use crate::references::{
-    Names, Reference, Spelling, has_texts, list_name, push_spelling, reference_of,
+    Names, Reference, Spelling, has_texts, list_name, push_spelling, reads_digits, reference_of,
 };
 use avp_dict::Dictionary;
 use avp_lists::List;
@@ -21,6 +22,18 @@ enum Part<'a> {
     Capture(u8),
 }
 
+/// How a text begins.
+#[derive(Clone, Copy, PartialEq, Eq)]
+pub(crate) enum Beginning {
+    /// With `0x`.
+    Digits,
+    /// With what is put in, or `0` and that: it may be `0x`.
+    PutIn,
+    /// With `0x`, or not at all: the octets of an attribute are all of it.
+    Octets,
+    Other,
+}
+
 /// What is put into a text.
 #[derive(Clone, Copy)]
 pub(crate) struct PutIn {
@@ -30,6 +43,9 @@ pub(crate) struct PutIn {
     pub(crate) meanings: bool,
     /// How many octets of it are written out.
     pub(crate) octets: usize,
+    /// How many octets it may have at most.
+    pub(crate) most: usize,
+    pub(crate) beginning: Beginning,
 }
 
 impl PutIn {
@@ -39,6 +55,8 @@ impl PutIn {
             captures: false,
             meanings: false,
             octets: 0,
+            most: 0,
+            beginning: Beginning::Other,
         }
     }
 
@@ -202,6 +220,7 @@ fn push_part(
             push_octet(out, octet)?;
             Ok(PutIn {
                 octets: put_in.octets.saturating_add(1),
+                most: put_in.most.saturating_add(1),
                 ..put_in
             })
         }
@@ -212,6 +231,9 @@ fn push_part(
             Ok(PutIn {
                 attributes: true,
                 meanings: put_in.meanings || !has_texts(names.dictionary, reference.named),
+                most: put_in
+                    .most
+                    .saturating_add(longest_text(names.dictionary, reference.named)),
                 ..put_in
             })
         }
@@ -219,9 +241,28 @@ fn push_part(
             push_capture(out, group)?;
             Ok(PutIn {
                 captures: true,
+                most: put_in.most.saturating_add(LONGEST_TEXT),
                 ..put_in
             })
         }
+    }
+}
+
+// How a text between double quotes begins.
+fn beginning_of(names: &Names<'_>, text: &[u8]) -> Result<Beginning, Reason> {
+    let rest = match next_part(names, text)? {
+        Some((Part::Octet(b'0'), rest)) => rest,
+        Some((Part::Octet(_), _)) | None => return Ok(Beginning::Other),
+        Some((Part::Expansion(reference), rest))
+            if rest.is_empty() && reads_digits(names.dictionary, reference.named) => {
+            return Ok(Beginning::Octets);
+        }
+        Some(_) => return Ok(Beginning::PutIn),
+    };
+    match next_part(names, rest)? {
+        Some((Part::Octet(b'x'), _)) => Ok(Beginning::Digits),
+        Some((Part::Octet(_), _)) | None => Ok(Beginning::Other),
+        Some(_) => Ok(Beginning::PutIn),
     }
 }
 
@@ -231,7 +272,10 @@ pub(crate) fn push_double(
     names: &Names<'_>,
     text: &[u8],
 ) -> Result<PutIn, Refusal> {
-    let mut put_in = PutIn::nothing();
+    let mut put_in = PutIn {
+        beginning: beginning_of(names, text)?,
+        ..PutIn::nothing()
+    };
     let mut rest = text;
     out.push(b'"')?;
     while let Some((part, after)) = next_part(names, rest)? {
@@ -261,6 +305,9 @@ pub(crate) fn octets_before_expansions(
 ) -> Result<Vec<u8>, Refusal> {
     match text.quote {
         Quote::Double => double_octets_before(alloc, names, &text.octets),
+        Quote::Bare if has_expansion(&text.octets) => {
+            double_octets_before(alloc, names, &text.octets)
+        }
         Quote::Single => Ok(single_octets(alloc, &text.octets)?),
         _ => Ok(Vec::new(alloc)),
     }
@@ -349,7 +396,9 @@ pub fn between(
     before: &[u8],
     text: &[u8],
     after: &[u8],
-) -> Result<Vec<u8>, AllocError> {
+) -> Result<Vec<u8>, AllocError>
+    ensures { IfOk result (λ joined. joined.items ≡ before.now ++ text.now ++ after.now) }
+{
     let mut joined = Vec::from_slice(alloc, before)?;
     joined.extend_from_slice(text)?;
     joined.extend_from_slice(after)?;
