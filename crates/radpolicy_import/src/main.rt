@@ -73,14 +73,19 @@ fn first_codes(plan: &Plan<'_>, configuration: &Configuration) -> KnownCodes {
     KnownCodes::of_section(wanted.section)
 }
 
-fn fault_of_import(fault: ImportFault) -> Fault
-    ensures { IsPrintedAnywhere result }
+// Tells why there is no import, and gives the status, but where it is a fault of the policy or want of memory.
+fn refuse_statements(rt: &HostRuntime, fault: ImportFault) -> Result<u8, Fault>
+    ensures { IfErr result IsPrintedAnywhere }
 {
     match fault {
-        ImportFault::Memory => Fault::Memory,
-        ImportFault::Policy(fault) => Fault::Policy(fault),
-        ImportFault::TooManyStatements | ImportFault::LineFeed | ImportFault::Initial(..) => {
-            Fault::OptionValue
+        ImportFault::Memory => Err(Fault::Memory),
+        ImportFault::Policy(fault) => Err(Fault::Policy(fault)),
+        ImportFault::TooManyStatements
+        | ImportFault::LineFeed
+        | ImportFault::Lost
+        | ImportFault::Initial(..) => {
+            let _ = eprintln!(rt; "radpolicy-import: {fault}");
+            Ok(status(&Fault::OptionValue))
         }
     }
 }
@@ -259,6 +264,7 @@ fn import_others(
         dictionary,
         import.plan.stubs,
         SectionKind::named(wanted(import.plan).section),
+        import.modules,
         statements,
     )?;
     let text = other_dictionary(alloc, files, dictionary, &others)?;
@@ -323,7 +329,7 @@ fn import_statements_meant(
             show_initial_line(rt, path, origin.line, reason);
             Ok(status(&Fault::OptionValue))
         }
-        (Err(fault), _) => Err(fault_of_import(fault)),
+        (Err(fault), _) => refuse_statements(rt, fault),
     }
 }
 
@@ -367,7 +373,7 @@ fn import_by(rt: &HostRuntime, plan: &Plan<'_>, files: &FileSet, given: &Given) 
     let statements = match statements_meant(rt.alloc(), plan, &configuration) {
         Ok(Some(statements)) => statements,
         Ok(None) => return Ok(refuse_section(rt, plan)),
-        Err(fault) => return Err(fault_of_import(fault)),
+        Err(fault) => return refuse_statements(rt, fault),
     };
     let Some(initial) = add_pairs(rt, plan, given, &mut configuration) else {
         return Ok(status(&Fault::OptionValue));

@@ -1,6 +1,7 @@
 //! What the program writes.
 
 use crate::json_reports::{json_others, json_report};
+use crate::sources::FIRST;
 use avp_dict::Dictionary;
 use radpolicy_common::{LineBreaks, visible_text};
 use radpolicy_help::{Advice, findings};
@@ -197,11 +198,39 @@ pub fn show_others(
     Ok(())
 }
 
+// `FILE:LINE: ` of a fault; nothing where the first file is not read, or is the list of the files that were named.
+fn fault_place(alloc: Global, fault: &ConfigurationFault) -> Result<Vec<u8>, AllocError> {
+    let path = fault.file.path.as_slice();
+    let is_unread = matches!(&fault.unread, Some(unread) if unread.as_slice() == path);
+    if is_unread || path == FIRST {
+        return Ok(Vec::new(alloc));
+    }
+    let mut place = visible_text(alloc, path, LineBreaks::Escaped)?;
+    let line = fault.line;
+    place.extend_from_slice(format!(in alloc; ":{line}: ")?.as_bytes())?;
+    Ok(place)
+}
+
+// `FILE:LINE: PATH: why` of a configuration that is not read, with the path of what was not.
+fn fault_text(alloc: Global, fault: &ConfigurationFault) -> Result<Vec<u8>, AllocError> {
+    let mut text = Vec::from_slice(alloc, b"radpolicy-import: ")?;
+    text.extend_from_slice(&fault_place(alloc, fault)?)?;
+    if let Some(unread) = &fault.unread {
+        text.extend_from_slice(&visible_text(alloc, unread, LineBreaks::Escaped)?)?;
+        text.extend_from_slice(b": ")?;
+    }
+    let kind = fault.kind;
+    text.extend_from_slice(format!(in alloc; "{kind}\n")?.as_bytes())?;
+    Ok(text)
+}
+
 /// Writes where and why a configuration is not read.
 pub fn show_fault(rt: &HostRuntime, fault: &ConfigurationFault) {
-    let (line, kind) = (fault.line, fault.kind);
-    let path = str::from_utf8(&fault.file.path).unwrap_or("");
-    let _ = eprintln!(rt; "radpolicy-import: {path}:{line}: {kind}");
+    let kind = fault.kind;
+    let _ = match fault_text(rt.alloc(), fault) {
+        Ok(text) => rt.stderr().write_all(&text),
+        Err(_) => eprintln!(rt; "radpolicy-import: {kind}"),
+    };
 }
 
 /// Writes where and why the file of initial lists is not read.

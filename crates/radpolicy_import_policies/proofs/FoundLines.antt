@@ -27,12 +27,10 @@ line_of_origin files (item ∷ items) zero origin h e =
     let same : origin_in item ≡ origin = cc in line_found files item origin h.0 same
 line_of_origin files (item ∷ items) (suc place) origin h e = line_of_origin files items place origin h.1 e
 
-pub lines_after : (files : List SourceFile) (items : List Item) (place : ℕ) (line : LineOrigin) (old new : List LineOrigin)
-    → new ≡ old ++ line ∷ [] → option_map origin_in (slice_get items place) ≡ Some line.origin → AreOnLines files items
-    → AreLines files (line_origins old) → AreLines files (line_origins new)
-lines_after files items place line old new e found read h =
-    subst (λ (made : List LineOrigin). AreLines files (line_origins made)) (sym e)
-    (lines_with_one files old line (line_of_origin files items place line.origin read found) h)
+pub lines_after : (files : List SourceFile) (line : LineOrigin) (old new : List LineOrigin) → new ≡ old ++ line ∷ []
+    → HasLine files line.origin.file line.origin.line → AreLines files (line_origins old) → AreLines files (line_origins new)
+lines_after files line old new e here h =
+    subst (λ (made : List LineOrigin). AreLines files (line_origins made)) (sym e) (lines_with_one files old line here h)
 
 parts_with_one : (files : List SourceFile) (parts : List LeftOut) (part : LeftOut)
     → HasLine files part.origin.file part.origin.line → AreLines files (part_origins parts)

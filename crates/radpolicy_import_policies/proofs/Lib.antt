@@ -1,6 +1,9 @@
 pub mod CallerNames
 pub mod Counts
+pub mod EndedLines
 pub mod Folders
 pub mod FoundLines
 pub mod InitialItems
+pub mod MarkedLines
 pub mod Prefixes
+pub mod SpelledConditions

@@ -1,8 +1,14 @@
--- What is left out.
+-- What is kept, and what is left out.
 use Rattle.std.specs.Prelude.{ℕ, ◌+◌, List, [], ◌∷◌, map}
 use Rattle.radpolicy_import_policies.specs.declared.imports.LeftOut.{LeftOut}
 use Rattle.radpolicy_import_policies.specs.declared.imports.Warning.{Warning}
+use Rattle.radpolicy_import_policies.specs.declared.origins.LineOrigin.{LineOrigin}
 use Rattle.radpolicy_import_policies.specs.declared.origins.Origin.{Origin}
+
+-- how many statements the lines are
+abbrev pub kept_in : List LineOrigin → ℕ
+kept_in [] = 0
+kept_in (line ∷ lines) = line.statements + kept_in lines
 
 -- how many statements the parts are
 abbrev pub left_in : List LeftOut → ℕ

@@ -1,5 +1,5 @@
 -- The text of where a policy's lines come from.
-use Rattle.std.specs.Prelude.{ℕ, ◌+◌, ◌==◌, ◌||◌, ◌++◌, nat_lt, List, [], ◌∷◌, map, Bool, take, drop, length, slice_get, codes, decimal, if◌then◌else◌}
+use Rattle.std.specs.Prelude.{ℕ, ◌≡◌, ◌+◌, ◌==◌, ◌||◌, ◌++◌, nat_lt, List, [], ◌∷◌, map, Bool, take, drop, length, slice_get, codes, decimal, if◌then◌else◌}
 use Rattle.std.specs.List.{flat_map, list_any}
 use Rattle.std.specs.Option.{option_map_or}
 use Rattle.std.specs.Str.{bytes_eq}
@@ -10,6 +10,8 @@ use Rattle.server_configuration.specs.declared.items.Item.{Item}
 use Rattle.server_configuration.specs.declared.sources.SourceFile.{SourceFile}
 use Rattle.radpolicy_import_policies.specs.declared.origins.LineOrigin.{LineOrigin}
 use Rattle.radpolicy_import_policies.specs.declared.origins.Origin.{Origin}
+use Rattle.radpolicy_import_policies.specs.declared.settings.LineEnds.{LineEnds}
+use Rattle.radpolicy_import_policies.specs.declared.settings.LineEnds.TheVariants.{Nothing, Origins}
 
 -- an octet as a line can show it: a control character is a `?`
 abbrev pub visible : ℕ → ℕ
@@ -63,6 +65,30 @@ abbrev pub policies_text : List Item → List ℕ → List ℕ
 policies_text items [] = []
 policies_text items (outermost ∷ others) =
     codes " (" ++ policy_name items outermost ++ flat_map (inner_name items) others ++ codes ")"
+
+-- ---- a policy's lines, each of which ends in its origin
+
+abbrev pub profile_line : List ℕ
+profile_line = codes "# profile: wider"
+
+-- what a line that says this ends in; the profile's line in nothing
+abbrev pub line_end : LineEnds → Configuration → List ℕ → LineOrigin → List ℕ
+line_end Nothing c said line = []
+line_end Origins c said line =
+    (if bytes_eq said profile_line then [] else codes "  # " ++ origin_text c.files.items line.origin
+    ++ policies_text c.items.items line.policies.items)
+
+-- for each line what it says, its end and a line feed
+abbrev pub ended_lines : LineEnds → Configuration → List (List ℕ) → List LineOrigin → List ℕ
+ended_lines ends c (said ∷ others) (line ∷ lines) =
+    said ++ line_end ends c said line ++ codes "\n" ++ ended_lines ends c others lines
+ended_lines ends c _ _ = []
+
+-- the text is that of the lines, in order, whatever each of them says
+pub record EndAsTold (ends : LineEnds) (c : Configuration) (lines : List LineOrigin) (text : List ℕ) : Type 0 where
+  pub said : List (List ℕ)
+  pub each : length said ≡ length lines
+  pub are : text ≡ ended_lines ends c said lines
 
 -- ---- `LINE FILE:LINE (POLICY > POLICY)` for each line
 

@@ -1,5 +1,5 @@
--- How many statements a server's section has.
-use Rattle.std.specs.Prelude.{ℕ, ◌+◌, List, [], ◌∷◌, map}
+-- How many statements a server's section has, and where they are.
+use Rattle.std.specs.Prelude.{ℕ, ◌+◌, ◌++◌, List, [], ◌∷◌, map}
 use Rattle.radpolicy_import_policies.specs.declared.statements.StatementKind.{StatementKind}
 use Rattle.radpolicy_import_policies.specs.declared.statements.StatementKind.TheVariants as kind
 use Rattle.radpolicy_import_policies.specs.declared.statements.Statement.{Statement}
@@ -27,3 +27,19 @@ count = fold-Statement ℕ weighed
 
 abbrev pub count_of : List Statement → ℕ
 count_of statements = total (map count statements)
+
+-- ---- places
+
+abbrev pub joined : List (List ℕ) → List ℕ
+joined [] = []
+joined (places ∷ others) = places ++ joined others
+
+abbrev pub placed : Statement-F (List ℕ) → List ℕ
+placed statement = statement.place ∷ joined statement.block
+
+-- the place of a statement among the items, and of each in it
+unfoldable pub places_in : Statement → List ℕ
+places_in = fold-Statement (List ℕ) placed
+
+abbrev pub places_of : List Statement → List ℕ
+places_of statements = joined (map places_in statements)

@@ -7,6 +7,7 @@ ghost use Rattle.radpolicy_import_policies.specs.OriginTexts.{content_name, visi
 use crate::origins::{Origin, origin_of};
 use avp_dict::Dictionary;
 use avp_forms::Profile;
+use avp_unlang::Code;
 use radpolicy_import_conditions::{Difference, PatternDifference, Reason};
 use server_configuration::{Configuration, Content, Operator, Quote, Text};
 use std::alloc::{AllocError, Global};
@@ -21,6 +22,8 @@ pub(crate) struct Draft {
     pub(crate) place: usize,
     /// The places of the policies that it was put in by, the outermost first.
     pub(crate) policies: Vec<usize>,
+    /// How many statements it is: 0 for what belongs to one that an earlier line is, as a brace.
+    pub(crate) statements: usize,
 }
 
 /// The condition of a branch.
@@ -121,6 +124,16 @@ fn sign(operator: Operator) -> &'static [u8] {
         Operator::MatchesNot => b" !~ ",
         Operator::IsPresent => b" =* ",
         Operator::IsAbsent => b" !* ",
+    }
+}
+
+pub(crate) fn code_name(code: Code) -> &'static [u8] {
+    match code {
+        Code::Ok => b"ok",
+        Code::Noop => b"noop",
+        Code::Updated => b"updated",
+        Code::Fail => b"fail",
+        Code::Reject => b"reject",
     }
 }
 

@@ -16,6 +16,9 @@ pub enum ImportFault {
     TooManyStatements,
     #[error("a line feed within a line of the policy")]
     LineFeed,
+    /// What is kept and what is left out is not all that was read, or comes from nowhere.
+    #[error("statements were lost")]
+    Lost,
     /// Each statement is taken by itself, and all together are not.
     #[error("{0}")]
     Policy(PolicyFault),

@@ -1,17 +1,17 @@
 //! What becomes of the statements of a server.
 
 use crate::drafts::{
-    Draft, DraftCondition, DraftPart, DraftWarning, push_visible, section_name, shown_item,
+    Draft, DraftCondition, DraftPart, DraftWarning, code_name, push_visible, section_name,
+    shown_item,
 };
 use crate::faults::{ImportFault, reason_of};
-use crate::item_readers::{ItemReader, PairLines};
+use crate::item_readers::{ItemReader, PairLines, condition_of};
 use crate::origins::origin_of;
-use crate::settings::{Meaning, ModuleAnswer, SectionKind};
+use crate::settings::{Meaning, ModuleAnswer};
 use crate::statements::{Statement, StatementKind, counted};
 use crate::tagged_lines::TaggedLines;
 use avp_forms::Profile;
 use avp_lists::List;
-use avp_unlang::Code;
 use radpolicy_import_conditions::{
     ChosenLine, Difference, KnownCodes, PatternDifference, Reason, ServerCode, ServerList,
     SwitchChain, UpdateLine, between, list_name,
@@ -42,6 +42,10 @@ pub(crate) struct Importer<'a> {
     pub(crate) captured_else: bool,
     // What was set so far of attributes whose values have tags, in octets.
     tagged: TaggedLines,
+    /// How many statements have begun that no line is of yet.
+    pub(crate) begun: usize,
+    /// Whether it is warned of that a text may become too long by what is put in, which one line tells for all.
+    pub(crate) tells_length: bool,
 }
 
 /// Whether a place is before another, if there is another.
@@ -52,32 +56,12 @@ pub(crate) fn is_before(at: usize, last: Option<usize>) -> bool {
     }
 }
 
-fn code_name(code: Code) -> &'static [u8] {
-    match code {
-        Code::Ok => b"ok",
-        Code::Noop => b"noop",
-        Code::Updated => b"updated",
-        Code::Fail => b"fail",
-        Code::Reject => b"reject",
-    }
-}
-
 // What is known of the codes after one of several ways.
 fn one_of(others: Option<KnownCodes>, codes: KnownCodes) -> KnownCodes {
     match others {
         Some(others) => others.either(codes),
         None => codes,
     }
-}
-
-// The condition of the case at a place, if the chain has a branch for it.
-fn condition_of<'b>(chain: &SwitchChain, conditions: &'b [Vec<u8>], at: usize) -> Option<&'b [u8]> {
-    for (branch, condition) in chain.branches.iter().zip(conditions) {
-        if branch.place == at {
-            return Some(condition.as_slice());
-        }
-    }
-    None
 }
 
 impl<'a> Importer<'a> {
@@ -98,6 +82,8 @@ impl<'a> Importer<'a> {
             given: 0,
             captured_else: true,
             tagged: TaggedLines::new(alloc),
+            begun: 0,
+            tells_length: false,
         }
     }
 
@@ -114,6 +100,11 @@ impl<'a> Importer<'a> {
 
     // ---- lines
 
+    // So many statements are kept: the next line is the first that comes of them.
+    fn begin(&mut self, count: usize) {
+        self.begun = self.begun.saturating_add(count);
+    }
+
     fn push(&mut self, place: usize, text: Vec<u8>) -> Result<(), ImportFault> {
         let policies = Vec::from_slice(self.reader.alloc, &self.open)?;
         self.drafts.push(Draft {
@@ -121,7 +112,9 @@ impl<'a> Importer<'a> {
             text,
             place,
             policies,
+            statements: self.begun,
         })?;
+        self.begun = 0;
         Ok(())
     }
 
@@ -160,6 +153,22 @@ impl<'a> Importer<'a> {
         self.push(place, line)
     }
 
+    // What the item at a place says, as a comment.
+    fn comment_item(&mut self, place: usize, word: &[u8]) -> Result<(), ImportFault> {
+        let shown = shown_item(self.reader.alloc, self.reader.configuration, place)?;
+        self.comment(place, word, &shown)
+    }
+
+    // A comment for a statement of which no line came.
+    fn end_begun(&mut self, place: usize) -> Result<(), ImportFault> {
+        if self.begun == 0 {
+            return Ok(());
+        }
+        let shown = shown_item(self.reader.alloc, self.reader.configuration, place)?;
+        let line = between(self.reader.alloc, b"# ", &shown, b"")?;
+        self.push(place, line)
+    }
+
     /// Leaves a part of so many statements out.
     pub(crate) fn leave(
         &mut self,
@@ -195,13 +204,15 @@ impl<'a> Importer<'a> {
     }
 
     fn warn(&mut self, place: usize, difference: Difference) -> Result<(), ImportFault> {
-        let is_told = match self.warnings.last() {
-            Some(last) => last.place == place && last.difference == difference,
-            None => false,
+        let is_told = match (difference, self.warnings.last()) {
+            (Difference::LongExpansion, _) => self.tells_length,
+            (_, Some(last)) => last.place == place && last.difference == difference,
+            (_, None) => false,
         };
         if !is_told {
             self.warnings.push(DraftWarning { place, difference })?;
         }
+        self.tells_length = self.tells_length || difference == Difference::LongExpansion;
         Ok(())
     }
 
@@ -243,10 +254,12 @@ impl<'a> Importer<'a> {
         self.close(place)
     }
 
+    // A line of so many statements.
     fn push_ready(
         &mut self,
         update: usize,
         place: usize,
+        count: usize,
         own: List,
         is_open: bool,
         line: UpdateLine,
@@ -272,22 +285,22 @@ impl<'a> Importer<'a> {
         if let Some(tagged) = tagged {
             self.tagged.add(tagged)?;
         }
-        if is_open && (needs.is_some() || may_fail) {
+        let is_alone = needs.is_some() || may_fail;
+        if is_open && is_alone {
             self.close(update)?;
         }
-        if let Some(needs) = needs {
-            self.push_needing(place, own, &needs, text)?;
-            return Ok(false);
-        }
-        if may_fail {
-            self.push_failing(place, own, text)?;
-            return Ok(false);
-        }
-        if !is_open {
+        if !is_open && !is_alone {
             self.open_update(update, own)?;
         }
-        self.push(place, text)?;
-        Ok(true)
+        self.begin(count);
+        if let Some(needs) = needs {
+            self.push_needing(place, own, &needs, text)?;
+        } else if may_fail {
+            self.push_failing(place, own, text)?;
+        } else {
+            self.push(place, text)?;
+        }
+        Ok(!is_alone)
     }
 
     // The branch of a line that is meant where its condition is met; without one, where no other's is.
@@ -305,7 +318,7 @@ impl<'a> Importer<'a> {
             self.push_between(place, word, &condition, b") {")?;
         }
         self.indent();
-        self.push_ready(place, place, own, false, line)?;
+        self.push_ready(place, place, 0, own, false, line)?;
         self.close(place)?;
         self.close(place)
     }
@@ -339,13 +352,14 @@ impl<'a> Importer<'a> {
             }
             Ok(PairLines::One(line)) => {
                 self.count_given(place)?;
-                self.push_ready(update, place, own.list(), is_open, line)
+                self.push_ready(update, place, 1, own.list(), is_open, line)
             }
             Ok(PairLines::Chosen(lines)) => {
                 self.count_given(place)?;
                 if is_open {
                     self.close(update)?;
                 }
+                self.begin(1);
                 self.push_chain(place, own.list(), lines)?;
                 Ok(false)
             }
@@ -406,7 +420,7 @@ impl<'a> Importer<'a> {
             }
             None => (place, false),
         };
-        let is_open = self.push_ready(update, place, list, is_open, line)?;
+        let is_open = self.push_ready(update, place, 0, list, is_open, line)?;
         Ok(is_open.then_some((update, list)))
     }
 
@@ -441,29 +455,6 @@ impl<'a> Importer<'a> {
         Ok(())
     }
 
-    // The code of the policy that a server's is.
-    fn own_code(&self, code: ServerCode) -> Option<Code> {
-        let settings = self.reader.settings;
-        if settings.meaning == Meaning::Plain {
-            return code.own();
-        }
-        // A server's reply after these is that after `reject`.
-        match (settings.section, code) {
-            (_, ServerCode::Fail | ServerCode::Invalid | ServerCode::UserLock)
-            | (SectionKind::Accounting, ServerCode::NotFound)
-            | (SectionKind::Access | SectionKind::Accounting, ServerCode::Handled) => {
-                Some(Code::Reject)
-            }
-            _ => code.own(),
-        }
-    }
-
-    // Whether `handled` ends the section as `return` does.
-    fn is_post_auth(&self) -> bool {
-        let settings = self.reader.settings;
-        settings.meaning == Meaning::Server && settings.section == SectionKind::PostAuth
-    }
-
     // A code, which is so many statements.
     fn push_code(
         &mut self,
@@ -471,7 +462,9 @@ impl<'a> Importer<'a> {
         count: usize,
         code: ServerCode,
     ) -> Result<(), ImportFault> {
-        if let Some(own) = self.own_code(code) {
+        let settings = self.reader.settings;
+        if let Some(own) = settings.own_code(code) {
+            self.begin(count);
             self.push_text(place, code_name(own))?;
             self.codes = self.codes.after_code(own);
             return Ok(());
@@ -479,9 +472,10 @@ impl<'a> Importer<'a> {
         match code {
             ServerCode::NotFound => {
                 self.codes = self.codes.after_server_code(code);
+                self.begin(count);
                 self.comment(place, b"notfound,", b"a code of the server alone")
             }
-            ServerCode::Handled if self.is_post_auth() => self.end(place, count, b"handled,"),
+            ServerCode::Handled if settings.is_post_auth() => self.end(place, count, b"handled,"),
             _ => self.leave(place, count, Reason::OtherCode),
         }
     }
@@ -503,8 +497,7 @@ impl<'a> Importer<'a> {
             None => {
                 self.calls = self.calls.saturating_add(1);
                 self.codes = KnownCodes::unknown();
-                let shown = shown_item(self.reader.alloc, self.reader.configuration, place)?;
-                self.comment(place, b"module", &shown)
+                self.comment_item(place, b"module")
             }
         }
     }
@@ -515,11 +508,13 @@ impl<'a> Importer<'a> {
     // contrary what follows is.
     fn end(&mut self, place: usize, count: usize, word: &[u8]) -> Result<(), ImportFault> {
         if !self.follows {
+            self.begin(count);
             return self.comment(place, word, b"and nothing follows");
         }
         let Some(name) = self.reader.names().returned() else {
             return self.leave(place, count, Reason::OtherCode);
         };
+        self.begin(count);
         self.open_update(place, List::Control)?;
         self.push_between(place, b"", name, b" := \"yes\"")?;
         self.close(place)?;
@@ -592,6 +587,7 @@ impl<'a> Importer<'a> {
             before = before || condition.searches_text;
             self.captured_else = before;
             self.count_given(branch.place)?;
+            self.begin(1);
             self.push_branch(branch.place, branch.kind, condition)?;
             self.captured_else = before && !condition.captures_anew;
             self.codes = outer;
@@ -629,6 +625,7 @@ impl<'a> Importer<'a> {
         outer: KnownCodes,
     ) -> Result<(), ImportFault> {
         self.count_given(case.place)?;
+        self.begin(1);
         self.push_between(case.place, word, condition, b" {")?;
         let otherwise = self.codes;
         self.codes = outer;
@@ -670,6 +667,7 @@ impl<'a> Importer<'a> {
         for (at, case) in cases.iter().enumerate() {
             if chain.otherwise == Some(at) {
                 if chain.branches.is_empty() {
+                    self.begin(1);
                     self.block(case.block.as_slice())?;
                 } else {
                     self.case_block(case, b"else", b"", outer)?;
@@ -685,8 +683,10 @@ impl<'a> Importer<'a> {
             Ok((chain, conditions)) => {
                 let outer = self.codes;
                 self.count_given(place)?;
+                self.begin(1);
                 self.valued_cases(cases, &chain, &conditions)?;
-                self.default_case(cases, &chain, outer)
+                self.default_case(cases, &chain, outer)?;
+                self.end_begun(place)
             }
             Err(refusal) => self.leave_all(place, cases, 1, reason_of(refusal)?),
         }
@@ -694,15 +694,24 @@ impl<'a> Importer<'a> {
 
     // ---- statements
 
+    #[cycle(importing)]
+    fn group(&mut self, place: usize, statements: &[Statement]) -> Result<(), ImportFault> {
+        self.begin(1);
+        self.block(statements)?;
+        self.end_begun(place)
+    }
+
     // The first member, for all.
     #[cycle(importing)]
     fn first_of(&mut self, place: usize, members: &[Statement]) -> Result<(), ImportFault> {
+        self.begin(1);
         let [first, others @ ..] = members else {
-            return Ok(());
+            return self.end_begun(place);
         };
         self.codes = self.inner_codes();
         self.statement(first)?;
         self.codes = KnownCodes::unknown();
+        self.end_begun(place)?;
         match others {
             [] => Ok(()),
             others => self.leave_all(place, others, 0, Reason::OtherMember),
@@ -717,11 +726,9 @@ impl<'a> Importer<'a> {
         policy: usize,
         statements: &[Statement],
     ) -> Result<(), ImportFault> {
-        self.comment(
-            place,
-            b"policy",
-            section_name(self.reader.configuration, policy),
-        )?;
+        let name = section_name(self.reader.configuration, policy);
+        self.begin(1);
+        self.comment(place, b"policy", name)?;
         self.open.push(policy)?;
         self.block(statements)?;
         let _ = self.open.pop();
@@ -736,20 +743,17 @@ impl<'a> Importer<'a> {
             StatementKind::Update => self.update(place, block),
             StatementKind::Chain => self.chain(place, block),
             StatementKind::Switch => self.switch(place, block),
-            StatementKind::Group => self.block(block),
+            StatementKind::Group => self.group(place, block),
             StatementKind::FirstOf => self.first_of(place, block),
             StatementKind::Policy(policy) => self.policy(place, policy, block),
             StatementKind::Module => self.module(place),
             StatementKind::Code(code) => self.push_code(place, 1, code),
             StatementKind::Return => self.end(place, 1, b"return,"),
             StatementKind::Expansion => {
-                let shown = shown_item(self.reader.alloc, self.reader.configuration, place)?;
-                self.comment(place, b"an expansion by itself,", &shown)
+                self.begin(1);
+                self.comment_item(place, b"an expansion by itself,")
             }
-            StatementKind::OwnSection => {
-                let shown = shown_item(self.reader.alloc, self.reader.configuration, place)?;
-                self.comment(place, b"a section of its own,", &shown)
-            }
+            StatementKind::OwnSection => self.comment_item(place, b"a section of its own,"),
             StatementKind::LeftOut(reason) => self.leave_all(place, block, 1, reason),
             StatementKind::Line
             | StatementKind::If

@@ -1,19 +1,22 @@
 //! Policies that are made of a server's statements.
 
-ghost use Rattle.std.specs.Prelude.{◌≡◌, ◌+◌, length, IfOk, IfSome, OnOk};
+ghost use Rattle.std.specs.Prelude.{◌≡◌, ◌+◌, All, length, IfOk, IfSome, OnOk};
 ghost use Rattle.server_configuration.specs.Places.{AreOnLines, line_feeds};
 ghost use Rattle.avp_unlang.specs.Policies.{SpellsPolicy};
-ghost use Rattle.radpolicy_import_policies.specs.Imports.{left_in, part_origins, warning_origins};
-ghost use Rattle.radpolicy_import_policies.specs.Origins.{AreLines, line_origins};
+ghost use Rattle.radpolicy_import_policies.specs.Imports.{kept_in, left_in, part_origins, warning_origins};
+ghost use Rattle.radpolicy_import_policies.specs.OriginTexts.{EndAsTold};
+ghost use Rattle.radpolicy_import_policies.specs.Origins.{AreLines, IsOfItem, line_origins};
 ghost use Rattle.radpolicy_import_policies.specs.Statements.{count_of};
 
 use crate::drafts::{Draft, DraftPart, DraftWarning, shown_item};
 use crate::faults::ImportFault;
 use crate::importers::{Importer, is_before};
 use crate::item_readers::ItemReader;
-use crate::origin_texts::{line_feeds, push_origin, push_policies};
+use crate::origin_texts::line_feeds;
 use crate::origins::{LineOrigin, Origin, origin_of};
-use crate::settings::{LineEnds, PROFILE_LINE, Settings};
+use crate::policy_texts::{PolicyText, rendered};
+use crate::settings::{PROFILE_LINE, Settings};
+use crate::statement_places::marks_of;
 use crate::statements::{Statement, counted};
 use avp_dict::Dictionary;
 use avp_unlang::{Policy, PolicyKind, read_policy};
@@ -54,7 +57,7 @@ pub struct Imported {
     pub warnings: Vec<Warning>,
     /// How many statements were read.
     pub read: usize,
-    /// How many of them are in the policy.
+    /// How many of them are in the policy: those that its lines are.
     pub kept: usize,
     /// How many of those have a value that is given: the result of an expansion that an attribute is in place of.
     pub given: usize,
@@ -73,89 +76,29 @@ fn left_in(parts: &[LeftOut]) -> Option<usize>
     Some(total)
 }
 
-// How many statements are kept, of so many.
-fn kept_of(read: usize, parts: &[LeftOut]) -> Result<usize, ImportFault>
-    ensures { IfOk result (λ kept. kept + left_in parts.now ≡ read) }
+// How many statements the lines are.
+fn kept_in(lines: &[LineOrigin]) -> Option<usize>
+    ensures { IfSome result (λ n. n ≡ kept_in lines.now) }
 {
-    let Some(left) = left_in(parts) else {
+    let mut total = 0usize;
+    for line in lines {
+        total = total.checked_add(line.statements)?;
+    }
+    Some(total)
+}
+
+// How many statements are kept, where those and the ones that are left out are all that were read.
+fn all_kept(lines: &[LineOrigin], parts: &[LeftOut], read: usize) -> Result<usize, ImportFault>
+    ensures kept { IfOk result (λ kept. kept ≡ kept_in lines.now) }
+    ensures all { IfOk result (λ kept. kept + left_in parts.now ≡ read) }
+{
+    let (Some(kept), Some(left)) = (kept_in(lines), left_in(parts)) else {
         return Err(ImportFault::TooManyStatements);
     };
-    match read.checked_sub(left) {
-        Some(kept) => Ok(kept),
-        None => Err(ImportFault::TooManyStatements),
+    match kept.checked_add(left) {
+        Some(all) if all == read => Ok(kept),
+        _ => Err(ImportFault::Lost),
     }
-}
-
-fn push_indented(out: &mut Vec<u8>, draft: &Draft) -> Result<(), AllocError> {
-    for _ in 0..draft.depth {
-        out.push(b'\t')?;
-    }
-    out.extend_from_slice(&draft.text)
-}
-
-fn push_draft(
-    out: &mut Vec<u8>,
-    configuration: &Configuration,
-    line_ends: LineEnds,
-    draft: &Draft,
-    origin: Origin,
-) -> Result<(), AllocError> {
-    push_indented(out, draft)?;
-    // Words after those of the profile's line would make it another comment.
-    if line_ends == LineEnds::Origins && draft.text.as_slice() != PROFILE_LINE {
-        out.extend_from_slice(b"  # ")?;
-        push_origin(out, configuration, origin)?;
-        push_policies(out, configuration, &draft.policies)?;
-    }
-    Ok(out.push(b'\n')?)
-}
-
-// Adds where a line comes from, and gives its origin.
-#[tactic(auto, using(crate::proofs::FoundLines::lines_after))]
-fn add_line(
-    lines: &mut Vec<LineOrigin>,
-    alloc: Global,
-    configuration: &Configuration,
-    draft: &Draft,
-) -> Result<Option<Origin>, AllocError>
-    ensures { AreOnLines configuration.now.files.items configuration.now.items.items
-        → AreLines configuration.now.files.items (line_origins lines.old.items)
-        → OnOk result (AreLines configuration.now.files.items (line_origins lines.new.items)) }
-{
-    let Some(origin) = origin_of(configuration, draft.place) else {
-        return Ok(None);
-    };
-    let policies = Vec::from_slice(alloc, &draft.policies)?;
-    lines.push(LineOrigin { origin, policies })?;
-    Ok(Some(origin))
-}
-
-// A policy's text, and where each line of it comes from.
-#[derive(Drop)]
-struct PolicyText {
-    text: Vec<u8>,
-    lines: Vec<LineOrigin>,
-}
-
-// The lines of a policy, and where each comes from.
-fn rendered(
-    alloc: Global,
-    configuration: &Configuration,
-    line_ends: LineEnds,
-    drafts: &[Draft],
-) -> Result<PolicyText, AllocError>
-    ensures { AreOnLines configuration.now.files.items configuration.now.items.items
-        → IfOk result (λ made.
-        AreLines configuration.now.files.items (line_origins made.lines.items)) }
-{
-    let mut text = Vec::new(alloc);
-    let mut lines = Vec::new(alloc);
-    for draft in drafts {
-        if let Some(origin) = add_line(&mut lines, alloc, configuration, draft)? {
-            push_draft(&mut text, configuration, line_ends, draft, origin)?;
-        }
-    }
-    Ok(PolicyText { text, lines })
 }
 
 // Adds a part, with its place.
@@ -165,13 +108,13 @@ fn add_part(
     alloc: Global,
     configuration: &Configuration,
     part: &DraftPart,
-) -> Result<(), AllocError>
+) -> Result<(), ImportFault>
     ensures { AreOnLines configuration.now.files.items configuration.now.items.items
         → AreLines configuration.now.files.items (part_origins made.old.items)
         → OnOk result (AreLines configuration.now.files.items (part_origins made.new.items)) }
 {
     let Some(origin) = origin_of(configuration, part.place) else {
-        return Ok(());
+        return Err(ImportFault::Lost);
     };
     let shown = shown_item(alloc, configuration, part.place)?;
     made.push(LeftOut {
@@ -188,7 +131,7 @@ fn left_out(
     alloc: Global,
     configuration: &Configuration,
     parts: &[DraftPart],
-) -> Result<Vec<LeftOut>, AllocError>
+) -> Result<Vec<LeftOut>, ImportFault>
     ensures { AreOnLines configuration.now.files.items configuration.now.items.items
         → IfOk result (λ made. AreLines configuration.now.files.items (part_origins made.items)) }
 {
@@ -206,13 +149,13 @@ fn add_warning(
     alloc: Global,
     configuration: &Configuration,
     warning: &DraftWarning,
-) -> Result<(), AllocError>
+) -> Result<(), ImportFault>
     ensures { AreOnLines configuration.now.files.items configuration.now.items.items
         → AreLines configuration.now.files.items (warning_origins made.old.items)
         → OnOk result (AreLines configuration.now.files.items (warning_origins made.new.items)) }
 {
     let Some(origin) = origin_of(configuration, warning.place) else {
-        return Ok(());
+        return Err(ImportFault::Lost);
     };
     let shown = shown_item(alloc, configuration, warning.place)?;
     made.push(Warning {
@@ -228,9 +171,10 @@ fn warnings_of(
     alloc: Global,
     configuration: &Configuration,
     warnings: &[DraftWarning],
-) -> Result<Vec<Warning>, AllocError>
+) -> Result<Vec<Warning>, ImportFault>
     ensures { AreOnLines configuration.now.files.items configuration.now.items.items
-        → IfOk result (λ made. AreLines configuration.now.files.items (warning_origins made.items)) }
+        → IfOk result (λ made.
+        AreLines configuration.now.files.items (warning_origins made.items)) }
 {
     let mut made = Vec::new(alloc);
     for warning in warnings {
@@ -283,6 +227,7 @@ fn add_statement(
     let (drafts, parts, calls) = (importer.drafts.len(), importer.parts.len(), importer.calls);
     let (wider, returns, given) = (importer.wider, importer.returns, importer.given);
     let (warnings, captured_else) = (importer.warnings.len(), importer.captured_else);
+    let tells_length = importer.tells_length;
     importer.statement(statement)?;
     let Some(added) = importer.drafts.get(drafts..) else {
         return Ok(());
@@ -303,6 +248,8 @@ fn add_statement(
     importer.given = given;
     importer.warnings.truncate(warnings);
     importer.captured_else = captured_else;
+    importer.tells_length = tells_length;
+    importer.begun = 0;
     let alone = std::slice::from_ref(statement);
     importer.leave_all(statement.place, alone, 0, Reason::Refused(kind))
 }
@@ -343,6 +290,7 @@ fn with_profile(
         text: Vec::from_slice(alloc, PROFILE_LINE)?,
         place,
         policies: Vec::new(alloc),
+        statements: 0,
     })?;
     for draft in drafts {
         all.push(draft)?;
@@ -361,16 +309,23 @@ pub fn import_statements(
     // What is written is a policy.
     ensures policy { IfOk result (λ imported.
         SpellsPolicy dictionary.now imported.text.items imported.policy) }
-    // The statements that are kept and those that are left out are as many as were read.
+    // The statements that are kept, line by line, and those that are left out are as many as were read.
     ensures read { IfOk result (λ imported. imported.read ≡ count_of statements.now) }
-    ensures kept { IfOk result (λ imported. imported.kept + left_in imported.left_out.items
-        ≡ imported.read) }
+    ensures kept { IfOk result (λ imported. imported.kept ≡ kept_in imported.lines.items) }
+    ensures all { IfOk result (λ imported.
+        imported.kept + left_in imported.left_out.items ≡ imported.read) }
     // Each line comes from a line of a file that was read, and so does each part that is left out, and each warning.
     ensures lines { AreOnLines configuration.now.files.items configuration.now.items.items
         → IfOk result (λ imported.
         AreLines configuration.now.files.items (line_origins imported.lines.items)) }
+    // It is that of a statement, or of a pair of the initial lists.
+    ensures places { IfOk result (λ imported. All (IsOfItem configuration.now.items.items
+        settings.entry.initial statements.now) imported.lines.items) }
+    // The text's lines are these, in their order, and each ends in its own origin where the settings ask for it.
     ensures numbers { IfOk result (λ imported.
         line_feeds imported.text.items ≡ length imported.lines.items) }
+    ensures ends { IfOk result (λ imported. EndAsTold settings.entry.line_ends configuration.now
+        imported.lines.items imported.text.items) }
     ensures parts { AreOnLines configuration.now.files.items configuration.now.items.items
         → IfOk result (λ imported. AreLines configuration.now.files.items
         (part_origins imported.left_out.items)) }
@@ -396,7 +351,10 @@ pub fn import_statements(
         ..
     } = importer;
     let drafts = with_profile(alloc, wider, drafts)?;
-    let PolicyText { text, lines } = rendered(alloc, configuration, settings.line_ends, &drafts)?;
+    let items = configuration.items.len();
+    let marks = marks_of(alloc, items, settings.initial, statements)?;
+    let made = rendered(alloc, configuration, &marks, settings.line_ends, &drafts)?;
+    let PolicyText { text, lines } = made;
     if line_feeds(&text) != lines.len() {
         return Err(ImportFault::LineFeed);
     }
@@ -404,7 +362,7 @@ pub fn import_statements(
     let warnings = warnings_of(alloc, configuration, &warnings)?;
     let policy = read_policy(alloc, dictionary, &text)?;
     let read = counted(statements)?;
-    let kept = kept_of(read, &left_out)?;
+    let kept = all_kept(&lines, &left_out, read)?;
     Ok(Imported {
         text,
         policy,

@@ -1,18 +1,22 @@
 //! What items of a configuration say, as policies have it.
 
+ghost use Rattle.std.specs.Prelude.{◌++◌, IfOk};
+ghost use Rattle.avp_unlang.specs.Policies.{SpellsPolicy};
+ghost use Rattle.radpolicy_import_policies.specs.PrintedConditions.{SpellsCondition, policy_text};
+
 use crate::drafts::DraftCondition;
 use crate::faults::ImportFault;
-use crate::settings::{Meaning, ModuleAnswer, PROFILE_LINE, Settings};
+use crate::settings::{Meaning, ModuleAnswer, PROFILE_LINE, Settings, answer_of};
 use crate::statements::{Statement, StatementKind, changes_attributes};
 use avp_dict::Dictionary;
 use avp_forms::Profile;
 use avp_lists::List;
-use avp_unlang::{Comparison, Cond, PolicyKind, Relation, read_policy};
+use avp_unlang::{Comparison, Cond, Policy, PolicyKind, Relation, read_policy};
 use radpolicy_import_conditions::{
     Alternative, ChosenLine, ConditionPrinter, ConditionReader, KnownCodes, LineReader, Names,
     Operand, Reason, Refusal, ServerCode, ServerCondition, ServerList, SwitchChain, UpdateLine,
     add_differences, alternatives, between, captures_anew, chain_of, expansions_in, has_choices,
-    keeps_captures, list_name, parts_of, push_matchings, rewritten, uses_captures,
+    keeps_captures, list_name, parts_of, push_matchings, rewritten, says, uses_captures,
 };
 use server_configuration::{Configuration, Content, Operator, Quote, Text, has_reference};
 use std::alloc::Global;
@@ -34,6 +38,20 @@ fn searches_text(text: &[u8]) -> bool {
         };
         matches!(left.trim_ascii_end(), [.., b'"' | b'}'])
     })
+}
+
+/// The condition of the case at a place, if the chain has a branch for it.
+pub(crate) fn condition_of<'b>(
+    chain: &SwitchChain,
+    conditions: &'b [Vec<u8>],
+    at: usize,
+) -> Option<&'b [u8]> {
+    for (branch, condition) in chain.branches.iter().zip(conditions) {
+        if branch.place == at {
+            return Some(condition.as_slice());
+        }
+    }
+    None
 }
 
 /// Reads items of a configuration.
@@ -58,9 +76,18 @@ impl<'a> ItemReader<'a> {
         Ok(self.configuration.resolved(self.alloc, section, text, &[])?)
     }
 
-    pub(crate) fn check(&self, before: &[u8], text: &[u8], after: &[u8]) -> Result<(), Refusal> {
+    // The policy that a text is between others.
+    fn policy_between(&self, before: &[u8], text: &[u8], after: &[u8]) -> Result<Policy, Refusal>
+        ensures { IfOk result (SpellsPolicy self.now.dictionary.now
+            (before.now ++ text.now ++ after.now)) }
+    {
         let text = between(self.alloc, before, text, after)?;
-        let _policy = read_policy(self.alloc, self.dictionary, &text)?;
+        let policy = read_policy(self.alloc, self.dictionary, &text)?;
+        Ok(policy)
+    }
+
+    pub(crate) fn check(&self, before: &[u8], text: &[u8], after: &[u8]) -> Result<(), Refusal> {
+        let _policy = self.policy_between(before, text, after)?;
         Ok(())
     }
 
@@ -77,27 +104,43 @@ impl<'a> ItemReader<'a> {
             names: self.names(),
             codes,
             takes_patterns: self.settings.profile == Profile::Wider,
+            reads_octal: self.settings.meaning == Meaning::Server,
         }
     }
 
-    // The condition of an `if`, where a policy of the profile can have it.
-    fn check_condition(&self, profile: Profile, condition: &[u8]) -> Result<(), Refusal> {
-        let head: &[u8] = match profile {
-            Profile::Plain => b"if ",
-            Profile::Wider => b"# profile: wider\nif ",
-        };
-        self.check(head, condition, b" { }")
+    // The policy that is an `if` of a condition, where one of the profile can have it.
+    fn policy_of_condition(&self, profile: Profile, condition: &[u8]) -> Result<Policy, Refusal>
+        ensures { IfOk result (SpellsPolicy self.now.dictionary.now
+            (policy_text profile condition.now)) }
+    {
+        match profile {
+            Profile::Plain => self.policy_between(b"if ", condition, b" { }"),
+            Profile::Wider => self.policy_between(b"# profile: wider\nif ", condition, b" { }"),
+        }
     }
 
-    fn printed(&self, profile: Profile, cond: &Cond) -> Result<Vec<u8>, Refusal> {
+    fn check_condition(&self, profile: Profile, condition: &[u8]) -> Result<(), Refusal> {
+        let _policy = self.policy_of_condition(profile, condition)?;
+        Ok(())
+    }
+
+    // A condition's text, where it is read as this condition.
+    fn printed(&self, profile: Profile, cond: &Cond) -> Result<Vec<u8>, Refusal>
+        ensures { IfOk result (λ text.
+            SpellsCondition self.now.dictionary.now profile text.items cond.now) }
+    {
         let printer = ConditionPrinter {
             alloc: self.alloc,
             dictionary: self.dictionary,
         };
         let mut text = Vec::new(self.alloc);
         printer.push_condition(&mut text, cond)?;
-        self.check_condition(profile, &text)?;
-        Ok(text)
+        let policy = self.policy_of_condition(profile, &text)?;
+        if says(&policy, cond) {
+            Ok(text)
+        } else {
+            Err(Refusal::LeftOut(Reason::Condition))
+        }
     }
 
     // The text of a condition in a policy of the profile.
@@ -191,20 +234,7 @@ impl<'a> ItemReader<'a> {
 
     /// What is put in the place of the call of a module, if anything is.
     pub(crate) fn answer(&self, place: usize) -> Option<&'a ModuleAnswer> {
-        let configuration = self.configuration;
-        let name = match &configuration.items.get(place)?.content {
-            Content::Section { name, arguments } | Content::Word { name, arguments }
-                if arguments.is_empty() => { name.octets.as_slice() }
-            _ => return None,
-        };
-        let name = name.strip_prefix(b"-").unwrap_or(name);
-        let modules = self.settings.modules;
-        for module in modules {
-            if module.name.as_slice() == name {
-                return Some(&module.answer);
-            }
-        }
-        None
+        answer_of(self.configuration, self.settings.modules, place)
     }
 
     /// What the call of a module at a place says is done after a code, if it does.

@@ -20,6 +20,8 @@ pub struct LineOrigin {
     pub origin: Origin,
     /// The places of the policies that it was put in by, the outermost first.
     pub policies: Vec<usize>,
+    /// How many statements it is: 0 for what belongs to one that an earlier line is, as a brace.
+    pub statements: usize,
 }
 
 /// Where the item at a place begins.

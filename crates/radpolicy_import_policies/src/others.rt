@@ -1,7 +1,7 @@
 //! What policies do not have, and the attributes of `control` that it is in a policy: attributes of other lists, and
 //! expansions that ask something outside of the policy.
 
-use crate::settings::SectionKind;
+use crate::settings::{Module, ModuleAnswer, SectionKind, answer_of};
 use crate::statements::{Statement, StatementKind};
 use avp_dict::{Dictionary, Named, ValueFault, is_container, same_name};
 use avp_lists::AttrId;
@@ -29,6 +29,7 @@ struct Finder<'a> {
     dictionary: &'a Dictionary,
     stubs: Stubs,
     section: SectionKind,
+    modules: &'a [Module],
     found: Vec<OtherAttribute>,
 }
 
@@ -476,10 +477,15 @@ impl<'a> Finder<'a> {
     }
 
     // Whether a statement ends the section, and nothing else.
-    fn ends(&self, kind: StatementKind) -> bool {
-        match kind {
+    fn ends(&self, statement: &Statement) -> bool {
+        let ends_by_code = self.section == SectionKind::PostAuth;
+        match statement.kind {
             StatementKind::Return => true,
-            StatementKind::Code(ServerCode::Handled) => self.section == SectionKind::PostAuth,
+            StatementKind::Code(ServerCode::Handled) => ends_by_code,
+            StatementKind::Module => {
+                let answer = answer_of(self.configuration, self.modules, statement.place);
+                ends_by_code && matches!(answer, Some(ModuleAnswer::Code(ServerCode::Handled)))
+            }
             _ => false,
         }
     }
@@ -506,7 +512,7 @@ impl<'a> Finder<'a> {
     #[cycle(finding)]
     fn statement(&mut self, statement: &Statement) -> Result<(), AllocError> {
         self.item(statement.place)?;
-        if self.ends(statement.kind) {
+        if self.ends(statement) {
             self.returned()?;
         }
         let block = statement.block.as_slice();
@@ -526,13 +532,14 @@ impl<'a> Finder<'a> {
 }
 
 /// The attributes in place of what statements name and policies do not have, each once, in the order of the statements,
-/// and at most 1,000.
+/// and at most 1,000. Where the section may end by the answer of a module, there is one for that.
 pub fn other_attributes(
     alloc: Global,
     configuration: &Configuration,
     dictionary: &Dictionary,
     stubs: Stubs,
     section: SectionKind,
+    modules: &[Module],
     statements: &[Statement],
 ) -> Result<Vec<OtherAttribute>, AllocError> {
     let mut finder = Finder {
@@ -541,6 +548,7 @@ pub fn other_attributes(
         dictionary,
         stubs,
         section,
+        modules,
         found: Vec::new(alloc),
     };
     finder.block(statements)?;

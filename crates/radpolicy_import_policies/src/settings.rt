@@ -1,7 +1,9 @@
 //! How statements are imported.
 
 use avp_forms::Profile;
+use avp_unlang::Code;
 use radpolicy_import_conditions::{KnownCodes, OtherAttribute, ServerCode};
+use server_configuration::{Configuration, Content};
 
 /// Whose meaning conditions and update lines keep.
 #[derive(Clone, Copy, Debug, PartialEq, Eq)]
@@ -25,6 +27,26 @@ pub enum ModuleAnswer {
 pub struct Module {
     pub name: Vec<u8>,
     pub answer: ModuleAnswer,
+}
+
+/// What is put in the place of the call of a module at a place, if anything is.
+pub(crate) fn answer_of<'a>(
+    configuration: &'a Configuration,
+    modules: &'a [Module],
+    place: usize,
+) -> Option<&'a ModuleAnswer> {
+    let name = match &configuration.items.get(place)?.content {
+        Content::Section { name, arguments } | Content::Word { name, arguments }
+            if arguments.is_empty() => { name.octets.as_slice() }
+        _ => return None,
+    };
+    let name = name.strip_prefix(b"-").unwrap_or(name);
+    for module in modules {
+        if module.name.as_slice() == name {
+            return Some(&module.answer);
+        }
+    }
+    None
 }
 
 /// What the lines of a policy end in.
@@ -77,6 +99,29 @@ pub struct Settings<'a> {
     /// How many of the configuration's last items are pairs of initial lists, as [`crate::add_initial`] adds them. They
     /// are updates in front of the policy.
     pub initial: usize,
+}
+
+impl Settings<'_> {
+    // The code of the policy that a server's is.
+    pub(crate) fn own_code(self, code: ServerCode) -> Option<Code> {
+        if self.meaning == Meaning::Plain {
+            return code.own();
+        }
+        // A server's reply after these is that after `reject`.
+        match (self.section, code) {
+            (_, ServerCode::Fail | ServerCode::Invalid | ServerCode::UserLock)
+            | (SectionKind::Accounting, ServerCode::NotFound)
+            | (SectionKind::Access | SectionKind::Accounting, ServerCode::Handled) => {
+                Some(Code::Reject)
+            }
+            _ => code.own(),
+        }
+    }
+
+    // Whether `handled` ends the section as `return` does.
+    pub(crate) fn is_post_auth(self) -> bool {
+        self.meaning == Meaning::Server && self.section == SectionKind::PostAuth
+    }
 }
 
 /// The first line of a policy of the wider profile.

@@ -179,6 +179,7 @@ impl Gathered {
 pub(crate) fn changes_attributes(text: &[u8]) -> bool {
     text.windows(8).any(|part| part == b"explode:".as_slice())
         || text.windows(5).any(|part| part == b"rest:".as_slice())
+        || text.windows(6).any(|part| part == b"%{map:".as_slice())
         || text
             .windows(13)
             .any(|part| part == b"dhcp_options:".as_slice())

@@ -33,3 +33,17 @@ fn texts_that_cannot_fail(rt: HostRuntime) -> Result<(), Fail> {
     );
     Ok(())
 }
+
+#[test]
+fn octets_by_the_number_of_an_attribute(rt: HostRuntime) -> Result<(), Fail> {
+    assert!(rt;
+        becomes(
+            rt.alloc(),
+            b"authorize {\n update reply {\n Attr-18 := \"%{User-Name}\"\n }\n}",
+            b"transaction {  # main:3\n\tupdate reply {  # main:3\n\t\tAttr-18 := \"%{User-Name}\"  # main:3\n\
+          \t}  # main:3\n}  # main:3\nif (fail) {  # main:3\n\treject  # main:3\n}  # main:3\n",
+            (1, 1, 0),
+        )?
+    );
+    Ok(())
+}

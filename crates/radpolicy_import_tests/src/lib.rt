@@ -6,15 +6,21 @@ mod captures;
 #[cfg(test)]
 mod chosen_texts;
 #[cfg(test)]
+mod counts;
+#[cfg(test)]
 mod failing_updates;
 #[cfg(test)]
 mod imports;
 #[cfg(test)]
 mod initial;
 #[cfg(test)]
+mod long_expansions;
+#[cfg(test)]
 mod long_texts;
 #[cfg(test)]
 mod memory_files;
+#[cfg(test)]
+mod octal_addresses;
 #[cfg(test)]
 mod octets;
 #[cfg(test)]
@@ -22,6 +28,14 @@ mod other_lists;
 #[cfg(test)]
 mod patterns;
 #[cfg(test)]
+mod said_conditions;
+#[cfg(test)]
 mod server_codes;
 #[cfg(test)]
 mod stations;
+#[cfg(test)]
+mod tagged_octets;
+#[cfg(test)]
+mod told_once;
+#[cfg(test)]
+mod written_digits;

@@ -4,10 +4,10 @@ use crate::imports::{authorize, configuration, imported};
 use avp_dict::{Dictionary, FileSet, NamedFile};
 use avp_forms::Profile;
 use avp_lists::Octets;
-use radpolicy_import_conditions::{KnownCodes, OtherAttribute};
+use radpolicy_import_conditions::{KnownCodes, OtherAttribute, ServerCode};
 use radpolicy_import_policies::{
-    Imported, LineEnds, Meaning, SectionKind, Settings, Stubs, keeps_names, other_attributes,
-    other_dictionary, unset_attributes,
+    Imported, LineEnds, Meaning, Module, ModuleAnswer, SectionKind, Settings, Stubs, keeps_names,
+    other_attributes, other_dictionary, unset_attributes,
 };
 use samples::one_file;
 use std::alloc::Global;
@@ -57,6 +57,7 @@ pub(crate) fn named(alloc: Global, name: &[u8], text: &[u8]) -> Result<NamedFile
 fn others_of(
     alloc: Global,
     dictionary: &Dictionary,
+    modules: &[Module],
     text: &[u8],
 ) -> Result<Vec<OtherAttribute>, Fail> {
     let configuration = configuration(alloc, text)?;
@@ -69,13 +70,14 @@ fn others_of(
         dictionary,
         stubs,
         section,
+        modules,
         statements,
     )?)
 }
 
 // The attributes of other lists that the configuration names.
 fn others(alloc: Global, dictionary: &Dictionary) -> Result<Vec<OtherAttribute>, Fail> {
-    others_of(alloc, dictionary, CONFIGURATION)
+    others_of(alloc, dictionary, &[], CONFIGURATION)
 }
 
 // The dictionary that defines them.
@@ -152,18 +154,18 @@ const ENDED: &[u8] =
     if (!&control:Import-Returned) {\n\tupdate control {\n\t\tImport-Returned := \"yes\"\n\t}\n}\n\
     if (!&control:Import-Returned) {\n\treject\n\t# return, and nothing follows\n}\n";
 
-// The policy of a section with such attributes, and how many of them it wants.
-fn policy_of(alloc: Global, text: &[u8]) -> Result<(Vec<u8>, usize), Fail> {
+// The policy of a section with such attributes and such modules, and how many of the attributes it wants.
+fn policy_by(alloc: Global, modules: &[Module], text: &[u8]) -> Result<(Vec<u8>, usize), Fail> {
     let files = one_file(alloc, ATTRIBUTES)?;
     let plain = dictionary_of(alloc, &files)?;
-    let others = others_of(alloc, &plain, text)?;
+    let others = others_of(alloc, &plain, modules, text)?;
     let defined = other_dictionary(alloc, &files, &plain, &others)?;
     let dictionary = dictionary_of(alloc, &both(alloc, &defined)?)?;
     let settings = Settings {
         meaning: Meaning::Server,
         line_ends: LineEnds::Nothing,
         profile: Profile::Wider,
-        modules: &[],
+        modules,
         others: &others,
         codes: KnownCodes::unknown(),
         section: SectionKind::PostAuth,
@@ -172,6 +174,10 @@ fn policy_of(alloc: Global, text: &[u8]) -> Result<(Vec<u8>, usize), Fail> {
     let imported = imported(alloc, &dictionary, settings, text)?;
     let unset = unset_attributes(alloc, &dictionary, &imported.policy, &others)?.len();
     Ok((imported.text, unset))
+}
+
+fn policy_of(alloc: Global, text: &[u8]) -> Result<(Vec<u8>, usize), Fail> {
+    policy_by(alloc, &[], text)
 }
 
 #[test]
@@ -188,6 +194,23 @@ fn what_follows_where_a_request_is_handled(rt: HostRuntime) -> Result<(), Fail> 
     let (text, unset) = policy_of(rt.alloc(), text)?;
     let wanted = b"if (&User-Name) {\n\tupdate control {\n\t\tImport-Returned := \"yes\"\n\t}\n}\n\
         if (!&control:Import-Returned) {\n\treject\n\t# handled, and nothing follows\n}\n";
+    assert_eq!(rt; text.as_slice(), wanted.as_slice());
+    assert_eq!(rt; unset, 0);
+    Ok(())
+}
+
+#[test]
+fn what_follows_a_module_that_handles_a_request(rt: HostRuntime) -> Result<(), Fail> {
+    let modules = vec![in rt.alloc();
+        Module {
+            name: Vec::from_slice(rt.alloc(), b"ldap")?,
+            answer: ModuleAnswer::Code(ServerCode::Handled),
+        },
+    ]?;
+    let text = b"authorize {\n if (&User-Name) {\n ldap\n }\n reject\n}";
+    let (text, unset) = policy_by(rt.alloc(), &modules, text)?;
+    let wanted = b"if (&User-Name) {\n\tupdate control {\n\t\tImport-Returned := \"yes\"\n\t}\n}\n\
+        if (!&control:Import-Returned) {\n\treject\n}\n";
     assert_eq!(rt; text.as_slice(), wanted.as_slice());
     assert_eq!(rt; unset, 0);
     Ok(())

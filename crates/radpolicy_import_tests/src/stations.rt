@@ -4,7 +4,7 @@ use crate::imports::{authorize, configuration, imported, settings_of};
 use crate::other_lists::{dictionary_of, named};
 use avp_dict::FileSet;
 use avp_forms::Profile;
-use radpolicy_import_conditions::Difference;
+use radpolicy_import_conditions::{Difference, Reason};
 use radpolicy_import_policies::{
     Imported, LineEnds, SectionKind, Settings, Stubs, other_attributes, other_dictionary,
 };
@@ -37,7 +37,7 @@ fn with_functions(alloc: Global, text: &[u8]) -> Result<Imported, Fail> {
     let statements = authorize(alloc, &read)?;
     let statements = statements.as_slice();
     let (stubs, section) = (Stubs::Functions, SectionKind::Access);
-    let others = other_attributes(alloc, &read, &plain, stubs, section, statements)?;
+    let others = other_attributes(alloc, &read, &plain, stubs, section, &[], statements)?;
     let defined = other_dictionary(alloc, &files, &plain, &others)?;
     let both = vec![in alloc;
         named(alloc, b"others", &defined)?,
@@ -60,17 +60,30 @@ fn a_called_station(rt: HostRuntime) -> Result<(), Fail> {
     Ok(())
 }
 
-#[test]
-fn a_function_that_changes_attributes(rt: HostRuntime) -> Result<(), Fail> {
-    let text = b"authorize {\n update request {\n \
-        Called-Station-SSID := \"%{explode:&Called-Station-Id -}\"\n }\n \
-        \"%{explode:&Called-Station-Id -}\"\n}";
-    let imported = with_functions(rt.alloc(), text)?;
+// Whether an expansion in a value is warned of, and by itself left out: the first and the second of two statements.
+fn changes_attributes(alloc: Global, text: &[u8]) -> Result<bool, Fail> {
+    let imported = with_functions(alloc, text)?;
     let is_warned = match imported.warnings.as_slice() {
         [warning] => warning.difference == Difference::ChangedList,
         _ => false,
     };
-    assert!(rt; is_warned);
-    assert!(rt; (imported.kept, imported.read, imported.given) == (1, 2, 1));
+    let is_left_out = match imported.left_out.as_slice() {
+        [part] => part.reason == Reason::ChangedList,
+        _ => false,
+    };
+    let counts = (imported.kept, imported.read, imported.given);
+    Ok(is_warned && is_left_out && counts == (1, 2, 1))
+}
+
+#[test]
+fn functions_that_change_attributes(rt: HostRuntime) -> Result<(), Fail> {
+    let text = b"authorize {\n update request {\n \
+        Called-Station-SSID := \"%{explode:&Called-Station-Id -}\"\n }\n \
+        \"%{explode:&Called-Station-Id -}\"\n}";
+    assert!(rt; changes_attributes(rt.alloc(), text)?);
+    let text = b"authorize {\n update request {\n \
+        Called-Station-SSID := \"%{map:&reply:Class := 1}\"\n }\n \
+        \"%{map:&reply:Class := 1}\"\n}";
+    assert!(rt; changes_attributes(rt.alloc(), text)?);
     Ok(())
 }

@@ -1,4 +1,4 @@
-use Rattle.std.proofs.Common.{◌≡◌, ◌∙◌, sym, true}
+use Rattle.std.proofs.Common.{◌∙◌, sym}
 use Rattle.radpolicy_import_policies.proofs.Folders.{at_slash, before_last}
 use Rattle.radpolicy_import_policies.proofs.origin_texts.folder.Goals as goal
 
