@@ -1,5 +1,5 @@
 """Policies of a FreeRADIUS server on loopback beside what `radpolicy-import` makes of them: to ten requests each the
-replies have the same attributes, or a warning of the import says that a server may decide otherwise."""
+replies have the same attributes, or a warning of the import says that a server may decide otherwise of the request."""
 import hashlib
 import os
 import random
@@ -8,7 +8,7 @@ import shutil
 import socket
 from contextlib import ExitStack
 from pathlib import Path
-from typing import Dict, List, NamedTuple, Tuple
+from typing import Callable, Dict, List, NamedTuple, Tuple
 
 from common.program import run
 from common.report import Report
@@ -50,6 +50,29 @@ KEY = "changeme"
 # Those whose warnings are of nothing that these requests have.
 SURE = (
     "captures", "captured_by_the_last", "texts_of_absent", "either_of_two_texts", "long_texts", "in_octets", *REWRITING)
+# What a report warns of that is about no request but those of the policies below.
+QUIET = ("long-expansion", "tagged-octets")
+
+
+class Warned(NamedTuple):
+    """What the report of a policy warns of, the names of users and the lengths of classes that its requests have beside
+    others, and whether the warning is about a request, by what its attributes are."""
+
+    warning: str
+    names: Tuple[str, ...]
+    classes: Tuple[int, ...]
+    is_about: Callable[[Dict[str, str]], bool]
+
+
+OF_SOME: Dict[str, Warned] = {
+    "texts_that_grow": Warned(
+        "long-expansion", tuple(length * "n" for length in (200, 245, 246, 247, 253)), (),
+        lambda sent: len("Hello, " + sent["User-Name"]) > 253),
+    "octets_in_texts": Warned(
+        "long-expansion", (), (1, 124, 125, 126, 253), lambda sent: len("c" + sent.get("Class", "")) > 253),
+    "tagged_names": Warned(
+        "tagged-octets", ("0x31", "0x4142", "0xzz", "0x123"), (), lambda sent: sent["User-Name"].startswith("0x")),
+}
 # Those that the plain profile has, with octets in place of what they mean.
 PLAIN = ("in_octets", "texts_in_octets")
 # Those that are called where the reply is made.
@@ -141,6 +164,16 @@ WRITTEN: Dict[str, str] = {
     'Reply-Message := "%{reply:Login-IPv6-Host}"\n}\n',
     "handled_early": 'update reply {\nReply-Message := "before"\n}\nif (&NAS-Port == 2) {\nhandled\n}\nupdate reply {\n'
     'Reply-Message += "after"\n}\n',
+    "texts_that_grow": 'update reply {\nReply-Message := "Hello, %{User-Name}"\n}\nupdate reply {\n'
+    'Reply-Message += "after"\n}\n',
+    "octets_in_texts": 'update reply {\nReply-Message := "c%{Class}"\n}\nupdate reply {\nReply-Message += "after"\n}\n',
+    "tagged_names": 'update reply {\nTunnel-Private-Group-Id:1 := "%{User-Name}"\n'
+    'Tunnel-Private-Group-Id:2 := "v%{User-Name}"\n}\n',
+    "tagged_like_octets": 'update reply {\nTunnel-Private-Group-Id := "0x31"\nTunnel-Private-Group-Id:1 += "0x4142"\n'
+    'Tunnel-Private-Group-Id:2 += "0xzz"\n}\n',
+    "octets_in_quotes": 'update reply {\nClass := "0x' + 150 * "0b" + '"\n}\n',
+    "octal_addresses": 'update reply {\nFramed-IP-Address := 010.1.2.3\nFramed-IP-Netmask := "255.255.0377.00"\n}\n'
+    'if (&reply:Framed-IP-Address == 010.1.2.3) {\nupdate reply {\nReply-Message += "an address"\n}\n}\n',
     "one_in_another": 'deny_realms\nif (&Service-Type == Login-User && &NAS-Port <= 2) {\nservice\n}\n',
 }
 CONFIGURATION = """prefix = /usr
@@ -198,6 +231,8 @@ NAMES = (
 STATIONS = ("00-11-22-33-44-55", "00:11:22:aa:BB:cc", "001122334455", "none", "00-11-22")
 NETWORKS = ("", ":guests", "-A network", ":")
 PASSWORDS = ("hello", "hel\\000lo")
+WARNING = re.compile(r": kept, but .*?(?: \[([a-z-]+)\])?: ")
+AS_OCTETS = re.compile(r"Tunnel-Private-Group-Id = 0x([01][0-9a-f])?(3078[0-9a-f]*)")
 REJECTED = re.compile(r"^result (reject|fail)\b", re.M)
 
 
@@ -209,11 +244,12 @@ class Answer(NamedTuple):
 
 
 class Difference(NamedTuple):
-    """A request that is answered otherwise."""
+    """A request that is answered otherwise, and whether the report says that it may be."""
 
     request: str
     server: Answer
     policy: Answer
+    is_told: bool
 
 
 def free_ports(count: int) -> List[int]:
@@ -233,12 +269,16 @@ def requests(name: str) -> List[str]:
     made = []
     # A line feed at the end is told of a `$`, and so would hide what else may differ.
     last = () if name in REWRITING else NAMES[-2:]
-    for user in [NAMES[0], *chance.sample(NAMES[1:-2], REQUESTS - 1 - len(last)), *last]:
+    own, classes = (OF_SOME[name].names, OF_SOME[name].classes) if name in OF_SOME else ((), ())
+    users = [NAMES[0], *chance.sample(NAMES[1:-2], REQUESTS - 1 - len(last) - len(own)), *last, *own]
+    for place, user in enumerate(users):
         lines = [f'User-Name = "{user}"', 'User-Password = "hello"']
         optional = [
             f"NAS-Port = {chance.randrange(1, 4)}", f'Calling-Station-Id = "{chance.choice(STATIONS)}"',
             f"Service-Type = {chance.choice(('Framed-User', 'Login-User', 'Outbound-User'))}", "Class = 0x0a0b",
         ]
+        if classes:
+            optional[-1] = f"Class = 0x{classes[place % len(classes)] * '0b'}"
         lines += [line for line in optional if chance.random() < 0.75]
         if name in REWRITING:
             lines[1] = f'User-Password = "{chance.choice(PASSWORDS)}"'
@@ -312,6 +352,14 @@ def with_given(policy: str, said: str, name: str, request: str) -> str:
     return head + given + policy[len(head):] if policy.startswith(head) else given + policy
 
 
+def in_words(line: str) -> str:
+    """A line of a reply as a client prints it, also one of a text with a tag that begins with `0x`."""
+    octets = AS_OCTETS.fullmatch(line)
+    if not octets:
+        return line
+    return f'Tunnel-Private-Group-Id:{int(octets[1] or "0", 16)} = "{bytes.fromhex(octets[2]).decode()}"'
+
+
 def of_policy(subject: Subject, policy: str, dictionaries: List[str], request: str) -> Answer:
     with new_folder() as here:
         (here / "request").write_text(request)
@@ -323,7 +371,7 @@ def of_policy(subject: Subject, policy: str, dictionaries: List[str], request: s
     said = ended.output.decode()
     reply = ("\n" + said.partition("\nreply\n")[2]).partition("\ncontrol\n")[0]
     kind = "Access-Reject" if REJECTED.search(said) else "Access-Accept"
-    return Answer(kind, [line.strip() for line in reply.splitlines()[1:]])
+    return Answer(kind, [in_words(line.strip()) for line in reply.splitlines()[1:]])
 
 
 def imported(subject: Subject, folder: Path, dictionaries: Path, name: str) -> Tuple[str, List[str]]:
@@ -340,6 +388,14 @@ def imported(subject: Subject, folder: Path, dictionaries: Path, name: str) -> T
     return ended.errors.decode(), [str(others), *(word.split("=", 1)[1] for word in named)]
 
 
+def is_told(name: str, said: str, request: str) -> bool:
+    """Whether the report warns that a server may decide otherwise of the request."""
+    if name in OF_SOME:
+        sent = {word: value.strip('"') for word, value in re.findall(r"^(\S+) = (.*)$", request, re.M)}
+        return OF_SOME[name].is_about(sent)
+    return name not in SURE and any(warning not in QUIET for warning in WARNING.findall(said))
+
+
 def differences(
     subject: Subject, policy: str, said: str, dictionaries: List[str], name: str, port: int,
 ) -> List[Difference]:
@@ -351,7 +407,7 @@ def differences(
             given = f"# profile: wider\n{given}"
         wanted, made = of_server(port, request), of_policy(subject, given, dictionaries, request)
         if wanted != made:
-            found.append(Difference(request, wanted, made))
+            found.append(Difference(request, wanted, made, is_told(name, said, request)))
     return found
 
 
@@ -364,10 +420,13 @@ def compare(subject: Subject, report: Report, folder: Path, dictionaries: Path, 
     for name, (said, found) in zip(ports, on_all(compared, ports)):
         kept = re.match(r"(\d+) of (\d+) statements kept", said)
         faults = [] if kept and kept[1] == kept[2] else [said]
-        is_told = ": kept, but " in said and name not in SURE
-        report.check(f"{name} imported, beside a server", faults + ([] if is_told else [str(one) for one in found]))
-        if is_told:
-            report.say(f"    {name}: {len(found)} of {REQUESTS} requests are answered otherwise, as its report warns")
+        faults += [str(one) for one in found if not one.is_told]
+        told = sum(one.is_told for one in found)
+        if name in OF_SOME and (OF_SOME[name].warning not in WARNING.findall(said) or not told):
+            faults.append(f"{told} requests answered otherwise by the report {said}")
+        report.check(f"{name} imported, beside a server", faults)
+        if told:
+            report.say(f"    {name}: {told} of {REQUESTS} requests are answered otherwise, as its report warns")
 
 
 def check(subject: Subject, report: Report) -> None:

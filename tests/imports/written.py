@@ -1,7 +1,8 @@
 """What `radpolicy-import` writes beside the policy, and what it makes of small configurations and of crafted ones."""
 import json
+import os
 from pathlib import Path
-from typing import Dict, List, Tuple
+from typing import Dict, List, Sequence, Tuple
 
 from common.program import Ended, run
 from common.report import Report
@@ -122,9 +123,13 @@ LONG_WARNING = f"site:3: kept, but {CUT} [long-text]: {BEGINNING}"
 LONG_AS_JSON = {"file": "site", "line": 3, "warning": CUT, "name": "long-text", "text": BEGINNING}
 
 
-def imported(subject: Subject, folder: Path, words: List[str]) -> Ended:
+# Has root read only what the owner of a file may read, as every other user.
+AS_OTHERS = ["setpriv", "--inh-caps=-all", "--bounding-set=-dac_override,-dac_read_search"]
+
+
+def imported(subject: Subject, folder: Path, words: List[str], before: Sequence[str] = ()) -> Ended:
     command = [subject.driver("radpolicy_import"), "--dict", subject.root / DICTIONARY, *OPTIONS, *words]
-    return run(command, folder)
+    return run([*before, *command], folder)
 
 
 def outputs_of(folder: Path) -> List[str]:
@@ -177,6 +182,37 @@ def check_faults(subject: Subject, report: Report) -> None:
             ended = imported(subject, folder, ["--initial", "first", "site"])
             faults = [] if ended.status == 2 and ended.errors.startswith(wanted) else [f"{ended.status}, {ended.errors!r}"]
             report.check(f"initial lists with {name} refused", faults + outputs_of(folder))
+
+
+UNREAD = {
+    "main": b"$INCLUDE part/a\n$INCLUDE part/\n" + SITE,
+    "part/a": b"a = b\n",
+    "raddb/radiusd.conf": b"a = b\n",
+    "other": b"\n$INCLUDE none\n",
+}
+FORBIDDEN = b"no permission to read it: run this with sudo, or as a member of the group that owns it"
+# What may not be read, what is imported, and the fault.
+UNREADABLE: Dict[str, Tuple[str, str, bytes]] = {
+    "a file": ("main", "main", b"main: " + FORBIDDEN),
+    "a server's file": ("raddb/radiusd.conf", "raddb", b"raddb/radiusd.conf: " + FORBIDDEN),
+    "a file that is included": ("part/a", "main", b"main:1: part/a: " + FORBIDDEN),
+    "a folder that is included": ("part", "main", b"main:2: part/: " + FORBIDDEN),
+    "a file that is missing": ("part", "other", b"other:2: none: not there, or not readable"),
+}
+
+
+def check_unreadable(subject: Subject, report: Report) -> None:
+    """Files and folders that may not be read: a fault with their path, and nothing is written."""
+    before = AS_OTHERS if os.geteuid() == 0 else []
+    for name, (locked, given, wanted) in UNREADABLE.items():
+        with new_folder() as folder:
+            written(folder, UNREAD)
+            (folder / locked).chmod(0o100)
+            ended = imported(subject, folder, [given], before)
+            (folder / locked).chmod(0o700)
+            said = (ended.status, ended.errors)
+            faults = [] if said == (2, b"radpolicy-import: " + wanted + b"\n") else [f"{said}"]
+            report.check(f"{name} not read", faults + outputs_of(folder))
 
 
 def hostile_cases() -> Dict[str, Dict[str, bytes]]:
@@ -258,6 +294,7 @@ def check(subject: Subject, report: Report) -> None:
     check_files(subject, report)
     check_warnings(subject, report)
     check_faults(subject, report)
+    check_unreadable(subject, report)
 
 
 def check_crafted(subject: Subject, report: Report) -> None:
