@@ -158,7 +158,7 @@ fn is_opened(cond: &Cond, other: &Cond) -> bool
     }
 }
 
-/// Whether a policy is an `if` of a condition alone, but for brackets that change nothing.
+/// Whether a policy is an `if` of a condition alone, with an empty block, but for brackets that change nothing.
 pub fn says(policy: &Policy, cond: &Cond) -> bool
     ensures { IsTrue result → Says policy.now cond.now }
 {
