@@ -27,5 +27,8 @@ id_eq_sym _ _ = refl
 pub other_id_sym : (n m : List ℕ) (i j : AttrId) → (same_name m n && not (id_eq j i)) ≡ false → (same_name n m && not (id_eq i j)) ≡ false
 other_id_sym n m i j h = rw (same_name_sym n m, id_eq_sym i j) h
 
+pub other_vendor_sym : (n m : List ℕ) (v w : ℕ) → (same_name m n && not (w == v)) ≡ false → (same_name n m && not (v == w)) ≡ false
+other_vendor_sym n m v w h = rw (same_name_sym n m, eqb_sym v w) h
+
 pub other_value_sym : (i j : AttrId) (n m : List ℕ) (v w : ℕ) → (id_eq j i && same_name m n && not (w == v)) ≡ false → (id_eq i j && same_name n m && not (v == w)) ≡ false
 other_value_sym i j n m v w h = rw (id_eq_sym i j, same_name_sym n m, eqb_sym v w) h

@@ -1,13 +1,15 @@
 -- What the rows of a table say of their lines: which one is found, their names, and which ids are marked as secret.
-use Rattle.std.proofs.Common.{◌≡◌, ◌∙◌, Bool, true, false, cond, ◌&&◌, ◌||◌, List, [], ◌∷◌, ◌++◌, map, Option, Some, None, option_map, refl, sym, ap, find}
+use Rattle.std.proofs.Common.{◌≡◌, ◌∙◌, ℕ, Bool, true, false, cond, ◌&&◌, ◌||◌, List, [], ◌∷◌, ◌++◌, map, Option, Some, None, option_map, refl, sym, ap, find}
 use Rattle.std.specs.List.{list_any}
 use Rattle.std.specs.Option.{option_map_or}
 use Rattle.std.proofs.lemmas.List.{map-append, reverse-append}
 use Rattle.std.proofs.lemmas.List.Folds.{list_any-append}
+use Rattle.std.proofs.lemmas.Option.{slice_get-map}
 use Rattle.avp_lists.specs.Pairs.{id_eq}
 use Rattle.avp_lists.proofs.Equality.{same_id}
 use Rattle.avp_dict.specs.declared.tables.attributes.AttributeRow.{AttributeRow}
 use Rattle.avp_dict.specs.Dictionary.{attribute_key, is_secret_line_of, last_where}
+use Rattle.avp_dict.specs.internal.Tables.{IsLastAt}
 use Rattle.avp_dict.specs.internal.AttributeRows.{KeepMarks, is_row_of, line_of, lines_of, marked_by, row_key}
 use Rattle.avp_dict.proofs.LastPlaces.{last_first, or_then}
 
@@ -25,6 +27,11 @@ module _ {X Y : Type 0} (f : X → Y) (test : Y → Bool) where
       ∙ ap (λ o. or_then test o (cond (test (f x)) (Some (f x)) None)) (last_mapped xs)
       ∙ first_of (last_where (λ y. test (f y)) xs) (test (f x)) x
       ∙ sym (ap (option_map f) (last_first (λ y. test (f y)) x xs))
+
+  -- a place of the last that passes is the same after they are mapped
+  pub mapped_at : (xs : List X) (place : Option ℕ) → IsLastAt (λ x. test (f x)) xs place → IsLastAt test (map f xs) place
+  mapped_at xs None none = last_mapped xs ∙ ap (option_map f) none
+  mapped_at xs (Some i) (x, at, last) = (f x, slice_get-map f xs i ∙ ap (option_map f) at, last_mapped xs ∙ ap (option_map f) last)
 
 pub keys_of_rows : (rows : List AttributeRow) → map attribute_key (lines_of rows) ≡ map row_key rows
 keys_of_rows [] = refl

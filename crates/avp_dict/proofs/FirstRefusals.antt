@@ -7,7 +7,8 @@ use Rattle.avp_lists.specs.States.{max_pairs}
 use Rattle.avp_lists.specs.declared.pairs.Pair.{Pair}
 use Rattle.avp_dict.specs.Lines.{is_line_end, texts_of}
 use Rattle.avp_dict.specs.Outcomes.{is_memory_line, is_memory_value}
-use Rattle.avp_dict.specs.RefusedPlaces.{IsRefusedAfter, IsRefusedAt, IsRefusedFor, in_packet, after_packet, lines_before, no_comma, no_value, not_value, not_writable, out_of_memory, pairs_before, read_before, too_long, too_many}
+use Rattle.avp_dict.specs.RefusedPlaces.{IsOutOfMemoryAt, IsOutOfMemoryFor, IsPlace, IsRefusedAfter, IsRefusedAt, IsRefusedFor, after_packet, for_pair, for_value, in_line, in_packet, line_from, lines_before, no_comma, no_value, not_value, not_writable, out_of_memory, pairs_before, read_before, too_long, too_many}
+use Rattle.avp_dict.specs.RefusedPlaces.IsRefusedAfter.{no_name, second_packet}
 use Rattle.avp_dict.specs.RequestLines.{Assignment, Token, Sign, Run, is_blank_line, is_idle_line, joined, tokens_at, value_text, without_front}
 use Rattle.avp_dict.specs.Requests.{each_pair, few_enough, pair_assigned}
 use Rattle.avp_dict.specs.declared.request.faults.LineKind.{LineKind}
@@ -18,7 +19,7 @@ use Rattle.avp_dict.specs.declared.request.tokens.Side.{Side}
 use Rattle.avp_dict.specs.declared.request.tokens.Side.TheVariants.{Name, Value}
 use Rattle.avp_dict.specs.declared.value.faults.ValueFault.{ValueFault}
 use Rattle.avp_dict.specs.declared.value.faults.ValueFault.TheVariants as faults
-use Rattle.avp_dict.specs.internal.LineEnds.{IsCountKind, IsLexed, IsNoComma, IsPacketRead, IsPairRead, IsPairsRead, IsPastBlanks, IsRefusedEnd, IsRefusedLine, IsRefusedPair, IsRefusedText, IsRefusedToken, refused_from}
+use Rattle.avp_dict.specs.internal.LineEnds.{IsCountKind, IsLexed, IsNoComma, IsOutLine, IsOutPair, IsPacketRead, IsPairRead, IsPairsRead, IsPastBlanks, IsRefusedEnd, IsRefusedLine, IsRefusedPair, IsRefusedText, IsRefusedToken, IsStoppedLine, IsStoppedPair, refused_from}
 use Rattle.avp_dict.specs.internal.LineReading.{after_pairs, line_kind}
 use Rattle.avp_dict.specs.internal.RequestTokens.{is_ended, side_after, token_view}
 use Rattle.avp_dict.proofs.Gathering.{first_text as first_line}
@@ -34,6 +35,11 @@ unless_map false f p = f p
 unless_all : (memory : Bool) (P : ℕ → Type 0) → ((n : ℕ) → Unless memory (P n)) → Unless memory ((n : ℕ) → P n)
 unless_all true P all = tt
 unless_all false P all = all
+
+-- want of memory is no refusal after the end of a packet
+pub after_no_memory : (kind : LineKind) (tokens : List Token) → IsRefusedAfter kind tokens → kind ≢ kinds.Memory
+after_no_memory kind tokens (second_packet name others) = λ h. cc
+after_no_memory kind tokens (no_name token others other) = λ h. cc
 
 -- ---- values
 
@@ -122,10 +128,44 @@ module _ {T : Type 0} (target_of : List ℕ → Option T) (pair_of : T → List 
       unless_all (is_memory_line kind) (λ count. IsRefusedPair target_of pair_of refusal_of count line kind left)
       (λ count. value_refused count line text kind left name target value tokens none refused known there lexed is)
 
+  -- where memory runs out for a value
+  pub value_out : (line text : List ℕ) (left : ℕ) (name : List ℕ) (target : T) (value : Token) (tokens : List Token)
+      → value_text value ≢ None
+      → option_and_then (refusal_of target) (value_text value) ≢ Some faults.NotWritable
+      → target_of name ≡ Some target
+      → tokens_at Value text ≡ value ∷ tokens
+      → IsLexed Name line (Run name ∷ Sign ∷ []) Value text
+      → left ≡ length text
+      → (count : ℕ) → IsOutPair target_of pair_of refusal_of count line left
+  value_out line text left name target value tokens some writable known there lexed is count = record {
+    inner = Run name ∷ Sign ∷ [];
+    side = Value;
+    rest = text;
+    lexed = lexed;
+    left_is = is;
+    refused = subst (λ ts. IsOutOfMemoryFor target_of pair_of refusal_of count (Run name ∷ Sign ∷ []) Value ts) (sym there)
+        (for_value name value tokens (λ none. let it = sym known ∙ none in cc) some (rw known writable));
+  }
+
+  -- where it does for a pair
+  pub pair_out : (pairs : List Pair) (line rest : List ℕ) (pair : Pair) (left : ℕ) → length pairs < max_pairs → IsPairRead target_of pair_of line pair rest → left ≡ length line → IsOutPair target_of pair_of refusal_of (length pairs) line left
+  pair_out pairs line rest pair left few first is =
+      let room : nat_lt (length pairs) max_pairs ≡ true = grind (arith, common_steps) in
+      let there = lexed_whole Name line (Run first.name ∷ Sign ∷ first.value ∷ []) Value rest first.lexed in
+      record {
+        inner = [];
+        side = Name;
+        rest = line;
+        lexed = lexed_none Name line;
+        left_is = is;
+        refused = subst (λ ts. IsOutOfMemoryFor target_of pair_of refusal_of (length pairs) [] Name ts) (sym there)
+            (for_pair first.name first.value pair (tokens_at Value rest) first.read room);
+      }
+
   -- ---- lines
 
-  pub pair_refused_in : (earlier pairs : List Pair) (line rest : List ℕ) (kind : LineKind) (left : ℕ) → IsPairsRead target_of pair_of earlier line pairs rest → length pairs ≤ max_pairs → IsRefusedPair target_of pair_of refusal_of (length pairs) rest kind left → IsRefusedLine target_of pair_of refusal_of earlier line kind left
-  pair_refused_in earlier pairs line rest kind left read few here = record {
+  pub pair_stopped_in : (what : ℕ → List Token → Side → List Token → Type 0) (earlier pairs : List Pair) (line rest : List ℕ) (left : ℕ) → IsPairsRead target_of pair_of earlier line pairs rest → length pairs ≤ max_pairs → IsStoppedPair target_of pair_of what (length pairs) rest left → IsStoppedLine target_of pair_of what earlier line left
+  pair_stopped_in what earlier pairs line rest left read few here = record {
     pairs = pairs;
     before = read.before;
     inner = here.inner;
@@ -137,6 +177,9 @@ module _ {T : Type 0} (target_of : List ℕ → Option T) (pair_of : T → List 
     few = few;
     refused = here.refused;
   }
+
+  pub pair_refused_in : (earlier pairs : List Pair) (line rest : List ℕ) (kind : LineKind) (left : ℕ) → IsPairsRead target_of pair_of earlier line pairs rest → length pairs ≤ max_pairs → IsRefusedPair target_of pair_of refusal_of (length pairs) rest kind left → IsRefusedLine target_of pair_of refusal_of earlier line kind left
+  pair_refused_in earlier pairs line rest kind left read few here = pair_stopped_in (λ n. IsFor n kind) earlier pairs line rest left read few here
 
   pub count_refused : (kind : LineKind) (pairs : List Pair) (line rest : List ℕ) (pair : Pair) (left : ℕ) → IsCountKind kind → (kind ≢ kinds.Memory → length pairs ≡ max_pairs) → IsPairRead target_of pair_of line pair rest → left ≡ length line → Unless (is_memory_line kind) (IsRefusedPair target_of pair_of refusal_of (length pairs) line kind left)
   count_refused kinds.TooMany pairs line rest pair left of_count full first is =
@@ -183,14 +226,28 @@ module _ {T : Type 0} (target_of : List ℕ → Option T) (pair_of : T → List 
       front_kept is_idle_line read.lines read.packet (before_first is_line_end rest) (texts_of (after_first is_line_end rest))
       (ap (without_front is_idle_line) (sym (whole ∙ ap (λ ls. read.lines ++ ls) first)) ∙ read.whole ∙ ap (λ ls. read.packet ++ ls) first)
 
+  -- a place on a line, what is before it and what there is
+  line_stopped : (what : ℕ → List Token → Side → List Token → Type 0) (text rest line : List ℕ) (pairs : List Pair) (left place : ℕ) (here : IsStoppedLine target_of pair_of what pairs line left) (read : IsPacketRead target_of pair_of text pairs rest) → 0 < length rest → line ≡ before_first is_line_end rest → IsPastBlanks text (length text - (left + (length rest - length line))) place
+      → IsPlace text place read.lines (here.before ++ here.inner) here.side
+      × (read_before one (without_front is_idle_line read.lines) here.before ≡ Some here.pairs)
+      × what (length here.pairs) here.inner here.side (tokens_at here.side (line_from text place))
+  line_stopped what text rest line pairs left place here read some is past =
+      let from : left + (length rest - length line) ≡ length here.rest + (length rest - length line) = ap (λ n. n + (length rest - length line)) here.left_is in (
+        placed text read.read.front rest line read.lines (here.before ++ here.inner) here.side (left + (length rest - length line)) place read.read.split (read.read.read some) some is here.rest here.lexed from past,
+        ap (λ ls. read_before one ls here.before) (opened text rest pairs read some) ∙ before_read read.packet pairs here.pairs here.before read.pairs_are here.read here.few,
+        subst (λ ts. what (length here.pairs) here.inner here.side ts)
+            (tokens_there text read.read.front rest line read.lines (here.before ++ here.inner) here.side (left + (length rest - length line)) place read.read.split (read.read.read some) some is here.rest here.lexed from past) here.refused,
+      )
+
   line_refused : (kind : LineKind) (text rest line : List ℕ) (pairs : List Pair) (left place : ℕ) → IsRefusedLine target_of pair_of refusal_of pairs line kind left → IsPacketRead target_of pair_of text pairs rest → 0 < length rest → line ≡ before_first is_line_end rest → IsPastBlanks text (length text - (left + (length rest - length line))) place → IsAt text kind place
   line_refused kind text rest line pairs left place here read some is past =
-      let from : left + (length rest - length line) ≡ length here.rest + (length rest - length line) = ap (λ n. n + (length rest - length line)) here.left_is in
-      in_packet kind place here.side read.lines here.before here.inner here.pairs
-      (placed text read.read.front rest line read.lines (here.before ++ here.inner) here.side (left + (length rest - length line)) place read.read.split (read.read.read some) some is here.rest here.lexed from past)
-      (ap (λ ls. read_before one ls here.before) (opened text rest pairs read some) ∙ before_read read.packet pairs here.pairs here.before read.pairs_are here.read here.few)
-      (subst (λ ts. IsFor (length here.pairs) kind here.inner here.side ts)
-      (tokens_there text read.read.front rest line read.lines (here.before ++ here.inner) here.side (left + (length rest - length line)) place read.read.split (read.read.read some) some is here.rest here.lexed from past) here.refused)
+      let parts = line_stopped (λ n. IsFor n kind) text rest line pairs left place here read some is past in
+      in_packet kind place here.side read.lines here.before here.inner here.pairs parts.0 parts.1 parts.2
+
+  pub line_out_at : (text rest line : List ℕ) (pairs : List Pair) (left place : ℕ) → IsOutLine target_of pair_of refusal_of pairs line left → IsPacketRead target_of pair_of text pairs rest → 0 < length rest → line ≡ before_first is_line_end rest → IsPastBlanks text (length text - (left + (length rest - length line))) place → IsOutOfMemoryAt target_of pair_of refusal_of text place
+  line_out_at text rest line pairs left place here read some is past =
+      let parts = line_stopped (IsOutOfMemoryFor target_of pair_of refusal_of) text rest line pairs left place here read some is past in
+      in_line place here.side read.lines here.before here.inner here.pairs parts.0 parts.1 parts.2
 
   pub line_refused_at : (kind : LineKind) (text rest line : List ℕ) (pairs : List Pair) (left place : ℕ) → Unless (is_memory_line kind) (IsRefusedLine target_of pair_of refusal_of pairs line kind left) → IsPacketRead target_of pair_of text pairs rest → 0 < length rest → line ≡ before_first is_line_end rest → IsPastBlanks text (length text - (left + (length rest - length line))) place → IsAt text kind place
   line_refused_at kinds.Memory text rest line pairs left place here read some is past = out_of_memory place

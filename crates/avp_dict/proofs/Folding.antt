@@ -1,5 +1,6 @@
 -- Names are the same where their octets in lower case are.
-use Rattle.std.proofs.Common.{◌≡◌, ◌≢◌, ◌≤◌, ◌<◌, ℕ, suc, false, ◌&&◌, ◌==◌, List, [], ◌∷◌, length, map, refl, sym, ap, arith, ◌∙◌, bytes_eq}
+use Rattle.std.proofs.Common.{◌≡◌, ◌≢◌, ◌≤◌, ◌<◌, ℕ, suc, true, false, ◌&&◌, ◌==◌, List, [], ◌∷◌, length, map, refl, sym, ap, arith, ◌∙◌, bytes_eq}
+use Rattle.std.specs.Cmp.Lexicographic.{bytes_decides}
 use Rattle.std.proofs.lemmas.Bool.{and_right}
 use Rattle.avp_dict.specs.Letters.{max_name}
 use Rattle.avp_dict.specs.Words.{lower, same_name}
@@ -10,6 +11,13 @@ same_folded [] [] = refl
 same_folded [] (y ∷ ys) = refl
 same_folded (x ∷ xs) [] = refl
 same_folded (x ∷ xs) (y ∷ ys) = ap (λ c. (lower x == lower y) && c) (same_folded xs ys)
+
+folds_alike : (a b : List ℕ) → same_name a b ≡ true → map lower a ≡ map lower b
+folds_alike a b h = (bytes_decides (map lower a) (map lower b)).0 (sym (same_folded a b) ∙ h)
+
+-- names that are the same are the same as others
+pub same_as : (a b name : List ℕ) → same_name a b ≡ true → same_name name a ≡ same_name name b
+same_as a b name h = same_folded name a ∙ (ap (bytes_eq (map lower name)) (folds_alike a b h) ∙ sym (same_folded name b))
 
 -- in either order
 pub folded_same : (a b : List ℕ) → bytes_eq (map lower a) (map lower b) ≡ same_name b a

@@ -1,9 +1,14 @@
 -- The last place after one more line, and the line that is there.
-use Rattle.std.proofs.Common.{◌≡◌, ℕ, suc, Bool, true, false, cond, List, [], ◌∷◌, ◌++◌, length, reverse, slice_get, Option, Some, None, option_and_then, refl, sym, ap, subst, ◌∙◌, if◌then◌else◌, All, find}
+use Rattle.std.proofs.Common.{◌≡◌, ℕ, zero, suc, Bool, true, false, cond, List, [], ◌∷◌, ◌++◌, length, reverse, slice_get, Option, Some, None, option_and_then, refl, sym, ap, subst, ◌∙◌, if◌then◌else◌, All, find}
 use Rattle.std.proofs.lemmas.List.Elements.{All-head, All-tail}
 use Rattle.std.proofs.lemmas.List.{reverse-append}
 use Rattle.avp_dict.specs.Dictionary.{last_where}
-use Rattle.avp_dict.specs.internal.Tables.{last_place}
+use Rattle.avp_dict.specs.internal.Tables.{IsLastAt, last_place}
+
+front_kept : {X : Type 0} (xs more : List X) (i : ℕ) (x : X) → slice_get xs i ≡ Some x → slice_get (xs ++ more) i ≡ Some x
+front_kept [] more i x h = absurd (cc)
+front_kept (y ∷ xs) more zero x h = h
+front_kept (y ∷ xs) more (suc i) x h = front_kept xs more i x h
 
 module _ {X : Type 0} (test : X → Bool) where
   abbrev after : X → Option ℕ → Option ℕ
@@ -54,6 +59,18 @@ module _ {X : Type 0} (test : X → Bool) where
   -- the last line is at the last place
   pub last_found : (xs : List X) → last_where test xs ≡ option_and_then (slice_get xs) (last_place test xs)
   last_found xs = found_by xs (last_place test xs) (last_where test xs) (agreeing xs)
+
+  at_place : (xs : List X) (place : Option ℕ) → Agree xs place (last_where test xs) → IsLastAt test xs place
+  at_place xs None h = h
+  at_place xs (Some i) h = h
+
+  pub last_at : (xs : List X) → IsLastAt test xs (last_place test xs)
+  last_at xs = at_place xs (last_place test xs) (agreeing xs)
+
+  -- a line that was the last one is found after others are added
+  pub found_before : (xs more : List X) (place : Option ℕ) → IsLastAt test xs place → option_and_then (slice_get (xs ++ more)) place ≡ last_where test xs
+  found_before xs more None h = sym h
+  found_before xs more (Some i) h = front_kept xs more i h.0 h.1 ∙ sym h.2
 
   -- a table that gives the last place gives it after one more line
   pub last_place_kept : (xs : List X) (x : X) (n : ℕ) (before after : Option ℕ) → n ≡ length xs → before ≡ last_place test xs → after ≡ (if test x then Some n else before) → after ≡ last_place test (xs ++ x ∷ [])

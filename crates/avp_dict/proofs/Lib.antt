@@ -2,6 +2,7 @@ pub mod AgreeingLines
 pub mod Agreement
 pub mod Appending
 pub mod AttributeRows
+pub mod BarredNames
 pub mod CountedNames
 pub mod FaultPlaces
 pub mod FilledLines
@@ -12,7 +13,10 @@ pub mod Folding
 pub mod FormedTypings
 pub mod FoundPositions
 pub mod Gathering
+pub mod KeywordCases
 pub mod LastPlaces
+pub mod LaterNames
+pub mod LaterValues
 pub mod LexedLines
 pub mod Lexing
 pub mod LineEnds

@@ -14,8 +14,8 @@ use Rattle.avp_lists.specs.declared.pairs.AttrId.{AttrId}
 use Rattle.avp_lists.specs.declared.pairs.AttrId.TheVariants.{Plain, Vendor, Extended}
 use Rattle.avp_lists.specs.Pairs.{id_eq}
 use Rattle.avp_dict.specs.Dictionary.{last_where, with_key}
-use Rattle.avp_dict.specs.internal.Tables.{IsTable, id_key, last_place, same_id_key}
-use Rattle.avp_dict.proofs.LastPlaces.{last_found, last_place_kept}
+use Rattle.avp_dict.specs.internal.Tables.{IsLastAt, IsTable, id_key, last_place, same_id_key}
+use Rattle.avp_dict.proofs.LastPlaces.{last_at, last_found, last_place_kept}
 
 -- the keys of ids tell them apart
 pub same_key : (a b : AttrId) → same_id_key (id_key a) (id_key b) ≡ id_eq a b
@@ -74,6 +74,10 @@ module _ {K : Type 0} (eq : K → K → Bool) where
     pub line_found : (entries : List (K × ℕ)) (xs : List X) (q : K) (test : X → Bool) → IsTable eq entries (map key_of xs) → ((x : X) → eq (key_of x) q ≡ test x)
         → option_and_then (slice_get xs) (lookup (eq q) entries) ≡ last_where test xs
     line_found entries xs q test table alike = ap (option_and_then (slice_get xs)) (table.placed q ∙ place_of_line q test alike xs) ∙ sym (last_found test xs)
+
+    -- where the last line with the key of one more is
+    pub last_before : (xs : List X) (line : X) (q : K) (test : X → Bool) (place : Option ℕ) → q ≡ key_of line → ((x : X) → eq (key_of x) (key_of line) ≡ test x) → place ≡ last_place (λ k. eq k q) (map key_of xs) → IsLastAt test xs place
+    last_before xs line q test place key alike is = subst (IsLastAt test xs) (sym (is ∙ place_of_line q test (λ x. ap (eq (key_of x)) key ∙ alike x) xs)) (last_at test xs)
 
     -- a table after one more line, by what it is after one more key
     pub line_added : {old new : List (K × ℕ)} (lines : List X) (line : X) {more : List X} {key : K} {place : ℕ} → ((keys : List K) → IsTable eq old keys → place ≡ length keys → IsTable eq new (keys ++ key ∷ []))

@@ -1,5 +1,6 @@
 -- A line's words are that at its front and those after it.
 use Rattle.std.proofs.Common.{◌≡◌, ◌≤◌, ◌∙◌, ℕ, suc, Bool, true, false, not, ◌+◌, ◌-◌, ◌||◌, cond, if◌then◌else◌, List, [], ◌∷◌, ◌++◌, length, take, drop, filter, refl, sym, ap, ap₂, arith, one-add}
+use Rattle.std.proofs.lemmas.Grind.{common_steps}
 use Rattle.std.specs.List.{before_first, onto_first, prefix_len, slice_split}
 use Rattle.avp_dict.specs.Words.{is_blank, is_hash, is_word, words_of}
 use Rattle.avp_dict.specs.internal.LineWords.{after_word, word_size}
@@ -75,6 +76,16 @@ words_step text =
     ap (filter is_word) (parts_step is_blank is_hash text)
     ∙ filter_first (take (word_size text) text) (parts_past is_blank is_hash (drop (word_size text) text))
     ∙ ap (λ words. filter is_word (take (word_size text) text ∷ []) ++ words) (past_words (drop (word_size text) text))
+
+blank_no_hash : (o : ℕ) → is_blank o ≡ true → is_hash o ≡ false
+blank_no_hash o is = grind (arith, common_steps)
+
+-- a blank before words is none of them
+pub words_blank : (o : ℕ) (os : List ℕ) → is_blank o ≡ true → words_of (o ∷ os) ≡ words_of os
+words_blank o os is =
+    words_step (o ∷ os)
+    ∙ ap (λ n. filter is_word (take n (o ∷ os) ∷ []) ++ words_of (after_word (drop n (o ∷ os)))) (sized is_blank is_hash true (is_hash o) o os is refl)
+    ∙ ap (λ b. words_of (if b then [] else os)) (blank_no_hash o is)
 
 pub after_shorter : (text : List ℕ) → length (after_word text) ≤ length text - 1
 after_shorter [] = omega arith

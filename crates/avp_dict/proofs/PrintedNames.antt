@@ -11,9 +11,9 @@ use Rattle.avp_dict.specs.declared.entries.AttributeLine.{AttributeLine}
 use Rattle.avp_dict.specs.declared.entries.Typing.{Typing}
 use Rattle.avp_dict.specs.declared.entries.ValueLine.{ValueLine}
 use Rattle.avp_dict.proofs.Agreement.{same_name_refl}
-use Rattle.avp_dict.specs.Dictionary.{Dictionary, id_named, id_of_line, is_attribute_named, is_attribute_of, is_value_named, is_value_numbered, last_where, name_numbered, name_of_line, number_named, number_of_line, typing_of_id, typing_of_line}
+use Rattle.avp_dict.specs.Dictionary.{Dictionary, id_named, id_of_line, is_attribute_named, is_attribute_of, is_value_named, is_value_numbered, last_where, name_numbered, name_of_line, names_other_id, names_other_value, number_named, number_of_line, typing_of_id, typing_of_line}
 use Rattle.avp_dict.specs.Names.{Described, described, described_by, named, named_by}
-use Rattle.avp_dict.specs.Soundness.{IsSound, IsSoundAttribute, IsSoundValue, names_other_id, names_other_value}
+use Rattle.avp_dict.specs.Soundness.{IsSound, IsSoundAttribute, IsSoundValue}
 use Rattle.avp_dict.specs.Values.{reads_as_number}
 use Rattle.avp_dict.specs.Words.{digits, is_hexadecimal, number_of}
 

@@ -13,12 +13,11 @@ use Rattle.avp_dict.specs.declared.entries.Typing.{Typing}
 use Rattle.avp_dict.specs.declared.faults.RefusedLine.{RefusedLine}
 use Rattle.avp_dict.specs.declared.faults.RefusedWord.{RefusedWord}
 use Rattle.avp_dict.specs.declared.file.files.NamedFile.{NamedFile}
-use Rattle.avp_dict.proofs.Agreement.{other_value_sym}
-use Rattle.avp_dict.proofs.AgreeingLines.{alone_by_number}
+use Rattle.avp_dict.proofs.AgreeingLines.{none_passes, values_more}
 use Rattle.avp_dict.proofs.LinesRead.{then_both}
 use Rattle.avp_dict.proofs.SoundLines.{AllRead, AreRead, IsReadAttribute, is_ranged, none_read, read_lines_read}
 use Rattle.avp_dict.specs.Blocks.{innermost}
-use Rattle.avp_dict.specs.Dictionary.{Dictionary, id_named, number_named, typing_of_id}
+use Rattle.avp_dict.specs.Dictionary.{Dictionary, id_named, names_other_id, names_other_value, typing_of_id}
 use Rattle.avp_dict.specs.DictionaryReading.{outline_of, read_dictionary, settled_dictionary, unless_open}
 use Rattle.avp_dict.specs.Letters.{is_value_name_octet, max_name}
 use Rattle.avp_dict.specs.Limits.{is_known}
@@ -26,9 +25,9 @@ use Rattle.avp_dict.specs.Lines.{lines_of}
 use Rattle.avp_dict.specs.Meanings.{Meaning, Value, Reading, Context, context_of}
 use Rattle.avp_dict.specs.Readings.{read_lines}
 use Rattle.avp_dict.specs.Settled.{is_kept, is_kept_line, skipped_names, used}
-use Rattle.avp_dict.specs.Soundness.{IsSound, IsSoundAttribute, IsSoundTagged, IsSoundValue, IsSoundVendor, names_other_id, names_other_value}
+use Rattle.avp_dict.specs.Soundness.{IsSound, IsSoundAttribute, IsSoundTagged, IsSoundValue, IsSoundVendor}
 use Rattle.avp_dict.specs.Refusals.{refused_at, ◌>>=◌}
-use Rattle.avp_dict.specs.Values.{is_noted, is_of_other_number, is_same_name, is_tagged_integer, is_value_name, max_of_typing, max_tagged_number, reads_as_number, resolve, tagged_line, tagged_value, value_of, value_up_to, with_line, with_note, with_tagged, with_value}
+use Rattle.avp_dict.specs.Values.{is_noted, is_same_name, is_tagged_integer, is_value_name, max_of_typing, max_tagged_number, reads_as_number, resolve, tagged_line, tagged_value, value_of, value_up_to, with_line, with_note, with_tagged, with_value}
 use Rattle.avp_dict.specs.Words.{same_name}
 
 -- ---- the used attributes and the vendors
@@ -45,12 +44,13 @@ module _ (context : Context) where
   outline_attributes are =
       let test = is_kept_line context.vendors in
       λ k d lt.
-      let held = All-filter test (IsReadAttribute context.attributes) context.attributes are.attributes k d lt in
+      let held = All-filter test IsReadAttribute context.attributes are.attributes k d lt in
+      let alone = All-filter test (λ a. All (λ b. names_other_id a.name a.id b ≡ false) context.attributes) context.attributes are.agreeing.attributes k d lt in
       let a : AttributeLine = get_or (filter test context.attributes) k d in
       record {
         spelled = held.spelled;
         named = held.named;
-        alone = All-filter test (λ b. names_other_id a.name a.id b ≡ false) context.attributes held.alone;
+        alone = All-filter test (λ b. names_other_id a.name a.id b ≡ false) context.attributes alone;
         known = known_kept a.id held.ranged (filter_passes test context.attributes k d lt);
         hides = held.hides;
         formed = held.formed;
@@ -66,21 +66,11 @@ module _ (context : Context) where
 
 -- ---- the names of values
 
-agrees_itself : (v : ValueLine) → names_other_value v.id v.name v.number v ≡ false
-agrees_itself v = let e : (v.number == v.number) ≡ true = grind arith in rw e (and-false (id_eq v.id v.id && same_name v.name v.name))
-
 value_more : (values : List ValueLine) (new : ValueLine) → All (IsSoundValue values) values → IsSoundValue values new → All (IsSoundValue (values ++ new ∷ [])) (values ++ new ∷ [])
 value_more values new are is =
-    All-push (IsSoundValue (values ++ new ∷ [])) values new (λ k d lt.
-    let v : ValueLine = get_or values k d in
-    record {
-      named = (are k d lt).named;
-      alone = All-push (λ w. names_other_value v.id v.name v.number w ≡ false) values new (are k d lt).alone (other_value_sym new.id v.id new.name v.name new.number v.number (is.alone k d lt));
-    })
-    (record {
-      named = is.named;
-      alone = All-push (λ w. names_other_value new.id new.name new.number w ≡ false) values new is.alone (agrees_itself new);
-    })
+    let alone = values_more values new (λ k d lt. (are k d lt).alone) is.alone in
+    let named = All-push (λ v. reads_as_number v.name ≡ false) values new (λ k d lt. (are k d lt).named) is.named in
+    λ k d lt. record { named = named k d lt; alone = alone k d lt }
 
 no_number : (name : List ℕ) → not (is_value_name name) ≡ false → reads_as_number name ≡ false
 unfolding is_value_name
@@ -129,8 +119,8 @@ module _ (skipped : List (List ℕ)) (d : Dictionary) (sound : IsSound d) where
   value_up_to_adds id name number (Some most) =
       cond_both (not (is_value_name name)) _ _ (AddsSound d.values) (λ h. tt) (λ named.
       cond_both (not (nat_le number most)) _ _ (AddsSound d.values) (λ h. tt) (λ within.
-      cond_both (is_of_other_number number (number_named id name d.values)) _ _ (AddsSound d.values) (λ h. tt) (λ alone.
-      record { named = no_number name named; alone = alone_by_number d.values id name number (λ k x lt. (sound.values k x lt).alone) alone })))
+      cond_both (list_any (names_other_value id name number) d.values) _ _ (AddsSound d.values) (λ h. tt) (λ alone.
+      record { named = no_number name named; alone = none_passes (names_other_value id name number) d.values alone })))
 
   value_of_adds : (attribute name : List ℕ) (number : ℕ) (id : Option AttrId) → AddsSound d.values (value_of skipped d attribute name number id)
   unfolding value_of

@@ -22,23 +22,23 @@ use Rattle.avp_dict.specs.declared.faults.RefusedLine.{RefusedLine}
 use Rattle.avp_dict.specs.declared.file.files.NamedFile.{NamedFile}
 use Rattle.avp_dict.specs.declared.file.meanings.Meaning.{Meaning as CodeMeaning}
 use Rattle.avp_dict.specs.declared.file.meanings.Meaning.TheVariants as code
-use Rattle.avp_dict.proofs.Agreement.{other_id_sym, same_name_refl}
-use Rattle.avp_dict.proofs.AgreeingLines.{AreAloneNames, alone_by_id}
+use Rattle.avp_dict.proofs.AgreeingLines.{names_more, none_agreeing, none_passes, vendors_more}
 use Rattle.avp_dict.proofs.FormedTypings.{typing_formed}
 use Rattle.avp_dict.proofs.LinesRead.{context_of_push, context_of_none, then_both}
 use Rattle.avp_dict.specs.AttributeNumbers.{greatest_number, greatest_value}
-use Rattle.avp_dict.specs.Attributes.{attribute, attribute_line, attribute_of, id_of_dotted, id_of_parts, is_attribute_name, is_extended_id, is_held, is_of_other_id, number_id, id_of_number, vendor_id}
+use Rattle.avp_dict.specs.Attributes.{attribute, attribute_line, attribute_of, id_of_dotted, id_of_parts, is_attribute_name, is_extended_id, is_held, number_id, id_of_number, vendor_id}
 use Rattle.avp_dict.specs.Blocks.{begin_known, begin_tlv, begin_vendor, block_vendor, end_tlv, end_vendor, ended, is_skipping, unless_third}
-use Rattle.avp_dict.specs.Dictionary.{format_of, id_named, vendor_named}
+use Rattle.avp_dict.specs.Dictionary.{format_of, names_other_id, names_other_vendor, vendor_named}
 use Rattle.avp_dict.specs.Letters.{begins_as_attr, is_comma, is_dot, is_name_octet, is_visible, word_before_bracket, max_name}
 use Rattle.avp_dict.specs.Lines.{Line, file_included, is_include}
 use Rattle.avp_dict.specs.Meanings.{Meaning, Vendor, Attribute, BeginVendor, Reading, Context, after_reading, context_of}
 use Rattle.avp_dict.specs.Readings.{include, plain_line, read_head, read_line, read_lines, read_words, skipped_line, value, within}
-use Rattle.avp_dict.specs.Soundness.{IsSoundVendor, names_other_id}
+use Rattle.avp_dict.specs.Soundness.{IsSoundVendor}
 use Rattle.avp_dict.specs.Refusals.{at_word, refused_at, word_read, ◌>>=◌}
 use Rattle.avp_dict.specs.Types.{are_flags, form_by, is_fixed, is_formed, is_hiding, is_marked, is_opaque, is_text_kind, kind_word, typing_by, typing_of}
-use Rattle.avp_dict.specs.Vendors.{bounded, format_parts, format_word, is_format, is_other_vendor, is_vendor_name, standard_format, two_parts, vendor, vendor_formatted, vendor_line, vendor_numbered}
+use Rattle.avp_dict.specs.Vendors.{bounded, format_parts, format_word, is_format, is_vendor_name, standard_format, two_parts, vendor, vendor_formatted, vendor_line, vendor_numbered}
 use Rattle.avp_dict.specs.Words.{is_number, number_of, same_name, words_of}
+use Rattle.avp_dict.specs.internal.Agreeing.{IsAgreeing}
 use Rattle.avp_dict.specs.internal.Meanings.{IsShort, meaning_view}
 
 -- ---- what is kept
@@ -47,12 +47,11 @@ abbrev pub is_ranged : AttrId → Bool
 is_ranged (ids.Extended t n) = nat_le 241 t && nat_le t 246
 is_ranged _ = true
 
--- of an ATTRIBUTE line, by the lines that are there
-pub record IsReadAttribute (lines : List AttributeLine) (a : AttributeLine) : Type 0 where
+-- of an ATTRIBUTE line
+pub record IsReadAttribute (a : AttributeLine) : Type 0 where
   pub spelled : list_all is_name_octet a.name ≡ true
   pub named : begins_as_attr a.name ≡ false
   pub short : length a.name ≤ max_name
-  pub alone : All (λ b. names_other_id a.name a.id b ≡ false) lines
   pub ranged : is_ranged a.id ≡ true
   pub hides : a.typing.hidden ≡ true → is_text_kind (Some a.typing.kind) ≡ true
   pub formed : is_formed a.typing ≡ true
@@ -62,45 +61,30 @@ pub record IsReadVendor (v : VendorLine) : Type 0 where
   pub short : length v.name ≤ max_name
   pub format : IsSoundVendor v
 
--- of an ATTRIBUTE line that is new: it is alone where those before it are
-pub record IsNewAttribute (lines : List AttributeLine) (a : AttributeLine) : Type 0 where
-  pub short : length a.name ≤ max_name
-  pub read : AreAloneNames lines → IsReadAttribute lines a
-
+-- of one line more: no line before it gives its name another thing
 abbrev pub IsRead : Context → Meaning → Type 0
-IsRead before m = elim m [ Attribute a ↦ IsNewAttribute before.attributes a | Vendor v ↦ IsReadVendor v | _ ↦ Unit {0} ]
+IsRead before m = elim m [
+  | Attribute a ↦ IsReadAttribute a × All (λ b. names_other_id a.name a.id b ≡ false) before.attributes
+  | Vendor v ↦ IsReadVendor v × All (λ w. names_other_vendor v.name v.number w ≡ false) before.vendors
+  | _ ↦ Unit {0}
+]
 
 pub record AreRead (context : Context) : Type 0 where
-  pub attributes : All (IsReadAttribute context.attributes) context.attributes
+  pub agreeing : IsAgreeing context
+  pub attributes : All IsReadAttribute context.attributes
   pub vendors : All IsReadVendor context.vendors
 
 -- ---- one line more
 
-pub agrees_itself : (n : List ℕ) (i : AttrId) → (same_name n n && not (id_eq i i)) ≡ false
-agrees_itself n i = rw (same_name_refl n, id_eq-same i)
+agreeing_by : (before : Context) (r : Reading) (m : Meaning) → r.meaning ≡ m → IsAgreeing before → IsRead before m → IsAgreeing (after_reading before r)
+agreeing_by before r (Attribute a) e are is = rw e (record { attributes = names_more before.attributes a are.attributes is.1; vendors = are.vendors })
+agreeing_by before r (Vendor v) e are is = rw e (record { attributes = are.attributes; vendors = vendors_more before.vendors v are.vendors is.1 })
+agreeing_by before r _ e are is = rw e (record { attributes = are.attributes; vendors = are.vendors })
 
-one_line_more : (lines : List AttributeLine) (new a : AttributeLine) → IsReadAttribute lines a → names_other_id a.name a.id new ≡ false → IsReadAttribute (lines ++ new ∷ []) a
-one_line_more lines new a h apart = record {
-  spelled = h.spelled;
-  named = h.named;
-  short = h.short;
-  alone = All-push (λ b. names_other_id a.name a.id b ≡ false) lines new h.alone apart;
-  ranged = h.ranged;
-  hides = h.hides;
-  formed = h.formed;
-}
-
-attribute_more : (lines : List AttributeLine) (new : AttributeLine) → All (IsReadAttribute lines) lines → IsNewAttribute lines new → All (IsReadAttribute (lines ++ new ∷ [])) (lines ++ new ∷ [])
-attribute_more lines new are new_is =
-    let is = new_is.read (λ k d lt. (are k d lt).alone) in
-    All-push (IsReadAttribute (lines ++ new ∷ [])) lines new
-    (λ k d lt. let a = get_or lines k d in one_line_more lines new a (are k d lt) (other_id_sym new.name a.name new.id a.id (is.alone k d lt)))
-    (one_line_more lines new new is (agrees_itself new.name new.id))
-
-one_more : (before : Context) (r : Reading) (m : Meaning) → r.meaning ≡ m → AreRead before → IsRead before m → AreRead (after_reading before r)
-one_more before r (Attribute a) e are is = rw e (record { attributes = attribute_more before.attributes a are.attributes is; vendors = are.vendors })
-one_more before r (Vendor v) e are is = rw e (record { attributes = are.attributes; vendors = All-push IsReadVendor before.vendors v are.vendors is })
-one_more before r _ e are is = rw e (record { attributes = are.attributes; vendors = are.vendors })
+one_more : (before : Context) (r : Reading) (m : Meaning) → r.meaning ≡ m → IsAgreeing (after_reading before r) → AreRead before → IsRead before m → AreRead (after_reading before r)
+one_more before r (Attribute a) e agreeing are is = rw e (record { agreeing = rw e at agreeing; attributes = All-push IsReadAttribute before.attributes a are.attributes is.0; vendors = are.vendors })
+one_more before r (Vendor v) e agreeing are is = rw e (record { agreeing = rw e at agreeing; attributes = are.attributes; vendors = All-push IsReadVendor before.vendors v are.vendors is.0 })
+one_more before r _ e agreeing are is = rw e (record { agreeing = rw e at agreeing; attributes = are.attributes; vendors = are.vendors })
 
 -- ---- what a line is read as
 
@@ -228,7 +212,9 @@ module _ (before : Context) where
 
   vendor_numbered_reads : (name : List ℕ) (f : VendorFormat) → length name ≤ max_name → is_format f.t f.l ≡ true → (n : ℕ) → Reads before (vendor_numbered before.vendors name f n)
   unfolding vendor_numbered
-  vendor_numbered_reads name f short known n = either before (is_other_vendor n (vendor_named name before.vendors)) _ _ tt (record { short = short; format = known })
+  vendor_numbered_reads name f short known n =
+      cond_both (list_any (names_other_vendor name n) before.vendors) _ _ (Reads before) (λ other. tt)
+      (λ alone. (record { short = short; format = known }, none_passes (names_other_vendor name n) before.vendors alone))
 
   vendor_formatted_reads : (name number : List ℕ) (f : Option VendorFormat) → length name ≤ max_name → IsKnownFormat f → Reads before (vendor_formatted before.vendors name number f)
   unfolding vendor_formatted
@@ -282,10 +268,17 @@ module _ (before : Context) where
       cond_both (is_attribute_name name && are_flags flags) _ _ (Reads before)
       (λ named.
       let good = good_name name (are_flags flags) named in
-      cond_both (is_of_other_id id (id_named name before.attributes)) _ _ (Reads before) (λ other. tt) (λ alone. record {
-        short = good.1;
-        read = λ are. record { spelled = name_octets name (are_flags flags) named; named = good.0; short = good.1; alone = alone_by_id before.attributes name id are alone; ranged = ranged; hides = hides_text id kind flags; formed = typing_formed id kind flags };
-      }))
+      cond_both (list_any (names_other_id name id) before.attributes) _ _ (Reads before) (λ other. tt) (λ alone. (
+        record {
+          spelled = name_octets name (are_flags flags) named;
+          named = good.0;
+          short = good.1;
+          ranged = ranged;
+          hides = hides_text id kind flags;
+          formed = typing_formed id kind flags;
+        },
+        none_passes (names_other_id name id) before.attributes alone,
+      )))
       (λ other. tt)
 
   attribute_line_reads : (block : Option ℕ) (name number kind : List ℕ) (flags : List (List ℕ)) → Reads before (attribute_line before block name number kind flags)
@@ -339,9 +332,13 @@ pub short_read : (before : Context) (files : List NamedFile) (line : Line) (m : 
 short_read before files line m e = by_meaning m (rw e at (read_line_reads before files line))
   where
     by_meaning : (m : CodeMeaning) → IsRead before (meaning_view m) → IsShort m
-    by_meaning (code.Attribute name id typing) h = h.short
-    by_meaning (code.Vendor name number format) h = h.short
+    by_meaning (code.Attribute name id typing) h = h.0.short
+    by_meaning (code.Vendor name number format) h = h.0.short
     by_meaning _ h = tt
+
+-- the lines agree after one more that was read
+pub agreeing_after : (before after : Context) (files : List NamedFile) (line : Line) (m : Meaning) (r : Reading) → IsAgreeing before → read_line files before line ≡ Ok m → r.meaning ≡ m → after ≡ after_reading before r → IsAgreeing after
+agreeing_after before after files line m r are e is now = subst IsAgreeing (sym now) (agreeing_by before r m is are (rw e at (read_line_reads before files line)))
 
 abbrev pub AllRead : Result (List Reading) RefusedLine → Type 0
 AllRead (Ok lines) = AreRead (context_of lines)
@@ -353,7 +350,7 @@ step_read before file line (Err kind) f reads next = tt
 
 -- the context after one line more
 pub read_more : (before : List Reading) (r : Reading) → AreRead (context_of before) → IsRead (context_of before) r.meaning → AreRead (context_of (before ++ r ∷ []))
-read_more before r are is = subst AreRead (sym (context_of_push before r)) (one_more (context_of before) r r.meaning refl are is)
+read_more before r are is = subst AreRead (sym (context_of_push before r)) (one_more (context_of before) r r.meaning refl (agreeing_by (context_of before) r r.meaning refl are.agreeing is) are is)
 
 pub read_lines_read : (limit : ℕ) (files : List NamedFile) (before : List Reading) (lines : List Line) → AreRead (context_of before) → AllRead (read_lines limit files before lines)
 unfolding read_lines
@@ -365,4 +362,4 @@ read_lines_read limit files before (line ∷ lines) are =
     read_lines_read limit files (before ++ r ∷ []) lines (read_more before r are is))
 
 pub none_read : AreRead (context_of [])
-none_read = subst AreRead (sym context_of_none) (record { attributes = All-nil (IsReadAttribute []); vendors = All-nil IsReadVendor })
+none_read = subst AreRead (sym context_of_none) (record { agreeing = none_agreeing; attributes = All-nil IsReadAttribute; vendors = All-nil IsReadVendor })

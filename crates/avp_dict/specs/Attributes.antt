@@ -1,9 +1,8 @@
 -- ATTRIBUTE lines: a name, a number, a type and flags.
-use Rattle.std.specs.Prelude.{ℕ, Bool, false, not, ◌&&◌, ◌==◌, nat_le, if◌then◌else◌, List, [], ◌∷◌, length, Option, Some, None, is_none, Result, Ok, Err}
-use Rattle.std.specs.List.{list_all, slice_split}
+use Rattle.std.specs.Prelude.{ℕ, Bool, not, ◌&&◌, ◌==◌, nat_le, if◌then◌else◌, List, [], ◌∷◌, length, Option, Some, None, is_none, Result, Ok, Err}
+use Rattle.std.specs.List.{list_all, list_any, slice_split}
 use Rattle.avp_lists.specs.declared.pairs.AttrId.{AttrId}
 use Rattle.avp_lists.specs.declared.pairs.AttrId.TheVariants as ids
-use Rattle.avp_lists.specs.Pairs.{id_eq}
 use Rattle.avp_dict.specs.declared.faults.DictKind.{DictKind}
 use Rattle.avp_dict.specs.declared.faults.RefusedWord.{RefusedWord}
 use Rattle.avp_dict.specs.declared.faults.DictKind.TheVariants.{Unreadable, OutOfRange, OtherNumber}
@@ -15,7 +14,7 @@ use Rattle.avp_dict.specs.Words.{is_number, number_of}
 use Rattle.avp_dict.specs.AttributeNumbers.{greatest_number, is_extended_type}
 use Rattle.avp_dict.specs.Letters.{is_dot, is_comma, is_name_octet, begins_as_attr, max_name}
 use Rattle.avp_dict.specs.Refusals.{◌>>=◌, at_word, miscounted, word_read}
-use Rattle.avp_dict.specs.Dictionary.{format_of, id_named}
+use Rattle.avp_dict.specs.Dictionary.{format_of, names_other_id}
 use Rattle.avp_dict.specs.Types.{are_flags, typing_of}
 
 -- ---- the id of a number
@@ -70,18 +69,12 @@ unfoldable pub is_attribute_name : List ℕ → Bool
 is_attribute_name name =
     list_all is_name_octet name && nat_le (length name) max_name && not (begins_as_attr name)
 
--- an earlier line gave the name to another id: the last one decides, since each line of a name agreed with those before
--- it
-abbrev pub is_of_other_id : AttrId → Option AttrId → Bool
-is_of_other_id id None = false
-is_of_other_id id (Some other) = not (id_eq other id)
-
--- a line whose number is read
+-- a line whose number is read, after these lines: none of them may give its name another id
 unfoldable pub attribute_of : List AttributeLine → List ℕ → List ℕ → List (List ℕ) → Option AttrId
     → Result Meaning RefusedWord
 attribute_of attributes name kind flags None = Ok (SkippedAttribute name)
 attribute_of attributes name kind flags (Some id) = if is_attribute_name name && are_flags flags
-    then (if is_of_other_id id (id_named name attributes) then Err (at_word 1 OtherNumber)
+    then (if list_any (names_other_id name id) attributes then Err (at_word 1 OtherNumber)
     else Ok (Attribute (record { name = name; id = id; typing = typing_of id kind flags })))
     else Ok (SkippedAttribute name)
 

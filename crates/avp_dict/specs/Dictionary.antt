@@ -1,6 +1,6 @@
 -- What dictionary files define: attributes, the names of their values, and vendors, each by a line of its own; and how
 -- they are found.
-use Rattle.std.specs.Prelude.{ℕ, Bool, false, ◌&&◌, ◌==◌, if◌then◌else◌, List, [], ◌∷◌, ◌++◌, map, reverse, Option, Some, None}
+use Rattle.std.specs.Prelude.{ℕ, Bool, false, not, ◌&&◌, ◌==◌, if◌then◌else◌, List, [], ◌∷◌, ◌++◌, map, reverse, Option, Some, None}
 use Rattle.std.specs.Option.{option_map}
 use Rattle.std.specs.List.{find, fold, list_any}
 use Rattle.std.specs.Str.{bytes_eq}
@@ -57,6 +57,10 @@ is_secret_line_of id a = is_attribute_of id a && a.typing.secret
 unfoldable pub id_named : List ℕ → List AttributeLine → Option AttrId
 id_named name attributes = option_map id_of_line (last_where (is_attribute_named name) attributes)
 
+-- a line that gives the name another id
+abbrev pub names_other_id : List ℕ → AttrId → AttributeLine → Bool
+names_other_id name id a = is_attribute_named name a && not (id_eq a.id id)
+
 -- how the values of an id are read: as its last line says
 unfoldable pub typing_of_id : AttrId → List AttributeLine → Option Typing
 typing_of_id id attributes = option_map typing_of_line (last_where (is_attribute_of id) attributes)
@@ -86,6 +90,10 @@ name_of_line v = v.name
 -- the number that a name of an attribute's values stands for
 unfoldable pub number_named : AttrId → List ℕ → List ValueLine → Option ℕ
 number_named id name values = option_map number_of_line (last_where (is_value_named id name) values)
+
+-- a line that gives the name of an attribute's value another number
+abbrev pub names_other_value : AttrId → List ℕ → ℕ → ValueLine → Bool
+names_other_value id name number v = is_value_named id name v && not (v.number == number)
 
 -- the printed name of a number: the last one
 unfoldable pub name_numbered : AttrId → ℕ → List ValueLine → Option (List ℕ)
@@ -124,6 +132,10 @@ format_of_line v = v.format
 -- the number of the vendor with this name
 unfoldable pub vendor_named : List ℕ → List VendorLine → Option ℕ
 vendor_named name vendors = option_map vendor_of_line (last_where (is_vendor_named name) vendors)
+
+-- a line that gives the name another number
+abbrev pub names_other_vendor : List ℕ → ℕ → VendorLine → Bool
+names_other_vendor name number v = is_vendor_named name v && not (v.number == number)
 
 -- the format of a vendor: that of its last line
 unfoldable pub format_of : ℕ → List VendorLine → Option VendorFormat

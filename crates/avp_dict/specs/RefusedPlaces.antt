@@ -1,5 +1,5 @@
 -- The first place at which a text is no request, in the order of reading, and what it is refused for.
-use Rattle.std.specs.Prelude.{◌≡◌, ℕ, nat_lt, Bool, true, false, not, if◌then◌else◌, List, [], ◌∷◌, ◌++◌, Option, Some, None, drop, length, slice_get, take}
+use Rattle.std.specs.Prelude.{◌≡◌, ◌≢◌, ℕ, nat_lt, Bool, true, false, not, if◌then◌else◌, List, [], ◌∷◌, ◌++◌, Option, Some, None, drop, length, slice_get, take}
 use Rattle.std.specs.List.{before_first, list_all}
 use Rattle.std.specs.Option.{option_and_then, option_map, option_map_or}
 use Rattle.avp_lists.specs.States.{max_pairs}
@@ -135,6 +135,17 @@ module _ {T : Type 0} (target_of : List ℕ → Option T) (pair_of : T → List 
         → begins_with_comma (token ∷ tokens) ≡ false
         → IsRefusedFor count kinds.Unreadable (Run name ∷ Sign ∷ value ∷ []) Value (token ∷ tokens)
 
+  -- What memory runs out for, after so many pairs and these tokens of the next one, on this side of its `=`: a value
+  -- under a name that is writable, or a pair that was read and is none too many.
+  pub data IsOutOfMemoryFor (count : ℕ) : List Token → Side → List Token → Type 0 where
+    for_value : (name : List ℕ) (value : Token) (tokens : List Token)
+        → target_of name ≢ None → value_text value ≢ None
+        → of_pair target_of refusal_of name value ≢ Some faults.NotWritable
+        → IsOutOfMemoryFor count (Run name ∷ Sign ∷ []) Value (value ∷ tokens)
+    for_pair : (name : List ℕ) (value : Token) (pair : Pair) (tokens : List Token)
+        → of_pair target_of pair_of name value ≡ Some pair → nat_lt count max_pairs ≡ true
+        → IsOutOfMemoryFor count [] Name (Run name ∷ Sign ∷ value ∷ tokens)
+
   -- ---- the first refused place
 
   -- a text is refused for this after so many octets: on a line of its packet, or after the line of blanks that ends it;
@@ -156,3 +167,14 @@ module _ {T : Type 0} (target_of : List ℕ → Option T) (pair_of : T → List 
         → IsRefusedAfter kind (tokens_at Name (line_from text offset))
         → IsRefusedAt text kind offset
     out_of_memory : (offset : ℕ) → IsRefusedAt text kinds.Memory offset
+
+  -- Memory ran out after so many octets of a text, on a line of its packet. So it hides no other refusal than that the
+  -- value there is none or is too long, or that its pair is one too many: before it are lines and pairs that are read.
+  pub data IsOutOfMemoryAt (text : List ℕ) : ℕ → Type 0 where
+    in_line : (offset : ℕ) (side : Side) (lines : List (List ℕ)) (before inner : List Token)
+        (pairs : List Pair)
+        → IsPlace text offset lines (before ++ inner) side
+        → read_before (pair_assigned target_of pair_of) (without_front is_idle_line lines) before
+        ≡ Some pairs
+        → IsOutOfMemoryFor (length pairs) inner side (tokens_at side (line_from text offset))
+        → IsOutOfMemoryAt text offset

@@ -1,24 +1,18 @@
 -- What holds of every dictionary that was read: a name stands for one thing and has no form of a name by number, and
 -- each vendor has one of the formats that exist; and what follows for the look-ups.
-use Rattle.std.specs.Prelude.{◌≡◌, ℕ, Bool, true, false, not, ◌&&◌, ◌==◌, List, Some, IfSome}
+use Rattle.std.specs.Prelude.{◌≡◌, ℕ, true, false, List, Some, IfSome}
 use Rattle.std.specs.List.{All, list_all}
-use Rattle.avp_lists.specs.declared.pairs.AttrId.{AttrId}
-use Rattle.avp_lists.specs.Pairs.{id_eq}
 use Rattle.avp_dict.specs.declared.entries.AttributeLine.{AttributeLine}
 use Rattle.avp_dict.specs.declared.entries.ValueLine.{ValueLine}
 use Rattle.avp_dict.specs.declared.entries.VendorLine.{VendorLine}
 use Rattle.avp_dict.specs.declared.entries.Named.{Named}
-use Rattle.avp_dict.specs.Dictionary.{Dictionary, is_attribute_named, is_value_named}
+use Rattle.avp_dict.specs.Dictionary.{Dictionary, names_other_id, names_other_value}
 use Rattle.avp_dict.specs.Letters.{begins_as_attr, is_name_octet}
 use Rattle.avp_dict.specs.Limits.{is_known}
 use Rattle.avp_dict.specs.Names.{named, vendor_format}
 use Rattle.avp_dict.specs.Types.{is_formed, is_text_kind}
 use Rattle.avp_dict.specs.Values.{reads_as_number}
 use Rattle.avp_dict.specs.Vendors.{is_format}
-
--- a line that gives the name another id
-abbrev pub names_other_id : List ℕ → AttrId → AttributeLine → Bool
-names_other_id name id a = is_attribute_named name a && not (id_eq a.id id)
 
 -- the name has the octets of names, no form of a name by number, and no other id, the id is known, a hidden value is a
 -- string or octets, and the type holds what the values stand for
@@ -29,10 +23,6 @@ pub record IsSoundAttribute (dictionary : Dictionary) (a : AttributeLine) : Type
   pub known : is_known a.id dictionary ≡ true
   pub hides : a.typing.hidden ≡ true → is_text_kind (Some a.typing.kind) ≡ true
   pub formed : is_formed a.typing ≡ true
-
--- a line that gives the name of an attribute's value another number
-abbrev pub names_other_value : AttrId → List ℕ → ℕ → ValueLine → Bool
-names_other_value id name number v = is_value_named id name v && not (v.number == number)
 
 -- the name does not read as a number, and no line gives it another number for the attribute
 pub record IsSoundValue (values : List ValueLine) (v : ValueLine) : Type 0 where

@@ -98,8 +98,8 @@ ether_spelled text = in_parts 6 digit_pair (slice_split is_colon text)
 abbrev pub number_up_to : AttrId → List ℕ → Dictionary → ℕ → Option Value
 number_up_to id text dictionary most = option_map Int (number_spelled most id text dictionary)
 
--- a text under a name of an ATTRIBUTE line, by the type; takes_text says whether a text without `0x` is taken as its own
--- octets, where the type is octets
+-- a text under a name of an ATTRIBUTE line, by the type; takes_text says whether a text without `0x` is taken as its
+-- own octets, where the type is octets
 abbrev pub spelled_as : Kind → Bool → AttrId → List ℕ → Dictionary → Option Value
 spelled_as kinds.Text takes_text id text dictionary = Some (values.Text text)
 spelled_as kinds.Bytes takes_text id text dictionary =

@@ -16,7 +16,7 @@ use Rattle.avp_dict.specs.declared.faults.RefusedWord.{RefusedWord}
 use Rattle.avp_dict.specs.declared.faults.DictKind.TheVariants.{OutOfRange, NoAttribute, OtherValue}
 use Rattle.avp_dict.specs.declared.faults.RefusedLine.{RefusedLine}
 use Rattle.avp_dict.specs.AttributeNumbers.{greatest_number, greatest_value}
-use Rattle.avp_dict.specs.Dictionary.{Dictionary, id_named, number_named, typing_of_id}
+use Rattle.avp_dict.specs.Dictionary.{Dictionary, id_named, names_other_value, typing_of_id}
 use Rattle.avp_dict.specs.Letters.{is_value_name_octet, max_name}
 use Rattle.avp_dict.specs.Meanings.{Meaning, Skipped, SkippedAttribute, Attribute, Value, BeginVendor, BeginTlv, End, Reading}
 use Rattle.avp_dict.specs.Settled.{is_kept}
@@ -51,20 +51,15 @@ max_of _ = None
 abbrev pub max_of_typing : Typing → Option ℕ
 max_of_typing typing = max_of typing.kind
 
--- an earlier VALUE line gave the name another number: the last one decides, since each line of a name agreed with those
--- before it
-abbrev pub is_of_other_number : ℕ → Option ℕ → Bool
-is_of_other_number number None = false
-is_of_other_number number (Some other) = not (other == number)
-
--- the name of a number of an attribute with this greatest number; none where the line only gives a note
+-- the name of a number of an attribute with this greatest number, after these lines: none of them may give the name
+-- another number; none where the line only gives a note
 unfoldable pub value_up_to : List ValueLine → AttrId → List ℕ → ℕ → Option ℕ
     → Result (Option ValueLine) RefusedWord
 value_up_to values id name number None = Ok None
 value_up_to values id name number (Some most) =
     if not (is_value_name name) then Ok None
     else if not (nat_le number most) then Err (at_word 3 OutOfRange)
-    else if is_of_other_number number (number_named id name values) then Err (at_word 2 OtherValue)
+    else if list_any (names_other_value id name number) values then Err (at_word 2 OtherValue)
     else Ok (Some (record { id = id; name = name; number = number }))
 
 abbrev pub is_same_name : List ℕ → List ℕ → Bool

@@ -1,6 +1,6 @@
 -- VENDOR lines: a name, a number, and how many octets the vendor's attributes have for type and length.
 use Rattle.std.specs.Prelude.{codes, ℕ, Bool, true, false, not, ◌&&◌, ◌||◌, ◌==◌, nat_lt, nat_le, if◌then◌else◌, List, [], ◌∷◌, length, take, drop, Option, Some, None, Result, Ok, Err}
-use Rattle.std.specs.List.{list_all, slice_split}
+use Rattle.std.specs.List.{list_all, list_any, slice_split}
 use Rattle.avp_dict.specs.declared.faults.DictKind.{DictKind}
 use Rattle.avp_dict.specs.declared.faults.DictKind.TheVariants.{Unreadable, OutOfRange, OtherNumber}
 use Rattle.avp_dict.specs.declared.faults.RefusedWord.{RefusedWord}
@@ -11,7 +11,7 @@ use Rattle.avp_dict.specs.Meanings.{Meaning, Vendor}
 use Rattle.avp_dict.specs.Words.{is_number, same_name, number_of}
 use Rattle.avp_dict.specs.Letters.{is_comma, is_visible, max_name}
 use Rattle.avp_dict.specs.Refusals.{◌>>=◌, at_word, miscounted, word_read}
-use Rattle.avp_dict.specs.Dictionary.{vendor_named}
+use Rattle.avp_dict.specs.Dictionary.{names_other_vendor}
 
 abbrev pub at_most : ℕ → ℕ → Result ℕ DictKind
 at_most most n = if nat_le n most then Ok n else Err OutOfRange
@@ -48,17 +48,11 @@ format_word word =
 abbrev pub standard_format : VendorFormat
 standard_format = record { t = 1; l = 1; third = false }
 
--- an earlier line gave the name another number: the last one decides, since each line of a name agreed with those
--- before it
-abbrev pub is_other_vendor : ℕ → Option ℕ → Bool
-is_other_vendor number None = false
-is_other_vendor number (Some other) = not (other == number)
-
--- a name and a number that are good, and the format
+-- a name and a number that are good, and the format, after these lines: none of them may give the name another number
 unfoldable pub vendor_numbered : List VendorLine → List ℕ → VendorFormat → ℕ
     → Result Meaning RefusedWord
 vendor_numbered vendors name f n =
-    if is_other_vendor n (vendor_named name vendors) then Err (at_word 1 OtherNumber)
+    if list_any (names_other_vendor name n) vendors then Err (at_word 1 OtherNumber)
     else Ok (Vendor (record { name = name; number = n; format = f }))
 
 -- a name that is good, and a number

@@ -1,6 +1,8 @@
+pub mod Agreeing
 pub mod AttributeRows
 pub mod Contents
 pub mod Entries
+pub mod LastFormats
 pub mod LineEnds
 pub mod LineReading
 pub mod LineViews

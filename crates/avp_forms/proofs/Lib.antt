@@ -1,5 +1,6 @@
 pub mod AddressLaws
 pub mod AddressTexts
+pub mod BarredTargets
 pub mod Calendar
 pub mod DateOctets
 pub mod DateTexts

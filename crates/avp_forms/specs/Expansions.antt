@@ -24,8 +24,8 @@ is_octets (values.Bytes os) = true
 is_octets (values.Raw os) = true
 is_octets _ = false
 
--- a value that is printed by its type: octets always are, and a number or an address is where the dictionary has the
--- type of an attribute that has values of its own
+-- a value whose text its type gives: octets always; a number or an address where its attribute is no container and the
+-- dictionary has its type
 abbrev pub is_printed_by_type : AttrId → Value → Dictionary → Bool
 is_printed_by_type id value dictionary =
     is_octets value || (not (is_container id) && is_some (kind_of id dictionary))
@@ -34,7 +34,7 @@ is_printed_by_type id value dictionary =
 abbrev pub max_expansion : ℕ
 max_expansion = 2 + 2 * max_long_octets
 
--- octets that are put in as digits are no more than an attribute may have
+-- octets that may be put in as digits (a text beside a tag is not) are no more than an attribute may have
 abbrev pub has_few_digits : Value → Bool
 has_few_digits (values.Bytes os) = nat_le (length os) max_long_octets
 has_few_digits (values.Raw os) = nat_le (length os) max_long_octets
@@ -44,7 +44,7 @@ abbrev pub AreFew : Expansion → Type 0
 AreFew (Digits os) = length os.now ≤ max_long_octets
 AreFew _ = Unit {0}
 
--- octets of which there are no more than an attribute may have; a number or an address is short
+-- octets that are no more than an attribute may have; a number or an address is short
 abbrev pub is_short_enough : Value → Bool
 is_short_enough (values.Text os) = nat_le (length os) max_long_octets
 is_short_enough (values.Bytes os) = nat_le (length os) max_long_octets

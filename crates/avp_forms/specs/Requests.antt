@@ -5,7 +5,7 @@ use Rattle.std.specs.Result.{result_err, result_ok}
 use Rattle.avp_lists.specs.declared.pairs.Pair.{Pair}
 use Rattle.avp_dict.specs.Dictionary.{Dictionary}
 use Rattle.avp_dict.specs.Names.{named}
-use Rattle.avp_dict.specs.RefusedPlaces.{IsRefusedAt, is_before_filled}
+use Rattle.avp_dict.specs.RefusedPlaces.{IsOutOfMemoryAt, IsRefusedAt, is_before_filled}
 use Rattle.avp_dict.specs.Requests.{pair_assigned, pair_named, pair_with, refusal_named, request_by, request_spelled}
 use Rattle.avp_dict.specs.declared.request.faults.LineKind.{LineKind}
 use Rattle.avp_dict.specs.declared.request.faults.LineKind.TheVariants.{Memory}
@@ -59,3 +59,13 @@ IsRefusedOnce profile time_zone dictionary text =
     → IsFirstRefused profile time_zone dictionary text kind place
     → IsFirstRefused profile time_zone dictionary text other also
     → (place ≡ also) × (kind ≡ other)
+
+-- memory ran out at this place of a text, at a pair before which all could go on as a request
+abbrev pub IsOutOfMemoryIn : Profile → Option ℤ → Dictionary → List ℕ → ℕ → Type 0
+IsOutOfMemoryIn Plain time_zone dictionary text place =
+    IsOutOfMemoryAt (λ name. named name dictionary)
+    (λ target value. pair_named dictionary value target)
+    (λ target value. refusal_named dictionary value target) text place
+IsOutOfMemoryIn Wider time_zone dictionary text place =
+    IsOutOfMemoryAt (target_of Wider dictionary) (pair_written time_zone dictionary)
+    (refusal_written time_zone dictionary) text place

@@ -170,15 +170,23 @@ fn meant_expansion<'a>(
     }
 }
 
+// No name that is printed for a number is longer than a name may be.
+fn names_are_short(dictionary: &Dictionary)
+    ensures { HasShortNames dictionary.now }
+{
+    dictionary.names_are_short();
+}
+
 /// The text that is put in for a value in the wider profile, as [`text_put`](crate::text_put) gives it, without memory.
 #[tactic(auto, unfolding(crate::specs::Written::text_put, crate::specs::Written::meant_value))]
 pub fn expansion_of<'a>(dictionary: &'a Dictionary, id: AttrId, value: &'a Value) -> Expansion<'a>
     requires { IsTrue (is_printed_by_type id value.now dictionary.now) }
     ensures text { expanded result ≡ text_put Wider id value.now dictionary.now }
     ensures digits { IsTrue (has_few_digits value.now) → AreFew result }
-    ensures length { HasShortNames dictionary.now → IsTrue (is_short_enough value.now)
+    ensures length { IsTrue (is_short_enough value.now)
         → length (expanded result) ≤ max_expansion }
 {
+    names_are_short(dictionary);
     if let Some(form) = dictionary.form(id)
         && let Some(expansion) = meant_expansion(dictionary, id, form, value)
     {

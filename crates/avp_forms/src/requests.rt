@@ -7,7 +7,7 @@ ghost use Rattle.avp_dict.specs.Limits.{fits};
 ghost use Rattle.avp_dict.specs.LineNumbers.{line_after};
 ghost use Rattle.avp_dict.specs.RefusedPlaces.{is_before_filled};
 ghost use Rattle.avp_dict.specs.Sent.{is_clean};
-ghost use Rattle.avp_forms.specs.Requests.{IsRefusedIn, request_written};
+ghost use Rattle.avp_forms.specs.Requests.{IsOutOfMemoryIn, IsRefusedIn, request_written};
 
 use crate::profiles::Profile;
 use crate::targets::{Target, target_of};
@@ -40,6 +40,11 @@ impl PairReader for WiderReader<'_> {
 
     fn target(&self, name: &[u8]) -> Option<Target> {
         target_of(self.dictionary, Profile::Wider, name)
+    }
+
+    #[tactic(auto, using(crate::proofs::BarredTargets::barred_target, crate::proofs::BarredTargets::barred_target_pair))]
+    fn is_barred(&self, target: Target) -> bool {
+        self.dictionary.is_barred(target.named)
     }
 
     fn pair(&self, alloc: Global, target: Target, text: &[u8]) -> Result<Pair, ValueFault> {
@@ -95,6 +100,8 @@ pub fn read_request(
     ensures filled { IfErr result (λ fault. is_before_filled fault.offset text.now ≡ true) }
     ensures place { IfErr result (λ fault.
         IsRefusedIn profile zone dictionary.now text.now fault.kind fault.offset) }
+    ensures memory { IfErr result (λ fault. fault.kind ≡ LineKind.Memory
+        → IsOutOfMemoryIn profile zone dictionary.now text.now fault.offset) }
 {
     match profile {
         Profile::Plain => dictionary.read_request(alloc, text),

@@ -6,7 +6,7 @@ use Rattle.avp_lists.specs.States.{max_pairs}
 use Rattle.avp_lists.specs.declared.pairs.Pair.{Pair}
 use Rattle.avp_dict.specs.Ascii.{comma}
 use Rattle.avp_dict.specs.Lines.{is_line_end, texts_of}
-use Rattle.avp_dict.specs.RefusedPlaces.{IsRefusedAfter, IsRefusedFor, begins_with_comma, lines_before, of_pair, pairs_before}
+use Rattle.avp_dict.specs.RefusedPlaces.{IsOutOfMemoryFor, IsRefusedAfter, IsRefusedFor, begins_with_comma, lines_before, of_pair, pairs_before}
 use Rattle.avp_dict.specs.RequestLines.{Run, Sign, Token, is_idle_line, tokens_at, value_text, without_front}
 use Rattle.avp_dict.specs.Requests.{each_pair, pair_assigned}
 use Rattle.avp_dict.specs.Words.{is_blank}
@@ -132,18 +132,19 @@ module _ {T : Type 0} (target_of : List ℕ → Option T) (pair_of : T → List 
     pub pairs_are : option_and_then (each_pair (pair_assigned target_of pair_of)) (lines_before packet)
         ≡ Some pairs
 
-  module _ (refusal_of : T → List ℕ → Option ValueFault) where
+  -- by what there is at a place, after so many pairs
+  module _ (what : ℕ → List Token → Side → List Token → Type 0) where
     -- the first pair of a line
-    pub record IsRefusedPair (count : ℕ) (line : List ℕ) (kind : LineKind) (left : ℕ) : Type 0 where
+    pub record IsStoppedPair (count : ℕ) (line : List ℕ) (left : ℕ) : Type 0 where
       pub inner : List Token
       pub side : Side
       pub rest : List ℕ
       pub lexed : IsLexed Name line inner side rest
       pub left_is : left ≡ length rest
-      pub refused : IsRefusedFor target_of pair_of refusal_of count kind inner side (tokens_at side rest)
+      pub refused : what count inner side (tokens_at side rest)
 
     -- a line after these pairs
-    pub record IsRefusedLine (earlier : List Pair) (line : List ℕ) (kind : LineKind) (left : ℕ) : Type 0 where
+    pub record IsStoppedLine (earlier : List Pair) (line : List ℕ) (left : ℕ) : Type 0 where
       pub pairs : List Pair
       pub before : List Token
       pub inner : List Token
@@ -153,4 +154,21 @@ module _ {T : Type 0} (target_of : List ℕ → Option T) (pair_of : T → List 
       pub left_is : left ≡ length rest
       pub read : pairs_with earlier before ≡ Some pairs
       pub few : length pairs ≤ max_pairs
-      pub refused : IsRefusedFor target_of pair_of refusal_of (length pairs) kind inner side (tokens_at side rest)
+      pub refused : what (length pairs) inner side (tokens_at side rest)
+
+  module _ (refusal_of : T → List ℕ → Option ValueFault) where
+    abbrev pub IsRefusedPair : ℕ → List ℕ → LineKind → ℕ → Type 0
+    IsRefusedPair count line kind left =
+        IsStoppedPair (λ n. IsRefusedFor target_of pair_of refusal_of n kind) count line left
+
+    abbrev pub IsRefusedLine : List Pair → List ℕ → LineKind → ℕ → Type 0
+    IsRefusedLine earlier line kind left =
+        IsStoppedLine (λ n. IsRefusedFor target_of pair_of refusal_of n kind) earlier line left
+
+    abbrev pub IsOutPair : ℕ → List ℕ → ℕ → Type 0
+    IsOutPair count line left =
+        IsStoppedPair (IsOutOfMemoryFor target_of pair_of refusal_of) count line left
+
+    abbrev pub IsOutLine : List Pair → List ℕ → ℕ → Type 0
+    IsOutLine earlier line left =
+        IsStoppedLine (IsOutOfMemoryFor target_of pair_of refusal_of) earlier line left

@@ -1,5 +1,5 @@
 -- Tables of lines: each gives the place of the last line with a key.
-use Rattle.std.specs.Prelude.{◌≡◌, ◌≤◌, ℕ, suc, Bool, ◌==◌, ◌&&◌, List, [], ◌∷◌, map, length, Option, Some, None, if◌then◌else◌}
+use Rattle.std.specs.Prelude.{◌≡◌, ◌≤◌, ℕ, suc, Bool, ◌==◌, ◌&&◌, List, [], ◌∷◌, map, length, Option, Some, None, slice_get, if◌then◌else◌}
 use Rattle.std.specs.List.{All}
 use Rattle.std.specs.Map.{keys_of, lookup}
 use Rattle.std.specs.Str.{bytes_eq}
@@ -7,7 +7,7 @@ use Rattle.avp_lists.specs.declared.pairs.AttrId.{AttrId}
 use Rattle.avp_lists.specs.declared.pairs.AttrId.TheVariants.{Plain, Vendor, Extended}
 use Rattle.avp_dict.specs.declared.entries.ValueLine.{ValueLine}
 use Rattle.avp_dict.specs.declared.entries.VendorLine.{VendorLine}
-use Rattle.avp_dict.specs.Dictionary.{first_keys}
+use Rattle.avp_dict.specs.Dictionary.{first_keys, last_where}
 use Rattle.avp_dict.specs.Letters.{max_name}
 use Rattle.avp_dict.specs.Words.{lower}
 
@@ -16,6 +16,12 @@ abbrev pub last_place : {X : Type 0} → (X → Bool) → List X → Option ℕ
 last_place test [] = None
 last_place test (x ∷ xs) =
     elim (last_place test xs) [ Some i ↦ Some (suc i) | None ↦ (if test x then Some 0 else None) ]
+
+-- the last line that passes is at this place, or no line passes
+abbrev pub IsLastAt : {X : Type 0} → (X → Bool) → List X → Option ℕ → Type 0
+IsLastAt test lines None = last_where test lines ≡ None
+IsLastAt {X} test lines (Some i) =
+    (line : X) × (slice_get lines i ≡ Some line) × (last_where test lines ≡ Some line)
 
 -- the table of lines with these keys: the place of the last line with each key, the keys in the order of their first
 -- lines

@@ -1,13 +1,14 @@
 //! ATTRIBUTE lines.
 
-ghost use Rattle.std.specs.Prelude.{◌≡◌, ◌≤◌, ℕ, Option, Some, None, if◌then◌else◌, IsTrue};
+ghost use Rattle.std.specs.Prelude.{◌≡◌, ◌≤◌, [], ℕ, Option, Some, None, if◌then◌else◌, IsTrue};
 ghost use Rattle.std.specs.List.{list_all, slice_split};
 ghost use Rattle.avp_lists.specs.declared.pairs.AttrId.TheVariants.{Extended};
 ghost use Rattle.avp_lists.specs.Meets.{Meets};
-ghost use Rattle.avp_dict.specs.Attributes.{attribute, attribute_line, attribute_of, id_of_dotted, id_of_parts, is_attribute_name, is_extended_id, is_held, is_of_other_id, id_of_more, max_in, number_id, id_of_number, vendor_id};
+ghost use Rattle.avp_dict.specs.Attributes.{attribute, attribute_line, attribute_of, id_of_dotted, id_of_parts, is_attribute_name, is_extended_id, is_held, id_of_more, max_in, number_id, id_of_number, vendor_id};
 ghost use Rattle.avp_dict.specs.Letters.{begins_as_attr, is_decimal, is_dot, is_name_octet};
 ghost use Rattle.avp_dict.specs.Outcomes.{is_memory_kind};
 ghost use Rattle.avp_dict.specs.Words.{is_number};
+ghost use Rattle.avp_dict.specs.internal.Agreeing.{without_names};
 ghost use Rattle.avp_dict.specs.internal.Numbers.{Reads};
 ghost use Rattle.avp_dict.specs.internal.Meanings.{context_view, read_view};
 ghost use Rattle.avp_dict.specs.internal.Refused.{is_memory_word};
@@ -22,7 +23,7 @@ use crate::file::numbers::{GREATEST_NUMBER, Number, is_number, number_of};
 use crate::file::parts::{first_between, parts_between};
 use crate::file::types::{are_flags, typing_of};
 use crate::file::words::{MAX_NAME, same_name};
-use crate::tables::{Attributes, Vendors};
+use crate::tables::Vendors;
 use avp_lists::AttrId;
 use std::alloc::Global;
 
@@ -175,10 +176,14 @@ fn is_decimal(octet: u8) -> bool
     octet >= b'0' && octet <= b'9'
 }
 
+// Without a branch, so that a loop takes many octets at a time. `-`, `.`, `/` and the digits follow one another.
 pub(crate) fn is_name_octet(octet: u8) -> bool
     ensures { result ≡ is_name_octet octet }
 {
-    matches!(octet, b'a'..=b'z' | b'A'..=b'Z' | b'0'..=b'9' | b'-' | b'_' | b'.' | b'/')
+    (octet >= b'a') & (octet <= b'z')
+        | (octet >= b'A') & (octet <= b'Z')
+        | (octet >= b'-') & (octet <= b'9')
+        | (octet == b'_')
 }
 
 // Each octet is looked at, since a loop with one way out looks at many at a time.
@@ -207,36 +212,25 @@ fn is_attribute_name(name: &[u8]) -> bool
     are_octets_of_name(name) && name.len() <= MAX_NAME && !begins_as_attr(name)
 }
 
-fn is_of_other_id(id: AttrId, found: Option<AttrId>) -> bool
-    ensures { result ≡ is_of_other_id id found }
-{
-    match found {
-        Some(other) => !other.equals(id),
-        None => false,
-    }
-}
-
+// Whether lines before it give the name another id is not asked here.
 #[tactic(auto, unfolding(crate::specs::Attributes::attribute_of))]
 fn attribute_of<'a>(
-    attributes: &Attributes,
     name: &'a [u8],
     kind: &[u8],
     flags: &[&[u8]],
     id: Option<AttrId>,
 ) -> Result<Meaning<'a>, RefusedWord>
     ensures { Meets is_memory_word (read_view result)
-        (attribute_of attributes.now name.now kind.now (views flags.now) id) }
+        (attribute_of [] name.now kind.now (views flags.now) id) }
 {
     match id {
         None => Ok(Meaning::SkippedAttribute(name)),
         Some(id) => {
-            if !is_attribute_name(name) || !are_flags(flags) {
-                return Ok(Meaning::SkippedAttribute(name));
+            if is_attribute_name(name) && are_flags(flags) {
+                Ok(Meaning::Attribute(name, id, typing_of(id, kind, flags)))
+            } else {
+                Ok(Meaning::SkippedAttribute(name))
             }
-            if is_of_other_id(id, attributes.id_named(name)) {
-                return Err(DictKind::OtherNumber.at_word(1));
-            }
-            Ok(Meaning::Attribute(name, id, typing_of(id, kind, flags)))
         }
     }
 }
@@ -251,16 +245,17 @@ fn attribute_line<'a>(
     kind: &[u8],
     flags: &[&[u8]],
 ) -> Result<Meaning<'a>, RefusedWord>
-    ensures { Meets is_memory_word (read_view result) (attribute_line
-        (context_view before.now) block name.now number.now kind.now (views flags.now)) }
+    ensures { Meets is_memory_word (read_view result)
+        (attribute_line (without_names (context_view before.now)) block name.now number.now
+        kind.now (views flags.now)) }
 {
     match id_of_word(alloc, &before.vendors, block, number) {
-        Ok(id) => attribute_of(&before.attributes, name, kind, flags, id),
+        Ok(id) => attribute_of(name, kind, flags, id),
         Err(kind) => Err(kind.at_word(2)),
     }
 }
 
-/// An ATTRIBUTE line after its keyword.
+/// An ATTRIBUTE line after its keyword, without the names of those before it.
 #[tactic(auto, unfolding(crate::specs::Attributes::attribute))]
 pub(crate) fn read_attribute<'a>(
     alloc: Global,
@@ -269,7 +264,7 @@ pub(crate) fn read_attribute<'a>(
     words: &[&'a [u8]],
 ) -> Result<Meaning<'a>, RefusedWord>
     ensures { Meets is_memory_word (read_view result)
-        (attribute (context_view before.now) block (views words.now)) }
+        (attribute (without_names (context_view before.now)) block (views words.now)) }
 {
     match words {
         [name, number, kind] => attribute_line(alloc, before, block, name, number, kind, &[]),

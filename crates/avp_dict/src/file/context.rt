@@ -1,12 +1,17 @@
 //! What the lines before a line leave for it.
 
-ghost use Rattle.std.specs.Prelude.{◌≡◌, IfOk, OnOk};
+ghost use Rattle.std.specs.Prelude.{◌≡◌, ◌≤◌, Err, IfErr, IfOk, Ok, OnOk, length};
 ghost use Rattle.std.specs.Option.{option_map};
 ghost use Rattle.avp_dict.specs.Blocks.{block_vendor, innermost, is_skipping, opened_vendor, opens_skipped};
-ghost use Rattle.avp_dict.specs.Meanings.{after_reading, no_context};
-ghost use Rattle.avp_dict.specs.internal.Meanings.{IsShort, context_view, reading_view, reading_views};
+ghost use Rattle.avp_lists.specs.Meets.{Unless};
+ghost use Rattle.avp_dict.specs.Letters.{max_name};
+ghost use Rattle.avp_dict.specs.Meanings.{Attribute, after_reading, no_context, with_attribute};
+ghost use Rattle.avp_dict.specs.internal.Agreeing.{IsAgreeing, agreeing_meaning};
+ghost use Rattle.avp_dict.specs.internal.Meanings.{IsShort, context_view, meaning_view, reading_view, reading_views};
+ghost use Rattle.avp_dict.specs.internal.Refused.{is_memory_word};
 
 use crate::entries::{AttributeLine, VendorLine};
+use crate::faults::{DictKind, RefusedWord};
 use crate::file::meanings::{Meaning, Reading};
 use crate::spelling::Name;
 use crate::tables::{Attributes, Vendors};
@@ -33,16 +38,40 @@ impl<'a> Context<'a> {
         })
     }
 
-    /// One line more.
-    pub(crate) fn add(&mut self, alloc: Global, reading: Reading<'a>) -> Result<(), AllocError>
-        requires { IsShort reading.meaning }
-        ensures { OnOk result (context_view self.new
+    // One ATTRIBUTE line more, unless one before it gives its name another id.
+    fn add_attribute(&mut self, line: AttributeLine) -> Result<(), RefusedWord>
+        requires short { length line.name ≤ max_name }
+        requires agreeing { IsAgreeing (context_view self.old) }
+        ensures added { OnOk result (context_view self.new
+            ≡ with_attribute (context_view self.old) line) }
+        ensures agreed { OnOk result (agreeing_meaning (context_view self.old).attributes
+            (Attribute line) ≡ Ok (Attribute line)) }
+        ensures refused { IfErr result (λ refused. Unless (is_memory_word refused)
+            (agreeing_meaning (context_view self.old).attributes (Attribute line)
+            ≡ Err refused)) }
+    {
+        if self.attributes.push_agreeing(line)? {
+            return Err(DictKind::OtherNumber.at_word(1));
+        }
+        Ok(())
+    }
+
+    /// One line more, unless it is an ATTRIBUTE line and one before it gives its name another id.
+    pub(crate) fn add(&mut self, alloc: Global, reading: Reading<'a>) -> Result<(), RefusedWord>
+        requires short { IsShort reading.meaning }
+        requires agreeing { IsAgreeing (context_view self.old) }
+        ensures added { OnOk result (context_view self.new
             ≡ after_reading (context_view self.old) (reading_view reading.entry)) }
+        ensures agreed { OnOk result (agreeing_meaning (context_view self.old).attributes
+            (meaning_view reading.entry.meaning) ≡ Ok (meaning_view reading.entry.meaning)) }
+        ensures refused { IfErr result (λ refused. Unless (is_memory_word refused)
+            (agreeing_meaning (context_view self.old).attributes
+            (meaning_view reading.entry.meaning) ≡ Err refused)) }
     {
         match reading.meaning {
             Meaning::Attribute(name, id, typing) => {
                 let name = Name::from_slice(alloc, name)?;
-                self.attributes.push(AttributeLine { name, id, typing })?;
+                self.add_attribute(AttributeLine { name, id, typing })?;
             }
             Meaning::Vendor(name, number, format) => {
                 let name = Name::from_slice(alloc, name)?;

@@ -1,12 +1,14 @@
-//! Keywords, type words and flags, in lower case.
+//! Keywords, type words and flags: the two keywords that most lines have as files mostly write them, the others in
+//! lower case.
+
+ghost use Rattle.std.specs.Prelude.{◌≡◌, codes};
+ghost use Rattle.avp_dict.specs.Words.{same_name};
+
+use crate::file::words::same_name;
 
 pub const DOLLAR_INCLUDE: &[u8] = b"$include";
 
 pub const DOLLAR_INCLUDE_IF_THERE: &[u8] = b"$include-";
-
-pub const ATTRIBUTE: &[u8] = b"attribute";
-
-pub const VALUE: &[u8] = b"value";
 
 pub const VENDOR: &[u8] = b"vendor";
 
@@ -63,3 +65,19 @@ pub const ARRAY: &[u8] = b"array";
 pub const SECRET: &[u8] = b"secret";
 
 pub const VIRTUAL: &[u8] = b"virtual";
+
+#[tactic(auto, using(crate::proofs::KeywordCases::attribute_in_capitals))]
+#[inline(always)]
+pub(crate) fn is_attribute_keyword(word: &[u8]) -> bool
+    ensures { result ≡ same_name word.now (codes "attribute") }
+{
+    same_name(word, b"ATTRIBUTE")
+}
+
+#[tactic(auto, using(crate::proofs::KeywordCases::value_in_capitals))]
+#[inline(always)]
+pub(crate) fn is_value_keyword(word: &[u8]) -> bool
+    ensures { result ≡ same_name word.now (codes "value") }
+{
+    same_name(word, b"VALUE")
+}

@@ -8,6 +8,7 @@ ghost use Rattle.avp_dict.specs.Lines.{Line as SetLine, file_included, lines_in}
 ghost use Rattle.avp_dict.specs.Meanings.{Reading as SetReading, context_of};
 ghost use Rattle.avp_dict.specs.Readings.{read_line, read_lines, within};
 ghost use Rattle.avp_dict.specs.Words.{words_of};
+ghost use Rattle.avp_dict.specs.internal.Agreeing.{IsAgreeing, without_names};
 ghost use Rattle.avp_dict.specs.internal.LineViews.{line_view};
 ghost use Rattle.avp_dict.specs.internal.Meanings.{context_view, read_view, reading_views};
 ghost use Rattle.avp_dict.specs.internal.Refused.{is_memory_refusal, is_memory_word};
@@ -52,7 +53,7 @@ impl<'a> ReadLines<'a> {
         Ok(ReadLines { readings, context })
     }
 
-    // What one line more is read as, whose words these are; so many lines are read.
+    // What one line more is read as, whose words these are, without the names of attributes; so many lines are read.
     #[tactic(auto, unfolding(crate::specs::Readings::read_line))]
     fn read_one(
         &self,
@@ -65,9 +66,10 @@ impl<'a> ReadLines<'a> {
     ) -> Result<Meaning<'a>, RefusedWord>
         requires words { views words.now ≡ words_of line.text.now }
         requires included { included ≡ file_included files.now line.text.now }
+        requires agreeing { IsAgreeing (context_view self.now.context) }
         ensures { Meets is_memory_word (read_view result)
-            (within limit (reading_views self.now.readings.items)
-            (read_line files.now (context_view self.now.context) (line_view line.entry))) }
+            (within limit (reading_views self.now.readings.items) (read_line files.now
+            (without_names (context_view self.now.context)) (line_view line.entry))) }
     {
         if self.readings.len() >= limit {
             return Err(DictKind::TooLong.at_word(0));
@@ -87,11 +89,13 @@ impl<'a> ReadLines<'a> {
     ) -> Result<(), RefusedLine>
         requires tracked { context_view self.old.context
             ≡ context_of (reading_views self.old.readings.items) }
+        requires agreeing { IsAgreeing (context_view self.old.context) }
         requires words { views words.now ≡ words_of line.text.now }
         requires included { included ≡ file_included files.now line.text.now }
         requires room { length self.old.readings.items ≤ limit }
         ensures tracked { OnOk result (context_view self.new.context
             ≡ context_of (reading_views self.new.readings.items)) }
+        ensures agreeing { OnOk result (IsAgreeing (context_view self.new.context)) }
         ensures room { OnOk result (length self.new.readings.items ≤ limit) }
         ensures longer { OnOk result (length self.new.readings.items
             ≡ length self.old.readings.items + 1) }
@@ -111,7 +115,9 @@ impl<'a> ReadLines<'a> {
                     line: line.number,
                     meaning,
                 };
-                self.context.add(alloc, reading)?;
+                if let Err(refused) = self.context.add(alloc, reading) {
+                    return Err(refused.at_line(line.file, line.number));
+                }
                 self.readings.push(reading)?;
                 Ok(())
             }
@@ -132,9 +138,11 @@ impl<'a> ReadLines<'a> {
         requires limit { limit < 2 ^ 32 }
         requires tracked { context_view self.old.context
             ≡ context_of (reading_views self.old.readings.items) }
+        requires agreeing { IsAgreeing (context_view self.old.context) }
         requires room { length self.old.readings.items ≤ limit }
         ensures tracked { OnOk result (context_view self.new.context
             ≡ context_of (reading_views self.new.readings.items)) }
+        ensures agreeing { OnOk result (IsAgreeing (context_view self.new.context)) }
         ensures room { OnOk result (length self.new.readings.items ≤ limit) }
         ensures longer { OnOk result (length self.old.readings.items
             ≤ length self.new.readings.items) }

@@ -3,6 +3,7 @@
 ghost use Rattle.std.specs.Prelude.{◌≡◌};
 ghost use Rattle.avp_lists.specs.Meets.{Meets};
 ghost use Rattle.avp_dict.specs.Readings.{plain_line, read_head, read_words, skipped_line, value, value_words};
+ghost use Rattle.avp_dict.specs.internal.Agreeing.{IsAgreeing, without_names};
 ghost use Rattle.avp_dict.specs.internal.Meanings.{context_view, meaning_view, read_view};
 ghost use Rattle.avp_dict.specs.internal.Refused.{is_memory_word};
 ghost use Rattle.avp_dict.specs.internal.Views.{views};
@@ -12,7 +13,7 @@ use crate::file::attributes::read_attribute;
 use crate::file::blocks::{begin_tlv, begin_vendor, end_tlv, end_vendor, include};
 use crate::file::context::{Context, block_vendor, is_skipping};
 use crate::file::keywords::{
-    ATTRIBUTE, BEGIN_TLV, BEGIN_VENDOR, END_TLV, END_VENDOR, VALUE, VENDOR,
+    BEGIN_TLV, BEGIN_VENDOR, END_TLV, END_VENDOR, VENDOR, is_attribute_keyword, is_value_keyword,
 };
 use crate::file::lines::is_include;
 use crate::file::meanings::Meaning;
@@ -51,7 +52,7 @@ fn skip_line<'a>(head: &[u8], words: &[&'a [u8]]) -> Meaning<'a>
     match words {
         [] => Meaning::Skipped,
         [name, ..] => {
-            if same_name(head, ATTRIBUTE) {
+            if is_attribute_keyword(head) {
                 Meaning::SkippedAttribute(name)
             } else {
                 Meaning::Skipped
@@ -68,12 +69,14 @@ fn plain_line<'a>(
     head: &[u8],
     words: &[&'a [u8]],
 ) -> Result<Meaning<'a>, RefusedWord>
+    requires { IsAgreeing (context_view before.now) }
     ensures { Meets is_memory_word (read_view result)
-        (plain_line (context_view before.now) block head.now (views words.now)) }
+        (plain_line (without_names (context_view before.now)) block head.now
+        (views words.now)) }
 {
-    if same_name(head, ATTRIBUTE) {
+    if is_attribute_keyword(head) {
         read_attribute(alloc, before, block, words)
-    } else if same_name(head, VALUE) {
+    } else if is_value_keyword(head) {
         read_value(words)
     } else if same_name(head, VENDOR) {
         read_vendor(alloc, &before.vendors, words)
@@ -92,8 +95,9 @@ fn read_head<'a>(
     head: &[u8],
     words: &[&'a [u8]],
 ) -> Result<Meaning<'a>, RefusedWord>
+    requires { IsAgreeing (context_view before.now) }
     ensures { Meets is_memory_word (read_view result)
-        (read_head (context_view before.now) included depth head.now
+        (read_head (without_names (context_view before.now)) included depth head.now
         (views words.now)) }
 {
     let opened = before.opened.as_slice();
@@ -114,7 +118,7 @@ fn read_head<'a>(
     }
 }
 
-/// What the words of a line are read as, by what the lines before it leave.
+/// What the words of a line are read as, by what the lines before it leave without the names of attributes.
 #[tactic(auto, unfolding(crate::specs::Readings::read_words))]
 pub(crate) fn read_words<'a>(
     alloc: Global,
@@ -123,8 +127,10 @@ pub(crate) fn read_words<'a>(
     depth: usize,
     words: &[&'a [u8]],
 ) -> Result<Meaning<'a>, RefusedWord>
+    requires { IsAgreeing (context_view before.now) }
     ensures { Meets is_memory_word (read_view result)
-        (read_words (context_view before.now) included depth (views words.now)) }
+        (read_words (without_names (context_view before.now)) included depth
+        (views words.now)) }
 {
     match words {
         [] => Ok(Meaning::Nothing),

@@ -10,7 +10,9 @@ ghost use Rattle.avp_dict.specs.DictionaryReading.{settled_dictionary};
 ghost use Rattle.avp_dict.specs.Meanings.{context_of};
 ghost use Rattle.avp_dict.specs.Settled.{holds, is_in_format, is_kept, skipped_names, used};
 ghost use Rattle.avp_dict.specs.Values.{resolve};
+ghost use Rattle.avp_dict.specs.internal.Agreeing.{AreAloneValues};
 ghost use Rattle.avp_dict.specs.internal.Contents.{contents_view};
+ghost use Rattle.avp_dict.specs.internal.LastFormats.{IsLastFormat};
 ghost use Rattle.avp_dict.specs.internal.Meanings.{context_view, is_value_line, meaning_view, name_if, reading_views, skipped_name_of};
 ghost use Rattle.avp_dict.specs.internal.Refused.{is_memory_refusal};
 
@@ -44,20 +46,68 @@ pub(crate) fn is_in_format(vendors: &Vendors, vendor: u32, number: u64) -> bool
     holds(number, vendors.format_of(vendor))
 }
 
-pub(crate) fn is_kept(vendors: &Vendors, id: AttrId) -> bool
-    ensures { result ≡ is_kept vendors.now id }
-{
-    match id {
-        AttrId::Plain(_) => true,
-        AttrId::Vendor(vendor, number) => is_in_format(vendors, vendor, u64::from(number)),
-        AttrId::Extended(_, _) => true,
+// The format of a vendor. Most lines are of the vendor of the line before, and need not look for it.
+#[derive(Clone, Copy)]
+pub struct LastFormat {
+    pub vendor: u32,
+    pub format: Option<VendorFormat>,
+}
+
+impl LastFormat {
+    pub(crate) fn of(vendors: &Vendors, vendor: u32) -> LastFormat
+        ensures vendor { result.vendor ≡ vendor }
+        ensures format { IsLastFormat vendors.now result }
+    {
+        LastFormat {
+            vendor,
+            format: vendors.format_of(vendor),
+        }
+    }
+
+    // The format of the next line's vendor.
+    fn next(self, vendors: &Vendors, vendor: u32) -> LastFormat
+        requires { IsLastFormat vendors.now self }
+        ensures vendor { result.vendor ≡ vendor }
+        ensures format { IsLastFormat vendors.now result }
+    {
+        if self.vendor == vendor {
+            self
+        } else {
+            LastFormat::of(vendors, vendor)
+        }
+    }
+
+    /// Whether an ATTRIBUTE line with this id is kept.
+    #[tactic(auto, unfolding(crate::specs::Settled::is_in_format))]
+    #[inline(always)]
+    pub(crate) fn is_kept(&mut self, vendors: &Vendors, id: AttrId) -> bool
+        requires { IsLastFormat vendors.now self.old }
+        ensures kept { result ≡ is_kept vendors.now id }
+        ensures format { IsLastFormat vendors.now self.new }
+    {
+        match id {
+            AttrId::Plain(_) => true,
+            AttrId::Vendor(vendor, number) => {
+                *self = self.next(vendors, vendor);
+                holds(u64::from(number), self.format)
+            }
+            AttrId::Extended(_, _) => true,
+        }
     }
 }
 
 fn are_kept(vendors: &Vendors, rows: &[AttributeRow]) -> bool
     ensures { result ≡ list_all (λ row. is_kept vendors.now row.id) rows.now }
 {
-    rows.iter().all(|row| is_kept(vendors, row.id))
+    let mut last = LastFormat::of(vendors, 0);
+    let mut rest = rows;
+    while let [row, after @ ..] = rest {
+        if !last.is_kept(vendors, row.id) {
+            return false;
+        }
+        rest = after;
+    }
+    true
 }
 
 // The lines that are kept, with tables of their own.
@@ -71,9 +121,10 @@ fn only_kept(
     requires { kept.old ≡ [] }
     ensures { OnOk result (kept.new ≡ used vendors.now attributes.now) }
 {
+    let mut last = LastFormat::of(vendors, 0);
     let rows = attributes.rows();
     for row in rows {
-        if is_kept(vendors, row.id) {
+        if last.is_kept(vendors, row.id) {
             let name = row.name.copy(alloc)?;
             let id = row.id;
             let typing = row.typing;
@@ -100,14 +151,20 @@ pub(crate) fn used(
 }
 
 // The name on a skipped ATTRIBUTE line.
-fn skipped_name<'a>(vendors: &Vendors, meaning: Meaning<'a>) -> Option<&'a [u8]>
-    ensures { name_if (option_copied result)
+fn skipped_name<'a>(
+    vendors: &Vendors,
+    last: &mut LastFormat,
+    meaning: Meaning<'a>,
+) -> Option<&'a [u8]>
+    requires { IsLastFormat vendors.now last.old }
+    ensures name { name_if (option_copied result)
         ≡ skipped_name_of vendors.now (meaning_view meaning.entry) }
+    ensures format { IsLastFormat vendors.now last.new }
 {
     match meaning {
         Meaning::SkippedAttribute(name) => Some(name),
         Meaning::Attribute(name, id, _) => {
-            if is_kept(vendors, id) {
+            if last.is_kept(vendors, id) {
                 None
             } else {
                 Some(name)
@@ -134,8 +191,9 @@ fn add_skipped<'a>(
     requires { skipped.old ≡ [] }
     ensures { OnOk result (skipped.new ≡ skipped_names vendors.now (reading_views readings.now)) }
 {
+    let mut last = LastFormat::of(vendors, 0);
     for reading in readings {
-        if let Some(name) = skipped_name(vendors, reading.meaning) {
+        if let Some(name) = skipped_name(vendors, &mut last, reading.meaning) {
             skipped.push(alloc, name)?;
         }
     }
@@ -157,6 +215,7 @@ fn add_all(
     readings: &[Reading<'_>],
     contents: &mut Contents,
 ) -> Result<(), RefusedLine>
+    requires { AreAloneValues contents.old.values }
     ensures ok { OnOk result (resolve (skipped_names contents.old.vendors
         (reading_views readings.now)) (contents_view contents.old) (reading_views readings.now)
         ≡ Ok (contents_view contents.new)) }

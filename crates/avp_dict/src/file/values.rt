@@ -1,14 +1,16 @@
 //! VALUE lines and notes, after the last line.
 
-ghost use Rattle.std.specs.Prelude.{◌≡◌, Err, Ok, ◌≤◌, length, OnOk, IfErr, IfOk, IfSome, IsTrue};
+ghost use Rattle.std.specs.Prelude.{◌≡◌, [], Err, Ok, ◌≤◌, length, OnOk, IfErr, IfOk, IfSome, IsTrue};
 ghost use Rattle.std.specs.Option.{option_and_then};
 ghost use Rattle.std.specs.List.{list_all};
 ghost use Rattle.avp_lists.specs.Meets.{Meets, Unless};
 ghost use Rattle.avp_dict.specs.Letters.{is_value_name_octet, max_name};
 ghost use Rattle.avp_dict.specs.Meanings.{Value};
-ghost use Rattle.avp_dict.specs.Values.{is_noted, is_of_other_number, is_tagged_integer, is_value_name, max_of, max_of_typing, reads_as_number, resolve, tagged_line, tagged_value, value_of, value_up_to, with_line, with_note, with_tagged, with_value};
+ghost use Rattle.avp_dict.specs.Values.{is_noted, is_tagged_integer, is_value_name, max_of, max_of_typing, reads_as_number, resolve, tagged_line, tagged_value, value_of, value_up_to, with_line, with_note, with_tagged, with_value};
 ghost use Rattle.avp_dict.specs.Dictionary.{typing_of_id};
+ghost use Rattle.avp_dict.specs.internal.Agreeing.{AreAloneValues, agreeing, without_values};
 ghost use Rattle.avp_dict.specs.internal.Contents.{contents_view};
+ghost use Rattle.avp_dict.specs.internal.LastFormats.{IsLastFormat};
 ghost use Rattle.avp_dict.specs.internal.Meanings.{meaning_view, reading_view, reading_views};
 ghost use Rattle.avp_dict.specs.internal.Refused.{is_memory_refusal, is_memory_word};
 ghost use Rattle.avp_dict.specs.internal.Targets.{IsTarget};
@@ -19,7 +21,7 @@ use crate::faults::{DictKind, RefusedLine, RefusedWord};
 use crate::file::attributes::is_name_octet;
 use crate::file::meanings::{Meaning, Reading};
 use crate::file::numbers::digits;
-use crate::file::settling::is_kept;
+use crate::file::settling::LastFormat;
 use crate::file::words::MAX_NAME;
 use crate::forms::Form;
 use crate::spelling::Name;
@@ -33,7 +35,7 @@ const MAX_TAGGED_NUMBER: u64 = 16_777_215;
 fn is_value_name_octet(octet: u8) -> bool
     ensures { result ≡ is_value_name_octet octet }
 {
-    is_name_octet(octet) || octet == b':' || octet == b'@'
+    is_name_octet(octet) | (octet == b':') | (octet == b'@')
 }
 
 // Each octet is looked at, since a loop with one way out looks at many at a time.
@@ -130,25 +132,16 @@ impl<'a> Target<'a> {
     }
 }
 
-fn is_of_other_number(number: u64, found: Option<u64>) -> bool
-    ensures { result ≡ is_of_other_number number found }
-{
-    match found {
-        Some(other) => other != number,
-        None => false,
-    }
-}
-
+// The name of a number of an attribute with this greatest number, whatever earlier lines gave it.
 #[tactic(auto, unfolding(crate::specs::Values::value_up_to))]
 fn value_up_to(
     alloc: Global,
-    values: &Values,
     id: AttrId,
     name: &[u8],
     number: u64,
     most: Option<u64>,
 ) -> Result<Option<ValueLine>, RefusedWord>
-    ensures value { Meets is_memory_word result (value_up_to values.now id name.now number most) }
+    ensures value { Meets is_memory_word result (value_up_to [] id name.now number most) }
     ensures short { IfOk result (λ value. IfSome value (λ v. length v.name ≤ max_name)) }
 {
     match most {
@@ -160,15 +153,13 @@ fn value_up_to(
             if number > most {
                 return Err(DictKind::OutOfRange.at_word(3));
             }
-            if is_of_other_number(number, values.number_named(id, name)) {
-                return Err(DictKind::OtherValue.at_word(2));
-            }
             let name = Name::from_slice(alloc, name)?;
             Ok(Some(ValueLine { id, name, number }))
         }
     }
 }
 
+// What a VALUE line of this attribute adds, whatever earlier ones gave its name.
 #[tactic(auto, unfolding(crate::specs::Values::value_of))]
 fn value_of(
     alloc: Global,
@@ -183,13 +174,13 @@ fn value_of(
     requires { typing ≡ option_and_then
         (λ i. typing_of_id i (contents_view contents.now).attributes) id }
     ensures value { Meets is_memory_word result (value_of skipped.now
-        (contents_view contents.now) attribute.now name.now number id) }
+        (without_values (contents_view contents.now)) attribute.now name.now number id) }
     ensures short { IfOk result (λ value. IfSome value (λ v. length v.name ≤ max_name)) }
 {
     match id {
         Some(id) => {
             let most = max_of_typing(typing);
-            value_up_to(alloc, &contents.values, id, name, number, most)
+            value_up_to(alloc, id, name, number, most)
         }
         None => {
             if skipped.contains(alloc, attribute)? {
@@ -251,13 +242,15 @@ fn tagged_value(
     }
 }
 
-fn is_noted(vendors: &Vendors, meaning: Meaning<'_>) -> bool
-    ensures { result ≡ is_noted vendors.now (meaning_view meaning.entry) }
+fn is_noted(vendors: &Vendors, last: &mut LastFormat, meaning: Meaning<'_>) -> bool
+    requires { IsLastFormat vendors.now last.old }
+    ensures noted { result ≡ is_noted vendors.now (meaning_view meaning.entry) }
+    ensures format { IsLastFormat vendors.now last.new }
 {
     match meaning {
         Meaning::Skipped => true,
         Meaning::SkippedAttribute(_) => true,
-        Meaning::Attribute(_, id, _) => !is_kept(vendors, id),
+        Meaning::Attribute(_, id, _) => !last.is_kept(vendors, id),
         Meaning::BeginVendor(_, vendor) => vendor.is_none(),
         Meaning::BeginTlv(_) => true,
         Meaning::End(noted) => noted,
@@ -270,7 +263,9 @@ impl Contents {
     fn add_note(&mut self, reading: Reading<'_>) -> Result<(), AllocError>
         ensures note { OnOk result (contents_view self.new
             ≡ with_note (contents_view self.old) (reading_view reading.entry)) }
+        ensures values { self.new.values ≡ self.old.values }
         ensures kept { self.new.attributes ≡ self.old.attributes }
+        ensures vendors { self.new.vendors ≡ self.old.vendors }
     {
         self.notes.push(Note {
             file: reading.file,
@@ -279,28 +274,41 @@ impl Contents {
         Ok(())
     }
 
-    // What a VALUE line adds.
+    // What a VALUE line adds, unless an earlier one gives its name another number.
     fn add_value(
         &mut self,
         reading: Reading<'_>,
         value: Option<ValueLine>,
-    ) -> Result<(), AllocError>
-        requires { IfSome value (λ v. length v.name ≤ max_name) }
+    ) -> Result<(), RefusedWord>
+        requires short { IfSome value (λ v. length v.name ≤ max_name) }
+        requires agreeing { AreAloneValues self.old.values }
+        ensures agreed { OnOk result (agreeing self.old.values value ≡ Ok value) }
+        ensures refused { IfErr result (λ refused. Unless (is_memory_word refused)
+            (agreeing self.old.values value ≡ Err refused)) }
         ensures value { OnOk result (contents_view self.new
             ≡ with_value (contents_view self.old) (reading_view reading.entry) value) }
+        ensures agreeing { OnOk result (AreAloneValues self.new.values) }
         ensures kept { self.new.attributes ≡ self.old.attributes }
+        ensures vendors { self.new.vendors ≡ self.old.vendors }
     {
         match value {
-            Some(value) => self.values.push(value),
-            None => self.add_note(reading),
+            Some(value) => {
+                if self.values.push_number(value)? {
+                    return Err(DictKind::OtherValue.at_word(2));
+                }
+            }
+            None => self.add_note(reading)?,
         }
+        Ok(())
     }
 
     fn add_tagged(&mut self, value: Option<ValueLine>) -> Result<(), AllocError>
         requires { IfSome value (λ v. length v.name ≤ max_name) }
         ensures tagged { OnOk result (contents_view self.new
             ≡ with_tagged (contents_view self.old) value) }
+        ensures values { self.new.values ≡ self.old.values }
         ensures kept { self.new.attributes ≡ self.old.attributes }
+        ensures vendors { self.new.vendors ≡ self.old.vendors }
     {
         match value {
             Some(value) => self.tagged_values.push(value),
@@ -322,22 +330,28 @@ impl Contents {
         requires target { IsTarget self.old.attributes target }
         requires reading { meaning_view reading.meaning
             ≡ Value target.name.now name.now number }
+        requires agreeing { AreAloneValues self.old.values }
         ensures step { OnOk result (with_line skipped.now (contents_view self.old)
             (reading_view reading.entry) ≡ Ok (contents_view self.new)) }
         ensures refused { IfErr result (λ refused.
             Unless (is_memory_refusal refused) (with_line skipped.now (contents_view self.old)
             (reading_view reading.entry) ≡ Err refused)) }
+        ensures agreeing { OnOk result (AreAloneValues self.new.values) }
         ensures kept { self.new.attributes ≡ self.old.attributes }
+        ensures vendors { self.new.vendors ≡ self.old.vendors }
     {
         let Target {
             name: attribute,
             id,
             typing,
         } = target;
-        match value_of(alloc, skipped, self, attribute, name, number, id, typing) {
-            Ok(value) => {
-                let tagged = tagged_value(alloc, self, name, number, id, typing)?;
-                self.add_value(reading, value)?;
+        let value = match value_of(alloc, skipped, self, attribute, name, number, id, typing) {
+            Ok(value) => value,
+            Err(refused) => return Err(refused.at_line(reading.file, reading.line)),
+        };
+        let tagged = tagged_value(alloc, self, name, number, id, typing)?;
+        match self.add_value(reading, value) {
+            Ok(()) => {
                 self.add_tagged(tagged)?;
                 Ok(())
             }
@@ -351,11 +365,16 @@ impl Contents {
         &mut self,
         alloc: Global,
         skipped: &NameSet<'_>,
+        last: &mut LastFormat,
         target: Target<'a>,
         reading: Reading<'a>,
     ) -> Result<Target<'a>, RefusedLine>
-        requires { IsTarget self.old.attributes target }
+        requires target { IsTarget self.old.attributes target }
+        requires format { IsLastFormat self.old.vendors last.old }
+        requires agreeing { AreAloneValues self.old.values }
         ensures target { IfOk result (IsTarget self.new.attributes) }
+        ensures format { OnOk result (IsLastFormat self.new.vendors last.new) }
+        ensures agreeing { OnOk result (AreAloneValues self.new.values) }
         ensures step { OnOk result (with_line skipped.now (contents_view self.old)
             (reading_view reading.entry) ≡ Ok (contents_view self.new)) }
         ensures refused { IfErr result (λ refused.
@@ -367,7 +386,7 @@ impl Contents {
             self.add_number(alloc, skipped, reading, target, name, number)?;
             return Ok(target);
         }
-        if is_noted(&self.vendors, reading.meaning) {
+        if is_noted(&self.vendors, last, reading.meaning) {
             self.add_note(reading)?;
         }
         Ok(target)
@@ -380,6 +399,7 @@ impl Contents {
         skipped: &NameSet<'_>,
         readings: &[Reading<'_>],
     ) -> Result<(), RefusedLine>
+        requires { AreAloneValues self.old.values }
         ensures ok { OnOk result (resolve skipped.now (contents_view self.old)
             (reading_views readings.now) ≡ Ok (contents_view self.new)) }
         ensures refused { IfErr result (λ refused.
@@ -387,8 +407,9 @@ impl Contents {
             (reading_views readings.now) ≡ Err refused)) }
     {
         let mut target = Target::named(&self.attributes, b"");
+        let mut last = LastFormat::of(&self.vendors, 0);
         for reading in readings {
-            target = self.add_line(alloc, skipped, target, *reading)?;
+            target = self.add_line(alloc, skipped, &mut last, target, *reading)?;
         }
         Ok(())
     }

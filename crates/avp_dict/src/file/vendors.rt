@@ -4,7 +4,8 @@ ghost use Rattle.std.specs.Prelude.{◌≡◌, ◌≤◌, ℕ, Option, IfOk};
 ghost use Rattle.std.specs.List.{list_all, slice_split};
 ghost use Rattle.avp_lists.specs.Meets.{Meets};
 ghost use Rattle.avp_dict.specs.Letters.{is_comma, is_visible};
-ghost use Rattle.avp_dict.specs.Vendors.{format_parts, format_word, is_other_vendor, is_vendor_name, two_parts, vendor, vendor_formatted, vendor_line, vendor_numbered};
+ghost use Rattle.avp_dict.specs.Vendors.{format_parts, format_word, is_vendor_name, two_parts, vendor, vendor_formatted, vendor_line, vendor_numbered};
+ghost use Rattle.avp_dict.specs.internal.Agreeing.{AreAloneVendors};
 ghost use Rattle.avp_dict.specs.internal.Meanings.{read_view};
 ghost use Rattle.avp_dict.specs.internal.Numbers.{Reads};
 ghost use Rattle.avp_dict.specs.internal.Refused.{is_memory_word};
@@ -46,15 +47,6 @@ fn is_vendor_name(name: &[u8]) -> bool
     are_visible(name) && name.len() <= MAX_NAME
 }
 
-fn is_other_vendor(number: u32, found: Option<u32>) -> bool
-    ensures { result ≡ is_other_vendor number found }
-{
-    match found {
-        Some(other) => other != number,
-        None => false,
-    }
-}
-
 #[tactic(auto, unfolding(crate::specs::Vendors::vendor_numbered))]
 fn vendor_numbered<'a>(
     vendors: &Vendors,
@@ -62,12 +54,13 @@ fn vendor_numbered<'a>(
     format: VendorFormat,
     number: u64,
 ) -> Result<Meaning<'a>, RefusedWord>
-    requires { number ≤ GREATEST_NUMBER }
+    requires number { number ≤ GREATEST_NUMBER }
+    requires agreeing { AreAloneVendors vendors.now }
     ensures { Meets is_memory_word (read_view result)
         (vendor_numbered vendors.now name.now format number) }
 {
     let number = number as u32;
-    if is_other_vendor(number, vendors.vendor_named(name)) {
+    if vendors.any_names_other_vendor(name, number) {
         return Err(DictKind::OtherNumber.at_word(1));
     }
     Ok(Meaning::Vendor(name, number, format))
@@ -80,6 +73,7 @@ fn vendor_formatted<'a>(
     number: &[u8],
     format: Option<VendorFormat>,
 ) -> Result<Meaning<'a>, RefusedWord>
+    requires { AreAloneVendors vendors.now }
     ensures { Meets is_memory_word (read_view result)
         (vendor_formatted vendors.now name.now number.now format) }
 {
@@ -99,6 +93,7 @@ fn vendor_line<'a>(
     number: &[u8],
     format: Option<VendorFormat>,
 ) -> Result<Meaning<'a>, RefusedWord>
+    requires { AreAloneVendors vendors.now }
     ensures { Meets is_memory_word (read_view result)
         (vendor_line vendors.now name.now number.now format) }
 {
@@ -168,6 +163,7 @@ pub(crate) fn read_vendor<'a>(
     vendors: &Vendors,
     words: &[&'a [u8]],
 ) -> Result<Meaning<'a>, RefusedWord>
+    requires { AreAloneVendors vendors.now }
     ensures { Meets is_memory_word (read_view result) (vendor vendors.now (views words.now)) }
 {
     match words {

@@ -160,6 +160,22 @@ fn after_word(text: &[u8]) -> &[u8]
     }
 }
 
+// What is left after blanks.
+#[tactic(auto, using(crate::proofs::LineWords::words_blank))]
+fn past_blanks(text: &[u8]) -> &[u8]
+    ensures words { words_of result.now ≡ words_of text.now }
+    ensures within { length result.now ≤ length text.now }
+{
+    let mut rest = text;
+    while let [octet, after @ ..] = rest {
+        if !is_blank(*octet) {
+            return rest;
+        }
+        rest = after;
+    }
+    rest
+}
+
 // Adds the words of a line.
 #[tactic(auto, using(crate::proofs::LineWords::words_step, crate::proofs::LineWords::after_shorter))]
 fn push_words_of<'a>(words: &mut Vec<&'a [u8]>, text: &'a [u8]) -> Result<(), AllocError>
@@ -169,7 +185,7 @@ fn push_words_of<'a>(words: &mut Vec<&'a [u8]>, text: &'a [u8]) -> Result<(), Al
     while !rest.is_empty() {
         let (word, after) = rest.split_at(word_size(rest));
         push_part(words, word)?;
-        rest = after_word(after);
+        rest = past_blanks(after_word(after));
     }
     Ok(())
 }
@@ -207,7 +223,7 @@ pub fn same_name(a: &[u8], b: &[u8]) -> bool
         let [y, ys @ ..] = b else {
             return false;
         };
-        if lower(*x) != lower(*y) {
+        if *x != *y && lower(*x) != lower(*y) {
             return false;
         }
         a = xs;

@@ -10,12 +10,13 @@ ghost use Rattle.avp_dict.specs.Limits.{fits};
 ghost use Rattle.avp_dict.specs.LineNumbers.{line_after};
 ghost use Rattle.avp_dict.specs.Lines.{is_line_end, texts_of};
 ghost use Rattle.avp_dict.specs.Outcomes.{is_memory_line};
-ghost use Rattle.avp_dict.specs.RefusedPlaces.{IsRefusedAfter, IsRefusedAt, is_before_filled};
+ghost use Rattle.avp_dict.specs.RefusedPlaces.{IsOutOfMemoryAt, IsRefusedAfter, IsRefusedAt, is_before_filled};
 ghost use Rattle.avp_dict.specs.RequestLines.{Comma, is_blank_line, is_idle_line, pairs_of, tokens_at, value_text, without_front};
 ghost use Rattle.avp_dict.specs.Names.{named};
 ghost use Rattle.avp_dict.specs.Requests.{pair_assigned, pair_named, refusal_named, request_by, request_spelled};
 ghost use Rattle.avp_dict.specs.Sent.{is_clean};
-ghost use Rattle.avp_dict.specs.internal.LineEnds.{IsCountKind, IsEnd, IsIdleRead, IsLexed, IsNoComma, IsPairRead, IsRefusedEnd, IsRefusedLine, IsRefusedPair, IsRefusedText, IsRefusedToken, refused_from};
+ghost use Rattle.avp_dict.specs.declared.value.faults.ValueFault.TheVariants.{NotWritable};
+ghost use Rattle.avp_dict.specs.internal.LineEnds.{IsCountKind, IsEnd, IsIdleRead, IsLexed, IsNoComma, IsOutLine, IsOutPair, IsPairRead, IsRefusedEnd, IsRefusedLine, IsRefusedPair, IsRefusedText, IsRefusedToken, refused_from};
 ghost use Rattle.avp_dict.specs.internal.LineReading.{IsNoRequest, after_pairs, assigned_after, pair_of_token, pairs_after, pairs_at};
 ghost use Rattle.avp_dict.specs.internal.RequestTokens.{is_ended, side_after, token_view};
 
@@ -93,6 +94,7 @@ fn kind_after_packet(line: &[u8]) -> LineKind
 fn end_of_packet(rest: &[u8]) -> Result<(), Refusal>
     ensures ok { OnOk result (list_all is_idle_line (texts_of rest.now) ≡ true) }
     ensures err { OnErr result (list_all is_idle_line (texts_of rest.now) ≡ false) }
+    ensures kind { IfErr result (λ refusal. refusal.kind ≢ LineKind.Memory) }
     ensures within { IfErr result (λ refusal. refusal.left ≤ length rest.now) }
     ensures place { IfErr result (λ refusal. IsRefusedEnd rest.now refusal.kind refusal.left) }
 {
@@ -141,6 +143,8 @@ fn push_pair(pairs: &mut Vec<Pair>, pair: Pair) -> Result<(), LineKind>
     ensures few { OnOk result (length pairs.new.items ≤ max_pairs) }
     ensures refused { IfErr result (λ kind. kind ≢ LineKind.Memory → length pairs.old.items
         ≡ max_pairs) }
+    ensures room { IfErr result (λ kind. kind ≡ LineKind.Memory → length pairs.old.items
+        < max_pairs) }
     ensures kind { IfErr result IsCountKind }
 {
     if pairs.len() == MAX_PAIRS {
@@ -179,9 +183,17 @@ fn pair_of_token<R: PairReader>(
     ensures refused { IfErr result (λ kind. IsRefusedToken (token_view token.entry)
         (option_and_then (R.refusal_of reader.now target) (value_text (token_view token.entry)))
         kind) }
+    ensures text { IfErr result (λ kind. kind ≡ LineKind.Memory
+        → value_text (token_view token.entry) ≢ None) }
+    ensures writable { IfErr result (λ kind. kind ≡ LineKind.Memory
+        → option_and_then (R.refusal_of reader.now target) (value_text (token_view token.entry))
+        ≢ Some NotWritable) }
 {
     match token {
         Token::Run([b'=', ..]) => Err(LineKind::Unreadable),
+        Token::Run(_) | Token::Quoted(_, _) if reader.is_barred(target) => {
+            Err(LineKind::NotWritable)
+        }
         Token::Run(text) => pair_of_text(reader, alloc, target, text),
         Token::Quoted(mark, text) => {
             let octets = octets_between(alloc, mark, text)?;
@@ -223,6 +235,9 @@ fn read_pair<'a, R: PairReader>(
     ensures place { IfErr result (λ refusal. Unless (is_memory_line refusal.kind) ((count : ℕ)
         → IsRefusedPair (R.target_of reader.now) (R.pair_of reader.now) (R.refusal_of reader.now)
         count line.now refusal.kind refusal.left)) }
+    ensures memory { IfErr result (λ refusal. refusal.kind ≡ LineKind.Memory → (count : ℕ)
+        → IsOutPair (R.target_of reader.now) (R.pair_of reader.now) (R.refusal_of reader.now)
+        count line.now refusal.left) }
 {
     let Token::Run(name) = first else {
         return Err(LineKind::Unreadable.at(line.len()));
@@ -262,6 +277,9 @@ fn read_line<R: PairReader>(
     ensures place { IfErr result (λ refusal. Unless (is_memory_line refusal.kind)
         (IsRefusedLine (R.target_of reader.now) (R.pair_of reader.now) (R.refusal_of reader.now)
         pairs.old.items line.now refusal.kind refusal.left)) }
+    ensures memory { IfErr result (λ refusal. refusal.kind ≡ LineKind.Memory
+        → IsOutLine (R.target_of reader.now) (R.pair_of reader.now) (R.refusal_of reader.now)
+        pairs.old.items line.now refusal.left) }
 {
     let mut rest = line;
     while let Some((first, after)) = next_token(Side::Name, rest) {
@@ -300,6 +318,9 @@ pub fn read_pairs<R: PairReader>(
     ensures filled { IfErr result (λ fault. is_before_filled fault.offset text.now ≡ true) }
     ensures place { IfErr result (λ fault. IsRefusedAt (R.target_of reader.now)
         (R.pair_of reader.now) (R.refusal_of reader.now) text.now fault.kind fault.offset) }
+    ensures memory { IfErr result (λ fault. fault.kind ≡ LineKind.Memory
+        → IsOutOfMemoryAt (R.target_of reader.now) (R.pair_of reader.now)
+        (R.refusal_of reader.now) text.now fault.offset) }
 {
     let mut pairs = Vec::new(alloc);
     let mut rest = without_idle_lines(text);
@@ -352,6 +373,10 @@ impl Dictionary {
             (λ target value. pair_named self.now value target)
             (λ target value. refusal_named self.now value target) text.now fault.kind
             fault.offset) }
+        ensures memory { IfErr result (λ fault. fault.kind ≡ LineKind.Memory
+            → IsOutOfMemoryAt (λ name. named name self.now)
+            (λ target value. pair_named self.now value target)
+            (λ target value. refusal_named self.now value target) text.now fault.offset) }
     {
         // That each pair fits rests on what holds of the lines of every dictionary.
         self.sound();

@@ -11,11 +11,12 @@ pub trait PairReader {
     /// What a name stands for.
     type Target: Copy;
 
-    ghost use Rattle.std.specs.Prelude.{◌≡◌, ℕ, IfErr, List, Option, Some};
+    ghost use Rattle.std.specs.Prelude.{◌≡◌, ◌↔◌, ℕ, IfErr, IsTrue, List, None, Option, Some};
     ghost use Rattle.avp_lists.specs.Meets.{Finds, Unless};
     ghost use Rattle.avp_lists.specs.declared.pairs.Pair.{Pair};
     ghost use Rattle.avp_dict.specs.Outcomes.{is_memory_value};
     ghost use Rattle.avp_dict.specs.declared.value.faults.ValueFault.{ValueFault};
+    ghost use Rattle.avp_dict.specs.declared.value.faults.ValueFault.TheVariants.{NotWritable};
 
     /// What names stand for.
     ghost target_of: { Self → List ℕ → Option Self.Target };
@@ -29,6 +30,13 @@ pub trait PairReader {
     /// What a name stands for.
     fn target(&self, name: &[u8]) -> Option<Self::Target>
         ensures { result ≡ target_of self.now name.now };
+
+    /// Whether no value may be written under what a name stands for, whatever its text: this is asked before the text
+    /// is read, so that no want of memory hides it.
+    fn is_barred(&self, target: Self::Target) -> bool
+        ensures refusal { (text : List ℕ)
+            → IsTrue result ↔ (refusal_of self.now target text ≡ Some NotWritable) }
+        ensures pair { IsTrue result → (text : List ℕ) → pair_of self.now target text ≡ None };
 
     /// The pair of what a name stands for and a text.
     fn pair(&self, alloc: Global, target: Self::Target, text: &[u8]) -> Result<Pair, ValueFault>
@@ -51,6 +59,11 @@ impl PairReader for Dictionary {
 
     fn target(&self, name: &[u8]) -> Option<Named> {
         self.by_name(name)
+    }
+
+    #[tactic(auto, using(crate::proofs::BarredNames::barred_name, crate::proofs::BarredNames::barred_pair))]
+    fn is_barred(&self, target: Named) -> bool {
+        Dictionary::is_barred(self, target)
     }
 
     fn pair(&self, alloc: Global, target: Named, text: &[u8]) -> Result<Pair, ValueFault> {

@@ -1,11 +1,13 @@
 ghost use Rattle.std.specs.Prelude.{◌≡◌, ◌≤◌, ◌++◌, ◌∷◌, [], false, length, map, slice_get, All, IfOk, OnOk};
 ghost use Rattle.std.specs.List.{list_any};
-ghost use Rattle.std.specs.Option.{option_copied, option_map, option_map_or};
+ghost use Rattle.std.specs.Option.{option_and_then, option_copied, option_map, option_map_or};
 ghost use Rattle.std.specs.Set.{distinct_count};
 ghost use Rattle.std.specs.Str.{bytes_eq};
-ghost use Rattle.avp_dict.specs.Dictionary.{attribute_key, first_names, id_named, is_attribute_named, is_attribute_of, is_secret_line_of, last_where, typing_of_id};
+ghost use Rattle.avp_dict.specs.Dictionary.{attribute_key, first_names, id_named, id_of_line, is_attribute_named, is_attribute_of, is_secret_line_of, last_where, names_other_id, typing_of_id};
 ghost use Rattle.avp_dict.specs.Letters.{max_name};
+ghost use Rattle.avp_dict.specs.internal.Agreeing.{AreAloneNames, is_of_other_id};
 ghost use Rattle.avp_dict.specs.internal.AttributeRows.{line_of, lines_of, marked_by};
+ghost use Rattle.avp_dict.specs.internal.Tables.{IsLastAt};
 
 use crate::entries::{AttributeLine, Typing};
 use crate::spelling::Name;
@@ -72,6 +74,15 @@ impl Model for Attributes {
     ghost invariant = { λ t. KeepMarks t.rows };
 }
 
+fn is_of_other_id(id: AttrId, found: Option<AttrId>) -> bool
+    ensures { result ≡ is_of_other_id id found }
+{
+    match found {
+        Some(other) => !other.equals(id),
+        None => false,
+    }
+}
+
 impl Attributes {
     pub fn new(alloc: Global) -> Attributes
         ensures { result ≡ [] }
@@ -97,19 +108,51 @@ impl Attributes {
         self.rows.as_slice()
     }
 
-    /// Adds a line. If memory runs out, all are dropped.
-    pub fn push(&mut self, line: AttributeLine) -> Result<(), AllocError>
+    // Adds a line. The answer is the place of the last line before it with its name. If memory runs out, all are dropped.
+    fn put(&mut self, line: AttributeLine) -> Result<Option<usize>, AllocError>
         requires { length line.name ≤ max_name }
-        ensures { OnOk result (self.new ≡ self.old ++ line ∷ []) }
+        ensures line { OnOk result (self.new ≡ self.old ++ line ∷ []) }
+        ensures before { IfOk result (IsLastAt (is_attribute_named line.name) self.old) }
     {
         let AttributeLine { name, id, typing } = line;
         let marked = typing.secret || self.is_marked_secret(id);
-        self.rows.push(AttributeRow {
+        self.rows.put(AttributeRow {
             name,
             id,
             typing,
             marked,
         })
+    }
+
+    /// Adds a line. If memory runs out, all are dropped.
+    pub fn push(&mut self, line: AttributeLine) -> Result<(), AllocError>
+        requires { length line.name ≤ max_name }
+        ensures { OnOk result (self.new ≡ self.old ++ line ∷ []) }
+    {
+        self.put(line)?;
+        Ok(())
+    }
+
+    // The id of the line at a place.
+    fn id_at(&self, place: Option<usize>) -> Option<AttrId>
+        ensures { result
+            ≡ option_map id_of_line (option_and_then (slice_get self.now) place) }
+    {
+        let line = self.rows().get(place?)?;
+        Some(line.id)
+    }
+
+    /// Adds a line, and tells whether one before it gives its name another id. The last line of the name tells.
+    pub fn push_agreeing(&mut self, line: AttributeLine) -> Result<bool, AllocError>
+        requires short { length line.name ≤ max_name }
+        requires agreeing { AreAloneNames self.old }
+        ensures line { OnOk result (self.new ≡ self.old ++ line ∷ []) }
+        ensures other { IfOk result (λ other. other
+            ≡ list_any (names_other_id line.name line.id) self.old) }
+    {
+        let id = line.id;
+        let place = self.put(line)?;
+        Ok(is_of_other_id(id, self.id_at(place)))
     }
 
     /// The last line with this name, without regard to ASCII case.

@@ -5,7 +5,7 @@ ghost use Rattle.std.specs.Option.{option_copied};
 ghost use Rattle.std.specs.Set.{distinct_count};
 ghost use Rattle.avp_dict.specs.Dictionary.{first_keys, last_where};
 ghost use Rattle.avp_dict.specs.Letters.{max_name};
-ghost use Rattle.avp_dict.specs.internal.Tables.{AreTables};
+ghost use Rattle.avp_dict.specs.internal.Tables.{AreTables, IsLastAt};
 
 use crate::tables::places::Places;
 use std::alloc::{AllocError, Global};
@@ -69,25 +69,28 @@ impl<L: Keyed> Model for KeyedLines<L> {
         t.names t.numbers t.lines.items };
 }
 
-// One more line, and its keys.
+// One more line, and its keys. The answer is the place of the last line before it with its name.
 fn add_line<L: Keyed>(
     lines: &mut Vec<L>,
     names: &mut Places<L::NameKey>,
     numbers: &mut Places<L::NumberKey>,
     line: L,
-) -> Result<(), AllocError>
+) -> Result<Option<usize>, AllocError>
     requires tables { AreTables L.NameKey.eq L.NumberKey.eq L.spelled L.name_of L.number_of
         names.old numbers.old lines.old.items }
     requires short { length (L.spelled line) ≤ max_name }
     ensures lines { OnOk result (lines.new.items ≡ lines.old.items ++ line ∷ []) }
     ensures tables { OnOk result (AreTables L.NameKey.eq L.NumberKey.eq L.spelled L.name_of
         L.number_of names.new numbers.new lines.new.items) }
+    ensures before { (test : L → Bool)
+        → ((l : L) → L.NameKey.eq (L.name_of l) (L.name_of line) ≡ test l)
+        → IfOk result (IsLastAt test lines.old.items) }
 {
     let place = lines.len();
-    names.put(line.name_key(), place)?;
+    let before = names.put(line.name_key(), place)?;
     numbers.put(line.number_key(), place)?;
     lines.push(line)?;
-    Ok(())
+    Ok(before)
 }
 
 impl<L: Keyed> KeyedLines<L> {
@@ -130,8 +133,23 @@ impl<L: Keyed> KeyedLines<L> {
         ensures ok { OnOk result (self.new ≡ self.old ++ line ∷ []) }
         ensures dropped { IfErr result (λ error. self.new ≡ []) }
     {
+        self.put(line)?;
+        Ok(())
+    }
+
+    /// Adds a line. The answer is the place of the last line before it with its name. If memory runs out, all are
+    /// dropped.
+    #[inline(always)]
+    pub fn put(&mut self, line: L) -> Result<Option<usize>, AllocError>
+        requires { length (L.spelled line) ≤ max_name }
+        ensures ok { OnOk result (self.new ≡ self.old ++ line ∷ []) }
+        ensures before { (test : L → Bool)
+            → ((l : L) → L.NameKey.eq (L.name_of l) (L.name_of line) ≡ test l)
+            → IfOk result (IsLastAt test self.old) }
+        ensures dropped { IfErr result (λ error. self.new ≡ []) }
+    {
         match add_line(&mut self.lines, &mut self.names, &mut self.numbers, line) {
-            Ok(()) => Ok(()),
+            Ok(before) => Ok(before),
             Err(error) => {
                 self.lines.clear();
                 self.names.clear();

@@ -4,7 +4,7 @@ ghost use Rattle.std.specs.Map.{keys_of};
 ghost use Rattle.std.specs.Option.{option_and_then, option_copied};
 ghost use Rattle.std.specs.Set.{distinct_count};
 ghost use Rattle.avp_dict.specs.Dictionary.{last_where};
-ghost use Rattle.avp_dict.specs.internal.Tables.{IsTable};
+ghost use Rattle.avp_dict.specs.internal.Tables.{IsTable, last_place};
 
 use indexmap::IndexMap;
 use std::alloc::{AllocError, Global};
@@ -99,14 +99,16 @@ impl<K: Eq + Hash> Places<K> {
         }
     }
 
-    /// One more line's key, at the line's place.
-    pub fn put(&mut self, key: K, place: usize) -> Result<(), AllocError>
+    /// One more line's key, at the line's place. The answer is the place of the last line before it with the key.
+    pub fn put(&mut self, key: K, place: usize) -> Result<Option<usize>, AllocError>
     where
         K: Drop,
-        ensures { (keys : List K) → IsTable K.eq self.old keys → place ≡ length keys
+        ensures before { (keys : List K) → IsTable K.eq self.old keys
+            → IfOk result (λ before. before ≡ last_place (λ k. K.eq k key) keys) }
+        ensures table { (keys : List K) → IsTable K.eq self.old keys → place ≡ length keys
             → OnOk result (IsTable K.eq self.new (keys ++ key ∷ [])) }
     {
-        self.table.insert(key, place)?;
-        Ok(())
+        let before = self.table.insert(key, place)?;
+        Ok(before)
     }
 }

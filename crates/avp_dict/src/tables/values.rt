@@ -1,11 +1,15 @@
-ghost use Rattle.std.specs.Prelude.{◌≡◌};
-ghost use Rattle.std.specs.Option.{option_copied};
-ghost use Rattle.avp_dict.specs.Dictionary.{is_number_found, is_value_named, is_value_numbered, last_where, name_numbered, number_named, tagged_name_numbered};
+ghost use Rattle.std.specs.Prelude.{◌≡◌, ◌≤◌, ◌++◌, ◌∷◌, [], length, slice_get, IfOk, OnOk};
+ghost use Rattle.std.specs.List.{list_any};
+ghost use Rattle.std.specs.Option.{option_and_then, option_copied, option_map};
+ghost use Rattle.avp_dict.specs.Dictionary.{is_number_found, is_value_named, is_value_numbered, last_where, name_numbered, names_other_value, number_named, number_of_line, tagged_name_numbered};
+ghost use Rattle.avp_dict.specs.Letters.{max_name};
+ghost use Rattle.avp_dict.specs.internal.Agreeing.{AreAloneValues, is_of_other_number};
 
 use crate::entries::ValueLine;
 use crate::tables::keyed::{Keyed, KeyedLines};
 use crate::tables::keys::{FoldedName, IdKey, id_key};
 use avp_lists::AttrId;
+use std::alloc::AllocError;
 
 impl Keyed for ValueLine {
     ghost use Rattle.avp_dict.specs.internal.Tables.{value_name_key, value_number_key};
@@ -26,6 +30,15 @@ impl Keyed for ValueLine {
 
     fn number_key(&self) -> (IdKey, u64) {
         (id_key(self.id), self.number)
+    }
+}
+
+fn is_of_other_number(number: u64, found: Option<u64>) -> bool
+    ensures { result ≡ is_of_other_number number found }
+{
+    match found {
+        Some(other) => other != number,
+        None => false,
     }
 }
 
@@ -66,6 +79,28 @@ impl KeyedLines<ValueLine> {
     {
         let line = self.by_name(id, name)?;
         Some(line.number)
+    }
+
+    // The number of the line at a place.
+    fn number_at(&self, place: Option<usize>) -> Option<u64>
+        ensures { result
+            ≡ option_map number_of_line (option_and_then (slice_get self.now) place) }
+    {
+        let line = self.as_slice().get(place?)?;
+        Some(line.number)
+    }
+
+    /// Adds a line, and tells whether one before it gives its name another number. The last line of the name tells.
+    pub fn push_number(&mut self, line: ValueLine) -> Result<bool, AllocError>
+        requires short { length line.name ≤ max_name }
+        requires agreeing { AreAloneValues self.old }
+        ensures line { OnOk result (self.new ≡ self.old ++ line ∷ []) }
+        ensures other { IfOk result (λ other. other
+            ≡ list_any (names_other_value line.id line.name line.number) self.old) }
+    {
+        let number = line.number;
+        let place = self.put(line)?;
+        Ok(is_of_other_number(number, self.number_at(place)))
     }
 
     /// The printed name of a number: the last one.

@@ -1,6 +1,8 @@
 ghost use Rattle.std.specs.Prelude.{◌≡◌};
+ghost use Rattle.std.specs.List.{list_any};
 ghost use Rattle.std.specs.Option.{option_copied};
-ghost use Rattle.avp_dict.specs.Dictionary.{format_of, is_vendor_named, is_vendor_numbered, last_where, vendor_named};
+ghost use Rattle.avp_dict.specs.Dictionary.{format_of, is_vendor_named, is_vendor_numbered, last_where, names_other_vendor, vendor_named};
+ghost use Rattle.avp_dict.specs.internal.Agreeing.{AreAloneVendors, is_of_other_number};
 
 use crate::entries::{VendorFormat, VendorLine};
 use crate::tables::keyed::{Keyed, KeyedLines};
@@ -25,6 +27,15 @@ impl Keyed for VendorLine {
 
     fn number_key(&self) -> u32 {
         self.number
+    }
+}
+
+fn is_of_other_number(number: u32, found: Option<u32>) -> bool
+    ensures { result ≡ is_of_other_number number found }
+{
+    match found {
+        Some(other) => other != number,
+        None => false,
     }
 }
 
@@ -53,6 +64,14 @@ impl KeyedLines<VendorLine> {
     {
         let line = self.by_name(name)?;
         Some(line.number)
+    }
+
+    /// Whether a line gives the name another number. The last line of the name tells.
+    pub fn any_names_other_vendor(&self, name: &[u8], number: u32) -> bool
+        requires { AreAloneVendors self.now }
+        ensures { result ≡ list_any (names_other_vendor name.now number) self.now }
+    {
+        is_of_other_number(number, self.vendor_named(name))
     }
 
     /// The format of a vendor: that of its last line.

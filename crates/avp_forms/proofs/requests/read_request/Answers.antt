@@ -5,7 +5,8 @@ use Rattle.avp_dict.specs.Limits.{fits}
 use Rattle.avp_dict.specs.Requests.{pair_assigned, request_by}
 use Rattle.avp_dict.specs.Sent.{is_clean, is_clean_pair}
 use Rattle.avp_dict.proofs.Fitting.{request_passes}
-use Rattle.avp_forms.specs.Requests.{IsRefusedIn, pair_written}
+use Rattle.avp_dict.specs.declared.request.faults.LineKind.TheVariants.{Memory}
+use Rattle.avp_forms.specs.Requests.{IsOutOfMemoryIn, IsRefusedIn, pair_written}
 use Rattle.avp_forms.specs.Targets.{target_of}
 use Rattle.avp_forms.specs.declared.profiles.Profile.{Profile}
 use Rattle.avp_forms.specs.declared.profiles.Profile.TheVariants.{Wider}
@@ -39,3 +40,13 @@ pub returns-in-Wider-clause-place : goal.returns-in-Wider-clause-place
 returns-in-Wider-clause-place c =
     subst (λ (profile : Profile). IfErr c.read_pairs.result (λ fault. IsRefusedIn profile c.args.zone c.args.dictionary.now c.args.text.now fault.kind fault.offset))
     (sym c.in-Wider.is) c.read_pairs.ensures.place
+
+pub returns-in-Plain-clause-memory : goal.returns-in-Plain-clause-memory
+returns-in-Plain-clause-memory c =
+    subst (λ (profile : Profile). IfErr c.read_request.result (λ fault. fault.kind ≡ Memory → IsOutOfMemoryIn profile c.args.zone c.args.dictionary.now c.args.text.now fault.offset))
+    (sym c.in-Plain.is) c.read_request.ensures.memory
+
+pub returns-in-Wider-clause-memory : goal.returns-in-Wider-clause-memory
+returns-in-Wider-clause-memory c =
+    subst (λ (profile : Profile). IfErr c.read_pairs.result (λ fault. fault.kind ≡ Memory → IsOutOfMemoryIn profile c.args.zone c.args.dictionary.now c.args.text.now fault.offset))
+    (sym c.in-Wider.is) c.read_pairs.ensures.memory

@@ -22,6 +22,8 @@ loop-reading-preserved c =
       sym (resolve_ok c.args.skipped.now (contents_view c.loop-reading.self) (contents_view c.add_line.new.self) _ (reading_views (drop (i + 1) readings)) c.in_ok-target.ensures.step)
           ∙ (ap (resolve c.args.skipped.now (contents_view c.loop-reading.self)) (sym next) ∙ c.loop-reading.invariant.0),
       c.in_ok-target.ensures.target,
+      c.in_ok-target.ensures.agreeing,
+      c.in_ok-target.ensures.format,
     )
 
 pub returns-clause-ok : goal.returns-clause-ok

@@ -5,6 +5,9 @@ use Rattle.avp_dict.specs.Lines.{lines_in}
 use Rattle.avp_dict.specs.internal.Refused.{is_memory_refusal}
 use Rattle.avp_dict.specs.Readings.{read_lines}
 use Rattle.avp_dict.specs.internal.Meanings.{reading_views}
+use Rattle.avp_dict.specs.internal.Agreeing.{IsAgreeing}
+use Rattle.avp_dict.proofs.AgreeingLines.{none_agreeing}
+use Rattle.avp_dict.proofs.LinesRead.{context_of_none}
 use Rattle.avp_dict.proofs.Passes.{dictionary_resolved, open_fails, open_refuses, read_fails}
 use Rattle.avp_dict.proofs.file.reader.read_set.Goals as goal
 
@@ -33,3 +36,6 @@ returns-clause-read c =
     let is_read = ap (λ before. read_lines c.args.limit files before (lines_in files 9 0 ++ [])) (sym c.requires.read) ∙ c.in_ok-read_file.ensures.step [] in
     let opened = ap reading_views c.deref.ensures.value ∙ ap (λ x. x.opened) c.in_ok-read_file.ensures.tracked in
     dictionary_resolved c.args.limit files readings is_read (reading_views c.deref.result.now) opened c.in_ok-refuse_open.ensures.closed
+
+pub read_file-requires-clause-agreeing : goal.read_file-requires-clause-agreeing
+read_file-requires-clause-agreeing c = subst IsAgreeing (sym (c.requires.tracked ∙ context_of_none)) none_agreeing

@@ -11,10 +11,10 @@ loop-rest-preserved c =
     let words = views c.loop-rest.words.items in
     let size = c.word_size.ensures.size in
     let word = c.split_at.ensures.front ∙ ap (λ n. take n rest) size in
-    let left = c.after_word-rest.ensures ∙ ap after_word (c.split_at.ensures.back ∙ ap (λ n. drop n rest) size) in
+    let left = c.after_word.ensures ∙ ap after_word (c.split_at.ensures.back ∙ ap (λ n. drop n rest) size) in
     let first = filter is_word (take (word_size rest) rest ∷ []) in
     let others = words_of (after_word (drop (word_size rest) rest)) in
-    ap₂ (λ ws r. ws ++ words_of r) (c.in_ok-push_part.ensures ∙ ap (λ w. words ++ filter is_word (w ∷ [])) word) left
+    ap₂ (λ ws later. ws ++ later) (c.in_ok-push_part.ensures ∙ ap (λ w. words ++ filter is_word (w ∷ [])) word) (c.past_blanks-rest.ensures.words ∙ ap words_of left)
     ∙ append_assoc words first others
     ∙ ap (λ ws. words ++ ws) (sym (words_step rest))
     ∙ c.loop-rest.invariant

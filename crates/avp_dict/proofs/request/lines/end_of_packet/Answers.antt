@@ -4,6 +4,7 @@ use Rattle.avp_dict.specs.RefusedPlaces.{IsRefusedAfter}
 use Rattle.avp_dict.specs.RequestLines.{is_idle_line, tokens_at}
 use Rattle.avp_dict.specs.declared.request.tokens.Side.TheVariants.{Name}
 use Rattle.avp_dict.proofs.FilledLines.{front_fails}
+use Rattle.avp_dict.proofs.FirstRefusals.{after_no_memory}
 use Rattle.avp_dict.proofs.PairSteps.{none_left, some_left}
 use Rattle.avp_dict.proofs.request.lines.end_of_packet.Goals as goal
 
@@ -28,3 +29,6 @@ returns-clause-place c =
       left_is = refl;
       refused = subst (λ (line : List ℕ). IsRefusedAfter c.kind_after_packet.result (tokens_at Name line)) c.in-Some.ensures.line c.kind_after_packet.ensures;
     })
+
+pub returns-clause-kind : goal.returns-clause-kind
+returns-clause-kind c = rw c.at.ensures.kind (after_no_memory c.kind_after_packet.result _ c.kind_after_packet.ensures)

@@ -3,10 +3,11 @@ use Rattle.std.proofs.lemmas.Result.{err_from_is_err_and}
 use Rattle.avp_dict.specs.Outcomes.{is_memory_line}
 use Rattle.avp_dict.specs.declared.request.faults.LineKind.TheVariants.{Memory, Unreadable}
 use Rattle.avp_dict.specs.declared.request.tokens.Side.TheVariants.{Name, Value}
+use Rattle.avp_dict.specs.RefusedPlaces.{IsOutOfMemoryFor}
 use Rattle.avp_dict.specs.RequestLines.{tokens_at}
 use Rattle.avp_dict.specs.Requests.{pair_assigned}
 use Rattle.avp_dict.specs.internal.LineReading.{pairs_at}
-use Rattle.avp_dict.proofs.FirstRefusals.{comma_refused, count_refused, pair_refused_in, unless_map}
+use Rattle.avp_dict.proofs.FirstRefusals.{comma_refused, count_refused, pair_out, pair_refused_in, pair_stopped_in, unless_map}
 use Rattle.avp_dict.proofs.LexedLines.{lexed_none}
 use Rattle.avp_dict.proofs.PairSteps.{line_ends, many_refused, none_refused, pair_more, refuses_all, rest_refused}
 use Rattle.avp_dict.proofs.ReadPairs.{pairs_more, pairs_none}
@@ -99,3 +100,30 @@ returns-in_err-rest-clause-place g c =
     rw (p.1, p.2, c.in_err-rest.ensures.kind)
     (pair_refused_in (g.R.PairReader.target_of c.args.reader.now) (g.R.PairReader.pair_of c.args.reader.now) (g.R.PairReader.refusal_of c.args.reader.now) c.args.pairs.now.items c.loop-first.pairs.items c.args.line.now rest Unreadable left (c.loop-first.invariant.pairs here) c.loop-first.invariant.few
     (comma_refused (g.R.PairReader.target_of c.args.reader.now) (g.R.PairReader.pair_of c.args.reader.now) (g.R.PairReader.refusal_of c.args.reader.now) c.loop-first.pairs.items _ rest c.in_ok-pair.after.now c.in_ok-pair.pair left c.in_ok-pair.ensures.pair c.in_default-push_pair.ensures.pushed c.in_default-push_pair.ensures.few c.in_err-rest.ensures.no_comma c.in_err-rest.ensures.left))
+
+pub returns-in_err-pair-clause-memory : goal.returns-in_err-pair-clause-memory
+returns-in_err-pair-clause-memory g c =
+    let target_of = g.R.PairReader.target_of c.args.reader.now in
+    let pair_of = g.R.PairReader.pair_of c.args.reader.now in
+    let refusal_of = g.R.PairReader.refusal_of c.args.reader.now in
+    let p = err_from_is_err_and c.from_residual.result c.from_residual.ensures.1 in
+    let here : 0 < length c.loop-first.rest.now = omega (arith, c.in-Some.ensures.shorter) in
+    rw (p.1, p.2)
+    (λ out. pair_stopped_in target_of pair_of refusal_of (IsOutOfMemoryFor target_of pair_of refusal_of) c.args.pairs.now.items c.loop-first.pairs.items c.args.line.now c.loop-first.rest.now c.in_err-pair.field-0.0.left (c.loop-first.invariant.pairs here) c.loop-first.invariant.few
+    (c.in_err-pair.ensures.memory out (length c.loop-first.pairs.items)))
+
+pub returns-in-Err-clause-memory : goal.returns-in-Err-clause-memory
+returns-in-Err-clause-memory g c =
+    let target_of = g.R.PairReader.target_of c.args.reader.now in
+    let pair_of = g.R.PairReader.pair_of c.args.reader.now in
+    let refusal_of = g.R.PairReader.refusal_of c.args.reader.now in
+    let here : 0 < length c.loop-first.rest.now = omega (arith, c.in-Some.ensures.shorter) in
+    let rest : List ℕ = c.loop-first.rest.now in
+    rw (c.at.ensures.kind, c.at.ensures.left)
+    (λ out. pair_stopped_in target_of pair_of refusal_of (IsOutOfMemoryFor target_of pair_of refusal_of) c.args.pairs.now.items c.loop-first.pairs.items c.args.line.now rest (length rest) (c.loop-first.invariant.pairs here) c.loop-first.invariant.few
+    (pair_out target_of pair_of refusal_of c.loop-first.pairs.items rest c.in_ok-pair.after.now c.in_ok-pair.pair (length rest) (c.in-Err.ensures.room out) c.in_ok-pair.ensures.pair refl))
+
+pub returns-in_err-rest-clause-memory : goal.returns-in_err-rest-clause-memory
+returns-in_err-rest-clause-memory g c =
+    let p = err_from_is_err_and c.from_residual-in_err-rest.result c.from_residual-in_err-rest.ensures.1 in
+    rw (p.1, p.2, c.in_err-rest.ensures.kind) (λ h. absurd (cc))

@@ -7,7 +7,7 @@ use Rattle.avp_dict.specs.Requests.{pair_assigned}
 use Rattle.avp_dict.specs.declared.request.faults.LineKind.TheVariants.{Unknown, Unreadable}
 use Rattle.avp_dict.specs.internal.RequestTokens.{side_after, token_view}
 use Rattle.avp_dict.specs.internal.LineEnds.{IsLexed, refused_from}
-use Rattle.avp_dict.proofs.FirstRefusals.{refused_first, refused_later, value_lexed, values_refused}
+use Rattle.avp_dict.proofs.FirstRefusals.{refused_first, refused_later, value_lexed, value_out, values_refused}
 use Rattle.avp_dict.proofs.LexedLines.{lexed_then}
 use Rattle.avp_dict.proofs.PairSteps.{other_refused, pair_read, pair_refused, refuses_whole, unknown_refused}
 use Rattle.avp_dict.proofs.request.lines.read_pair.Goals as goal
@@ -45,6 +45,7 @@ returns-in_default g c =
       within = omega arith;
       place = λ count. refused_first (g.R.PairReader.target_of c.args.reader.now) (g.R.PairReader.pair_of c.args.reader.now) (g.R.PairReader.refusal_of c.args.reader.now) count line Unreadable (length line)
           (token_view c.args.first ∷ tokens) refl c.requires.token (no_name (token_view c.args.first) tokens other);
+      memory = λ h. absurd (cc);
     })
 
 pub returns-in_default-target-clause-place : goal.returns-in_default-target-clause-place
@@ -116,3 +117,19 @@ returns-in-Err-clause-place g c =
     rw (c.at-in-Err.ensures.kind, c.at-in-Err.ensures.left, c.refused_from.ensures)
     (values_refused (g.R.PairReader.target_of c.args.reader.now) (g.R.PairReader.pair_of c.args.reader.now) (g.R.PairReader.refusal_of c.args.reader.now) line text c.in-Err.kind (refused_from c.in-Err.kind (length line) (length text))
     name c.in-Some.target value tokens c.in-Err.ensures.pair c.in-Err.ensures.refused known c.in-Some-next_token.ensures.token (lexed_then Name Name Value line rest text (Run name ∷ []) (Sign ∷ []) lexed sign) refl)
+
+pub returns-in-Err-clause-memory : goal.returns-in-Err-clause-memory
+returns-in-Err-clause-memory g c =
+    let line : List ℕ = c.args.line.now in
+    let rest : List ℕ = c.args.rest.now in
+    let text : List ℕ = c.in-Some-Sign-default.text.now in
+    let name : List ℕ = c.in-Run.name.now in
+    let value : Token = token_view c.in-Some-next_token.value in
+    let tokens : List Token = tokens_at (side_after Value c.in-Some-next_token.value) c.in-Some-next_token.after.now in
+    let known = sym c.target.ensures ∙ c.in-Some.is in
+    let lexed : IsLexed Name line (Run name ∷ []) Name rest = (rw c.in-Run.is at c.requires.lexed) refl in
+    let sign : IsLexed Name rest (Sign ∷ []) Value text = (rw c.in-Some-Sign-default.field-0-0-is at c.in-Some-Sign-default.ensures.lexed) refl in
+    rw (c.at-in-Err.ensures.kind, c.at-in-Err.ensures.left, c.refused_from.ensures)
+    (λ out. rw out
+    (value_out (g.R.PairReader.target_of c.args.reader.now) (g.R.PairReader.pair_of c.args.reader.now) (g.R.PairReader.refusal_of c.args.reader.now) line text (length text)
+    name c.in-Some.target value tokens (c.in-Err.ensures.text out) (c.in-Err.ensures.writable out) known c.in-Some-next_token.ensures.token (lexed_then Name Name Value line rest text (Run name ∷ []) (Sign ∷ []) lexed sign) refl))

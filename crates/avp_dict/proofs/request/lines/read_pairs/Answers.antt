@@ -2,7 +2,7 @@ use Rattle.std.proofs.Common.{◌≡◌, ◌≢◌, ◌∙◌, ◌+◌, ◌-◌,
 use Rattle.avp_dict.specs.declared.request.faults.LineKind.TheVariants.{Memory}
 use Rattle.avp_dict.specs.Lines.{texts_of}
 use Rattle.avp_dict.specs.internal.LineEnds.{IsPastBlanks}
-use Rattle.avp_dict.proofs.FirstRefusals.{end_refused_at, line_refused_at}
+use Rattle.avp_dict.proofs.FirstRefusals.{end_refused_at, line_out_at, line_refused_at}
 use Rattle.avp_dict.proofs.ReadPairs.{packet_begins, packet_more}
 use Rattle.avp_dict.proofs.RefusedLines.{lines_one}
 use Rattle.avp_dict.specs.Requests.{pair_assigned}
@@ -80,3 +80,13 @@ returns-in-Err-read_line-clause-place g c =
     rw c.in_text-in-Err-read_line.ensures.kind
     (line_refused_at (g.R.PairReader.target_of c.args.reader.now) (g.R.PairReader.pair_of c.args.reader.now) (g.R.PairReader.refusal_of c.args.reader.now) c.in-Err-read_line.refusal.kind c.args.text.now c.loop-line.rest.now c.in-Some.line.now c.loop-line.pairs.items c.in-Err-read_line.refusal.left c.in_text-in-Err-read_line.result.offset
     c.in-Err-read_line.ensures.place c.loop-line.invariant.packet here c.in-Some.ensures.line c.in_text-in-Err-read_line.ensures.blanks)
+
+pub returns-in-Err-clause-memory : goal.returns-in-Err-clause-memory
+returns-in-Err-clause-memory g c = rw c.in_text.ensures.kind (λ out. absurd (c.in-Err.ensures.kind out))
+
+pub returns-in-Err-read_line-clause-memory : goal.returns-in-Err-read_line-clause-memory
+returns-in-Err-read_line-clause-memory g c =
+    let here : 0 < length c.loop-line.rest.now = omega (arith, c.in-Some.ensures.shorter) in
+    rw c.in_text-in-Err-read_line.ensures.kind
+    (λ out. line_out_at (g.R.PairReader.target_of c.args.reader.now) (g.R.PairReader.pair_of c.args.reader.now) (g.R.PairReader.refusal_of c.args.reader.now) c.args.text.now c.loop-line.rest.now c.in-Some.line.now c.loop-line.pairs.items c.in-Err-read_line.refusal.left c.in_text-in-Err-read_line.result.offset
+    (c.in-Err-read_line.ensures.memory out) c.loop-line.invariant.packet here c.in-Some.ensures.line c.in_text-in-Err-read_line.ensures.blanks)

@@ -16,6 +16,7 @@ returns-then-levels-eq0-clause-step t c = λ ls. rw (lines_in_none c.args.files.
 pub loop-rest-init : goal.loop-rest-init
 loop-rest-init t c = record {
   tracked = c.requires.tracked;
+  agreeing = c.requires.agreeing;
   room = c.requires.room;
   longer = omega arith;
   few = omega arith;
@@ -66,6 +67,7 @@ loop-rest-preserved t c =
     elim c.match-included.branch [
       | in-Some+in_ok-read_file w ↦ record {
         tracked = rw w.self-is w.in_ok-read_file.ensures.tracked;
+        agreeing = rw w.self-is w.in_ok-read_file.ensures.agreeing;
         room = rw w.self-is w.in_ok-read_file.ensures.room;
         longer = rw w.self-is (omega (arith, w.in_ok-read_file.ensures.longer, c.in_ok-read_next.ensures.longer));
         few = rw w.self-is (omega (arith, w.in_ok-read_file.ensures.longer, c.in_ok-read_next.ensures.longer));
@@ -75,6 +77,7 @@ loop-rest-preserved t c =
       }
       | in_default w ↦ record {
         tracked = rw w.self-is c.in_ok-read_next.ensures.tracked;
+        agreeing = rw w.self-is c.in_ok-read_next.ensures.agreeing;
         room = rw w.self-is c.in_ok-read_next.ensures.room;
         longer = rw w.self-is (omega (arith, c.in_ok-read_next.ensures.longer));
         few = rw w.self-is (omega (arith, c.in_ok-read_next.ensures.longer));

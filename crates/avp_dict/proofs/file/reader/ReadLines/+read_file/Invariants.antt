@@ -3,6 +3,7 @@ use Rattle.avp_dict.specs.declared.file.lines.TheConstants.{MAX_LEVELS}
 use Rattle.avp_dict.specs.Lines.{Line, expanded, lines_below, lines_in, texts_of}
 use Rattle.avp_dict.specs.Meanings.{context_of}
 use Rattle.avp_dict.specs.Readings.{read_lines}
+use Rattle.avp_dict.specs.internal.Agreeing.{IsAgreeing}
 use Rattle.avp_dict.specs.internal.Meanings.{context_view, reading_views}
 use Rattle.avp_dict.proofs.file.reader.ReadLines.+read_file.Given as goal
 
@@ -12,6 +13,7 @@ decreases-read_file l = l.levels
 abbrev pub invariant-loop-rest : goal.invariant-loop-rest
 invariant-loop-rest l = record {
   tracked : context_view l.self.context ≡ context_of (reading_views l.self.readings.items);
+  agreeing : IsAgreeing (context_view l.self.context);
   room : length l.self.readings.items ≤ l.limit;
   longer : length l.fn.self.readings.items ≤ length l.self.readings.items;
   few : l.number ≤ length l.self.readings.items + 1;
